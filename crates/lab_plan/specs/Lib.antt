@@ -1,0 +1,5 @@
+pub mod LabPlan
+pub mod Names
+pub mod Verbs
+pub mod IsPlan
+pub mod Building

@@ -1,0 +1,15 @@
+// Plans of a laboratory: names, jobs with their sessions of commands, and what follows from them,
+// the edges of the conflict graph and their bottles.
+#![tactic(auto)]
+
+mod job;
+pub mod name;
+pub mod numbers;
+pub mod plan;
+pub mod refusal;
+pub mod verb;
+
+pub use numbers::{EdgeNo, InstrumentNo, JobNo};
+pub use plan::Plan;
+pub use refusal::PlanRefusal;
+pub use verb::Verb;

@@ -1,0 +1,100 @@
+// A plan, kept with the tables of its edges and bottles.
+ghost use Rattle.std.specs.Prelude.{◌≡◌, ℕ, ◌-◌, ◌<◌, ◌≤◌, slice_index, length, IfSome, IfNone, slice_get, Contains};
+
+use crate::job::Job;
+use crate::name::Name;
+use crate::numbers::{EdgeNo, InstrumentNo, JobNo};
+use crate::verb::Verb;
+use std::alloc::{Allocator, Global};
+use std::marker::Model;
+
+#[derive(Drop)]
+pub struct Plan<A: Allocator = Global> {
+    version: u8,
+    jobs: Vec<Job<A>, A>,
+    instruments: Vec<Name<A>, A>,
+    pairs: Vec<(JobNo, JobNo), A>,
+}
+
+impl<A: Allocator> Model for Plan<A> {
+    ghost use Rattle.std.specs.Prelude.{◌≡◌, length, ◌≤◌};
+    ghost use Rattle.lab_plan.specs.LabPlan.{LabPlan, edges};
+    ghost use Rattle.lab_plan.specs.IsPlan.{IsPlan};
+
+    ghost Value = { LabPlan };
+
+    ghost view = { λ p. record { version = p.version; jobs = p.jobs.items; instruments = p.instruments.items } };
+
+    ghost invariant = { λ p. record {
+      is_plan : IsPlan (record { version = p.version; jobs = p.jobs.items; instruments = p.instruments.items });
+      few_edges : length p.pairs.items ≤ 496;
+      pairs_are : p.pairs.items ≡ edges (record { version = p.version; jobs = p.jobs.items; instruments = p.instruments.items });
+    } };
+}
+
+impl<A: Allocator> Plan<A> {
+    ghost use Rattle.lab_plan.specs.LabPlan.{edges, ends, bottles, sessions, commands, patience, job_at};
+    ghost use Rattle.lab_plan.specs.IsPlan.{IsPlan};
+
+    pub fn version(&self) -> u8
+        ensures { result ≡ self.now.version }
+    {
+        self.version
+    }
+
+    pub fn jobs(&self) -> usize
+        ensures jobs { result ≡ length self.now.jobs }
+        ensures plan { IsPlan self.now }
+    {
+        self.jobs.len()
+    }
+
+    pub fn edges(&self) -> u16
+        ensures edges { result ≡ length (edges self.now) }
+        ensures few { result ≤ 496 }
+    {
+        self.pairs.len() as u16
+    }
+
+    pub fn job_name(&self, job: JobNo) -> &[u8]
+        requires { job < length self.now.jobs }
+        ensures { result.now ≡ (job_at self.now job).name }
+    {
+        self.jobs[job.0 as usize].name().as_bytes()
+    }
+
+    #[tactic(auto, using(crate::proofs::Edges::ends_are_pair))]
+    pub fn ends(&self, edge: EdgeNo) -> (JobNo, JobNo)
+        requires { edge < length (edges self.now) }
+        ensures ends { result ≡ ends self.now edge }
+        ensures ordered { result.0 < result.1 }
+        ensures jobs { result.1 < length self.now.jobs }
+    {
+        self.pairs[edge.0 as usize]
+    }
+
+    pub fn sessions(&self, job: JobNo) -> u32
+        requires { job < length self.now.jobs }
+        ensures { result ≡ length (sessions self.now job) }
+    {
+        self.jobs[job.0 as usize].len() as u32
+    }
+
+    pub fn commands(&self, job: JobNo, session: u32) -> &[(InstrumentNo, Verb)]
+        requires is_job { job < length self.now.jobs }
+        requires begun { 1 ≤ session }
+        requires is_session { session ≤ length (sessions self.now job) }
+        ensures { result.now ≡ commands self.now job session }
+    {
+        self.jobs[job.0 as usize].session(session).commands()
+    }
+
+    pub fn patience(&self, job: JobNo, session: u32) -> Option<u32>
+        requires is_job { job < length self.now.jobs }
+        requires begun { 1 ≤ session }
+        requires is_session { session ≤ length (sessions self.now job) }
+        ensures { result ≡ patience self.now job session }
+    {
+        self.jobs[job.0 as usize].session(session).patience()
+    }
+}
