@@ -2,6 +2,7 @@
 // the edges of the conflict graph and their bottles.
 #![tactic(auto)]
 
+mod draft;
 mod job;
 pub mod name;
 pub mod numbers;

@@ -1,8 +1,7 @@
 // A plan, kept with the tables of its edges and bottles.
-ghost use Rattle.std.specs.Prelude.{◌≡◌, ℕ, ◌-◌, ◌<◌, ◌≤◌, slice_index, length, IfSome, IfNone, slice_get, Contains};
+ghost use Rattle.std.specs.Prelude.{◌≡◌, ℕ, ◌<◌, ◌≤◌, length, slice_index_or, []};
 
-use crate::job::Job;
-use crate::name::Name;
+use crate::draft::Draft;
 use crate::numbers::{EdgeNo, InstrumentNo, JobNo};
 use crate::verb::Verb;
 use std::alloc::{Allocator, Global};
@@ -10,9 +9,7 @@ use std::marker::Model;
 
 #[derive(Drop)]
 pub struct Plan<A: Allocator = Global> {
-    version: u8,
-    jobs: Vec<Job<A>, A>,
-    instruments: Vec<Name<A>, A>,
+    draft: Draft<A>,
     pairs: Vec<(JobNo, JobNo), A>,
 }
 
@@ -23,12 +20,12 @@ impl<A: Allocator> Model for Plan<A> {
 
     ghost Value = { LabPlan };
 
-    ghost view = { λ p. record { version = p.version; jobs = p.jobs.items; instruments = p.instruments.items } };
+    ghost view = { λ p. p.draft };
 
     ghost invariant = { λ p. record {
-      is_plan : IsPlan (record { version = p.version; jobs = p.jobs.items; instruments = p.instruments.items });
+      is_plan : IsPlan p.draft;
       few_edges : length p.pairs.items ≤ 496;
-      pairs_are : p.pairs.items ≡ edges (record { version = p.version; jobs = p.jobs.items; instruments = p.instruments.items });
+      pairs_are : p.pairs.items ≡ edges p.draft;
     } };
 }
 
@@ -39,14 +36,21 @@ impl<A: Allocator> Plan<A> {
     pub fn version(&self) -> u8
         ensures { result ≡ self.now.version }
     {
-        self.version
+        self.draft.version()
     }
 
     pub fn jobs(&self) -> usize
         ensures jobs { result ≡ length self.now.jobs }
         ensures plan { IsPlan self.now }
     {
-        self.jobs.len()
+        self.draft.jobs()
+    }
+
+    pub fn instruments(&self) -> usize
+        ensures instruments { result ≡ length self.now.instruments }
+        ensures few { result ≤ 56 }
+    {
+        self.draft.instruments()
     }
 
     pub fn edges(&self) -> u16
@@ -60,7 +64,14 @@ impl<A: Allocator> Plan<A> {
         requires { job < length self.now.jobs }
         ensures { result.now ≡ (job_at self.now job).name }
     {
-        self.jobs[job.0 as usize].name().as_bytes()
+        self.draft.job_name(job)
+    }
+
+    pub fn instrument_name(&self, instrument: InstrumentNo) -> &[u8]
+        requires { instrument < length self.now.instruments }
+        ensures { result.now ≡ slice_index_or self.now.instruments instrument [] }
+    {
+        self.draft.instrument_name(instrument)
     }
 
     #[tactic(auto, using(crate::proofs::Edges::ends_are_pair))]
@@ -75,9 +86,10 @@ impl<A: Allocator> Plan<A> {
 
     pub fn sessions(&self, job: JobNo) -> u32
         requires { job < length self.now.jobs }
-        ensures { result ≡ length (sessions self.now job) }
+        ensures sessions { result ≡ length (sessions self.now job) }
+        ensures few { result ≤ 1000 }
     {
-        self.jobs[job.0 as usize].len() as u32
+        self.draft.sessions(job) as u32
     }
 
     pub fn commands(&self, job: JobNo, session: u32) -> &[(InstrumentNo, Verb)]
@@ -86,7 +98,7 @@ impl<A: Allocator> Plan<A> {
         requires is_session { session ≤ length (sessions self.now job) }
         ensures { result.now ≡ commands self.now job session }
     {
-        self.jobs[job.0 as usize].session(session).commands()
+        self.draft.commands(job, session)
     }
 
     pub fn patience(&self, job: JobNo, session: u32) -> Option<u32>
@@ -95,6 +107,6 @@ impl<A: Allocator> Plan<A> {
         requires is_session { session ≤ length (sessions self.now job) }
         ensures { result ≡ patience self.now job session }
     {
-        self.jobs[job.0 as usize].session(session).patience()
+        self.draft.patience(job, session)
     }
 }
