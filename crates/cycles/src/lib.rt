@@ -1,0 +1,16 @@
+// Cycles of a relation among jobs, given as pairs. A job that leads on to none that is left is on
+// no cycle: take such jobs out until there is none, and every walk among those left meets itself.
+#![tactic(auto)]
+
+mod cycle;
+mod no_memory;
+mod peeling;
+mod ranks;
+mod walk;
+
+#[cfg(test)]
+mod tests;
+
+pub use cycle::cycle_in;
+pub use no_memory::NoMemory;
+pub use ranks::ranking;
