@@ -1,5 +1,6 @@
 // A walk that comes back.
-ghost use Rattle.std.specs.Prelude.{◌≡◌, ℕ, ◌<◌, List, length, IfOk};
+ghost use Rattle.std.specs.Prelude.{◌≡◌, ℕ, ◌<◌, List, length, slice_index_or, IfOk};
+ghost use Rattle.std.specs.List.{Contains};
 ghost use Rattle.cycles.specs.Cycles.{AreBelow, IsAmong, IsCycleOf};
 ghost use Rattle.cycles.specs.Peeling.{IsLeft, EachLeadsOn};
 ghost use Rattle.cycles.specs.Walks.{Returns};
@@ -44,14 +45,26 @@ impl<A: Allocator + Copy> Walk<A> {
     }
 
     /// The part of the walk from the job to which it comes back.
-    pub(crate) fn into_cycle(mut self) -> Result<Vec<JobNo, A>, NoMemory>
+    pub(crate) fn into_cycle(self) -> Result<Vec<JobNo, A>, NoMemory>
+        requires { Contains self.jobs.items self.back_to }
         ensures { IfOk result (λ cycle. (pairs : List (ℕ × ℕ)) → Returns (IsAmong pairs) self.jobs.items self.back_to → IsCycleOf (IsAmong pairs) cycle.items) }
     {
-        for place in 0..self.jobs.len() {
-            if self.jobs[place] == self.back_to {
-                return Ok(self.jobs.split_off(place)?);
-            }
-        }
-        Ok(self.jobs)
+        let Walk { mut jobs, back_to } = self;
+        let met = place_of(&jobs, back_to);
+        Ok(jobs.split_off(met)?)
     }
+}
+
+/// A place of a job that is among them.
+fn place_of(jobs: &[JobNo], job: JobNo) -> usize
+    requires { Contains jobs.now job }
+    ensures within { result < length jobs.now }
+    ensures job { slice_index_or jobs.now result 0 ≡ job }
+{
+    for place in 0..jobs.len() {
+        if jobs[place] == job {
+            return place;
+        }
+    }
+    unreachable!()
 }
