@@ -14,8 +14,9 @@ sink_on_no_cycle pairs left job out sink (next ∷ rest) c = out next (rest ++ j
 
 pub taken_out : (pairs : List (ℕ × ℕ)) (left : List Bool) (job : ℕ) → NoCycleBeginsOut pairs left → IsSink pairs left job → NoCycleBeginsOut pairs (set left job false)
 taken_out pairs left job out sink x jobs o c = elim (cases_eq x job) [
-    inl q ↦ sink_on_no_cycle pairs left job out sink jobs (subst (λ y. IsCycleOf (IsAmong pairs) (y ∷ jobs)) q c)
-  | inr q ↦ out x jobs (sym (get_or-set_other left job x false false q) ∙ o) c ]
+  | inl q ↦ sink_on_no_cycle pairs left job out sink jobs (subst (λ y. IsCycleOf (IsAmong pairs) (y ∷ jobs)) q c)
+  | inr q ↦ out x jobs (sym (get_or-set_other left job x false false q) ∙ o) c
+]
 
 -- the first of a cycle leads on
 leads_on : (R : ℕ → ℕ → Type 0) (job : ℕ) (jobs : List ℕ) → IsCycleOf R (job ∷ jobs) → (next : ℕ) × R job next
@@ -37,5 +38,6 @@ none_out pairs n left b e job jobs o c =
 pub no_cycle_left : (pairs : List (ℕ × ℕ)) (left : List Bool) → NoCycleBeginsOut pairs left → NoneLeadsOn pairs left → HasNoCycle (IsAmong pairs)
 no_cycle_left pairs left out none [] c = c
 no_cycle_left pairs left out none (job ∷ jobs) c = elim (cases_Bool (get_or left job false)) [
-    inl t ↦ let on = leads_on (IsAmong pairs) job jobs c in none job on.0 t on.1
-  | inr o ↦ out job jobs o c ]
+  | inl t ↦ let on = leads_on (IsAmong pairs) job jobs c in none job on.0 t on.1
+  | inr o ↦ out job jobs o c
+]

@@ -33,8 +33,9 @@ Contains-tail first jobs job h = (suc h.0, (let l = h.1 in omega arith), h.2)
 -- what is out stays out
 still_out : (left : List Bool) (taken job : ℕ) → taken < length left → IsOut left job → IsOut (set left taken false) job
 still_out left taken job l o = elim (cases_eq job taken) [
-    inl q ↦ ap (λ z. get_or (set left taken false) z false) q ∙ get_or-set_same left taken false false l
-  | inr q ↦ get_or-set_other left taken job false false q ∙ o ]
+  | inl q ↦ ap (λ z. get_or (set left taken false) z false) q ∙ get_or-set_same left taken false false l
+  | inr q ↦ get_or-set_other left taken job false false q ∙ o
+]
 
 pub takes_out : (n : ℕ) (pairs : List (ℕ × ℕ)) (left : List Bool) (order : List ℕ) (taken : ℕ) → taken < length left → IsSinkLeft pairs left taken → RanksOut n pairs left order →
     RanksOut n pairs (set left taken false) (taken ∷ order)
@@ -42,17 +43,21 @@ takes_out n pairs left order taken l s m = record {
   len = length-set left taken false ∙ m.len;
   ranked = ((λ later h r. let o = m.closed later taken h r in let a = s.is_left in cc), (λ h. let o = m.out taken h in let a = s.is_left in cc), m.ranked);
   out = λ job h. elim (Contains-cases taken order job h.0 h.1 h.2) [
-      inl q ↦ ap (λ z. get_or (set left taken false) z false) q ∙ get_or-set_same left taken false false l
-    | inr u ↦ still_out left taken job l (m.out job u) ];
+    | inl q ↦ ap (λ z. get_or (set left taken false) z false) q ∙ get_or-set_same left taken false false l
+    | inr u ↦ still_out left taken job l (m.out job u)
+  ];
   within = λ job h. elim (Contains-cases taken order job h.0 h.1 h.2) [
-      inl q ↦ (let e = m.len in omega arith)
-    | inr u ↦ m.within job u ];
+    | inl q ↦ (let e = m.len in omega arith)
+    | inr u ↦ m.within job u
+  ];
   every = λ job b o. elim (cases_eq job taken) [
-      inl q ↦ subst (λ z. Contains (taken ∷ order) z) (sym q) (Contains-head taken order)
-    | inr q ↦ Contains-tail taken order job (m.every job b (sym (get_or-set_other left taken job false false q) ∙ o)) ];
+    | inl q ↦ subst (λ z. Contains (taken ∷ order) z) (sym q) (Contains-head taken order)
+    | inr q ↦ Contains-tail taken order job (m.every job b (sym (get_or-set_other left taken job false false q) ∙ o))
+  ];
   closed = λ job next h r. elim (Contains-cases taken order job h.0 h.1 h.2) [
-      inl q ↦ still_out left taken next l (s.sink next (subst (λ z. IsAmong pairs z next) q r))
-    | inr u ↦ still_out left taken next l (m.closed job next u r) ];
+    | inl q ↦ still_out left taken next l (s.sink next (subst (λ z. IsAmong pairs z next) q r))
+    | inr u ↦ still_out left taken next l (m.closed job next u r)
+  ];
 }
 
 pub ranks_none : (n : ℕ) (pairs : List (ℕ × ℕ)) (left : List Bool) → left ≡ replicate n true → RanksOut n pairs left []
@@ -75,19 +80,23 @@ bottom : (R : ℕ → ℕ → Type 0) → HasNoCycle R → (H : ℕ → Type 0) 
 bottom R a H zero j l hj k = omega arith
 bottom R a H (suc n) j l hj k =
     let below : (i : ℕ) → i < n → H i → ⊥ =
-        λ i m hi. bottom R a H n i m hi (λ t lt ht free.
-          let stays : (H n × LeadsOnTo R t n → ⊥) → ⊥ =
-              λ no. k t (omega arith) ht (λ w lw hw r. elim (cases_eq w n) [
-                inl q ↦ no (subst (λ v. H v) q hw, subst (λ v. LeadsOnTo R t v) q r)
-              | inr q ↦ free w (omega arith) hw r ]) in
-          stays (λ yes. k n (omega arith) yes.0 (λ w lw hw r. elim (cases_eq w n) [
-                inl q ↦ let c : LeadsOnTo R n n = subst (λ v. LeadsOnTo R n v) q r in a (n ∷ c.0) c.1
-              | inr q ↦ free w (omega arith) hw (yes.1.0 ++ n ∷ r.0, LeadsBackTo-join R w t yes.1.0 n r.0 yes.1.1 r.1) ]))) in
+    λ i m hi. bottom R a H n i m hi (λ t lt ht free.
+    let stays : (H n × LeadsOnTo R t n → ⊥) → ⊥ =
+    λ no. k t (omega arith) ht (λ w lw hw r. elim (cases_eq w n) [
+      | inl q ↦ no (subst (λ v. H v) q hw, subst (λ v. LeadsOnTo R t v) q r)
+      | inr q ↦ free w (omega arith) hw r
+    ]) in
+    stays (λ yes. k n (omega arith) yes.0 (λ w lw hw r. elim (cases_eq w n) [
+      | inl q ↦ let c : LeadsOnTo R n n = subst (λ v. LeadsOnTo R n v) q r in a (n ∷ c.0) c.1
+      | inr q ↦ free w (omega arith) hw (yes.1.0 ++ n ∷ r.0, LeadsBackTo-join R w t yes.1.0 n r.0 yes.1.1 r.1)
+    ]))) in
     elim (cases_eq j n) [
-      inl q ↦ k n (omega arith) (subst (λ v. H v) q hj) (λ w lw hw r. elim (cases_eq w n) [
-                inl q ↦ let c : LeadsOnTo R n n = subst (λ v. LeadsOnTo R n v) q r in a (n ∷ c.0) c.1
-              | inr q ↦ below w (omega arith) hw ])
-    | inr q ↦ below j (omega arith) hj ]
+      | inl q ↦ k n (omega arith) (subst (λ v. H v) q hj) (λ w lw hw r. elim (cases_eq w n) [
+        | inl q ↦ let c : LeadsOnTo R n n = subst (λ v. LeadsOnTo R n v) q r in a (n ∷ c.0) c.1
+        | inr q ↦ below w (omega arith) hw
+      ])
+      | inr q ↦ below j (omega arith) hj
+    ]
 
 in_range : (left : List Bool) (job : ℕ) → IsLeft left job → job < length left
 in_range left job t = elim (cases_lt job (length left)) [ inl l ↦ l | inr l ↦ let o = get_or-eq_default left false {n = job} (omega (arith, l)) in absurd (cc) ]
@@ -97,10 +106,12 @@ pub ranks_every : (n : ℕ) (pairs : List (ℕ × ℕ)) (left : List Bool) (orde
 ranks_every n pairs left order a each m = record {
   ranked = m.ranked;
   every = λ job b. elim (cases_Bool (get_or left job false)) [
-      inl t ↦ absurd (bottom (IsAmong pairs) a (λ v. IsLeft left v) n job b t
+    | inl t ↦ absurd (bottom (IsAmong pairs) a (λ v. IsLeft left v) n job b t
         (λ v l s free. each v s (λ w r. elim (cases_Bool (get_or left w false)) [
-            inl t ↦ absurd (free w (let e = m.len in let i = in_range left w t in omega arith) t ([], r))
-          | inr o ↦ o ])))
-    | inr o ↦ m.every job b o ];
+          | inl t ↦ absurd (free w (let e = m.len in let i = in_range left w t in omega arith) t ([], r))
+          | inr o ↦ o
+        ])))
+    | inr o ↦ m.every job b o
+  ];
   none_else = λ k d l. m.within (get_or order k d) (k, l, get_or_default order k (get_or order k d) d l);
 }

@@ -30,4 +30,4 @@ pub rotated_smallest : (jobs : List ℕ) (k : ℕ) → k < length jobs → All (
 rotated_smallest jobs k l a =
     let P : ℕ → Type 0 = λ job. get_or jobs k 0 ≤ job in
     subst (λ js. BeginsWithSmallest (js ++ take k jobs)) (sym (drop-cons jobs k 0 l))
-      (begins (get_or jobs k 0) (drop (suc k) jobs ++ take k jobs) (All-append P (drop (suc k) jobs) (take k jobs) (All-drop P (suc k) jobs a) (All-take P k jobs a)))
+    (begins (get_or jobs k 0) (drop (suc k) jobs ++ take k jobs) (All-append P (drop (suc k) jobs) (take k jobs) (All-drop P (suc k) jobs a) (All-take P k jobs a)))

@@ -6,10 +6,9 @@ mod cycle;
 mod no_memory;
 mod peeling;
 mod ranks;
-mod walk;
-
 #[cfg(test)]
 mod tests;
+mod walk;
 
 pub use cycle::cycle_in;
 pub use no_memory::NoMemory;

@@ -15,9 +15,9 @@ loop-fresh-preserved g c =
       at = c.in-Some.ensures.is_left;
       leads = subst (λ jobs. LeadsTo (IsAmong c.args.pairs.now) jobs c.in-Some.next) (sym pushed)
           (LeadsTo-snoc (IsAmong c.args.pairs.now) c.loop-fresh.jobs.items c.loop-fresh.at c.in-Some.next c.loop-fresh.invariant.leads
-            (subst (λ at. IsAmong c.args.pairs.now at c.in-Some.next) c.at-in-loop-fresh.view_is c.in-Some.ensures.pair));
+          (subst (λ at. IsAmong c.args.pairs.now at c.in-Some.next) c.at-in-loop-fresh.view_is c.in-Some.ensures.pair));
       met = λ job l out. subst (λ jobs. Contains jobs job) (sym pushed)
           (walked_met c.loop-fresh.fresh.items c.loop-fresh.jobs.items c.loop-fresh.at c.loop-fresh.invariant.met job
-            (subst (λ at. job < length (set c.loop-fresh.fresh.items at false)) c.at.view_is l)
-            (subst (λ at. IsOut (set c.loop-fresh.fresh.items at false) job) c.at.view_is out));
+          (subst (λ at. job < length (set c.loop-fresh.fresh.items at false)) c.at.view_is l)
+          (subst (λ at. IsOut (set c.loop-fresh.fresh.items at false) job) c.at.view_is out));
     }
