@@ -1,9 +1,9 @@
 -- What taking out a sink keeps.
-use Rattle.std.proofs.Common.{◌≡◌, ℕ, zero, suc, ◌<◌, Bool, true, false, List, [], ◌∷◌, ◌++◌, length, get_or, ◌⊎◌, inl, inr, refl, sym, ◌∙◌, ap, subst, arith, get_or-set_other, set}
+use Rattle.std.proofs.Common.{◌≡◌, ℕ, zero, suc, ◌<◌, Bool, true, false, List, [], ◌∷◌, ◌++◌, get_or, inl, inr, refl, sym, ◌∙◌, ap, subst, arith, get_or-set_other, set}
 use Rattle.std.proofs.lemmas.Bool.{cases_eq, cases_Bool}
 use Rattle.std.specs.Prelude.{replicate}
-use Rattle.cycles.specs.Cycles.{LeadsBackTo, IsCycleOf, HasNoCycle, IsAmong, AreBelow}
-use Rattle.cycles.specs.Peeling.{IsLeft, IsOut, IsSink, NoCycleBeginsOut, NoneLeadsOn}
+use Rattle.cycles.specs.Cycles.{IsCycleOf, HasNoCycle, IsAmong, AreBelow}
+use Rattle.cycles.specs.Peeling.{IsSink, NoCycleBeginsOut, NoneLeadsOn}
 use Rattle.cycles.proofs.Turning.{LeadsBackTo-join}
 use Rattle.cycles.proofs.Pairs.{IsAmong-below}
 

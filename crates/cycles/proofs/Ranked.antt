@@ -5,8 +5,8 @@ use Rattle.std.proofs.lemmas.Bool.{cases_eq, cases_Bool, cases_lt}
 use Rattle.std.proofs.lemmas.List.{length-replicate, get_or_default}
 use Rattle.std.specs.Prelude.{replicate}
 use Rattle.std.specs.List.{Contains}
-use Rattle.cycles.specs.Cycles.{LeadsBackTo, IsCycleOf, HasNoCycle, IsAmong, AreBelow}
-use Rattle.cycles.specs.Peeling.{IsLeft, IsOut, IsSink, IsSinkLeft, EachLeadsOn}
+use Rattle.cycles.specs.Cycles.{LeadsBackTo, HasNoCycle, IsAmong}
+use Rattle.cycles.specs.Peeling.{IsLeft, IsOut, IsSinkLeft, EachLeadsOn}
 use Rattle.cycles.specs.Rankings.{IsRanked, IsRanking}
 use Rattle.cycles.proofs.Turning.{LeadsBackTo-join}
 use Rattle.cycles.proofs.Peeled.{replicate_at}
