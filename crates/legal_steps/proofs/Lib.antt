@@ -1,0 +1,2 @@
+pub mod FitsWrites
+pub mod FitsLaw
