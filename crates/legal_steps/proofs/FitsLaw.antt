@@ -1,17 +1,17 @@
 -- A state fits its plan after each legal event.
-use Rattle.std.proofs.Common.{◌≡◌, ◌≢◌, ◌⊎◌, ℕ, ◌+◌, ◌-◌, ◌^◌, ◌<◌, ◌≤◌, length, arith, refl, sym, subst, inl, inr}
+use Rattle.std.proofs.Common.{ℕ, ◌<◌, length, arith, sym, subst, inl, inr}
 use Rattle.std.specs.Prelude.{bit_xor, bit_and}
 use Rattle.std.proofs.lemmas.Nat.{xor_lt, and_le_l}
-use Rattle.lab_plan.specs.LabPlan.{LabPlan, edges, bottles}
+use Rattle.lab_plan.specs.LabPlan.{LabPlan, bottles}
 use Rattle.lab_plan.proofs.Edges.{ends_are_pair}
 use Rattle.legal_steps.specs.declared.end.End.{End}
 use Rattle.legal_steps.specs.declared.end.End.TheVariants.{Lower, Higher}
 use Rattle.legal_steps.specs.declared.edge_state.EdgeState.{EdgeState}
-use Rattle.legal_steps.specs.declared.phase.Drinking.TheVariants.{Tranquil, Thirsty, Drinking as Drinks, Reaching, Retired}
+use Rattle.legal_steps.specs.declared.phase.Drinking.TheVariants.{Tranquil, Retired}
 use Rattle.legal_steps.specs.declared.event.Event.{Event}
 use Rattle.legal_steps.specs.declared.event.Event.TheVariants.{Look, AskFork, GiveFork, Soil, AskBottles, GiveBottles, Thirst, Hunger, Sit, Leave, Drink, Reach, Act, Quit, Retire, Glance, Withdraw}
-use Rattle.legal_steps.specs.State.{State, edge, seat, IsOwn, IsInSession, IsOfEdge, all_bottles, bottles_at, bottle_marks, end_of}
-use Rattle.legal_steps.specs.Fitting.{Fits, IsSeatOf}
+use Rattle.legal_steps.specs.State.{State, IsOwn, IsInSession, IsOfEdge, all_bottles, bottles_at, end_of}
+use Rattle.legal_steps.specs.Fitting.{Fits}
 use Rattle.legal_steps.specs.Legal.{May, after}
 use Rattle.legal_steps.proofs.FitsWrites.{seat_fits_fork_mark, seat_fits_bottle_marks, seat_fits_turned, fits_with_edge, fits_with_seat, fits_with_phase, fits_with_log}
 
@@ -63,7 +63,7 @@ fits_after plan s (GiveBottles j e set) h may =
     let job = own_is_job plan j e may.0 in
     let old = h.seats_fit j job in
     fits_with_seat plan _ j _ job (seat_fits_bottle_marks plan j e _ _ own (left_fit plan e _ set (old.bottle_marks_fit e own)) old)
-      (fits_with_edge plan s e _ own (flipped_fit plan e _ set (h.bottles_fit e own) may.1.of_edge) (h.tokens_fit e own) h)
+    (fits_with_edge plan s e _ own (flipped_fit plan e _ set (h.bottles_fit e own) may.1.of_edge) (h.tokens_fit e own) h)
 fits_after plan s (Thirst j) h may = fits_with_phase plan s j _ may.0 (omega (arith, may.3)) (λ _. omega arith) (omega arith) (λ e. absurd (cc)) h
 fits_after plan s (Hunger j) h may = let old = h.seats_fit j may.0 in fits_with_phase plan s j _ may.0 old.session_there old.begun old.position_there old.command_left h
 fits_after plan s (Sit j) h may = fits_with_seat plan s j _ may.0 (seat_fits_turned plan j _ _ (h.seats_fit j may.0)) h
