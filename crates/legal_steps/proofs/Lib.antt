@@ -5,3 +5,6 @@ pub mod BottleSets
 pub mod BottleLaw
 pub mod ExclusionLaw
 pub mod OpeningLemmas
+pub mod ForkLaw
+pub mod AcyclicLists
+pub mod AcyclicLaw
