@@ -1,10 +1,15 @@
 pub mod FitsWrites
 pub mod FitsLaw
 pub mod ForkEnds
+pub mod ForkLaw
 pub mod BottleSets
 pub mod BottleLaw
 pub mod ExclusionLaw
-pub mod OpeningLemmas
-pub mod ForkLaw
 pub mod AcyclicLists
 pub mod AcyclicLaw
+pub mod OpeningLemmas
+pub mod OpeningChoices
+pub mod RunLemmas
+pub mod ReachedInvariant
+pub mod ReachedLemmas
+pub mod ReachedLaws
