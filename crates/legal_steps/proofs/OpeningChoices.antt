@@ -1,5 +1,5 @@
 -- A choice of ends gives an opening state, and THE opening is one whose precedence has no cycle.
-use Rattle.std.proofs.Common.{◌≡◌, ◌⊎◌, ℕ, ◌+◌, ◌-◌, ◌^◌, ◌<◌, ◌≤◌, length, map, replicate, slice_index_or, true, List, [], ◌∷◌, arith, refl, sym, subst, ap, ◌∙◌, inl, inr}
+use Rattle.std.proofs.Common.{◌≡◌, ℕ, ◌+◌, ◌<◌, length, replicate, slice_index_or, List, [], ◌∷◌, arith, refl, sym, subst, ap, ◌∙◌, inl, inr}
 use Rattle.std.specs.Prelude.{bit_xor}
 use Rattle.std.specs.List.{enumerate_from}
 use Rattle.std.proofs.lemmas.List.{length-replicate, length-map, get_or-map, get_or-replicate}
@@ -11,7 +11,7 @@ use Rattle.lab_plan.proofs.Edges.{ends_are_pair}
 use Rattle.legal_steps.specs.declared.end.End.TheVariants.{Lower}
 use Rattle.legal_steps.specs.declared.edge_state.EdgeState.{EdgeState}
 use Rattle.legal_steps.specs.declared.edge_state.EndChoice.{EndChoice}
-use Rattle.legal_steps.specs.State.{State, Has, IsOfEdge, all_bottles, edge, opposite, job_at_end, bottle_end, no_edge}
+use Rattle.legal_steps.specs.State.{Has, IsOfEdge, all_bottles, edge, opposite, job_at_end, bottle_end, no_edge}
 use Rattle.legal_steps.specs.Opening.{IsOpening, AreChoices, chosen_edge, opening_of, the_opening}
 use Rattle.legal_steps.specs.Precedence.{Precedes, LeadsBackTo, IsCycleOf, IsAcyclic}
 use Rattle.legal_steps.proofs.BottleSets.{bottle_end_flips}
@@ -49,7 +49,7 @@ opening_of_choices plan choices h =
       bottles_fit = λ e here. subst (λ (y : EdgeState). IsOfEdge plan e y.bottles) (sym (is e here)) (fit e here);
       tokens_fit = λ e here. subst (λ (y : EdgeState). IsOfEdge plan e y.bottle_tokens) (sym (is e here)) (xor_lt (length (bottles plan e)) (all_bottles plan e) (choice e).bottles (omega (arith, fit e here)) (fit e here));
       bottle_tokens_opposite = λ e k here small.
-        ap (λ (y : EdgeState). bottle_end y.bottle_tokens k) (is e here) ∙ (tokens_opposite plan e k (choice e).bottles small ∙ ap (λ (y : EdgeState). opposite (bottle_end y.bottles k)) (sym (is e here)));
+          ap (λ (y : EdgeState). bottle_end y.bottle_tokens k) (is e here) ∙ (tokens_opposite plan e k (choice e).bottles small ∙ ap (λ (y : EdgeState). opposite (bottle_end y.bottles k)) (sym (is e here)));
       idle = refl;
       logs_empty = refl;
     }
@@ -58,9 +58,9 @@ opening_of_choices plan choices h =
 
 pub the_choices : (plan : LabPlan) → AreChoices plan (replicate (length (edges plan)) lower_choice)
 the_choices plan = record {
-    one_each = length-replicate _ _;
-    of_edge = λ e d here. subst (λ (choice : EndChoice). IsOfEdge plan e choice.bottles) (sym (get_or-replicate (length (edges plan)) e lower_choice d here)) (pow_pos (length (bottles plan e)));
-  }
+  one_each = length-replicate _ _;
+  of_edge = λ e d here. subst (λ (choice : EndChoice). IsOfEdge plan e choice.bottles) (sym (get_or-replicate (length (edges plan)) e lower_choice d here)) (pow_pos (length (bottles plan e)));
+}
 
 pub the_opening_opens : (plan : LabPlan) → IsOpening plan (the_opening plan)
 the_opening_opens plan = opening_of_choices plan _ (the_choices plan)
@@ -79,11 +79,12 @@ goes_down plan a b p =
     let is = the_edge plan p.0 p.1.is_edge in
     let pair = ends_are_pair plan p.0 p.1.is_edge in
     elim p.1.order [
-      inl w ↦
-        let a_is : a ≡ (ends plan p.0).1 = w.1 ∙ ap (λ (y : EdgeState). job_at_end plan p.0 (opposite y.fork)) is in
-        let b_is : b ≡ (ends plan p.0).0 = w.2 ∙ ap (λ (y : EdgeState). job_at_end plan p.0 y.fork) is in
-        omega (arith, pair, a_is, b_is)
-    | inr w ↦ absurd (w.0 (inr (ap (λ (y : EdgeState). y.dirty) is))) ]
+      | inl w ↦
+          let a_is : a ≡ (ends plan p.0).1 = w.1 ∙ ap (λ (y : EdgeState). job_at_end plan p.0 (opposite y.fork)) is in
+          let b_is : b ≡ (ends plan p.0).0 = w.2 ∙ ap (λ (y : EdgeState). job_at_end plan p.0 y.fork) is in
+          omega (arith, pair, a_is, b_is)
+      | inr w ↦ absurd (w.0 (inr (ap (λ (y : EdgeState). y.dirty) is)))
+    ]
 
 leads_down : (R : ℕ → ℕ → Type 0) → ((a b : ℕ) → R a b → b < a) → (first a : ℕ) (jobs : List ℕ) → LeadsBackTo R first a jobs → first < a
 leads_down R down first a [] r = down a first r

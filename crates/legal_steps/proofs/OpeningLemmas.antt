@@ -1,5 +1,5 @@
 -- An opening state: what each job does there, and what holds.
-use Rattle.std.proofs.Common.{◌≡◌, ℕ, ◌<◌, length, slice_index_or, replicate, true, false, arith, sym, subst, ap, ◌∙◌}
+use Rattle.std.proofs.Common.{◌≡◌, ℕ, ◌<◌, length, slice_index_or, replicate, false, arith, sym, subst, ap, ◌∙◌}
 use Rattle.std.proofs.lemmas.List.{length-replicate, get_or-replicate}
 use Rattle.std.proofs.lemmas.Nat.{pow_pos}
 use Rattle.std.proofs.lemmas.Bool.{false≢true}
@@ -50,7 +50,7 @@ served_opening plan s h = record {
 pub has_forks_opening : (plan : LabPlan) (s : State) → IsOpening plan s → HasForks plan s
 has_forks_opening plan s h =
     let bare : (j e : ℕ) → IsOwn plan j e → slice_index_or (seat s j).fork_marks e false ≡ false =
-      λ j e own. ap (λ (y : Seat). slice_index_or y.fork_marks e false) (opening_seat plan s j h (own_is_job plan j e own)) ∙ all_false (length (edges plan)) e in
+    λ j e own. ap (λ (y : Seat). slice_index_or y.fork_marks e false) (opening_seat plan s j h (own_is_job plan j e own)) ∙ all_false (length (edges plan)) e in
     let thinks : (j e : ℕ) → IsOwn plan j e → (seat s j).phase.dining ≡ Thinking = λ j e own. ap (λ (y : Seat). y.phase.dining) (opening_seat plan s j h (own_is_job plan j e own)) in
     record {
       marked = λ j e own set. absurd (false≢true (sym (bare j e own) ∙ set));

@@ -26,10 +26,10 @@ sound_opening plan s h = record { fits = fits_opening plan s h; forks = has_fork
 
 pub sound_after : (plan : LabPlan) (s : State) (event : Event) → IsSound plan s → May plan s event → IsSound plan (after plan s event)
 sound_after plan s event h may = record {
-    fits = fits_after plan s event h.fits may;
-    forks = has_forks_after plan s event h.fits h.forks may;
-    served = served_after plan s event h.fits h.served may;
-  }
+  fits = fits_after plan s event h.fits may;
+  forks = has_forks_after plan s event h.fits h.forks may;
+  served = served_after plan s event h.fits h.served may;
+}
 
 pub sound_after_all : (plan : LabPlan) (s : State) (events : List Event) → IsSound plan s → IsLegalFrom plan s events → IsSound plan (after_all plan s events)
 sound_after_all plan s [] h legal = h
@@ -37,10 +37,10 @@ sound_after_all plan s (event ∷ events) h legal = sound_after_all plan (after 
 
 pub truthful : (plan : LabPlan) (s : State) → IsSound plan s → AreTruthful plan s
 truthful plan s h = record {
-    fork_here = h.forks.marked;
-    dirty = λ j e own set eats. h.forks.soiled j e own eats set;
-    bottle_here = h.served.marked;
-  }
+  fork_here = h.forks.marked;
+  dirty = λ j e own set eats. h.forks.soiled j e own eats set;
+  bottle_here = h.served.marked;
+}
 
 pub acyclic_after_all : (plan : LabPlan) (s : State) (events : List Event) → IsSound plan s → IsAcyclic plan s → IsLegalFrom plan s events → IsAcyclic plan (after_all plan s events)
 acyclic_after_all plan s [] sound h legal = h

@@ -1,7 +1,6 @@
 -- The laws, each as it is stated.
-use Rattle.std.proofs.Common.{◌≡◌, ◌≢◌, ◌⊎◌, ℕ, ◌<◌, length, take, List, arith, refl, sym, inl, inr}
+use Rattle.std.proofs.Common.{◌≡◌, ◌⊎◌, ℕ, ◌<◌, length, take, List, arith, refl, inl, inr}
 use Rattle.lab_plan.specs.LabPlan.{LabPlan, edges, ends}
-use Rattle.lab_plan.specs.IsPlan.{IsPlan}
 use Rattle.lab_plan.proofs.Edges.{ends_are_pair}
 use Rattle.legal_steps.specs.declared.end.End.{End}
 use Rattle.legal_steps.specs.declared.end.End.TheVariants.{Lower, Higher}

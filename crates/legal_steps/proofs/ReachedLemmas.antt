@@ -1,12 +1,11 @@
 -- A reached state stays reached by a legal event, and what holds in each.
-use Rattle.std.proofs.Common.{◌≡◌, List, [], ◌∷◌, ◌++◌, refl, sym, subst}
+use Rattle.std.proofs.Common.{[], ◌∷◌, ◌++◌, refl, sym, subst}
 use Rattle.lab_plan.specs.LabPlan.{LabPlan}
 use Rattle.lab_plan.specs.IsPlan.{IsPlan}
 use Rattle.legal_steps.specs.declared.event.Event.{Event}
 use Rattle.legal_steps.specs.State.{State}
 use Rattle.legal_steps.specs.Fitting.{Fits}
 use Rattle.legal_steps.specs.Legal.{May, IsLegal, after}
-use Rattle.legal_steps.specs.Run.{Runs}
 use Rattle.legal_steps.specs.Holding.{AreTruthful, IsExclusive}
 use Rattle.legal_steps.specs.Opening.{IsOpening}
 use Rattle.legal_steps.specs.Precedence.{IsAcyclic}
@@ -20,13 +19,13 @@ reached_opening plan s is_plan opens acyclic = record { is_plan = is_plan; openi
 
 pub reached_legal : (plan : LabPlan) (s : State) (event : Event) (s' : State) → IsReached plan s → IsLegal plan s event s' → IsReached plan s'
 reached_legal plan s event s' h step = record {
-    is_plan = h.is_plan;
-    opening = h.opening;
-    is_opening = h.is_opening;
-    acyclic = h.acyclic;
-    events = h.events ++ event ∷ [];
-    run = runs_push plan h.opening s s' h.events event h.run step;
-  }
+  is_plan = h.is_plan;
+  opening = h.opening;
+  is_opening = h.is_opening;
+  acyclic = h.acyclic;
+  events = h.events ++ event ∷ [];
+  run = runs_push plan h.opening s s' h.events event h.run step;
+}
 
 pub reached_step : (plan : LabPlan) (s : State) (event : Event) → IsReached plan s → May plan s event → IsReached plan (after plan s event)
 reached_step plan s event h may = reached_legal plan s event (after plan s event) h (record { may = may; leads = refl })

@@ -22,9 +22,9 @@ legal_take plan s (event ∷ events) (suc n) h = (h.0, legal_take plan (after pl
 
 pub runs_push : (plan : LabPlan) (s mid s' : State) (events : List Event) (event : Event) → Runs plan s events mid → IsLegal plan mid event s' → Runs plan s (events ++ event ∷ []) s'
 runs_push plan s mid s' events event run step = record {
-    legal = legal_push plan s events event run.legal (subst (λ x. May plan x event) run.leads step.may);
-    leads = step.leads ∙ ap (λ x. after plan x event) run.leads ∙ sym (after_all_push plan s events event);
-  }
+  legal = legal_push plan s events event run.legal (subst (λ x. May plan x event) run.leads step.may);
+  leads = step.leads ∙ ap (λ x. after plan x event) run.leads ∙ sym (after_all_push plan s events event);
+}
 
 -- the run of a longer beginning of a list
 pub runs_more : (plan : LabPlan) (s mid s' : State) (events : List Event) (n : ℕ) (event : Event) → n < length events → event ≡ slice_index_or events n event → Runs plan s (take n events) mid → IsLegal plan mid event s' → Runs plan s (take (n + 1) events) s'

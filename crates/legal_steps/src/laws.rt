@@ -6,48 +6,41 @@ ghost use Rattle.legal_steps.specs.Laws.{ChoicesGiveOpenings, HasNoCycle, HasOne
 /// and each job stands within its sessions and commands.
 pub fn within_plan()
     ensures { StaysWithinPlan }
-{
-}
+{}
 
 /// After each beginning of a legal list of events, marks are truthful: a fork that is marked is at the job,
 /// and dirty while the job eats, and a bottle that is marked is at the job.
 #[tactic(auto, using(crate::proofs::ReachedLaws::marks_are_truthful))]
 pub fn truthful_marks()
     ensures { MarksAreTruthful }
-{
-}
+{}
 
 /// After each beginning of a legal list of events, no two jobs hold one instrument.
 #[tactic(auto, using(crate::proofs::ReachedLaws::has_one_holder))]
 pub fn one_holder()
     ensures { HasOneHolder }
-{
-}
+{}
 
 /// After each beginning of a legal list of events, each fork, bottle and request token stands at exactly one
 /// of its edge's two jobs.
 pub fn one_place()
     ensures { HasOnePlace }
-{
-}
+{}
 
 /// After each beginning of a list of events that is legal from an opening state without a cycle of precedence,
 /// precedence has no cycle (Chandy and Misra 1984).
 #[tactic(auto, using(crate::proofs::ReachedLaws::has_no_cycle))]
 pub fn no_cycle()
     ensures { HasNoCycle }
-{
-}
+{}
 
 /// THE opening, with every fork and bottle at the lower job, is an opening state, and has no cycle of precedence:
 /// on each edge the higher number precedes.
 pub fn the_opening_is_acyclic()
     ensures { TheOpeningIsAcyclic }
-{
-}
+{}
 
 /// Each choice of ends that fits the plan gives an opening state.
 pub fn choices_give_openings()
     ensures { ChoicesGiveOpenings }
-{
-}
+{}
