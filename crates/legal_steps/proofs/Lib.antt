@@ -9,6 +9,7 @@ pub mod AcyclicLists
 pub mod AcyclicLaw
 pub mod OpeningLemmas
 pub mod OpeningChoices
+pub mod OpeningChosen
 pub mod RunLemmas
 pub mod ReachedInvariant
 pub mod ReachedLemmas

@@ -33,7 +33,7 @@ unfolding Has
 has_all plan e k small = bit_at_ones (length (bottles plan e)) k small
 
 -- every bottle's token is opposite to it
-tokens_opposite : (plan : LabPlan) (e k b : ℕ) → k < length (bottles plan e) → bottle_end (bit_xor (all_bottles plan e) b) k ≡ opposite (bottle_end b k)
+pub tokens_opposite : (plan : LabPlan) (e k b : ℕ) → k < length (bottles plan e) → bottle_end (bit_xor (all_bottles plan e) b) k ≡ opposite (bottle_end b k)
 tokens_opposite plan e k b small = ap (λ n. bottle_end n k) (xor_comm (all_bottles plan e) b) ∙ bottle_end_flips b (all_bottles plan e) k (has_all plan e k small)
 
 pub opening_of_choices : (plan : LabPlan) (choices : List EndChoice) → AreChoices plan choices → IsOpening plan (opening_of plan choices)

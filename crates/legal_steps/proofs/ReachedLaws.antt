@@ -1,5 +1,5 @@
 -- The laws, each as it is stated.
-use Rattle.std.proofs.Common.{◌≡◌, ◌⊎◌, ℕ, ◌<◌, length, take, List, arith, refl, inl, inr}
+use Rattle.std.proofs.Common.{◌≡◌, ◌⊎◌, ℕ, ◌<◌, length, take, List, arith, refl, sym, subst, inl, inr}
 use Rattle.lab_plan.specs.LabPlan.{LabPlan, edges, ends}
 use Rattle.lab_plan.proofs.Edges.{ends_are_pair}
 use Rattle.legal_steps.specs.declared.end.End.{End}
@@ -9,10 +9,11 @@ use Rattle.legal_steps.specs.State.{State, job_at_end}
 use Rattle.legal_steps.specs.Opening.{IsOpening}
 use Rattle.legal_steps.specs.Run.{IsLegalFrom, after_all}
 use Rattle.legal_steps.specs.Things.{Thing, Fork, Token, Bottle, BottleToken, thing_end, IsThingOf, StandsAtOne}
-use Rattle.legal_steps.specs.Laws.{StaysWithinPlan, MarksAreTruthful, HasOneHolder, HasOnePlace, HasNoCycle, TheOpeningIsAcyclic, ChoicesGiveOpenings}
+use Rattle.legal_steps.specs.Laws.{StaysWithinPlan, MarksAreTruthful, HasOneHolder, HasOnePlace, HasNoCycle, TheOpeningIsAcyclic, OpeningsAreChosen}
 use Rattle.legal_steps.proofs.RunLemmas.{legal_take}
 use Rattle.legal_steps.proofs.ExclusionLaw.{exclusive}
 use Rattle.legal_steps.proofs.ReachedInvariant.{IsSound, sound_opening, sound_after_all, truthful, acyclic_after_all}
+use Rattle.legal_steps.proofs.OpeningChosen.{opening_is_chosen}
 use Rattle.legal_steps.proofs.OpeningChoices.{opening_of_choices, the_opening_opens, the_opening_acyclic}
 
 sound_always : (plan : LabPlan) (opening : State) (events : List Event) (n : ℕ) → IsOpening plan opening → IsLegalFrom plan opening events → IsSound plan (after_all plan opening (take n events))
@@ -48,5 +49,5 @@ has_no_cycle plan opening events n is_plan opens acyclic legal = acyclic_after_a
 pub the_opening_is_acyclic : TheOpeningIsAcyclic
 the_opening_is_acyclic plan = (the_opening_opens plan, the_opening_acyclic plan)
 
-pub choices_give_openings : ChoicesGiveOpenings
-choices_give_openings = opening_of_choices
+pub openings_are_chosen : OpeningsAreChosen
+openings_are_chosen plan s = (opening_is_chosen plan s, λ w. subst (IsOpening plan) (sym w.2) (opening_of_choices plan w.0 w.1))

@@ -1,5 +1,5 @@
 -- The laws of marks, instruments, things and precedence: what holds after each beginning of a legal list of events.
-use Rattle.std.specs.Prelude.{ℕ, List, take}
+use Rattle.std.specs.Prelude.{◌≡◌, ◌↔◌, ℕ, List, take}
 use Rattle.lab_plan.specs.LabPlan.{LabPlan}
 use Rattle.lab_plan.specs.IsPlan.{IsPlan}
 use Rattle.legal_steps.specs.declared.event.Event.{Event}
@@ -40,6 +40,6 @@ HasNoCycle = (plan : LabPlan) (opening : State) (events : List Event) (n : ℕ) 
 abbrev pub TheOpeningIsAcyclic : Type 0
 TheOpeningIsAcyclic = (plan : LabPlan) → IsOpening plan (the_opening plan) × IsAcyclic plan (the_opening plan)
 
--- each choice of ends that fits the plan gives an opening state
-abbrev pub ChoicesGiveOpenings : Type 0
-ChoicesGiveOpenings = (plan : LabPlan) (choices : List EndChoice) → AreChoices plan choices → IsOpening plan (opening_of plan choices)
+-- the opening states are those that a choice of ends gives
+abbrev pub OpeningsAreChosen : Type 0
+OpeningsAreChosen = (plan : LabPlan) (s : State) → IsOpening plan s ↔ ((choices : List EndChoice) × AreChoices plan choices × (s ≡ opening_of plan choices))

@@ -1,5 +1,5 @@
 // The laws of marks, instruments, things and precedence. Each is the contract of a function that does nothing.
-ghost use Rattle.legal_steps.specs.Laws.{ChoicesGiveOpenings, HasNoCycle, HasOneHolder, HasOnePlace, MarksAreTruthful, StaysWithinPlan, TheOpeningIsAcyclic};
+ghost use Rattle.legal_steps.specs.Laws.{HasNoCycle, HasOneHolder, HasOnePlace, MarksAreTruthful, OpeningsAreChosen, StaysWithinPlan, TheOpeningIsAcyclic};
 
 /// After each beginning of a legal list of events, all numbers of the state are the plan's:
 /// its lists are as long as the plan has edges, jobs and instruments, its sets name bottles of their edge alone,
@@ -40,7 +40,7 @@ pub fn the_opening_is_acyclic()
     ensures { TheOpeningIsAcyclic }
 {}
 
-/// Each choice of ends that fits the plan gives an opening state.
-pub fn choices_give_openings()
-    ensures { ChoicesGiveOpenings }
+/// The opening states are those that a choice of ends gives, for each edge a fork's end and a set of its bottles.
+pub fn openings_are_chosen()
+    ensures { OpeningsAreChosen }
 {}
