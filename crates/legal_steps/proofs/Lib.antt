@@ -1,0 +1,3 @@
+pub mod LogBooks
+pub mod LogMoves
+pub mod PartLists
