@@ -1,3 +1,5 @@
 pub mod LogBooks
 pub mod LogMoves
 pub mod PartLists
+pub mod LogEnded
+pub mod LogKept

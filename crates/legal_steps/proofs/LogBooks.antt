@@ -1,6 +1,6 @@
 -- What the laws of logs read of a state: how far each job is in its sessions, and each log.
 use Rattle.std.proofs.Common.{◌≡◌, ◌≢◌, ◌⊎◌, ℕ, ◌+◌, Bool, true, false, ◌&&◌, ◌==◌, if◌then◌else◌, List, [], ◌∷◌, ◌++◌, sym, ap, subst, inl, inr, refl}
-use Rattle.std.proofs.lemmas.Bool.{eq-eqb, ne_eqb, and_parts}
+use Rattle.std.proofs.lemmas.Bool.{eq-eqb, ne_eqb, and_parts, cases_eq}
 use Rattle.lab_plan.specs.declared.verb.Verb.{Verb}
 use Rattle.lab_plan.specs.LabPlan.{LabPlan, commands, command_at, session_names}
 use Rattle.instrument_log.specs.declared.entry.Entry.{Entry}
@@ -79,3 +79,9 @@ one_holder_from plan s exclusive j k i hj hk =
     let a = and_parts _ _ hj in
     let b = and_parts _ _ hk in
     exclusive j k i (record { drinks = drinks_from (phase s j) a.0; named = a.1 }) (record { drinks = drinks_from (phase s k) b.0; named = b.1 })
+
+-- what holds of the new value, and of the old ones at other numbers, holds of each
+pub put-cases : {A : Type 0} (P : ℕ → A → Type 0) (f : ℕ → A) (j : ℕ) (x : A) (k : ℕ) → (k ≡ j → P j x) → (k ≢ j → P k (f k)) → P k (put f j x k)
+put-cases P f j x k new old = elim (cases_eq k j) [
+    inl here ↦ subst (λ n. P n (put f j x n)) (sym here) (subst (P j) (sym (put-same f j x)) (new here))
+  | inr other ↦ subst (P k) (sym (put-other f j x k other)) (old other) ]
