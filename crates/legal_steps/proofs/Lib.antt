@@ -13,3 +13,6 @@ pub mod LogMoves
 pub mod PartLists
 pub mod LogEnded
 pub mod LogKept
+pub mod RoomShares
+pub mod RoomLaw
+pub mod LogRun
