@@ -16,3 +16,6 @@ pub mod LogKept
 pub mod RoomShares
 pub mod RoomLaw
 pub mod LogRun
+pub mod WholeLaw
+pub mod AppendParts
+pub mod AppendLaw

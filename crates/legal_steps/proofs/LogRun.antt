@@ -2,12 +2,15 @@
 use Rattle.std.proofs.Common.{◌≡◌, ◌⊎◌, ℕ, zero, suc, ◌+◌, ◌<◌, ◌≤◌, true, length, List, [], ◌∷◌, ◌++◌, map, take, replicate, slice_index_or, sym, ap, subst, ◌∙◌, inl, inr, refl, arith, append_assoc}
 use Rattle.std.proofs.lemmas.Bool.{cases_lt}
 use Rattle.std.proofs.lemmas.List.{append-nil, get_or-replicate, get_or_past, length-replicate}
-use Rattle.std.proofs.lemmas.List.Elements.{All-nil}
-use Rattle.lab_plan.specs.LabPlan.{LabPlan, edges}
-use Rattle.lab_plan.specs.IsPlan.{IsPlan}
+use Rattle.std.proofs.lemmas.List.Elements.{All-nil, All-get_or}
+use Rattle.lab_plan.specs.declared.verb.Verb.{Verb}
+use Rattle.lab_plan.specs.declared.verb.Verb.TheVariants.{Set, Add, Read}
+use Rattle.lab_plan.specs.Verbs.{Fits as FitsDial}
+use Rattle.lab_plan.specs.LabPlan.{LabPlan, edges, commands}
+use Rattle.lab_plan.specs.IsPlan.{IsPlan, AllFit}
 use Rattle.instrument_log.specs.declared.entry.Entry.{Entry}
-use Rattle.instrument_log.specs.Dial.{HasDialValues}
-use Rattle.instrument_log.proofs.PartLemmas.{HasDialValues-push}
+use Rattle.instrument_log.specs.Dial.{turned, dial, HasDialValues}
+use Rattle.instrument_log.proofs.PartLemmas.{HasDialValues-push, dial-push}
 use Rattle.legal_steps.specs.declared.phase.Drinking.{Drinking}
 use Rattle.legal_steps.specs.declared.phase.Drinking.TheVariants.{Tranquil, Thirsty, Drinking as Drinks, Reaching, Retired}
 use Rattle.legal_steps.specs.declared.phase.JobState.{JobState}
@@ -41,21 +44,49 @@ AreDialled-after plan b (Act j) h i =
       (λ other. h i)
 AreDialled-after plan b _ h i = h i
 
+-- the dial of each instrument is within its numbers
+abbrev pub AreSmall : Books → Type 0
+AreSmall b = (i : ℕ) → dial (b.logs i) ≤ 999999
+
+turned-small : (verb : Verb) (value : ℕ) → FitsDial verb → value ≤ 999999 → turned verb value ≤ 999999
+unfolding turned
+turned-small (Set number) value fit small = fit
+turned-small (Add number) value fit small = omega arith
+turned-small Read value fit small = small
+
+-- the next command's number fits the dial
+pub verb-fits : (plan : LabPlan) (b : Books) (j : ℕ) → AllFit plan → (b.stages j).position < length (commands plan j (b.stages j).session) → FitsDial (next_of plan b j).1
+verb-fits plan b j fit left =
+    let P : ℕ × Verb → Type 0 = λ command. FitsDial command.1 in
+    All-get_or P (commands plan j (b.stages j).session) (b.stages j).position _ left (fit j (b.stages j).session)
+
+pub value-small : (plan : LabPlan) (b : Books) (j : ℕ) → AllFit plan → (b.stages j).position < length (commands plan j (b.stages j).session) → AreSmall b → (entry_of plan b j).value ≤ 999999
+value-small plan b j fit left small = turned-small (next_of plan b j).1 (dial (b.logs (next_of plan b j).0)) (verb-fits plan b j fit left) (small (next_of plan b j).0)
+
+AreSmall-after : (plan : LabPlan) (b : Books) (event : Event) → AllFit plan → HasLeft plan b → Can plan b event → AreSmall b → AreSmall (booked plan b event)
+AreSmall-after plan b (Act j) fit left can h i =
+    put-cases (λ n entries. dial entries ≤ 999999) b.logs (next_of plan b j).0 _ i
+      (λ here. omega (arith, dial-push (b.logs (next_of plan b j).0) (entry_of plan b j), value-small plan b j fit (left j can.0 can.1) h))
+      (λ other. h i)
+AreSmall-after plan b _ fit left can h i = h i
+
 -- what is so of the books, with the sessions that ended
 pub record AreKept (plan : LabPlan) (b : Books) (ended : List (ℕ × ℕ)) : Type 0 where
   pub fresh : IsFresh b
   pub ended_so : HasEnded b ended
   pub kept : (i : ℕ) → IsKept plan b ended i
   pub dialled : AreDialled b
+  pub small : AreSmall b
   pub roomy : IsRoomy plan b
 
-AreKept-after : (plan : LabPlan) (b : Books) (ended : List (ℕ × ℕ)) (event : Event) → HasOneHolder plan b → HasOneHolder plan (booked plan b event) → HasLeft plan b → AreStages plan b →
+AreKept-after : (plan : LabPlan) (b : Books) (ended : List (ℕ × ℕ)) (event : Event) → AllFit plan → HasOneHolder plan b → HasOneHolder plan (booked plan b event) → HasLeft plan b → AreStages plan b →
     Can plan b event → AreKept plan b ended → AreKept plan (booked plan b event) (ended ++ ended_on b event)
-AreKept-after plan b ended event one next left fit can h = record {
+AreKept-after plan b ended event verbs one next left fit can h = record {
     fresh = IsFresh-after plan b event h.fresh;
     ended_so = HasEnded-after plan b ended event can h.ended_so;
     kept = λ i. IsKept-after plan b ended i event one next h.fresh left can (h.kept i);
     dialled = AreDialled-after plan b event h.dialled;
+    small = AreSmall-after plan b event verbs left can h.small;
     roomy = IsRoomy-after plan b event fit left can h.roomy;
   }
 
@@ -90,7 +121,7 @@ logged_after plan s ended event is_plan may h =
     let same : books s' ≡ booked plan (books s) event = books_after plan s event is_plan.draft.named h.fits may in
     let served' : IsServed plan s' = served_after plan s event h.fits h.served may in
     let one' : HasOneHolder plan (booked plan (books s) event) = subst (HasOneHolder plan) same (one_holder plan s' is_plan served') in
-    let kept' = AreKept-after plan (books s) ended event (one_holder plan s is_plan h.served) one' (has_left plan s h.fits) (stages_fit plan s h.fits) (can_from plan s event may) h.books_kept in
+    let kept' = AreKept-after plan (books s) ended event is_plan.draft.fit (one_holder plan s is_plan h.served) one' (has_left plan s h.fits) (stages_fit plan s h.fits) (can_from plan s event may) h.books_kept in
     record {
       fits = fits_after plan s event h.fits may;
       served = served';
@@ -123,6 +154,10 @@ opening_log plan s i h = ap (λ logs. slice_index_or logs i []) h.logs_empty ∙
 no_value : HasDialValues []
 no_value k entry got = cc
 
+no_turn : dial [] ≤ 999999
+unfolding dial
+no_turn = omega arith
+
 pub opening_logged : (plan : LabPlan) (s : State) → IsOpening plan s → IsLogged plan s []
 opening_logged plan s h =
     let idle : Stage = stage_of idle_phase in
@@ -134,6 +169,7 @@ opening_logged plan s h =
         ended_so = record { ascending = λ i j d below inside. absurd (omega (arith, inside)); past = All-nil (IsPast (books s)) };
         kept = λ i. inr ((λ j. ap (λ (x : Stage). holds_at plan j x i) (opening_stage plan s j h)), ap (map line_of) (opening_log plan s i h));
         dialled = λ i. subst HasDialValues (sym (opening_log plan s i h)) no_value;
+        small = λ i. subst (λ entries. dial entries ≤ 999999) (sym (opening_log plan s i h)) no_turn;
         roomy = λ i. omega (arith, ap length (opening_log plan s i h));
       };
     }
