@@ -19,3 +19,6 @@ pub mod LogRun
 pub mod WholeLaw
 pub mod AppendParts
 pub mod AppendLaw
+pub mod CountPhases
+pub mod CountLaw
+pub mod MealLaw

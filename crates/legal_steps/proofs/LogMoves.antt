@@ -77,21 +77,24 @@ can_from plan s (Retire j) may = (may.0, may.2)
 can_from plan s (Withdraw j) may = (may.0, may.1)
 can_from plan s _ may = tt
 
--- a seat that is replaced by one at the same stage
-stage-same : (s : State) (j : ℕ) (x : Seat) → stage_of x.phase ≡ stage_of (phase s j) → (k : ℕ) → stage_of (phase (with_seat s j x) k) ≡ stage_of (phase s k)
-stage-same s j x same k = elim (cases_eq k j) [
+-- a seat that is replaced by one of which the same is read
+pub read-same : {X : Type 0} (f : Seat → X) (s : State) (j : ℕ) (x : Seat) → f x ≡ f (seat s j) → (k : ℕ) → f (seat (with_seat s j x) k) ≡ f (seat s k)
+read-same f s j x same k = elim (cases_eq k j) [
     inl here ↦ elim (cases_lt j (length s.seats)) [
-        inl inside ↦ subst (λ n. stage_of (phase (with_seat s j x) n) ≡ stage_of (phase s n)) (sym here)
-            (ap (λ (y : Seat). stage_of y.phase) (get_or-set_same s.seats j x _ inside) ∙ same)
-      | inr past ↦ ap (λ seats. stage_of (phase (record s { seats = seats }) k)) (set_past s.seats j x past) ]
-  | inr other ↦ ap (λ (y : Seat). stage_of y.phase) (get_or-set_other s.seats j k x _ other) ]
+        inl inside ↦ subst (λ n. f (seat (with_seat s j x) n) ≡ f (seat s n)) (sym here) (ap f (get_or-set_same s.seats j x _ inside) ∙ same)
+      | inr past ↦ ap (λ seats. f (seat (record s { seats = seats }) k)) (set_past s.seats j x past) ]
+  | inr other ↦ ap f (get_or-set_other s.seats j k x _ other) ]
 
--- a seat that is replaced by one at another stage
-stage-put : (s : State) (j : ℕ) (x : Seat) → j < length s.seats → (k : ℕ) → stage_of (phase (with_seat s j x) k) ≡ put (λ n. stage_of (phase s n)) j (stage_of x.phase) k
-stage-put s j x inside k = elim (cases_eq k j) [
-    inl here ↦ subst (λ n. stage_of (phase (with_seat s j x) n) ≡ put (λ m. stage_of (phase s m)) j (stage_of x.phase) n) (sym here)
-        (ap (λ (y : Seat). stage_of y.phase) (get_or-set_same s.seats j x _ inside) ∙ sym (put-same (λ m. stage_of (phase s m)) j (stage_of x.phase)))
-  | inr other ↦ ap (λ (y : Seat). stage_of y.phase) (get_or-set_other s.seats j k x _ other) ∙ sym (put-other (λ m. stage_of (phase s m)) j (stage_of x.phase) k other) ]
+-- a seat that is replaced
+pub read-put : {X : Type 0} (f : Seat → X) (s : State) (j : ℕ) (x : Seat) → j < length s.seats → (k : ℕ) → f (seat (with_seat s j x) k) ≡ put (λ n. f (seat s n)) j (f x) k
+read-put f s j x inside k = elim (cases_eq k j) [
+    inl here ↦ subst (λ n. f (seat (with_seat s j x) n) ≡ put (λ m. f (seat s m)) j (f x) n) (sym here)
+        (ap f (get_or-set_same s.seats j x _ inside) ∙ sym (put-same (λ m. f (seat s m)) j (f x)))
+  | inr other ↦ ap f (get_or-set_other s.seats j k x _ other) ∙ sym (put-other (λ m. f (seat s m)) j (f x) k other) ]
+
+-- the stage of a seat's job
+abbrev stage_in : Seat → Stage
+stage_in x = stage_of x.phase
 
 -- a log that is replaced
 log-put : (logs : List (List Entry)) (i : ℕ) (entries : List Entry) → i < length logs → (k : ℕ) → slice_index_or (slice_set logs i entries) k [] ≡ put (λ n. slice_index_or logs n []) i entries k
@@ -101,10 +104,10 @@ log-put logs i entries inside k = elim (cases_eq k i) [
   | inr other ↦ get_or-set_other logs i k entries _ other ∙ sym (put-other (λ m. slice_index_or logs m []) i entries k other) ]
 
 with_seat-same : (s : State) (j : ℕ) (x : Seat) → stage_of x.phase ≡ stage_of (phase s j) → books (with_seat s j x) ≡ books s
-with_seat-same s j x same = λ n. record { stages = λ k. stage-same s j x same k n; logs = λ i. log s i }
+with_seat-same s j x same = λ n. record { stages = λ k. read-same stage_in s j x same k n; logs = λ i. log s i }
 
 with_seat-put : (s : State) (j : ℕ) (x : Seat) → j < length s.seats → books (with_seat s j x) ≡ with_stage (books s) j (stage_of x.phase)
-with_seat-put s j x inside = λ n. record { stages = λ k. stage-put s j x inside k n; logs = λ i. log s i }
+with_seat-put s j x inside = λ n. record { stages = λ k. read-put stage_in s j x inside k n; logs = λ i. log s i }
 
 -- the instrument of a reaching job's next command is one of the plan's
 pub next-inside : (plan : LabPlan) (s : State) (j : ℕ) → IsNamed plan → Fits plan s → Can plan (books s) (Act j) → (next_command plan s j).0 < length s.logs
@@ -118,7 +121,7 @@ next-inside plan s j named fit can =
 act_booked : (plan : LabPlan) (s : State) (j : ℕ) → IsNamed plan → Fits plan s → Can plan (books s) (Act j) → books (after plan s (Act j)) ≡ booked plan (books s) (Act j)
 unfolding next_entry
 act_booked plan s j named fit can = λ n. record {
-    stages = λ k. stage-put s j (record (seat s j) { phase = record (phase s j) { drinking = Drinks; position = (phase s j).position + 1 } }) (omega (arith, can.0, fit.seats_there)) k n;
+    stages = λ k. read-put stage_in s j (record (seat s j) { phase = record (phase s j) { drinking = Drinks; position = (phase s j).position + 1 } }) (omega (arith, can.0, fit.seats_there)) k n;
     logs = λ i. log-put s.logs (next_command plan s j).0 (log s (next_command plan s j).0 ++ next_entry plan s j ∷ []) (next-inside plan s j named fit can) i n;
   }
 

@@ -16,7 +16,7 @@ use Rattle.legal_steps.specs.declared.phase.Drinking.TheVariants.{Tranquil, Thir
 use Rattle.legal_steps.specs.declared.phase.JobState.{JobState}
 use Rattle.legal_steps.specs.declared.event.Event.{Event}
 use Rattle.legal_steps.specs.declared.event.Event.TheVariants.{Look, AskFork, GiveFork, Soil, AskBottles, GiveBottles, Thirst, Hunger, Sit, Leave, Drink, Reach, Act, Quit, Retire, Glance, Withdraw}
-use Rattle.legal_steps.specs.State.{State, Seat, seat, log, idle_phase, no_seat, IsInSession}
+use Rattle.legal_steps.specs.State.{State, Seat, seat, phase, log, idle_phase, no_seat, IsInSession}
 use Rattle.legal_steps.specs.Fitting.{Fits, IsSeatOf}
 use Rattle.legal_steps.specs.Legal.{May, after}
 use Rattle.legal_steps.specs.Run.{IsLegalFrom, after_all}
@@ -139,12 +139,15 @@ logged_run plan s ended (event ∷ events) is_plan legal h =
 -- ---- opening states
 
 -- every job of an opening state is idle, also past the plan's
-opening_stage : (plan : LabPlan) (s : State) (j : ℕ) → IsOpening plan s → (books s).stages j ≡ stage_of idle_phase
-opening_stage plan s j h = elim (cases_lt j (length plan.jobs)) [
-    inl job ↦ ap (λ (x : Seat). stage_of x.phase) (opening_seat plan s j h job)
+pub opening_phase : (plan : LabPlan) (s : State) (j : ℕ) → IsOpening plan s → phase s j ≡ idle_phase
+opening_phase plan s j h = elim (cases_lt j (length plan.jobs)) [
+    inl job ↦ ap (λ (x : Seat). x.phase) (opening_seat plan s j h job)
   | inr past ↦
       let few : length s.seats ≤ j = omega (arith, past, ap length h.idle, length-replicate (length plan.jobs) (idle_seat plan)) in
-      ap (λ (x : Seat). stage_of x.phase) (get_or_past s.seats j no_seat few) ]
+      ap (λ (x : Seat). x.phase) (get_or_past s.seats j no_seat few) ]
+
+opening_stage : (plan : LabPlan) (s : State) (j : ℕ) → IsOpening plan s → (books s).stages j ≡ stage_of idle_phase
+opening_stage plan s j h = ap stage_of (opening_phase plan s j h)
 
 opening_log : (plan : LabPlan) (s : State) (i : ℕ) → IsOpening plan s → log s i ≡ []
 opening_log plan s i h = ap (λ logs. slice_index_or logs i []) h.logs_empty ∙ elim (cases_lt i (length plan.instruments)) [
