@@ -1,13 +1,19 @@
 pub mod FitsWrites
 pub mod FitsLaw
 pub mod ForkEnds
+pub mod ForkLaw
 pub mod BottleSets
 pub mod BottleLaw
 pub mod ExclusionLaw
-pub mod OpeningLemmas
-pub mod ForkLaw
 pub mod AcyclicLists
 pub mod AcyclicLaw
+pub mod OpeningLemmas
+pub mod OpeningChoices
+pub mod OpeningChosen
+pub mod RunLemmas
+pub mod ReachedInvariant
+pub mod ReachedLemmas
+pub mod ReachedLaws
 pub mod LogBooks
 pub mod LogMoves
 pub mod PartLists
@@ -22,3 +28,4 @@ pub mod AppendLaw
 pub mod CountPhases
 pub mod CountLaw
 pub mod MealLaw
+pub mod LogLawProofs
