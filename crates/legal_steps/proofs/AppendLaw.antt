@@ -1,5 +1,5 @@
 -- What a reaching job's command finds: its entry follows in the log, there is room, and it is within the limits.
-use Rattle.std.proofs.Common.{◌≡◌, ◌≢◌, ◌⊎◌, ℕ, zero, suc, ◌+◌, ◌-◌, ◌<◌, ◌≤◌, ◌==◌, Bool, true, false, cond, true≢false, length, List, [], ◌∷◌, ◌++◌, map, take, slice_index_or, sym, ap, subst, ◌∙◌, inl, inr, refl, arith, append_assoc}
+use Rattle.std.proofs.Common.{◌≡◌, ℕ, ◌+◌, ◌-◌, ◌<◌, ◌≤◌, ◌==◌, Bool, cond, true≢false, length, List, [], ◌∷◌, ◌++◌, map, take, slice_index_or, sym, ap, subst, ◌∙◌, inl, inr, refl, arith, append_assoc}
 use Rattle.std.specs.List.{flat_map}
 use Rattle.std.proofs.lemmas.Bool.{eq-eqb}
 use Rattle.std.proofs.lemmas.List.{append-nil, length-append}
@@ -7,23 +7,20 @@ use Rattle.std.proofs.lemmas.List.Sums.{count_by-le-length, get_or-le-sum_by}
 use Rattle.std.proofs.lemmas.List.Concat.{length-flat_map}
 use Rattle.lab_plan.specs.declared.verb.Verb.{Verb}
 use Rattle.lab_plan.specs.declared.verb.Verb.TheVariants.{Read}
-use Rattle.lab_plan.specs.LabPlan.{LabPlan, SessionPlan, JobPlan, no_session, no_job, sessions, commands, command_at, place_at, length_at, count_on, part, all_commands}
+use Rattle.lab_plan.specs.LabPlan.{LabPlan, SessionPlan, JobPlan, no_session, no_job, sessions, commands, count_on, all_commands}
 use Rattle.lab_plan.specs.IsPlan.{IsPlan}
-use Rattle.instrument_log.specs.declared.entry.Entry.{Entry}
 use Rattle.instrument_log.specs.Parts.{Follows}
 use Rattle.instrument_log.specs.Entries.{IsWithinLimits}
 use Rattle.instrument_log.specs.InstrumentLog.{MayAppend}
 use Rattle.legal_steps.specs.declared.phase.Drinking.TheVariants.{Reaching}
 use Rattle.legal_steps.specs.declared.event.Event.TheVariants.{Act}
-use Rattle.legal_steps.specs.State.{State, Seat, seat, log, drinking, session, position}
-use Rattle.legal_steps.specs.Fitting.{Fits, IsSeatOf}
+use Rattle.legal_steps.specs.State.{State, log, drinking, session, position}
 use Rattle.legal_steps.specs.Legal.{IsJob, after, next_command, next_entry}
-use Rattle.legal_steps.specs.Run.{after_all}
 use Rattle.legal_steps.specs.Reached.{IsReached}
 use Rattle.legal_steps.specs.WholeLogs.{Line, line_of, commands_on, lines_of, parts_of, room_of, ended_sessions}
 use Rattle.legal_steps.proofs.LogBooks.{Stage, Books, books, put-same}
-use Rattle.legal_steps.proofs.LogMoves.{Can, booked, books_after, next_of, entry_of}
-use Rattle.legal_steps.proofs.LogKept.{IsKept, part_so_far, holds_next}
+use Rattle.legal_steps.proofs.LogMoves.{Can, books_after, next_of, entry_of}
+use Rattle.legal_steps.proofs.LogKept.{part_so_far, holds_next}
 use Rattle.legal_steps.proofs.LogRun.{IsLogged, logged, logged_after, one_holder, has_left, stages_fit, verb-fits, value-small}
 use Rattle.legal_steps.proofs.PartLists.{line_at, lines_of-push, length-commands_on}
 use Rattle.legal_steps.proofs.RoomShares.{shares_fit, count_on-more, count_on-take}
@@ -40,7 +37,7 @@ room_to_act plan s ended j is_plan h can =
     let s' : State = after plan s (Act j) in
     let enough = room_enough plan s' (ended ++ []) i (logged_after plan s ended (Act j) is_plan can h) in
     let same : log s' i ≡ log s i ++ entry_of plan (books s) j ∷ [] =
-        ap (λ (b : Books). b.logs i) (books_after plan s (Act j) is_plan.draft.named h.fits can) ∙ put-same (λ k. log s k) i (log s i ++ entry_of plan (books s) j ∷ []) in
+    ap (λ (b : Books). b.logs i) (books_after plan s (Act j) is_plan.draft.named h.fits can) ∙ put-same (λ k. log s k) i (log s i ++ entry_of plan (books s) j ∷ []) in
     omega (arith, enough, ap length same, length-append (log s i) (entry_of plan (books s) j ∷ []))
 
 -- ---- the entry follows
@@ -63,18 +60,19 @@ follows_so_far plan b ended j left joined =
     let counted : length done ≡ count_on i (take x.position all) = length-commands_on i (take x.position all) in
     let whole : total ≡ count_on i all = length-commands_on i all in
     elim (last_cases done) [
-      inl none ↦
-        let closed : map line_of (b.logs i) ≡ parts_of plan i ended = joined ∙ ap (λ own. parts_of plan i ended ++ lines_of j x.session total own) none ∙ append-nil (parts_of plan i ended) in
-        follows_first (b.logs i) (entry_of plan b j) (subst IsClosed (sym closed) (parts_closed plan i ended)) (omega (arith, counted, ap length none))
-    | inr more ↦
-        let front : List Line = lines_of j x.session total more.front in
-        let line : Line = line_at j x.session total (length more.front + 1) more.last in
-        let size : length done ≡ length more.front + 1 = ap length more.is ∙ length-append more.front (more.last ∷ []) in
-        follows_next (b.logs i) (parts_of plan i ended ++ front) line (entry_of plan b j)
+      | inl none ↦
+          let closed : map line_of (b.logs i) ≡ parts_of plan i ended = joined ∙ ap (λ own. parts_of plan i ended ++ lines_of j x.session total own) none ∙ append-nil (parts_of plan i ended) in
+          follows_first (b.logs i) (entry_of plan b j) (subst IsClosed (sym closed) (parts_closed plan i ended)) (omega (arith, counted, ap length none))
+      | inr more ↦
+          let front : List Line = lines_of j x.session total more.front in
+          let line : Line = line_at j x.session total (length more.front + 1) more.last in
+          let size : length done ≡ length more.front + 1 = ap length more.is ∙ length-append more.front (more.last ∷ []) in
+          follows_next (b.logs i) (parts_of plan i ended ++ front) line (entry_of plan b j)
           (joined ∙ ap (λ lines. parts_of plan i ended ++ lines) (ap (lines_of j x.session total) more.is ∙ lines_of-push j x.session total more.front more.last)
-            ∙ sym (append_assoc (parts_of plan i ended) front (line ∷ [])))
+          ∙ sym (append_assoc (parts_of plan i ended) front (line ∷ [])))
           (omega (arith, size, counted, whole, more_to_do all x.position left))
-          refl refl (omega (arith, size, counted)) (sym whole) ]
+          refl refl (omega (arith, size, counted)) (sym whole)
+    ]
 
 follows_kept : (plan : LabPlan) (s : State) (ended : List (ℕ × ℕ)) (j : ℕ) → IsPlan plan → IsLogged plan s ended → Can plan (books s) (Act j) → Follows (log s (next_command plan s j).0) (entry_of plan (books s) j)
 follows_kept plan s ended j is_plan h can =
@@ -83,10 +81,11 @@ follows_kept plan s ended j is_plan h can =
     let left = has_left plan s h.fits j can.0 can.1 in
     let now = holds_next plan b j left can in
     elim (h.books_kept.kept i) [
-      inl a ↦
-        let here : a.0 ≡ j = one_holder plan s is_plan h.served a.0 j i a.1 now in
-        follows_so_far plan b ended j left (a.2 ∙ ap (λ k. parts_of plan i ended ++ part_so_far plan i k (b.stages k)) here)
-    | inr a ↦ absurd (true≢false (sym now ∙ a.0 j)) ]
+      | inl a ↦
+          let here : a.0 ≡ j = one_holder plan s is_plan h.served a.0 j i a.1 now in
+          follows_so_far plan b ended j left (a.2 ∙ ap (λ k. parts_of plan i ended ++ part_so_far plan i k (b.stages k)) here)
+      | inr a ↦ absurd (true≢false (sym now ∙ a.0 j))
+    ]
 
 -- the entry of the books is that of the state
 entry_is : (plan : LabPlan) (s : State) (j : ℕ) → entry_of plan (books s) j ≡ next_entry plan s j
@@ -96,9 +95,9 @@ entry_is plan s j = refl
 pub act_appends_logged : (plan : LabPlan) (s : State) (ended : List (ℕ × ℕ)) (j : ℕ) → IsPlan plan → IsLogged plan s ended → IsJob plan j → drinking s j ≡ Reaching →
     MayAppend (record { entries = log s (next_command plan s j).0; room = room_of plan (next_command plan s j).0 }) (next_entry plan s j)
 act_appends_logged plan s ended j is_plan h job reaching = record {
-    follows = subst (Follows (log s (next_command plan s j).0)) (entry_is plan s j) (follows_kept plan s ended j is_plan h (job, reaching));
-    has_room = room_to_act plan s ended j is_plan h (job, reaching);
-  }
+  follows = subst (Follows (log s (next_command plan s j).0)) (entry_is plan s j) (follows_kept plan s ended j is_plan h (job, reaching));
+  has_room = room_to_act plan s ended j is_plan h (job, reaching);
+}
 
 -- ---- limits
 
@@ -107,9 +106,13 @@ session_commands_few : (plan : LabPlan) (j n : ℕ) → j < length plan.jobs →
 session_commands_few plan j n job first there =
     let of_job : JobPlan → List (ℕ × Verb) = λ x. flat_map (λ y. y.commands) x.sessions in
     let of_session : SessionPlan → List (ℕ × Verb) = λ y. y.commands in
-    omega (arith,
-      length-flat_map of_job plan.jobs, get_or-le-sum_by (λ x. length (of_job x)) plan.jobs j no_job job,
-      length-flat_map of_session (sessions plan j), get_or-le-sum_by (λ y. length (of_session y)) (sessions plan j) (n - 1) no_session (omega (arith, first, there)))
+    omega (
+      arith,
+      length-flat_map of_job plan.jobs,
+      get_or-le-sum_by (λ x. length (of_job x)) plan.jobs j no_job job,
+      length-flat_map of_session (sessions plan j),
+      get_or-le-sum_by (λ y. length (of_session y)) (sessions plan j) (n - 1) no_session (omega (arith, first, there)),
+    )
 
 pub within_limits_logged : (plan : LabPlan) (s : State) (ended : List (ℕ × ℕ)) (j : ℕ) → IsPlan plan → IsLogged plan s ended → IsJob plan j → drinking s j ≡ Reaching → IsWithinLimits (next_entry plan s j)
 within_limits_logged plan s ended j is_plan h job reaching =

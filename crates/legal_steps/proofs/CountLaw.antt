@@ -1,22 +1,21 @@
 -- Each session that a job began it has ended, given up, or is in.
-use Rattle.std.proofs.Common.{◌≡◌, ◌≢◌, ◌⊎◌, ℕ, ◌+◌, ◌<◌, ◌≤◌, ◌==◌, Bool, true, false, cond, List, [], ◌∷◌, sym, ap, subst, ◌∙◌, inl, inr, refl, arith, add-zero}
-use Rattle.std.proofs.lemmas.Bool.{cases_eq, eq-eqb, ne_eqb}
+use Rattle.std.proofs.Common.{◌≡◌, ◌≢◌, ℕ, ◌+◌, cond, List, [], ◌∷◌, sym, ap, subst, ◌∙◌, inl, inr, refl, arith, add-zero}
+use Rattle.std.proofs.lemmas.Bool.{eq-eqb, ne_eqb}
 use Rattle.std.proofs.lemmas.List.Sums.{sum_by-cons}
-use Rattle.lab_plan.specs.LabPlan.{LabPlan, sessions}
-use Rattle.lab_plan.specs.IsPlan.{IsPlan}
+use Rattle.lab_plan.specs.LabPlan.{LabPlan}
 use Rattle.legal_steps.specs.declared.phase.Drinking.{Drinking}
-use Rattle.legal_steps.specs.declared.phase.Drinking.TheVariants.{Tranquil, Thirsty, Drinking as Drinks, Reaching, Retired}
+use Rattle.legal_steps.specs.declared.phase.Drinking.TheVariants.{Tranquil}
 use Rattle.legal_steps.specs.declared.phase.JobState.{JobState}
 use Rattle.legal_steps.specs.declared.event.Event.{Event}
 use Rattle.legal_steps.specs.declared.event.Event.TheVariants.{Look, AskFork, GiveFork, Soil, AskBottles, GiveBottles, Thirst, Hunger, Sit, Leave, Drink, Reach, Act, Quit, Retire, Glance, Withdraw}
-use Rattle.legal_steps.specs.State.{State, phase, session, drinking, IsInSession}
+use Rattle.legal_steps.specs.State.{State, phase, drinking, IsInSession}
 use Rattle.legal_steps.specs.Fitting.{Fits}
 use Rattle.legal_steps.specs.Legal.{May, after}
 use Rattle.legal_steps.specs.Run.{IsLegalFrom, after_all, is_quit, is_withdraw, sessions_done_of, withdrawn_of}
 use Rattle.legal_steps.specs.Opening.{IsOpening}
 use Rattle.legal_steps.proofs.FitsLaw.{fits_after, not_tranquil, not_retired}
 use Rattle.legal_steps.proofs.OpeningLemmas.{fits_opening}
-use Rattle.legal_steps.proofs.LogBooks.{put, put-cases}
+use Rattle.legal_steps.proofs.LogBooks.{put-cases}
 use Rattle.legal_steps.proofs.LogRun.{opening_phase}
 use Rattle.legal_steps.proofs.CountPhases.{actor, phased, phases_after}
 
@@ -52,9 +51,9 @@ done_own plan s (Soil j e) n may h = nothing _ n h
 done_own plan s (AskBottles j e set) n may h = nothing _ n h
 done_own plan s (GiveBottles j e set) n may h = nothing _ n h
 done_own plan s (Thirst j) n may h = nothing _ n (record {
-    inside = λ _. ap (λ k. k + 1) (h.outside (outside_of (drinking s j) Tranquil may.1 not_tranquil));
-    outside = λ none. absurd (none (inl refl));
-  })
+  inside = λ _. ap (λ k. k + 1) (h.outside (outside_of (drinking s j) Tranquil may.1 not_tranquil));
+  outside = λ none. absurd (none (inl refl));
+})
 done_own plan s (Hunger j) n may h = nothing _ n (record { inside = h.inside; outside = h.outside })
 done_own plan s (Sit j) n may h = nothing _ n (record { inside = h.inside; outside = h.outside })
 done_own plan s (Leave j) n may h = nothing _ n (record { inside = h.inside; outside = h.outside })
@@ -65,9 +64,9 @@ done_own plan s (Quit j) n may h =
     let one : does j (Quit j) ≡ 1 = ap (λ b. cond b 1 0 + 0) (eq-eqb j j refl) in
     subst (HasDone (phased (Quit j) (phase s j))) (omega (arith, one)) (goes_outside _ _ n h (inr (inl may.1)) not_tranquil refl)
 done_own plan s (Retire j) n may h = nothing _ n (record {
-    inside = λ still. absurd (not_retired still);
-    outside = λ _. h.outside (outside_of (drinking s j) Tranquil may.2 not_tranquil);
-  })
+  inside = λ still. absurd (not_retired still);
+  outside = λ _. h.outside (outside_of (drinking s j) Tranquil may.2 not_tranquil);
+})
 done_own plan s (Glance j other seen) n may h = nothing _ n h
 done_own plan s (Withdraw j) n may h =
     let one : does j (Withdraw j) ≡ 1 = ap (λ b. 0 + cond b 1 0) (eq-eqb j j refl) in
@@ -82,9 +81,9 @@ does_none j _ other = refl
 done_after : (plan : LabPlan) (s : State) (event : Event) (j n : ℕ) → Fits plan s → May plan s event → HasDone (phase s j) n → HasDone (phase (after plan s event) j) (n + does j event)
 done_after plan s event j n fit may h =
     subst (λ (x : JobState). HasDone x (n + does j event)) (sym (phases_after plan s event fit may j))
-      (put-cases (λ k (x : JobState). HasDone (phase s k) n → HasDone x (n + does k event)) (λ k. phase s k) (actor event) (phased event (phase s (actor event))) j
-        (λ here. done_own plan s event n may)
-        (λ other before. subst (HasDone (phase s j)) (omega (arith, does_none j event other)) before) h)
+    (put-cases (λ k (x : JobState). HasDone (phase s k) n → HasDone x (n + does k event)) (λ k. phase s k) (actor event) (phased event (phase s (actor event))) j
+    (λ here. done_own plan s event n may)
+    (λ other before. subst (HasDone (phase s j)) (omega (arith, does_none j event other)) before) h)
 
 done_from : (plan : LabPlan) (s : State) (events : List Event) (j n : ℕ) → Fits plan s → IsLegalFrom plan s events → HasDone (phase s j) n → HasDone (phase (after_all plan s events) j) (n + (sessions_done_of j events + withdrawn_of j events))
 done_from plan s [] j n fit legal h = nothing (phase s j) n h
@@ -92,10 +91,10 @@ done_from plan s (event ∷ events) j n fit legal h =
     let quits = sum_by-cons (λ e. cond (is_quit j e) 1 0) event events in
     let withdraws = sum_by-cons (λ e. cond (is_withdraw j e) 1 0) event events in
     subst (HasDone (phase (after_all plan (after plan s event) events) j)) (omega (arith, quits, withdraws))
-      (done_from plan (after plan s event) events j (n + does j event) (fits_after plan s event fit legal.0) legal.1 (done_after plan s event j n fit legal.0 h))
+    (done_from plan (after plan s event) events j (n + does j event) (fits_after plan s event fit legal.0) legal.1 (done_after plan s event j n fit legal.0 h))
 
 pub sessions_counted : (plan : LabPlan) (opening : State) (events : List Event) (j : ℕ) → IsOpening plan opening → IsLegalFrom plan opening events → HasDone (phase (after_all plan opening events) j) (sessions_done_of j events + withdrawn_of j events)
 sessions_counted plan opening events j opens legal =
     subst (HasDone (phase (after_all plan opening events) j)) (omega arith)
-      (done_from plan opening events j 0 (fits_opening plan opening opens) legal
-        (subst (λ (x : JobState). HasDone x 0) (sym (opening_phase plan opening j opens)) (record { inside = λ still. absurd (not_tranquil still); outside = λ _. refl })))
+    (done_from plan opening events j 0 (fits_opening plan opening opens) legal
+    (subst (λ (x : JobState). HasDone x 0) (sym (opening_phase plan opening j opens)) (record { inside = λ still. absurd (not_tranquil still); outside = λ _. refl })))

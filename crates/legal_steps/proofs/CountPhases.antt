@@ -1,5 +1,5 @@
 -- What each event does to the phase of its own job; no event changes another job's.
-use Rattle.std.proofs.Common.{◌≡◌, ◌≢◌, ℕ, ◌+◌, ◌<◌, length, sym, ap, subst, ◌∙◌, inl, inr, refl, arith}
+use Rattle.std.proofs.Common.{◌≡◌, ℕ, ◌+◌, sym, subst, ◌∙◌, inl, inr, refl, arith}
 use Rattle.std.proofs.lemmas.Bool.{cases_eq}
 use Rattle.lab_plan.specs.LabPlan.{LabPlan}
 use Rattle.legal_steps.specs.declared.phase.Dining.TheVariants.{Thinking, Hungry, Eating}
@@ -9,7 +9,7 @@ use Rattle.legal_steps.specs.declared.event.Event.{Event}
 use Rattle.legal_steps.specs.declared.event.Event.TheVariants.{Look, AskFork, GiveFork, Soil, AskBottles, GiveBottles, Thirst, Hunger, Sit, Leave, Drink, Reach, Act, Quit, Retire, Glance, Withdraw}
 use Rattle.legal_steps.specs.State.{State, Seat, seat, phase}
 use Rattle.legal_steps.specs.Fitting.{Fits}
-use Rattle.legal_steps.specs.Legal.{May, after, IsJob, with_seat, with_entry, next_command, next_entry}
+use Rattle.legal_steps.specs.Legal.{May, after}
 use Rattle.legal_steps.proofs.LogBooks.{put, put-same, put-other}
 use Rattle.legal_steps.proofs.LogMoves.{read-same, read-put}
 
@@ -56,8 +56,9 @@ phases s j = phase s j
 -- nothing of the job's phase changes
 unchanged : (before now : ℕ → JobState) (j : ℕ) → ((k : ℕ) → now k ≡ before k) → (k : ℕ) → now k ≡ put before j (before j) k
 unchanged before now j same k = elim (cases_eq k j) [
-    inl here ↦ same k ∙ subst (λ n. before n ≡ put before j (before j) n) (sym here) (sym (put-same before j (before j)))
-  | inr other ↦ same k ∙ sym (put-other before j (before j) k other) ]
+  | inl here ↦ same k ∙ subst (λ n. before n ≡ put before j (before j) n) (sym here) (sym (put-same before j (before j)))
+  | inr other ↦ same k ∙ sym (put-other before j (before j) k other)
+]
 
 pub phases_after : (plan : LabPlan) (s : State) (event : Event) → Fits plan s → May plan s event → (k : ℕ) → phase (after plan s event) k ≡ put (λ n. phase s n) (actor event) (phased event (phase s (actor event))) k
 phases_after plan s (Look j e seen) fit may = unchanged (phases s) (phases (after plan s (Look j e seen))) j (read-same phase_in s j _ refl)

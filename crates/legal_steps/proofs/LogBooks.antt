@@ -1,14 +1,13 @@
 -- What the laws of logs read of a state: how far each job is in its sessions, and each log.
-use Rattle.std.proofs.Common.{◌≡◌, ◌≢◌, ◌⊎◌, ℕ, ◌+◌, Bool, true, false, ◌&&◌, ◌==◌, if◌then◌else◌, List, [], ◌∷◌, ◌++◌, sym, ap, subst, inl, inr, refl}
+use Rattle.std.proofs.Common.{◌≡◌, ◌≢◌, ◌⊎◌, ℕ, Bool, true, false, ◌&&◌, ◌==◌, if◌then◌else◌, List, sym, ap, subst, inl, inr, refl}
 use Rattle.std.proofs.lemmas.Bool.{eq-eqb, ne_eqb, and_parts, cases_eq}
-use Rattle.lab_plan.specs.declared.verb.Verb.{Verb}
-use Rattle.lab_plan.specs.LabPlan.{LabPlan, commands, command_at, session_names}
+use Rattle.lab_plan.specs.LabPlan.{LabPlan, session_names}
 use Rattle.instrument_log.specs.declared.entry.Entry.{Entry}
 use Rattle.legal_steps.specs.declared.phase.Drinking.{Drinking}
 use Rattle.legal_steps.specs.declared.phase.Drinking.TheVariants.{Tranquil, Thirsty, Drinking as Drinks, Reaching, Retired}
 use Rattle.legal_steps.specs.declared.phase.JobState.{JobState}
-use Rattle.legal_steps.specs.State.{State, phase, log, IsDrinking, IsInSession}
-use Rattle.legal_steps.specs.Holding.{Holds, IsExclusive}
+use Rattle.legal_steps.specs.State.{State, phase, log, IsDrinking}
+use Rattle.legal_steps.specs.Holding.{IsExclusive}
 
 -- how far a job is in its sessions
 pub record Stage : Type 0 where
@@ -64,15 +63,15 @@ holds plan b j i = holds_at plan j (b.stages j) i
 abbrev pub HasOneHolder : LabPlan → Books → Type 0
 HasOneHolder plan b = (j k i : ℕ) → holds plan b j i ≡ true → holds plan b k i ≡ true → j ≡ k
 
-drinks_from : (x : JobState) → is_drinking x.drinking ≡ true → IsDrinking x
+pub drinks_from : (x : JobState) → is_drinking x.drinking ≡ true → IsDrinking x
 drinks_from x h = from x.drinking h
   where
-  from : (d : Drinking) → is_drinking d ≡ true → (d ≡ Drinks) ⊎ (d ≡ Reaching)
-  from Tranquil e = absurd (cc)
-  from Thirsty e = absurd (cc)
-  from Drinks e = inl refl
-  from Reaching e = inr refl
-  from Retired e = absurd (cc)
+    from : (d : Drinking) → is_drinking d ≡ true → (d ≡ Drinks) ⊎ (d ≡ Reaching)
+    from Tranquil e = absurd (cc)
+    from Thirsty e = absurd (cc)
+    from Drinks e = inl refl
+    from Reaching e = inr refl
+    from Retired e = absurd (cc)
 
 pub one_holder_from : (plan : LabPlan) (s : State) → IsExclusive plan s → HasOneHolder plan (books s)
 one_holder_from plan s exclusive j k i hj hk =
@@ -83,5 +82,6 @@ one_holder_from plan s exclusive j k i hj hk =
 -- what holds of the new value, and of the old ones at other numbers, holds of each
 pub put-cases : {A : Type 0} (P : ℕ → A → Type 0) (f : ℕ → A) (j : ℕ) (x : A) (k : ℕ) → (k ≡ j → P j x) → (k ≢ j → P k (f k)) → P k (put f j x k)
 put-cases P f j x k new old = elim (cases_eq k j) [
-    inl here ↦ subst (λ n. P n (put f j x n)) (sym here) (subst (P j) (sym (put-same f j x)) (new here))
-  | inr other ↦ subst (P k) (sym (put-other f j x k other)) (old other) ]
+  | inl here ↦ subst (λ n. P n (put f j x n)) (sym here) (subst (P j) (sym (put-same f j x)) (new here))
+  | inr other ↦ subst (P k) (sym (put-other f j x k other)) (old other)
+]

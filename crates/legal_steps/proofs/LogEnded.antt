@@ -1,16 +1,15 @@
 -- The sessions that ended: those of each job ascend, and all are past.
-use Rattle.std.proofs.Common.{◌≡◌, ◌≢◌, ◌⊎◌, ℕ, ◌+◌, ◌<◌, ◌≤◌, Bool, true, false, true≢false, length, List, [], ◌∷◌, ◌++◌, slice_index_or, sym, ap, subst, ◌∙◌, inl, inr, refl, arith, All}
-use Rattle.std.specs.List.{AllPairs}
+use Rattle.std.proofs.Common.{◌≡◌, ℕ, ◌<◌, ◌≤◌, true, false, true≢false, List, [], ◌∷◌, ◌++◌, sym, ap, subst, ◌∙◌, refl, arith, All}
 use Rattle.std.proofs.lemmas.List.{append-nil}
-use Rattle.std.proofs.lemmas.List.Elements.{All-weaker, All-push, All-nil}
+use Rattle.std.proofs.lemmas.List.Elements.{All-weaker, All-push}
 use Rattle.std.proofs.lemmas.List.Quantifiers.{all_pairs_push}
 use Rattle.lab_plan.specs.LabPlan.{LabPlan}
-use Rattle.legal_steps.specs.declared.phase.Drinking.TheVariants.{Tranquil, Thirsty, Drinking as Drinks, Reaching, Retired}
+use Rattle.legal_steps.specs.declared.phase.Drinking.TheVariants.{Thirsty}
 use Rattle.legal_steps.specs.declared.event.Event.{Event}
-use Rattle.legal_steps.specs.declared.event.Event.TheVariants.{Look, AskFork, GiveFork, Soil, AskBottles, GiveBottles, Thirst, Hunger, Sit, Leave, Drink, Reach, Act, Quit, Retire, Glance, Withdraw}
+use Rattle.legal_steps.specs.declared.event.Event.TheVariants.{Thirst, Drink, Reach, Act, Quit, Retire, Withdraw}
 use Rattle.legal_steps.specs.State.{State}
 use Rattle.legal_steps.specs.WholeLogs.{IsBefore, IsAscending, ended_by}
-use Rattle.legal_steps.proofs.LogBooks.{Stage, Books, books, put, put-same, put-cases, is_in_session}
+use Rattle.legal_steps.proofs.LogBooks.{Stage, Books, books, put-same, put-cases, is_in_session}
 use Rattle.legal_steps.proofs.LogMoves.{Can, booked, with_stage}
 
 -- a thirsty job has done none of its session's commands
@@ -95,7 +94,7 @@ ended_other : (plan : LabPlan) (b : Books) (ended : List (ℕ × ℕ)) (event : 
 ended_other plan b ended event can h =
     let r : Books = booked plan b event in
     subst (HasEnded r) (sym (append-nil ended))
-      (record { ascending = h.ascending; past = All-weaker (IsPast b) (IsPast r) (λ other. IsPast-after plan b event other can) ended h.past })
+    (record { ascending = h.ascending; past = All-weaker (IsPast b) (IsPast r) (λ other. IsPast-after plan b event other can) ended h.past })
 
 pub HasEnded-after : (plan : LabPlan) (b : Books) (ended : List (ℕ × ℕ)) (event : Event) → Can plan b event → HasEnded b ended → HasEnded (booked plan b event) (ended ++ ended_on b event)
 HasEnded-after plan b ended (Quit j) can h = ended_quit plan b ended j can h

@@ -1,15 +1,14 @@
 -- What each event does to the books: seven kinds of event move one job to another stage, and Act adds an entry; the others leave the books as they are.
-use Rattle.std.proofs.Common.{◌≡◌, ◌≢◌, ◌⊎◌, ℕ, ◌+◌, ◌<◌, ◌≤◌, ◌==◌, length, List, [], ◌∷◌, ◌++◌, slice_set, slice_index_or, sym, ap, subst, ◌∙◌, inl, inr, refl, arith, get_or-set_same, get_or-set_other, All}
+use Rattle.std.proofs.Common.{◌≡◌, ℕ, ◌+◌, ◌<◌, ◌≤◌, length, List, [], ◌∷◌, ◌++◌, slice_set, slice_index_or, sym, ap, subst, ◌∙◌, inl, inr, refl, arith, get_or-set_same, get_or-set_other}
 use Rattle.std.proofs.lemmas.Bool.{cases_eq, cases_lt}
 use Rattle.std.proofs.lemmas.List.{set_past}
 use Rattle.std.proofs.lemmas.List.Elements.{All-get_or}
 use Rattle.lab_plan.specs.declared.verb.Verb.{Verb}
-use Rattle.lab_plan.specs.LabPlan.{LabPlan, sessions, commands, patience, command_at, place_at, length_at}
+use Rattle.lab_plan.specs.LabPlan.{LabPlan, sessions, commands, command_at, place_at, length_at}
 use Rattle.lab_plan.specs.IsPlan.{IsNamed}
 use Rattle.instrument_log.specs.declared.entry.Entry.{Entry}
 use Rattle.instrument_log.specs.Dial.{turned, dial}
 use Rattle.legal_steps.specs.declared.phase.Drinking.TheVariants.{Tranquil, Thirsty, Drinking as Drinks, Reaching, Retired}
-use Rattle.legal_steps.specs.declared.phase.JobState.{JobState}
 use Rattle.legal_steps.specs.declared.event.Event.{Event}
 use Rattle.legal_steps.specs.declared.event.Event.TheVariants.{Look, AskFork, GiveFork, Soil, AskBottles, GiveBottles, Thirst, Hunger, Sit, Leave, Drink, Reach, Act, Quit, Retire, Glance, Withdraw}
 use Rattle.legal_steps.specs.State.{State, Seat, seat, phase, log}
@@ -57,9 +56,9 @@ booked plan b (Thirst j) = with_stage b j (record { drinking = Thirsty; session 
 booked plan b (Drink j) = with_stage b j (record (b.stages j) { drinking = Drinks })
 booked plan b (Reach j) = with_stage b j (record (b.stages j) { drinking = Reaching })
 booked plan b (Act j) = record {
-    stages = put b.stages j (record (b.stages j) { drinking = Drinks; position = (b.stages j).position + 1 });
-    logs = put b.logs (next_of plan b j).0 (b.logs (next_of plan b j).0 ++ entry_of plan b j ∷ []);
-  }
+  stages = put b.stages j (record (b.stages j) { drinking = Drinks; position = (b.stages j).position + 1 });
+  logs = put b.logs (next_of plan b j).0 (b.logs (next_of plan b j).0 ++ entry_of plan b j ∷ []);
+}
 booked plan b (Quit j) = with_stage b j (record (b.stages j) { drinking = Tranquil; position = 0 })
 booked plan b (Retire j) = with_stage b j (record (b.stages j) { drinking = Retired })
 booked plan b (Withdraw j) = with_stage b j (record (b.stages j) { drinking = Tranquil; position = 0 })
@@ -80,17 +79,20 @@ can_from plan s _ may = tt
 -- a seat that is replaced by one of which the same is read
 pub read-same : {X : Type 0} (f : Seat → X) (s : State) (j : ℕ) (x : Seat) → f x ≡ f (seat s j) → (k : ℕ) → f (seat (with_seat s j x) k) ≡ f (seat s k)
 read-same f s j x same k = elim (cases_eq k j) [
-    inl here ↦ elim (cases_lt j (length s.seats)) [
-        inl inside ↦ subst (λ n. f (seat (with_seat s j x) n) ≡ f (seat s n)) (sym here) (ap f (get_or-set_same s.seats j x _ inside) ∙ same)
-      | inr past ↦ ap (λ seats. f (seat (record s { seats = seats }) k)) (set_past s.seats j x past) ]
-  | inr other ↦ ap f (get_or-set_other s.seats j k x _ other) ]
+  | inl here ↦ elim (cases_lt j (length s.seats)) [
+    | inl inside ↦ subst (λ n. f (seat (with_seat s j x) n) ≡ f (seat s n)) (sym here) (ap f (get_or-set_same s.seats j x _ inside) ∙ same)
+    | inr past ↦ ap (λ seats. f (seat (record s { seats = seats }) k)) (set_past s.seats j x past)
+  ]
+  | inr other ↦ ap f (get_or-set_other s.seats j k x _ other)
+]
 
 -- a seat that is replaced
 pub read-put : {X : Type 0} (f : Seat → X) (s : State) (j : ℕ) (x : Seat) → j < length s.seats → (k : ℕ) → f (seat (with_seat s j x) k) ≡ put (λ n. f (seat s n)) j (f x) k
 read-put f s j x inside k = elim (cases_eq k j) [
-    inl here ↦ subst (λ n. f (seat (with_seat s j x) n) ≡ put (λ m. f (seat s m)) j (f x) n) (sym here)
-        (ap f (get_or-set_same s.seats j x _ inside) ∙ sym (put-same (λ m. f (seat s m)) j (f x)))
-  | inr other ↦ ap f (get_or-set_other s.seats j k x _ other) ∙ sym (put-other (λ m. f (seat s m)) j (f x) k other) ]
+  | inl here ↦ subst (λ n. f (seat (with_seat s j x) n) ≡ put (λ m. f (seat s m)) j (f x) n) (sym here)
+      (ap f (get_or-set_same s.seats j x _ inside) ∙ sym (put-same (λ m. f (seat s m)) j (f x)))
+  | inr other ↦ ap f (get_or-set_other s.seats j k x _ other) ∙ sym (put-other (λ m. f (seat s m)) j (f x) k other)
+]
 
 -- the stage of a seat's job
 abbrev stage_in : Seat → Stage
@@ -99,9 +101,10 @@ stage_in x = stage_of x.phase
 -- a log that is replaced
 log-put : (logs : List (List Entry)) (i : ℕ) (entries : List Entry) → i < length logs → (k : ℕ) → slice_index_or (slice_set logs i entries) k [] ≡ put (λ n. slice_index_or logs n []) i entries k
 log-put logs i entries inside k = elim (cases_eq k i) [
-    inl here ↦ subst (λ n. slice_index_or (slice_set logs i entries) n [] ≡ put (λ m. slice_index_or logs m []) i entries n) (sym here)
-        (get_or-set_same logs i entries _ inside ∙ sym (put-same (λ m. slice_index_or logs m []) i entries))
-  | inr other ↦ get_or-set_other logs i k entries _ other ∙ sym (put-other (λ m. slice_index_or logs m []) i entries k other) ]
+  | inl here ↦ subst (λ n. slice_index_or (slice_set logs i entries) n [] ≡ put (λ m. slice_index_or logs m []) i entries n) (sym here)
+      (get_or-set_same logs i entries _ inside ∙ sym (put-same (λ m. slice_index_or logs m []) i entries))
+  | inr other ↦ get_or-set_other logs i k entries _ other ∙ sym (put-other (λ m. slice_index_or logs m []) i entries k other)
+]
 
 with_seat-same : (s : State) (j : ℕ) (x : Seat) → stage_of x.phase ≡ stage_of (phase s j) → books (with_seat s j x) ≡ books s
 with_seat-same s j x same = λ n. record { stages = λ k. read-same stage_in s j x same k n; logs = λ i. log s i }
@@ -121,9 +124,9 @@ next-inside plan s j named fit can =
 act_booked : (plan : LabPlan) (s : State) (j : ℕ) → IsNamed plan → Fits plan s → Can plan (books s) (Act j) → books (after plan s (Act j)) ≡ booked plan (books s) (Act j)
 unfolding next_entry
 act_booked plan s j named fit can = λ n. record {
-    stages = λ k. read-put stage_in s j (record (seat s j) { phase = record (phase s j) { drinking = Drinks; position = (phase s j).position + 1 } }) (omega (arith, can.0, fit.seats_there)) k n;
-    logs = λ i. log-put s.logs (next_command plan s j).0 (log s (next_command plan s j).0 ++ next_entry plan s j ∷ []) (next-inside plan s j named fit can) i n;
-  }
+  stages = λ k. read-put stage_in s j (record (seat s j) { phase = record (phase s j) { drinking = Drinks; position = (phase s j).position + 1 } }) (omega (arith, can.0, fit.seats_there)) k n;
+  logs = λ i. log-put s.logs (next_command plan s j).0 (log s (next_command plan s j).0 ++ next_entry plan s j ∷ []) (next-inside plan s j named fit can) i n;
+}
 
 -- the books after a legal event
 pub books_after : (plan : LabPlan) (s : State) (event : Event) → IsNamed plan → Fits plan s → May plan s event → books (after plan s event) ≡ booked plan (books s) event

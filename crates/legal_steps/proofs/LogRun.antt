@@ -1,36 +1,34 @@
 -- What is so of the logs after every list of legal events.
-use Rattle.std.proofs.Common.{◌≡◌, ◌⊎◌, ℕ, zero, suc, ◌+◌, ◌<◌, ◌≤◌, true, length, List, [], ◌∷◌, ◌++◌, map, take, replicate, slice_index_or, sym, ap, subst, ◌∙◌, inl, inr, refl, arith, append_assoc}
+use Rattle.std.proofs.Common.{◌≡◌, ℕ, ◌<◌, ◌≤◌, true, length, List, [], ◌∷◌, ◌++◌, map, replicate, slice_index_or, sym, ap, subst, ◌∙◌, inl, inr, refl, arith, append_assoc}
 use Rattle.std.proofs.lemmas.Bool.{cases_lt}
 use Rattle.std.proofs.lemmas.List.{append-nil, get_or-replicate, get_or_past, length-replicate}
 use Rattle.std.proofs.lemmas.List.Elements.{All-nil, All-get_or}
 use Rattle.lab_plan.specs.declared.verb.Verb.{Verb}
 use Rattle.lab_plan.specs.declared.verb.Verb.TheVariants.{Set, Add, Read}
 use Rattle.lab_plan.specs.Verbs.{Fits as FitsDial}
-use Rattle.lab_plan.specs.LabPlan.{LabPlan, edges, commands}
+use Rattle.lab_plan.specs.LabPlan.{LabPlan, commands}
 use Rattle.lab_plan.specs.IsPlan.{IsPlan, AllFit}
 use Rattle.instrument_log.specs.declared.entry.Entry.{Entry}
 use Rattle.instrument_log.specs.Dial.{turned, dial, HasDialValues}
 use Rattle.instrument_log.proofs.PartLemmas.{HasDialValues-push, dial-push}
 use Rattle.legal_steps.specs.declared.phase.Drinking.{Drinking}
 use Rattle.legal_steps.specs.declared.phase.Drinking.TheVariants.{Tranquil, Thirsty, Drinking as Drinks, Reaching, Retired}
-use Rattle.legal_steps.specs.declared.phase.JobState.{JobState}
 use Rattle.legal_steps.specs.declared.event.Event.{Event}
-use Rattle.legal_steps.specs.declared.event.Event.TheVariants.{Look, AskFork, GiveFork, Soil, AskBottles, GiveBottles, Thirst, Hunger, Sit, Leave, Drink, Reach, Act, Quit, Retire, Glance, Withdraw}
+use Rattle.legal_steps.specs.declared.event.Event.TheVariants.{Act}
 use Rattle.legal_steps.specs.State.{State, Seat, seat, phase, log, idle_phase, no_seat, IsInSession}
-use Rattle.legal_steps.specs.Fitting.{Fits, IsSeatOf}
+use Rattle.legal_steps.specs.Fitting.{Fits}
 use Rattle.legal_steps.specs.Legal.{May, after}
 use Rattle.legal_steps.specs.Run.{IsLegalFrom, after_all}
 use Rattle.legal_steps.specs.Opening.{IsOpening, idle_seat}
-use Rattle.legal_steps.specs.WholeLogs.{line_of, ended_by, ended_sessions, room_of}
+use Rattle.legal_steps.specs.WholeLogs.{line_of, ended_by, ended_sessions}
 use Rattle.legal_steps.proofs.FitsLaw.{fits_after}
 use Rattle.legal_steps.proofs.BottleLaw.{IsServed, served_after}
 use Rattle.legal_steps.proofs.ExclusionLaw.{exclusive}
 use Rattle.legal_steps.proofs.OpeningLemmas.{fits_opening, served_opening, opening_seat}
-use Rattle.legal_steps.proofs.LogBooks.{Stage, Books, stage_of, books, put-cases, is_in_session, is_drinking, holds, holds_at, HasOneHolder, one_holder_from}
+use Rattle.legal_steps.proofs.LogBooks.{Stage, Books, stage_of, books, put-cases, is_in_session, holds_at, HasOneHolder, one_holder_from}
 use Rattle.legal_steps.proofs.LogMoves.{Can, booked, can_from, books_after, next_of, entry_of}
 use Rattle.legal_steps.proofs.LogEnded.{IsFresh, IsFresh-after, HasEnded, HasEnded-after, IsPast, ended_on, ended_on_is}
 use Rattle.legal_steps.proofs.LogKept.{IsKept, IsKept-after, HasLeft}
-use Rattle.legal_steps.proofs.RoomShares.{sum_to, share, IsStageOf, shares_fit}
 use Rattle.legal_steps.proofs.RoomLaw.{AreStages, IsRoomy, IsRoomy-after}
 
 -- each entry of each log has the value that the dial had after its command
@@ -40,8 +38,8 @@ AreDialled b = (i : ℕ) → HasDialValues (b.logs i)
 AreDialled-after : (plan : LabPlan) (b : Books) (event : Event) → AreDialled b → AreDialled (booked plan b event)
 AreDialled-after plan b (Act j) h i =
     put-cases (λ n entries. HasDialValues entries) b.logs (next_of plan b j).0 _ i
-      (λ here. HasDialValues-push (b.logs (next_of plan b j).0) (entry_of plan b j) (h (next_of plan b j).0) refl)
-      (λ other. h i)
+    (λ here. HasDialValues-push (b.logs (next_of plan b j).0) (entry_of plan b j) (h (next_of plan b j).0) refl)
+    (λ other. h i)
 AreDialled-after plan b _ h i = h i
 
 -- the dial of each instrument is within its numbers
@@ -66,8 +64,8 @@ value-small plan b j fit left small = turned-small (next_of plan b j).1 (dial (b
 AreSmall-after : (plan : LabPlan) (b : Books) (event : Event) → AllFit plan → HasLeft plan b → Can plan b event → AreSmall b → AreSmall (booked plan b event)
 AreSmall-after plan b (Act j) fit left can h i =
     put-cases (λ n entries. dial entries ≤ 999999) b.logs (next_of plan b j).0 _ i
-      (λ here. omega (arith, dial-push (b.logs (next_of plan b j).0) (entry_of plan b j), value-small plan b j fit (left j can.0 can.1) h))
-      (λ other. h i)
+    (λ here. omega (arith, dial-push (b.logs (next_of plan b j).0) (entry_of plan b j), value-small plan b j fit (left j can.0 can.1) h))
+    (λ other. h i)
 AreSmall-after plan b _ fit left can h i = h i
 
 -- what is so of the books, with the sessions that ended
@@ -82,13 +80,13 @@ pub record AreKept (plan : LabPlan) (b : Books) (ended : List (ℕ × ℕ)) : Ty
 AreKept-after : (plan : LabPlan) (b : Books) (ended : List (ℕ × ℕ)) (event : Event) → AllFit plan → HasOneHolder plan b → HasOneHolder plan (booked plan b event) → HasLeft plan b → AreStages plan b →
     Can plan b event → AreKept plan b ended → AreKept plan (booked plan b event) (ended ++ ended_on b event)
 AreKept-after plan b ended event verbs one next left fit can h = record {
-    fresh = IsFresh-after plan b event h.fresh;
-    ended_so = HasEnded-after plan b ended event can h.ended_so;
-    kept = λ i. IsKept-after plan b ended i event one next h.fresh left can (h.kept i);
-    dialled = AreDialled-after plan b event h.dialled;
-    small = AreSmall-after plan b event verbs left can h.small;
-    roomy = IsRoomy-after plan b event fit left can h.roomy;
-  }
+  fresh = IsFresh-after plan b event h.fresh;
+  ended_so = HasEnded-after plan b ended event can h.ended_so;
+  kept = λ i. IsKept-after plan b ended i event one next h.fresh left can (h.kept i);
+  dialled = AreDialled-after plan b event h.dialled;
+  small = AreSmall-after plan b event verbs left can h.small;
+  roomy = IsRoomy-after plan b event fit left can h.roomy;
+}
 
 -- what is so of a state, with the sessions that ended
 pub record IsLogged (plan : LabPlan) (s : State) (ended : List (ℕ × ℕ)) : Type 0 where
@@ -105,9 +103,9 @@ in_session_from Retired e = absurd (cc)
 
 pub stages_fit : (plan : LabPlan) (s : State) → Fits plan s → AreStages plan (books s)
 stages_fit plan s fit j job = record {
-    session_there = (fit.seats_fit j job).session_there;
-    begun = λ h. (fit.seats_fit j job).begun (in_session_from (seat s j).phase.drinking h);
-  }
+  session_there = (fit.seats_fit j job).session_there;
+  begun = λ h. (fit.seats_fit j job).begun (in_session_from (seat s j).phase.drinking h);
+}
 
 pub has_left : (plan : LabPlan) (s : State) → Fits plan s → HasLeft plan (books s)
 has_left plan s fit j job reaching = (fit.seats_fit j job).command_left reaching
@@ -134,25 +132,27 @@ logged_run plan s ended [] is_plan legal h = subst (IsLogged plan s) (sym (appen
 logged_run plan s ended (event ∷ events) is_plan legal h =
     let s' : State = after plan s event in
     subst (IsLogged plan (after_all plan s' events)) (append_assoc ended (ended_by s event) (ended_sessions plan s' events))
-      (logged_run plan s' (ended ++ ended_by s event) events is_plan legal.1 (logged_after plan s ended event is_plan legal.0 h))
+    (logged_run plan s' (ended ++ ended_by s event) events is_plan legal.1 (logged_after plan s ended event is_plan legal.0 h))
 
 -- ---- opening states
 
 -- every job of an opening state is idle, also past the plan's
 pub opening_phase : (plan : LabPlan) (s : State) (j : ℕ) → IsOpening plan s → phase s j ≡ idle_phase
 opening_phase plan s j h = elim (cases_lt j (length plan.jobs)) [
-    inl job ↦ ap (λ (x : Seat). x.phase) (opening_seat plan s j h job)
+  | inl job ↦ ap (λ (x : Seat). x.phase) (opening_seat plan s j h job)
   | inr past ↦
       let few : length s.seats ≤ j = omega (arith, past, ap length h.idle, length-replicate (length plan.jobs) (idle_seat plan)) in
-      ap (λ (x : Seat). x.phase) (get_or_past s.seats j no_seat few) ]
+      ap (λ (x : Seat). x.phase) (get_or_past s.seats j no_seat few)
+]
 
 opening_stage : (plan : LabPlan) (s : State) (j : ℕ) → IsOpening plan s → (books s).stages j ≡ stage_of idle_phase
 opening_stage plan s j h = ap stage_of (opening_phase plan s j h)
 
 opening_log : (plan : LabPlan) (s : State) (i : ℕ) → IsOpening plan s → log s i ≡ []
 opening_log plan s i h = ap (λ logs. slice_index_or logs i []) h.logs_empty ∙ elim (cases_lt i (length plan.instruments)) [
-    inl inside ↦ get_or-replicate (length plan.instruments) i [] [] inside
-  | inr past ↦ get_or_past (replicate (length plan.instruments) []) i [] (omega (arith, past, length-replicate {A = List Entry} (length plan.instruments) [])) ]
+  | inl inside ↦ get_or-replicate (length plan.instruments) i [] [] inside
+  | inr past ↦ get_or_past (replicate (length plan.instruments) []) i [] (omega (arith, past, length-replicate {A = List Entry} (length plan.instruments) []))
+]
 
 no_value : HasDialValues []
 no_value k entry got = cc

@@ -1,10 +1,10 @@
 -- A job has at most one meal for each session that it began.
-use Rattle.std.proofs.Common.{◌≡◌, ◌≢◌, ℕ, ◌+◌, ◌<◌, ◌≤◌, ◌==◌, Bool, cond, List, [], ◌∷◌, sym, ap, subst, ◌∙◌, refl, arith, add-zero}
+use Rattle.std.proofs.Common.{◌≡◌, ◌≢◌, ℕ, ◌+◌, ◌<◌, ◌≤◌, cond, List, [], ◌∷◌, sym, ap, subst, ◌∙◌, refl, arith, add-zero}
 use Rattle.std.proofs.lemmas.Bool.{eq-eqb, ne_eqb}
 use Rattle.std.proofs.lemmas.List.Sums.{sum_by-cons}
 use Rattle.lab_plan.specs.LabPlan.{LabPlan}
-use Rattle.legal_steps.specs.declared.phase.Dining.TheVariants.{Thinking, Hungry, Eating}
-use Rattle.legal_steps.specs.declared.phase.Drinking.TheVariants.{Tranquil, Thirsty, Drinking as Drinks, Reaching, Retired}
+use Rattle.legal_steps.specs.declared.phase.Dining.TheVariants.{Thinking, Hungry}
+use Rattle.legal_steps.specs.declared.phase.Drinking.TheVariants.{Thirsty}
 use Rattle.legal_steps.specs.declared.phase.JobState.{JobState}
 use Rattle.legal_steps.specs.declared.event.Event.{Event}
 use Rattle.legal_steps.specs.declared.event.Event.TheVariants.{Look, AskFork, GiveFork, Soil, AskBottles, GiveBottles, Thirst, Hunger, Sit, Leave, Drink, Reach, Act, Quit, Retire, Glance, Withdraw}
@@ -15,7 +15,7 @@ use Rattle.legal_steps.specs.Run.{IsLegalFrom, after_all, is_sit, meals_of}
 use Rattle.legal_steps.specs.Opening.{IsOpening}
 use Rattle.legal_steps.proofs.FitsLaw.{fits_after}
 use Rattle.legal_steps.proofs.OpeningLemmas.{fits_opening}
-use Rattle.legal_steps.proofs.LogBooks.{put, put-cases}
+use Rattle.legal_steps.proofs.LogBooks.{put-cases}
 use Rattle.legal_steps.proofs.LogRun.{opening_phase}
 use Rattle.legal_steps.proofs.CountPhases.{actor, phased, phases_after}
 
@@ -32,10 +32,10 @@ begins j event = cond (is_sit j event) 1 0
 -- the job is not thirsty, and dines as before
 not_thirsty : (x y : JobState) (m : ℕ) → HasEaten x m → y.dining ≡ x.dining → y.session ≡ x.session → y.drinking ≢ Thirsty → HasEaten y m
 not_thirsty x y m h dining session sated = record {
-    most = omega (arith, h.most, session);
-    hungry = λ e. omega (arith, h.hungry (sym dining ∙ e), session);
-    thirsty = λ e thirst. absurd (sated thirst);
-  }
+  most = omega (arith, h.most, session);
+  hungry = λ e. omega (arith, h.hungry (sym dining ∙ e), session);
+  thirsty = λ e thirst. absurd (sated thirst);
+}
 
 nothing : (x : JobState) (m : ℕ) → HasEaten x m → HasEaten x (m + 0)
 nothing x m h = subst (HasEaten x) (sym (add-zero m)) h
@@ -70,9 +70,9 @@ begins_none j _ other = refl
 eaten_after : (plan : LabPlan) (s : State) (event : Event) (j m : ℕ) → Fits plan s → May plan s event → HasEaten (phase s j) m → HasEaten (phase (after plan s event) j) (m + begins j event)
 eaten_after plan s event j m fit may h =
     subst (λ (x : JobState). HasEaten x (m + begins j event)) (sym (phases_after plan s event fit may j))
-      (put-cases (λ k (x : JobState). HasEaten (phase s k) m → HasEaten x (m + begins k event)) (λ k. phase s k) (actor event) (phased event (phase s (actor event))) j
-        (λ here. eaten_own plan s event m may)
-        (λ other before. subst (HasEaten (phase s j)) (omega (arith, begins_none j event other)) before) h)
+    (put-cases (λ k (x : JobState). HasEaten (phase s k) m → HasEaten x (m + begins k event)) (λ k. phase s k) (actor event) (phased event (phase s (actor event))) j
+    (λ here. eaten_own plan s event m may)
+    (λ other before. subst (HasEaten (phase s j)) (omega (arith, begins_none j event other)) before) h)
 
 meals_from : (plan : LabPlan) (s : State) (events : List Event) (j m : ℕ) → Fits plan s → IsLegalFrom plan s events → HasEaten (phase s j) m → m + meals_of j events ≤ session (after_all plan s events) j
 meals_from plan s [] j m fit legal h = omega (arith, h.most)

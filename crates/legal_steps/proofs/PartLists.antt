@@ -1,14 +1,14 @@
 -- Parts as lists: a part grows by one line for each command on its instrument.
-use Rattle.std.proofs.Common.{◌≡◌, ◌≢◌, ◌⊎◌, ℕ, zero, suc, ◌+◌, ◌<◌, ◌≤◌, ◌==◌, Bool, true, false, cond, ◌||◌, length, List, [], ◌∷◌, ◌++◌, map, filter, take, drop, slice_index_or, sym, ap, subst, ◌∙◌, inl, inr, refl, arith, append_assoc}
-use Rattle.std.specs.List.{flat_map, enumerate_from, list_any, count_by}
+use Rattle.std.proofs.Common.{◌≡◌, ℕ, zero, suc, ◌+◌, ◌<◌, ◌==◌, true, false, cond, ◌||◌, length, List, [], ◌∷◌, ◌++◌, map, take, drop, slice_index_or, sym, ap, ◌∙◌, inl, inr, refl, arith, append_assoc}
+use Rattle.std.specs.List.{enumerate_from, list_any}
 use Rattle.std.proofs.lemmas.Bool.{cases_Bool, eq-eqb, or_right}
-use Rattle.std.proofs.lemmas.List.{append-nil, map-append, length-append, length-map, take-append-drop, take_at, take_more}
+use Rattle.std.proofs.lemmas.List.{append-nil, map-append, length-map, take-append-drop, take_more}
 use Rattle.std.proofs.lemmas.List.Elements.{filter-append}
 use Rattle.std.proofs.lemmas.List.Concat.{flat_map-append}
 use Rattle.std.proofs.lemmas.List.Sums.{length-filter}
 use Rattle.std.proofs.lemmas.List.FromFn.{length-enumerate_from}
 use Rattle.lab_plan.specs.declared.verb.Verb.{Verb}
-use Rattle.lab_plan.specs.LabPlan.{LabPlan, commands, command_at, place_at, length_at, part, count_on, session_names}
+use Rattle.lab_plan.specs.LabPlan.{LabPlan, commands, count_on, session_names}
 use Rattle.legal_steps.specs.WholeLogs.{Line, commands_on, lines_of, part_of, parts_of}
 
 -- the line of the command with this place in a part
@@ -25,8 +25,8 @@ pub lines_of-push : (j session total : ℕ) (own : List (ℕ × Verb)) (command 
 lines_of-push j session total own command =
     let f : ℕ × (ℕ × Verb) → Line = λ numbered. (j, session, numbered.0, total, numbered.1.1) in
     ap (map f) (enumerate_from-push 1 own command)
-      ∙ map-append f (enumerate_from 1 own) ((1 + length own, command) ∷ [])
-      ∙ ap (λ k. map f (enumerate_from 1 own) ++ line_at j session total k command ∷ []) (omega arith)
+    ∙ map-append f (enumerate_from 1 own) ((1 + length own, command) ∷ [])
+    ∙ ap (λ k. map f (enumerate_from 1 own) ++ line_at j session total k command ∷ []) (omega arith)
 
 pub length-lines_of : (j session total : ℕ) (own : List (ℕ × Verb)) → length (lines_of j session total own) ≡ length own
 length-lines_of j session total own = length-map (enumerate_from 1 own) _ ∙ length-enumerate_from 1 own
@@ -36,11 +36,12 @@ pub lines_of-append : (j session total : ℕ) (own more : List (ℕ × Verb)) �
 lines_of-append j session total own [] = ([], ap (lines_of j session total) (append-nil own) ∙ sym (append-nil (lines_of j session total own)))
 lines_of-append j session total own (command ∷ more) =
     let all = lines_of-append j session total (own ++ command ∷ []) more in
-    let line : Line = line_at j session total (length own + 1) command in
-    (line ∷ all.0,
+    let line : Line = line_at j session total (length own + 1) command in (
+      line ∷ all.0,
       ap (lines_of j session total) (sym (append_assoc own (command ∷ []) more)) ∙ all.1
-        ∙ ap (λ lines. lines ++ all.0) (lines_of-push j session total own command)
-        ∙ append_assoc (lines_of j session total own) (line ∷ []) all.0)
+          ∙ ap (λ lines. lines ++ all.0) (lines_of-push j session total own command)
+          ∙ append_assoc (lines_of j session total own) (line ∷ []) all.0,
+    )
 
 -- ---- the commands on an instrument
 
@@ -57,10 +58,11 @@ commands_on-more i all k d inside =
 pub commands_on-none : (i : ℕ) (all : List (ℕ × Verb)) → list_any (λ command. command.0 == i) all ≡ false → commands_on i all ≡ []
 commands_on-none i [] none = refl
 commands_on-none i (command ∷ all) none = elim (cases_Bool (command.0 == i)) [
-    inl here ↦ absurd (let both : true ≡ false = sym (ap (λ b. b || list_any (λ other. other.0 == i) all) here) ∙ none in cc)
+  | inl here ↦ absurd (let both : true ≡ false = sym (ap (λ b. b || list_any (λ other. other.0 == i) all) here) ∙ none in cc)
   | inr other ↦
       ap (λ b. cond b (command ∷ commands_on i all) (commands_on i all)) other
-        ∙ commands_on-none i all (sym (ap (λ b. b || list_any (λ (later : ℕ × Verb). later.0 == i) all) other) ∙ none) ]
+      ∙ commands_on-none i all (sym (ap (λ b. b || list_any (λ (later : ℕ × Verb). later.0 == i) all) other) ∙ none)
+]
 
 -- a session names the instrument of each of its commands
 pub names-next : (all : List (ℕ × Verb)) (k : ℕ) (d : ℕ × Verb) → k < length all → list_any (λ command. command.0 == (slice_index_or all k d).0) all ≡ true

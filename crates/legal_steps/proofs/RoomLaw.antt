@@ -1,14 +1,14 @@
 -- A log has no more entries than the plan has commands on its instrument.
-use Rattle.std.proofs.Common.{◌≡◌, ◌≢◌, ◌⊎◌, ℕ, ◌+◌, ◌-◌, ◌<◌, ◌≤◌, ◌==◌, Bool, true, false, cond, length, List, [], ◌∷◌, ◌++◌, take, sym, ap, subst, ◌∙◌, inl, inr, refl, arith}
-use Rattle.std.proofs.lemmas.Bool.{cases_eq, eq-eqb, ne_eqb}
+use Rattle.std.proofs.Common.{◌≡◌, ℕ, ◌+◌, ◌-◌, ◌<◌, ◌≤◌, ◌==◌, Bool, true, false, cond, length, List, [], ◌∷◌, ◌++◌, take, sym, ap, subst, ◌∙◌, refl, arith}
+use Rattle.std.proofs.lemmas.Bool.{eq-eqb, ne_eqb}
 use Rattle.std.proofs.lemmas.List.{length-append}
 use Rattle.lab_plan.specs.declared.verb.Verb.{Verb}
-use Rattle.lab_plan.specs.LabPlan.{LabPlan, sessions, commands, count_on}
+use Rattle.lab_plan.specs.LabPlan.{LabPlan, commands, count_on}
 use Rattle.instrument_log.specs.declared.entry.Entry.{Entry}
 use Rattle.legal_steps.specs.declared.phase.Drinking.TheVariants.{Tranquil, Thirsty, Drinking as Drinks, Reaching, Retired}
 use Rattle.legal_steps.specs.declared.event.Event.{Event}
-use Rattle.legal_steps.specs.declared.event.Event.TheVariants.{Look, AskFork, GiveFork, Soil, AskBottles, GiveBottles, Thirst, Hunger, Sit, Leave, Drink, Reach, Act, Quit, Retire, Glance, Withdraw}
-use Rattle.legal_steps.proofs.LogBooks.{Stage, Books, put, put-same, put-other, put-cases, is_in_session}
+use Rattle.legal_steps.specs.declared.event.Event.TheVariants.{Thirst, Drink, Reach, Act, Quit, Retire, Withdraw}
+use Rattle.legal_steps.proofs.LogBooks.{Stage, Books, put, put-same, put-cases, is_in_session}
 use Rattle.legal_steps.proofs.LogMoves.{Can, booked, with_stage, next_of, entry_of}
 use Rattle.legal_steps.proofs.LogKept.{HasLeft}
 use Rattle.legal_steps.proofs.RoomShares.{sum_to, sum_to-le, sum_to-more, count_on-more, first_on, share, share-in, share-out, share-le-first, IsStageOf}
@@ -62,8 +62,8 @@ roomy_act plan b j left can h i =
     let old : share plan i j x ≡ first_on plan i j (x.session - 1) + count_on i (take x.position (commands plan j x.session)) = share-in plan i j x (ap is_in_session can.1) in
     let grown : share plan i j x + d ≤ share plan i j y = omega (arith, old, count_on-more i (commands plan j x.session) x.position left) in
     let all = sum_to-more (λ k. share plan i k (b.stages k)) (λ k. share plan i k (put b.stages j y k)) (length plan.jobs) j d can.0
-          (λ k below. share_grows plan b i j y (omega (arith, grown)) k)
-          (subst (λ (z : Stage). share plan i j x + d ≤ share plan i j z) (sym (put-same b.stages j y)) grown) in
+    (λ k below. share_grows plan b i j y (omega (arith, grown)) k)
+    (subst (λ (z : Stage). share plan i j x + d ≤ share plan i j z) (sym (put-same b.stages j y)) grown) in
     omega (arith, all, h i, logs_longer b.logs next.0 (entry_of plan b j) i)
 
 pub IsRoomy-after : (plan : LabPlan) (b : Books) (event : Event) → AreStages plan b → HasLeft plan b → Can plan b event → IsRoomy plan b → IsRoomy plan (booked plan b event)

@@ -1,13 +1,13 @@
 -- How many commands on an instrument the jobs have done: never more than the plan has there.
-use Rattle.std.proofs.Common.{◌≡◌, ◌≢◌, ◌⊎◌, ℕ, zero, suc, ◌+◌, ◌-◌, ◌<◌, ◌≤◌, ◌==◌, Bool, true, false, cond, if◌then◌else◌, length, List, [], ◌∷◌, ◌++◌, take, drop, slice_index_or, sym, ap, subst, ◌∙◌, inl, inr, refl, arith, sum_by, add-one}
-use Rattle.std.specs.List.{flat_map, count_by}
-use Rattle.std.proofs.lemmas.Bool.{cases_eq, cases_Bool, eq-eqb, ne_eqb, cases_lt}
+use Rattle.std.proofs.Common.{◌≡◌, ℕ, zero, suc, ◌+◌, ◌-◌, ◌<◌, ◌≤◌, ◌==◌, true, false, cond, if◌then◌else◌, length, List, [], ◌∷◌, ◌++◌, take, drop, slice_index_or, sym, ap, subst, ◌∙◌, inl, inr, refl, arith, sum_by, add-one}
+use Rattle.std.specs.List.{flat_map}
+use Rattle.std.proofs.lemmas.Bool.{cases_eq, cases_Bool}
 use Rattle.std.proofs.lemmas.List.{take_more, take_all, append-nil, take-append-drop}
 use Rattle.std.proofs.lemmas.List.Sums.{sum_by-append, sum_by-cons, sum_by_more, sum_by-take-le}
 use Rattle.std.proofs.lemmas.List.Concat.{flat_map-append}
 use Rattle.lab_plan.specs.declared.verb.Verb.{Verb}
 use Rattle.lab_plan.specs.declared.verb.Verb.TheVariants.{Read}
-use Rattle.lab_plan.specs.LabPlan.{LabPlan, SessionPlan, JobPlan, no_session, no_job, job_at, sessions, commands, command_at, count_on, part, all_commands}
+use Rattle.lab_plan.specs.LabPlan.{LabPlan, SessionPlan, JobPlan, no_session, no_job, sessions, commands, count_on, part}
 use Rattle.legal_steps.specs.WholeLogs.{room_of}
 use Rattle.legal_steps.proofs.LogBooks.{Stage, is_in_session}
 
@@ -25,17 +25,18 @@ sum_to-le f g (suc n) h = omega (arith, sum_to-le f g n (λ k below. h k (omega 
 pub sum_to-more : (f g : ℕ → ℕ) (n j d : ℕ) → j < n → ((k : ℕ) → k < n → f k ≤ g k) → f j + d ≤ g j → sum_to f n + d ≤ sum_to g n
 sum_to-more f g zero j d inside h more = absurd (omega (arith, inside))
 sum_to-more f g (suc n) j d inside h more = elim (cases_eq j n) [
-    inl last ↦
+  | inl last ↦
       let here : f n + d ≤ g n = subst (λ k. f k + d ≤ g k) last more in
       omega (arith, sum_to-le f g n (λ k below. h k (omega (arith, below))), here)
-  | inr other ↦ omega (arith, sum_to-more f g n j d (omega (arith, inside, other)) (λ k below. h k (omega (arith, below))) more, h n (omega arith)) ]
+  | inr other ↦ omega (arith, sum_to-more f g n j d (omega (arith, inside, other)) (λ k below. h k (omega (arith, below))) more, h n (omega arith))
+]
 
 -- the sum over a list, by places
 pub sum_to_by : {X : Type 0} (f : X → ℕ) (xs : List X) (d : X) (n : ℕ) → n ≤ length xs → sum_by f (take n xs) ≡ sum_to (λ k. f (slice_index_or xs k d)) n
 sum_to_by f xs d zero below = refl
 sum_to_by f xs d (suc n) below =
     ap (λ m. sum_by f (take m xs)) (sym (add-one n)) ∙ sum_by_more f xs n d (omega (arith, below))
-      ∙ ap (λ s. s + f (slice_index_or xs n d)) (sum_to_by f xs d n (omega (arith, below)))
+    ∙ ap (λ s. s + f (slice_index_or xs n d)) (sum_to_by f xs d n (omega (arith, below)))
 
 -- ---- what one job has done
 
@@ -59,9 +60,9 @@ first_on-more plan i j n inside =
     let f : SessionPlan → List (ℕ × Verb) = λ x. x.commands in
     let m : n + 1 - 1 ≡ n = omega arith in
     ap (λ xs. count_on i (flat_map f xs)) (take_more all n no_session inside)
-      ∙ ap (count_on i) (flat_map-append f (take n all) (session ∷ []) ∙ ap (λ xs. flat_map f (take n all) ++ xs) (append-nil session.commands))
-      ∙ count_on-append i (flat_map f (take n all)) session.commands
-      ∙ ap (λ k. first_on plan i j n + count_on i (slice_index_or all k no_session).commands) (sym m)
+    ∙ ap (count_on i) (flat_map-append f (take n all) (session ∷ []) ∙ ap (λ xs. flat_map f (take n all) ++ xs) (append-nil session.commands))
+    ∙ count_on-append i (flat_map f (take n all)) session.commands
+    ∙ ap (λ k. first_on plan i j n + count_on i (slice_index_or all k no_session).commands) (sym m)
 
 pub first_on-le : (plan : LabPlan) (i j n : ℕ) → first_on plan i j n ≤ count_on i (flat_map (λ session. session.commands) (sessions plan j))
 first_on-le plan i j n =
@@ -74,8 +75,8 @@ first_on-le plan i j n =
 abbrev pub share : LabPlan → ℕ → ℕ → Stage → ℕ
 share plan i j x =
     if is_in_session x.drinking
-      then first_on plan i j (x.session - 1) + count_on i (take x.position (commands plan j x.session))
-      else first_on plan i j x.session
+    then first_on plan i j (x.session - 1) + count_on i (take x.position (commands plan j x.session))
+    else first_on plan i j x.session
 
 pub share-in : (plan : LabPlan) (i j : ℕ) (x : Stage) → is_in_session x.drinking ≡ true → share plan i j x ≡ first_on plan i j (x.session - 1) + count_on i (take x.position (commands plan j x.session))
 share-in plan i j x inside = ap (λ b. if b then first_on plan i j (x.session - 1) + count_on i (take x.position (commands plan j x.session)) else first_on plan i j x.session) inside
@@ -91,16 +92,16 @@ pub record IsStageOf (plan : LabPlan) (j : ℕ) (x : Stage) : Type 0 where
 -- what is done in a session is part of it
 pub share-le-first : (plan : LabPlan) (i j : ℕ) (x : Stage) → IsStageOf plan j x → share plan i j x ≤ first_on plan i j x.session
 share-le-first plan i j x fit = elim (cases_Bool (is_in_session x.drinking)) [
-    inl inside ↦
+  | inl inside ↦
       let one : 1 ≤ x.session = fit.begun inside in
       let back : x.session - 1 + 1 ≡ x.session = omega (arith, one) in
       let more : first_on plan i j x.session ≡ first_on plan i j (x.session - 1) + part plan j x.session i =
-          subst (λ n. first_on plan i j n ≡ first_on plan i j (x.session - 1) + part plan j n i) back (first_on-more plan i j (x.session - 1) (omega (arith, one, fit.session_there))) in
+      subst (λ n. first_on plan i j n ≡ first_on plan i j (x.session - 1) + part plan j n i) back (first_on-more plan i j (x.session - 1) (omega (arith, one, fit.session_there))) in
       omega (arith, more, share-in plan i j x inside, count_on-take i x.position (commands plan j x.session))
-  | inr outside ↦ omega (arith, share-out plan i j x outside) ]
+  | inr outside ↦ omega (arith, share-out plan i j x outside)
+]
 
 -- ---- what all jobs have done
-
 
 count_on-flat_map : {X : Type 0} (i : ℕ) (f : X → List (ℕ × Verb)) (xs : List X) → count_on i (flat_map f xs) ≡ sum_by (λ x. count_on i (f x)) xs
 count_on-flat_map i f [] = refl
@@ -112,13 +113,16 @@ pub room_is_sum : (plan : LabPlan) (i : ℕ) → room_of plan i ≡ sum_to (λ j
 room_is_sum plan i =
     let f : JobPlan → List (ℕ × Verb) = λ job. flat_map (λ session. session.commands) job.sessions in
     count_on-flat_map i f plan.jobs
-      ∙ ap (sum_by (λ job. count_on i (f job))) (sym (take_all (length plan.jobs) plan.jobs (omega arith)))
-      ∙ sum_to_by (λ job. count_on i (f job)) plan.jobs no_job (length plan.jobs) (omega arith)
+    ∙ ap (sum_by (λ job. count_on i (f job))) (sym (take_all (length plan.jobs) plan.jobs (omega arith)))
+    ∙ sum_to_by (λ job. count_on i (f job)) plan.jobs no_job (length plan.jobs) (omega arith)
 
 -- all that jobs at fitting stages have done fits the room
 pub shares_fit : (plan : LabPlan) (i : ℕ) (stages : ℕ → Stage) → ((j : ℕ) → j < length plan.jobs → IsStageOf plan j (stages j)) → sum_to (λ j. share plan i j (stages j)) (length plan.jobs) ≤ room_of plan i
 shares_fit plan i stages fit =
     let total : ℕ → ℕ = λ j. count_on i (flat_map (λ session. session.commands) (sessions plan j)) in
-    omega (arith, room_is_sum plan i,
+    omega (
+      arith,
+      room_is_sum plan i,
       sum_to-le (λ j. share plan i j (stages j)) total (length plan.jobs) (λ j below.
-        omega (arith, share-le-first plan i j (stages j) (fit j below), first_on-le plan i j (stages j).session)))
+          omega (arith, share-le-first plan i j (stages j) (fit j below), first_on-le plan i j (stages j).session)),
+    )

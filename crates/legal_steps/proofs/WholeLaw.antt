@@ -1,6 +1,6 @@
 -- From what is so of the books to whole logs.
-use Rattle.std.proofs.Common.{◌≡◌, ◌≢◌, ◌⊎◌, ℕ, zero, suc, ◌+◌, ◌<◌, ◌≤◌, ◌==◌, Bool, true, false, cond, ◌||◌, true≢false, length, List, [], ◌∷◌, ◌++◌, map, filter, take, drop, sym, ap, subst, ◌∙◌, inl, inr, refl, arith, All}
-use Rattle.std.specs.List.{AllPairs, list_any}
+use Rattle.std.proofs.Common.{◌≡◌, ℕ, ◌<◌, ◌≤◌, ◌==◌, Bool, true, cond, ◌||◌, true≢false, length, List, [], ◌∷◌, ◌++◌, map, filter, take, drop, sym, ap, ◌∙◌, inl, inr, refl, arith, All}
+use Rattle.std.specs.List.{list_any}
 use Rattle.std.proofs.lemmas.Bool.{cases_eq, cases_Bool, cases_lt, and_parts}
 use Rattle.std.proofs.lemmas.List.{append-nil, take_at, nil_from_length, length-append}
 use Rattle.std.proofs.lemmas.List.Elements.{All-weaker, All-push, All-filter, filter_passes}
@@ -31,8 +31,9 @@ naming-parts plan i [] = refl
 naming-parts plan i (own ∷ owners) =
     let f : Bool → List Line = λ b. parts_of plan i (cond b (own ∷ naming plan i owners) (naming plan i owners)) in
     elim (cases_Bool (names_here plan i own)) [
-      inl here ↦ ap (λ lines. part_of plan i own ++ lines) (naming-parts plan i owners) ∙ ap f (sym here)
-    | inr none ↦ ap (λ lines. lines ++ parts_of plan i owners) (part_of-none plan i own none) ∙ naming-parts plan i owners ∙ ap f (sym none) ]
+      | inl here ↦ ap (λ lines. part_of plan i own ++ lines) (naming-parts plan i owners) ∙ ap f (sym here)
+      | inr none ↦ ap (λ lines. lines ++ parts_of plan i owners) (part_of-none plan i own none) ∙ naming-parts plan i owners ∙ ap f (sym none)
+    ]
 
 -- a command on the instrument
 some_on : (i : ℕ) (all : List (ℕ × Verb)) → list_any (λ command. command.0 == i) all ≡ true → 0 < length (commands_on i all)
@@ -40,10 +41,11 @@ some_on i [] named = absurd (true≢false (sym named))
 some_on i (command ∷ all) named =
     let f : Bool → List (ℕ × Verb) = λ b. cond b (command ∷ commands_on i all) (commands_on i all) in
     elim (cases_Bool (command.0 == i)) [
-      inl here ↦ omega (arith, ap (λ b. length (f b)) here)
-    | inr other ↦
-        let later : list_any (λ (c : ℕ × Verb). c.0 == i) all ≡ true = sym (ap (λ b. b || list_any (λ (c : ℕ × Verb). c.0 == i) all) other) ∙ named in
-        omega (arith, ap (λ b. length (f b)) other, some_on i all later) ]
+      | inl here ↦ omega (arith, ap (λ b. length (f b)) here)
+      | inr other ↦
+          let later : list_any (λ (c : ℕ × Verb). c.0 == i) all ≡ true = sym (ap (λ b. b || list_any (λ (c : ℕ × Verb). c.0 == i) all) other) ∙ named in
+          omega (arith, ap (λ b. length (f b)) other, some_on i all later)
+    ]
 
 part_there : (plan : LabPlan) (i : ℕ) (own : ℕ × ℕ) → names_here plan i own ≡ true → 0 < length (part_of plan i own)
 part_there plan i own named =
@@ -86,7 +88,7 @@ part_whole plan i j x all_done =
     let split = commands_on-split i x.position all in
     let none : left_on plan i j x ≡ [] = nil_from_length (left_on plan i j x) (omega (arith, all_done, ap length split, length-append (done_on plan i j x) (left_on plan i j x))) in
     ap (lines_of j x.session (length (commands_on i all)))
-      (sym (split ∙ ap (λ rest. done_on plan i j x ++ rest) none ∙ append-nil (done_on plan i j x)))
+    (sym (split ∙ ap (λ rest. done_on plan i j x ++ rest) none ∙ append-nil (done_on plan i j x)))
 
 -- ---- whole logs
 
@@ -100,13 +102,13 @@ drinking_inside Retired h = h
 -- no part is unfinished
 whole_ends : (plan : LabPlan) (i : ℕ) (entries : List Entry) (owners : List (ℕ × ℕ)) → map line_of entries ≡ parts_of plan i owners → All (λ own. names_here plan i own ≡ true) owners → IsAscending owners → IsWholeButEnd plan i entries
 whole_ends plan i entries owners joined named ascending = record {
-    finished = owners;
-    unfinished = [];
-    joined = joined ∙ sym (append-nil (parts_of plan i owners));
-    not_empty = All-weaker (λ own. names_here plan i own ≡ true) (λ own. 0 < length (part_of plan i own)) (part_there plan i) owners named;
-    ascending = ascending;
-    end = inl refl;
-  }
+  finished = owners;
+  unfinished = [];
+  joined = joined ∙ sym (append-nil (parts_of plan i owners));
+  not_empty = All-weaker (λ own. names_here plan i own ≡ true) (λ own. 0 < length (part_of plan i own)) (part_there plan i) owners named;
+  ascending = ascending;
+  end = inl refl;
+}
 
 whole_held : (plan : LabPlan) (b : Books) (owners : List (ℕ × ℕ)) (i j : ℕ) → holds plan b j i ≡ true →
     map line_of (b.logs i) ≡ parts_of plan i owners ++ part_so_far plan i j (b.stages j) →
@@ -119,23 +121,25 @@ whole_held plan b owners i j holder joined named ascending past =
     let parts = and_parts _ _ holder in
     let earlier : All (λ other. IsBefore other own) owners = All-weaker (IsPast b) (λ other. IsBefore other own) (past_before b j (drinking_inside x.drinking parts.0)) owners past in
     elim (cases_lt (length done) total) [
-      inl more ↦ elim (cases_eq (length done) 0) [
-          inl none ↦
+      | inl more ↦ elim (cases_eq (length done) 0) [
+        | inl none ↦
             let empty : part_so_far plan i j x ≡ [] = nil_from_length (part_so_far plan i j x) (length-lines_of j x.session total done ∙ none) in
             whole_ends plan i (b.logs i) owners (joined ∙ ap (λ lines. parts_of plan i owners ++ lines) empty ∙ append-nil (parts_of plan i owners)) named ascending
         | inr some ↦ record {
-            finished = owners;
-            unfinished = part_so_far plan i j x;
-            joined = joined;
-            not_empty = All-weaker (λ other. names_here plan i other ≡ true) (λ other. 0 < length (part_of plan i other)) (part_there plan i) owners named;
-            ascending = ascending;
-            end = inr (own, part_begun plan i j x (omega (arith, some)) more, earlier);
-          } ]
-    | inr all_done ↦
-        whole_ends plan i (b.logs i) (owners ++ own ∷ [])
+          finished = owners;
+          unfinished = part_so_far plan i j x;
+          joined = joined;
+          not_empty = All-weaker (λ other. names_here plan i other ≡ true) (λ other. 0 < length (part_of plan i other)) (part_there plan i) owners named;
+          ascending = ascending;
+          end = inr (own, part_begun plan i j x (omega (arith, some)) more, earlier);
+        }
+      ]
+      | inr all_done ↦
+          whole_ends plan i (b.logs i) (owners ++ own ∷ [])
           (joined ∙ ap (λ lines. parts_of plan i owners ++ lines) (part_whole plan i j x all_done) ∙ sym (parts_of-push plan i owners own))
           (All-push (λ other. names_here plan i other ≡ true) owners own named parts.1)
-          (all_pairs_push IsBefore owners own ascending earlier) ]
+          (all_pairs_push IsBefore owners own ascending earlier)
+    ]
 
 pub whole_from : (plan : LabPlan) (b : Books) (ended : List (ℕ × ℕ)) (i : ℕ) → HasEnded b ended → IsKept plan b ended i → IsWholeButEnd plan i (b.logs i)
 whole_from plan b ended i so kept =
@@ -144,11 +148,13 @@ whole_from plan b ended i so kept =
     let ascending : IsAscending owners = AllPairs-filter IsBefore (names_here plan i) ended so.ascending in
     let past : All (IsPast b) owners = All-filter (names_here plan i) (IsPast b) ended so.past in
     elim kept [
-      inl a ↦ whole_held plan b owners i a.0 a.1 (a.2 ∙ ap (λ lines. lines ++ part_so_far plan i a.0 (b.stages a.0)) (naming-parts plan i ended)) named ascending past
-    | inr a ↦ whole_ends plan i (b.logs i) owners (a.1 ∙ naming-parts plan i ended) named ascending ]
+      | inl a ↦ whole_held plan b owners i a.0 a.1 (a.2 ∙ ap (λ lines. lines ++ part_so_far plan i a.0 (b.stages a.0)) (naming-parts plan i ended)) named ascending past
+      | inr a ↦ whole_ends plan i (b.logs i) owners (a.1 ∙ naming-parts plan i ended) named ascending
+    ]
 
 -- the parts of the sessions that ended stand in the log
 pub begins_with_parts : (plan : LabPlan) (b : Books) (ended : List (ℕ × ℕ)) (i : ℕ) → IsKept plan b ended i → BeginsWithParts plan i ended (b.logs i)
 begins_with_parts plan b ended i kept = elim kept [
-    inl a ↦ (part_so_far plan i a.0 (b.stages a.0), a.2)
-  | inr a ↦ ([], a.1 ∙ sym (append-nil (parts_of plan i ended))) ]
+  | inl a ↦ (part_so_far plan i a.0 (b.stages a.0), a.2)
+  | inr a ↦ ([], a.1 ∙ sym (append-nil (parts_of plan i ended)))
+]

@@ -1,0 +1,77 @@
+-- The laws of logs, room and counts, each as it is stated.
+use Rattle.std.proofs.Common.{◌≡◌, ℕ, ◌≤◌, List, length, take, arith, ap, inl, inr}
+use Rattle.std.proofs.lemmas.Bool.{cases_lt, and_parts}
+use Rattle.std.proofs.lemmas.List.{get_or_past}
+use Rattle.lab_plan.specs.LabPlan.{LabPlan}
+use Rattle.lab_plan.specs.IsPlan.{IsPlan}
+use Rattle.legal_steps.specs.declared.event.Event.{Event}
+use Rattle.legal_steps.specs.State.{State, Seat, phase, session, no_seat}
+use Rattle.legal_steps.specs.Fitting.{Fits}
+use Rattle.legal_steps.specs.Opening.{IsOpening}
+use Rattle.legal_steps.specs.Run.{IsLegalFrom, after_all}
+use Rattle.legal_steps.specs.WholeLogs.{ended_sessions}
+use Rattle.legal_steps.specs.LogLaws.{HasWholeLogs, HasValuesOfDials, EndsInOrder, HasEndedSessions, HasNothingElse, FitsItsRoom, TakesNextEntry, HasFewSessions, HasFewMeals, CountsSessions}
+use Rattle.legal_steps.proofs.RunLemmas.{legal_take}
+use Rattle.legal_steps.proofs.LogBooks.{books, drinks_from}
+use Rattle.legal_steps.proofs.LogRun.{IsLogged, logged}
+use Rattle.legal_steps.proofs.WholeLaw.{whole_from, begins_with_parts}
+use Rattle.legal_steps.proofs.AppendLaw.{room_enough, act_appends_logged, within_limits_logged}
+use Rattle.legal_steps.proofs.CountLaw.{sessions_counted}
+use Rattle.legal_steps.proofs.MealLaw.{meals_bounded}
+
+logged_always : (plan : LabPlan) (opening : State) (events : List Event) (n : ℕ) → IsPlan plan → IsOpening plan opening → IsLegalFrom plan opening events →
+    IsLogged plan (after_all plan opening (take n events)) (ended_sessions plan opening (take n events))
+logged_always plan opening events n is_plan opens legal = logged plan opening (take n events) is_plan opens (legal_take plan opening events n legal)
+
+pub has_whole_logs : HasWholeLogs
+has_whole_logs plan opening events n is_plan opens legal i =
+    let h = logged_always plan opening events n is_plan opens legal in
+    whole_from plan (books (after_all plan opening (take n events))) (ended_sessions plan opening (take n events)) i h.books_kept.ended_so (h.books_kept.kept i)
+
+pub has_values_of_dials : HasValuesOfDials
+has_values_of_dials plan opening events n is_plan opens legal = (logged_always plan opening events n is_plan opens legal).books_kept.dialled
+
+pub ends_in_order : EndsInOrder
+ends_in_order plan opening events n is_plan opens legal = (logged_always plan opening events n is_plan opens legal).books_kept.ended_so.ascending
+
+pub has_ended_sessions : HasEndedSessions
+has_ended_sessions plan opening events n is_plan opens legal i =
+    begins_with_parts plan (books (after_all plan opening (take n events))) (ended_sessions plan opening (take n events)) i ((logged_always plan opening events n is_plan opens legal).books_kept.kept i)
+
+pub has_nothing_else : HasNothingElse
+has_nothing_else plan opening events n is_plan opens legal i free =
+    elim ((logged_always plan opening events n is_plan opens legal).books_kept.kept i) [
+      | inl a ↦
+          let parts = and_parts _ _ a.1 in
+          absurd (free a.0 (record { drinks = drinks_from (phase (after_all plan opening (take n events)) a.0) parts.0; named = parts.1 }))
+      | inr a ↦ a.1
+    ]
+
+pub fits_its_room : FitsItsRoom
+fits_its_room plan opening events n is_plan opens legal i =
+    room_enough plan (after_all plan opening (take n events)) (ended_sessions plan opening (take n events)) i (logged_always plan opening events n is_plan opens legal)
+
+pub takes_next_entry : TakesNextEntry
+takes_next_entry plan opening events n is_plan opens legal j job reaching =
+    let s : State = after_all plan opening (take n events) in
+    let h = logged_always plan opening events n is_plan opens legal in
+    (act_appends_logged plan s _ j is_plan h job reaching, within_limits_logged plan s _ j is_plan h job reaching)
+
+few_sessions : (plan : LabPlan) (s : State) (j : ℕ) → IsPlan plan → Fits plan s → session s j ≤ 1000
+few_sessions plan s j is_plan fit = elim (cases_lt j (length plan.jobs)) [
+  | inl job ↦ omega (arith, (fit.seats_fit j job).session_there, is_plan.draft.few_sessions j)
+  | inr past ↦
+      let none : session s j ≡ 0 = ap (λ (x : Seat). x.phase.session) (get_or_past s.seats j no_seat (omega (arith, past, fit.seats_there))) in
+      omega (arith, none)
+]
+
+pub has_few_sessions : HasFewSessions
+has_few_sessions plan opening events n is_plan opens legal j = few_sessions plan _ j is_plan (logged_always plan opening events n is_plan opens legal).fits
+
+pub has_few_meals : HasFewMeals
+has_few_meals plan opening events n is_plan opens legal j = meals_bounded plan opening (take n events) j opens (legal_take plan opening events n legal)
+
+pub counts_sessions : CountsSessions
+counts_sessions plan opening events n is_plan opens legal j =
+    let h = sessions_counted plan opening (take n events) j opens (legal_take plan opening events n legal) in
+    (h.inside, h.outside)
