@@ -1,14 +1,14 @@
 -- The sessions that ended: those of each job ascend, and all are past.
-use Rattle.std.proofs.Common.{◌≡◌, ℕ, ◌<◌, ◌≤◌, true, false, true≢false, List, [], ◌∷◌, ◌++◌, sym, ap, subst, ◌∙◌, refl, arith, All}
+use Rattle.std.proofs.Common.{◌≡◌, ℕ, ◌<◌, ◌≤◌, true, false, true≢false, length, List, [], ◌∷◌, ◌++◌, sym, ap, subst, ◌∙◌, refl, arith, All}
 use Rattle.std.proofs.lemmas.List.{append-nil}
 use Rattle.std.proofs.lemmas.List.Elements.{All-weaker, All-push}
 use Rattle.std.proofs.lemmas.List.Quantifiers.{all_pairs_push}
-use Rattle.lab_plan.specs.LabPlan.{LabPlan}
+use Rattle.lab_plan.specs.LabPlan.{LabPlan, sessions}
 use Rattle.legal_steps.specs.declared.phase.Drinking.TheVariants.{Thirsty}
 use Rattle.legal_steps.specs.declared.event.Event.{Event}
 use Rattle.legal_steps.specs.declared.event.Event.TheVariants.{Thirst, Drink, Reach, Act, Quit, Retire, Withdraw}
 use Rattle.legal_steps.specs.State.{State}
-use Rattle.legal_steps.specs.WholeLogs.{IsBefore, IsAscending, ended_by}
+use Rattle.legal_steps.specs.WholeLogs.{IsSessionOf, IsBefore, IsAscending, ended_by}
 use Rattle.legal_steps.proofs.LogBooks.{Stage, Books, books, put-same, put-cases, is_in_session}
 use Rattle.legal_steps.proofs.LogMoves.{Can, booked, with_stage}
 
@@ -64,6 +64,15 @@ pub past_before : (b : Books) (j : ℕ) → is_in_session (b.stages j).drinking 
 past_before b j inside own h same =
     let here : IsPastAt own (b.stages j) = subst (λ n. IsPastAt own (b.stages n)) same h in here.before inside
 
+-- a stage fits a job: it has begun no more sessions than the plan gives it, and one where it is in one
+pub record IsStageOf (plan : LabPlan) (j : ℕ) (x : Stage) : Type 0 where
+  pub session_there : x.session ≤ length (sessions plan j)
+  pub begun : is_in_session x.drinking ≡ true → 1 ≤ x.session
+
+-- the stages of the plan's jobs fit
+abbrev pub AreStages : LabPlan → Books → Type 0
+AreStages plan b = (j : ℕ) → j < length plan.jobs → IsStageOf plan j (b.stages j)
+
 -- the sessions that an event ends
 abbrev pub ended_on : Books → Event → List (ℕ × ℕ)
 ended_on b (Quit j) = (j, (b.stages j).session) ∷ []
@@ -74,28 +83,31 @@ ended_on_is s (Quit j) = refl
 ended_on_is s _ = refl
 
 -- the sessions that ended so far
-pub record HasEnded (b : Books) (ended : List (ℕ × ℕ)) : Type 0 where
+pub record HasEnded (plan : LabPlan) (b : Books) (ended : List (ℕ × ℕ)) : Type 0 where
+  pub of_plan : All (IsSessionOf plan) ended
   pub ascending : IsAscending ended
   pub past : All (IsPast b) ended
 
-ended_quit : (plan : LabPlan) (b : Books) (ended : List (ℕ × ℕ)) (j : ℕ) → Can plan b (Quit j) → HasEnded b ended → HasEnded (booked plan b (Quit j)) (ended ++ (j, (b.stages j).session) ∷ [])
-ended_quit plan b ended j can h =
+ended_quit : (plan : LabPlan) (b : Books) (ended : List (ℕ × ℕ)) (j : ℕ) → AreStages plan b → Can plan b (Quit j) → HasEnded plan b ended → HasEnded plan (booked plan b (Quit j)) (ended ++ (j, (b.stages j).session) ∷ [])
+ended_quit plan b ended j fit can h =
     let own : ℕ × ℕ = (j, (b.stages j).session) in
     let r : Books = booked plan b (Quit j) in
     let earlier : All (λ other. IsBefore other own) ended = All-weaker (IsPast b) (λ other. IsBefore other own) (past_before b j (ap is_in_session can.1)) ended h.past in
     let still : All (IsPast r) ended = All-weaker (IsPast b) (IsPast r) (λ other. IsPast-after plan b (Quit j) other can) ended h.past in
     let new : IsPast r own = subst (IsPastAt own) (sym (put-same b.stages j _)) (record { began = omega arith; before = λ e. absurd (true≢false (sym e)) }) in
+    let in_plan : IsSessionOf plan own = record { job_there = can.0; from_one = (fit j can.0).begun (ap is_in_session can.1); session_there = (fit j can.0).session_there } in
     record {
+      of_plan = All-push (IsSessionOf plan) ended own h.of_plan in_plan;
       ascending = all_pairs_push IsBefore ended own h.ascending earlier;
       past = All-push (IsPast r) ended own still new;
     }
 
-ended_other : (plan : LabPlan) (b : Books) (ended : List (ℕ × ℕ)) (event : Event) → Can plan b event → HasEnded b ended → HasEnded (booked plan b event) (ended ++ [])
+ended_other : (plan : LabPlan) (b : Books) (ended : List (ℕ × ℕ)) (event : Event) → Can plan b event → HasEnded plan b ended → HasEnded plan (booked plan b event) (ended ++ [])
 ended_other plan b ended event can h =
     let r : Books = booked plan b event in
-    subst (HasEnded r) (sym (append-nil ended))
-    (record { ascending = h.ascending; past = All-weaker (IsPast b) (IsPast r) (λ other. IsPast-after plan b event other can) ended h.past })
+    subst (HasEnded plan r) (sym (append-nil ended))
+    (record { of_plan = h.of_plan; ascending = h.ascending; past = All-weaker (IsPast b) (IsPast r) (λ other. IsPast-after plan b event other can) ended h.past })
 
-pub HasEnded-after : (plan : LabPlan) (b : Books) (ended : List (ℕ × ℕ)) (event : Event) → Can plan b event → HasEnded b ended → HasEnded (booked plan b event) (ended ++ ended_on b event)
-HasEnded-after plan b ended (Quit j) can h = ended_quit plan b ended j can h
-HasEnded-after plan b ended event can h = ended_other plan b ended event can h
+pub HasEnded-after : (plan : LabPlan) (b : Books) (ended : List (ℕ × ℕ)) (event : Event) → AreStages plan b → Can plan b event → HasEnded plan b ended → HasEnded plan (booked plan b event) (ended ++ ended_on b event)
+HasEnded-after plan b ended (Quit j) fit can h = ended_quit plan b ended j fit can h
+HasEnded-after plan b ended event fit can h = ended_other plan b ended event can h

@@ -20,16 +20,16 @@ use Rattle.legal_steps.specs.Fitting.{Fits}
 use Rattle.legal_steps.specs.Legal.{May, after}
 use Rattle.legal_steps.specs.Run.{IsLegalFrom, after_all}
 use Rattle.legal_steps.specs.Opening.{IsOpening, idle_seat}
-use Rattle.legal_steps.specs.WholeLogs.{line_of, ended_by, ended_sessions}
+use Rattle.legal_steps.specs.WholeLogs.{IsSessionOf, line_of, ended_by, ended_sessions}
 use Rattle.legal_steps.proofs.FitsLaw.{fits_after}
 use Rattle.legal_steps.proofs.BottleLaw.{IsServed, served_after}
 use Rattle.legal_steps.proofs.ExclusionLaw.{exclusive}
 use Rattle.legal_steps.proofs.OpeningLemmas.{fits_opening, served_opening, opening_seat}
 use Rattle.legal_steps.proofs.LogBooks.{Stage, Books, stage_of, books, put-cases, is_in_session, holds_at, HasOneHolder, one_holder_from}
 use Rattle.legal_steps.proofs.LogMoves.{Can, booked, can_from, books_after, next_of, entry_of}
-use Rattle.legal_steps.proofs.LogEnded.{IsFresh, IsFresh-after, HasEnded, HasEnded-after, IsPast, ended_on, ended_on_is}
+use Rattle.legal_steps.proofs.LogEnded.{AreStages, IsFresh, IsFresh-after, HasEnded, HasEnded-after, IsPast, ended_on, ended_on_is}
 use Rattle.legal_steps.proofs.LogKept.{IsKept, IsKept-after, HasLeft}
-use Rattle.legal_steps.proofs.RoomLaw.{AreStages, IsRoomy, IsRoomy-after}
+use Rattle.legal_steps.proofs.RoomLaw.{IsRoomy, IsRoomy-after}
 
 -- each entry of each log has the value that the dial had after its command
 abbrev pub AreDialled : Books → Type 0
@@ -71,7 +71,7 @@ AreSmall-after plan b _ fit left can h i = h i
 -- what is so of the books, with the sessions that ended
 pub record AreKept (plan : LabPlan) (b : Books) (ended : List (ℕ × ℕ)) : Type 0 where
   pub fresh : IsFresh b
-  pub ended_so : HasEnded b ended
+  pub ended_so : HasEnded plan b ended
   pub kept : (i : ℕ) → IsKept plan b ended i
   pub dialled : AreDialled b
   pub small : AreSmall b
@@ -81,7 +81,7 @@ AreKept-after : (plan : LabPlan) (b : Books) (ended : List (ℕ × ℕ)) (event 
     Can plan b event → AreKept plan b ended → AreKept plan (booked plan b event) (ended ++ ended_on b event)
 AreKept-after plan b ended event verbs one next left fit can h = record {
   fresh = IsFresh-after plan b event h.fresh;
-  ended_so = HasEnded-after plan b ended event can h.ended_so;
+  ended_so = HasEnded-after plan b ended event fit can h.ended_so;
   kept = λ i. IsKept-after plan b ended i event one next h.fresh left can (h.kept i);
   dialled = AreDialled-after plan b event h.dialled;
   small = AreSmall-after plan b event verbs left can h.small;
@@ -169,7 +169,7 @@ opening_logged plan s h =
       served = served_opening plan s h;
       books_kept = record {
         fresh = λ j _. ap (λ (x : Stage). x.position) (opening_stage plan s j h);
-        ended_so = record { ascending = λ i j d below inside. absurd (omega (arith, inside)); past = All-nil (IsPast (books s)) };
+        ended_so = record { of_plan = All-nil (IsSessionOf plan); ascending = λ i j d below inside. absurd (omega (arith, inside)); past = All-nil (IsPast (books s)) };
         kept = λ i. inr ((λ j. ap (λ (x : Stage). holds_at plan j x i) (opening_stage plan s j h)), ap (map line_of) (opening_log plan s i h));
         dialled = λ i. subst HasDialValues (sym (opening_log plan s i h)) no_value;
         small = λ i. subst (λ entries. dial entries ≤ 999999) (sym (opening_log plan s i h)) no_turn;

@@ -10,12 +10,9 @@ use Rattle.legal_steps.specs.declared.event.Event.{Event}
 use Rattle.legal_steps.specs.declared.event.Event.TheVariants.{Thirst, Drink, Reach, Act, Quit, Retire, Withdraw}
 use Rattle.legal_steps.proofs.LogBooks.{Stage, Books, put, put-same, put-cases, is_in_session}
 use Rattle.legal_steps.proofs.LogMoves.{Can, booked, with_stage, next_of, entry_of}
+use Rattle.legal_steps.proofs.LogEnded.{IsStageOf, AreStages}
 use Rattle.legal_steps.proofs.LogKept.{HasLeft}
-use Rattle.legal_steps.proofs.RoomShares.{sum_to, sum_to-le, sum_to-more, count_on-more, first_on, share, share-in, share-out, share-le-first, IsStageOf}
-
--- the stages of the plan's jobs fit
-abbrev pub AreStages : LabPlan → Books → Type 0
-AreStages plan b = (j : ℕ) → j < length plan.jobs → IsStageOf plan j (b.stages j)
+use Rattle.legal_steps.proofs.RoomShares.{sum_to, sum_to-le, sum_to-more, count_on-more, first_on, share, share-in, share-out, share-le-first}
 
 -- a log is no longer than what all jobs may have done on its instrument
 abbrev pub IsRoomy : LabPlan → Books → Type 0

@@ -10,6 +10,7 @@ use Rattle.lab_plan.specs.declared.verb.Verb.TheVariants.{Read}
 use Rattle.lab_plan.specs.LabPlan.{LabPlan, SessionPlan, JobPlan, no_session, no_job, sessions, commands, count_on, part}
 use Rattle.legal_steps.specs.WholeLogs.{room_of}
 use Rattle.legal_steps.proofs.LogBooks.{Stage, is_in_session}
+use Rattle.legal_steps.proofs.LogEnded.{IsStageOf}
 
 -- ---- sums over the numbers below a number
 
@@ -83,11 +84,6 @@ share-in plan i j x inside = ap (λ b. if b then first_on plan i j (x.session - 
 
 pub share-out : (plan : LabPlan) (i j : ℕ) (x : Stage) → is_in_session x.drinking ≡ false → share plan i j x ≡ first_on plan i j x.session
 share-out plan i j x outside = ap (λ b. if b then first_on plan i j (x.session - 1) + count_on i (take x.position (commands plan j x.session)) else first_on plan i j x.session) outside
-
--- a stage fits a job: it has begun no more sessions than the plan gives it, and one where it is in one
-pub record IsStageOf (plan : LabPlan) (j : ℕ) (x : Stage) : Type 0 where
-  pub session_there : x.session ≤ length (sessions plan j)
-  pub begun : is_in_session x.drinking ≡ true → 1 ≤ x.session
 
 -- what is done in a session is part of it
 pub share-le-first : (plan : LabPlan) (i j : ℕ) (x : Stage) → IsStageOf plan j x → share plan i j x ≤ first_on plan i j x.session

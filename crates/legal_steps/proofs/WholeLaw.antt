@@ -11,7 +11,7 @@ use Rattle.lab_plan.specs.LabPlan.{LabPlan, commands, session_names}
 use Rattle.instrument_log.specs.declared.entry.Entry.{Entry}
 use Rattle.legal_steps.specs.declared.phase.Drinking.{Drinking}
 use Rattle.legal_steps.specs.declared.phase.Drinking.TheVariants.{Tranquil, Thirsty, Drinking as Drinks, Reaching, Retired}
-use Rattle.legal_steps.specs.WholeLogs.{Line, line_of, commands_on, lines_of, part_of, parts_of, IsBefore, IsAscending, IsBegun, IsWholeButEnd, BeginsWithParts}
+use Rattle.legal_steps.specs.WholeLogs.{Line, line_of, commands_on, lines_of, part_of, parts_of, IsSessionOf, IsBefore, IsAscending, IsBegun, IsWholeButEnd, BeginsWithParts}
 use Rattle.legal_steps.proofs.LogBooks.{Stage, Books, is_in_session, is_drinking, holds}
 use Rattle.legal_steps.proofs.LogEnded.{IsPast, past_before, HasEnded}
 use Rattle.legal_steps.proofs.LogKept.{IsKept, part_so_far}
@@ -92,7 +92,7 @@ part_whole plan i j x all_done =
 
 -- ---- whole logs
 
-drinking_inside : (d : Drinking) → is_drinking d ≡ true → is_in_session d ≡ true
+pub drinking_inside : (d : Drinking) → is_drinking d ≡ true → is_in_session d ≡ true
 drinking_inside Tranquil h = h
 drinking_inside Thirsty h = refl
 drinking_inside Drinks h = refl
@@ -100,20 +100,21 @@ drinking_inside Reaching h = refl
 drinking_inside Retired h = h
 
 -- no part is unfinished
-whole_ends : (plan : LabPlan) (i : ℕ) (entries : List Entry) (owners : List (ℕ × ℕ)) → map line_of entries ≡ parts_of plan i owners → All (λ own. names_here plan i own ≡ true) owners → IsAscending owners → IsWholeButEnd plan i entries
-whole_ends plan i entries owners joined named ascending = record {
+whole_ends : (plan : LabPlan) (i : ℕ) (entries : List Entry) (owners : List (ℕ × ℕ)) → map line_of entries ≡ parts_of plan i owners → All (IsSessionOf plan) owners → All (λ own. names_here plan i own ≡ true) owners → IsAscending owners → IsWholeButEnd plan i entries
+whole_ends plan i entries owners joined of_plan named ascending = record {
   finished = owners;
   unfinished = [];
   joined = joined ∙ sym (append-nil (parts_of plan i owners));
+  of_plan = of_plan;
   not_empty = All-weaker (λ own. names_here plan i own ≡ true) (λ own. 0 < length (part_of plan i own)) (part_there plan i) owners named;
   ascending = ascending;
   end = inl refl;
 }
 
-whole_held : (plan : LabPlan) (b : Books) (owners : List (ℕ × ℕ)) (i j : ℕ) → holds plan b j i ≡ true →
+whole_held : (plan : LabPlan) (b : Books) (owners : List (ℕ × ℕ)) (i j : ℕ) → IsSessionOf plan (j, (b.stages j).session) → holds plan b j i ≡ true →
     map line_of (b.logs i) ≡ parts_of plan i owners ++ part_so_far plan i j (b.stages j) →
-    All (λ own. names_here plan i own ≡ true) owners → IsAscending owners → All (IsPast b) owners → IsWholeButEnd plan i (b.logs i)
-whole_held plan b owners i j holder joined named ascending past =
+    All (IsSessionOf plan) owners → All (λ own. names_here plan i own ≡ true) owners → IsAscending owners → All (IsPast b) owners → IsWholeButEnd plan i (b.logs i)
+whole_held plan b owners i j in_plan holder joined of_plan named ascending past =
     let x : Stage = b.stages j in
     let own : ℕ × ℕ = (j, x.session) in
     let done : List (ℕ × Verb) = done_on plan i j x in
@@ -124,32 +125,39 @@ whole_held plan b owners i j holder joined named ascending past =
       | inl more ↦ elim (cases_eq (length done) 0) [
         | inl none ↦
             let empty : part_so_far plan i j x ≡ [] = nil_from_length (part_so_far plan i j x) (length-lines_of j x.session total done ∙ none) in
-            whole_ends plan i (b.logs i) owners (joined ∙ ap (λ lines. parts_of plan i owners ++ lines) empty ∙ append-nil (parts_of plan i owners)) named ascending
+            whole_ends plan i (b.logs i) owners (joined ∙ ap (λ lines. parts_of plan i owners ++ lines) empty ∙ append-nil (parts_of plan i owners)) of_plan named ascending
         | inr some ↦ record {
           finished = owners;
           unfinished = part_so_far plan i j x;
           joined = joined;
+          of_plan = of_plan;
           not_empty = All-weaker (λ other. names_here plan i other ≡ true) (λ other. 0 < length (part_of plan i other)) (part_there plan i) owners named;
           ascending = ascending;
-          end = inr (own, part_begun plan i j x (omega (arith, some)) more, earlier);
+          end = inr (own, in_plan, part_begun plan i j x (omega (arith, some)) more, earlier);
         }
       ]
       | inr all_done ↦
           whole_ends plan i (b.logs i) (owners ++ own ∷ [])
           (joined ∙ ap (λ lines. parts_of plan i owners ++ lines) (part_whole plan i j x all_done) ∙ sym (parts_of-push plan i owners own))
+          (All-push (IsSessionOf plan) owners own of_plan in_plan)
           (All-push (λ other. names_here plan i other ≡ true) owners own named parts.1)
           (all_pairs_push IsBefore owners own ascending earlier)
     ]
 
-pub whole_from : (plan : LabPlan) (b : Books) (ended : List (ℕ × ℕ)) (i : ℕ) → HasEnded b ended → IsKept plan b ended i → IsWholeButEnd plan i (b.logs i)
-whole_from plan b ended i so kept =
+-- a job that holds an instrument is in a session of the plan
+abbrev pub IsHeldByJobs : LabPlan → Books → Type 0
+IsHeldByJobs plan b = (j i : ℕ) → holds plan b j i ≡ true → IsSessionOf plan (j, (b.stages j).session)
+
+pub whole_from : (plan : LabPlan) (b : Books) (ended : List (ℕ × ℕ)) (i : ℕ) → IsHeldByJobs plan b → HasEnded plan b ended → IsKept plan b ended i → IsWholeButEnd plan i (b.logs i)
+whole_from plan b ended i jobs so kept =
     let owners : List (ℕ × ℕ) = naming plan i ended in
+    let of_plan : All (IsSessionOf plan) owners = All-filter (names_here plan i) (IsSessionOf plan) ended so.of_plan in
     let named : All (λ own. names_here plan i own ≡ true) owners = filter_passes (names_here plan i) ended in
     let ascending : IsAscending owners = AllPairs-filter IsBefore (names_here plan i) ended so.ascending in
     let past : All (IsPast b) owners = All-filter (names_here plan i) (IsPast b) ended so.past in
     elim kept [
-      | inl a ↦ whole_held plan b owners i a.0 a.1 (a.2 ∙ ap (λ lines. lines ++ part_so_far plan i a.0 (b.stages a.0)) (naming-parts plan i ended)) named ascending past
-      | inr a ↦ whole_ends plan i (b.logs i) owners (a.1 ∙ naming-parts plan i ended) named ascending
+      | inl a ↦ whole_held plan b owners i a.0 (jobs a.0 i a.1) a.1 (a.2 ∙ ap (λ lines. lines ++ part_so_far plan i a.0 (b.stages a.0)) (naming-parts plan i ended)) of_plan named ascending past
+      | inr a ↦ whole_ends plan i (b.logs i) owners (a.1 ∙ naming-parts plan i ended) of_plan named ascending
     ]
 
 -- the parts of the sessions that ended stand in the log

@@ -1,5 +1,5 @@
 -- The laws of logs, their room, and counts: what holds after each beginning of a legal list of events.
-use Rattle.std.specs.Prelude.{◌≡◌, ℕ, ◌+◌, ◌≤◌, List, length, map, take}
+use Rattle.std.specs.Prelude.{◌≡◌, ℕ, ◌+◌, ◌≤◌, List, All, length, map, take}
 use Rattle.lab_plan.specs.LabPlan.{LabPlan}
 use Rattle.lab_plan.specs.IsPlan.{IsPlan}
 use Rattle.instrument_log.specs.Dial.{HasDialValues}
@@ -12,7 +12,7 @@ use Rattle.legal_steps.specs.Legal.{IsJob, next_command, next_entry}
 use Rattle.legal_steps.specs.Run.{IsLegalFrom, after_all, meals_of, sessions_done_of, withdrawn_of}
 use Rattle.legal_steps.specs.Opening.{IsOpening}
 use Rattle.legal_steps.specs.Holding.{Holds}
-use Rattle.legal_steps.specs.WholeLogs.{line_of, parts_of, IsAscending, IsWholeButEnd, BeginsWithParts, ended_sessions, room_of}
+use Rattle.legal_steps.specs.WholeLogs.{line_of, parts_of, IsSessionOf, IsAscending, IsWholeButEnd, BeginsWithParts, ended_sessions, room_of}
 use Rattle.legal_steps.specs.Laws.{Always}
 
 -- ---- logs
@@ -29,9 +29,9 @@ HasValuesOfDials = Always (λ plan s. (i : ℕ) → HasDialValues (log s i))
 abbrev pub AlwaysAlong : (LabPlan → State → List Event → Type 0) → Type 0
 AlwaysAlong P = (plan : LabPlan) (opening : State) (events : List Event) (n : ℕ) → IsPlan plan → IsOpening plan opening → IsLegalFrom plan opening events → P plan opening (take n events)
 
--- the sessions of each job end in ascending order
+-- the sessions that ended are the plan's, those of each job in ascending order
 abbrev pub EndsInOrder : Type 0
-EndsInOrder = AlwaysAlong (λ plan opening done. IsAscending (ended_sessions plan opening done))
+EndsInOrder = AlwaysAlong (λ plan opening done. All (IsSessionOf plan) (ended_sessions plan opening done) × IsAscending (ended_sessions plan opening done))
 
 -- the sessions that ended have their parts in every log, in the order of their ends
 abbrev pub HasEndedSessions : Type 0

@@ -2,7 +2,7 @@
 ghost use Rattle.legal_steps.specs.LogLaws.{CountsSessions, EndsInOrder, FitsItsRoom, HasEndedSessions, HasFewMeals, HasFewSessions, HasNothingElse, HasValuesOfDials, HasWholeLogs, TakesNextEntry};
 
 /// After each beginning of a legal list of events, every log is whole but for its end: nonempty parts of
-/// sessions one after another, those of each job ascending, and then at most one unfinished part.
+/// the plan's sessions one after another, those of each job ascending, and then at most one unfinished part.
 #[tactic(auto, using(crate::proofs::LogLawProofs::has_whole_logs))]
 pub fn whole_logs()
     ensures { HasWholeLogs }
@@ -14,8 +14,7 @@ pub fn dial_values()
     ensures { HasValuesOfDials }
 {}
 
-/// The sessions of each job end in ascending order.
-#[tactic(auto, using(crate::proofs::LogLawProofs::ends_in_order))]
+/// The sessions that ended are the plan's, and those of each job end in ascending order.
 pub fn ends_in_order()
     ensures { EndsInOrder }
 {}
