@@ -9,6 +9,7 @@ use Rattle.lab_plan.specs.declared.verb.Verb.{Verb}
 use Rattle.lab_plan.specs.declared.verb.Verb.TheVariants.{Read}
 use Rattle.lab_plan.specs.LabPlan.{LabPlan, SessionPlan, JobPlan, no_session, no_job, sessions, commands, count_on, all_commands}
 use Rattle.lab_plan.specs.IsPlan.{IsPlan}
+use Rattle.instrument_log.specs.Dial.{turned, dial}
 use Rattle.instrument_log.specs.Parts.{Follows}
 use Rattle.instrument_log.specs.Entries.{IsWithinLimits}
 use Rattle.instrument_log.specs.InstrumentLog.{MayAppend}
@@ -98,6 +99,11 @@ act_appends_logged plan s ended j is_plan h job reaching = record {
   follows = subst (Follows (log s (next_command plan s j).0)) (entry_is plan s j) (follows_kept plan s ended j is_plan h (job, reaching));
   has_room = room_to_act plan s ended j is_plan h (job, reaching);
 }
+
+-- its value is what the dial has after the command
+pub next_value : (plan : LabPlan) (s : State) (j : ℕ) → (next_entry plan s j).value ≡ turned (next_entry plan s j).verb (dial (log s (next_command plan s j).0))
+unfolding next_entry
+next_value plan s j = refl
 
 -- ---- limits
 

@@ -1,14 +1,16 @@
 -- Each session that a job began it has ended, given up, or is in.
-use Rattle.std.proofs.Common.{◌≡◌, ◌≢◌, ℕ, ◌+◌, cond, List, [], ◌∷◌, sym, ap, subst, ◌∙◌, inl, inr, refl, arith, add-zero}
-use Rattle.std.proofs.lemmas.Bool.{eq-eqb, ne_eqb}
+use Rattle.std.proofs.Common.{◌≡◌, ◌≢◌, ℕ, ◌+◌, ◌≤◌, cond, List, [], ◌∷◌, sym, ap, subst, ◌∙◌, inl, inr, refl, arith, add-zero, length}
+use Rattle.std.proofs.lemmas.Bool.{eq-eqb, ne_eqb, cases_lt}
+use Rattle.std.proofs.lemmas.List.{get_or_past}
 use Rattle.std.proofs.lemmas.List.Sums.{sum_by-cons}
 use Rattle.lab_plan.specs.LabPlan.{LabPlan}
+use Rattle.lab_plan.specs.IsPlan.{IsPlan}
 use Rattle.legal_steps.specs.declared.phase.Drinking.{Drinking}
-use Rattle.legal_steps.specs.declared.phase.Drinking.TheVariants.{Tranquil}
+use Rattle.legal_steps.specs.declared.phase.Drinking.TheVariants.{Tranquil, Thirsty, Drinking as Drinks, Reaching, Retired}
 use Rattle.legal_steps.specs.declared.phase.JobState.{JobState}
 use Rattle.legal_steps.specs.declared.event.Event.{Event}
 use Rattle.legal_steps.specs.declared.event.Event.TheVariants.{Look, AskFork, GiveFork, Soil, AskBottles, GiveBottles, Thirst, Hunger, Sit, Leave, Drink, Reach, Act, Quit, Retire, Glance, Withdraw}
-use Rattle.legal_steps.specs.State.{State, phase, drinking, IsInSession}
+use Rattle.legal_steps.specs.State.{State, Seat, no_seat, phase, session, drinking, IsInSession}
 use Rattle.legal_steps.specs.Fitting.{Fits}
 use Rattle.legal_steps.specs.Legal.{May, after}
 use Rattle.legal_steps.specs.Run.{IsLegalFrom, after_all, is_quit, is_withdraw, sessions_done_of, withdrawn_of}
@@ -98,3 +100,39 @@ sessions_counted plan opening events j opens legal =
     subst (HasDone (phase (after_all plan opening events) j)) (omega arith)
     (done_from plan opening events j 0 (fits_opening plan opening opens) legal
     (subst (λ (x : JobState). HasDone x 0) (sym (opening_phase plan opening j opens)) (record { inside = λ still. absurd (not_tranquil still); outside = λ _. refl })))
+
+-- ---- bounds
+
+-- no job has begun more than 1000 sessions
+pub sessions_few : (plan : LabPlan) (s : State) (j : ℕ) → IsPlan plan → Fits plan s → session s j ≤ 1000
+sessions_few plan s j is_plan fit = elim (cases_lt j (length plan.jobs)) [
+  | inl job ↦ omega (arith, (fit.seats_fit j job).session_there, is_plan.draft.few_sessions j)
+  | inr past ↦
+      let none : session s j ≡ 0 = ap (λ (x : Seat). x.phase.session) (get_or_past s.seats j no_seat (omega (arith, past, fit.seats_there))) in
+      omega (arith, none)
+]
+
+at_most : (d : Drinking) (n begun : ℕ) → (IsInSession d → n + 1 ≡ begun) → (¬ IsInSession d → n ≡ begun) → n ≤ begun
+at_most Tranquil n begun inside outside = omega (arith, outside not_tranquil)
+at_most Thirsty n begun inside outside = omega (arith, inside (inl refl))
+at_most Drinks n begun inside outside = omega (arith, inside (inr (inl refl)))
+at_most Reaching n begun inside outside = omega (arith, inside (inr (inr refl)))
+at_most Retired n begun inside outside = omega (arith, outside not_retired)
+
+-- a job has ended or given up no more sessions than it began
+pub done_bounded : (plan : LabPlan) (opening : State) (events : List Event) (j : ℕ) → IsOpening plan opening → IsLegalFrom plan opening events →
+    sessions_done_of j events + withdrawn_of j events ≤ session (after_all plan opening events) j
+done_bounded plan opening events j opens legal =
+    let h = sessions_counted plan opening events j opens legal in
+    at_most (drinking (after_all plan opening events) j) _ _ h.inside h.outside
+
+fits_all : (plan : LabPlan) (s : State) (events : List Event) → Fits plan s → IsLegalFrom plan s events → Fits plan (after_all plan s events)
+fits_all plan s [] fit legal = fit
+fits_all plan s (event ∷ events) fit legal = fits_all plan (after plan s event) events (fits_after plan s event fit legal.0) legal.1
+
+-- and so at most 1000
+pub begun_few : (plan : LabPlan) (opening : State) (events : List Event) (j : ℕ) → IsPlan plan → IsOpening plan opening → IsLegalFrom plan opening events → session (after_all plan opening events) j ≤ 1000
+begun_few plan opening events j is_plan opens legal = sessions_few plan (after_all plan opening events) j is_plan (fits_all plan opening events (fits_opening plan opening opens) legal)
+
+pub done_few : (plan : LabPlan) (opening : State) (events : List Event) (j : ℕ) → IsPlan plan → IsOpening plan opening → IsLegalFrom plan opening events → sessions_done_of j events + withdrawn_of j events ≤ 1000
+done_few plan opening events j is_plan opens legal = omega (arith, done_bounded plan opening events j opens legal, begun_few plan opening events j is_plan opens legal)

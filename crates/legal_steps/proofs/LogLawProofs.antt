@@ -1,11 +1,11 @@
 -- The laws of logs, room and counts, each as it is stated.
-use Rattle.std.proofs.Common.{◌≡◌, ℕ, ◌≤◌, List, length, take, arith, ap, inl, inr, true, false, true≢false, ◌∙◌, sym}
+use Rattle.std.proofs.Common.{◌≡◌, ℕ, List, length, take, arith, ap, inl, inr, true, false, true≢false, ◌∙◌, sym}
 use Rattle.std.proofs.lemmas.Bool.{cases_lt, and_parts}
 use Rattle.std.proofs.lemmas.List.{get_or_past}
 use Rattle.lab_plan.specs.LabPlan.{LabPlan}
 use Rattle.lab_plan.specs.IsPlan.{IsPlan}
 use Rattle.legal_steps.specs.declared.event.Event.{Event}
-use Rattle.legal_steps.specs.State.{State, Seat, phase, session, no_seat}
+use Rattle.legal_steps.specs.State.{State, Seat, phase, no_seat}
 use Rattle.legal_steps.specs.Fitting.{Fits}
 use Rattle.legal_steps.specs.Opening.{IsOpening}
 use Rattle.legal_steps.specs.Run.{IsLegalFrom, after_all}
@@ -16,7 +16,7 @@ use Rattle.legal_steps.proofs.LogBooks.{books, is_drinking, drinks_from}
 use Rattle.legal_steps.proofs.LogRun.{IsLogged, logged, stages_fit}
 use Rattle.legal_steps.proofs.WholeLaw.{IsHeldByJobs, drinking_inside, whole_from, begins_with_parts}
 use Rattle.legal_steps.proofs.AppendLaw.{room_enough, act_appends_logged, within_limits_logged}
-use Rattle.legal_steps.proofs.CountLaw.{sessions_counted}
+use Rattle.legal_steps.proofs.CountLaw.{sessions_counted, sessions_few}
 use Rattle.legal_steps.proofs.MealLaw.{meals_bounded}
 
 logged_always : (plan : LabPlan) (opening : State) (events : List Event) (n : ℕ) → IsPlan plan → IsOpening plan opening → IsLegalFrom plan opening events →
@@ -28,12 +28,13 @@ held_by_jobs : (plan : LabPlan) (s : State) → Fits plan s → IsHeldByJobs pla
 held_by_jobs plan s fit j i holder =
     let drinks : is_drinking (phase s j).drinking ≡ true = (and_parts _ _ holder).0 in
     elim (cases_lt j (length plan.jobs)) [
-      inl job ↦
-        let here = stages_fit plan s fit j job in
-        record { job_there = job; from_one = here.begun (drinking_inside (phase s j).drinking drinks); session_there = here.session_there }
-    | inr past ↦
-        let idle : is_drinking (phase s j).drinking ≡ false = ap (λ (x : Seat). is_drinking x.phase.drinking) (get_or_past s.seats j no_seat (omega (arith, past, fit.seats_there))) in
-        absurd (true≢false (sym drinks ∙ idle)) ]
+      | inl job ↦
+          let here = stages_fit plan s fit j job in
+          record { job_there = job; from_one = here.begun (drinking_inside (phase s j).drinking drinks); session_there = here.session_there }
+      | inr past ↦
+          let idle : is_drinking (phase s j).drinking ≡ false = ap (λ (x : Seat). is_drinking x.phase.drinking) (get_or_past s.seats j no_seat (omega (arith, past, fit.seats_there))) in
+          absurd (true≢false (sym drinks ∙ idle))
+    ]
 
 pub has_whole_logs : HasWholeLogs
 has_whole_logs plan opening events n is_plan opens legal i =
@@ -71,16 +72,8 @@ takes_next_entry plan opening events n is_plan opens legal j job reaching =
     let h = logged_always plan opening events n is_plan opens legal in
     (act_appends_logged plan s _ j is_plan h job reaching, within_limits_logged plan s _ j is_plan h job reaching)
 
-few_sessions : (plan : LabPlan) (s : State) (j : ℕ) → IsPlan plan → Fits plan s → session s j ≤ 1000
-few_sessions plan s j is_plan fit = elim (cases_lt j (length plan.jobs)) [
-  | inl job ↦ omega (arith, (fit.seats_fit j job).session_there, is_plan.draft.few_sessions j)
-  | inr past ↦
-      let none : session s j ≡ 0 = ap (λ (x : Seat). x.phase.session) (get_or_past s.seats j no_seat (omega (arith, past, fit.seats_there))) in
-      omega (arith, none)
-]
-
 pub has_few_sessions : HasFewSessions
-has_few_sessions plan opening events n is_plan opens legal j = few_sessions plan _ j is_plan (logged_always plan opening events n is_plan opens legal).fits
+has_few_sessions plan opening events n is_plan opens legal j = sessions_few plan _ j is_plan (logged_always plan opening events n is_plan opens legal).fits
 
 pub has_few_meals : HasFewMeals
 has_few_meals plan opening events n is_plan opens legal j = meals_bounded plan opening (take n events) j opens (legal_take plan opening events n legal)

@@ -3,6 +3,7 @@ use Rattle.std.proofs.Common.{◌≡◌, ◌≢◌, ℕ, ◌+◌, ◌<◌, ◌�
 use Rattle.std.proofs.lemmas.Bool.{eq-eqb, ne_eqb}
 use Rattle.std.proofs.lemmas.List.Sums.{sum_by-cons}
 use Rattle.lab_plan.specs.LabPlan.{LabPlan}
+use Rattle.lab_plan.specs.IsPlan.{IsPlan}
 use Rattle.legal_steps.specs.declared.phase.Dining.TheVariants.{Thinking, Hungry}
 use Rattle.legal_steps.specs.declared.phase.Drinking.TheVariants.{Thirsty}
 use Rattle.legal_steps.specs.declared.phase.JobState.{JobState}
@@ -17,6 +18,7 @@ use Rattle.legal_steps.proofs.FitsLaw.{fits_after}
 use Rattle.legal_steps.proofs.OpeningLemmas.{fits_opening}
 use Rattle.legal_steps.proofs.LogBooks.{put-cases}
 use Rattle.legal_steps.proofs.LogRun.{opening_phase}
+use Rattle.legal_steps.proofs.CountLaw.{begun_few}
 use Rattle.legal_steps.proofs.CountPhases.{actor, phased, phases_after}
 
 -- a job in this phase had m meals: at most one for each session, and none yet for this one where it is hungry, or thirsty and thinks
@@ -85,3 +87,7 @@ meals_bounded plan opening events j opens legal =
     let idle = opening_phase plan opening j opens in
     let none : HasEaten (phase opening j) 0 = subst (λ (x : JobState). HasEaten x 0) (sym idle) (record { most = omega arith; hungry = λ e. absurd (cc); thirsty = λ e thirst. absurd (cc) }) in
     omega (arith, meals_from plan opening events j 0 (fits_opening plan opening opens) legal none)
+
+-- and so at most 1000
+pub meals_few : (plan : LabPlan) (opening : State) (events : List Event) (j : ℕ) → IsPlan plan → IsOpening plan opening → IsLegalFrom plan opening events → meals_of j events ≤ 1000
+meals_few plan opening events j is_plan opens legal = omega (arith, meals_bounded plan opening events j opens legal, begun_few plan opening events j is_plan opens legal)
