@@ -1,3 +1,4 @@
 pub mod EntryLemmas
 pub mod PartLemmas
+pub mod WholeLemmas
 pub mod LogLemmas

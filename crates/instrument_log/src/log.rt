@@ -119,7 +119,8 @@ impl<A: Allocator> InstrumentLog<A> {
     /// The entry with `index` entries before it.
     pub fn entry(&self, index: usize) -> Entry
         requires { index < length self.now.entries }
-        ensures { slice_get self.now.entries index ≡ Some result }
+        ensures entry { slice_get self.now.entries index ≡ Some result }
+        ensures within_limits { IsWithinLimits result }
     {
         spelled_by(&self.packed[index])
     }
@@ -142,7 +143,8 @@ impl<A: Allocator> InstrumentLog<A> {
 
     /// The number on the dial after all entries, 0 where there is none.
     pub fn value(&self) -> u32
-        ensures { result ≡ dial self.now.entries }
+        ensures value { result ≡ dial self.now.entries }
+        ensures fits { result ≤ 999999 }
     {
         self.value
     }

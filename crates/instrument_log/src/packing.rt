@@ -1,10 +1,10 @@
 // An entry as 16 bytes.
-ghost use Rattle.std.specs.Prelude.{◌≡◌, ◌≢◌, ℕ, ◌+◌, ◌*◌, IfSome, IfNone, IsTrue, ◌↔◌};
+ghost use Rattle.std.specs.Prelude.{◌≡◌, ◌≢◌, ℕ, ◌+◌, ◌*◌, IfSome, IfNone};
 ghost use Rattle.lab_plan.specs.Verbs.{verb_number};
 ghost use Rattle.instrument_log.specs.declared.entry.Entry.{Entry};
 ghost use Rattle.instrument_log.specs.Entries.{IsWithinLimits, verb_code, verb_of, entry_bytes, entry_of};
 
-use crate::entry::Entry;
+use crate::entry::{Entry, byte_of_job};
 use lab_plan::{JobNo, Verb};
 
 /// The entry as 16 bytes, each field with its least byte first: byte 0 is the job, 1 to 2 the session,
@@ -33,7 +33,7 @@ pub fn unpack_entry(bytes: [u8; 16]) -> Option<Entry>
     ensures refused { IfNone result ((entry : Entry) → IsWithinLimits entry → entry_bytes entry ≢ bytes) }
 {
     let entry = spelled_by(&bytes);
-    if is_within_limits(&entry) && pack_entry(entry) == bytes {
+    if entry.is_within_limits() && pack_entry(entry) == bytes {
         Some(entry)
     } else {
         None
@@ -88,23 +88,4 @@ fn number_of_verb(verb: Verb) -> u32
         Verb::Set(number) | Verb::Add(number) => number,
         Verb::Read => 0,
     }
-}
-
-fn byte_of_job(job: JobNo) -> u8
-    ensures { result ≡ job }
-{
-    job.0
-}
-
-fn is_within_limits(entry: &Entry) -> bool
-    ensures { IsTrue result ↔ IsWithinLimits entry.now }
-{
-    byte_of_job(entry.job) <= 31
-        && 1 <= entry.session
-        && entry.session <= 1000
-        && entry.length <= 100_000
-        && 1 <= entry.place
-        && entry.place <= entry.length
-        && entry.verb.fits()
-        && entry.value <= 999_999
 }
