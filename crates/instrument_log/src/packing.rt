@@ -27,7 +27,9 @@ pub fn pack_entry(entry: Entry) -> [u8; 16]
     ]
 }
 
-/// The entry that the bytes are packed from, where it is one within the limits.
+/// The entry that the bytes are packed from, where it is one within the limits. There is none exactly
+/// where the job is above 31, the session 0 or above 1000, the length above 100000, the place 0 or above
+/// the length, the verb above 2, its number or the value above 999999, or a read has a number.
 pub fn unpack_entry(bytes: [u8; 16]) -> Option<Entry>
     ensures spelled { IfSome result (λ entry. (entry_bytes entry ≡ bytes) × IsWithinLimits entry) }
     ensures refused { IfNone result ((entry : Entry) → IsWithinLimits entry → entry_bytes entry ≢ bytes) }
