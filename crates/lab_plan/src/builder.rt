@@ -1,5 +1,6 @@
 // Building a plan, one line of its script at a time.
 ghost use Rattle.std.specs.Prelude.{◌≡◌, ℕ, ◌<◌, ◌≤◌, length, None, Some, true, IsTrue, ◌↔◌, ◌&&◌, ◌||◌, nat_le};
+ghost use Rattle.std.specs.Option.{ForSome};
 ghost use Rattle.lab_plan.specs.LabPlan.{LabPlan, all_commands};
 ghost use Rattle.lab_plan.specs.Names.{IsName};
 ghost use Rattle.lab_plan.specs.Verbs.{Fits};
@@ -24,20 +25,21 @@ pub struct PlanBuilder<A: Allocator + Copy = Global> {
 impl<A: Allocator + Copy> Model for PlanBuilder<A> {
     ghost use Rattle.std.specs.Prelude.{◌≡◌, length, ◌≤◌};
     ghost use Rattle.lab_plan.specs.LabPlan.{LabPlan, all_commands};
+    ghost use Rattle.lab_plan.specs.IsPlan.{IsDraft};
 
     ghost Value = { LabPlan };
 
     ghost view = { λ b. b.draft };
 
     ghost invariant = { λ b. record {
-      few_instruments : length b.draft.instruments ≤ 56;
+      is_draft : IsDraft b.draft;
       counted : b.commands ≡ length (all_commands b.draft);
-      few_commands : b.commands ≤ 100000;
     } };
 }
 
 impl<A: Allocator + Copy> PlanBuilder<A> {
     /// A plan of version 1 with nothing in it. Takes no memory.
+    #[tactic(auto, using(crate::proofs::Drafts::draft_empty))]
     pub fn new(alloc: A) -> PlanBuilder<A>
         ensures { result ≡ empty_plan 1 }
     {
@@ -49,6 +51,7 @@ impl<A: Allocator + Copy> PlanBuilder<A> {
     }
 
     /// A plan of version 2, whose sessions may have a patience. Takes no memory.
+    #[tactic(auto, using(crate::proofs::Drafts::draft_empty))]
     pub fn new_two(alloc: A) -> PlanBuilder<A>
         ensures { result ≡ empty_plan 2 }
     {
@@ -109,9 +112,9 @@ impl<A: Allocator + Copy> PlanBuilder<A> {
         self.begin(Some(patience))
     }
 
-    #[tactic(auto, using(crate::proofs::Grown::all_commands_with_session))]
     fn begin(&mut self, patience: Option<u32>) -> Result<(), PlanRefusal>
-        requires { 0 < length self.old.jobs }
+        requires job { 0 < length self.old.jobs }
+        requires patient { ForSome patience (λ n. (self.old.version ≡ 2) × (n ≤ 999999)) }
         ensures { Does (session_refusal self.old) (with_session patience self.old) self.old result self.new }
     {
         if self.draft.is_bare() {
@@ -125,7 +128,6 @@ impl<A: Allocator + Copy> PlanBuilder<A> {
     }
 
     /// Adds a command to the last session; a name that is new becomes the next instrument.
-    #[tactic(auto, using(crate::proofs::Grown::commands_with_command))]
     pub fn command(&mut self, instrument: &[u8], verb: Verb) -> Result<(), PlanRefusal>
         requires name { IsName instrument.now }
         requires fits { Fits verb }
