@@ -66,7 +66,7 @@ pairs_kept f R change same xs h i j d below inside =
     (subst (λ b. R (f (get_or xs i d)) b) (sym (same_at f change same xs j d)) (h i j d below (omega (arith, inside, same_length change xs))))
 
 -- what passes no test differs from each that would
-none_at : {X : Type 0} (p : X → Bool) (xs : List X) → list_any p xs ≡ false → (k : ℕ) (d : X) → k < length xs → p (get_or xs k d) ≡ false
+pub none_at : {X : Type 0} (p : X → Bool) (xs : List X) → list_any p xs ≡ false → (k : ℕ) (d : X) → k < length xs → p (get_or xs k d) ≡ false
 none_at p xs none k d inside =
     ⊎_elim (λ is. absurd (true≢false (sym (list_any_at p xs k d inside is) ∙ none))) (λ is. is) (cases_Bool (p (get_or xs k d)))
 

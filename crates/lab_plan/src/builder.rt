@@ -26,6 +26,7 @@ impl<A: Allocator + Copy> Model for PlanBuilder<A> {
     ghost use Rattle.std.specs.Prelude.{◌≡◌, length, ◌≤◌};
     ghost use Rattle.lab_plan.specs.LabPlan.{LabPlan, all_commands};
     ghost use Rattle.lab_plan.specs.IsPlan.{IsDraft};
+    ghost use Rattle.lab_plan.specs.Building.{AreClosed};
 
     ghost Value = { LabPlan };
 
@@ -33,13 +34,14 @@ impl<A: Allocator + Copy> Model for PlanBuilder<A> {
 
     ghost invariant = { λ b. record {
       is_draft : IsDraft b.draft;
+      closed : AreClosed b.draft;
       counted : b.commands ≡ length (all_commands b.draft);
     } };
 }
 
 impl<A: Allocator + Copy> PlanBuilder<A> {
     /// A plan of version 1 with nothing in it. Takes no memory.
-    #[tactic(auto, using(crate::proofs::Drafts::draft_empty))]
+    #[tactic(auto, using(crate::proofs::Drafts::draft_empty, crate::proofs::Closed::closed_empty))]
     pub fn new(alloc: A) -> PlanBuilder<A>
         ensures { result ≡ empty_plan 1 }
     {
@@ -51,7 +53,7 @@ impl<A: Allocator + Copy> PlanBuilder<A> {
     }
 
     /// A plan of version 2, whose sessions may have a patience. Takes no memory.
-    #[tactic(auto, using(crate::proofs::Drafts::draft_empty))]
+    #[tactic(auto, using(crate::proofs::Drafts::draft_empty, crate::proofs::Closed::closed_empty))]
     pub fn new_two(alloc: A) -> PlanBuilder<A>
         ensures { result ≡ empty_plan 2 }
     {

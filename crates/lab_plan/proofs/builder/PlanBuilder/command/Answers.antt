@@ -1,7 +1,8 @@
 use Rattle.std.proofs.Common.{◌≡◌, ◌≤◌, ◌+◌, Bool, true, not, length, false, ap, sym, ◌∙◌, subst, arith, nat_le, ◌||◌, ◌&&◌}
 use Rattle.lab_plan.specs.LabPlan.{LabPlan, all_commands}
-use Rattle.lab_plan.specs.Building.{is_instrument, is_past_limit, has_session}
+use Rattle.lab_plan.specs.Building.{AreClosed, is_instrument, is_past_limit, has_session}
 use Rattle.lab_plan.proofs.Grown.{is_new, commands_with_command}
+use Rattle.lab_plan.proofs.Closed.{closed_with_command}
 use Rattle.lab_plan.proofs.Drafts.{draft_with_command}
 use Rattle.lab_plan.specs.IsPlan.{IsDraft}
 use Rattle.lab_plan.proofs.builder.PlanBuilder.command.Goals as goal
@@ -17,5 +18,6 @@ invariant_of-self-2 g c =
     let new = c.in_ok-push_at.ensures in
     record {
       is_draft = subst IsDraft (sym new) (draft_with_command name c.args.verb plan c.self.invariant.is_draft some c.requires.name c.requires.fits past);
+      closed = subst AreClosed (sym new) (closed_with_command name c.args.verb plan c.self.invariant.closed);
       counted = ap (λ n. n + 1) c.self.invariant.counted ∙ sym (commands_with_command name c.args.verb plan some) ∙ ap (λ (p : LabPlan). length (all_commands p)) (sym new);
     }
