@@ -64,6 +64,13 @@ impl<A: Allocator + Copy> PlanBuilder<A> {
         }
     }
 
+    /// The version of the script: 1, or 2 where sessions may have a patience.
+    pub fn version(&self) -> u8
+        ensures { result ≡ self.now.version }
+    {
+        self.draft.version()
+    }
+
     /// Whether the plan has a job, so that a session can begin.
     pub fn has_job(&self) -> bool
         ensures { IsTrue result ↔ (0 < length self.now.jobs) }

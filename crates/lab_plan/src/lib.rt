@@ -9,6 +9,8 @@ pub mod name;
 pub mod numbers;
 pub mod plan;
 pub mod refusal;
+#[cfg(test)]
+mod tests;
 pub mod verb;
 
 pub use builder::PlanBuilder;
