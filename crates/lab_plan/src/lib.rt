@@ -3,6 +3,7 @@
 #![tactic(auto)]
 
 mod draft;
+mod instrument_set;
 mod job;
 pub mod name;
 pub mod numbers;
