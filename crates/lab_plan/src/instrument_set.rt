@@ -1,7 +1,7 @@
 // Sets of instruments, a bit for each.
-ghost use Rattle.std.specs.Prelude.{◌≡◌, ℕ, ◌<◌, false, ◌||◌, ◌==◌};
-ghost use Rattle.std.specs.List.{All, list_any};
-ghost use Rattle.lab_plan.specs.Tables.{holds};
+ghost use Rattle.std.specs.Prelude.{◌≡◌, ℕ, ◌<◌, ◌≤◌, ◌||◌, ◌==◌, length, filter};
+ghost use Rattle.std.specs.List.{All, list_any, range_with_len};
+ghost use Rattle.lab_plan.specs.Tables.{holds, both_in};
 
 use crate::numbers::InstrumentNo;
 use crate::verb::Verb;
@@ -21,9 +21,8 @@ impl Model for InstrumentSet {
 }
 
 impl InstrumentSet {
-    #[tactic(auto, using(crate::proofs::Bits::holds_none))]
     pub(crate) fn empty() -> InstrumentSet
-        ensures { (i : ℕ) → holds result i ≡ false }
+        ensures { result ≡ 0 }
     {
         InstrumentSet { bits: 0 }
     }
@@ -40,6 +39,13 @@ impl InstrumentSet {
         ensures { result ≡ holds self instrument }
     {
         self.bits >> instrument & 1 == 1
+    }
+
+    pub(crate) fn both_hold(self, other: InstrumentSet, instrument: u8) -> bool
+        requires { instrument < 64 }
+        ensures { result ≡ both_in self other instrument }
+    {
+        self.holds(instrument) && other.holds(instrument)
     }
 
     #[tactic(auto, using(crate::proofs::Bits::holds_with))]
@@ -62,6 +68,7 @@ impl InstrumentSet {
     }
 
     /// The instruments of some commands.
+    #[tactic(auto, using(crate::proofs::Bits::holds_none))]
     pub(crate) fn of(commands: &[(InstrumentNo, Verb)]) -> InstrumentSet
         requires { All (λ command. command.0 < 56) commands.now }
         ensures { (i : ℕ) → holds result i ≡ list_any (λ command. command.0 == i) commands.now }
@@ -71,5 +78,34 @@ impl InstrumentSet {
             set = set.with(*instrument);
         }
         set
+    }
+
+    /// How many of the first instruments are in both sets.
+    #[tactic(auto, using(crate::proofs::Ranges::count_more))]
+    pub(crate) fn in_common(self, other: InstrumentSet, instruments: u8) -> u8
+        requires { instruments ≤ 56 }
+        ensures { result ≡ length (filter (both_in self other) (range_with_len 0 instruments)) }
+    {
+        let mut count = 0;
+        for i in 0..instruments {
+            if self.both_hold(other, i) {
+                count += 1;
+            }
+        }
+        count
+    }
+
+    /// Whether one of the first instruments is in both sets.
+    #[tactic(auto, using(crate::proofs::Ranges::any_more))]
+    pub(crate) fn meets(self, other: InstrumentSet, instruments: u8) -> bool
+        requires { instruments ≤ 56 }
+        ensures { result ≡ list_any (both_in self other) (range_with_len 0 instruments) }
+    {
+        for i in 0..instruments {
+            if self.both_hold(other, i) {
+                return true;
+            }
+        }
+        false
     }
 }

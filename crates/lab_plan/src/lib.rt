@@ -6,6 +6,7 @@ mod draft;
 mod instrument_set;
 mod job;
 pub mod name;
+mod naming;
 pub mod numbers;
 pub mod plan;
 pub mod refusal;
