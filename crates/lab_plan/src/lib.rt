@@ -2,7 +2,9 @@
 // the edges of the conflict graph and their bottles.
 #![tactic(auto)]
 
+mod bottles;
 mod draft;
+mod edge_table;
 mod instrument_set;
 mod job;
 pub mod name;
@@ -10,6 +12,8 @@ mod naming;
 pub mod numbers;
 pub mod plan;
 pub mod refusal;
+mod session_table;
+mod tables;
 pub mod verb;
 
 pub use numbers::{EdgeNo, InstrumentNo, JobNo};
