@@ -137,8 +137,8 @@ pub(crate) struct EdgeTable<A: Allocator = Global> {
 
 impl<A: Allocator> Model for EdgeTable<A> {
     ghost use Rattle.std.specs.Prelude.{List, ℕ, length, ◌≤◌, ◌≡◌, map};
-    ghost use Rattle.std.specs.List.{range_with_len};
-    ghost use Rattle.lab_plan.specs.Tables.{AreNumbers, edges_at};
+    ghost use Rattle.std.specs.List.{All, range_with_len};
+    ghost use Rattle.lab_plan.specs.Tables.{IsPair, AreNumbers, edges_at};
 
     ghost Value = { List (ℕ × ℕ) };
 
@@ -146,6 +146,7 @@ impl<A: Allocator> Model for EdgeTable<A> {
 
     ghost invariant = { λ t. record {
       few : length t.pairs.items ≤ 496;
+      fit : All IsPair t.pairs.items;
       places : length t.numbers.items ≡ 1024;
       numbers_are : AreNumbers t.pairs.items t.numbers.items;
       lists_are : t.lists.items ≡ map (edges_at t.pairs.items) (range_with_len 0 32);
@@ -178,7 +179,8 @@ impl<A: Allocator> EdgeTable<A> {
     }
 
     pub(crate) fn pairs(&self) -> &[(JobNo, JobNo)]
-        ensures { result.now ≡ self.now }
+        ensures pairs { result.now ≡ self.now }
+        ensures fit { All IsPair result.now }
     {
         &self.pairs
     }

@@ -27,7 +27,7 @@ impl<A: Allocator> Model for Tables<A> {
 }
 
 impl<A: Allocator> Tables<A> {
-    #[tactic(auto, using(crate::proofs::Small::small, crate::proofs::Crowded::meeting_is, crate::proofs::Crowded::bottles_are))]
+    #[tactic(auto, using(crate::proofs::Small::small))]
     pub(crate) fn new(alloc: A, draft: &Draft<A>) -> Result<Tables<A>, AllocError>
     where
         A: Copy,
