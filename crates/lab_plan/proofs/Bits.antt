@@ -5,7 +5,7 @@ use Rattle.std.specs.Int.{bit_at, w64}
 use Rattle.std.proofs.lemmas.Nat.Bits.{bit_at-lt, bit_at_or, bit_at-zero, bit_at_set_same, bit_at_set_other, shr_and_one}
 use Rattle.lab_plan.specs.Tables.{holds}
 
-bit_cases : (n k : ℕ) → (bit_at n k ≡ 0) ⊎ (bit_at n k ≡ 1)
+pub bit_cases : (n k : ℕ) → (bit_at n k ≡ 0) ⊎ (bit_at n k ≡ 1)
 bit_cases n k = let low = bit_at-lt n k in elim (cases_eq (bit_at n k) 0) [ inl h ↦ inl h | inr h ↦ inr (omega arith) ]
 
 -- the empty set

@@ -1,6 +1,7 @@
 -- The numbers of the pairs of jobs, pair by pair.
 use Rattle.std.proofs.Common.{◌≡◌, ◌⊎◌, ℕ, zero, suc, ◌+◌, ◌*◌, ◌-◌, ◌<◌, ◌≤◌, List, [], ◌∷◌, ◌++◌, Option, None, Some, length, take, replicate, slice_index_or, slice_set, arith, refl, sym, ap, ◌∙◌, subst, inl, inr, get_or-set_same, get_or-set_other, map, zero-add}
 use Rattle.std.specs.List.{slice_get, Contains}
+use Rattle.std.specs.Option.{IfSome, IfNone}
 use Rattle.std.proofs.lemmas.Bool.{cases_eq}
 use Rattle.std.proofs.lemmas.List.{get_or-take, length-take, take_more, get_or_default}
 use Rattle.std.proofs.lemmas.List.Elements.{Contains-push_cases}
@@ -57,3 +58,11 @@ numbers_none pairs numbers n is a b a_below b_below =
 -- the list of a job
 pub list_at : (pairs : List (ℕ × ℕ)) (lists : List (List ℕ)) (j : ℕ) (d : List ℕ) → lists ≡ map (edges_at pairs) (range_with_len 0 32) → j < 32 → slice_index_or lists j d ≡ edges_at pairs j
 list_at pairs lists j d is below = ap (λ ls. slice_index_or ls j d) is ∙ get_or-map-range_with_len (edges_at pairs) 0 32 j j d below (zero-add j)
+
+pub found_is : (pairs : List (ℕ × ℕ)) (pair : ℕ × ℕ) (number : Option ℕ) → IsNumber pairs pair number → IfSome number (λ e. slice_get pairs e ≡ Some pair)
+found_is pairs pair None is = tt
+found_is pairs pair (Some e) is = is
+
+pub none_is : (pairs : List (ℕ × ℕ)) (pair : ℕ × ℕ) (number : Option ℕ) → IsNumber pairs pair number → IfNone number (Contains pairs pair → ⊥)
+none_is pairs pair None is = is
+none_is pairs pair (Some e) is = tt

@@ -1,5 +1,5 @@
 // The edges of a plan: their ends, the number of a pair of jobs, and the edges of each job.
-ghost use Rattle.std.specs.Prelude.{◌≡◌, ℕ, ◌+◌, ◌*◌, ◌<◌, ◌≤◌, ◌++◌, length, filter, map, slice_index_or, IfOk};
+ghost use Rattle.std.specs.Prelude.{◌≡◌, ℕ, ◌+◌, ◌*◌, ◌<◌, ◌≤◌, ◌++◌, length, filter, map, slice_index_or, slice_get, Contains, IfOk, IfSome, IfNone};
 ghost use Rattle.std.specs.List.{All, range_with_len};
 ghost use Rattle.lab_plan.specs.Tables.{meet, row, meeting, IsPair, AreNumbers, IsNumber, has_end, edges_at};
 ghost use Rattle.lab_plan.specs.LabPlan.{lower_first};
@@ -192,13 +192,24 @@ impl<A: Allocator> EdgeTable<A> {
         self.pairs[edge.0 as usize]
     }
 
+    fn number(&self, low: JobNo, high: JobNo) -> Option<EdgeNo>
+        requires low { low < 32 }
+        requires high { high < 32 }
+        ensures { IsNumber self.now (low, high) result }
+    {
+        self.numbers[slot(low, high)]
+    }
+
+    /// The edge of two jobs, in either order.
+    #[tactic(auto, using(crate::proofs::PairNumbers::found_is, crate::proofs::PairNumbers::none_is))]
     pub(crate) fn edge_of(&self, a: JobNo, b: JobNo) -> Option<EdgeNo>
         requires a { a < 32 }
         requires b { b < 32 }
-        ensures { IsNumber self.now (lower_first a b) result }
+        ensures found { IfSome result (λ e. slice_get self.now e ≡ Some (lower_first a b)) }
+        ensures none { IfNone result (¬ Contains self.now (lower_first a b)) }
     {
         let (low, high) = lower_first(a, b);
-        self.numbers[slot(low, high)]
+        self.number(low, high)
     }
 
     #[tactic(auto, using(crate::proofs::PairNumbers::list_at))]

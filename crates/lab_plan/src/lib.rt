@@ -10,6 +10,7 @@ mod job;
 pub mod name;
 mod naming;
 pub mod numbers;
+pub mod place;
 pub mod plan;
 pub mod refusal;
 mod session_table;
@@ -17,6 +18,7 @@ mod tables;
 pub mod verb;
 
 pub use numbers::{EdgeNo, InstrumentNo, JobNo};
+pub use place::Place;
 pub use plan::Plan;
 pub use refusal::PlanRefusal;
 pub use verb::Verb;

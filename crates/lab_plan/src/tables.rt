@@ -1,13 +1,14 @@
 // The tables of a plan, made from its draft in one go.
-ghost use Rattle.std.specs.Prelude.{◌≡◌, ℕ, IfOk};
+ghost use Rattle.std.specs.Prelude.{◌≡◌, ℕ, ◌-◌, ◌<◌, ◌≤◌, [], length, slice_index_or, IfOk};
 ghost use Rattle.lab_plan.specs.IsPlan.{IsDraft};
-ghost use Rattle.lab_plan.specs.Tables.{AreTablesOf};
+ghost use Rattle.lab_plan.specs.Tables.{AreTablesOf, no_table};
 
 use crate::bottles::{bottles_of_all, Bottles};
 use crate::draft::Draft;
 use crate::edge_table::EdgeTable;
 use crate::naming::Naming;
-use crate::session_table::{job_tables, JobTable};
+use crate::numbers::{EdgeNo, JobNo};
+use crate::session_table::{job_tables, JobTable, SessionTable};
 use std::alloc::{AllocError, Allocator, Global};
 use std::marker::Model;
 
@@ -43,5 +44,28 @@ impl<A: Allocator> Tables<A> {
             bottles,
             jobs,
         })
+    }
+
+    pub(crate) fn edges(&self) -> &EdgeTable<A>
+        ensures { result.now ≡ self.now.pairs }
+    {
+        &self.edges
+    }
+
+    pub(crate) fn bottles(&self, edge: EdgeNo) -> &Bottles<A>
+        requires { edge < length self.now.bottle_lists }
+        ensures { result.now ≡ slice_index_or self.now.bottle_lists edge [] }
+    {
+        &self.bottles[edge.0 as usize]
+    }
+
+    /// The table of a session, counted from 1.
+    pub(crate) fn session(&self, job: JobNo, session: u32) -> &SessionTable<A>
+        requires is_job { job < length self.now.job_tables }
+        requires begun { 1 ≤ session }
+        requires is_session { session ≤ length (slice_index_or self.now.job_tables job []) }
+        ensures { result.now ≡ slice_index_or (slice_index_or self.now.job_tables job []) (session - 1) no_table }
+    {
+        self.jobs[job.0 as usize].session(session)
     }
 }
