@@ -104,3 +104,13 @@ abbrev pub Does : Option PlanRefusal → LabPlan → LabPlan → Result (Unit {0
 Does refusal wanted old (Ok _) new = (refusal ≡ None) × (new ≡ wanted)
 Does refusal wanted old (Err NoMemory) new = (refusal ≡ None) × (new ≡ old)
 Does refusal wanted old (Err cause) new = (refusal ≡ Some cause) × (new ≡ old)
+
+-- a cause as the refusals have it, which leave want of memory out
+abbrev pub but_memory : PlanRefusal → Option PlanRefusal
+but_memory NoMemory = None
+but_memory cause = Some cause
+
+-- what finishing answers: the plan, or the cause and the builder as it was; want of memory comes last
+abbrev pub Finishes : Option PlanRefusal → LabPlan → Result LabPlan (PlanRefusal × LabPlan) → Type 0
+Finishes refusal plan (Ok made) = (refusal ≡ None) × (made ≡ plan)
+Finishes refusal plan (Err refused) = (refusal ≡ but_memory refused.0) × (refused.1 ≡ plan)

@@ -1,13 +1,18 @@
 // Building a plan, one line of its script at a time.
-ghost use Rattle.std.specs.Prelude.{◌≡◌, ℕ, ◌<◌, ◌≤◌, length, None, Some, true, IsTrue, ◌↔◌, ◌&&◌, ◌||◌, nat_le};
+ghost use Rattle.std.specs.Prelude.{◌≡◌, ℕ, ◌<◌, ◌≤◌, length, None, Some, true, IsTrue, ◌↔◌, ◌&&◌, ◌||◌, nat_le, IfOk, IfErr, OnOk};
 ghost use Rattle.std.specs.Option.{ForSome};
 ghost use Rattle.lab_plan.specs.LabPlan.{LabPlan, all_commands};
+ghost use Rattle.lab_plan.specs.IsPlan.{IsPlan};
+ghost use Rattle.lab_plan.specs.Tables.{AreTablesOf};
 ghost use Rattle.lab_plan.specs.Names.{IsName};
 ghost use Rattle.lab_plan.specs.Verbs.{Fits};
-ghost use Rattle.lab_plan.specs.Building.{empty_plan, with_job, with_session, with_command, has_session, job_refusal, session_refusal, command_refusal, Does};
+ghost use Rattle.lab_plan.specs.Building.{empty_plan, with_job, with_session, with_command, has_session, job_refusal, session_refusal, command_refusal, finish_refusal, but_memory, Does, Finishes};
 
 use crate::draft::Draft;
+use crate::naming::has_too_many_in_common;
+use crate::plan::Plan;
 use crate::refusal::PlanRefusal;
+use crate::tables::Tables;
 use crate::verb::Verb;
 use std::alloc::{AllocError, Allocator, Global};
 use std::marker::Model;
@@ -157,5 +162,34 @@ impl<A: Allocator + Copy> PlanBuilder<A> {
         ensures { result ≡ nat_le 100000 (length (all_commands self.now)) || (is_new && nat_le 56 (length self.now.instruments)) }
     {
         self.commands >= 100_000 || is_new && self.draft.instruments() >= 56
+    }
+
+    /// The finished plan. A refusal hands the builder back as it was.
+    pub fn finish(self) -> Result<Plan<A>, (PlanRefusal, PlanBuilder<A>)>
+        ensures { Finishes (finish_refusal self) self result }
+    {
+        match self.tables() {
+            Ok(tables) => {
+                let PlanBuilder { draft, .. } = self;
+                Ok(Plan::new(draft, tables))
+            }
+            Err(cause) => Err((cause, self)),
+        }
+    }
+
+    /// The tables of the plan as it stands, where it is a whole one.
+    #[tactic(auto, using(crate::proofs::Closed::finished))]
+    fn tables(&self) -> Result<Tables<A>, PlanRefusal>
+        ensures tables { IfOk result (λ tables. (finish_refusal self.now ≡ None) × AreTablesOf self.now tables) }
+        ensures plan { OnOk result (IsPlan self.now) }
+        ensures refused { IfErr result (λ cause. finish_refusal self.now ≡ but_memory cause) }
+    {
+        if self.draft.is_bare() {
+            return Err(PlanRefusal::SessionEmpty);
+        }
+        if has_too_many_in_common(&self.draft) {
+            return Err(PlanRefusal::TooManyInCommon);
+        }
+        Ok(Tables::new(self.alloc, &self.draft)?)
     }
 }
