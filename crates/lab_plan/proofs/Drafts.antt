@@ -119,18 +119,19 @@ firsts_push (x ∷ ns) n =
     let q : ℕ → Bool = λ m. m == n in
     ap (λ l. x ∷ filter p l) (firsts_push ns n) ∙ ⊎_elim
     (λ is.
-      let out : p n ≡ false = grind (arith, nat_tests, is) in
-      found x n (filter p) (firsts ns) (list_any q (firsts ns)) (list_any q (filter p (firsts ns))) is (gone p (firsts ns) n out))
+    let out : p n ≡ false = grind (arith, nat_tests, is) in
+    found x n (filter p) (firsts ns) (list_any q (firsts ns)) (list_any q (filter p (firsts ns))) is (gone p (firsts ns) n out))
     (λ is.
-      let keeps : (m : ℕ) → q m ≡ true → p m ≡ true = λ m e. grind (arith, nat_tests, is, e) in
-      let inside : p n ≡ true = keeps n (grind (arith, nat_tests)) in
-      missed x n (filter p) (firsts ns) (list_any q (firsts ns)) (list_any q (filter p (firsts ns))) is (any_kept q p (firsts ns) keeps) (left p (firsts ns) n inside))
+    let keeps : (m : ℕ) → q m ≡ true → p m ≡ true = λ m e. grind (arith, nat_tests, is, e) in
+    let inside : p n ≡ true = keeps n (grind (arith, nat_tests)) in
+    missed x n (filter p) (firsts ns) (list_any q (firsts ns)) (list_any q (filter p (firsts ns))) is (any_kept q p (firsts ns) keeps) (left p (firsts ns) n inside))
     (cases_Bool (x == n))
   where
     found : (x n : ℕ) (f : List ℕ → List ℕ) (ns : List ℕ) (a b : Bool) → (x == n) ≡ true → f (ns ++ n ∷ []) ≡ f ns
         → x ∷ f (if a then ns else ns ++ n ∷ []) ≡ (if (x == n) || b then x ∷ f ns else (x ∷ f ns) ++ n ∷ [])
     found x n f ns true b is out = rw is refl
     found x n f ns false b is out = rw is (ap (λ l. x ∷ l) out)
+
     missed : (x n : ℕ) (f : List ℕ → List ℕ) (ns : List ℕ) (a b : Bool) → (x == n) ≡ false → b ≡ a → f (ns ++ n ∷ []) ≡ f ns ++ n ∷ []
         → x ∷ f (if a then ns else ns ++ n ∷ []) ≡ (if (x == n) || b then x ∷ f ns else (x ∷ f ns) ++ n ∷ [])
     missed x n f ns true b is same more = rw (is, same) refl
@@ -256,10 +257,10 @@ in_order_with_command name verb plan some h =
     ∙ ⊎_elim
     (λ is. rw (is, any_range 0 n i (omega arith) (omega (arith, number_old name plan is))) refl)
     (λ is.
-      let new : i ≡ n = number_new name plan is in
-      let more : length (plan.instruments ++ name ∷ []) ≡ suc n = omega (arith, length_push plan.instruments name) in
-      let next : 0 + n ≡ i = omega (arith, new) in
-      rw (is, none_range 0 n i (omega (arith, new)), more) (ap (λ m. range_with_len 0 n ++ m ∷ []) (sym next) ∙ sym (range_push 0 n)))
+    let new : i ≡ n = number_new name plan is in
+    let more : length (plan.instruments ++ name ∷ []) ≡ suc n = omega (arith, length_push plan.instruments name) in
+    let next : 0 + n ≡ i = omega (arith, new) in
+    rw (is, none_range 0 n i (omega (arith, new)), more) (ap (λ m. range_with_len 0 n ++ m ∷ []) (sym next) ∙ sym (range_push 0 n)))
     (cases_Bool (is_instrument name plan))
 
 pub draft_with_command : (name : List ℕ) (verb : Verb) (plan : LabPlan) → IsDraft plan → has_session plan ≡ true → IsName name → Fits verb → is_past_limit name plan ≡ false → IsDraft (with_command name verb plan)
@@ -267,19 +268,19 @@ draft_with_command name verb plan draft some good fits within =
     let i = instrument_number name plan in
     let m = length (with_command name verb plan).instruments in
     record {
-  version = draft.version;
-  few_jobs = omega (arith, same_length (in_last_session i verb) plan.jobs, draft.few_jobs);
-  few_instruments = (room name verb plan draft.few_instruments within).1;
-  few_sessions = everywhere_kept (λ (j : JobPlan). length j.sessions ≤ 1000) no_job (in_last_session i verb) plan.jobs draft.few_sessions (λ j h. omega (arith, h, same_length (and_command i verb) j.sessions));
-  few_commands = omega (arith, commands_with_command name verb plan some, (room name verb plan draft.few_instruments within).0);
-  job_names = all_kept (λ (j : JobPlan). j.name) IsName (in_last_session i verb) (λ j. refl) plan.jobs draft.job_names;
-  jobs_distinct = pairs_kept (λ (j : JobPlan). j.name) (λ a b. a ≢ b) (in_last_session i verb) (λ j. refl) plan.jobs draft.jobs_distinct;
-  instrument_names = names_kept name plan.instruments good draft.instrument_names;
-  instruments_distinct = distinct_kept name plan.instruments draft.instruments_distinct;
-  named = λ j s. each_with_command (NamesBelow m) name verb plan
-    (λ session h. All-push (λ (command : ℕ × Verb). command.0 < m) session.commands (i, verb) h (number_there name verb plan).0)
-    (each (NamesBelow m) plan (λ a b k d inside. omega (arith, draft.named a b k d inside, (number_there name verb plan).1))) j (s - 1);
-  in_order = in_order_with_command name verb plan some draft.in_order;
-  fit = λ j s. each_with_command FitsAll name verb plan (λ session h. All-push (λ (command : ℕ × Verb). Fits command.1) session.commands (i, verb) h fits) (each FitsAll plan draft.fit) j (s - 1);
-  patient = λ j s. each_with_command (IsPatient plan.version) name verb plan (λ session h. h) (each (IsPatient plan.version) plan draft.patient) j (s - 1);
-}
+      version = draft.version;
+      few_jobs = omega (arith, same_length (in_last_session i verb) plan.jobs, draft.few_jobs);
+      few_instruments = (room name verb plan draft.few_instruments within).1;
+      few_sessions = everywhere_kept (λ (j : JobPlan). length j.sessions ≤ 1000) no_job (in_last_session i verb) plan.jobs draft.few_sessions (λ j h. omega (arith, h, same_length (and_command i verb) j.sessions));
+      few_commands = omega (arith, commands_with_command name verb plan some, (room name verb plan draft.few_instruments within).0);
+      job_names = all_kept (λ (j : JobPlan). j.name) IsName (in_last_session i verb) (λ j. refl) plan.jobs draft.job_names;
+      jobs_distinct = pairs_kept (λ (j : JobPlan). j.name) (λ a b. a ≢ b) (in_last_session i verb) (λ j. refl) plan.jobs draft.jobs_distinct;
+      instrument_names = names_kept name plan.instruments good draft.instrument_names;
+      instruments_distinct = distinct_kept name plan.instruments draft.instruments_distinct;
+      named = λ j s. each_with_command (NamesBelow m) name verb plan
+          (λ session h. All-push (λ (command : ℕ × Verb). command.0 < m) session.commands (i, verb) h (number_there name verb plan).0)
+          (each (NamesBelow m) plan (λ a b k d inside. omega (arith, draft.named a b k d inside, (number_there name verb plan).1))) j (s - 1);
+      in_order = in_order_with_command name verb plan some draft.in_order;
+      fit = λ j s. each_with_command FitsAll name verb plan (λ session h. All-push (λ (command : ℕ × Verb). Fits command.1) session.commands (i, verb) h fits) (each FitsAll plan draft.fit) j (s - 1);
+      patient = λ j s. each_with_command (IsPatient plan.version) name verb plan (λ session h. h) (each (IsPatient plan.version) plan draft.patient) j (s - 1);
+    }

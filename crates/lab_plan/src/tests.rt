@@ -1,10 +1,11 @@
 // What no clause says of the builder: that its calls succeed, and go on once memory is there again.
 use crate::name::is_name;
-use crate::{PlanBuilder, PlanRefusal, Verb};
-use linked_list_allocator::LocalHeap;
-use std::alloc::{Allocator, Global};
+use crate::{EdgeNo, InstrumentNo, JobNo, Plan, PlanBuilder, PlanRefusal, Verb};
+use std::alloc::Allocator;
 use std::process::Abort;
-use std::test::Fail;
+
+mod limits;
+mod memory;
 
 #[derive(Clone, Copy)]
 enum Line<'a> {
@@ -15,7 +16,11 @@ enum Line<'a> {
 }
 
 /// Adds a line, having seen to what its call requires.
-fn put<A: Allocator + Copy>(rt: &impl Abort, builder: &mut PlanBuilder<A>, line: Line) -> Result<(), PlanRefusal> {
+fn put<A: Allocator + Copy>(
+    rt: &impl Abort,
+    builder: &mut PlanBuilder<A>,
+    line: Line,
+) -> Result<(), PlanRefusal> {
     match line {
         Line::Job(name) => {
             assert!(rt; is_name(name));
@@ -48,78 +53,59 @@ fn name_of(number: usize) -> [u8; 2] {
     [letter(number / 26), letter(number)]
 }
 
-#[test]
-fn names_by_their_grammar(rt: HostRuntime) {
-    for name in [b"a".as_slice(), b"z9-", b"a-b-c", b"balance", b"abcdefghijklmnop", b"labs", b"jo", b"a1"] {
-        assert!(rt; is_name(name));
-    }
-    for name in [b"".as_slice(), b"1a", b"-a", b"A", b"aB", b"a_b", b"a b", b"a\r", b"{", b"`", b"a/", b"a:", b"\xff", b"abcdefghijklmnopq"] {
-        assert!(rt; !is_name(name));
-    }
-    for word in [b"lab".as_slice(), b"job", b"session", b"end", b"steps", b"patience"] {
-        assert!(rt; !is_name(word));
+/// Two jobs that have the first instruments in common.
+fn share<A: Allocator + Copy>(rt: &impl Abort, builder: &mut PlanBuilder<A>, instruments: usize) {
+    for job in [b"one", b"two"] {
+        put_all(rt, builder, &[Line::Job(job), Line::Session]);
+        for number in 0..instruments {
+            put_all(rt, builder, &[Line::Command(&name_of(number), Verb::Read)]);
+        }
     }
 }
 
-#[test]
-fn verbs_up_to_the_dial(rt: HostRuntime) {
-    assert!(rt; Verb::Set(999_999).fits() && Verb::Add(999_999).fits() && Verb::Read.fits());
-    assert!(rt; !Verb::Set(1_000_000).fits() && !Verb::Add(1_000_000).fits());
-}
+/// Two jobs with lamp in common, of the names' longest size.
+const EXAMPLE: [Line<'static>; 11] = [
+    Line::Job(b"grow-some-cells1"),
+    Line::Session,
+    Line::Command(b"lamp", Verb::Set(7)),
+    Line::Command(b"sixteen-bytes-it", Verb::Add(999_999)),
+    Line::Command(b"lamp", Verb::Read),
+    Line::Session,
+    Line::Command(b"pump", Verb::Read),
+    Line::Job(b"idle"),
+    Line::Job(b"wash"),
+    Line::Session,
+    Line::Command(b"lamp", Verb::Add(1)),
+];
 
-#[test]
-fn at_most_32_jobs(rt: HostRuntime) {
-    let mut builder = PlanBuilder::new(rt.alloc());
-    assert!(rt; !builder.has_job() && !builder.has_session() && builder.version() == 1);
-    for number in 0..32 {
-        assert!(rt; put(&rt, &mut builder, Line::Job(&name_of(number))).is_ok());
-    }
-    assert!(rt; builder.has_job() && !builder.has_session());
-    assert!(rt; put(&rt, &mut builder, Line::Job(b"one-more")) == Err(PlanRefusal::LimitPassed));
-    // a job that is there comes before the limit
-    assert!(rt; put(&rt, &mut builder, Line::Job(b"aa")) == Err(PlanRefusal::JobTwice));
-    put_all(&rt, &mut builder, &[Line::Session]);
-    // an empty session comes before both
-    assert!(rt; put(&rt, &mut builder, Line::Job(b"aa")) == Err(PlanRefusal::SessionEmpty));
-    assert!(rt; put(&rt, &mut builder, Line::Job(b"one-more")) == Err(PlanRefusal::SessionEmpty));
-}
-
-#[test]
-fn at_most_56_instruments(rt: HostRuntime) {
-    let mut builder = PlanBuilder::new(rt.alloc());
-    put_all(&rt, &mut builder, &[Line::Job(b"one"), Line::Session]);
-    for number in 0..56 {
-        assert!(rt; put(&rt, &mut builder, Line::Command(&name_of(number), Verb::Read)).is_ok());
-    }
-    assert!(rt; put(&rt, &mut builder, Line::Command(b"new", Verb::Read)) == Err(PlanRefusal::LimitPassed));
-    assert!(rt; put(&rt, &mut builder, Line::Command(b"cd", Verb::Read)).is_ok());
-}
-
-#[test]
-fn at_most_1000_sessions_a_job(rt: HostRuntime) {
-    let mut builder = PlanBuilder::new_two(rt.alloc());
-    put_all(&rt, &mut builder, &[Line::Job(b"one")]);
-    for _ in 0..999 {
-        put_all(&rt, &mut builder, &[Line::Session, Line::Command(b"lamp", Verb::Read)]);
-    }
-    put_all(&rt, &mut builder, &[Line::Patient(999_999)]);
-    // an empty session comes before the limit
-    assert!(rt; put(&rt, &mut builder, Line::Session) == Err(PlanRefusal::SessionEmpty));
-    assert!(rt; put(&rt, &mut builder, Line::Patient(0)) == Err(PlanRefusal::SessionEmpty));
-    put_all(&rt, &mut builder, &[Line::Command(b"lamp", Verb::Read)]);
-    assert!(rt; put(&rt, &mut builder, Line::Session) == Err(PlanRefusal::LimitPassed));
-    assert!(rt; put(&rt, &mut builder, Line::Patient(0)) == Err(PlanRefusal::LimitPassed));
-    put_all(&rt, &mut builder, &[Line::Job(b"two"), Line::Session]);
-}
-
-#[test]
-fn at_most_100000_commands(rt: HostRuntime) {
-    let mut builder = PlanBuilder::new(rt.alloc());
-    put_all(&rt, &mut builder, &[Line::Job(b"one"), Line::Session]);
-    for _ in 0..100_000 {
-        assert!(rt; put(&rt, &mut builder, Line::Command(b"lamp", Verb::Add(1))).is_ok());
-    }
-    assert!(rt; put(&rt, &mut builder, Line::Command(b"lamp", Verb::Read)) == Err(PlanRefusal::LimitPassed));
-    put_all(&rt, &mut builder, &[Line::Session]);
-    assert!(rt; put(&rt, &mut builder, Line::Command(b"lamp", Verb::Read)) == Err(PlanRefusal::LimitPassed));
+/// What the example's plan has to be.
+fn check_example<A: Allocator>(rt: &impl Abort, plan: &Plan<A>) {
+    let (lamp, sixteen, pump) = (InstrumentNo(0), InstrumentNo(1), InstrumentNo(2));
+    assert!(rt;
+        plan.version() == 1 && plan.jobs() == 3 && plan.instruments() == 3 && plan.edges() == 1
+    );
+    assert!(rt;
+        plan.job_name(JobNo(0)) == b"grow-some-cells1".as_slice()
+            && plan.job_name(JobNo(2)) == b"wash".as_slice()
+    );
+    assert!(rt;
+        plan.instrument_name(sixteen) == b"sixteen-bytes-it".as_slice()
+            && plan.instrument_name(pump) == b"pump".as_slice()
+    );
+    assert!(rt;
+        plan.sessions(JobNo(0)) == 2 && plan.sessions(JobNo(1)) == 0 && plan.sessions(JobNo(2)) == 1
+    );
+    assert!(rt;
+        plan.commands(JobNo(0), 1)
+            == [
+                (lamp, Verb::Set(7)),
+                (sixteen, Verb::Add(999_999)),
+                (lamp, Verb::Read)
+            ]
+            .as_slice()
+    );
+    assert!(rt; plan.commands(JobNo(0), 2) == [(pump, Verb::Read)].as_slice());
+    assert!(rt; plan.commands(JobNo(2), 1) == [(lamp, Verb::Add(1))].as_slice());
+    assert!(rt; plan.patience(JobNo(0), 1).is_none());
+    assert!(rt; plan.ends(EdgeNo(0)) == (JobNo(0), JobNo(2)));
 }
