@@ -5,3 +5,4 @@ pub mod IsPlan
 pub mod Building
 pub mod Texts
 pub mod Upgrade
+pub mod Tables
