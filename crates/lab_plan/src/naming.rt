@@ -3,7 +3,8 @@ ghost use Rattle.std.specs.Prelude.{◌≡◌, ℕ, ◌<◌, ◌≤◌, length, 
 ghost use Rattle.std.specs.List.{All, list_any};
 ghost use Rattle.lab_plan.specs.IsPlan.{IsDraft};
 ghost use Rattle.lab_plan.specs.Building.{has_too_many_in_common};
-ghost use Rattle.lab_plan.specs.Tables.{holds, AreNaming, HasSmall, job_names, meet, are_crowded, row, rows};
+ghost use Rattle.lab_plan.specs.InstrumentSets.{holds};
+ghost use Rattle.lab_plan.specs.NamedBy.{AreNaming, HasSmall, job_names, meet, are_crowded, row, rows};
 
 use crate::draft::Draft;
 use crate::instrument_set::InstrumentSet;
@@ -85,9 +86,7 @@ impl Naming {
         requires instruments { self.now.instruments ≤ 56 }
         ensures { result ≡ are_crowded self.now.sets self.now.instruments (low, high) }
     {
-        self.set(low)
-            .in_common(self.set(high), self.instruments)
-            > 28
+        self.set(low).in_common(self.set(high), self.instruments) > 28
     }
 
     #[tactic(auto, using(crate::proofs::Pairs::row_none, crate::proofs::Pairs::any_row_more))]

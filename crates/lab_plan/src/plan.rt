@@ -37,7 +37,8 @@ impl<A: Allocator> Model for Plan<A> {
 impl<A: Allocator> Plan<A> {
     ghost use Rattle.lab_plan.specs.LabPlan.{edges, ends, edges_of, lower_first, bottles, sessions, commands, patience, session_names, part, place_at, length_at, job_at};
     ghost use Rattle.lab_plan.specs.IsPlan.{IsPlan};
-    ghost use Rattle.lab_plan.specs.Tables.{AreTablesOf, IsTable};
+    ghost use Rattle.lab_plan.specs.SessionTables.{IsTable};
+    ghost use Rattle.lab_plan.specs.Tables.{AreTablesOf};
 
     pub(crate) fn new(draft: Draft<A>, tables: Tables<A>) -> Plan<A>
         requires plan { IsPlan draft }
@@ -140,8 +141,7 @@ impl<A: Allocator> Plan<A> {
     /// The bottle of an instrument on an edge, where both its jobs name it.
     #[tactic(auto, using(crate::proofs::Readers::few_bottles))]
     pub fn bottle_of(&self, edge: EdgeNo, instrument: InstrumentNo) -> Option<u32>
-        requires is_edge { edge < length (edges self.now) }
-        requires is_instrument { instrument < length self.now.instruments }
+        requires { edge < length (edges self.now) }
         ensures found { IfSome result (λ k. slice_get (bottles self.now edge) k ≡ Some instrument) }
         ensures none { IfNone result (¬ Contains (bottles self.now edge) instrument) }
     {
