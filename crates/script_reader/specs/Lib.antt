@@ -1,0 +1,4 @@
+pub mod Number
+pub mod Fields
+pub mod Line
+pub mod Form
