@@ -1,1 +1,4 @@
 pub mod FieldLemmas
+pub mod OnLast
+pub mod OneMore
+pub mod Namings

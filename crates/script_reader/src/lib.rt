@@ -3,6 +3,9 @@
 // goes over the lines once, with a state that says all that the lines before say.
 #![tactic(auto)]
 
+pub mod fault;
 mod field;
 mod form;
 mod number;
+
+pub use fault::{ScriptCause, ScriptFault};
