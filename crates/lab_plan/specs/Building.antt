@@ -1,6 +1,7 @@
 -- Building a plan, one line at a time.
-use Rattle.std.specs.Prelude.{◌≡◌, ℕ, ◌-◌, ◌<◌, Bool, ◌&&◌, ◌||◌, not, nat_le, nat_lt, ◌==◌, List, [], ◌∷◌, ◌++◌, length, Option, None, Some, Result, Ok, Err, slice_index_or, if◌then◌else◌}
+use Rattle.std.specs.Prelude.{◌≡◌, ℕ, ◌-◌, ◌<◌, Bool, true, false, ◌&&◌, ◌||◌, not, nat_le, nat_lt, ◌==◌, List, [], ◌∷◌, ◌++◌, length, Option, None, Some, Result, Ok, Err, slice_index_or, if◌then◌else◌}
 use Rattle.std.specs.List.{list_any, position_or_len}
+use Rattle.std.specs.Option.{MatchOption}
 use Rattle.std.specs.Str.{bytes_eq}
 use Rattle.lab_plan.specs.declared.verb.Verb.{Verb}
 use Rattle.lab_plan.specs.declared.refusal.PlanRefusal.{PlanRefusal}
@@ -36,6 +37,10 @@ instrument_number name plan = position_or_len (bytes_eq name) plan.instruments
 
 abbrev pub is_instrument : List ℕ → LabPlan → Bool
 is_instrument name plan = list_any (bytes_eq name) plan.instruments
+
+-- the place of a name among the instruments, or that it has none
+abbrev pub IsPlace : List ℕ → LabPlan → Option ℕ → Type 0
+IsPlace name plan place = MatchOption place ((is_instrument name plan ≡ false) × (instrument_number name plan ≡ length plan.instruments)) (λ i. (is_instrument name plan ≡ true) × (i ≡ instrument_number name plan) × (i < length plan.instruments))
 
 -- one more command of the last session of the last job
 abbrev pub and_command : ℕ → Verb → SessionPlan → SessionPlan

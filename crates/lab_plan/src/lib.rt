@@ -2,6 +2,7 @@
 // the edges of the conflict graph and their bottles.
 #![tactic(auto)]
 
+pub mod builder;
 mod draft;
 mod job;
 pub mod name;
@@ -10,6 +11,7 @@ pub mod plan;
 pub mod refusal;
 pub mod verb;
 
+pub use builder::PlanBuilder;
 pub use numbers::{EdgeNo, InstrumentNo, JobNo};
 pub use plan::Plan;
 pub use refusal::PlanRefusal;
