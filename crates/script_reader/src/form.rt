@@ -8,9 +8,23 @@ use crate::field::{is_blank, next_field, one_field, two_fields};
 
 /// The version of a script.
 #[derive(Clone, Copy, PartialEq, Eq, Debug)]
-pub enum Version {
+pub(crate) enum Version {
     One,
     Two,
+}
+
+impl Version {
+    ghost use Rattle.script_reader.specs.State.{is_two};
+
+    /// Whether sessions may have a patience.
+    pub(crate) fn is_two(self) -> bool
+        ensures { result ≡ is_two self }
+    {
+        match self {
+            Version::One => false,
+            Version::Two => true,
+        }
+    }
 }
 
 /// A verb, with its number as it is spelled.

@@ -7,5 +7,6 @@ pub mod fault;
 mod field;
 mod form;
 mod number;
+mod reader;
 
 pub use fault::{ScriptCause, ScriptFault};

@@ -1,5 +1,5 @@
 // Numbers as they are spelled in a script.
-ghost use Rattle.std.specs.Prelude.{◌≡◌, true};
+ghost use Rattle.std.specs.Prelude.{◌≡◌, ◌≤◌, true};
 ghost use Rattle.std.specs.List.{list_all};
 ghost use Rattle.lab_plan.specs.Names.{is_digit};
 ghost use Rattle.script_reader.specs.Number.{is_number, number_of};
@@ -32,7 +32,8 @@ pub(crate) fn is_number(bytes: &[u8]) -> bool
 /// The number that the bytes spell.
 pub(crate) fn number_of(bytes: &[u8]) -> u32
     requires { is_number bytes.now ≡ true }
-    ensures { result ≡ number_of bytes.now }
+    ensures number { result ≡ number_of bytes.now }
+    ensures small { result ≤ 999999 }
 {
     let mut number = 0u32;
     for byte in bytes {
