@@ -6,3 +6,5 @@ pub mod Counts
 pub mod After
 pub mod Meets
 pub mod Tied
+pub mod ReaderLoop
+pub mod OneMeaning

@@ -1,6 +1,6 @@
 -- What holds between two lines is kept, and a command line brings one command.
 use Rattle.std.proofs.Common.{◌≡◌, ℕ, ◌+◌, ◌-◌, ◌<◌, Bool, true, false, cond, if◌then◌else◌, not, ◌&&◌, List, [], ◌∷◌, ◌++◌, length, get_or, refl, sym, ap, ◌∙◌, subst, arith, suc, zero, length-append}
-use Rattle.std.specs.Prelude.{Option, None, Some, nat_le, nat_lt, ◌==◌}
+use Rattle.std.specs.Prelude.{Option, None, Some, nat_le, nat_lt, ◌==◌, reverse}
 use Rattle.std.specs.List.{list_any, flat_map}
 use Rattle.std.proofs.lemmas.Bool.Decides.{Decides-ltb, Decides-eqb}
 use Rattle.std.proofs.lemmas.Bool.{not-false, false_from_ne_true}
@@ -10,12 +10,13 @@ use Rattle.lab_plan.specs.Names.{is_name}
 use Rattle.lab_plan.specs.Building.{on_last, and_session, and_command, in_last_session, instrument_number, with_job, with_session, with_command, last_job, last_session, has_session, is_bare, is_job, is_past_limit}
 use Rattle.script_reader.specs.declared.fault.ScriptCause.{ScriptCause}
 use Rattle.script_reader.specs.declared.fault.ScriptCause.TheVariants.{NoHeader, UnknownWord, SessionNotClosed, NotInJob, NotInSession, BadName, BadNumber, JobTwice, EmptySession, LimitPassed}
+use Rattle.script_reader.specs.declared.form.Version.{Version}
 use Rattle.script_reader.specs.declared.form.Version.TheVariants.{One, Two}
 use Rattle.script_reader.specs.Line.{Line, Header, Job, Session, PatientSession, Command, End, Steps, Unknown, VerbText, verb_number, is_command}
 use Rattle.script_reader.specs.Number.{is_number, number_of}
-use Rattle.script_reader.specs.Plan.{verb_of}
-use Rattle.script_reader.specs.Script.{has}
-use Rattle.script_reader.specs.State.{State, cause_in, session_cause, many_sessions, after, at, IsTied, is_two}
+use Rattle.script_reader.specs.Plan.{plan_of, verb_of}
+use Rattle.script_reader.specs.Script.{has, count, is_empty}
+use Rattle.script_reader.specs.State.{State, state_of, cause_in, session_cause, many_sessions, after, at, IsTied, is_two}
 use Rattle.script_reader.proofs.OnLast.{last_pushed, last_changed, same_length}
 use Rattle.script_reader.proofs.After.{none}
 
@@ -121,23 +122,67 @@ IsTied-after s Unknown h e = let first = (none s.fresh NoHeader (Some UnknownWor
 
 -- ---- the number of commands
 
-flat_on_last : {A B : Type 0} (f : A → List B) (change : A → A) (xs : List A) (d : A) → 0 < length xs → length (f (change (get_or xs (length xs - 1) d))) ≡ length (f (get_or xs (length xs - 1) d)) + 1
-    → length (flat_map f (on_last change xs)) ≡ length (flat_map f xs) + 1
-flat_on_last f change [] d inside e = absurd (omega arith)
-flat_on_last f change (x ∷ []) d inside e =
+flat_on_last : {A B : Type 0} (k : ℕ) (f : A → List B) (change : A → A) (xs : List A) (d : A) → 0 < length xs → length (f (change (get_or xs (length xs - 1) d))) ≡ length (f (get_or xs (length xs - 1) d)) + k
+    → length (flat_map f (on_last change xs)) ≡ length (flat_map f xs) + k
+flat_on_last k f change [] d inside e = absurd (omega arith)
+flat_on_last k f change (x ∷ []) d inside e =
     let one = length-append (f (change x)) [] in
     let other = length-append (f x) [] in
     omega (arith, one, other, e)
-flat_on_last f change (x ∷ y ∷ xs) d inside e =
+flat_on_last k f change (x ∷ y ∷ xs) d inside e =
     let less : length (x ∷ y ∷ xs) - 1 ≡ suc (length (y ∷ xs) - 1) = omega arith in
-    let more = flat_on_last f change (y ∷ xs) d (omega arith) (rw less at e) in
+    let more = flat_on_last k f change (y ∷ xs) d (omega arith) (rw less at e) in
     let one = length-append (f x) (flat_map f (on_last change (y ∷ xs))) in
     let other = length-append (f x) (flat_map f (y ∷ xs)) in
     omega (arith, more, one, other)
 
-pub one_command : (plan : LabPlan) (name : List ℕ) (verb : Verb) → has_session plan ≡ true → length (all_commands (with_command name verb plan)) ≡ length (all_commands plan) + 1
+abbrev commands_of_job : JobPlan → List (ℕ × Verb)
+commands_of_job job = flat_map (λ (session : SessionPlan). session.commands) job.sessions
+
+one_command : (plan : LabPlan) (name : List ℕ) (verb : Verb) → has_session plan ≡ true → length (all_commands (with_command name verb plan)) ≡ length (all_commands plan) + 1
 one_command plan name verb h =
     let i = instrument_number name plan in
-    flat_on_last (λ job. flat_map (λ session. session.commands) job.sessions) (in_last_session i verb) plan.jobs no_job (has_last plan.jobs (above _ h))
-    (flat_on_last (λ session. session.commands) (and_command i verb) (last_job plan).sessions no_session (above _ h)
+    flat_on_last 1 commands_of_job (in_last_session i verb) plan.jobs no_job (has_last plan.jobs (above _ h))
+    (flat_on_last 1 (λ (session : SessionPlan). session.commands) (and_command i verb) (last_job plan).sessions no_session (above _ h)
       (length-append (last_session plan).commands ((i, verb) ∷ [])))
+
+flat_pushed : {A B : Type 0} (f : A → List B) (xs : List A) (x : A) → length (f x) ≡ 0 → length (flat_map f (xs ++ x ∷ [])) ≡ length (flat_map f xs)
+flat_pushed f [] x e = let sum = length-append (f x) [] in omega (arith, sum, e)
+flat_pushed f (y ∷ xs) x e =
+    let one = length-append (f y) (flat_map f (xs ++ x ∷ [])) in
+    let other = length-append (f y) (flat_map f xs) in
+    let more = flat_pushed f xs x e in
+    omega (arith, one, other, more)
+
+no_command : (plan : LabPlan) (patience : Option ℕ) → 0 < length plan.jobs → length (all_commands (with_session patience plan)) ≡ length (all_commands plan)
+no_command plan patience inside =
+    let grown = flat_on_last 0 commands_of_job (and_session patience) plan.jobs no_job inside
+        (let e = flat_pushed (λ (session : SessionPlan). session.commands) (last_job plan).sessions (record { patience = patience; commands = [] }) refl in omega (arith, e)) in
+    omega (arith, grown)
+
+counted_header : (version : Version) (before : List Line) → not (is_empty before) ≡ false → count is_command before ≡ length (all_commands (after (state_of before) (Header version)).plan)
+counted_header One [] e = refl
+counted_header Two [] e = refl
+counted_header version (x ∷ before) e = cc
+
+-- the command lines are the plan's commands
+pub counted_after : (before : List Line) (line : Line) → IsTied (state_of before) → cause_in (state_of before) line ≡ None → count is_command before ≡ length (all_commands (plan_of (reverse before)))
+    → count is_command (line ∷ before) ≡ length (all_commands (after (state_of before) line).plan)
+counted_after before (Header version) h e counted = counted_header version before (none (not (is_empty before)) UnknownWord None e).0
+counted_after before (Job name) h e counted = counted ∙ sym (flat_pushed commands_of_job (plan_of (reverse before)).jobs (record { name = name; sessions = [] }) refl)
+counted_after before Session h e counted =
+    let s = state_of before in
+    let first = none s.fresh NoHeader (session_cause s (many_sessions s)) e in
+    counted ∙ sym (no_command s.plan None (in_job s (many_sessions s) first.1))
+counted_after before (PatientSession number) h e counted =
+    let s = state_of before in
+    let last = at (not (is_number number)) BadNumber (many_sessions s) in
+    let first = none s.fresh NoHeader (at (not (is_two s.version)) UnknownWord (session_cause s last)) e in
+    let two = none (not (is_two s.version)) UnknownWord (session_cause s last) first.1 in
+    counted ∙ sym (no_command s.plan (Some (number_of number)) (in_job s last two.1))
+counted_after before (Command name verb) h e counted =
+    let grown = one_command (plan_of (reverse before)) name (verb_of verb) (in_session (state_of before) name verb h e) in
+    omega (arith, grown, counted)
+counted_after before End h e counted = counted
+counted_after before Steps h e counted = counted
+counted_after before Unknown h e counted = counted

@@ -6,3 +6,4 @@ pub mod Refused
 pub mod Plan
 pub mod Script
 pub mod State
+pub mod Laws

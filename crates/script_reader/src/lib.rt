@@ -6,7 +6,10 @@
 pub mod fault;
 mod field;
 mod form;
+pub mod laws;
 mod number;
+pub mod plan;
 mod reader;
 
 pub use fault::{ScriptCause, ScriptFault};
+pub use plan::read_plan;

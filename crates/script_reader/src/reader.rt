@@ -6,7 +6,7 @@ ghost use Rattle.script_reader.specs.Line.{Line, Header, Job, Session, PatientSe
 ghost use Rattle.script_reader.specs.Number.{is_number, number_of};
 ghost use Rattle.script_reader.specs.Plan.{verb_of};
 ghost use Rattle.script_reader.specs.Script.{has};
-ghost use Rattle.script_reader.specs.State.{State, Takes, ReadsForm, IsTied, state_of, version_number};
+ghost use Rattle.script_reader.specs.State.{State, Takes, ReadsForm, Ends, IsTied, state_of, version_number};
 ghost use Rattle.script_reader.specs.Form.{line_of, verb_text};
 ghost use Rattle.script_reader.specs.declared.fault.ScriptCause.TheVariants.{BadNumber};
 
@@ -14,7 +14,7 @@ use crate::fault::ScriptCause;
 use crate::form::{form_of, Form, VerbField, Version};
 use crate::number::{is_number, number_of};
 use lab_plan::name::is_name;
-use lab_plan::{PlanBuilder, Verb};
+use lab_plan::{Plan, PlanBuilder, Verb};
 use std::alloc::Allocator;
 use std::marker::Model;
 
@@ -213,6 +213,20 @@ impl<A: Allocator + Copy> Reader<A> {
             None => Ok(()),
             Some(form) => self.take(form),
         }
+    }
+
+    /// The plan, at the end of the script.
+    pub(crate) fn finish(self) -> Result<Plan<A>, ScriptCause>
+        requires { IsTied self }
+        ensures { Ends self result }
+    {
+        if self.fresh {
+            return Err(ScriptCause::NoHeader);
+        }
+        if self.in_session {
+            return Err(ScriptCause::SessionNotClosed);
+        }
+        Err(ScriptCause::BadStep)
     }
 }
 
