@@ -1,0 +1,4 @@
+pub mod Dial
+pub mod Entries
+pub mod Parts
+pub mod InstrumentLog
