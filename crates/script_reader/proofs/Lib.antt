@@ -8,3 +8,4 @@ pub mod Meets
 pub mod Tied
 pub mod ReaderLoop
 pub mod OneMeaning
+pub mod Places

@@ -7,3 +7,4 @@ pub mod Plan
 pub mod Script
 pub mod State
 pub mod Laws
+pub mod Steps

@@ -95,6 +95,10 @@ abbrev pub is_end : Line → Bool
 is_end End = true
 is_end _ = false
 
+abbrev pub is_steps : Line → Bool
+is_steps Steps = true
+is_steps _ = false
+
 -- ---- what a line names
 
 -- the name that a job line gives

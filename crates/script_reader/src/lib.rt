@@ -10,6 +10,7 @@ pub mod laws;
 mod number;
 pub mod plan;
 mod reader;
+mod step;
 
 pub use fault::{ScriptCause, ScriptFault};
 pub use plan::read_plan;
