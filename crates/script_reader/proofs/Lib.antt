@@ -9,3 +9,4 @@ pub mod Tied
 pub mod ReaderLoop
 pub mod OneMeaning
 pub mod Places
+pub mod ScriptPart

@@ -138,7 +138,7 @@ stops lines line done rest n s s' (Some form) BadStep is h e = inr (inl (faults 
 
 -- ---- the end
 
-all_read : (lines done : List (List ℕ)) (n : ℕ) (s : State) → IsReading lines done [] n s → lines ≡ done
+pub all_read : (lines done : List (List ℕ)) (n : ℕ) (s : State) → IsReading lines done [] n s → lines ≡ done
 all_read lines done n s h = h.split ∙ append-nil done
 
 pub ends_well : (lines done : List (List ℕ)) (n : ℕ) (s : State) (plan : LabPlan) → IsReading lines done [] n s → Ends s (Ok plan) → LinesMean lines plan

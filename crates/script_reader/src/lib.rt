@@ -11,6 +11,7 @@ mod number;
 pub mod plan;
 mod reader;
 mod step;
+pub mod steps;
 
 pub use fault::{ScriptCause, ScriptFault};
 pub use plan::read_plan;

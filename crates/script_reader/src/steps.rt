@@ -1,0 +1,66 @@
+// Reading a script with a list of steps.
+ghost use Rattle.std.specs.Prelude.{◌≡◌, ◌+◌, ◌-◌, ◌^◌, ◌<◌, MatchResult, Ok, Err};
+ghost use Rattle.script_reader.specs.Script.{text_lines, LinesMean, Refuses};
+ghost use Rattle.script_reader.specs.State.{Ends, IsTied};
+ghost use Rattle.script_reader.specs.Steps.{is_steps_line, script_part, steps_part, first_step};
+
+use crate::fault::ScriptFault;
+use crate::form::{form_of, Form};
+use crate::reader::Reader;
+use bstr::ByteSlice;
+use lab_plan::Plan;
+use std::alloc::Allocator;
+
+/// What the script part of a text gives: its plan, the text behind the line `steps`, and the number
+/// of the line there.
+#[derive(Drop)]
+struct ScriptPart<'a, A: Allocator> {
+    plan: Plan<A>,
+    rest: &'a [u8],
+    first: usize,
+}
+
+/// Whether the line ends the script part.
+fn is_steps_line(line: &[u8]) -> bool
+    ensures { result ≡ is_steps_line line.now }
+{
+    matches!(form_of(line), Some(Form::Steps))
+}
+
+/// The script part ends before the line with this number, and the rest of the text follows it.
+fn end_script<'a, A: Allocator + Copy>(reader: Reader<A>, rest: &'a [u8], number: usize) -> Result<ScriptPart<'a, A>, ScriptFault>
+    requires tied { IsTied reader }
+    requires number { number < 2 ^ 64 - 1 }
+    ensures { MatchResult result (λ part. Ends reader (Ok part.plan) × (part.rest.now ≡ rest.now) × (part.first ≡ number + 1)) (λ fault. Ends reader (Err fault.cause) × (fault.line ≡ number)) }
+{
+    match reader.finish() {
+        Ok(plan) => Ok(ScriptPart {
+            plan,
+            rest,
+            first: number + 1,
+        }),
+        Err(cause) => Err(ScriptFault { line: number, cause }),
+    }
+}
+
+/// Reads the lines up to a line `steps`, or to the end, as a script.
+fn read_script<'a, A: Allocator + Copy>(alloc: A, text: &'a [u8]) -> Result<ScriptPart<'a, A>, ScriptFault>
+    ensures { let lines = text_lines text.now in MatchResult result (λ part. LinesMean (script_part lines) part.plan × (text_lines part.rest.now ≡ steps_part lines) × (part.first ≡ first_step lines)) (Refuses (script_part lines)) }
+{
+    let mut reader = Reader::new(alloc);
+    let mut lines = text.lines();
+    let mut number = 1usize;
+    while let Some(line) = lines.next() {
+        if is_steps_line(line) {
+            return end_script(reader, lines.as_bytes(), number);
+        }
+        match reader.read(line) {
+            Ok(()) => {}
+            Err(cause) => {
+                return Err(ScriptFault { line: number, cause });
+            }
+        }
+        number += 1;
+    }
+    end_script(reader, lines.as_bytes(), number)
+}
