@@ -10,3 +10,7 @@ pub mod ReaderLoop
 pub mod OneMeaning
 pub mod Places
 pub mod ScriptPart
+pub mod UpgradeOrder
+pub mod UpgradeNumber
+pub mod UpgradeDrafts
+pub mod UpgradeLines
