@@ -14,3 +14,4 @@ pub mod UpgradeOrder
 pub mod UpgradeNumber
 pub mod UpgradeDrafts
 pub mod UpgradeLines
+pub mod UpgradePlan

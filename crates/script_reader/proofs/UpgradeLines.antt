@@ -156,7 +156,7 @@ within_names : (names : List (List ℕ)) (commands : List (ℕ × Verb)) → All
 within_names names [] all = all
 within_names names (command ∷ commands) all = (all.0.0, within_names names commands all.1)
 
-abbrev out : List (List ℕ) → ℕ → List JobPlan → State
+abbrev pub out : List (List ℕ) → ℕ → List JobPlan → State
 out names known jobs = state false false (draft names known jobs)
 
 first_taken : (names : List (List ℕ)) (known : ℕ) (front : List JobPlan) (job : List ℕ) (sessions : List SessionPlan) (patience : Option ℕ) → ForSome patience (λ n. n ≤ 999999) → length sessions < 1000
@@ -218,3 +218,49 @@ module _ (names : List (List ℕ)) (h : AreInstruments names) (front : List JobP
       (subst (λ t. AreTaken (out names target (inside front job done session)) (flat_map (lines_of_session names) sessions) t)
         (λ i. out names (sym (known_after-append known session.commands (session_commands sessions)) i) (front ++ job_with job (append_assoc done (session ∷ []) sessions i) ∷ [])) rest)
 
+-- ---- jobs
+
+other_names : (front jobs : List JobPlan) (job : JobPlan) → AllPairs (λ (a b : JobPlan). a.name ≢ b.name) (front ++ job ∷ jobs) → list_any (λ (other : JobPlan). bytes_eq job.name other.name) front ≡ false
+other_names front jobs job distinct =
+    list_any_none (λ (other : JobPlan). bytes_eq job.name other.name) front (λ k d inside. false_from_ne_true _ (λ e.
+      let whole = length-append front (job ∷ jobs) in
+      let here = get_or_at front job jobs d (length front) refl in
+      let there = get_or_append_left front (job ∷ jobs) d k inside in
+      let same = (bytes_eq-Decides job.name (get_or front k d).name).0 e in
+      distinct k (length front) d inside (omega (arith, whole)) (ap (λ (j : JobPlan). j.name) there ∙ sym same ∙ sym (ap (λ (j : JobPlan). j.name) here))))
+
+job_taken : (names : List (List ℕ)) (known : ℕ) (front jobs : List JobPlan) (job : JobPlan) → IsName job.name → AllPairs (λ (a b : JobPlan). a.name ≢ b.name) (front ++ job ∷ jobs) → length front < 32
+    → cause_in (out names known front) (Job job.name) ≡ None
+job_taken names known front jobs job named distinct few =
+    let new = other_names front jobs job distinct in
+    let room_left = not_at_most 32 (length front) few in
+    let right : is_name job.name ≡ true = named in
+    λ i. at (not (right i)) BadName (at (new i) JobTwice (at (room_left i) LimitPassed None))
+
+commands_within : (names : List (List ℕ)) (sessions : List SessionPlan) → AllByRecursion (CanRun names) sessions → AllByRecursion (λ (command : ℕ × Verb). command.0 < length names) (session_commands sessions)
+commands_within names [] all = tt
+commands_within names (session ∷ sessions) all = both session.commands (session_commands sessions) (within_names names session.commands all.0.commands) (commands_within names sessions all.1)
+  where
+    both : (xs ys : List (ℕ × Verb)) → AllByRecursion (λ (command : ℕ × Verb). command.0 < length names) xs → AllByRecursion (λ (command : ℕ × Verb). command.0 < length names) ys → AllByRecursion (λ (command : ℕ × Verb). command.0 < length names) (xs ++ ys)
+    both [] ys h k = k
+    both (x ∷ xs) ys h k = (h.0, both xs ys h.1 k)
+
+pub jobs_taken : (names : List (List ℕ)) → AreInstruments names → (known : ℕ) (front jobs : List JobPlan) → known ≤ length names → InOrder known (job_commands jobs) → AllByRecursion (CanBegin names) jobs
+    → AllPairs (λ (a b : JobPlan). a.name ≢ b.name) (front ++ jobs) → length front + length jobs ≤ 32 → length (job_commands front) + length (job_commands jobs) ≤ 100000
+    → AreTaken (out names known front) (flat_map (lines_of_job names) jobs) (out names (known_after known (job_commands jobs)) (front ++ jobs))
+jobs_taken names h known front [] most order all distinct few total = sym (ap (out names known) (append-nil front))
+jobs_taken names h known front (job ∷ jobs) most order all distinct few total =
+    let own = session_commands job.sessions in
+    let parts = in_order_parts known own (job_commands jobs) order in
+    let sizes = length-append own (job_commands jobs) in
+    let target = known_after known own in
+    let begun = job_taken names known front jobs job all.0.is_name distinct (omega arith) in
+    let middle : State = out names target (front ++ job ∷ []) in
+    let sessions = sessions_taken names h front job.name known [] job.sessions most parts.0 all.0.sessions (let limit = all.0.few in omega arith) (omega (arith, total, sizes)) in
+    let pushed = length-append front (job ∷ []) in
+    let size = size_one front job.name job.sessions in
+    let rest = jobs_taken names h target (front ++ job ∷ []) jobs (known_within known (length names) own most (commands_within names job.sessions all.0.sessions)) parts.1 all.1
+        (subst (AllPairs (λ (a b : JobPlan). a.name ≢ b.name)) (sym (append_assoc front (job ∷ []) jobs)) distinct) (omega (arith, pushed, few)) (omega (arith, size, total, sizes)) in
+    let end : State = out names (known_after known (job_commands (job ∷ jobs))) (front ++ job ∷ jobs) in
+    taken-append (out names known front) middle end (lines_of_job names job) (flat_map (lines_of_job names) jobs) (begun, sessions)
+    (subst (λ t. AreTaken middle (flat_map (lines_of_job names) jobs) t) (λ i. out names (sym (known_after-append known own (job_commands jobs)) i) (append_assoc front (job ∷ []) jobs i)) rest)
