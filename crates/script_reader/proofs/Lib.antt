@@ -15,3 +15,5 @@ pub mod UpgradeNumber
 pub mod UpgradeDrafts
 pub mod UpgradeLines
 pub mod UpgradePlan
+pub mod UpgradeText
+pub mod UpgradeForms
