@@ -17,3 +17,4 @@ pub mod UpgradeLines
 pub mod UpgradePlan
 pub mod UpgradeText
 pub mod UpgradeForms
+pub mod UpgradeMeans

@@ -23,7 +23,7 @@ by_recursion : {A : Type 0} (P : A → Type 0) (xs : List A) → ((k : ℕ) (d :
 by_recursion P [] all = tt
 by_recursion P (x ∷ xs) all = (all 0 x (omega arith), by_recursion P xs (λ k d inside. all (suc k) d (omega arith)))
 
-instruments_of_plan : (plan : LabPlan) → IsPlan plan → AreInstruments plan.instruments
+pub instruments_of_plan : (plan : LabPlan) → IsPlan plan → AreInstruments plan.instruments
 instruments_of_plan plan h = record { few = h.draft.few_instruments; each = h.draft.instrument_names; distinct = h.draft.instruments_distinct }
 
 -- a session by its number
@@ -46,7 +46,7 @@ can_begin plan h j there =
       sessions = by_recursion (CanRun plan.instruments) (sessions plan j) (λ s d inside. subst (CanRun plan.instruments) (session_there plan j s d inside) (can_run plan h j s inside));
     }
 
-can_begin_all : (plan : LabPlan) → IsPlan plan → AllByRecursion (CanBegin plan.instruments) plan.jobs
+pub can_begin_all : (plan : LabPlan) → IsPlan plan → AllByRecursion (CanBegin plan.instruments) plan.jobs
 can_begin_all plan h = by_recursion (CanBegin plan.instruments) plan.jobs (λ j d inside. subst (CanBegin plan.instruments) (get_or_default plan.jobs j no_job d inside) (can_begin plan h j inside))
 
 abbrev pub upgraded : LabPlan → LabPlan

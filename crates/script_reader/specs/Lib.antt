@@ -8,3 +8,4 @@ pub mod Script
 pub mod State
 pub mod Laws
 pub mod Steps
+pub mod UpgradeLaw

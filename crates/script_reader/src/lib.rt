@@ -12,6 +12,7 @@ pub mod plan;
 mod reader;
 mod step;
 pub mod steps;
+pub mod upgrade_law;
 
 pub use fault::{ScriptCause, ScriptFault};
 pub use plan::read_plan;
