@@ -1,6 +1,6 @@
 -- A plan as far as its upgraded script is read: some jobs, and the instruments that are named so far.
-use Rattle.std.proofs.Common.{◌≡◌, ◌≢◌, ℕ, ◌+◌, ◌-◌, ◌<◌, ◌≤◌, Bool, true, false, cond, if◌then◌else◌, not, ◌&&◌, ◌||◌, List, [], ◌∷◌, ◌++◌, length, get_or, take, refl, sym, ap, ◌∙◌, subst, ◌⊎◌, ⊎_elim, inl, inr, arith, suc, zero, length-append}
-use Rattle.std.specs.Prelude.{Option, None, Some, max, nat_le, nat_lt, All, AllPairs}
+use Rattle.std.proofs.Common.{◌≡◌, ◌≢◌, ℕ, ◌+◌, ◌<◌, ◌≤◌, Bool, true, false, if◌then◌else◌, not, ◌&&◌, ◌||◌, List, [], ◌∷◌, ◌++◌, length, get_or, take, refl, sym, ap, ◌∙◌, ⊎_elim, inl, inr, arith, suc, length-append}
+use Rattle.std.specs.Prelude.{Option, max, nat_le, nat_lt, All, AllPairs}
 use Rattle.std.specs.List.{list_any, position_or_len, flat_map}
 use Rattle.std.specs.Str.{bytes_eq}
 use Rattle.std.proofs.lemmas.Bool.{cases_Bool, cases_lt, false_from_ne_true}
@@ -13,9 +13,6 @@ use Rattle.lab_plan.specs.declared.verb.Verb.{Verb}
 use Rattle.lab_plan.specs.Names.{IsName}
 use Rattle.lab_plan.specs.LabPlan.{SessionPlan, JobPlan, LabPlan, all_commands}
 use Rattle.lab_plan.specs.Building.{on_last, and_session, and_command, in_last_session, instrument_number, is_instrument, with_session, with_command, is_past_limit}
-
-pub at_most : (a b : ℕ) → a ≤ b → nat_le a b ≡ true
-at_most a b h = grind (arith, nat_tests)
 
 pub not_at_most : (a b : ℕ) → b < a → nat_le a b ≡ false
 not_at_most a b h = grind (arith, nat_tests)
@@ -51,9 +48,6 @@ on_last-push change (y ∷ z ∷ xs) x = ap (λ l. y ∷ l) (on_last-push change
 -- ---- one more command
 
 module _ (names : List (List ℕ)) (h : AreInstruments names) (known i : ℕ) (most : known ≤ length names) (near : i ≤ known) (there : i < length names) where
-  name : List ℕ
-  name = get_or names i []
-
   pub number_is : (jobs : List JobPlan) → instrument_number (get_or names i []) (draft names known jobs) ≡ i
   number_is jobs =
       let len = length-take-le known names most in
@@ -90,10 +84,10 @@ module _ (names : List (List ℕ)) (h : AreInstruments names) (known i : ℕ) (m
   command_more verb front job sessions session =
       let jobs = inside front job sessions session in
       let changed : on_last (in_last_session (instrument_number (get_or names i []) (draft names known jobs)) verb) jobs ≡ inside front job sessions (and_command i verb session) =
-          ap (λ n. on_last (in_last_session n verb) jobs) (number_is jobs) ∙ on_last-push (in_last_session i verb) front (job_with job (sessions ++ session ∷ []))
-          ∙ ap (λ l. front ++ job_with job l ∷ []) (on_last-push (and_command i verb) sessions session) in
+      ap (λ n. on_last (in_last_session n verb) jobs) (number_is jobs) ∙ on_last-push (in_last_session i verb) front (job_with job (sessions ++ session ∷ []))
+      ∙ ap (λ l. front ++ job_with job l ∷ []) (on_last-push (and_command i verb) sessions session) in
       let grown : (if is_instrument (get_or names i []) (draft names known jobs) then take known names else take known names ++ get_or names i [] ∷ []) ≡ take (max known (suc i)) names =
-          ap (λ b. if b then take known names else take known names ++ get_or names i [] ∷ []) (is_there jobs) ∙ named_more in
+      ap (λ b. if b then take known names else take known names ++ get_or names i [] ∷ []) (is_there jobs) ∙ named_more in
       λ j. record { version = 2; jobs = changed j; instruments = grown j }
 
   pub room : (jobs : List JobPlan) → length (all_commands (draft names known jobs)) < 100000 → is_past_limit (get_or names i []) (draft names known jobs) ≡ false

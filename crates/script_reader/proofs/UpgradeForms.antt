@@ -1,7 +1,7 @@
 -- The form of each line of an upgraded script.
-use Rattle.std.proofs.Common.{◌≡◌, ◌≢◌, ℕ, ◌+◌, ◌-◌, ◌<◌, ◌≤◌, Bool, true, false, cond, if◌then◌else◌, not, ◌&&◌, ◌||◌, List, [], ◌∷◌, ◌++◌, length, get_or, refl, sym, ap, ◌∙◌, subst, arith, suc, zero, append_assoc}
-use Rattle.std.specs.Prelude.{Option, None, Some, nat_le, ◌==◌, codes, decimal, slice_index}
-use Rattle.std.specs.List.{list_all, list_any}
+use Rattle.std.proofs.Common.{◌≡◌, ℕ, ◌<◌, ◌≤◌, Bool, true, false, if◌then◌else◌, not, ◌&&◌, ◌||◌, List, [], ◌∷◌, ◌++◌, length, refl, ap, ◌∙◌, arith}
+use Rattle.std.specs.Prelude.{None, Some, nat_le, ◌==◌, codes, decimal, slice_index}
+use Rattle.std.specs.List.{list_all}
 use Rattle.std.specs.Str.{bytes_eq}
 use Rattle.std.proofs.lemmas.Bool.{and_parts, not-true}
 use Rattle.std.proofs.lemmas.Bool.Decides.{nat_tests}
@@ -9,7 +9,7 @@ use Rattle.std.proofs.lemmas.List.Folds.{list_all-append}
 use Rattle.lab_plan.specs.Names.{is_name, is_letter, is_digit, is_name_byte, is_reserved}
 use Rattle.script_reader.specs.declared.form.Version.TheVariants.{Two}
 use Rattle.script_reader.specs.Fields.{fields}
-use Rattle.script_reader.specs.Line.{Line, Header, Job, Session, PatientSession, Command, End, Steps, Unknown, Sets, Adds, Reads, line_with, line_in, form_of, lab_line, job_line, session_line, command_line, alone}
+use Rattle.script_reader.specs.Line.{Header, Job, Session, PatientSession, Command, End, Steps, Unknown, Sets, Adds, Reads, line_with, line_in, form_of, lab_line, job_line, session_line, command_line, alone}
 use Rattle.script_reader.proofs.UpgradeNumber.{all_digits, some_digit}
 use Rattle.script_reader.proofs.UpgradeText.{is_shown, is_dark, dark_shown, fields_one, fields_more}
 
@@ -76,7 +76,7 @@ pub patience_form : (n : ℕ) → n ≤ 999999 → form_of (codes "session patie
 unfolding line_with
 patience_form n small =
     ap line_in (fields_more (codes "session") (codes "patience " ++ decimal n) refl (omega arith)
-      ∙ ap (λ l. codes "session" ∷ l) (fields_more (codes "patience") (decimal n) refl (omega arith) ∙ ap (λ l. codes "patience" ∷ l) (fields_one (decimal n) (dark_decimal n small) (some_digit n small))))
+    ∙ ap (λ l. codes "session" ∷ l) (fields_more (codes "patience") (decimal n) refl (omega arith) ∙ ap (λ l. codes "patience" ∷ l) (fields_one (decimal n) (dark_decimal n small) (some_digit n small))))
 
 pub end_form : form_of (codes "end") ≡ Some End
 unfolding line_with
@@ -111,12 +111,12 @@ read_form name h =
 pub set_form : (name : List ℕ) (n : ℕ) → NameParts name → n ≤ 999999 → form_of (name ++ (codes " set " ++ decimal n)) ≡ Some (Command name (Sets (decimal n)))
 set_form name n h small =
     command_form name (name ++ (codes " set " ++ decimal n)) (codes "set" ∷ decimal n ∷ []) h (fields_more name (codes "set " ++ decimal n) h.dark h.some
-      ∙ ap (λ l. name ∷ l) (fields_more (codes "set") (decimal n) refl (omega arith) ∙ ap (λ l. codes "set" ∷ l) (fields_one (decimal n) (dark_decimal n small) (some_digit n small))))
+    ∙ ap (λ l. name ∷ l) (fields_more (codes "set") (decimal n) refl (omega arith) ∙ ap (λ l. codes "set" ∷ l) (fields_one (decimal n) (dark_decimal n small) (some_digit n small))))
 
 pub add_form : (name : List ℕ) (n : ℕ) → NameParts name → n ≤ 999999 → form_of (name ++ (codes " add " ++ decimal n)) ≡ Some (Command name (Adds (decimal n)))
 add_form name n h small =
     command_form name (name ++ (codes " add " ++ decimal n)) (codes "add" ∷ decimal n ∷ []) h (fields_more name (codes "add " ++ decimal n) h.dark h.some
-      ∙ ap (λ l. name ∷ l) (fields_more (codes "add") (decimal n) refl (omega arith) ∙ ap (λ l. codes "add" ∷ l) (fields_one (decimal n) (dark_decimal n small) (some_digit n small))))
+    ∙ ap (λ l. name ∷ l) (fields_more (codes "add") (decimal n) refl (omega arith) ∙ ap (λ l. codes "add" ∷ l) (fields_one (decimal n) (dark_decimal n small) (some_digit n small))))
 
 -- ---- these lines have no line end within
 

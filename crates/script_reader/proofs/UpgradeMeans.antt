@@ -1,6 +1,6 @@
 -- The upgraded script of a plan means that plan.
-use Rattle.std.proofs.Common.{◌≡◌, ℕ, ◌+◌, ◌<◌, ◌≤◌, Bool, true, false, cond, List, [], ◌∷◌, ◌++◌, length, get_or, refl, sym, ap, ◌∙◌, subst, arith, suc, zero, append_assoc, append-nil}
-use Rattle.std.specs.Prelude.{Option, None, Some, Ok, codes, decimal, map}
+use Rattle.std.proofs.Common.{◌≡◌, ℕ, ◌+◌, ◌≤◌, true, false, List, [], ◌∷◌, ◌++◌, get_or, refl, sym, ap, ◌∙◌, subst, arith, append_assoc, append-nil}
+use Rattle.std.specs.Prelude.{Option, None, Some, codes, decimal, map}
 use Rattle.std.specs.List.{AllByRecursion, flat_map, list_all}
 use Rattle.std.specs.Option.{ForSome}
 use Rattle.std.proofs.lemmas.Fmt.{decimal_digit}
@@ -14,7 +14,7 @@ use Rattle.lab_plan.specs.Texts.{verb_text, header_line}
 use Rattle.lab_plan.specs.Upgrade.{session_line, name_line, command_text, commands_text, session_text, job_text, script_text}
 use Rattle.script_reader.specs.declared.form.Version.TheVariants.{Two}
 use Rattle.script_reader.specs.Line.{Line, Header, Job, Session, PatientSession, Command, End, form_of}
-use Rattle.script_reader.specs.Script.{text_lines, LinesMean, ScriptMeans}
+use Rattle.script_reader.specs.Script.{text_lines, ScriptMeans}
 use Rattle.script_reader.specs.State.{State, state_of}
 use Rattle.script_reader.proofs.ReaderLoop.{IsReading, starts, reads, ends_well}
 use Rattle.script_reader.proofs.UpgradeDrafts.{AreInstruments}

@@ -1,6 +1,6 @@
 -- A number up to 999999, written in decimal, is a number of a script, and reads back.
-use Rattle.std.proofs.Common.{◌≡◌, ℕ, ◌+◌, ◌-◌, ◌*◌, ◌/◌, ◌%◌, ◌<◌, ◌≤◌, Bool, true, false, not, ◌&&◌, ◌||◌, List, [], ◌∷◌, ◌++◌, length, get_or, refl, sym, ap, ◌∙◌, subst, ⊎_elim, inl, inr, arith, suc, zero}
-use Rattle.std.specs.Prelude.{nat_le, ◌==◌, decimal, slice_index}
+use Rattle.std.proofs.Common.{◌≡◌, ℕ, ◌+◌, ◌-◌, ◌*◌, ◌/◌, ◌%◌, ◌<◌, ◌≤◌, Bool, true, false, not, ◌&&◌, ◌||◌, List, [], ◌∷◌, ◌++◌, length, get_or, refl, ap, ◌∙◌, arith, suc, zero}
+use Rattle.std.specs.Prelude.{◌==◌, decimal, slice_index}
 use Rattle.std.specs.List.{list_all}
 use Rattle.std.proofs.lemmas.Bool.{false_from_ne_true}
 use Rattle.std.proofs.lemmas.Bool.Decides.{Decides-eqb, nat_tests}
@@ -8,13 +8,11 @@ use Rattle.std.proofs.lemmas.List.Folds.{list_all-append}
 use Rattle.std.proofs.lemmas.Fmt.{decimal_by_steps, decimal_digit, decimal_nonempty, length-decimal-le, first_decimal}
 use Rattle.lab_plan.specs.Names.{is_digit}
 use Rattle.script_reader.specs.Number.{value_after, number_of, is_number}
+use Rattle.script_reader.proofs.UpgradeOrder.{at_most}
 
 value_more : (n : ℕ) (bytes : List ℕ) (b : ℕ) → value_after n (bytes ++ b ∷ []) ≡ 10 * value_after n bytes + (b - 48)
 value_more n [] b = refl
 value_more n (x ∷ bytes) b = value_more (10 * n + (x - 48)) bytes b
-
-within : (a b : ℕ) → a ≤ b → nat_le a b ≡ true
-within a b h = grind (arith, nat_tests)
 
 digit : (n : ℕ) → n < 10 → is_digit (48 + n) ≡ true
 digit n small = grind (arith, nat_tests)
@@ -30,8 +28,7 @@ more_digits : (n : ℕ) (bytes : List ℕ) → 10 ≤ n → Reads (n / 10) bytes
 unfolding Reads
 more_digits n bytes large h =
     let last : is_digit (48 + n % 10) ≡ true = digit (n % 10) (omega arith) in
-    let value = h.1 in
-    (
+    let value = h.1 in (
       list_all-append is_digit bytes ((48 + n % 10) ∷ []) ∙ (λ i. h.0 i && (last i && true)),
       value_more 0 bytes (48 + n % 10) ∙ omega (arith, value),
     )
@@ -62,8 +59,8 @@ no_leading_zero (suc n) small =
 
 pub decimal_is_number : (n : ℕ) → n ≤ 999999 → is_number (decimal n) ≡ true
 decimal_is_number n small =
-    let some = within 1 (length (decimal n)) (some_digit n small) in
-    let few = within (length (decimal n)) 6 (length-decimal-le 6 n (omega arith) (omega arith) (omega arith)) in
+    let some = at_most 1 (length (decimal n)) (some_digit n small) in
+    let few = at_most (length (decimal n)) 6 (length-decimal-le 6 n (omega arith) (omega arith) (omega arith)) in
     let digits = all_digits n small in
     let zero = no_leading_zero n small in
     λ i. some i && few i && digits i && zero i

@@ -1,5 +1,5 @@
 -- Commands whose instruments are numbered in order of first naming.
-use Rattle.std.proofs.Common.{◌≡◌, ℕ, ◌+◌, ◌<◌, ◌≤◌, Bool, true, false, cond, not, ◌&&◌, List, [], ◌∷◌, ◌++◌, refl, sym, ap, ◌∙◌, subst, ⊎_elim, inl, inr, arith, suc, zero}
+use Rattle.std.proofs.Common.{◌≡◌, ℕ, ◌+◌, ◌<◌, ◌≤◌, Bool, true, false, cond, not, ◌&&◌, List, [], ◌∷◌, ◌++◌, refl, sym, ap, ◌∙◌, subst, ⊎_elim, arith, suc, zero}
 use Rattle.std.specs.Prelude.{max, nat_le, ◌==◌, map}
 use Rattle.std.specs.List.{filter, range_with_len, AllByRecursion}
 use Rattle.std.proofs.lemmas.Bool.{cases_Bool}
@@ -27,8 +27,8 @@ in_order_parts known (x ∷ xs) ys h = let rest = in_order_parts (max known (suc
 
 -- ---- the first namings are in order
 
-within : (a b : ℕ) → a ≤ b → nat_le a b ≡ true
-within a b h = grind (arith, nat_tests)
+pub at_most : (a b : ℕ) → a ≤ b → nat_le a b ≡ true
+at_most a b h = grind (arith, nat_tests)
 
 two_filters : (p q r : ℕ → Bool) → ((x : ℕ) → (q x && p x) ≡ r x) → (xs : List ℕ) → filter p (filter q xs) ≡ filter r xs
 two_filters p q r both [] = refl
@@ -36,11 +36,11 @@ two_filters p q r both (x ∷ xs) =
     let rest = two_filters p q r both xs in
     ⊎_elim
     (λ is.
-      let same : p x ≡ r x = sym (ap (λ b. b && p x) is) ∙ both x in
-      ap (λ b. filter p (cond b (x ∷ filter q xs) (filter q xs))) is ∙ ap (λ b. cond b (x ∷ filter p (filter q xs)) (filter p (filter q xs))) same ∙ ap (λ l. cond (r x) (x ∷ l) l) rest)
+    let same : p x ≡ r x = sym (ap (λ b. b && p x) is) ∙ both x in
+    ap (λ b. filter p (cond b (x ∷ filter q xs) (filter q xs))) is ∙ ap (λ b. cond b (x ∷ filter p (filter q xs)) (filter p (filter q xs))) same ∙ ap (λ l. cond (r x) (x ∷ l) l) rest)
     (λ is.
-      let gone : r x ≡ false = sym (both x) ∙ ap (λ b. b && p x) is in
-      ap (λ b. filter p (cond b (x ∷ filter q xs) (filter q xs))) is ∙ rest ∙ sym (ap (λ b. cond b (x ∷ filter r xs) (filter r xs)) gone))
+    let gone : r x ≡ false = sym (both x) ∙ ap (λ b. b && p x) is in
+    ap (λ b. filter p (cond b (x ∷ filter q xs) (filter q xs))) is ∙ rest ∙ sym (ap (λ b. cond b (x ∷ filter r xs) (filter r xs)) gone))
     (cases_Bool (q x))
 
 -- of the others than n, those from k on
@@ -58,7 +58,7 @@ from_known k command commands h = rw h (two_filters (nat_le k) (λ other. not (o
 
 from_new : (k : ℕ) (command : ℕ × Verb) (commands : List (ℕ × Verb)) → command.0 ≡ k → from k (command ∷ commands) ≡ k ∷ from (suc k) commands
 from_new k command commands e =
-    let new : nat_le k command.0 ≡ true = within k command.0 (omega arith) in
+    let new : nat_le k command.0 ≡ true = at_most k command.0 (omega arith) in
     rw new (λ i. e i ∷ ((λ j. filter (nat_le k) (filter (λ other. not (other == e j)) (firsts (map (λ (c : ℕ × Verb). c.0) commands)))) ∙ two_filters (nat_le k) (λ other. not (other == k)) (nat_le (suc k)) (λ x. from_next k x) _) i)
 
 -- the first that isn't known is the next
@@ -78,24 +78,24 @@ in_order_from k (suc m) [] e = absurd (cc)
 in_order_from k m (command ∷ commands) e =
     ⊎_elim
     (λ is.
-      let next = next_is k m command commands is e in
-      let most : max k (suc command.0) ≡ suc k = omega (arith, next.2) in
-      let rest = in_order_from (suc k) next.0 commands next.3 in
-      let head : command.0 ≤ k = omega (arith, next.2) in
-      let sum : suc k + next.0 ≡ k + m = omega (arith, next.1) in
-      ((head, subst (λ n. InOrder n commands) (sym most) rest.0), ap (λ n. known_after n commands) most ∙ rest.1 ∙ sum))
+    let next = next_is k m command commands is e in
+    let most : max k (suc command.0) ≡ suc k = omega (arith, next.2) in
+    let rest = in_order_from (suc k) next.0 commands next.3 in
+    let head : command.0 ≤ k = omega (arith, next.2) in
+    let sum : suc k + next.0 ≡ k + m = omega (arith, next.1) in
+    ((head, subst (λ n. InOrder n commands) (sym most) rest.0), ap (λ n. known_after n commands) most ∙ rest.1 ∙ sum))
     (λ is.
-      let less : command.0 < k = grind (arith, nat_tests, is) in
-      let most : max k (suc command.0) ≡ k = omega (arith, less) in
-      let rest = in_order_from k m commands (sym (from_known k command commands is) ∙ e) in
-      let head : command.0 ≤ k = omega (arith, less) in
-      ((head, subst (λ n. InOrder n commands) (sym most) rest.0), ap (λ n. known_after n commands) most ∙ rest.1))
+    let less : command.0 < k = grind (arith, nat_tests, is) in
+    let most : max k (suc command.0) ≡ k = omega (arith, less) in
+    let rest = in_order_from k m commands (sym (from_known k command commands is) ∙ e) in
+    let head : command.0 ≤ k = omega (arith, less) in
+    ((head, subst (λ n. InOrder n commands) (sym most) rest.0), ap (λ n. known_after n commands) most ∙ rest.1))
     (cases_Bool (nat_le k command.0))
 
 all_kept : (xs : List ℕ) → filter (nat_le 0) xs ≡ xs
 all_kept [] = refl
 all_kept (x ∷ xs) =
-    let least : nat_le 0 x ≡ true = within 0 x (omega arith) in
+    let least : nat_le 0 x ≡ true = at_most 0 x (omega arith) in
     λ i. cond (least i) (x ∷ all_kept xs i) (all_kept xs i)
 
 pub in_order_all : (m : ℕ) (commands : List (ℕ × Verb)) → firsts (map (λ (command : ℕ × Verb). command.0) commands) ≡ range_with_len 0 m → InOrder 0 commands × (known_after 0 commands ≡ m)

@@ -1,22 +1,18 @@
 -- The lines of an upgraded script, for every plan.
-use Rattle.std.proofs.Common.{◌≡◌, ◌≢◌, ℕ, ◌+◌, ◌-◌, ◌<◌, ◌≤◌, Bool, true, false, cond, not, List, [], ◌∷◌, ◌++◌, length, get_or, take, refl, sym, ap, ◌∙◌, subst, arith, suc, zero}
-use Rattle.std.specs.Prelude.{Option, None, Some, nat_lt, All}
+use Rattle.std.proofs.Common.{◌≡◌, ℕ, ◌+◌, ◌-◌, ◌<◌, ◌≤◌, false, List, [], ◌∷◌, length, get_or, take, refl, sym, ap, ◌∙◌, subst, arith, suc}
+use Rattle.std.specs.Prelude.{None, nat_lt}
 use Rattle.std.specs.List.{AllByRecursion, flat_map}
-use Rattle.std.specs.Option.{ForSome}
 use Rattle.std.proofs.lemmas.Bool.Decides.{nat_tests}
 use Rattle.std.proofs.lemmas.List.{take_all, get_or_default}
 use Rattle.std.proofs.lemmas.List.Folds.{list_any_none}
-use Rattle.lab_plan.specs.declared.verb.Verb.{Verb}
-use Rattle.lab_plan.specs.Names.{IsName}
-use Rattle.lab_plan.specs.Verbs.{Fits}
-use Rattle.lab_plan.specs.LabPlan.{SessionPlan, JobPlan, LabPlan, no_session, no_job, job_at, sessions, session_at, commands, patience, edges, common, bottles}
-use Rattle.lab_plan.specs.IsPlan.{IsPlan, IsDraft}
+use Rattle.lab_plan.specs.LabPlan.{SessionPlan, LabPlan, no_session, no_job, job_at, sessions, session_at, commands, edges, common, bottles}
+use Rattle.lab_plan.specs.IsPlan.{IsPlan}
 use Rattle.lab_plan.specs.Building.{has_too_many_in_common}
 use Rattle.script_reader.specs.declared.fault.ScriptCause.TheVariants.{TooManyInCommon}
 use Rattle.script_reader.specs.declared.form.Version.TheVariants.{Two}
-use Rattle.script_reader.specs.State.{State, state_of, at, end_cause_in}
-use Rattle.script_reader.proofs.UpgradeOrder.{InOrder, known_after, in_order_all}
-use Rattle.script_reader.proofs.UpgradeDrafts.{AreInstruments, draft, job_commands}
+use Rattle.script_reader.specs.State.{state_of, at, end_cause_in}
+use Rattle.script_reader.proofs.UpgradeOrder.{known_after, in_order_all}
+use Rattle.script_reader.proofs.UpgradeDrafts.{AreInstruments, job_commands}
 use Rattle.script_reader.proofs.UpgradeLines.{CanSay, CanRun, CanBegin, AreTaken, out, lines_of_job, lines_of_plan, jobs_taken}
 
 by_recursion : {A : Type 0} (P : A → Type 0) (xs : List A) → ((k : ℕ) (d : A) → k < length xs → P (get_or xs k d)) → AllByRecursion P xs
@@ -57,8 +53,7 @@ pub plan_taken : (plan : LabPlan) → IsPlan plan → AreTaken (state_of []) (li
 plan_taken plan h =
     let order = in_order_all (length plan.instruments) (job_commands plan.jobs) h.draft.in_order in
     let taken = jobs_taken plan.instruments (instruments_of_plan plan h) 0 [] plan.jobs (omega arith) order.0 (can_begin_all plan h) h.draft.jobs_distinct (let few = h.draft.few_jobs in omega arith) (let few = h.draft.few_commands in omega (arith, few)) in
-    let all : take (known_after 0 (job_commands plan.jobs)) plan.instruments ≡ plan.instruments = take_all (known_after 0 (job_commands plan.jobs)) plan.instruments (let known = order.1 in omega (arith, known)) in
-    (
+    let all : take (known_after 0 (job_commands plan.jobs)) plan.instruments ≡ plan.instruments = take_all (known_after 0 (job_commands plan.jobs)) plan.instruments (let known = order.1 in omega (arith, known)) in (
       refl,
       subst (λ names. AreTaken (out plan.instruments 0 []) (flat_map (lines_of_job plan.instruments) plan.jobs) (record { fresh = false; version = Two; in_session = false; bare = false; plan = record { version = 2; jobs = plan.jobs; instruments = names } })) all taken,
     )
@@ -69,9 +64,9 @@ few_in_common : (plan : LabPlan) → IsPlan plan → has_too_many_in_common (upg
 unfolding edges common
 few_in_common plan h =
     list_any_none (λ pair. nat_lt 28 (length (common (upgraded plan) pair))) (edges (upgraded plan)) (λ e d inside.
-      let few : length (bottles plan e) ≤ 28 = h.few_bottles e inside in
-      let same = get_or_default (edges plan) e d (0, 0) inside in
-      few_test (length (common plan (get_or (edges plan) e d))) (subst (λ pair. length (common plan pair) ≤ 28) (sym same) few))
+    let few : length (bottles plan e) ≤ 28 = h.few_bottles e inside in
+    let same = get_or_default (edges plan) e d (0, 0) inside in
+    few_test (length (common plan (get_or (edges plan) e d))) (subst (λ pair. length (common plan pair) ≤ 28) (sym same) few))
   where
     few_test : (n : ℕ) → n ≤ 28 → nat_lt 28 n ≡ false
     few_test n small = grind (arith, nat_tests)

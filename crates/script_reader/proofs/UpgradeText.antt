@@ -1,14 +1,14 @@
 -- A text that is written line by line: its lines, and their fields.
-use Rattle.std.proofs.Common.{◌≡◌, ◌≢◌, ℕ, ◌+◌, ◌-◌, ◌<◌, ◌≤◌, Bool, true, false, cond, ◌&&◌, List, [], ◌∷◌, ◌++◌, length, get_or, take, drop, refl, sym, ap, ◌∙◌, subst, ⊎_elim, inl, inr, arith, suc, zero, append_assoc, append-nil, length-append, length-drop}
+use Rattle.std.proofs.Common.{◌≡◌, ℕ, ◌-◌, ◌<◌, ◌≤◌, Bool, true, false, cond, ◌&&◌, List, [], ◌∷◌, ◌++◌, length, get_or, take, drop, refl, sym, ap, ◌∙◌, ⊎_elim, inl, arith, suc, zero, append_assoc, append-nil, length-append, length-drop}
 use Rattle.std.specs.Prelude.{nat_le, nat_lt, ◌==◌, All, map}
-use Rattle.std.specs.List.{list_all, filter, slice_split}
-use Rattle.std.proofs.lemmas.Bool.{cases_Bool, false_from_ne_true, and_parts}
-use Rattle.std.proofs.lemmas.Bool.Decides.{Decides-eqb, nat_tests}
+use Rattle.std.specs.List.{list_all, filter}
+use Rattle.std.proofs.lemmas.Bool.{cases_Bool, and_parts}
+use Rattle.std.proofs.lemmas.Bool.Decides.{nat_tests}
 use Rattle.std.proofs.lemmas.List.{take_at, drop_at}
 use Rattle.std.proofs.lemmas.List.Elements.{All-cons, All-nil}
 use Rattle.std.proofs.lemmas.List.Splits.{slice_split-cons_yes}
 use Rattle.bstr.specs.Text.{line_len, lines_from, lines_of, no_cr, without_terminator}
-use Rattle.script_reader.specs.Fields.{fields, is_gap, is_some_field, IsGap, IsInk, CutsField}
+use Rattle.script_reader.specs.Fields.{fields, is_gap, is_some_field, IsGap, IsInk}
 use Rattle.script_reader.specs.Script.{text_lines}
 use Rattle.script_reader.proofs.FieldLemmas.{cut_fields, no_fields}
 use Rattle.script_reader.proofs.OnLast.{last_pushed}

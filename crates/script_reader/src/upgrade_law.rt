@@ -5,5 +5,4 @@ ghost use Rattle.script_reader.specs.UpgradeLaw.{UpgradeMeansPlan};
 /// and each instrument has its number.
 pub fn upgrade_means_plan()
     ensures { UpgradeMeansPlan }
-{
-}
+{}
