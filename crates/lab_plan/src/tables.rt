@@ -3,12 +3,12 @@ ghost use Rattle.std.specs.Prelude.{◌≡◌, ℕ, ◌-◌, ◌<◌, ◌≤◌,
 ghost use Rattle.lab_plan.specs.IsPlan.{IsDraft};
 ghost use Rattle.lab_plan.specs.Tables.{AreTablesOf, no_table};
 
-use crate::bottles::{Bottles, bottles_of_all};
+use crate::bottles::{bottles_of_all, Bottles};
 use crate::draft::Draft;
 use crate::edge_table::EdgeTable;
 use crate::naming::Naming;
 use crate::numbers::{EdgeNo, JobNo};
-use crate::session_table::{JobTable, SessionTable, job_tables};
+use crate::session_table::{job_tables, JobTable, SessionTable};
 use std::alloc::{AllocError, Allocator, Global};
 use std::marker::Model;
 
