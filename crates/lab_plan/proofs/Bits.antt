@@ -3,7 +3,7 @@ use Rattle.std.proofs.Common.{◌≡◌, ◌⊎◌, ℕ, ◌*◌, ◌/◌, ◌%�
 use Rattle.std.proofs.lemmas.Bool.{cases_eq, eq-eqb, ne_eqb}
 use Rattle.std.specs.Int.{bit_at, w64}
 use Rattle.std.proofs.lemmas.Nat.Bits.{bit_at-lt, bit_at_or, bit_at-zero, bit_at_set_same, bit_at_set_other, shr_and_one}
-use Rattle.lab_plan.specs.Tables.{holds}
+use Rattle.lab_plan.specs.InstrumentSets.{holds}
 
 pub bit_cases : (n k : ℕ) → (bit_at n k ≡ 0) ⊎ (bit_at n k ≡ 1)
 bit_cases n k = let low = bit_at-lt n k in elim (cases_eq (bit_at n k) 0) [ inl h ↦ inl h | inr h ↦ inr (omega arith) ]

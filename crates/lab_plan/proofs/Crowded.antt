@@ -4,7 +4,7 @@ use Rattle.std.specs.List.{range_with_len, list_any}
 use Rattle.std.proofs.lemmas.Bool.{cases_Bool, false≢true, ltb-true}
 use Rattle.lab_plan.specs.LabPlan.{LabPlan, edges, common, pairs, both_name, instrument_numbers}
 use Rattle.lab_plan.specs.Building.{has_too_many_in_common}
-use Rattle.lab_plan.specs.Tables.{AreNaming, both_hold, meeting, are_crowded, rows}
+use Rattle.lab_plan.specs.NamedBy.{AreNaming, both_hold, meeting, are_crowded, rows}
 
 -- the sets say who names what
 pub both_is : (plan : LabPlan) (sets : List ℕ) → AreNaming plan.jobs sets → (pair : ℕ × ℕ) → both_hold sets pair ≡ both_name plan pair

@@ -1,10 +1,10 @@
 -- At most 496 pairs of jobs.
-use Rattle.std.proofs.Common.{◌≡◌, ℕ, ◌+◌, ◌<◌, ◌≤◌, List, Bool, true, nat_le, length, filter, slice_index_or, arith, refl}
+use Rattle.std.proofs.Common.{ℕ, ◌≤◌, List, Bool, true, nat_le, length, arith, refl}
 use Rattle.std.specs.List.{All}
 use Rattle.std.proofs.lemmas.Bool.{agree_below_at, leb-true}
 use Rattle.std.proofs.lemmas.List.Sums.{length-filter, count_by-le-length}
-use Rattle.lab_plan.specs.LabPlan.{pairs}
-use Rattle.lab_plan.specs.Tables.{meet, meeting, rows, IsPair}
+use Rattle.lab_plan.specs.NamedBy.{meet, meeting, rows}
+use Rattle.lab_plan.specs.PairTables.{IsPair}
 use Rattle.lab_plan.proofs.Edges.{rows_are_pairs}
 
 few_rows : (jobs : ℕ) → jobs ≤ 32 → length (rows jobs jobs) ≤ 496

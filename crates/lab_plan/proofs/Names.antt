@@ -3,7 +3,8 @@ use Rattle.std.proofs.Common.{◌≡◌, ℕ, zero, suc, ◌+◌, ◌<◌, List,
 use Rattle.std.proofs.lemmas.Bool.{cases_eq, cases_lt}
 use Rattle.std.proofs.lemmas.List.{get_or-take, get_or_past, length-take}
 use Rattle.lab_plan.specs.LabPlan.{JobPlan, no_job}
-use Rattle.lab_plan.specs.Tables.{holds, job_names, AreNaming}
+use Rattle.lab_plan.specs.InstrumentSets.{holds}
+use Rattle.lab_plan.specs.NamedBy.{job_names, AreNaming}
 use Rattle.lab_plan.proofs.Bits.{holds_none}
 
 take_other : {X : Type 0} (xs : List X) (k j : ℕ) (d : X) → (j ≡ k → ⊥) → slice_index_or (take k xs) j d ≡ slice_index_or (take (k + 1) xs) j d

@@ -1,14 +1,14 @@
 -- The numbers of the pairs of jobs, pair by pair.
-use Rattle.std.proofs.Common.{◌≡◌, ◌⊎◌, ℕ, zero, suc, ◌+◌, ◌*◌, ◌-◌, ◌<◌, ◌≤◌, List, [], ◌∷◌, ◌++◌, Option, None, Some, length, take, replicate, slice_index_or, slice_set, arith, refl, sym, ap, ◌∙◌, subst, inl, inr, get_or-set_same, get_or-set_other, map, zero-add}
+use Rattle.std.proofs.Common.{◌≡◌, ℕ, zero, suc, ◌+◌, ◌*◌, ◌<◌, List, [], Option, None, Some, length, take, replicate, slice_index_or, slice_set, arith, refl, sym, ap, ◌∙◌, subst, inl, inr, get_or-set_same, get_or-set_other, map, zero-add}
 use Rattle.std.specs.List.{slice_get, Contains}
 use Rattle.std.specs.Option.{IfSome, IfNone}
 use Rattle.std.proofs.lemmas.Bool.{cases_eq}
-use Rattle.std.proofs.lemmas.List.{get_or-take, length-take, take_more, get_or_default}
+use Rattle.std.proofs.lemmas.List.{get_or-take, length-take, take_more}
 use Rattle.std.proofs.lemmas.List.Elements.{Contains-push_cases}
 use Rattle.std.proofs.lemmas.Option.{slice_get-get_or, slice_get_within, get_or_from_slice_get}
 use Rattle.std.specs.List.{range_with_len}
 use Rattle.std.proofs.lemmas.List.FromFn.{get_or-map-range_with_len}
-use Rattle.lab_plan.specs.Tables.{IsNumber, AreNumbers, edges_at}
+use Rattle.lab_plan.specs.PairTables.{IsNumber, AreNumbers, edges_at}
 
 -- one more pair, another than the one in question
 other_pair : (pairs : List (ℕ × ℕ)) (k : ℕ) (pair : ℕ × ℕ) (number : Option ℕ) → k < length pairs → (slice_index_or pairs k (0, 0) ≡ pair → ⊥)

@@ -5,7 +5,7 @@ use Rattle.std.proofs.lemmas.List.{map-append}
 use Rattle.std.proofs.lemmas.List.Concat.{flat_map-append}
 use Rattle.std.proofs.lemmas.List.Elements.{filter-append}
 use Rattle.std.proofs.lemmas.List.Folds.{list_any-append}
-use Rattle.lab_plan.specs.Tables.{row, rows}
+use Rattle.lab_plan.specs.NamedBy.{row, rows}
 use Rattle.lab_plan.proofs.Ranges.{range_push, range_more}
 
 pub row_more : (low k : ℕ) → low < k → row low (k + 1) ≡ row low k ++ (low, k) ∷ []

@@ -1,17 +1,19 @@
 -- What the tables of a plan say of it.
-use Rattle.std.proofs.Common.{◌≡◌, ◌⊎◌, ℕ, zero, suc, ◌+◌, ◌-◌, ◌*◌, ◌/◌, ◌%◌, ◌^◌, ◌<◌, ◌≤◌, List, [], ◌∷◌, Bool, true, false, cond, ◌||◌, nat_eq, pow_pos, length, map, filter, slice_index_or, arith, refl, sym, ap, ◌∙◌, subst, inl, inr}
+use Rattle.std.proofs.Common.{◌≡◌, ℕ, ◌+◌, ◌-◌, ◌*◌, ◌/◌, ◌%◌, ◌^◌, ◌<◌, ◌≤◌, List, [], ◌∷◌, Bool, true, cond, ◌||◌, nat_eq, pow_pos, length, map, filter, slice_index_or, arith, sym, ap, ◌∙◌, subst, inl, inr}
 use Rattle.std.specs.Int.{bit_at}
 use Rattle.std.proofs.lemmas.Nat.{div-add-mod'}
-use Rattle.std.specs.List.{All, list_any, range_with_len}
+use Rattle.std.specs.List.{list_any}
 use Rattle.std.proofs.lemmas.Bool.{cases_Bool, cases_lt, false≢true}
-use Rattle.std.proofs.lemmas.List.{get_or-map, get_or_default}
+use Rattle.std.proofs.lemmas.List.{get_or-map}
 use Rattle.std.proofs.lemmas.List.Elements.{filter_passes}
 use Rattle.std.proofs.lemmas.Nat.Bits.{same_from_bits, bit_at_cat_low, bit_at_above}
 use Rattle.std.proofs.lemmas.List.{length-map}
 use Rattle.lab_plan.specs.declared.verb.Verb.{Verb}
-use Rattle.lab_plan.specs.LabPlan.{LabPlan, edges, ends, edges_of, common, bottles, both_name, instrument_numbers, pairs, sessions, commands, command_at, session_names, part, place_at, length_at, no_job, no_session}
-use Rattle.lab_plan.specs.IsPlan.{IsPlan, IsNamed}
-use Rattle.lab_plan.specs.Tables.{SessionTable, IsTable, IsJobTable, IsSessionTable, AreJobTables, no_table, edges_at, holds}
+use Rattle.lab_plan.specs.LabPlan.{LabPlan, edges, ends, edges_of, common, bottles, both_name, instrument_numbers, pairs, sessions, commands, session_names, part, place_at}
+use Rattle.lab_plan.specs.IsPlan.{IsPlan}
+use Rattle.lab_plan.specs.InstrumentSets.{holds}
+use Rattle.lab_plan.specs.PairTables.{edges_at}
+use Rattle.lab_plan.specs.SessionTables.{SessionTable, IsTable, AreJobTables, no_table}
 use Rattle.lab_plan.proofs.Bits.{bit_cases}
 use Rattle.lab_plan.proofs.Shared.{session-instrument}
 

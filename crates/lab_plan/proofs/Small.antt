@@ -4,7 +4,7 @@ use Rattle.std.specs.List.{All, flat_map}
 use Rattle.std.proofs.lemmas.List.{get_or_default}
 use Rattle.lab_plan.specs.LabPlan.{SessionPlan, JobPlan, LabPlan, no_job, no_session, commands, sessions}
 use Rattle.lab_plan.specs.IsPlan.{IsDraft}
-use Rattle.lab_plan.specs.Tables.{HasSmall}
+use Rattle.lab_plan.specs.NamedBy.{HasSmall}
 
 -- a piece is no longer than the whole
 piece : {X Y : Type 0} (f : X → List Y) (xs : List X) (k : ℕ) (d : X) → k < length xs → length (f (slice_index_or xs k d)) ≤ length (flat_map f xs)

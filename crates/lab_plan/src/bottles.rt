@@ -1,7 +1,9 @@
 // The bottles of an edge.
 ghost use Rattle.std.specs.Prelude.{◌≡◌, ℕ, ◌^◌, ◌<◌, ◌≤◌, length, filter, map, slice_index, slice_get, Contains, IfSome, IfNone, IfOk};
 ghost use Rattle.std.specs.List.{range_with_len, All};
-ghost use Rattle.lab_plan.specs.Tables.{both_in, both_hold, IsPair};
+ghost use Rattle.lab_plan.specs.InstrumentSets.{both_in};
+ghost use Rattle.lab_plan.specs.NamedBy.{both_hold};
+ghost use Rattle.lab_plan.specs.PairTables.{IsPair};
 
 use crate::instrument_set::InstrumentSet;
 use crate::naming::Naming;

@@ -1,7 +1,8 @@
 // The edges of a plan: their ends, the number of a pair of jobs, and the edges of each job.
 ghost use Rattle.std.specs.Prelude.{◌≡◌, ℕ, ◌+◌, ◌*◌, ◌<◌, ◌≤◌, ◌++◌, length, filter, map, slice_index_or, slice_get, Contains, IfOk, IfSome, IfNone};
 ghost use Rattle.std.specs.List.{All, range_with_len};
-ghost use Rattle.lab_plan.specs.Tables.{meet, row, meeting, IsPair, AreNumbers, IsNumber, has_end, edges_at};
+ghost use Rattle.lab_plan.specs.NamedBy.{meet, row, meeting};
+ghost use Rattle.lab_plan.specs.PairTables.{IsPair, AreNumbers, IsNumber, has_end, edges_at};
 ghost use Rattle.lab_plan.specs.LabPlan.{lower_first};
 
 use crate::naming::Naming;
@@ -138,7 +139,7 @@ pub(crate) struct EdgeTable<A: Allocator = Global> {
 impl<A: Allocator> Model for EdgeTable<A> {
     ghost use Rattle.std.specs.Prelude.{List, ℕ, length, ◌≤◌, ◌≡◌, map};
     ghost use Rattle.std.specs.List.{All, range_with_len};
-    ghost use Rattle.lab_plan.specs.Tables.{IsPair, AreNumbers, edges_at};
+    ghost use Rattle.lab_plan.specs.PairTables.{IsPair, AreNumbers, edges_at};
 
     ghost Value = { List (ℕ × ℕ) };
 

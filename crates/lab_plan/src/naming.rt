@@ -3,7 +3,8 @@ ghost use Rattle.std.specs.Prelude.{◌≡◌, ℕ, ◌<◌, ◌≤◌, length, 
 ghost use Rattle.std.specs.List.{All, list_any};
 ghost use Rattle.lab_plan.specs.IsPlan.{IsDraft};
 ghost use Rattle.lab_plan.specs.Building.{has_too_many_in_common};
-ghost use Rattle.lab_plan.specs.Tables.{holds, AreNaming, HasSmall, job_names, meet, are_crowded, row, rows};
+ghost use Rattle.lab_plan.specs.InstrumentSets.{holds};
+ghost use Rattle.lab_plan.specs.NamedBy.{AreNaming, HasSmall, job_names, meet, are_crowded, row, rows};
 
 use crate::draft::Draft;
 use crate::instrument_set::InstrumentSet;

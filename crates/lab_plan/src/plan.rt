@@ -37,7 +37,8 @@ impl<A: Allocator> Model for Plan<A> {
 impl<A: Allocator> Plan<A> {
     ghost use Rattle.lab_plan.specs.LabPlan.{edges, ends, edges_of, lower_first, bottles, sessions, commands, patience, session_names, part, place_at, length_at, job_at};
     ghost use Rattle.lab_plan.specs.IsPlan.{IsPlan};
-    ghost use Rattle.lab_plan.specs.Tables.{AreTablesOf, IsTable};
+    ghost use Rattle.lab_plan.specs.SessionTables.{IsTable};
+    ghost use Rattle.lab_plan.specs.Tables.{AreTablesOf};
 
     pub(crate) fn new(draft: Draft<A>, tables: Tables<A>) -> Plan<A>
         requires plan { IsPlan draft }
@@ -47,12 +48,14 @@ impl<A: Allocator> Plan<A> {
         Plan { draft, tables }
     }
 
+    /// The version of the plan's script: 1, or 2 where sessions may have a patience.
     pub fn version(&self) -> u8
         ensures { result ≡ self.now.version }
     {
         self.draft.version()
     }
 
+    /// How many jobs there are, at most 32; their numbers are the ones below it.
     pub fn jobs(&self) -> usize
         ensures jobs { result ≡ length self.now.jobs }
         ensures plan { IsPlan self.now }
@@ -60,6 +63,7 @@ impl<A: Allocator> Plan<A> {
         self.draft.jobs()
     }
 
+    /// How many instruments there are; their numbers are the ones below it, in order of first naming.
     pub fn instruments(&self) -> usize
         ensures instruments { result ≡ length self.now.instruments }
         ensures few { result ≤ 56 }
@@ -67,6 +71,7 @@ impl<A: Allocator> Plan<A> {
         self.draft.instruments()
     }
 
+    /// How many edges the conflict graph has: one for each pair of jobs that name some instrument together.
     pub fn edges(&self) -> u16
         ensures edges { result ≡ length (edges self.now) }
         ensures few { result ≤ 496 }
@@ -74,6 +79,7 @@ impl<A: Allocator> Plan<A> {
         self.tables.edges().len()
     }
 
+    /// The name of a job: 1 to 16 bytes of ASCII.
     pub fn job_name(&self, job: JobNo) -> &[u8]
         requires { job < length self.now.jobs }
         ensures { result.now ≡ (job_at self.now job).name }
@@ -81,6 +87,7 @@ impl<A: Allocator> Plan<A> {
         self.draft.job_name(job)
     }
 
+    /// The name of an instrument: 1 to 16 bytes of ASCII.
     pub fn instrument_name(&self, instrument: InstrumentNo) -> &[u8]
         requires { instrument < length self.now.instruments }
         ensures { result.now ≡ slice_index_or self.now.instruments instrument [] }
@@ -88,6 +95,7 @@ impl<A: Allocator> Plan<A> {
         self.draft.instrument_name(instrument)
     }
 
+    /// The two jobs of an edge, the lower number first.
     #[tactic(auto, using(crate::proofs::Edges::ends_are_pair))]
     pub fn ends(&self, edge: EdgeNo) -> (JobNo, JobNo)
         requires { edge < length (edges self.now) }
@@ -120,7 +128,8 @@ impl<A: Allocator> Plan<A> {
     #[tactic(auto, using(crate::proofs::Readers::bottles_at, crate::proofs::Readers::bottle_lists))]
     fn bottles_at(&self, edge: EdgeNo) -> &Bottles<A>
         requires { edge < length (edges self.now) }
-        ensures { result.now ≡ bottles self.now edge }
+        ensures bottles { result.now ≡ bottles self.now edge }
+        ensures plan { IsPlan self.now }
     {
         self.tables.bottles(edge)
     }
@@ -133,19 +142,16 @@ impl<A: Allocator> Plan<A> {
         ensures some { 1 ≤ result }
         ensures few { result ≤ 28 }
     {
-        let _ = &self.draft;
         self.bottles_at(edge).len() as u32
     }
 
     /// The bottle of an instrument on an edge, where both its jobs name it.
     #[tactic(auto, using(crate::proofs::Readers::few_bottles))]
     pub fn bottle_of(&self, edge: EdgeNo, instrument: InstrumentNo) -> Option<u32>
-        requires is_edge { edge < length (edges self.now) }
-        requires is_instrument { instrument < length self.now.instruments }
+        requires { edge < length (edges self.now) }
         ensures found { IfSome result (λ k. slice_get (bottles self.now edge) k ≡ Some instrument) }
         ensures none { IfNone result (¬ Contains (bottles self.now edge) instrument) }
     {
-        let _ = &self.draft;
         self.bottles_at(edge).place_of(instrument)
     }
 
@@ -158,6 +164,7 @@ impl<A: Allocator> Plan<A> {
         self.bottles_at(edge).at(bottle)
     }
 
+    /// How many sessions a job has; they are counted from 1.
     pub fn sessions(&self, job: JobNo) -> u32
         requires { job < length self.now.jobs }
         ensures sessions { result ≡ length (sessions self.now job) }
@@ -166,6 +173,7 @@ impl<A: Allocator> Plan<A> {
         self.draft.sessions(job) as u32
     }
 
+    /// The commands of a session, in order.
     pub fn commands(&self, job: JobNo, session: u32) -> &[(InstrumentNo, Verb)]
         requires is_job { job < length self.now.jobs }
         requires begun { 1 ≤ session }
@@ -175,6 +183,7 @@ impl<A: Allocator> Plan<A> {
         self.draft.commands(job, session)
     }
 
+    /// How many of its own turns a session may stay thirsty, where it has a patience.
     pub fn patience(&self, job: JobNo, session: u32) -> Option<u32>
         requires is_job { job < length self.now.jobs }
         requires begun { 1 ≤ session }
@@ -189,7 +198,8 @@ impl<A: Allocator> Plan<A> {
         requires is_job { job < length self.now.jobs }
         requires begun { 1 ≤ session }
         requires is_session { session ≤ length (sessions self.now job) }
-        ensures { IsTable (commands self.now job session) result.now }
+        ensures table { IsTable (commands self.now job session) result.now }
+        ensures plan { IsPlan self.now }
     {
         self.tables.session(job, session)
     }
@@ -203,7 +213,6 @@ impl<A: Allocator> Plan<A> {
         ensures needs { (i : ℕ) → bit_at result i ≡ (if session_names self.now job session i then 1 else 0) }
         ensures few { result < 2 ^ length self.now.instruments }
     {
-        let _ = &self.draft;
         self.table(job, session).needs().bits()
     }
 
@@ -216,7 +225,6 @@ impl<A: Allocator> Plan<A> {
         requires is_instrument { instrument < length self.now.instruments }
         ensures { result ≡ part self.now job session instrument }
     {
-        let _ = &self.draft;
         self.table(job, session).part(instrument)
     }
 
@@ -230,7 +238,6 @@ impl<A: Allocator> Plan<A> {
         ensures place { result.place ≡ place_at self.now job session position }
         ensures length { result.length ≡ length_at self.now job session position }
     {
-        let _ = &self.draft;
         let (instrument, _) = self.commands(job, session)[position as usize];
         let table = self.table(job, session);
         Place {

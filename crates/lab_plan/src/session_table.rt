@@ -1,7 +1,8 @@
 // What is kept of each session: what it needs, its parts, and the place of each command in its part.
 ghost use Rattle.std.specs.Prelude.{◌≡◌, ℕ, ◌<◌, ◌≤◌, ◌-◌, length, slice_index_or, IfOk};
 ghost use Rattle.std.specs.List.{All};
-ghost use Rattle.lab_plan.specs.Tables.{IsTable, HasSmall, AreTables, AreJobTables, no_table};
+ghost use Rattle.lab_plan.specs.NamedBy.{HasSmall};
+ghost use Rattle.lab_plan.specs.SessionTables.{IsTable, AreTables, AreJobTables, no_table};
 
 use crate::instrument_set::InstrumentSet;
 use crate::job::Job;
@@ -19,7 +20,7 @@ pub(crate) struct SessionTable<A: Allocator = Global> {
 }
 
 impl<A: Allocator> Model for SessionTable<A> {
-    ghost use Rattle.lab_plan.specs.Tables.{SessionTable};
+    ghost use Rattle.lab_plan.specs.SessionTables.{SessionTable};
 
     ghost Value = { SessionTable };
 
@@ -77,7 +78,7 @@ pub(crate) struct JobTable<A: Allocator = Global> {
 
 impl<A: Allocator> Model for JobTable<A> {
     ghost use Rattle.std.specs.Prelude.{List};
-    ghost use Rattle.lab_plan.specs.Tables.{SessionTable};
+    ghost use Rattle.lab_plan.specs.SessionTables.{SessionTable};
 
     ghost Value = { List SessionTable };
 

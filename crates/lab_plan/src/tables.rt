@@ -1,7 +1,8 @@
 // The tables of a plan, made from its draft in one go.
 ghost use Rattle.std.specs.Prelude.{◌≡◌, ℕ, ◌-◌, ◌<◌, ◌≤◌, [], length, slice_index_or, IfOk};
 ghost use Rattle.lab_plan.specs.IsPlan.{IsDraft};
-ghost use Rattle.lab_plan.specs.Tables.{AreTablesOf, no_table};
+ghost use Rattle.lab_plan.specs.SessionTables.{no_table};
+ghost use Rattle.lab_plan.specs.Tables.{AreTablesOf};
 
 use crate::bottles::{bottles_of_all, Bottles};
 use crate::draft::Draft;

@@ -1,6 +1,6 @@
 use Rattle.std.proofs.Common.{◌≡◌, map, filter, take}
 use Rattle.std.specs.List.{range_with_len}
-use Rattle.lab_plan.specs.Tables.{both_hold}
+use Rattle.lab_plan.specs.NamedBy.{both_hold}
 use Rattle.lab_plan.proofs.bottles.bottles_of_all.Given as goal
 
 abbrev pub invariant-loop-low : goal.invariant-loop-low

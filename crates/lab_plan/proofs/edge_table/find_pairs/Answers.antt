@@ -1,6 +1,7 @@
 use Rattle.std.proofs.Common.{◌≡◌, ◌≤◌, arith, sym, ◌∙◌, ap, length, filter, subst}
 use Rattle.std.specs.List.{All}
-use Rattle.lab_plan.specs.Tables.{meet, rows, IsPair}
+use Rattle.lab_plan.specs.NamedBy.{meet, rows}
+use Rattle.lab_plan.specs.PairTables.{IsPair}
 use Rattle.lab_plan.proofs.Few.{few_pairs, all_pairs}
 use Rattle.lab_plan.proofs.edge_table.find_pairs.Goals as goal
 

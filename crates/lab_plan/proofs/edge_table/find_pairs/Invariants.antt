@@ -1,5 +1,5 @@
 use Rattle.std.proofs.Common.{◌≡◌, filter}
-use Rattle.lab_plan.specs.Tables.{meet, rows}
+use Rattle.lab_plan.specs.NamedBy.{meet, rows}
 use Rattle.lab_plan.proofs.edge_table.find_pairs.Given as goal
 
 abbrev pub invariant-loop-low : goal.invariant-loop-low

@@ -1,6 +1,6 @@
 use Rattle.std.proofs.Common.{zero-add}
 use Rattle.std.proofs.lemmas.List.FromFn.{map-range_with_len_more}
-use Rattle.lab_plan.specs.Tables.{edges_at}
+use Rattle.lab_plan.specs.PairTables.{edges_at}
 use Rattle.lab_plan.proofs.edge_table.lists_by_job.Goals as goal
 
 pub loop-job-preserved : goal.loop-job-preserved

@@ -1,6 +1,6 @@
 use Rattle.std.proofs.Common.{◌≡◌, map}
 use Rattle.std.specs.List.{range_with_len}
-use Rattle.lab_plan.specs.Tables.{edges_at}
+use Rattle.lab_plan.specs.PairTables.{edges_at}
 use Rattle.lab_plan.proofs.edge_table.lists_by_job.Given as goal
 
 abbrev pub invariant-loop-job : goal.invariant-loop-job

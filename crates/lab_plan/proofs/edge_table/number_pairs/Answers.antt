@@ -1,7 +1,7 @@
-use Rattle.std.proofs.Common.{ℕ, arith, sym, ◌∙◌, ap, length, length-set, take, slice_set, ◌+◌, ◌*◌, Some, subst}
+use Rattle.std.proofs.Common.{ℕ, arith, sym, ◌∙◌, ap, length-set, take, slice_set, ◌+◌, Some, subst}
 use Rattle.std.proofs.lemmas.List.{get_or_read, take_all}
-use Rattle.lab_plan.specs.Tables.{AreNumbers}
-use Rattle.lab_plan.proofs.PairNumbers.{numbers_more, numbers_none}
+use Rattle.lab_plan.specs.PairTables.{AreNumbers}
+use Rattle.lab_plan.proofs.PairNumbers.{numbers_more}
 use Rattle.lab_plan.proofs.edge_table.number_pairs.Goals as goal
 
 pub loop-e-preserved : goal.loop-e-preserved

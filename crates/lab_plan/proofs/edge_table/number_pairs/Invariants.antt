@@ -1,5 +1,5 @@
 use Rattle.std.proofs.Common.{◌≡◌, length, take}
-use Rattle.lab_plan.specs.Tables.{AreNumbers}
+use Rattle.lab_plan.specs.PairTables.{AreNumbers}
 use Rattle.lab_plan.proofs.edge_table.number_pairs.Given as goal
 
 abbrev pub invariant-loop-e : goal.invariant-loop-e

@@ -1,5 +1,5 @@
-use Rattle.std.proofs.Common.{arith, sym, ◌∙◌, ◌++◌, ap, append_assoc, [], ◌∷◌, filter}
-use Rattle.lab_plan.specs.Tables.{meet, row}
+use Rattle.std.proofs.Common.{arith, sym, ◌∙◌, append_assoc, [], ◌∷◌, filter}
+use Rattle.lab_plan.specs.NamedBy.{meet, row}
 use Rattle.lab_plan.proofs.Pairs.{kept_row_yes, kept_row_no}
 use Rattle.lab_plan.proofs.edge_table.push_row.Goals as goal
 use Rattle.lab_plan.proofs.edge_table.push_row.Goals.{then-meet+in_ok-push, else-meet}

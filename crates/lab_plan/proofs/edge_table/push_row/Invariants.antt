@@ -1,5 +1,5 @@
 use Rattle.std.proofs.Common.{◌≡◌, ◌++◌, filter}
-use Rattle.lab_plan.specs.Tables.{meet, row}
+use Rattle.lab_plan.specs.NamedBy.{meet, row}
 use Rattle.lab_plan.proofs.edge_table.push_row.Given as goal
 
 abbrev pub invariant-loop-high : goal.invariant-loop-high

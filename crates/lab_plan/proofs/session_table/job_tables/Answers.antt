@@ -1,7 +1,7 @@
-use Rattle.std.proofs.Common.{arith, sym, subst, take, ◌+◌, []}
+use Rattle.std.proofs.Common.{sym, subst, take, ◌+◌, []}
 use Rattle.std.proofs.lemmas.List.{get_or_read}
 use Rattle.lab_plan.specs.LabPlan.{no_job}
-use Rattle.lab_plan.specs.Tables.{AreJobTables, IsJobTable}
+use Rattle.lab_plan.specs.SessionTables.{AreJobTables, IsJobTable}
 use Rattle.lab_plan.proofs.Relations.{related_none, related_more, related_all}
 use Rattle.lab_plan.proofs.session_table.job_tables.Goals as goal
 

@@ -1,5 +1,5 @@
 use Rattle.std.proofs.Common.{take}
-use Rattle.lab_plan.specs.Tables.{AreJobTables}
+use Rattle.lab_plan.specs.SessionTables.{AreJobTables}
 use Rattle.lab_plan.proofs.session_table.job_tables.Given as goal
 
 abbrev pub invariant-loop-job : goal.invariant-loop-job

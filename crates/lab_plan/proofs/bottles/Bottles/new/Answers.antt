@@ -1,5 +1,5 @@
 use Rattle.std.proofs.Common.{sym, ◌∙◌}
-use Rattle.lab_plan.specs.Tables.{both_in}
+use Rattle.lab_plan.specs.InstrumentSets.{both_in}
 use Rattle.lab_plan.proofs.Ranges.{kept_yes, kept_no}
 use Rattle.lab_plan.proofs.bottles.Bottles.new.Goals as goal
 use Rattle.lab_plan.proofs.bottles.Bottles.new.Goals.{then-both_hold+in_ok-push, else-both_hold}

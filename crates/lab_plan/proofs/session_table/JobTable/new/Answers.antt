@@ -1,7 +1,7 @@
-use Rattle.std.proofs.Common.{◌≡◌, ◌∙◌, ap, arith, sym, subst, take, ◌+◌, slice_index_or}
+use Rattle.std.proofs.Common.{◌∙◌, ap, sym, subst, take, ◌+◌}
 use Rattle.std.proofs.lemmas.List.{get_or_read}
 use Rattle.lab_plan.specs.LabPlan.{SessionPlan, no_session}
-use Rattle.lab_plan.specs.Tables.{AreTables, IsTable, IsSessionTable, no_table}
+use Rattle.lab_plan.specs.SessionTables.{AreTables, IsTable, IsSessionTable, no_table}
 use Rattle.lab_plan.proofs.Relations.{related_none, related_more, related_all}
 use Rattle.lab_plan.proofs.session_table.JobTable.new.Goals as goal
 

@@ -1,5 +1,5 @@
 use Rattle.std.proofs.Common.{take}
-use Rattle.lab_plan.specs.Tables.{AreTables}
+use Rattle.lab_plan.specs.SessionTables.{AreTables}
 use Rattle.lab_plan.proofs.session_table.JobTable.new.Given as goal
 
 abbrev pub invariant-loop-session : goal.invariant-loop-session

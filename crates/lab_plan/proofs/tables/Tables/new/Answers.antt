@@ -1,7 +1,8 @@
-use Rattle.std.proofs.Common.{◌≡◌, ℕ, ◌∙◌, ap, sym, subst, length, map, filter}
+use Rattle.std.proofs.Common.{◌≡◌, ℕ, ◌∙◌, ap, subst, length, map, filter}
 use Rattle.std.specs.List.{range_with_len}
 use Rattle.lab_plan.specs.LabPlan.{edges, common}
-use Rattle.lab_plan.specs.Tables.{AreJobTables, meeting, both_hold}
+use Rattle.lab_plan.specs.NamedBy.{meeting, both_hold}
+use Rattle.lab_plan.specs.SessionTables.{AreJobTables}
 use Rattle.lab_plan.proofs.Crowded.{meeting_is, bottles_are}
 use Rattle.lab_plan.proofs.tables.Tables.new.Goals as goal
 

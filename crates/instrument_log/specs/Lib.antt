@@ -1,0 +1,5 @@
+pub mod Dial
+pub mod Entries
+pub mod Parts
+pub mod InstrumentLog
+pub mod Packed

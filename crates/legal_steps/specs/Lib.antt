@@ -1,0 +1,13 @@
+pub mod State
+pub mod Legal
+pub mod Run
+pub mod Steps
+pub mod Precedence
+pub mod Opening
+pub mod Fitting
+pub mod WholeLogs
+pub mod Holding
+pub mod Things
+pub mod Reached
+pub mod Laws
+pub mod LogLaws
