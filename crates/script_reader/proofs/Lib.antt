@@ -10,3 +10,5 @@ pub mod ReaderLoop
 pub mod OneMeaning
 pub mod Places
 pub mod ScriptPart
+pub mod StepList
+pub mod BottleSets

@@ -1,5 +1,5 @@
 -- Step lists: the lines behind a line `steps`, each one step of the script's plan.
-use Rattle.std.specs.Prelude.{ℕ, ◌≡◌, ◌+◌, ◌^◌, ◌≤◌, Bool, true, false, ◌&&◌, ◌||◌, not, nat_le, ◌==◌, min, max, List, [], ◌∷◌, ◌++◌, Option, None, Some, length, map, sum, drop, slice_index, slice_index_or, codes, if◌then◌else◌, ◌⊎◌}
+use Rattle.std.specs.Prelude.{ℕ, ◌≡◌, ◌+◌, ◌^◌, ◌≤◌, Bool, true, false, ◌&&◌, ◌||◌, not, nat_le, ◌==◌, min, max, List, [], ◌∷◌, ◌++◌, Option, None, Some, Result, Ok, Err, length, map, sum, drop, slice_index, slice_index_or, codes, if◌then◌else◌, ◌⊎◌}
 use Rattle.std.specs.List.{find, list_any, position}
 use Rattle.std.specs.Option.{option_map, option_and_then, is_some}
 use Rattle.std.specs.Str.{bytes_eq}
@@ -160,6 +160,15 @@ AreCleanUpTo plan first lines number =
 
 abbrev pub RefusesSteps : LabPlan → ℕ → List (List ℕ) → ScriptFault → Type 0
 RefusesSteps plan first lines fault = ((fault.cause ≡ NoMemory) × AreCleanUpTo plan first lines fault.line) ⊎ IsFaultInSteps plan first lines fault.line fault.cause
+
+-- what the reader answers at a line of a step list, and the steps that it has then
+abbrev pub ReadsStep : List StepLine → ℕ → Option (Option Step) → Result (Unit {0}) ScriptCause → List StepLine → Type 0
+ReadsStep old number None (Ok _) new = new ≡ old
+ReadsStep old number None (Err cause) new = ⊥
+ReadsStep old number (Some None) (Ok _) new = ⊥
+ReadsStep old number (Some (Some step)) (Ok _) new = (step_cause (length old) (Some step) ≡ None) × (new ≡ old ++ record { line = number; step = step } ∷ [])
+ReadsStep old number (Some found) (Err NoMemory) new = step_cause (length old) found ≡ None
+ReadsStep old number (Some found) (Err cause) new = step_cause (length old) found ≡ Some cause
 
 -- ---- texts
 

@@ -3,6 +3,7 @@
 // goes over the lines once, with a state that says all that the lines before say.
 #![tactic(auto)]
 
+mod bottles;
 pub mod fault;
 mod field;
 mod form;

@@ -1,11 +1,11 @@
 // The steps of a step list, by the names in a plan.
-ghost use Rattle.std.specs.Prelude.{◌≡◌, ℕ, ◌<◌, ◌==◌, None, Some, length, if◌then◌else◌, MatchOption};
-ghost use Rattle.std.specs.Option.{option_map, option_and_then};
-ghost use Rattle.lab_plan.specs.LabPlan.{edges, bottles};
+ghost use Rattle.std.specs.Prelude.{◌≡◌, ℕ, ◌<◌, None, Some, length, MatchOption};
+ghost use Rattle.lab_plan.specs.LabPlan.{edges};
 ghost use Rattle.script_reader.specs.Fields.{fields};
 ghost use Rattle.script_reader.specs.Steps.{job_named, edge_between, edge_named, job_event, edge_event, bottle_event, glance_event, job_step, edge_step, bottle_step, glance_step, step_with, step_in};
 
-use crate::field::{next_field, one_field, two_fields};
+use crate::bottles::bottle_set;
+use crate::field::{is_blank, next_field, one_field, two_fields};
 use lab_plan::{EdgeNo, JobNo, Plan};
 use legal_steps::Step;
 use std::alloc::Allocator;
@@ -160,4 +160,45 @@ fn glance_step<A: Allocator>(plan: &Plan<A>, word: &[u8], rest: &[u8]) -> Option
         return None;
     }
     glance_event(word, job, other)
+}
+
+fn bottle_step<A: Allocator>(plan: &Plan<A>, word: &[u8], rest: &[u8]) -> Option<Step>
+    ensures { result ≡ bottle_step plan.now word.now (fields rest.now) }
+{
+    let (name, rest) = next_field(rest)?;
+    let (other, bottles) = next_field(rest)?;
+    if is_blank(bottles) {
+        return None;
+    }
+    let (job, edge) = edge_named(plan, name, other)?;
+    let set = bottle_set(plan, edge, bottles)?;
+    bottle_event(word, job, edge, set)
+}
+
+/// The step with this word and these names.
+#[tactic(auto, unfolding(crate::specs::Steps::step_with))]
+fn step_with<A: Allocator>(plan: &Plan<A>, word: &[u8], rest: &[u8]) -> Option<Step>
+    ensures { result ≡ step_with plan.now word.now (fields rest.now) }
+{
+    if let Some(step) = job_step(plan, word, rest) {
+        return Some(step);
+    }
+    if let Some(step) = edge_step(plan, word, rest) {
+        return Some(step);
+    }
+    if let Some(step) = bottle_step(plan, word, rest) {
+        return Some(step);
+    }
+    glance_step(plan, word, rest)
+}
+
+/// The step of a line, where it has one; None where the line is skipped.
+pub(crate) fn step_in<A: Allocator>(plan: &Plan<A>, line: &[u8]) -> Option<Option<Step>>
+    ensures { result ≡ step_in plan.now line.now }
+{
+    let (first, rest) = next_field(line)?;
+    if first[0] == b'#' {
+        return None;
+    }
+    Some(step_with(plan, first, rest))
 }

@@ -2,13 +2,15 @@
 ghost use Rattle.std.specs.Prelude.{◌≡◌, ◌+◌, ◌-◌, ◌^◌, ◌<◌, MatchResult, Ok, Err};
 ghost use Rattle.script_reader.specs.Script.{text_lines, LinesMean, Refuses};
 ghost use Rattle.script_reader.specs.State.{Ends, IsTied};
-ghost use Rattle.script_reader.specs.Steps.{is_steps_line, script_part, steps_part, first_step};
+ghost use Rattle.script_reader.specs.Steps.{is_steps_line, script_part, steps_part, first_step, step_in, AreSteps, RefusesSteps, ReadsStep, StepsMean, StepsRefuse};
 
-use crate::fault::ScriptFault;
+use crate::fault::{ScriptCause, ScriptFault};
 use crate::form::{form_of, Form};
 use crate::reader::Reader;
+use crate::step::step_in;
 use bstr::ByteSlice;
 use lab_plan::Plan;
+use legal_steps::StepLine;
 use std::alloc::Allocator;
 
 /// What the script part of a text gives: its plan, the text behind the line `steps`, and the number
@@ -63,4 +65,52 @@ fn read_script<'a, A: Allocator + Copy>(alloc: A, text: &'a [u8]) -> Result<Scri
         number += 1;
     }
     end_script(reader, lines.as_bytes(), number)
+}
+
+/// Reads the next line of a step list.
+fn read_step<A: Allocator>(plan: &Plan<A>, steps: &mut Vec<StepLine, A>, number: usize, line: &[u8]) -> Result<(), ScriptCause>
+    ensures { ReadsStep steps.old.items number (step_in plan.now line.now) result steps.new.items }
+{
+    let Some(found) = step_in(plan, line) else {
+        return Ok(());
+    };
+    let Some(step) = found else {
+        return Err(ScriptCause::BadStep);
+    };
+    if steps.len() >= 1_000_000 {
+        return Err(ScriptCause::LimitPassed);
+    }
+    steps.push(StepLine { line: number, step }).map_err(|_| ScriptCause::NoMemory)
+}
+
+/// Reads the lines of a step list, of which the first has this number.
+fn read_list<A: Allocator + Copy>(alloc: A, plan: &Plan<A>, text: &[u8], first: usize) -> Result<Vec<StepLine, A>, ScriptFault>
+    requires { first < 2 ^ 63 + 2 }
+    ensures { let lines = text_lines text.now in MatchResult result (λ steps. AreSteps plan.now first lines steps.items) (RefusesSteps plan.now first lines) }
+{
+    let mut steps = Vec::new(alloc);
+    let mut number = first;
+    for line in text.lines() {
+        match read_step(plan, &mut steps, number, line) {
+            Ok(()) => {}
+            Err(cause) => {
+                return Err(ScriptFault { line: number, cause });
+            }
+        }
+        number += 1;
+    }
+    Ok(steps)
+}
+
+/// Reads the text of a script, of version 1 or 2, and the list of steps behind its line `steps`; a
+/// text without that line has no steps.
+///
+/// The faults are those of `read_plan`, but that a line `steps` ends the script as the end of the text
+/// does; and behind it the first line that is no step, or is one too many.
+pub fn read_steps<A: Allocator + Copy>(alloc: A, text: &[u8]) -> Result<(Plan<A>, Vec<StepLine, A>), ScriptFault>
+    ensures { MatchResult result (λ r. StepsMean text.now r.0 r.1.items) (StepsRefuse text.now) }
+{
+    let script = read_script(alloc, text)?;
+    let steps = read_list(alloc, &script.plan, script.rest, script.first)?;
+    Ok((script.plan, steps))
 }
