@@ -48,7 +48,7 @@ commands_with_command name verb plan some = ap length (all_commands_with_command
 test_next : (a b : ℕ) → nat_lt a b ≡ nat_lt (1 + a) (suc b)
 test_next a b = grind (arith, nat_tests)
 
-any_is : {X : Type 0} (p : X → Bool) (xs : List X) → list_any p xs ≡ nat_lt (position_or_len p xs) (length xs)
+pub any_is : {X : Type 0} (p : X → Bool) (xs : List X) → list_any p xs ≡ nat_lt (position_or_len p xs) (length xs)
 any_is p [] = refl
 any_is p (x ∷ xs) =
     ⊎_elim

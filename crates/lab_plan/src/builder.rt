@@ -1,12 +1,18 @@
 // Building a plan, one line of its script at a time.
-ghost use Rattle.std.specs.Prelude.{◌≡◌, ℕ, ◌<◌, ◌≤◌, length, None, Some, true, IsTrue, ◌↔◌, ◌&&◌, ◌||◌, nat_le};
+ghost use Rattle.std.specs.Prelude.{◌≡◌, ℕ, ◌<◌, ◌≤◌, length, None, Some, true, IsTrue, ◌↔◌, ◌&&◌, ◌||◌, nat_le, IfOk, IfErr, OnOk};
+ghost use Rattle.std.specs.Option.{ForSome};
 ghost use Rattle.lab_plan.specs.LabPlan.{LabPlan, all_commands};
+ghost use Rattle.lab_plan.specs.IsPlan.{IsPlan};
+ghost use Rattle.lab_plan.specs.Tables.{AreTablesOf};
 ghost use Rattle.lab_plan.specs.Names.{IsName};
 ghost use Rattle.lab_plan.specs.Verbs.{Fits};
-ghost use Rattle.lab_plan.specs.Building.{empty_plan, with_job, with_session, with_command, has_session, job_refusal, session_refusal, command_refusal, Does};
+ghost use Rattle.lab_plan.specs.Building.{empty_plan, with_job, with_session, with_command, has_session, job_refusal, session_refusal, command_refusal, finish_refusal, but_memory, Does, Finishes};
 
 use crate::draft::Draft;
+use crate::naming::has_too_many_in_common;
+use crate::plan::Plan;
 use crate::refusal::PlanRefusal;
+use crate::tables::Tables;
 use crate::verb::Verb;
 use std::alloc::{AllocError, Allocator, Global};
 use std::marker::Model;
@@ -24,20 +30,23 @@ pub struct PlanBuilder<A: Allocator + Copy = Global> {
 impl<A: Allocator + Copy> Model for PlanBuilder<A> {
     ghost use Rattle.std.specs.Prelude.{◌≡◌, length, ◌≤◌};
     ghost use Rattle.lab_plan.specs.LabPlan.{LabPlan, all_commands};
+    ghost use Rattle.lab_plan.specs.IsPlan.{IsDraft};
+    ghost use Rattle.lab_plan.specs.Building.{AreClosed};
 
     ghost Value = { LabPlan };
 
     ghost view = { λ b. b.draft };
 
     ghost invariant = { λ b. record {
-      few_instruments : length b.draft.instruments ≤ 56;
+      is_draft : IsDraft b.draft;
+      closed : AreClosed b.draft;
       counted : b.commands ≡ length (all_commands b.draft);
-      few_commands : b.commands ≤ 100000;
     } };
 }
 
 impl<A: Allocator + Copy> PlanBuilder<A> {
     /// A plan of version 1 with nothing in it. Takes no memory.
+    #[tactic(auto, using(crate::proofs::Drafts::draft_empty, crate::proofs::Closed::closed_empty))]
     pub fn new(alloc: A) -> PlanBuilder<A>
         ensures { result ≡ empty_plan 1 }
     {
@@ -49,6 +58,7 @@ impl<A: Allocator + Copy> PlanBuilder<A> {
     }
 
     /// A plan of version 2, whose sessions may have a patience. Takes no memory.
+    #[tactic(auto, using(crate::proofs::Drafts::draft_empty, crate::proofs::Closed::closed_empty))]
     pub fn new_two(alloc: A) -> PlanBuilder<A>
         ensures { result ≡ empty_plan 2 }
     {
@@ -57,6 +67,13 @@ impl<A: Allocator + Copy> PlanBuilder<A> {
             draft: Draft::new(alloc, 2),
             commands: 0,
         }
+    }
+
+    /// The version of the script: 1, or 2 where sessions may have a patience.
+    pub fn version(&self) -> u8
+        ensures { result ≡ self.now.version }
+    {
+        self.draft.version()
     }
 
     /// Whether the plan has a job, so that a session can begin.
@@ -109,9 +126,9 @@ impl<A: Allocator + Copy> PlanBuilder<A> {
         self.begin(Some(patience))
     }
 
-    #[tactic(auto, using(crate::proofs::Grown::all_commands_with_session))]
     fn begin(&mut self, patience: Option<u32>) -> Result<(), PlanRefusal>
-        requires { 0 < length self.old.jobs }
+        requires job { 0 < length self.old.jobs }
+        requires patient { ForSome patience (λ n. (self.old.version ≡ 2) × (n ≤ 999999)) }
         ensures { Does (session_refusal self.old) (with_session patience self.old) self.old result self.new }
     {
         if self.draft.is_bare() {
@@ -125,7 +142,6 @@ impl<A: Allocator + Copy> PlanBuilder<A> {
     }
 
     /// Adds a command to the last session; a name that is new becomes the next instrument.
-    #[tactic(auto, using(crate::proofs::Grown::commands_with_command))]
     pub fn command(&mut self, instrument: &[u8], verb: Verb) -> Result<(), PlanRefusal>
         requires name { IsName instrument.now }
         requires fits { Fits verb }
@@ -146,5 +162,34 @@ impl<A: Allocator + Copy> PlanBuilder<A> {
         ensures { result ≡ nat_le 100000 (length (all_commands self.now)) || (is_new && nat_le 56 (length self.now.instruments)) }
     {
         self.commands >= 100_000 || is_new && self.draft.instruments() >= 56
+    }
+
+    /// The finished plan. A refusal hands the builder back as it was.
+    pub fn finish(self) -> Result<Plan<A>, (PlanRefusal, PlanBuilder<A>)>
+        ensures { Finishes (finish_refusal self) self result }
+    {
+        match self.tables() {
+            Ok(tables) => {
+                let PlanBuilder { draft, .. } = self;
+                Ok(Plan::new(draft, tables))
+            }
+            Err(cause) => Err((cause, self)),
+        }
+    }
+
+    /// The tables of the plan as it stands, where it is a whole one.
+    #[tactic(auto, using(crate::proofs::Closed::finished))]
+    fn tables(&self) -> Result<Tables<A>, PlanRefusal>
+        ensures tables { IfOk result (λ tables. (finish_refusal self.now ≡ None) × AreTablesOf self.now tables) }
+        ensures plan { OnOk result (IsPlan self.now) }
+        ensures refused { IfErr result (λ cause. finish_refusal self.now ≡ but_memory cause) }
+    {
+        if self.draft.is_bare() {
+            return Err(PlanRefusal::SessionEmpty);
+        }
+        if has_too_many_in_common(&self.draft) {
+            return Err(PlanRefusal::TooManyInCommon);
+        }
+        Ok(Tables::new(self.alloc, &self.draft)?)
     }
 }
