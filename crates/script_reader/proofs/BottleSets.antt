@@ -1,5 +1,5 @@
 -- Sets of bottles, one bottle at a time.
-use Rattle.std.proofs.Common.{◌≡◌, ◌≢◌, ℕ, ◌+◌, ◌-◌, ◌*◌, ◌%◌, ◌^◌, ◌<◌, ◌≤◌, Bool, true, false, cond, if◌then◌else◌, not, ◌||◌, ◌&&◌, List, [], ◌∷◌, ◌++◌, length, refl, sym, ap, ◌∙◌, subst, arith, append_assoc, append-nil, ◌⊎◌, ⊎_elim, inl, inr, suc, zero}
+use Rattle.std.proofs.Common.{◌≡◌, ◌≢◌, ℕ, ◌+◌, ◌-◌, ◌*◌, ◌%◌, ◌^◌, ◌<◌, ◌≤◌, Bool, true, false, cond, if◌then◌else◌, not, ◌||◌, ◌&&◌, List, [], ◌∷◌, ◌++◌, length, refl, sym, ap, ◌∙◌, subst, arith, add_assoc, append_assoc, append-nil, ◌⊎◌, ⊎_elim, inl, inr, suc, zero}
 use Rattle.std.specs.Prelude.{Option, None, Some, map, sum, max, bit_or, bit_and, ◌==◌}
 use Rattle.std.specs.List.{list_any}
 use Rattle.std.specs.Option.{option_map, option_and_then}
@@ -110,7 +110,7 @@ shows-nil k = bit_at-zero k
 
 set_more : (ks : List ℕ) (k : ℕ) → set_of (ks ++ k ∷ []) ≡ set_of ks + 2 ^ k
 set_more [] k = omega arith
-set_more (x ∷ ks) k = let more = set_more ks k in omega (arith, more)
+set_more (x ∷ ks) k = ap (λ n. 2 ^ x + n) (set_more ks k) ∙ sym (add_assoc (2 ^ x) (set_of ks) (2 ^ k))
 
 pub set-push : (set : ℕ) (ks : List ℕ) (k : ℕ) → set ≡ set_of ks → Shows set ks → is_member k ks ≡ false → bit_or set (2 ^ k) ≡ set_of (ks ++ k ∷ [])
 set-push set ks k is shows isnt =

@@ -226,7 +226,11 @@ impl<A: Allocator + Copy> Reader<A> {
         if self.in_session {
             return Err(ScriptCause::SessionNotClosed);
         }
-        Err(ScriptCause::BadStep)
+        let Reader { builder, .. } = self;
+        match builder.finish() {
+            Ok(plan) => Ok(plan),
+            Err((refusal, _builder)) => Err(ScriptCause::from(refusal)),
+        }
     }
 }
 
