@@ -1,6 +1,6 @@
 -- Sets of bottles, one bottle at a time.
 use Rattle.std.proofs.Common.{◌≡◌, ◌≢◌, ℕ, ◌+◌, ◌-◌, ◌*◌, ◌%◌, ◌^◌, ◌<◌, ◌≤◌, Bool, true, false, cond, if◌then◌else◌, not, ◌||◌, ◌&&◌, List, [], ◌∷◌, ◌++◌, length, refl, sym, ap, ◌∙◌, subst, arith, add_assoc, append_assoc, append-nil, ◌⊎◌, ⊎_elim, inl, inr, suc, zero}
-use Rattle.std.specs.Prelude.{Option, None, Some, map, sum, max, bit_or, bit_and, ◌==◌}
+use Rattle.std.specs.Prelude.{Option, None, Some, map, max, bit_or, bit_and, ◌==◌}
 use Rattle.std.specs.List.{list_any}
 use Rattle.std.specs.Option.{option_map, option_and_then}
 use Rattle.std.specs.Int.{bit_at}
@@ -8,7 +8,8 @@ use Rattle.std.proofs.lemmas.Bool.{cases_Bool, false_from_ne_true, true≢false}
 use Rattle.std.proofs.lemmas.Bool.Decides.{Decides-eqb}
 use Rattle.std.proofs.lemmas.List.{map-append}
 use Rattle.std.proofs.lemmas.List.Folds.{list_any-append}
-use Rattle.std.proofs.lemmas.Nat.{or_disjoint, pow_pos}
+use Rattle.std.proofs.lemmas.List.Sums.{sum_by-append}
+use Rattle.std.proofs.lemmas.Nat.{or_disjoint, pow_pos, pow_below}
 use Rattle.std.proofs.lemmas.Nat.Bits.{bit_at-zero, bit_at_or, bit_at-pow_same, bit_at-pow_other, and_pow}
 use Rattle.script_reader.specs.Steps.{all_there, is_distinct, set_of}
 
@@ -109,8 +110,7 @@ pub shows-nil : Shows 0 []
 shows-nil k = bit_at-zero k
 
 set_more : (ks : List ℕ) (k : ℕ) → set_of (ks ++ k ∷ []) ≡ set_of ks + 2 ^ k
-set_more [] k = omega arith
-set_more (x ∷ ks) k = ap (λ n. 2 ^ x + n) (set_more ks k) ∙ sym (add_assoc (2 ^ x) (set_of ks) (2 ^ k))
+set_more ks k = sum_by-append (λ (n : ℕ). 2 ^ n) ks (k ∷ []) ∙ ap (λ n. set_of ks + n) (omega arith)
 
 pub set-push : (set : ℕ) (ks : List ℕ) (k : ℕ) → set ≡ set_of ks → Shows set ks → is_member k ks ≡ false → bit_or set (2 ^ k) ≡ set_of (ks ++ k ∷ [])
 set-push set ks k is shows isnt =
@@ -154,6 +154,10 @@ is_there set ks k shows some =
     (λ there. there)
     (λ isnt. absurd (some (bit_of set ks k false shows isnt ∙ omega arith)))
     (cases_Bool (is_member k ks))
+
+-- the bit of a bottle, as the code makes it
+pub one_bit : (k : ℕ) → k < 28 → 1 * 2 ^ k % 4294967296 ≡ 2 ^ k
+one_bit k few = let below = pow_below k 32 (omega arith) in omega (arith, below)
 
 -- ---- the set of some names, by what gives each its bottle
 

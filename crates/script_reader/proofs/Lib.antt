@@ -12,4 +12,4 @@ pub mod Places
 pub mod ScriptPart
 pub mod StepList
 pub mod BottleSets
-pub mod Bottles
+pub mod OfInstruments

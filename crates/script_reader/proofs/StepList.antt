@@ -12,7 +12,6 @@ use Rattle.script_reader.specs.declared.fault.ScriptFault.{ScriptFault}
 use Rattle.script_reader.specs.Script.{numbered, text_lines}
 use Rattle.script_reader.specs.Steps.{step_in, list_of, placed, AreSteps, step_cause, IsFaultInSteps, AreCleanUpTo, RefusesSteps, ReadsStep}
 use Rattle.script_reader.proofs.ReaderLoop.{numbered-append, one_line, no_line, counts}
-use Rattle.script_reader.proofs.ScriptPart.{few_lines}
 
 -- these lines are read, and these are left
 pub record IsListing (plan : LabPlan) (first : ℕ) (lines done rest : List (List ℕ)) (number : ℕ) (steps : List StepLine) : Type 0 where
@@ -24,13 +23,13 @@ pub record IsListing (plan : LabPlan) (first : ℕ) (lines done rest : List (Lis
 pub begins : (plan : LabPlan) (first : ℕ) (lines : List (List ℕ)) → IsListing plan first lines [] lines first []
 begins plan first lines = record { split = refl; counted = omega arith; are = refl; few = omega arith }
 
-pub fits : (plan : LabPlan) (first : ℕ) (text : List ℕ) (done rest : List (List ℕ)) (number : ℕ) (steps : List StepLine) → IsListing plan first (text_lines text) done rest number steps → number ≤ first + length text
-fits plan first text done rest number steps h =
-    let few = few_lines text in
+-- the number of the next line fits
+pub fits : (plan : LabPlan) (first : ℕ) (lines : List (List ℕ)) (line : List ℕ) (done rest : List (List ℕ)) (number : ℕ) (steps : List StepLine) → IsListing plan first lines done (line ∷ rest) number steps → number + 1 ≤ first + length lines
+fits plan first lines line done rest number steps h =
     let all = ap length h.split in
-    let sum = length-append done rest in
+    let sum = length-append done (line ∷ rest) in
     let count = h.counted in
-    omega (arith, few, all, sum, count)
+    omega (arith, all, sum, count)
 
 -- the line stands behind the lines that are read
 stands : (plan : LabPlan) (first : ℕ) (lines : List (List ℕ)) (line : List ℕ) (done rest : List (List ℕ)) (n : ℕ) (steps : List StepLine) (found : Option Step) → IsListing plan first lines done (line ∷ rest) n steps → step_in plan line ≡ Some found

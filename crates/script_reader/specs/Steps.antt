@@ -1,6 +1,6 @@
 -- Step lists: the lines behind a line `steps`, each one step of the script's plan.
-use Rattle.std.specs.Prelude.{ℕ, ◌≡◌, ◌+◌, ◌^◌, ◌≤◌, Bool, true, false, ◌&&◌, ◌||◌, not, nat_le, ◌==◌, min, max, List, [], ◌∷◌, ◌++◌, Option, None, Some, Result, Ok, Err, length, map, sum, drop, slice_index, slice_index_or, codes, if◌then◌else◌, ◌⊎◌}
-use Rattle.std.specs.List.{find, list_any, position}
+use Rattle.std.specs.Prelude.{ℕ, ◌≡◌, ◌+◌, ◌^◌, ◌≤◌, Bool, true, false, ◌&&◌, ◌||◌, not, nat_le, ◌==◌, min, max, List, [], ◌∷◌, ◌++◌, Option, None, Some, Result, Ok, Err, length, map, drop, slice_index, slice_index_or, codes, if◌then◌else◌, ◌⊎◌}
+use Rattle.std.specs.List.{find, list_any, position, sum_by}
 use Rattle.std.specs.Option.{option_map, option_and_then, is_some}
 use Rattle.std.specs.Str.{bytes_eq}
 use Rattle.lab_plan.specs.LabPlan.{JobPlan, LabPlan, edges, bottles}
@@ -44,7 +44,7 @@ is_distinct (k ∷ ks) = not (list_any (λ other. other == k) ks) && is_distinct
 
 -- the set with these members: bit k for bottle k
 abbrev pub set_of : List ℕ → ℕ
-set_of ks = sum (map (λ k. 2 ^ k) ks)
+set_of ks = sum_by (λ k. 2 ^ k) ks
 
 -- the set of the bottles of an edge with these names, none twice
 unfoldable pub bottle_set : LabPlan → ℕ → List (List ℕ) → Option ℕ

@@ -9,7 +9,7 @@ use lab_plan::{EdgeNo, Plan};
 use std::alloc::Allocator;
 
 /// The bottle of an edge whose instrument has this name.
-#[tactic(auto, using(crate::proofs::Bottles::bottle_inside))]
+#[tactic(auto, using(crate::proofs::OfInstruments::bottle_inside))]
 fn bottle_named<A: Allocator>(plan: &Plan<A>, edge: EdgeNo, name: &[u8]) -> Option<u32>
     requires { edge < length (edges plan.now) }
     ensures { MatchOption result (bottle_named plan.now edge name.now ≡ None) (λ k. (bottle_named plan.now edge name.now ≡ Some k) × (k < 28)) }

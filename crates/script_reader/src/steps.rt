@@ -1,5 +1,5 @@
 // Reading a script with a list of steps.
-ghost use Rattle.std.specs.Prelude.{◌≡◌, ◌+◌, ◌-◌, ◌^◌, ◌<◌, MatchResult, Ok, Err};
+ghost use Rattle.std.specs.Prelude.{◌≡◌, ◌+◌, ◌-◌, ◌^◌, ◌<◌, MatchResult, Ok, Err, Some, length};
 ghost use Rattle.script_reader.specs.Script.{text_lines, LinesMean, Refuses};
 ghost use Rattle.script_reader.specs.State.{Ends, IsTied};
 ghost use Rattle.script_reader.specs.Steps.{is_steps_line, script_part, steps_part, first_step, step_in, AreSteps, RefusesSteps, ReadsStep, StepsMean, StepsRefuse};
@@ -10,7 +10,7 @@ use crate::reader::Reader;
 use crate::step::step_in;
 use bstr::ByteSlice;
 use lab_plan::Plan;
-use legal_steps::StepLine;
+use legal_steps::{Step, StepLine};
 use std::alloc::Allocator;
 
 /// What the script part of a text gives: its plan, the text behind the line `steps`, and the number
@@ -67,25 +67,33 @@ fn read_script<'a, A: Allocator + Copy>(alloc: A, text: &'a [u8]) -> Result<Scri
     end_script(reader, lines.as_bytes(), number)
 }
 
+/// One more step of the list.
+fn push_step<A: Allocator>(steps: &mut Vec<StepLine, A>, line: usize, step: Step) -> Result<(), ScriptCause>
+    ensures { ReadsStep steps.old.items line (Some (Some step)) result steps.new.items }
+{
+    if steps.len() >= 1_000_000 {
+        return Err(ScriptCause::LimitPassed);
+    }
+    match steps.push(StepLine { line, step }) {
+        Ok(()) => Ok(()),
+        Err(_) => Err(ScriptCause::NoMemory),
+    }
+}
+
 /// Reads the next line of a step list.
 fn read_step<A: Allocator>(plan: &Plan<A>, steps: &mut Vec<StepLine, A>, number: usize, line: &[u8]) -> Result<(), ScriptCause>
     ensures { ReadsStep steps.old.items number (step_in plan.now line.now) result steps.new.items }
 {
-    let Some(found) = step_in(plan, line) else {
-        return Ok(());
-    };
-    let Some(step) = found else {
-        return Err(ScriptCause::BadStep);
-    };
-    if steps.len() >= 1_000_000 {
-        return Err(ScriptCause::LimitPassed);
+    match step_in(plan, line) {
+        None => Ok(()),
+        Some(None) => Err(ScriptCause::BadStep),
+        Some(Some(step)) => push_step(steps, number, step),
     }
-    steps.push(StepLine { line: number, step }).map_err(|_| ScriptCause::NoMemory)
 }
 
 /// Reads the lines of a step list, of which the first has this number.
 fn read_list<A: Allocator + Copy>(alloc: A, plan: &Plan<A>, text: &[u8], first: usize) -> Result<Vec<StepLine, A>, ScriptFault>
-    requires { first < 2 ^ 63 + 2 }
+    requires { first + length (text_lines text.now) < 2 ^ 64 }
     ensures { let lines = text_lines text.now in MatchResult result (λ steps. AreSteps plan.now first lines steps.items) (RefusesSteps plan.now first lines) }
 {
     let mut steps = Vec::new(alloc);
@@ -110,7 +118,9 @@ fn read_list<A: Allocator + Copy>(alloc: A, plan: &Plan<A>, text: &[u8], first: 
 pub fn read_steps<A: Allocator + Copy>(alloc: A, text: &[u8]) -> Result<(Plan<A>, Vec<StepLine, A>), ScriptFault>
     ensures { MatchResult result (λ r. StepsMean text.now r.0 r.1.items) (StepsRefuse text.now) }
 {
-    let script = read_script(alloc, text)?;
-    let steps = read_list(alloc, &script.plan, script.rest, script.first)?;
-    Ok((script.plan, steps))
+    let ScriptPart { plan, rest, first } = read_script(alloc, text)?;
+    match read_list(alloc, &plan, rest, first) {
+        Ok(steps) => Ok((plan, steps)),
+        Err(fault) => Err(fault),
+    }
 }
