@@ -96,6 +96,7 @@ distinct-twice (x ∷ ks) k more is =
     or_true : (a : Bool) → (a || true) ≡ true
     or_true true = refl
     or_true false = refl
+
     and_false : (a : Bool) → (a && false) ≡ false
     and_false true = refl
     and_false false = refl
@@ -131,11 +132,11 @@ shows-push set ks k shows i =
     let number : Bool → ℕ = λ b. if b then 1 else 0 in
     ⊎_elim
     (λ same.
-      let one : bit_at (2 ^ k) i ≡ 1 = ap (bit_at (2 ^ k)) (sym ((Decides-eqb k i).0 same)) ∙ bit_at-pow_same k in
-      bit_at_or set (2 ^ k) i ∙ (λ j. max (shows i j) (one j)) ∙ max_one (is_member i ks) ∙ ap number (sym (member-push i k ks ∙ ap (λ b. is_member i ks || b) same)))
+    let one : bit_at (2 ^ k) i ≡ 1 = ap (bit_at (2 ^ k)) (sym ((Decides-eqb k i).0 same)) ∙ bit_at-pow_same k in
+    bit_at_or set (2 ^ k) i ∙ (λ j. max (shows i j) (one j)) ∙ max_one (is_member i ks) ∙ ap number (sym (member-push i k ks ∙ ap (λ b. is_member i ks || b) same)))
     (λ other.
-      let none : bit_at (2 ^ k) i ≡ 0 = bit_at-pow_other k i (λ e. true≢false (sym ((Decides-eqb k i).1 (sym e)) ∙ other)) in
-      bit_at_or set (2 ^ k) i ∙ (λ j. max (shows i j) (none j)) ∙ max_zero (is_member i ks) ∙ ap number (sym (member-push i k ks ∙ ap (λ b. is_member i ks || b) other)))
+    let none : bit_at (2 ^ k) i ≡ 0 = bit_at-pow_other k i (λ e. true≢false (sym ((Decides-eqb k i).1 (sym e)) ∙ other)) in
+    bit_at_or set (2 ^ k) i ∙ (λ j. max (shows i j) (none j)) ∙ max_zero (is_member i ks) ∙ ap number (sym (member-push i k ks ∙ ap (λ b. is_member i ks || b) other)))
     (cases_Bool (k == i))
 
 bit_of : (set : ℕ) (ks : List ℕ) (k : ℕ) (there : Bool) → Shows set ks → is_member k ks ≡ there → bit_and set (2 ^ k) ≡ (if there then 1 else 0) * 2 ^ k
@@ -204,7 +205,7 @@ pub twice : (f : List ℕ → Option ℕ) (names done rest : List (List ℕ)) (k
 twice f names done rest ks set name k h is some =
     let there = is_there set ks k h.shows some in
     let found : all_there (map f names) ≡ option_and_then (λ ks. option_map (λ more. ks ++ more) (all_there (Some k ∷ map f rest))) (Some ks) =
-        from_here f names done rest ks set name (Some k) h is ∙ all_there-append (map f done) (Some k ∷ map f rest) ∙ ap (option_and_then (λ ks. option_map (λ more. ks ++ more) (all_there (Some k ∷ map f rest)))) h.there in
+    from_here f names done rest ks set name (Some k) h is ∙ all_there-append (map f done) (Some k ∷ map f rest) ∙ ap (option_and_then (λ ks. option_map (λ more. ks ++ more) (all_there (Some k ∷ map f rest)))) h.there in
     ap (option_and_then (λ ks. if is_distinct ks then Some (set_of ks) else None)) found ∙ refused (all_there (map f rest)) there
   where
     refused : (o : Option (List ℕ)) → is_member k ks ≡ true → option_and_then (λ ks. if is_distinct ks then Some (set_of ks) else None) (option_map (λ more. ks ++ more) (option_map (λ more. k ∷ more) o)) ≡ None

@@ -60,8 +60,8 @@ event_with word events = option_map (λ (event : List ℕ × Step). event.1) (fi
 unfoldable pub job_event : List ℕ → ℕ → Option Step
 job_event word j =
     event_with word (
-      (codes "thirst", Thirst j) ∷ (codes "hunger", Hunger j) ∷ (codes "sit", Sit j) ∷ (codes "leave", Leave j) ∷ (codes "drink", Drink j)
-      ∷ (codes "reach", Reach j) ∷ (codes "act", Act j) ∷ (codes "quit", Quit j) ∷ (codes "retire", Retire j) ∷ (codes "withdraw", Withdraw j) ∷ []
+    (codes "thirst", Thirst j) ∷ (codes "hunger", Hunger j) ∷ (codes "sit", Sit j) ∷ (codes "leave", Leave j) ∷ (codes "drink", Drink j)
+    ∷ (codes "reach", Reach j) ∷ (codes "act", Act j) ∷ (codes "quit", Quit j) ∷ (codes "retire", Retire j) ∷ (codes "withdraw", Withdraw j) ∷ []
     )
 
 -- of a job at one of its edges

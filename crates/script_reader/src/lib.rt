@@ -13,6 +13,9 @@ pub mod plan;
 mod reader;
 mod step;
 pub mod steps;
+#[cfg(test)]
+mod tests;
 
 pub use fault::{ScriptCause, ScriptFault};
 pub use plan::read_plan;
+pub use steps::read_steps;
