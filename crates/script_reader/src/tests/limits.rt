@@ -106,7 +106,7 @@ fn steps(rt: HostRuntime) -> Result<(), Fail> {
         text.push_str("sit a\n")?;
     }
     match read_steps(alloc, text.as_bytes()) {
-        Ok((_, steps)) => assert!(rt; steps.len() == 1_000_000),
+        Ok((plan, steps)) => assert!(rt; plan.jobs() == 1 && steps.len() == 1_000_000),
         Err(_) => assert!(rt; false),
     }
     text.push_str("#\n\nsit a")?;
