@@ -13,3 +13,4 @@ pub mod ScriptPart
 pub mod StepList
 pub mod BottleSets
 pub mod OfInstruments
+pub mod EdgeNumbers

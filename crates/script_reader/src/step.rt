@@ -24,21 +24,16 @@ fn job_named<A: Allocator>(plan: &Plan<A>, name: &[u8]) -> Option<JobNo>
 }
 
 /// The edge of two jobs.
+#[tactic(auto, using(crate::proofs::EdgeNumbers::edge_none))]
 fn edge_between<A: Allocator>(plan: &Plan<A>, job: JobNo, other: JobNo) -> Option<EdgeNo>
     requires job { job < length plan.now.jobs }
     requires other { other < length plan.now.jobs }
     ensures { MatchOption result (edge_between plan.now job other ≡ None) (λ e. (edge_between plan.now job other ≡ Some e) × (e < length (edges plan.now))) }
 {
-    let low = JobNo(job.0.min(other.0));
-    let high = JobNo(job.0.max(other.0));
-    for number in 0..plan.edges() {
-        let edge = EdgeNo(number);
-        let ends = plan.ends(edge);
-        if ends.0 == low && ends.1 == high {
-            return Some(edge);
-        }
+    match plan.edge_of(job, other) {
+        None => None,
+        Some(edge) => Some(edge),
     }
-    None
 }
 
 /// A job by its name, and its edge to another.

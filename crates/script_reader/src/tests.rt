@@ -298,7 +298,8 @@ fn words_of_steps(rt: HostRuntime) -> Result<(), Fail> {
     for (word, step) in words {
         let text = format!(in alloc; "{SHARED}steps\n{word}")?;
         match read_steps(alloc, text.as_bytes()) {
-            Ok((_, steps)) => {
+            Ok((plan, steps)) => {
+                assert!(rt; plan.jobs() == 3);
                 assert!(rt;
                     steps.len() == 1 && steps[0].line == 14 && steps[0].step == step,
                     "{word}"
