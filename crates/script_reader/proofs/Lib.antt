@@ -18,3 +18,7 @@ pub mod UpgradePlan
 pub mod UpgradeText
 pub mod UpgradeForms
 pub mod UpgradeMeans
+pub mod StepList
+pub mod BottleSets
+pub mod OfInstruments
+pub mod EdgeNumbers

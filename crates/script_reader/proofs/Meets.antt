@@ -44,13 +44,13 @@ session_count : (names : List (List ℕ)) (before : List Line) → list_any is_j
 session_count names [] e = cc
 session_count names (Job name ∷ before) e =
     sym (ap (λ l. length (last_of (jobs_of names l)).sessions) (reversed (Job name) before) ∙ ap (λ jobs. length (last_of jobs).sessions) (begins is_job_line (job_of names) (Job name) refl (reverse before))
-      ∙ ap (λ (job : JobPlan). length job.sessions) (last_pushed (jobs_of names (reverse before)) (record { name = name; sessions = [] }) no_job))
+    ∙ ap (λ (job : JobPlan). length job.sessions) (last_pushed (jobs_of names (reverse before)) (record { name = name; sessions = [] }) no_job))
 session_count names (Session ∷ before) e = ap suc (session_count names before e) ∙ sym (one_session names Session before refl refl (some_job names before e))
 session_count names (PatientSession number ∷ before) e = ap suc (session_count names before e) ∙ sym (one_session names (PatientSession number) before refl refl (some_job names before e))
 session_count names (Command name verb ∷ before) e =
     let i = position_or_len (bytes_eq name) names in
     session_count names before e ∙ sym (ap (λ l. length (last_of (jobs_of names l)).sessions) (reversed (Command name verb) before) ∙ ap (λ jobs. length (last_of jobs).sessions) (jobs-command names name verb (reverse before))
-      ∙ ap (λ (job : JobPlan). length job.sessions) (last_changed (in_last_session i (verb_of verb)) (jobs_of names (reverse before)) no_job (some_job names before e)) ∙ same_length (and_command i (verb_of verb)) _)
+    ∙ ap (λ (job : JobPlan). length job.sessions) (last_changed (in_last_session i (verb_of verb)) (jobs_of names (reverse before)) no_job (some_job names before e)) ∙ same_length (and_command i (verb_of verb)) _)
 session_count names (Header version ∷ before) e = session_count names before e ∙ sym (no_more names (Header version) before (jobs-other names (Header version) refl refl refl (reverse before)))
 session_count names (End ∷ before) e = session_count names before e ∙ sym (no_more names End before (jobs-other names End refl refl refl (reverse before)))
 session_count names (Steps ∷ before) e = session_count names before e ∙ sym (no_more names Steps before (jobs-other names Steps refl refl refl (reverse before)))
@@ -82,7 +82,7 @@ cause_is before (PatientSession number) counted =
     (λ i. at (is_empty before) NoHeader (at (not (two_is (list_any is_lab_two before) i)) UnknownWord (at (is_open before) SessionNotClosed (in_job before (λ n. at (not (is_number number)) BadNumber (at (nat_le 1000 n) LimitPassed None)) i))))
 cause_is before (Command name verb) counted =
     (λ i. at (is_empty before) NoHeader (at (not (is_open before)) NotInSession (at (not (is_name name)) BadName (at (has (λ number. not (is_number number)) (verb_number verb)) BadNumber
-      (at (nat_le 100000 (counted i) || (not (instrument_there before name i) && nat_le 56 (length (instruments_of (reverse before))))) LimitPassed None)))))
+    (at (nat_le 100000 (counted i) || (not (instrument_there before name i) && nat_le 56 (length (instruments_of (reverse before))))) LimitPassed None)))))
 cause_is before End counted = refl
 cause_is before Steps counted = refl
 cause_is before Unknown counted = refl

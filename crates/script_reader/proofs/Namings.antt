@@ -60,12 +60,12 @@ namings-more (x ∷ names) name =
     let more = ap (λ l. x ∷ filter p l) (namings-more names name) in
     more ∙ ⊎_elim
     (λ is.
-      let out : p name ≡ false = ap not ((bytes_eq-Decides x name).1 (sym (same_bytes name x is))) in
-      rw is (⊎_elim (λ there. rw there refl) (λ there. rw there (ap (λ l. x ∷ l) (gone p (first_namings names) name out))) (cases_Bool (list_any (bytes_eq name) (first_namings names)))))
+    let out : p name ≡ false = ap not ((bytes_eq-Decides x name).1 (sym (same_bytes name x is))) in
+    rw is (⊎_elim (λ there. rw there refl) (λ there. rw there (ap (λ l. x ∷ l) (gone p (first_namings names) name out))) (cases_Bool (list_any (bytes_eq name) (first_namings names)))))
     (λ is.
-      let kept = any_kept name p (first_namings names) (keeps_others name x is) in
-      let inside : p name ≡ true = keeps_others name x is name ((bytes_eq-Decides name name).1 refl) in
-      rw (is, kept) (⊎_elim (λ there. rw there refl) (λ there. rw there (ap (λ l. x ∷ l) (drops p (first_namings names) name inside))) (cases_Bool (list_any (bytes_eq name) (first_namings names)))))
+    let kept = any_kept name p (first_namings names) (keeps_others name x is) in
+    let inside : p name ≡ true = keeps_others name x is name ((bytes_eq-Decides name name).1 refl) in
+    rw (is, kept) (⊎_elim (λ there. rw there refl) (λ there. rw there (ap (λ l. x ∷ l) (drops p (first_namings names) name inside))) (cases_Bool (list_any (bytes_eq name) (first_namings names)))))
     (cases_Bool (bytes_eq name x))
 
 -- ---- the place of a name

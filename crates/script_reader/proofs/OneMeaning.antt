@@ -50,8 +50,8 @@ two_lines lines m n cause other h k =
       some_same cause other _ h.5 (ap (λ (p : List Line × Line). cause_at p.0 p.1) (λ i. (backwards (e.0 i), (e.1 i).1)) ∙ k.5),
     ))
     (⊎_elim
-      (λ e. absurd (never h.0 e.0 (m, h.1) cause (subst (λ l. AreSound (backwards l)) e.1 k.4) h.5))
-      (λ e. absurd (never k.0 e.0 (n, k.1) other (subst (λ l. AreSound (backwards l)) e.1 h.4) k.5)))
+    (λ e. absurd (never h.0 e.0 (m, h.1) cause (subst (λ l. AreSound (backwards l)) e.1 k.4) h.5))
+    (λ e. absurd (never k.0 e.0 (n, k.1) other (subst (λ l. AreSound (backwards l)) e.1 h.4) k.5)))
     (cuts h.0 h.2 k.0 k.2 (m, h.1) (n, k.1) (sym h.3 ∙ k.3))
 
 line_not_sound : (lines : List (List ℕ)) (n : ℕ) (cause : ScriptCause) → AreSound (backwards (script_of lines)) → IsFaultAtLine lines n cause → ⊥

@@ -48,10 +48,10 @@ module _ {B : Type 0} (kind : Line → Bool) (make : Line → List Line → B) (
       let more = goes_on change no_kind grows lines in
       ⊎_elim
       (λ is. rw is
-        (⊎_elim
-          (λ h. rw (h.1, h.0) (rw (more ∙ ap (on_last change) h.1) (ap (λ b. b ∷ []) (grows x (up_to_next kind lines)))))
-          (λ h. rw (h.0, more) (rw h.1.2 refl))
-          (ends no_kind lines)))
+      (⊎_elim
+      (λ h. rw (h.1, h.0) (rw (more ∙ ap (on_last change) h.1) (ap (λ b. b ∷ []) (grows x (up_to_next kind lines)))))
+      (λ h. rw (h.0, more) (rw h.1.2 refl))
+      (ends no_kind lines)))
       (λ is. rw is more)
       (cases_Bool (kind x))
 
@@ -66,8 +66,8 @@ jobs-command names name verb lines =
     let i = position_or_len (bytes_eq name) names in
     goes_on is_job_line (job_of names) (Command name verb) (in_last_session i (verb_of verb)) refl
     (λ x ls. ap (λ sessions. record (job_of names x ls) { sessions = sessions })
-      (goes_on is_session (session_of names) (Command name verb) (and_command i (verb_of verb)) refl
-        (λ y ms. ap (λ commands. record (session_of names y ms) { commands = commands }) (filter_map-append (command_of names) ms (Command name verb ∷ []))) ls)) lines
+    (goes_on is_session (session_of names) (Command name verb) (and_command i (verb_of verb)) refl
+    (λ y ms. ap (λ commands. record (session_of names y ms) { commands = commands }) (filter_map-append (command_of names) ms (Command name verb ∷ []))) ls)) lines
 
 -- nothing else changes the jobs
 same : {A : Type 0} (xs : List A) → on_last (λ x. x) xs ≡ xs
@@ -79,5 +79,5 @@ pub jobs-other : (names : List (List ℕ)) (line : Line) → is_job_line line �
 jobs-other names line no_job no_session no_command lines =
     goes_on is_job_line (job_of names) line (λ job. job) no_job
     (λ x ls. ap (λ sessions. record (job_of names x ls) { sessions = sessions })
-      (goes_on is_session (session_of names) line (λ session. session) no_session
-        (λ y ms. ap (λ commands. record (session_of names y ms) { commands = commands }) (filter_map-append (command_of names) ms (line ∷ []) ∙ rw no_command (append-nil _))) ls ∙ same _)) lines ∙ same _
+    (goes_on is_session (session_of names) line (λ session. session) no_session
+    (λ y ms. ap (λ commands. record (session_of names y ms) { commands = commands }) (filter_map-append (command_of names) ms (line ∷ []) ∙ rw no_command (append-nil _))) ls ∙ same _)) lines ∙ same _

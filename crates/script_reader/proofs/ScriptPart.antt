@@ -1,16 +1,18 @@
 -- The loop over the script part of a text with steps.
-use Rattle.std.proofs.Common.{◌≡◌, ℕ, ◌+◌, ◌-◌, ◌<◌, ◌≤◌, Bool, true, false, cond, if◌then◌else◌, List, [], ◌∷◌, ◌++◌, length, take, drop, refl, sym, ap, ◌∙◌, subst, arith, length-append, append_assoc, append-nil, ◌⊎◌, inl, inr, suc, zero}
+use Rattle.std.proofs.Common.{◌≡◌, ℕ, ◌+◌, ◌-◌, ◌<◌, ◌≤◌, Bool, true, false, cond, if◌then◌else◌, List, [], ◌∷◌, ◌++◌, length, take, drop, refl, sym, ap, ◌∙◌, subst, arith, length-append, length-drop, append_assoc, append-nil, ◌⊎◌, ⊎_elim, inl, inr, suc, zero}
 use Rattle.std.specs.Prelude.{Option, None, Some, Result, Ok, Err, map}
 use Rattle.std.proofs.lemmas.List.{drop_all}
 use Rattle.std.proofs.Math.ListN.{drop_of_length-le, length-map}
 use Rattle.bstr.specs.Text.{lines_of, lines_from, line_len}
+use Rattle.std.proofs.lemmas.Bool.{cases_Bool}
 use Rattle.lab_plan.specs.LabPlan.{LabPlan}
+use Rattle.legal_steps.specs.declared.event.StepLine.{StepLine}
 use Rattle.script_reader.specs.declared.fault.ScriptCause.{ScriptCause}
 use Rattle.script_reader.specs.declared.fault.ScriptFault.{ScriptFault}
 use Rattle.script_reader.specs.Line.{Line, form_of}
 use Rattle.script_reader.specs.Script.{text_lines, LinesMean, Refuses}
 use Rattle.script_reader.specs.State.{State, state_of, ReadsForm, Ends, IsTied}
-use Rattle.script_reader.specs.Steps.{is_steps_line, script_part, steps_part, first_step}
+use Rattle.script_reader.specs.Steps.{is_steps_line, script_part, steps_part, first_step, AreSteps, RefusesSteps, StepsMean, StepsRefuse}
 use Rattle.script_reader.proofs.ReaderLoop.{IsReading, starts, reads, stops, stops_at_end, ends_well, all_read}
 
 -- ---- how many lines there are
@@ -106,3 +108,26 @@ ends_well_at lines done rest n s plan h none e = ends_well (script_part lines) d
 
 pub ends_badly_at : (lines done rest : List (List ℕ)) (n : ℕ) (s : State) (cause : ScriptCause) → IsAt lines done rest n s → script_part rest ≡ [] → Ends s (Err cause) → Refuses (script_part lines) (record { line = n; cause = cause })
 ends_badly_at lines done rest n s cause h none e = stops_at_end (script_part lines) done n s cause (reading_ends lines done rest n s h none) e
+
+-- ---- the texts
+
+few_up_to : (lines : List (List ℕ)) → length (script_part lines) ≤ length lines
+few_up_to [] = omega arith
+few_up_to (line ∷ lines) =
+    let more = few_up_to lines in
+    ⊎_elim (λ is. rw is (omega arith)) (λ is. rw is (omega (arith, more))) (cases_Bool (is_steps_line line))
+
+-- the numbers of the lines behind the script part fit
+pub room : (text : List ℕ) (rest : List (List ℕ)) (first : ℕ) → rest ≡ steps_part (text_lines text) → first ≡ first_step (text_lines text) → first + length rest ≤ length text + 2
+room text rest first is at =
+    let lines = text_lines text in
+    let few = few_lines text in
+    let part = few_up_to lines in
+    let len = ap length is ∙ length-drop (length (script_part lines) + 1) lines in
+    omega (arith, few, part, len, at)
+
+pub meant : (text : List ℕ) (plan : LabPlan) (rest : List (List ℕ)) (first : ℕ) (steps : List StepLine) → LinesMean (script_part (text_lines text)) plan → rest ≡ steps_part (text_lines text) → first ≡ first_step (text_lines text) → AreSteps plan first rest steps → StepsMean text plan steps
+meant text plan rest first steps is_plan is at are = (is_plan, subst (λ l. AreSteps plan (first_step (text_lines text)) l steps) is (subst (λ n. AreSteps plan n rest steps) at are))
+
+pub refused : (text : List ℕ) (plan : LabPlan) (rest : List (List ℕ)) (first : ℕ) (fault : ScriptFault) → LinesMean (script_part (text_lines text)) plan → rest ≡ steps_part (text_lines text) → first ≡ first_step (text_lines text) → RefusesSteps plan first rest fault → StepsRefuse text fault
+refused text plan rest first fault is_plan is at bad = inr (plan, is_plan, subst (λ l. RefusesSteps plan (first_step (text_lines text)) l fault) is (subst (λ n. RefusesSteps plan n rest fault) at bad))

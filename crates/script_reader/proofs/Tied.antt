@@ -74,7 +74,7 @@ bare_command : (plan : LabPlan) (name : List ℕ) (verb : Verb) → has_session 
 bare_command plan name verb h =
     let i = instrument_number name plan in
     let last : last_session (with_command name verb plan) ≡ and_command i verb (last_session plan) =
-        ap (λ (job : JobPlan). get_or job.sessions (length job.sessions - 1) no_session) (job_with_command plan name verb h) ∙ last_changed (and_command i verb) (last_job plan).sessions no_session (above _ h) in
+    ap (λ (job : JobPlan). get_or job.sessions (length job.sessions - 1) no_session) (job_with_command plan name verb h) ∙ last_changed (and_command i verb) (last_job plan).sessions no_session (above _ h) in
     let sum = length-append (last_session plan).commands ((i, verb) ∷ []) in
     let grown = ap (λ (session : SessionPlan). length session.commands) last in
     rw (within_command plan name verb h) (no_zero _ (omega (arith, sum, grown)))
@@ -144,7 +144,7 @@ one_command plan name verb h =
     let i = instrument_number name plan in
     flat_on_last 1 commands_of_job (in_last_session i verb) plan.jobs no_job (has_last plan.jobs (above _ h))
     (flat_on_last 1 (λ (session : SessionPlan). session.commands) (and_command i verb) (last_job plan).sessions no_session (above _ h)
-      (length-append (last_session plan).commands ((i, verb) ∷ [])))
+    (length-append (last_session plan).commands ((i, verb) ∷ [])))
 
 flat_pushed : {A B : Type 0} (f : A → List B) (xs : List A) (x : A) → length (f x) ≡ 0 → length (flat_map f (xs ++ x ∷ [])) ≡ length (flat_map f xs)
 flat_pushed f [] x e = let sum = length-append (f x) [] in omega (arith, sum, e)
@@ -157,7 +157,7 @@ flat_pushed f (y ∷ xs) x e =
 no_command : (plan : LabPlan) (patience : Option ℕ) → 0 < length plan.jobs → length (all_commands (with_session patience plan)) ≡ length (all_commands plan)
 no_command plan patience inside =
     let grown = flat_on_last 0 commands_of_job (and_session patience) plan.jobs no_job inside
-        (let e = flat_pushed (λ (session : SessionPlan). session.commands) (last_job plan).sessions (record { patience = patience; commands = [] }) refl in omega (arith, e)) in
+    (let e = flat_pushed (λ (session : SessionPlan). session.commands) (last_job plan).sessions (record { patience = patience; commands = [] }) refl in omega (arith, e)) in
     omega (arith, grown)
 
 counted_header : (version : Version) (before : List Line) → not (is_empty before) ≡ false → count is_command before ≡ length (all_commands (after (state_of before) (Header version)).plan)

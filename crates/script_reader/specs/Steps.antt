@@ -1,6 +1,6 @@
 -- Step lists: the lines behind a line `steps`, each one step of the script's plan.
-use Rattle.std.specs.Prelude.{ℕ, ◌≡◌, ◌+◌, ◌^◌, ◌≤◌, Bool, true, false, ◌&&◌, ◌||◌, not, nat_le, ◌==◌, min, max, List, [], ◌∷◌, ◌++◌, Option, None, Some, length, map, sum, drop, slice_index, slice_index_or, codes, if◌then◌else◌, ◌⊎◌}
-use Rattle.std.specs.List.{find, list_any, position}
+use Rattle.std.specs.Prelude.{ℕ, ◌≡◌, ◌+◌, ◌^◌, ◌≤◌, Bool, true, false, ◌&&◌, ◌||◌, not, nat_le, ◌==◌, min, max, List, [], ◌∷◌, ◌++◌, Option, None, Some, Result, Ok, Err, length, map, drop, slice_index, slice_index_or, codes, if◌then◌else◌, ◌⊎◌}
+use Rattle.std.specs.List.{find, list_any, position, sum_by}
 use Rattle.std.specs.Option.{option_map, option_and_then, is_some}
 use Rattle.std.specs.Str.{bytes_eq}
 use Rattle.lab_plan.specs.LabPlan.{JobPlan, LabPlan, edges, bottles}
@@ -44,7 +44,7 @@ is_distinct (k ∷ ks) = not (list_any (λ other. other == k) ks) && is_distinct
 
 -- the set with these members: bit k for bottle k
 abbrev pub set_of : List ℕ → ℕ
-set_of ks = sum (map (λ k. 2 ^ k) ks)
+set_of ks = sum_by (λ k. 2 ^ k) ks
 
 -- the set of the bottles of an edge with these names, none twice
 unfoldable pub bottle_set : LabPlan → ℕ → List (List ℕ) → Option ℕ
@@ -60,8 +60,8 @@ event_with word events = option_map (λ (event : List ℕ × Step). event.1) (fi
 unfoldable pub job_event : List ℕ → ℕ → Option Step
 job_event word j =
     event_with word (
-      (codes "thirst", Thirst j) ∷ (codes "hunger", Hunger j) ∷ (codes "sit", Sit j) ∷ (codes "leave", Leave j) ∷ (codes "drink", Drink j)
-      ∷ (codes "reach", Reach j) ∷ (codes "act", Act j) ∷ (codes "quit", Quit j) ∷ (codes "retire", Retire j) ∷ (codes "withdraw", Withdraw j) ∷ []
+    (codes "thirst", Thirst j) ∷ (codes "hunger", Hunger j) ∷ (codes "sit", Sit j) ∷ (codes "leave", Leave j) ∷ (codes "drink", Drink j)
+    ∷ (codes "reach", Reach j) ∷ (codes "act", Act j) ∷ (codes "quit", Quit j) ∷ (codes "retire", Retire j) ∷ (codes "withdraw", Withdraw j) ∷ []
     )
 
 -- of a job at one of its edges
@@ -160,6 +160,15 @@ AreCleanUpTo plan first lines number =
 
 abbrev pub RefusesSteps : LabPlan → ℕ → List (List ℕ) → ScriptFault → Type 0
 RefusesSteps plan first lines fault = ((fault.cause ≡ NoMemory) × AreCleanUpTo plan first lines fault.line) ⊎ IsFaultInSteps plan first lines fault.line fault.cause
+
+-- what the reader answers at a line of a step list, and the steps that it has then
+abbrev pub ReadsStep : List StepLine → ℕ → Option (Option Step) → Result (Unit {0}) ScriptCause → List StepLine → Type 0
+ReadsStep old number None (Ok _) new = new ≡ old
+ReadsStep old number None (Err cause) new = ⊥
+ReadsStep old number (Some None) (Ok _) new = ⊥
+ReadsStep old number (Some (Some step)) (Ok _) new = (step_cause (length old) (Some step) ≡ None) × (new ≡ old ++ record { line = number; step = step } ∷ [])
+ReadsStep old number (Some found) (Err NoMemory) new = step_cause (length old) found ≡ None
+ReadsStep old number (Some found) (Err cause) new = step_cause (length old) found ≡ Some cause
 
 -- ---- texts
 

@@ -20,7 +20,8 @@ fn first_field(line: &[u8]) -> Option<(&[u8], &[u8])>
 /// The first field of a line, and what follows it, whose fields are the others.
 #[tactic(auto, using(crate::proofs::FieldLemmas::no_fields, crate::proofs::FieldLemmas::cut_fields))]
 pub(crate) fn next_field(line: &[u8]) -> Option<(&[u8], &[u8])>
-    ensures { MatchOption result (fields line.now ≡ []) (λ r. (fields line.now ≡ r.0.now ∷ fields r.1.now) × (0 < length r.0.now)) }
+    ensures fields { MatchOption result (fields line.now ≡ []) (λ r. (fields line.now ≡ r.0.now ∷ fields r.1.now) × (0 < length r.0.now)) }
+    ensures shorter { IfSome result (λ r. length r.1.now < length line.now) }
 {
     match first_field(line) {
         None => None,

@@ -6,5 +6,4 @@ pub fn one_meaning()
     ensures plan { HasOnePlan }
     ensures either { HasPlanOrFault }
     ensures fault { HasOneFault }
-{
-}
+{}

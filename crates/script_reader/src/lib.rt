@@ -3,6 +3,7 @@
 // goes over the lines once, with a state that says all that the lines before say.
 #![tactic(auto)]
 
+mod bottles;
 pub mod fault;
 mod field;
 mod form;
@@ -14,5 +15,9 @@ mod step;
 pub mod steps;
 pub mod upgrade_law;
 
+#[cfg(test)]
+mod tests;
+
 pub use fault::{ScriptCause, ScriptFault};
 pub use plan::read_plan;
+pub use steps::read_steps;

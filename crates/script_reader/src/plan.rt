@@ -21,13 +21,19 @@ pub fn read_plan<A: Allocator + Copy>(alloc: A, text: &[u8]) -> Result<Plan<A>, 
         match reader.read(line) {
             Ok(()) => {}
             Err(cause) => {
-                return Err(ScriptFault { line: number, cause });
+                return Err(ScriptFault {
+                    line: number,
+                    cause,
+                });
             }
         }
         number += 1;
     }
     match reader.finish() {
         Ok(plan) => Ok(plan),
-        Err(cause) => Err(ScriptFault { line: number, cause }),
+        Err(cause) => Err(ScriptFault {
+            line: number,
+            cause,
+        }),
     }
 }

@@ -11,7 +11,7 @@ ghost use Rattle.script_reader.specs.Form.{line_of, verb_text};
 ghost use Rattle.script_reader.specs.declared.fault.ScriptCause.TheVariants.{BadNumber};
 
 use crate::fault::ScriptCause;
-use crate::form::{form_of, Form, VerbField, Version};
+use crate::form::{Form, VerbField, Version, form_of};
 use crate::number::{is_number, number_of};
 use lab_plan::name::is_name;
 use lab_plan::{Plan, PlanBuilder, Verb};
@@ -226,7 +226,11 @@ impl<A: Allocator + Copy> Reader<A> {
         if self.in_session {
             return Err(ScriptCause::SessionNotClosed);
         }
-        Err(ScriptCause::BadStep)
+        let Reader { builder, .. } = self;
+        match builder.finish() {
+            Ok(plan) => Ok(plan),
+            Err((refusal, _builder)) => Err(ScriptCause::from(refusal)),
+        }
     }
 }
 

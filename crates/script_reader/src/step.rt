@@ -1,11 +1,11 @@
 // The steps of a step list, by the names in a plan.
-ghost use Rattle.std.specs.Prelude.{◌≡◌, ℕ, ◌<◌, ◌==◌, None, Some, length, if◌then◌else◌, MatchOption};
-ghost use Rattle.std.specs.Option.{option_map, option_and_then};
-ghost use Rattle.lab_plan.specs.LabPlan.{edges, bottles};
+ghost use Rattle.std.specs.Prelude.{◌≡◌, ℕ, ◌<◌, None, Some, length, MatchOption};
+ghost use Rattle.lab_plan.specs.LabPlan.{edges};
 ghost use Rattle.script_reader.specs.Fields.{fields};
 ghost use Rattle.script_reader.specs.Steps.{job_named, edge_between, edge_named, job_event, edge_event, bottle_event, glance_event, job_step, edge_step, bottle_step, glance_step, step_with, step_in};
 
-use crate::field::{next_field, one_field, two_fields};
+use crate::bottles::bottle_set;
+use crate::field::{is_blank, next_field, one_field, two_fields};
 use lab_plan::{EdgeNo, JobNo, Plan};
 use legal_steps::Step;
 use std::alloc::Allocator;
@@ -24,21 +24,16 @@ fn job_named<A: Allocator>(plan: &Plan<A>, name: &[u8]) -> Option<JobNo>
 }
 
 /// The edge of two jobs.
+#[tactic(auto, using(crate::proofs::EdgeNumbers::edge_none))]
 fn edge_between<A: Allocator>(plan: &Plan<A>, job: JobNo, other: JobNo) -> Option<EdgeNo>
     requires job { job < length plan.now.jobs }
     requires other { other < length plan.now.jobs }
     ensures { MatchOption result (edge_between plan.now job other ≡ None) (λ e. (edge_between plan.now job other ≡ Some e) × (e < length (edges plan.now))) }
 {
-    let low = JobNo(job.0.min(other.0));
-    let high = JobNo(job.0.max(other.0));
-    for number in 0..plan.edges() {
-        let edge = EdgeNo(number);
-        let ends = plan.ends(edge);
-        if ends.0 == low && ends.1 == high {
-            return Some(edge);
-        }
+    match plan.edge_of(job, other) {
+        None => None,
+        Some(edge) => Some(edge),
     }
-    None
 }
 
 /// A job by its name, and its edge to another.
@@ -160,4 +155,45 @@ fn glance_step<A: Allocator>(plan: &Plan<A>, word: &[u8], rest: &[u8]) -> Option
         return None;
     }
     glance_event(word, job, other)
+}
+
+fn bottle_step<A: Allocator>(plan: &Plan<A>, word: &[u8], rest: &[u8]) -> Option<Step>
+    ensures { result ≡ bottle_step plan.now word.now (fields rest.now) }
+{
+    let (name, rest) = next_field(rest)?;
+    let (other, bottles) = next_field(rest)?;
+    if is_blank(bottles) {
+        return None;
+    }
+    let (job, edge) = edge_named(plan, name, other)?;
+    let set = bottle_set(plan, edge, bottles)?;
+    bottle_event(word, job, edge, set)
+}
+
+/// The step with this word and these names.
+#[tactic(auto, unfolding(crate::specs::Steps::step_with))]
+fn step_with<A: Allocator>(plan: &Plan<A>, word: &[u8], rest: &[u8]) -> Option<Step>
+    ensures { result ≡ step_with plan.now word.now (fields rest.now) }
+{
+    if let Some(step) = job_step(plan, word, rest) {
+        return Some(step);
+    }
+    if let Some(step) = edge_step(plan, word, rest) {
+        return Some(step);
+    }
+    if let Some(step) = bottle_step(plan, word, rest) {
+        return Some(step);
+    }
+    glance_step(plan, word, rest)
+}
+
+/// The step of a line, where it has one; None where the line is skipped.
+pub(crate) fn step_in<A: Allocator>(plan: &Plan<A>, line: &[u8]) -> Option<Option<Step>>
+    ensures { result ≡ step_in plan.now line.now }
+{
+    let (first, rest) = next_field(line)?;
+    if first[0] == b'#' {
+        return None;
+    }
+    Some(step_with(plan, first, rest))
 }

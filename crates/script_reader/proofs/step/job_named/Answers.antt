@@ -9,7 +9,7 @@ returns-then-eq g c =
     let plan = c.args.plan.now in
     let name = c.args.name.now in
     let inside : c.loop-number.number < length plan.jobs = omega arith in
-    let here = sym (ap (bytes_eq name) c.job_name.ensures) ∙ sym c.eq.ensures ∙ c.if-eq.true in
+    let here = sym (ap (bytes_eq name) c.job_name.ensures.value) ∙ sym c.eq.ensures ∙ c.if-eq.true in
     (position_found (λ (job : JobPlan). bytes_eq name job.name) plan.jobs c.loop-number.number no_job inside c.loop-number.invariant here, inside)
 
 pub returns : goal.returns
