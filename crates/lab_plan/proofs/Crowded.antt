@@ -14,16 +14,19 @@ both_is plan sets naming pair = λ t i. naming pair.0 i t && naming pair.1 i t
 any_in_filter : {X : Type 0} (q p : X → Bool) → ((x : X) → q x ≡ true → p x ≡ true) → (xs : List X) → list_any q (filter p xs) ≡ list_any q xs
 any_in_filter q p more [] = refl
 any_in_filter q p more (x ∷ xs) = elim (cases_Bool (p x)) [
-    inl h ↦ rw h (ap (λ b. q x || b) (any_in_filter q p more xs))
+  | inl h ↦ rw h (ap (λ b. q x || b) (any_in_filter q p more xs))
   | inr h ↦ elim (cases_Bool (q x)) [
-        inl g ↦ absurd (false≢true (sym h ∙ more x g))
-      | inr g ↦ rw (h, g) (any_in_filter q p more xs) ] ]
+    | inl g ↦ absurd (false≢true (sym h ∙ more x g))
+    | inr g ↦ rw (h, g) (any_in_filter q p more xs)
+  ]
+]
 
 some_kept : (p : ℕ → Bool) (xs : List ℕ) → 0 < length (filter p xs) → list_any p xs ≡ true
 some_kept p [] h = absurd (omega (arith, h))
 some_kept p (x ∷ xs) h = elim (cases_Bool (p x)) [
-    inl g ↦ rw g refl
-  | inr g ↦ rw g (some_kept p xs (subst (λ b. 0 < length (cond b (x ∷ filter p xs) (filter p xs))) g h)) ]
+  | inl g ↦ rw g refl
+  | inr g ↦ rw g (some_kept p xs (subst (λ b. 0 < length (cond b (x ∷ filter p xs) (filter p xs))) g h))
+]
 
 pub crowded_is : (plan : LabPlan) (sets : List ℕ) → AreNaming plan.jobs sets
     → list_any (are_crowded sets (length plan.instruments)) (rows (length plan.jobs) (length plan.jobs)) ≡ has_too_many_in_common plan

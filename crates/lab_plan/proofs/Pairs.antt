@@ -14,9 +14,9 @@ row_more low k below =
     let e : k + 1 - (low + 1) ≡ suc n = omega arith in
     let last : low + 1 + n ≡ k = omega arith in
     ap (λ m. map (λ high. (low, high)) (range_with_len (low + 1) m)) e
-      ∙ ap (map (λ high. (low, high))) (range_push (low + 1) n)
-      ∙ map-append (λ high. (low, high)) (range_with_len (low + 1) n) ((low + 1 + n) ∷ [])
-      ∙ ap (λ m. row low k ++ (low, m) ∷ []) last
+    ∙ ap (map (λ high. (low, high))) (range_push (low + 1) n)
+    ∙ map-append (λ high. (low, high)) (range_with_len (low + 1) n) ((low + 1 + n) ∷ [])
+    ∙ ap (λ m. row low k ++ (low, m) ∷ []) last
 
 pub row_none : (low : ℕ) → row low (low + 1) ≡ []
 row_none low = let e : low + 1 - (low + 1) ≡ 0 = omega arith in ap (λ m. map (λ high. (low, high)) (range_with_len (low + 1) m)) e

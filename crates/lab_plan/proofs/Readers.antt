@@ -32,8 +32,9 @@ few_bottles plan e plan_is within = plan_is.few_bottles e within
 kept_some : (p : ℕ → Bool) (xs : List ℕ) → list_any p xs ≡ true → 0 < length (filter p xs)
 kept_some p [] h = absurd (false≢true h)
 kept_some p (x ∷ xs) h = elim (cases_Bool (p x)) [
-    inl g ↦ rw g (omega arith)
-  | inr g ↦ rw g (kept_some p xs (subst (λ b. (b || list_any p xs) ≡ true) g h)) ]
+  | inl g ↦ rw g (omega arith)
+  | inr g ↦ rw g (kept_some p xs (subst (λ b. (b || list_any p xs) ≡ true) g h))
+]
 
 pub some_bottles : (plan : LabPlan) (e : ℕ) → e < length (edges plan) → 0 < length (bottles plan e)
 unfolding edges common
@@ -56,8 +57,9 @@ table_of plan tables j s are within begun is_session = (are.1 j within).1 (s - 1
 pub needs_bit : (plan : LabPlan) (j s i : ℕ) (table : SessionTable) → IsTable (commands plan j s) table → bit_at table.needs i ≡ cond (session_names plan j s i) 1 0
 unfolding holds
 needs_bit plan j s i table is = elim (bit_cases table.needs i) [
-    inl h ↦ h ∙ ap (λ b. cond b 1 0) (ap (λ n. nat_eq n 1) (sym h) ∙ is.needs i)
-  | inr h ↦ h ∙ ap (λ b. cond b 1 0) (ap (λ n. nat_eq n 1) (sym h) ∙ is.needs i) ]
+  | inl h ↦ h ∙ ap (λ b. cond b 1 0) (ap (λ n. nat_eq n 1) (sym h) ∙ is.needs i)
+  | inr h ↦ h ∙ ap (λ b. cond b 1 0) (ap (λ n. nat_eq n 1) (sym h) ∙ is.needs i)
+]
 
 -- a number with no bit from k on
 below_from_bits : (n k : ℕ) → ((i : ℕ) → k ≤ i → bit_at n i ≡ 0) → n < 2 ^ k
@@ -66,15 +68,17 @@ below_from_bits n k none =
     let low : n % 2 ^ k < 2 ^ k = omega arith in
     let split : n / 2 ^ k * 2 ^ k + n % 2 ^ k ≡ n = div-add-mod' n (2 ^ k) in
     let same : n ≡ n % 2 ^ k = same_from_bits n (n % 2 ^ k) (λ i. elim (cases_lt i k) [
-        inl h ↦ ap (λ m. bit_at m i) (sym split) ∙ bit_at_cat_low (n / 2 ^ k) k (n % 2 ^ k) i h
-      | inr h ↦ none i h ∙ sym (bit_at_above (n % 2 ^ k) k i low h) ]) in
+      | inl h ↦ ap (λ m. bit_at m i) (sym split) ∙ bit_at_cat_low (n / 2 ^ k) k (n % 2 ^ k) i h
+      | inr h ↦ none i h ∙ sym (bit_at_above (n % 2 ^ k) k i low h)
+    ]) in
     subst (λ m. m < 2 ^ k) (sym same) low
 
 pub needs_below : (plan : LabPlan) (j s : ℕ) (table : SessionTable) → IsPlan plan → IsTable (commands plan j s) table → table.needs < 2 ^ length plan.instruments
 needs_below plan j s table plan_is is = below_from_bits table.needs (length plan.instruments) (λ i past.
     needs_bit plan j s i table is ∙ elim (cases_Bool (session_names plan j s i)) [
-        inl h ↦ let below = session-instrument plan j s i plan_is.draft.named h in absurd (omega (arith, below, past))
-      | inr h ↦ ap (λ b. cond b 1 0) h ])
+      | inl h ↦ let below = session-instrument plan j s i plan_is.draft.named h in absurd (omega (arith, below, past))
+      | inr h ↦ ap (λ b. cond b 1 0) h
+    ])
 
 pub part_is : (plan : LabPlan) (j s i : ℕ) (table : SessionTable) → IsTable (commands plan j s) table → i < 56 → slice_index_or table.parts i 0 ≡ part plan j s i
 part_is plan j s i table is below = is.parts i below

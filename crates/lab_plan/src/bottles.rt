@@ -26,7 +26,12 @@ impl<A: Allocator> Model for Bottles<A> {
 }
 
 impl<A: Allocator> Bottles<A> {
-    fn new(alloc: A, first: InstrumentSet, second: InstrumentSet, instruments: u8) -> Result<Bottles<A>, AllocError>
+    fn new(
+        alloc: A,
+        first: InstrumentSet,
+        second: InstrumentSet,
+        instruments: u8,
+    ) -> Result<Bottles<A>, AllocError>
         requires { instruments ≤ 56 }
         ensures { IfOk result (λ bottles. bottles ≡ filter (both_in first second) (range_with_len 0 instruments)) }
     {
@@ -70,14 +75,23 @@ impl<A: Allocator> Bottles<A> {
 }
 
 /// The bottles of each edge.
-pub(crate) fn bottles_of_all<A: Allocator + Copy>(alloc: A, naming: &Naming, pairs: &[(JobNo, JobNo)]) -> Result<Vec<Bottles<A>, A>, AllocError>
+pub(crate) fn bottles_of_all<A: Allocator + Copy>(
+    alloc: A,
+    naming: &Naming,
+    pairs: &[(JobNo, JobNo)],
+) -> Result<Vec<Bottles<A>, A>, AllocError>
     requires instruments { naming.now.instruments ≤ 56 }
     requires pairs { All IsPair pairs.now }
     ensures { IfOk result (λ all. all.items ≡ map (λ pair. filter (both_hold naming.now.sets pair) (range_with_len 0 naming.now.instruments)) pairs.now) }
 {
     let mut all = Vec::new(alloc);
     for (low, high) in pairs {
-        all.push(Bottles::new(alloc, naming.set(low.0), naming.set(high.0), naming.instruments())?)?;
+        all.push(Bottles::new(
+            alloc,
+            naming.set(low.0),
+            naming.set(high.0),
+            naming.instruments(),
+        )?)?;
     }
     Ok(all)
 }

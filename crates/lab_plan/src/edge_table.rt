@@ -56,7 +56,11 @@ impl<A: Allocator> EdgeList<A> {
 
 /// Adds the edges whose lower end is this job.
 #[tactic(auto, using(crate::proofs::Pairs::row_none))]
-fn push_row<A: Allocator>(found: &mut Vec<(JobNo, JobNo), A>, naming: &Naming, low: u8) -> Result<(), AllocError>
+fn push_row<A: Allocator>(
+    found: &mut Vec<(JobNo, JobNo), A>,
+    naming: &Naming,
+    low: u8,
+) -> Result<(), AllocError>
     requires low { low < naming.now.jobs }
     requires jobs { naming.now.jobs ≤ 32 }
     requires instruments { naming.now.instruments ≤ 56 }
@@ -93,7 +97,10 @@ fn slot(low: JobNo, high: JobNo) -> usize
 }
 
 /// The number of each pair of jobs.
-fn number_pairs<A: Allocator>(alloc: A, pairs: &[(JobNo, JobNo)]) -> Result<Vec<Option<EdgeNo>, A>, AllocError>
+fn number_pairs<A: Allocator>(
+    alloc: A,
+    pairs: &[(JobNo, JobNo)],
+) -> Result<Vec<Option<EdgeNo>, A>, AllocError>
     requires few { length pairs.now ≤ 496 }
     requires pairs { All IsPair pairs.now }
     ensures length { IfOk result (λ numbers. length numbers.items ≡ 1024) }
@@ -107,7 +114,10 @@ fn number_pairs<A: Allocator>(alloc: A, pairs: &[(JobNo, JobNo)]) -> Result<Vec<
 }
 
 /// The edges of each job, empty for a number that is no job's.
-fn lists_by_job<A: Allocator + Copy>(alloc: A, pairs: &[(JobNo, JobNo)]) -> Result<Vec<EdgeList<A>, A>, AllocError>
+fn lists_by_job<A: Allocator + Copy>(
+    alloc: A,
+    pairs: &[(JobNo, JobNo)],
+) -> Result<Vec<EdgeList<A>, A>, AllocError>
     requires { length pairs.now ≤ 496 }
     ensures { IfOk result (λ lists. lists.items ≡ map (edges_at pairs.now) (range_with_len 0 32)) }
 {
@@ -122,11 +132,7 @@ fn lists_by_job<A: Allocator + Copy>(alloc: A, pairs: &[(JobNo, JobNo)]) -> Resu
 fn lower_first(a: JobNo, b: JobNo) -> (JobNo, JobNo)
     ensures { result ≡ lower_first a b }
 {
-    if a.0 <= b.0 {
-        (a, b)
-    } else {
-        (b, a)
-    }
+    if a.0 <= b.0 { (a, b) } else { (b, a) }
 }
 
 #[derive(Drop)]

@@ -86,9 +86,7 @@ impl Naming {
         requires instruments { self.now.instruments ≤ 56 }
         ensures { result ≡ are_crowded self.now.sets self.now.instruments (low, high) }
     {
-        self.set(low)
-            .in_common(self.set(high), self.instruments)
-            > 28
+        self.set(low).in_common(self.set(high), self.instruments) > 28
     }
 
     #[tactic(auto, using(crate::proofs::Pairs::row_none, crate::proofs::Pairs::any_row_more))]

@@ -28,7 +28,10 @@ impl<A: Allocator> Model for SessionTable<A> {
 }
 
 impl<A: Allocator> SessionTable<A> {
-    pub(crate) fn new(alloc: A, commands: &[(InstrumentNo, Verb)]) -> Result<SessionTable<A>, AllocError>
+    pub(crate) fn new(
+        alloc: A,
+        commands: &[(InstrumentNo, Verb)],
+    ) -> Result<SessionTable<A>, AllocError>
         requires numbered { All (λ command. command.0 < 56) commands.now }
         requires few { length commands.now ≤ 100000 }
         ensures { IfOk result (λ table. IsTable commands.now table) }
@@ -110,7 +113,10 @@ impl<A: Allocator> JobTable<A> {
 }
 
 /// What is kept of the sessions of all jobs.
-pub(crate) fn job_tables<A: Allocator + Copy>(alloc: A, jobs: &[Job<A>]) -> Result<Vec<JobTable<A>, A>, AllocError>
+pub(crate) fn job_tables<A: Allocator + Copy>(
+    alloc: A,
+    jobs: &[Job<A>],
+) -> Result<Vec<JobTable<A>, A>, AllocError>
     requires { All HasSmall jobs.now }
     ensures { IfOk result (λ tables. AreJobTables jobs.now tables.items) }
 {

@@ -4,12 +4,12 @@ ghost use Rattle.lab_plan.specs.IsPlan.{IsDraft};
 ghost use Rattle.lab_plan.specs.SessionTables.{no_table};
 ghost use Rattle.lab_plan.specs.Tables.{AreTablesOf};
 
-use crate::bottles::{bottles_of_all, Bottles};
+use crate::bottles::{Bottles, bottles_of_all};
 use crate::draft::Draft;
 use crate::edge_table::EdgeTable;
 use crate::naming::Naming;
 use crate::numbers::{EdgeNo, JobNo};
-use crate::session_table::{job_tables, JobTable, SessionTable};
+use crate::session_table::{JobTable, SessionTable, job_tables};
 use std::alloc::{AllocError, Allocator, Global};
 use std::marker::Model;
 

@@ -22,7 +22,11 @@ fn fill<'a>(alloc: Global, heap: &'a LocalHeap) -> Result<Vec<Vec<u8, &'a LocalH
 
 /// Adds the example's lines. The first growth that is refused lets the ballast go, and the line
 /// then goes through.
-fn build<A: Allocator + Copy, B: Drop>(rt: &impl Abort, builder: &mut PlanBuilder<A>, mut ballast: Option<B>) -> Option<B> {
+fn build<A: Allocator + Copy, B: Drop>(
+    rt: &impl Abort,
+    builder: &mut PlanBuilder<A>,
+    mut ballast: Option<B>,
+) -> Option<B> {
     for line in EXAMPLE {
         match put(rt, builder, line) {
             Ok(()) => {}
@@ -37,7 +41,11 @@ fn build<A: Allocator + Copy, B: Drop>(rt: &impl Abort, builder: &mut PlanBuilde
 }
 
 /// Has finishing refused, and gives back the builder.
-fn refuse<A: Allocator + Copy>(rt: &impl Abort, builder: PlanBuilder<A>, wanted: PlanRefusal) -> PlanBuilder<A> {
+fn refuse<A: Allocator + Copy>(
+    rt: &impl Abort,
+    builder: PlanBuilder<A>,
+    wanted: PlanRefusal,
+) -> PlanBuilder<A> {
     match builder.finish() {
         Ok(_) => panic!(rt; "finished"),
         Err((cause, builder)) => {
@@ -48,7 +56,11 @@ fn refuse<A: Allocator + Copy>(rt: &impl Abort, builder: PlanBuilder<A>, wanted:
 }
 
 /// Finishes the example, in a second try once the ballast is gone, and tells whether it took one.
-fn finish<A: Allocator + Copy, B: Drop>(rt: &impl Abort, builder: PlanBuilder<A>, ballast: Option<B>) -> bool {
+fn finish<A: Allocator + Copy, B: Drop>(
+    rt: &impl Abort,
+    builder: PlanBuilder<A>,
+    ballast: Option<B>,
+) -> bool {
     match builder.finish() {
         Ok(plan) => {
             check_example(rt, &plan);
@@ -98,7 +110,11 @@ fn other_causes_come_before_memory(rt: HostRuntime) -> Result<(), Fail> {
     }
     put_all(&rt, &mut builder, &[Line::Session]);
     for number in 0..29 {
-        put_all(&rt, &mut builder, &[Line::Command(&name_of(number), Verb::Read)]);
+        put_all(
+            &rt,
+            &mut builder,
+            &[Line::Command(&name_of(number), Verb::Read)],
+        );
     }
     let blocks = fill(rt.alloc(), &heap)?;
     assert!(rt; put(&rt, &mut builder, Line::Job(b"last")) == Err(PlanRefusal::NoMemory));
@@ -110,7 +126,11 @@ fn other_causes_come_before_memory(rt: HostRuntime) -> Result<(), Fail> {
     assert!(rt; put(&rt, &mut builder, Line::Session) == Err(PlanRefusal::SessionEmpty));
     drop(blocks);
     for number in 0..28 {
-        put_all(&rt, &mut builder, &[Line::Command(&name_of(number), Verb::Read)]);
+        put_all(
+            &rt,
+            &mut builder,
+            &[Line::Command(&name_of(number), Verb::Read)],
+        );
     }
     let blocks = fill(rt.alloc(), &heap)?;
     assert!(rt; put(&rt, &mut builder, Line::Job(b"more")) == Err(PlanRefusal::LimitPassed));

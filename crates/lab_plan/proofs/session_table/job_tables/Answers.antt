@@ -15,7 +15,7 @@ loop-job-preserved g c =
     let read = get_or_read jobs k c.job-item.result c.loop-job-test.true c.job-item.is no_job in
     let one = subst (λ job. IsJobTable job c.in_ok-new.field-0) read c.in_ok-new.ensures in
     subst (AreJobTables (take (k + 1) jobs)) (sym c.in_ok-push.ensures.items)
-      (related_more IsJobTable no_job [] jobs c.loop-job.tables.items k c.in_ok-new.field-0 c.loop-job-test.true one c.loop-job.invariant)
+    (related_more IsJobTable no_job [] jobs c.loop-job.tables.items k c.in_ok-new.field-0 c.loop-job-test.true one c.loop-job.invariant)
 
 pub returns : goal.returns
 returns g c = related_all IsJobTable no_job [] c.args.jobs.now c.loop-job.tables.items c.loop-job.job-index c.loop-job-test.false c.loop-job.invariant

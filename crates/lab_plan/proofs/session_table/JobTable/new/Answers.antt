@@ -15,7 +15,7 @@ loop-session-preserved g c =
     let read = get_or_read sessions k c.session-item.result c.loop-session-test.true c.session-item.is no_session in
     let one = subst (λ commands. IsTable commands c.in_ok-new.field-0) (c.commands.ensures ∙ ap (λ (s : SessionPlan). s.commands) read) c.in_ok-new.ensures in
     subst (AreTables (take (k + 1) sessions)) (sym c.in_ok-push.ensures.items)
-      (related_more IsSessionTable no_session no_table sessions c.loop-session.tables.items k c.in_ok-new.field-0 c.loop-session-test.true one c.loop-session.invariant)
+    (related_more IsSessionTable no_session no_table sessions c.loop-session.tables.items k c.in_ok-new.field-0 c.loop-session-test.true one c.loop-session.invariant)
 
 pub returns : goal.returns
 returns g c =
