@@ -13,10 +13,9 @@ pub mod plan;
 mod reader;
 mod step;
 pub mod steps;
-pub mod upgrade_law;
-
 #[cfg(test)]
 mod tests;
+pub mod upgrade_law;
 
 pub use fault::{ScriptCause, ScriptFault};
 pub use plan::read_plan;
