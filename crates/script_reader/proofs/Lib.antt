@@ -22,3 +22,4 @@ pub mod StepList
 pub mod BottleSets
 pub mod OfInstruments
 pub mod EdgeNumbers
+pub mod OneList
