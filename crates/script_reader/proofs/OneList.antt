@@ -84,8 +84,8 @@ list_or_fault text p s n cause h f =
     ⊎_elim
     (λ k. apart (script_part lines) p n cause h.0 k)
     (λ k.
-      let same = plans (script_part lines) k.0 p k.1 h.0 in
-      never_in p (first_step lines) (steps_part lines) s n cause h.1 (subst (λ plan. IsFaultInSteps plan (first_step lines) (steps_part lines) n cause) same k.2))
+    let same = plans (script_part lines) k.0 p k.1 h.0 in
+    never_in p (first_step lines) (steps_part lines) s n cause h.1 (subst (λ plan. IsFaultInSteps plan (first_step lines) (steps_part lines) n cause) same k.2))
     f
 
 pub one_step_fault : (text : List ℕ) (m n : ℕ) (cause other : ScriptCause) → StepsFault text m cause → StepsFault text n other → (m ≡ n) × (cause ≡ other)
@@ -94,10 +94,10 @@ one_step_fault text m n cause other f g =
     ⊎_elim
     (λ h. ⊎_elim (λ k. one_fault (script_part lines) m n cause other h k) (λ k. absurd (apart (script_part lines) k.0 m cause k.1 h)) g)
     (λ h.
-      ⊎_elim
-      (λ k. absurd (apart (script_part lines) h.0 n other h.1 k))
-      (λ k.
-        let same = plans (script_part lines) k.0 h.0 k.1 h.1 in
-        two_in h.0 (first_step lines) (steps_part lines) m n cause other h.2 (subst (λ plan. IsFaultInSteps plan (first_step lines) (steps_part lines) n other) same k.2))
-      g)
+    ⊎_elim
+    (λ k. absurd (apart (script_part lines) h.0 n other h.1 k))
+    (λ k.
+    let same = plans (script_part lines) k.0 h.0 k.1 h.1 in
+    two_in h.0 (first_step lines) (steps_part lines) m n cause other h.2 (subst (λ plan. IsFaultInSteps plan (first_step lines) (steps_part lines) n other) same k.2))
+    g)
     f
