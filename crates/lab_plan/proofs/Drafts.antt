@@ -1,8 +1,8 @@
 -- Each line keeps what a draft keeps.
-use Rattle.std.proofs.Common.{◌≡◌, ◌⊎◌, ℕ, zero, suc, ◌+◌, ◌-◌, ◌<◌, ◌≤◌, Bool, true, false, cond, not, ◌||◌, ◌&&◌, ◌==◌, List, [], ◌∷◌, ◌++◌, length, map, get_or, refl, sym, ap, ◌∙◌, subst, arith, ⊎_elim, inl, inr, length-append, append-nil, if◌then◌else◌}
-use Rattle.std.specs.Prelude.{Option, None, Some, nat_lt, ◌≢◌}
+use Rattle.std.proofs.Common.{◌≡◌, ◌⊎◌, ℕ, zero, suc, ◌+◌, ◌-◌, ◌<◌, ◌≤◌, Bool, true, false, not, ◌||◌, ◌==◌, List, [], ◌∷◌, ◌++◌, length, map, get_or, refl, sym, ap, ◌∙◌, subst, arith, ⊎_elim, append-nil, if◌then◌else◌}
+use Rattle.std.specs.Prelude.{Option, nat_lt, ◌≢◌}
 use Rattle.std.specs.Option.{ForSome}
-use Rattle.std.specs.List.{All, AllPairs, filter, list_any, position_or_len, range_with_len}
+use Rattle.std.specs.List.{All, AllPairs, filter, list_any, range_with_len}
 use Rattle.std.specs.Str.{bytes_eq}
 use Rattle.std.proofs.lemmas.Bool.{cases_Bool, true≢false}
 use Rattle.std.proofs.lemmas.Bool.Decides.{Decides-ltb, nat_tests}
@@ -15,8 +15,8 @@ use Rattle.std.proofs.lemmas.Slice.Eq.{bytes_eq-Decides}
 use Rattle.lab_plan.specs.declared.verb.Verb.{Verb}
 use Rattle.lab_plan.specs.Names.{IsName}
 use Rattle.lab_plan.specs.Verbs.{Fits}
-use Rattle.lab_plan.specs.LabPlan.{SessionPlan, JobPlan, LabPlan, no_session, no_job, job_at, sessions, session_at, commands, patience, all_commands, firsts}
-use Rattle.lab_plan.specs.IsPlan.{IsDraft, IsNamed, AllFit}
+use Rattle.lab_plan.specs.LabPlan.{SessionPlan, JobPlan, LabPlan, no_session, no_job, sessions, session_at, patience, all_commands, firsts}
+use Rattle.lab_plan.specs.IsPlan.{IsDraft}
 use Rattle.lab_plan.specs.Building.{empty_plan, on_last, with_job, and_session, with_session, and_command, in_last_session, with_command, instrument_number, is_instrument, is_job, is_past_limit, last_job, has_session}
 use Rattle.lab_plan.proofs.Grown.{all_commands_with_job, all_commands_with_session, all_commands_with_command, commands_with_command, any_is, room}
 

@@ -1,8 +1,9 @@
 // Memory that runs out: refused calls change nothing, and go on once memory is there again.
-use super::{Line, check_example, name_of, put, put_all};
+use super::{EXAMPLE, Line, check_example, name_of, put, put_all, share};
 use crate::{PlanBuilder, PlanRefusal, Verb};
 use linked_list_allocator::LocalHeap;
-use std::alloc::Global;
+use std::alloc::{Allocator, Global};
+use std::process::Abort;
 use std::test::Fail;
 
 const HEAP: usize = 65536;
@@ -19,6 +20,64 @@ fn fill<'a>(alloc: Global, heap: &'a LocalHeap) -> Result<Vec<Vec<u8, &'a LocalH
     Ok(blocks)
 }
 
+/// Adds the example's lines. The first growth that is refused lets the ballast go, and the line
+/// then goes through.
+fn build<A: Allocator + Copy, B: Drop>(
+    rt: &impl Abort,
+    builder: &mut PlanBuilder<A>,
+    mut ballast: Option<B>,
+) -> Option<B> {
+    for line in EXAMPLE {
+        match put(rt, builder, line) {
+            Ok(()) => {}
+            Err(cause) => {
+                assert!(rt; cause == PlanRefusal::NoMemory && ballast.is_some());
+                ballast = None;
+                assert!(rt; put(rt, builder, line).is_ok());
+            }
+        }
+    }
+    ballast
+}
+
+/// Has finishing refused, and gives back the builder.
+fn refuse<A: Allocator + Copy>(
+    rt: &impl Abort,
+    builder: PlanBuilder<A>,
+    wanted: PlanRefusal,
+) -> PlanBuilder<A> {
+    match builder.finish() {
+        Ok(_) => panic!(rt; "finished"),
+        Err((cause, builder)) => {
+            assert!(rt; cause == wanted);
+            builder
+        }
+    }
+}
+
+/// Finishes the example, in a second try once the ballast is gone, and tells whether it took one.
+fn finish<A: Allocator + Copy, B: Drop>(
+    rt: &impl Abort,
+    builder: PlanBuilder<A>,
+    ballast: Option<B>,
+) -> bool {
+    match builder.finish() {
+        Ok(plan) => {
+            check_example(rt, &plan);
+            false
+        }
+        Err((cause, builder)) => {
+            assert!(rt; cause == PlanRefusal::NoMemory && ballast.is_some());
+            drop(ballast);
+            match builder.finish() {
+                Ok(plan) => check_example(rt, &plan),
+                Err(_) => panic!(rt; "refused"),
+            }
+            true
+        }
+    }
+}
+
 /// The room that is left at first grows by 16 bytes a run, so each growth in turn is the first
 /// that is refused; then the rest of the heap comes free.
 #[test]
@@ -27,33 +86,14 @@ fn goes_on_after_each_refused_growth(rt: HostRuntime) -> Result<(), Fail> {
     let mut refused_at_end = 0u32;
     for room in 1..800usize {
         let heap = LocalHeap::new(rt.alloc(), HEAP)?;
-        let mut ballast = Some(Vec::<u8, &LocalHeap>::with_capacity(
-            &heap,
-            HEAP - 256 - 16 * room,
-        )?);
+        let ballast = Vec::<u8, &LocalHeap>::with_capacity(&heap, HEAP - 256 - 16 * room)?;
         let mut builder = PlanBuilder::new(&heap);
-        for line in super::EXAMPLE {
-            match put(&rt, &mut builder, line) {
-                Ok(()) => {}
-                Err(cause) => {
-                    assert!(rt; cause == PlanRefusal::NoMemory && ballast.is_some());
-                    refused = refused.saturating_add(1);
-                    ballast = None;
-                    assert!(rt; put(&rt, &mut builder, line).is_ok());
-                }
-            }
+        let ballast = build(&rt, &mut builder, Some(ballast));
+        if ballast.is_none() {
+            refused = refused.saturating_add(1);
         }
-        match builder.finish() {
-            Ok(plan) => check_example(&rt, &plan),
-            Err((cause, builder)) => {
-                assert!(rt; cause == PlanRefusal::NoMemory && ballast.is_some());
-                refused_at_end = refused_at_end.saturating_add(1);
-                ballast = None;
-                match builder.finish() {
-                    Ok(plan) => check_example(&rt, &plan),
-                    Err(_) => assert!(rt; false),
-                }
-            }
+        if finish(&rt, builder, ballast) {
+            refused_at_end = refused_at_end.saturating_add(1);
         }
     }
     assert!(rt; refused > 20 && refused_at_end > 20);
@@ -94,33 +134,26 @@ fn other_causes_come_before_memory(rt: HostRuntime) -> Result<(), Fail> {
     }
     let blocks = fill(rt.alloc(), &heap)?;
     assert!(rt; put(&rt, &mut builder, Line::Job(b"more")) == Err(PlanRefusal::LimitPassed));
-    let builder = match builder.finish() {
-        Ok(_) => return Ok(assert!(rt; false)),
-        Err((cause, builder)) => {
-            assert!(rt; cause == PlanRefusal::NoMemory);
-            builder
-        }
-    };
+    let builder = refuse(&rt, builder, PlanRefusal::NoMemory);
     drop(blocks);
     assert!(rt; builder.finish().is_ok());
     Ok(())
 }
 
-/// Finishing tells too many in common with no memory left.
+/// Finishing tells an empty session, and too many in common, with no memory left.
 #[test]
-fn too_many_in_common_takes_no_memory(rt: HostRuntime) -> Result<(), Fail> {
+fn finishing_refuses_without_memory(rt: HostRuntime) -> Result<(), Fail> {
     let heap = LocalHeap::new(rt.alloc(), HEAP)?;
     let mut builder = PlanBuilder::new(&heap);
-    super::share(&rt, &mut builder, 29);
+    share(&rt, &mut builder, 29);
     let blocks = fill(rt.alloc(), &heap)?;
-    match builder.finish() {
-        Ok(_) => assert!(rt; false),
-        Err((cause, builder)) => {
-            assert!(rt; cause == PlanRefusal::TooManyInCommon);
-            // and it does so again
-            assert!(rt; builder.finish().is_err());
-        }
-    }
+    let builder = refuse(&rt, builder, PlanRefusal::TooManyInCommon);
+    let mut builder = refuse(&rt, builder, PlanRefusal::TooManyInCommon);
     drop(blocks);
+    put_all(&rt, &mut builder, &[Line::Session]);
+    let blocks = fill(rt.alloc(), &heap)?;
+    let builder = refuse(&rt, builder, PlanRefusal::SessionEmpty);
+    drop(blocks);
+    drop(builder);
     Ok(())
 }

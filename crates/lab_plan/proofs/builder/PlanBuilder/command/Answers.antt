@@ -1,4 +1,4 @@
-use Rattle.std.proofs.Common.{◌≡◌, ◌≤◌, ◌+◌, Bool, true, not, length, false, ap, sym, ◌∙◌, subst, arith, nat_le, ◌||◌, ◌&&◌}
+use Rattle.std.proofs.Common.{◌≡◌, ◌+◌, Bool, true, not, length, false, ap, sym, ◌∙◌, subst, nat_le, ◌||◌, ◌&&◌}
 use Rattle.lab_plan.specs.LabPlan.{LabPlan, all_commands}
 use Rattle.lab_plan.specs.Building.{AreClosed, is_instrument, is_past_limit, has_session}
 use Rattle.lab_plan.proofs.Grown.{is_new, commands_with_command}

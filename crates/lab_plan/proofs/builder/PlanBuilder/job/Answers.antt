@@ -1,4 +1,4 @@
-use Rattle.std.proofs.Common.{◌≡◌, ◌<◌, Bool, false, length, ap, sym, ◌∙◌, subst, arith}
+use Rattle.std.proofs.Common.{◌≡◌, ◌<◌, false, length, ap, sym, ◌∙◌, subst, arith}
 use Rattle.lab_plan.specs.LabPlan.{LabPlan, all_commands}
 use Rattle.lab_plan.specs.IsPlan.{IsDraft}
 use Rattle.lab_plan.specs.Building.{AreClosed, is_bare, is_job}

@@ -1,0 +1,42 @@
+use Rattle.std.proofs.Common.{◌≡◌, List, [], ◌∷◌, ◌++◌, ◌+◌, ℕ, arith, refl, sym, ap, ◌∙◌, subst, Bor}
+use Rattle.std.specs.Prelude.{map}
+use Rattle.std.proofs.lemmas.List.{map-append}
+use Rattle.script_reader.specs.Script.{text_lines}
+use Rattle.script_reader.specs.Steps.{step_in}
+use Rattle.script_reader.proofs.StepList.{IsListing, lists, stops, fits}
+use Rattle.script_reader.proofs.steps.read_list.Goals as goal
+
+pub loop-line-preserved : goal.loop-line-preserved
+loop-line-preserved g c =
+    let plan = c.args.plan.now in
+    let first = c.args.first in
+    let lines = text_lines c.args.text.now in
+    let line = c.in-Some.line.now in
+    let done = map (λ (l : Bor (List ℕ)). l.now) c.loop-line.yielded in
+    let steps = c.loop-line.steps.items in
+    let before = subst (λ rest. IsListing plan first lines done rest c.loop-line.number steps) c.in-Some.ensures.steps c.loop-line.invariant in
+    let more = lists plan first lines line done c.next.new.self c.loop-line.number steps c.read_step.new.steps.items (step_in plan line) c.in-Ok.field-0 refl before c.in-Ok.ensures in
+    subst (λ ls. IsListing plan first lines ls c.next.new.self (c.loop-line.number + 1) c.read_step.new.steps.items) (sym (map-append (λ (l : Bor (List ℕ)). l.now) c.loop-line.yielded (c.in-Some.line ∷ []))) more
+
+pub overflow_add-number : goal.overflow_add-number
+overflow_add-number g c =
+    let plan = c.args.plan.now in
+    let first = c.args.first in
+    let lines = text_lines c.args.text.now in
+    let line = c.in-Some.line.now in
+    let done = map (λ (l : Bor (List ℕ)). l.now) c.loop-line.yielded in
+    let steps = c.loop-line.steps.items in
+    let before = subst (λ rest. IsListing plan first lines done rest c.loop-line.number steps) c.in-Some.ensures.steps c.loop-line.invariant in
+    let few = fits plan first lines line done c.next.new.self c.loop-line.number steps before in
+    omega (arith, few)
+
+pub returns-in-Err : goal.returns-in-Err
+returns-in-Err g c =
+    let plan = c.args.plan.now in
+    let first = c.args.first in
+    let lines = text_lines c.args.text.now in
+    let line = c.in-Some.line.now in
+    let done = map (λ (l : Bor (List ℕ)). l.now) c.loop-line.yielded in
+    let steps = c.loop-line.steps.items in
+    let before = subst (λ rest. IsListing plan first lines done rest c.loop-line.number steps) c.in-Some.ensures.steps c.loop-line.invariant in
+    stops plan first lines line done c.next.new.self c.loop-line.number steps c.read_step.new.steps.items (step_in plan line) c.in-Err.cause refl before c.in-Err.ensures

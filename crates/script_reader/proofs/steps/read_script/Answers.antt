@@ -1,0 +1,55 @@
+use Rattle.std.proofs.Common.{◌≡◌, List, ℕ, [], ◌∷◌, ◌++◌, ◌+◌, true, false, refl, sym, ap, ◌∙◌, subst, Ok, Err}
+use Rattle.std.proofs.lemmas.Result.{MatchResult-weaker}
+use Rattle.script_reader.specs.Script.{text_lines, Refuses}
+use Rattle.script_reader.specs.Steps.{script_part}
+use Rattle.script_reader.proofs.ScriptPart.{IsAt, IsRest, goes_on, fails, rest_behind, rest_none, steps_none, ends_well_at, ends_badly_at}
+use Rattle.script_reader.proofs.steps.read_script.Goals as goal
+
+pub returns-then-is_steps_line : goal.returns-then-is_steps_line
+returns-then-is_steps_line g c =
+    let lines = text_lines c.args.text.now in
+    let line = c.in-Some.line.now in
+    let done = c.loop-line.invariant.0 in
+    let before : IsAt lines done (line ∷ c.next.new.self) c.loop-line.number c.loop-line.reader = subst (λ l. IsAt lines done l c.loop-line.number c.loop-line.reader) c.in-Some.ensures.steps c.loop-line.invariant.1 in
+    let is = sym c.is_steps_line.ensures ∙ c.if-is_steps_line.true in
+    let rest = rest_behind lines line done c.next.new.self c.loop-line.number c.loop-line.reader before is in
+    let none = steps_none line c.next.new.self is in
+    MatchResult-weaker c.end_script.result c.end_script.ensures
+    (λ part h. (
+      ends_well_at lines done (line ∷ c.next.new.self) c.loop-line.number c.loop-line.reader part.plan before none h.0,
+      ap text_lines h.1 ∙ c.as_bytes.ensures ∙ rest.rest_is,
+      h.2 ∙ rest.first_is,
+    ))
+    (λ fault h. subst (λ n. Refuses (script_part lines) (record { line = n; cause = fault.cause })) (sym h.1) (ends_badly_at lines done (line ∷ c.next.new.self) c.loop-line.number c.loop-line.reader fault.cause before none h.0))
+
+pub returns-in-Err : goal.returns-in-Err
+returns-in-Err g c =
+    let lines = text_lines c.args.text.now in
+    let line = c.in-Some.line.now in
+    let done = c.loop-line.invariant.0 in
+    let before : IsAt lines done (line ∷ c.next.new.self) c.loop-line.number c.loop-line.reader = subst (λ l. IsAt lines done l c.loop-line.number c.loop-line.reader) c.in-Some.ensures.steps c.loop-line.invariant.1 in
+    let isnt = sym c.is_steps_line.ensures ∙ c.if-is_steps_line.false in
+    fails lines line done c.next.new.self c.loop-line.number c.loop-line.reader c.read.new.self c.in-Err.cause before isnt c.in-Err.ensures
+
+pub loop-line-preserved : goal.loop-line-preserved
+loop-line-preserved g c =
+    let lines = text_lines c.args.text.now in
+    let line = c.in-Some.line.now in
+    let done = c.loop-line.invariant.0 in
+    let before : IsAt lines done (line ∷ c.next.new.self) c.loop-line.number c.loop-line.reader = subst (λ l. IsAt lines done l c.loop-line.number c.loop-line.reader) c.in-Some.ensures.steps c.loop-line.invariant.1 in
+    let isnt = sym c.is_steps_line.ensures ∙ c.if-is_steps_line.false in
+    (done ++ line ∷ [], goes_on lines line done c.next.new.self c.loop-line.number c.loop-line.reader c.read.new.self c.in-Ok.field-0 before isnt c.in-Ok.ensures)
+
+pub returns : goal.returns
+returns g c =
+    let lines = text_lines c.args.text.now in
+    let done = c.loop-line.invariant.0 in
+    let before : IsAt lines done [] c.loop-line.number c.loop-line.reader = subst (λ l. IsAt lines done l c.loop-line.number c.loop-line.reader) c.in_default.ensures.steps.0 c.loop-line.invariant.1 in
+    let rest = rest_none lines done c.loop-line.number c.loop-line.reader before in
+    MatchResult-weaker c.end_script-2.result c.end_script-2.ensures
+    (λ part h. (
+      ends_well_at lines done [] c.loop-line.number c.loop-line.reader part.plan before refl h.0,
+      ap text_lines h.1 ∙ c.as_bytes-2.ensures ∙ c.in_default.ensures.steps.1 ∙ rest.rest_is,
+      h.2 ∙ rest.first_is,
+    ))
+    (λ fault h. subst (λ n. Refuses (script_part lines) (record { line = n; cause = fault.cause })) (sym h.1) (ends_badly_at lines done [] c.loop-line.number c.loop-line.reader fault.cause before refl h.0))

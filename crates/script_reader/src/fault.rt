@@ -1,0 +1,73 @@
+// Faults of scripts and step lists.
+use lab_plan::PlanRefusal;
+use thiserror::Error;
+
+/// Why a line, or the end of the text, is refused. Its text is what a user reads.
+#[derive(Clone, Copy, PartialEq, Eq, Debug, Error)]
+pub enum ScriptCause {
+    /// The first line that isn't skipped isn't `lab 1` or `lab 2`, or there is none.
+    #[error("S1 no lab header")]
+    NoHeader,
+    /// The line has no form of a script's lines.
+    #[error("S2 unknown word")]
+    UnknownWord,
+    /// A name breaks the rule of names.
+    #[error("S3 bad name")]
+    BadName,
+    /// A number breaks the rule of numbers.
+    #[error("S4 bad number")]
+    BadNumber,
+    /// An earlier job has the name.
+    #[error("S5 job twice")]
+    JobTwice,
+    /// A command or `end` where no session is open.
+    #[error("S6 not in a session")]
+    NotInSession,
+    /// A session before the first job.
+    #[error("S7 not in a job")]
+    NotInJob,
+    /// The end of a session without a command.
+    #[error("S8 empty session")]
+    EmptySession,
+    /// A job, a session, the steps or the end of the text where a session is open.
+    #[error("S9 session not closed")]
+    SessionNotClosed,
+    /// One more job, instrument, session, command or step than there may be.
+    #[error("S10 limit passed")]
+    LimitPassed,
+    /// Two jobs have more than 28 instruments in common.
+    #[error("S11 more than 28 instruments in common")]
+    TooManyInCommon,
+    /// A growth was refused.
+    #[error("S12 no memory")]
+    NoMemory,
+    /// A line after `steps` that is no step of the script's plan.
+    #[error("S13 bad step")]
+    BadStep,
+}
+
+/// The fault of a text: the number of a line, counted from 1, and why it is refused. A fault at the
+/// end of the text has the number of lines plus one.
+#[derive(Clone, Copy, PartialEq, Eq, Debug, Error)]
+#[error("line {line}: {cause}")]
+pub struct ScriptFault {
+    pub line: usize,
+    pub cause: ScriptCause,
+}
+
+impl From<PlanRefusal> for ScriptCause {
+    ghost use Rattle.std.specs.Prelude.{◌≡◌};
+    ghost use Rattle.script_reader.specs.Refused.{cause_of};
+
+    ghost from_gives = { λ refusal cause. cause ≡ cause_of refusal };
+
+    fn from(refusal: PlanRefusal) -> ScriptCause {
+        match refusal {
+            PlanRefusal::LimitPassed => ScriptCause::LimitPassed,
+            PlanRefusal::SessionEmpty => ScriptCause::EmptySession,
+            PlanRefusal::JobTwice => ScriptCause::JobTwice,
+            PlanRefusal::TooManyInCommon => ScriptCause::TooManyInCommon,
+            PlanRefusal::NoMemory => ScriptCause::NoMemory,
+        }
+    }
+}

@@ -1,0 +1,170 @@
+// The forms of a script's lines.
+ghost use Rattle.std.specs.Prelude.{◌≡◌, MatchOption, None, Some};
+ghost use Rattle.script_reader.specs.Fields.{fields};
+ghost use Rattle.script_reader.specs.Line.{lab_line, job_line, session_line, alone, command_line, line_with, form_of, Unknown, Steps, End};
+ghost use Rattle.script_reader.specs.Form.{line_of};
+
+use crate::field::{is_blank, next_field, one_field, two_fields};
+
+/// The version of a script.
+#[derive(Clone, Copy, PartialEq, Eq, Debug)]
+pub(crate) enum Version {
+    One,
+    Two,
+}
+
+impl Version {
+    ghost use Rattle.script_reader.specs.State.{is_two};
+
+    /// Whether sessions may have a patience.
+    pub(crate) fn is_two(self) -> bool
+        ensures { result ≡ is_two self }
+    {
+        match self {
+            Version::One => false,
+            Version::Two => true,
+        }
+    }
+}
+
+/// A verb, with its number as it is spelled.
+#[derive(Clone, Copy, Debug)]
+pub(crate) enum VerbField<'a> {
+    Set(&'a [u8]),
+    Add(&'a [u8]),
+    Read,
+}
+
+/// The form of a line that isn't skipped, with its names and numbers as they are spelled.
+#[derive(Clone, Copy, Debug)]
+pub(crate) enum Form<'a> {
+    Header(Version),
+    Job(&'a [u8]),
+    Session,
+    PatientSession(&'a [u8]),
+    Command(&'a [u8], VerbField<'a>),
+    End,
+    Steps,
+    Unknown,
+}
+
+fn lab_line(rest: &[u8]) -> Form
+    ensures { line_of result ≡ lab_line (fields rest.now) }
+{
+    match one_field(rest) {
+        None => Form::Unknown,
+        Some(version) => {
+            if version == b"1".as_slice() {
+                Form::Header(Version::One)
+            } else if version == b"2".as_slice() {
+                Form::Header(Version::Two)
+            } else {
+                Form::Unknown
+            }
+        }
+    }
+}
+
+fn job_line(rest: &[u8]) -> Form
+    ensures { line_of result ≡ job_line (fields rest.now) }
+{
+    match one_field(rest) {
+        None => Form::Unknown,
+        Some(name) => Form::Job(name),
+    }
+}
+
+fn session_line(rest: &[u8]) -> Form
+    ensures { line_of result ≡ session_line (fields rest.now) }
+{
+    if is_blank(rest) {
+        return Form::Session;
+    }
+    match two_fields(rest) {
+        None => Form::Unknown,
+        Some((word, number)) => {
+            if word == b"patience".as_slice() {
+                Form::PatientSession(number)
+            } else {
+                Form::Unknown
+            }
+        }
+    }
+}
+
+fn end_line(rest: &[u8]) -> Form
+    ensures { line_of result ≡ alone End (fields rest.now) }
+{
+    if is_blank(rest) {
+        Form::End
+    } else {
+        Form::Unknown
+    }
+}
+
+fn steps_line(rest: &[u8]) -> Form
+    ensures { line_of result ≡ alone Steps (fields rest.now) }
+{
+    if is_blank(rest) {
+        Form::Steps
+    } else {
+        Form::Unknown
+    }
+}
+
+fn command_line<'a>(name: &'a [u8], rest: &'a [u8]) -> Form<'a>
+    ensures { line_of result ≡ command_line name.now (fields rest.now) }
+{
+    if let Some(verb) = one_field(rest) {
+        if verb == b"read".as_slice() {
+            return Form::Command(name, VerbField::Read);
+        }
+        return Form::Unknown;
+    }
+    if let Some((verb, number)) = two_fields(rest) {
+        if verb == b"set".as_slice() {
+            return Form::Command(name, VerbField::Set(number));
+        }
+        if verb == b"add".as_slice() {
+            return Form::Command(name, VerbField::Add(number));
+        }
+    }
+    Form::Unknown
+}
+
+/// The form of the line with this first field.
+#[tactic(auto, unfolding(crate::specs::Line::line_with))]
+fn line_with<'a>(first: &'a [u8], rest: &'a [u8]) -> Form<'a>
+    ensures { line_of result ≡ line_with first.now (fields rest.now) }
+{
+    if first == b"lab".as_slice() {
+        return lab_line(rest);
+    }
+    if first == b"job".as_slice() {
+        return job_line(rest);
+    }
+    if first == b"session".as_slice() {
+        return session_line(rest);
+    }
+    if first == b"end".as_slice() {
+        return end_line(rest);
+    }
+    if first == b"steps".as_slice() {
+        return steps_line(rest);
+    }
+    if first == b"patience".as_slice() {
+        return Form::Unknown;
+    }
+    command_line(first, rest)
+}
+
+/// The form of a line, or None where the line is skipped.
+pub(crate) fn form_of(line: &[u8]) -> Option<Form>
+    ensures { MatchOption result (form_of line.now ≡ None) (λ form. form_of line.now ≡ Some (line_of form)) }
+{
+    let (first, rest) = next_field(line)?;
+    if first[0] == b'#' {
+        return None;
+    }
+    Some(line_with(first, rest))
+}

@@ -1,0 +1,199 @@
+// The steps of a step list, by the names in a plan.
+ghost use Rattle.std.specs.Prelude.{◌≡◌, ℕ, ◌<◌, None, Some, length, MatchOption};
+ghost use Rattle.lab_plan.specs.LabPlan.{edges};
+ghost use Rattle.script_reader.specs.Fields.{fields};
+ghost use Rattle.script_reader.specs.Steps.{job_named, edge_between, edge_named, job_event, edge_event, bottle_event, glance_event, job_step, edge_step, bottle_step, glance_step, step_with, step_in};
+
+use crate::bottles::bottle_set;
+use crate::field::{is_blank, next_field, one_field, two_fields};
+use lab_plan::{EdgeNo, JobNo, Plan};
+use legal_steps::Step;
+use std::alloc::Allocator;
+
+/// The job with this name.
+fn job_named<A: Allocator>(plan: &Plan<A>, name: &[u8]) -> Option<JobNo>
+    ensures { MatchOption result (job_named plan.now name.now ≡ None) (λ j. (job_named plan.now name.now ≡ Some j) × (j < length plan.now.jobs)) }
+{
+    for number in 0..plan.jobs() {
+        let job = JobNo(number as u8);
+        if name == plan.job_name(job) {
+            return Some(job);
+        }
+    }
+    None
+}
+
+/// The edge of two jobs.
+#[tactic(auto, using(crate::proofs::EdgeNumbers::edge_none))]
+fn edge_between<A: Allocator>(plan: &Plan<A>, job: JobNo, other: JobNo) -> Option<EdgeNo>
+    requires job { job < length plan.now.jobs }
+    requires other { other < length plan.now.jobs }
+    ensures { MatchOption result (edge_between plan.now job other ≡ None) (λ e. (edge_between plan.now job other ≡ Some e) × (e < length (edges plan.now))) }
+{
+    match plan.edge_of(job, other) {
+        None => None,
+        Some(edge) => Some(edge),
+    }
+}
+
+/// A job by its name, and its edge to another.
+fn edge_named<A: Allocator>(plan: &Plan<A>, name: &[u8], other: &[u8]) -> Option<(JobNo, EdgeNo)>
+    ensures { MatchOption result (edge_named plan.now name.now other.now ≡ None) (λ p. (edge_named plan.now name.now other.now ≡ Some p) × (p.1 < length (edges plan.now))) }
+{
+    let job = job_named(plan, name)?;
+    let other = job_named(plan, other)?;
+    let edge = edge_between(plan, job, other)?;
+    Some((job, edge))
+}
+
+/// The event of a job alone that has this word.
+#[tactic(auto, unfolding(crate::specs::Steps::job_event))]
+fn job_event(word: &[u8], job: JobNo) -> Option<Step>
+    ensures { result ≡ job_event word.now job }
+{
+    if word == b"thirst".as_slice() {
+        return Some(Step::Thirst(job));
+    }
+    if word == b"hunger".as_slice() {
+        return Some(Step::Hunger(job));
+    }
+    if word == b"sit".as_slice() {
+        return Some(Step::Sit(job));
+    }
+    if word == b"leave".as_slice() {
+        return Some(Step::Leave(job));
+    }
+    if word == b"drink".as_slice() {
+        return Some(Step::Drink(job));
+    }
+    if word == b"reach".as_slice() {
+        return Some(Step::Reach(job));
+    }
+    if word == b"act".as_slice() {
+        return Some(Step::Act(job));
+    }
+    if word == b"quit".as_slice() {
+        return Some(Step::Quit(job));
+    }
+    if word == b"retire".as_slice() {
+        return Some(Step::Retire(job));
+    }
+    if word == b"withdraw".as_slice() {
+        return Some(Step::Withdraw(job));
+    }
+    None
+}
+
+/// The event of a job at one of its edges that has this word.
+#[tactic(auto, unfolding(crate::specs::Steps::edge_event))]
+fn edge_event(word: &[u8], job: JobNo, edge: EdgeNo) -> Option<Step>
+    ensures { result ≡ edge_event word.now job edge }
+{
+    if word == b"look".as_slice() {
+        return Some(Step::Look(job, edge));
+    }
+    if word == b"askfork".as_slice() {
+        return Some(Step::AskFork(job, edge));
+    }
+    if word == b"givefork".as_slice() {
+        return Some(Step::GiveFork(job, edge));
+    }
+    if word == b"soil".as_slice() {
+        return Some(Step::Soil(job, edge));
+    }
+    None
+}
+
+/// The event of a job with bottles of one of its edges that has this word.
+#[tactic(auto, unfolding(crate::specs::Steps::bottle_event))]
+fn bottle_event(word: &[u8], job: JobNo, edge: EdgeNo, set: u32) -> Option<Step>
+    ensures { result ≡ bottle_event word.now job edge set }
+{
+    if word == b"askbottles".as_slice() {
+        return Some(Step::AskBottles(job, edge, set));
+    }
+    if word == b"givebottles".as_slice() {
+        return Some(Step::GiveBottles(job, edge, set));
+    }
+    None
+}
+
+/// The event of a job at another job that has this word.
+#[tactic(auto, unfolding(crate::specs::Steps::glance_event))]
+fn glance_event(word: &[u8], job: JobNo, other: JobNo) -> Option<Step>
+    ensures { result ≡ glance_event word.now job other }
+{
+    if word == b"glance".as_slice() {
+        return Some(Step::Glance(job, other));
+    }
+    None
+}
+
+fn job_step<A: Allocator>(plan: &Plan<A>, word: &[u8], rest: &[u8]) -> Option<Step>
+    ensures { result ≡ job_step plan.now word.now (fields rest.now) }
+{
+    let name = one_field(rest)?;
+    let job = job_named(plan, name)?;
+    job_event(word, job)
+}
+
+fn edge_step<A: Allocator>(plan: &Plan<A>, word: &[u8], rest: &[u8]) -> Option<Step>
+    ensures { result ≡ edge_step plan.now word.now (fields rest.now) }
+{
+    let (name, other) = two_fields(rest)?;
+    let (job, edge) = edge_named(plan, name, other)?;
+    edge_event(word, job, edge)
+}
+
+fn glance_step<A: Allocator>(plan: &Plan<A>, word: &[u8], rest: &[u8]) -> Option<Step>
+    ensures { result ≡ glance_step plan.now word.now (fields rest.now) }
+{
+    let (name, other) = two_fields(rest)?;
+    let job = job_named(plan, name)?;
+    let other = job_named(plan, other)?;
+    if job == other {
+        return None;
+    }
+    glance_event(word, job, other)
+}
+
+fn bottle_step<A: Allocator>(plan: &Plan<A>, word: &[u8], rest: &[u8]) -> Option<Step>
+    ensures { result ≡ bottle_step plan.now word.now (fields rest.now) }
+{
+    let (name, rest) = next_field(rest)?;
+    let (other, bottles) = next_field(rest)?;
+    if is_blank(bottles) {
+        return None;
+    }
+    let (job, edge) = edge_named(plan, name, other)?;
+    let set = bottle_set(plan, edge, bottles)?;
+    bottle_event(word, job, edge, set)
+}
+
+/// The step with this word and these names.
+#[tactic(auto, unfolding(crate::specs::Steps::step_with))]
+fn step_with<A: Allocator>(plan: &Plan<A>, word: &[u8], rest: &[u8]) -> Option<Step>
+    ensures { result ≡ step_with plan.now word.now (fields rest.now) }
+{
+    if let Some(step) = job_step(plan, word, rest) {
+        return Some(step);
+    }
+    if let Some(step) = edge_step(plan, word, rest) {
+        return Some(step);
+    }
+    if let Some(step) = bottle_step(plan, word, rest) {
+        return Some(step);
+    }
+    glance_step(plan, word, rest)
+}
+
+/// The step of a line, where it has one; None where the line is skipped.
+pub(crate) fn step_in<A: Allocator>(plan: &Plan<A>, line: &[u8]) -> Option<Option<Step>>
+    ensures { result ≡ step_in plan.now line.now }
+{
+    let (first, rest) = next_field(line)?;
+    if first[0] == b'#' {
+        return None;
+    }
+    Some(step_with(plan, first, rest))
+}

@@ -1,0 +1,143 @@
+// Each limit at its number and one past it, with the causes that come before it.
+use super::told;
+use crate::ScriptCause::{BadName, BadNumber, JobTwice, LimitPassed, TooManyInCommon};
+use crate::{read_plan, read_steps};
+use std::alloc::{AllocError, Global};
+use std::test::Fail;
+
+/// A text with this line so many times behind its front; the line's mark is its number.
+fn repeated(
+    alloc: Global,
+    front: &str,
+    before: &str,
+    after: &str,
+    times: u32,
+) -> Result<String, AllocError> {
+    let mut text = String::new(alloc);
+    text.push_str(front)?;
+    for number in 0..times {
+        let mark = format!(in alloc; "{number}")?;
+        text.push_str(before)?;
+        text.push_str(&mark)?;
+        text.push_str(after)?;
+    }
+    Ok(text)
+}
+
+#[test]
+fn jobs(rt: HostRuntime) -> Result<(), Fail> {
+    let alloc = rt.alloc();
+    let mut text = repeated(alloc, "lab 1\n", "job j", "\n", 32)?;
+    assert!(rt; told(read_plan(alloc, text.as_bytes())).is_none());
+    for (line, cause) in [
+        ("job j32", LimitPassed),
+        ("job j5", JobTwice),
+        ("job J", BadName),
+    ] {
+        let more = format!(in alloc; "{text}{line}")?;
+        assert!(rt;
+            told(read_plan(alloc, more.as_bytes())) == Some((34, cause)),
+            "{line}"
+        );
+    }
+    text.push_str("session\nx read\nend\n")?;
+    assert!(rt; told(read_plan(alloc, text.as_bytes())).is_none());
+    Ok(())
+}
+
+#[test]
+fn instruments(rt: HostRuntime) -> Result<(), Fail> {
+    let alloc = rt.alloc();
+    let text = repeated(alloc, "lab 1\njob a\nsession\n", "i", " read\n", 56)?;
+    let whole = format!(in alloc; "{text}i3 set 5\nend")?;
+    assert!(rt; told(read_plan(alloc, whole.as_bytes())).is_none());
+    for (line, cause) in [
+        ("i56 read", LimitPassed),
+        ("i56 set 05", BadNumber),
+        ("I56 read", BadName),
+    ] {
+        let more = format!(in alloc; "{text}{line}")?;
+        assert!(rt;
+            told(read_plan(alloc, more.as_bytes())) == Some((60, cause)),
+            "{line}"
+        );
+    }
+    Ok(())
+}
+
+#[test]
+fn sessions(rt: HostRuntime) -> Result<(), Fail> {
+    let alloc = rt.alloc();
+    let text = repeated(alloc, "lab 2\njob a\n", "session\nx set ", "\nend\n", 1000)?;
+    assert!(rt; told(read_plan(alloc, text.as_bytes())).is_none());
+    for (line, cause) in [
+        ("session", LimitPassed),
+        ("session patience 3", LimitPassed),
+        ("session patience x", BadNumber),
+    ] {
+        let more = format!(in alloc; "{text}{line}")?;
+        assert!(rt;
+            told(read_plan(alloc, more.as_bytes())) == Some((3003, cause)),
+            "{line}"
+        );
+    }
+    let other = format!(in alloc; "{text}job b\nsession\nx read\nend")?;
+    assert!(rt; told(read_plan(alloc, other.as_bytes())).is_none());
+    Ok(())
+}
+
+#[test]
+fn commands(rt: HostRuntime) -> Result<(), Fail> {
+    let alloc = rt.alloc();
+    let text = repeated(alloc, "lab 1\njob a\nsession\n", "x set ", "\n", 100_000)?;
+    let whole = format!(in alloc; "{text}end")?;
+    assert!(rt; told(read_plan(alloc, whole.as_bytes())).is_none());
+    let more = format!(in alloc; "{text}x read")?;
+    assert!(rt; told(read_plan(alloc, more.as_bytes())) == Some((100_004, LimitPassed)));
+    Ok(())
+}
+
+#[test]
+fn steps(rt: HostRuntime) -> Result<(), Fail> {
+    let alloc = rt.alloc();
+    let mut text = String::new(alloc);
+    text.push_str("lab 1\njob a\nsteps\n")?;
+    for _ in 0..1_000_000 {
+        text.push_str("sit a\n")?;
+    }
+    match read_steps(alloc, text.as_bytes()) {
+        Ok((plan, steps)) => assert!(rt; plan.jobs() == 1 && steps.len() == 1_000_000),
+        Err(_) => assert!(rt; false),
+    }
+    text.push_str("#\n\nsit a")?;
+    assert!(rt; told(read_steps(alloc, text.as_bytes())) == Some((1_000_006, LimitPassed)));
+    Ok(())
+}
+
+/// Two jobs with so many instruments in common.
+fn sharing(alloc: Global, instruments: u32) -> Result<String, AllocError> {
+    let mut text = repeated(
+        alloc,
+        "lab 1\njob a\nsession\n",
+        "i",
+        " read\n",
+        instruments,
+    )?;
+    let other = repeated(alloc, "end\njob b\nsession\n", "i", " read\n", instruments)?;
+    text.push_str(&other)?;
+    text.push_str("end\n")?;
+    Ok(text)
+}
+
+#[test]
+fn many_in_common(rt: HostRuntime) -> Result<(), Fail> {
+    let alloc = rt.alloc();
+    let text = sharing(alloc, 28)?;
+    assert!(rt; told(read_plan(alloc, text.as_bytes())).is_none());
+    let text = sharing(alloc, 29)?;
+    assert!(rt; told(read_plan(alloc, text.as_bytes())) == Some((66, TooManyInCommon)));
+    assert!(rt; told(read_steps(alloc, text.as_bytes())) == Some((66, TooManyInCommon)));
+    let stepped = format!(in alloc; "{text}\n\nsteps\nbad")?;
+    assert!(rt; told(read_steps(alloc, stepped.as_bytes())) == Some((68, TooManyInCommon)));
+    Ok(())
+}
