@@ -1,0 +1,10 @@
+// The report of a run, and the upgraded script of a plan: what is printed is a function of what is shown.
+#![tactic(auto)]
+
+mod offering;
+mod sink;
+mod tally;
+
+pub use offering::{WriteFault, offer};
+pub use sink::{Failed, Sink, ToWrite};
+pub use tally::Tally;
