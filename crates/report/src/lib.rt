@@ -1,6 +1,8 @@
 // The report of a run, and the upgraded script of a plan: what is printed is a function of what is shown.
 #![tactic(auto)]
 
+mod line;
+mod lines;
 mod offering;
 mod sink;
 mod tally;
