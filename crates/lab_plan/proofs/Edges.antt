@@ -1,6 +1,6 @@
 -- The ends of every edge are jobs of the plan, the lower number first.
-use Rattle.std.proofs.Common.{◌≡◌, ℕ, zero, suc, ◌+◌, ◌-◌, ◌<◌, ◌≤◌, List, [], ◌∷◌, ◌++◌, Bool, true, false, length, map, slice_index_or, cond, arith}
-use Rattle.std.specs.List.{AllByRecursion, All, flat_map, range_with_len, filter}
+use Rattle.std.proofs.Common.{ℕ, zero, suc, ◌+◌, ◌-◌, ◌<◌, ◌≤◌, List, [], ◌∷◌, ◌++◌, length, map, arith}
+use Rattle.std.specs.List.{AllByRecursion, All, flat_map, range_with_len}
 use Rattle.std.proofs.lemmas.List.Elements.{All-filter, All-from_recursion}
 use Rattle.lab_plan.specs.LabPlan.{LabPlan, edges, ends, pairs}
 

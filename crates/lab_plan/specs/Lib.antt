@@ -3,3 +3,4 @@ pub mod Names
 pub mod Verbs
 pub mod IsPlan
 pub mod Building
+pub mod Tables

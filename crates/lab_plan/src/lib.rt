@@ -3,8 +3,10 @@
 #![tactic(auto)]
 
 mod draft;
+mod instrument_set;
 mod job;
 pub mod name;
+mod naming;
 pub mod numbers;
 pub mod plan;
 pub mod refusal;
