@@ -32,6 +32,7 @@ impl<A: Allocator> Model for Plan<A> {
 impl<A: Allocator> Plan<A> {
     ghost use Rattle.lab_plan.specs.LabPlan.{edges, ends, bottles, sessions, commands, patience, job_at};
     ghost use Rattle.lab_plan.specs.IsPlan.{IsPlan};
+    ghost use Rattle.lab_plan.specs.Names.{IsName};
 
     pub fn version(&self) -> u8
         ensures { result ≡ self.now.version }
@@ -62,14 +63,18 @@ impl<A: Allocator> Plan<A> {
 
     pub fn job_name(&self, job: JobNo) -> &[u8]
         requires { job < length self.now.jobs }
-        ensures { result.now ≡ (job_at self.now job).name }
+        ensures value { result.now ≡ (job_at self.now job).name }
+        ensures name { IsName result.now }
+        ensures short { length result.now ≤ 16 }
     {
         self.draft.job_name(job)
     }
 
     pub fn instrument_name(&self, instrument: InstrumentNo) -> &[u8]
         requires { instrument < length self.now.instruments }
-        ensures { result.now ≡ slice_index_or self.now.instruments instrument [] }
+        ensures value { result.now ≡ slice_index_or self.now.instruments instrument [] }
+        ensures name { IsName result.now }
+        ensures short { length result.now ≤ 16 }
     {
         self.draft.instrument_name(instrument)
     }

@@ -1,7 +1,5 @@
 // A text goes out by a loop over `write`.
-ghost use Rattle.std.specs.Prelude.{◌≡◌, ◌+◌, length, OnOk, OnErr};
-ghost use Rattle.std.specs.Io.KnownBytes.{Appends};
-ghost use Rattle.report.specs.Taken.{AppendsPrefix};
+ghost use Rattle.report.specs.Taken.{Writes};
 
 use crate::sink::{Failed, Sink};
 
@@ -11,10 +9,7 @@ pub struct WriteFault;
 
 /// Offers a text until all of it is taken or the sink fails.
 pub fn offer<W: Sink>(sink: &mut W, text: &[u8]) -> Result<(), WriteFault>
-    ensures whole { OnOk result (Appends (W.taken sink.old) (W.taken sink.new) text.now) }
-    ensures prefix { AppendsPrefix (W.taken sink.old) (W.taken sink.new) text.now }
-    ensures well { OnOk result (W.failures sink.new ≡ W.failures sink.old) }
-    ensures cause { OnErr result (W.failures sink.new ≡ W.failures sink.old + 1) }
+    ensures { Writes (W.taken sink.old) (W.taken sink.new) (W.failures sink.old) (W.failures sink.new) text.now result }
 {
     let mut rest = text;
     while !rest.is_empty() {

@@ -3,19 +3,13 @@ use Rattle.std.proofs.lemmas.List.{take_rest}
 use Rattle.std.proofs.Math.Seq.{take-append_seam}
 use Rattle.std.specs.Io.KnownBytes.{Appends}
 use Rattle.std.proofs.KnownBytes.{Appends-trans, Appends-kept}
-use Rattle.report.specs.Taken.{AppendsPrefix}
+
+use Rattle.report.proofs.Prefixes.{is_front}
 use Rattle.report.proofs.offering.offer.Goals as goal
 
 moves_front : (all done rest : List ℕ) (n : ℕ) → all ≡ done ++ rest → all ≡ (done ++ take n rest) ++ take (length rest - n) (drop n rest)
 moves_front all done rest n e =
     e ∙ ap (λ l. done ++ l) (sym (take-append-drop n rest)) ∙ sym (append_assoc done (take n rest) (drop n rest)) ∙ ap (λ l. (done ++ take n rest) ++ l) (sym (take_rest rest n))
-
--- a front of the text that was taken
-is_front : (a b : Option (List ℕ)) (all done rest : List ℕ) → all ≡ done ++ rest → Appends a b done → AppendsPrefix a b all
-is_front a b all done rest split taken =
-    let length_is : length all ≡ length done + length rest = ap length split ∙ length-append done rest in
-    let front : take (length done) all ≡ done = ap (take (length done)) split ∙ take-append_seam done rest in
-    (length done, omega (arith, length_is), subst (Appends a b) (sym front) taken)
 
 pub loop-rest-preserved : goal.loop-rest-preserved
 loop-rest-preserved g c =
@@ -24,7 +18,7 @@ loop-rest-preserved g c =
     let n = c.in-Ok.n in
     (done ++ take n rest, moves_front _ done rest n split, Appends-trans _ _ _ _ _ taken c.in-Ok.ensures.bytes, c.in-Ok.ensures.count ∙ well)
 
-pub returns-in-Err-clause-prefix : goal.returns-in-Err-clause-prefix
-returns-in-Err-clause-prefix g c =
+pub returns-in-Err : goal.returns-in-Err
+returns-in-Err g c =
     let (done, split, taken, well) = c.loop-rest.invariant in
-    is_front _ _ _ done _ split (Appends-kept _ _ _ done taken c.in-Err.ensures.bytes)
+    (is_front _ _ _ done _ split (Appends-kept _ _ _ done taken c.in-Err.ensures.bytes), c.in-Err.ensures.count ∙ ap (λ n. n + 1) well)
