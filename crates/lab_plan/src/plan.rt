@@ -1,5 +1,6 @@
 // A plan, kept with the tables of its edges and bottles.
 ghost use Rattle.std.specs.Prelude.{◌≡◌, ℕ, ◌<◌, ◌≤◌, length, slice_index_or, []};
+ghost use Rattle.std.specs.List.{All};
 
 use crate::draft::Draft;
 use crate::numbers::{EdgeNo, InstrumentNo, JobNo};
@@ -101,7 +102,8 @@ impl<A: Allocator> Plan<A> {
         requires is_job { job < length self.now.jobs }
         requires begun { 1 ≤ session }
         requires is_session { session ≤ length (sessions self.now job) }
-        ensures { result.now ≡ commands self.now job session }
+        ensures commands { result.now ≡ commands self.now job session }
+        ensures named { All (λ command. command.0 < length self.now.instruments) result.now }
     {
         self.draft.commands(job, session)
     }
