@@ -4,6 +4,7 @@
 mod line;
 mod lines;
 mod offering;
+mod script;
 mod sink;
 mod tally;
 

@@ -1,0 +1,12 @@
+-- the job's line and its sessions so far went out, and nothing failed
+use Rattle.std.proofs.Common.{◌≡◌, ◌++◌, take}
+use Rattle.std.specs.List.{flat_map}
+use Rattle.std.specs.Io.KnownBytes.{Appends}
+use Rattle.lab_plan.specs.LabPlan.{job_at, sessions}
+use Rattle.report.specs.Upgrade.{name_line, session_text}
+use Rattle.report.proofs.script.write_job.Given as goal
+
+abbrev pub invariant-loop-session : goal.invariant-loop-session
+invariant-loop-session g l =
+    Appends (g.W.Sink.taken l.fn.sink) (g.W.Sink.taken l.sink) (name_line (job_at l.plan l.job).name ++ flat_map (session_text l.plan) (take l.session (sessions l.plan l.job)))
+      × (g.W.Sink.failures l.sink ≡ g.W.Sink.failures l.fn.sink)

@@ -1,0 +1,12 @@
+-- the header and the jobs so far went out, and nothing failed
+use Rattle.std.proofs.Common.{◌≡◌, ◌++◌, take}
+use Rattle.std.specs.List.{flat_map}
+use Rattle.std.specs.Io.KnownBytes.{Appends}
+use Rattle.report.specs.Texts.{header_line}
+use Rattle.report.specs.Upgrade.{job_text}
+use Rattle.report.proofs.script.write_script.Given as goal
+
+abbrev pub invariant-loop-job : goal.invariant-loop-job
+invariant-loop-job g l =
+    Appends (g.W.Sink.taken l.fn.sink) (g.W.Sink.taken l.sink) (header_line 2 ++ flat_map (job_text l.plan) (take l.job l.plan.jobs))
+      × (g.W.Sink.failures l.sink ≡ g.W.Sink.failures l.fn.sink)
