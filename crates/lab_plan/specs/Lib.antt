@@ -4,3 +4,5 @@ pub mod Verbs
 pub mod IsPlan
 pub mod Building
 pub mod Tables
+pub mod Texts
+pub mod Upgrade

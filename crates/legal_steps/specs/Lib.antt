@@ -9,3 +9,4 @@ pub mod WholeLogs
 pub mod Holding
 pub mod Things
 pub mod Reached
+pub mod Laws

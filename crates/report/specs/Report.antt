@@ -6,7 +6,7 @@ use Rattle.instrument_log.specs.declared.entry.Entry.{Entry}
 use Rattle.legal_steps.specs.declared.phase.Drinking.{Drinking}
 use Rattle.legal_steps.specs.declared.phase.Drinking.TheVariants.{Retired}
 use Rattle.report.specs.declared.lines.JobTally.{JobTally}
-use Rattle.report.specs.Texts.{job_name, instrument_name, verb_text, header_line}
+use Rattle.lab_plan.specs.Texts.{job_name, instrument_name, verb_text, header_line}
 
 -- what is shown of a run: each instrument's log, what each job drinks, how many of its sessions it did and gave up, and its meals
 pub record Shown : Type 0 where

@@ -1,8 +1,8 @@
 // The lines of reports and scripts.
 ghost use Rattle.std.specs.Prelude.{◌≡◌, ◌+◌, ◌≤◌, ◌++◌, length, Some};
-ghost use Rattle.report.specs.Texts.{verb_text, header_line};
+ghost use Rattle.lab_plan.specs.Texts.{verb_text, header_line};
 ghost use Rattle.report.specs.Report.{instrument_line, entry_line, withdrawn_text, job_text};
-ghost use Rattle.report.specs.Upgrade.{session_line, command_line, name_line};
+ghost use Rattle.lab_plan.specs.Upgrade.{session_line, command_line, name_line};
 
 use crate::line::Line;
 use instrument_log::Entry;

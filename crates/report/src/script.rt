@@ -3,7 +3,7 @@ ghost use Rattle.std.specs.Prelude.{◌≡◌, ℕ, ◌+◌, ◌-◌, ◌<◌, �
 ghost use Rattle.std.specs.List.{All, flat_map};
 ghost use Rattle.lab_plan.specs.LabPlan.{session_at, sessions, job_at};
 ghost use Rattle.report.specs.Taken.{Writes};
-ghost use Rattle.report.specs.Upgrade.{command_text, commands_text, session_text, job_text, script_text};
+ghost use Rattle.lab_plan.specs.Upgrade.{command_text, commands_text, session_text, job_text, script_text};
 
 use crate::lines::{command_line, header_line, name_line, session_line};
 use crate::offering::{WriteFault, offer};

@@ -1,5 +1,5 @@
 use Rattle.std.proofs.Common.{◌+◌, ◌∙◌, ap}
-use Rattle.report.specs.Upgrade.{command_text}
+use Rattle.lab_plan.specs.Upgrade.{command_text}
 use Rattle.report.proofs.Prefixes.{each_goes, each_stops, writes_err}
 use Rattle.report.proofs.script.write_commands.Goals as goal
 

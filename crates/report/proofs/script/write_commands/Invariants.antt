@@ -1,7 +1,7 @@
 -- the commands so far went out, and nothing failed
 use Rattle.std.proofs.Common.{◌≡◌, take}
 use Rattle.std.specs.Io.KnownBytes.{Appends}
-use Rattle.report.specs.Upgrade.{commands_text}
+use Rattle.lab_plan.specs.Upgrade.{commands_text}
 use Rattle.report.proofs.script.write_commands.Given as goal
 
 abbrev pub invariant-loop-command : goal.invariant-loop-command

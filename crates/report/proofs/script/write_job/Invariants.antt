@@ -3,7 +3,7 @@ use Rattle.std.proofs.Common.{◌≡◌, ◌++◌, take}
 use Rattle.std.specs.List.{flat_map}
 use Rattle.std.specs.Io.KnownBytes.{Appends}
 use Rattle.lab_plan.specs.LabPlan.{job_at, sessions}
-use Rattle.report.specs.Upgrade.{name_line, session_text}
+use Rattle.lab_plan.specs.Upgrade.{name_line, session_text}
 use Rattle.report.proofs.script.write_job.Given as goal
 
 abbrev pub invariant-loop-session : goal.invariant-loop-session

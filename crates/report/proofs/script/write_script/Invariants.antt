@@ -2,8 +2,8 @@
 use Rattle.std.proofs.Common.{◌≡◌, ◌++◌, take}
 use Rattle.std.specs.List.{flat_map}
 use Rattle.std.specs.Io.KnownBytes.{Appends}
-use Rattle.report.specs.Texts.{header_line}
-use Rattle.report.specs.Upgrade.{job_text}
+use Rattle.lab_plan.specs.Texts.{header_line}
+use Rattle.lab_plan.specs.Upgrade.{job_text}
 use Rattle.report.proofs.script.write_script.Given as goal
 
 abbrev pub invariant-loop-job : goal.invariant-loop-job

@@ -3,7 +3,7 @@ use Rattle.std.specs.Prelude.{ℕ, List, [], ◌++◌, Option, None, Some, codes
 use Rattle.std.specs.List.{flat_map}
 use Rattle.lab_plan.specs.declared.verb.Verb.{Verb}
 use Rattle.lab_plan.specs.LabPlan.{LabPlan, JobPlan, SessionPlan}
-use Rattle.report.specs.Texts.{instrument_name, verb_text, header_line}
+use Rattle.lab_plan.specs.Texts.{instrument_name, verb_text, header_line}
 
 -- `session`, or `session patience N`
 abbrev pub session_line : Option ℕ → List ℕ

@@ -1,0 +1,16 @@
+pub mod FitsWrites
+pub mod FitsLaw
+pub mod ForkEnds
+pub mod ForkLaw
+pub mod BottleSets
+pub mod BottleLaw
+pub mod ExclusionLaw
+pub mod AcyclicLists
+pub mod AcyclicLaw
+pub mod OpeningLemmas
+pub mod OpeningChoices
+pub mod OpeningChosen
+pub mod RunLemmas
+pub mod ReachedInvariant
+pub mod ReachedLemmas
+pub mod ReachedLaws
