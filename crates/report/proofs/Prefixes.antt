@@ -34,6 +34,13 @@ in_second a b c first second whole p = record {
   taken = subst (Appends a c) (sym (take-append-add first second p.count)) (Appends-trans a b c first (take p.count second) whole p.taken);
 }
 
+-- the same, by an equal text
+pub appends_same : (a b : Option (List ℕ)) (x y : List ℕ) → x ≡ y → Appends a b x → Appends a b y
+appends_same a b x y same taken = subst (Appends a b) same taken
+
+pub prefix_same : (a b : Option (List ℕ)) (x y : List ℕ) → x ≡ y → AppendsPrefix a b x → AppendsPrefix a b y
+prefix_same a b x y same taken = subst (AppendsPrefix a b) same taken
+
 -- ---- texts of a list's elements, one after another
 
 one_more : {X : Type 0} (f : X → List ℕ) (xs : List X) (i : ℕ) (d : X) → i < length xs →

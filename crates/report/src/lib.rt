@@ -1,6 +1,7 @@
 // The report of a run, and the upgraded script of a plan: what is printed is a function of what is shown.
 #![tactic(auto)]
 
+mod header;
 mod line;
 mod lines;
 mod offering;
@@ -9,5 +10,6 @@ mod sink;
 mod tally;
 
 pub use offering::{WriteFault, offer};
+pub use script::write_script;
 pub use sink::{Failed, Sink, ToWrite};
 pub use tally::Tally;
