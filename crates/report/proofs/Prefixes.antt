@@ -1,11 +1,12 @@
 -- What went out, one text after another.
-use Rattle.std.proofs.Common.{◌≡◌, ℕ, ◌+◌, ◌<◌, ◌≤◌, List, [], ◌∷◌, ◌++◌, Option, Result, Ok, Err, IsErr, arith, length, take, drop, take-append-drop, slice_index_or, sym, ap, ◌∙◌, subst, length-append}
+use Rattle.std.proofs.Common.{◌≡◌, ℕ, Bool, true, false, ◌&&◌, ◌+◌, ◌<◌, ◌≤◌, List, [], ◌∷◌, ◌++◌, Option, Result, Ok, Err, IsErr, arith, length, take, drop, take-append-drop, slice_index_or, sym, ap, ◌∙◌, subst, length-append}
 use Rattle.std.proofs.lemmas.Bool.{false≢true}
 use Rattle.std.proofs.lemmas.List.{take-append-le, take_more, append-nil}
 use Rattle.std.proofs.Math.Seq.{take-append_seam, take-append-add}
 use Rattle.std.specs.Io.KnownBytes.{Appends}
 use Rattle.std.proofs.KnownBytes.{Appends-trans}
-use Rattle.std.specs.List.{flat_map, range_with_len}
+use Rattle.std.specs.List.{flat_map, range_with_len, list_all}
+use Rattle.std.proofs.lemmas.List.Folds.{list_all_more, list_all_at}
 use Rattle.std.proofs.lemmas.List.FromFn.{get_or-range_with_len, length-range_with_len}
 use Rattle.std.proofs.lemmas.List.Concat.{flat_map-append}
 use Rattle.report.specs.declared.offering.WriteFault.{WriteFault}
@@ -71,6 +72,15 @@ number_at n i inside = sym (get_or-range_with_len 0 n i 0 inside ∙ omega arith
 
 pub number_inside : (n i : ℕ) → i < n → i < length (range_with_len 0 n)
 number_inside n i inside = omega (arith, inside, length-range_with_len 0 n)
+
+-- a test of every number below n
+pub all_so_far : (p : ℕ → Bool) (n i : ℕ) → i < n → list_all p (take i (range_with_len 0 n)) ≡ true → p i ≡ true → list_all p (take (i + 1) (range_with_len 0 n)) ≡ true
+all_so_far p n i inside before here =
+    let is = sym (number_at n i inside) in
+    list_all_more p (range_with_len 0 n) i 0 (number_inside n i inside) ∙ ap (λ b. b && p (slice_index_or (range_with_len 0 n) i 0)) before ∙ ap p is ∙ here
+
+pub one_fails : (p : ℕ → Bool) (n i : ℕ) → i < n → p i ≡ false → list_all p (range_with_len 0 n) ≡ false
+one_fails p n i inside fails = list_all_at p (range_with_len 0 n) i 0 (number_inside n i inside) (ap p (sym (number_at n i inside)) ∙ fails)
 
 -- ---- results
 

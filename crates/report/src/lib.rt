@@ -6,6 +6,8 @@ mod line;
 mod lines;
 mod offering;
 mod script;
+mod showing;
+mod shown;
 mod sink;
 mod tally;
 

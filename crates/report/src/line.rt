@@ -53,4 +53,13 @@ impl Line {
     {
         self.text(Buffer::new().format(number).as_bytes());
     }
+
+    /// Adds a count in decimal, at most 20 digits.
+    pub(crate) fn count(&mut self, count: usize)
+        requires { length self.old + 20 ≤ 128 }
+        ensures text { self.new ≡ self.old ++ decimal count }
+        ensures len { length self.new ≤ length self.old + 20 }
+    {
+        self.text(Buffer::new().format(count).as_bytes());
+    }
 }

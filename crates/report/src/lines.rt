@@ -1,7 +1,7 @@
 // The lines of reports and scripts.
 ghost use Rattle.std.specs.Prelude.{◌≡◌, ◌+◌, ◌≤◌, ◌++◌, length, Some};
 ghost use Rattle.lab_plan.specs.Texts.{verb_text, header_line};
-ghost use Rattle.report.specs.Report.{instrument_line, entry_line, withdrawn_text, job_text};
+ghost use Rattle.report.specs.Report.{instrument_line, entry_line, withdrawn_text, job_line};
 ghost use Rattle.lab_plan.specs.Upgrade.{session_line, command_line, name_line};
 
 use crate::line::Line;
@@ -39,7 +39,7 @@ pub(crate) fn header_line(version: u8) -> Line
 }
 
 /// `instrument NAME N`, N the number of its entries.
-pub(crate) fn instrument_line(name: &[u8], entries: u32) -> Line
+pub(crate) fn instrument_line(name: &[u8], entries: usize) -> Line
     requires { length name.now ≤ 16 }
     ensures { result ≡ instrument_line name.now entries }
 {
@@ -47,7 +47,7 @@ pub(crate) fn instrument_line(name: &[u8], entries: u32) -> Line
     line.text(b"instrument ");
     line.text(name);
     line.text(b" ");
-    line.number(entries);
+    line.count(entries);
     line.text(b"\n");
     line
 }
@@ -99,7 +99,7 @@ fn add_withdrawn(line: &mut Line, version: u8, withdrawn: u32)
 /// `job NAME sessions D of S meals M STATE`, in version 2 with ` withdrawn X` before the meals.
 pub(crate) fn job_line(version: u8, name: &[u8], tally: JobTally) -> Line
     requires { length name.now ≤ 16 }
-    ensures { result ≡ job_text version name.now tally }
+    ensures { result ≡ job_line version name.now tally }
 {
     let mut line = Line::new();
     line.text(b"job ");
