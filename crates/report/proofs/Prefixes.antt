@@ -1,7 +1,7 @@
 -- What went out, one text after another.
 use Rattle.std.proofs.Common.{◌≡◌, ℕ, Bool, true, false, ◌&&◌, ◌+◌, ◌<◌, ◌≤◌, List, [], ◌∷◌, ◌++◌, Option, Result, Ok, Err, IsErr, arith, length, take, drop, take-append-drop, slice_index_or, sym, ap, ◌∙◌, subst, length-append}
 use Rattle.std.proofs.lemmas.Bool.{false≢true}
-use Rattle.std.proofs.lemmas.List.{take-append-le, take_more, append-nil}
+use Rattle.std.proofs.lemmas.List.{take-append-le, take_all, take_more, append-nil}
 use Rattle.std.proofs.Math.Seq.{take-append_seam, take-append-add}
 use Rattle.std.specs.Io.KnownBytes.{Appends}
 use Rattle.std.proofs.KnownBytes.{Appends-trans}
@@ -73,6 +73,10 @@ number_at n i inside = sym (get_or-range_with_len 0 n i 0 inside ∙ omega arith
 pub number_inside : (n i : ℕ) → i < n → i < length (range_with_len 0 n)
 number_inside n i inside = omega (arith, inside, length-range_with_len 0 n)
 
+-- the first of the numbers below n, where they are all
+pub all_numbers : (n i : ℕ) → n ≤ i → take i (range_with_len 0 n) ≡ range_with_len 0 n
+all_numbers n i past = take_all i (range_with_len 0 n) (omega (arith, past, length-range_with_len 0 n))
+
 -- a test of every number below n
 pub all_so_far : (p : ℕ → Bool) (n i : ℕ) → i < n → list_all p (take i (range_with_len 0 n)) ≡ true → p i ≡ true → list_all p (take (i + 1) (range_with_len 0 n)) ≡ true
 all_so_far p n i inside before here =
@@ -93,3 +97,7 @@ pub writes_after : (a b c : Option (List ℕ)) (n m k : ℕ) (first second : Lis
     Appends a b first → m ≡ n → Writes b c m k second r → Writes a c n k (first ++ second) r
 writes_after a b c n m k first second (Ok done) whole well w = (Appends-trans a b c first second whole w.0, w.1 ∙ well)
 writes_after a b c n m k first second (Err fault) whole well w = (in_second a b c first second whole w.0, w.1 ∙ ap (λ x. x + 1) well)
+
+-- the same, by an equal text
+pub writes_same : (a b : Option (List ℕ)) (n m : ℕ) (x y : List ℕ) (r : Result (Unit {0}) WriteFault) → x ≡ y → Writes a b n m x r → Writes a b n m y r
+writes_same a b n m x y r same w = subst (λ text. Writes a b n m text r) same w

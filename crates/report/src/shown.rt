@@ -99,12 +99,11 @@ fn all_retired<R: Showing<P>, P: Allocator>(run: &R) -> bool
 fn write_last<W: Sink>(all_retired: bool, sink: &mut W) -> Result<(), WriteFault>
     ensures { Writes (W.taken sink.old) (W.taken sink.new) (W.failures sink.old) (W.failures sink.new) (last_line all_retired) result }
 {
-    let text: &[u8] = if all_retired {
-        b"finished\n"
+    if all_retired {
+        offer(sink, b"finished\n")
     } else {
-        b"unfinished\n"
-    };
-    offer(sink, text)
+        offer(sink, b"unfinished\n")
+    }
 }
 
 /// The report.
