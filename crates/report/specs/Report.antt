@@ -77,7 +77,8 @@ all_retired plan shown = list_all (λ j. is_retired (shown.drinking j)) (jobs pl
 
 -- `finished` where every job is retired, else `unfinished`
 abbrev pub last_line : Bool → List ℕ
-last_line all_retired = if all_retired then codes "finished\n" else codes "unfinished\n"
+last_line true = codes "finished\n"
+last_line false = codes "unfinished\n"
 
 -- the report: the header, the instruments with their logs, the jobs, and the last line
 unfoldable pub report_of : LabPlan → Shown → List ℕ

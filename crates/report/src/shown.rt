@@ -96,10 +96,10 @@ fn all_retired<R: Showing<P>, P: Allocator>(run: &R) -> bool
 }
 
 /// `finished` where every job is retired, else `unfinished`.
-fn write_last<W: Sink>(all_retired: bool, sink: &mut W) -> Result<(), WriteFault>
-    ensures { Writes (W.taken sink.old) (W.taken sink.new) (W.failures sink.old) (W.failures sink.new) (last_line all_retired) result }
+fn write_last<W: Sink>(is_finished: bool, sink: &mut W) -> Result<(), WriteFault>
+    ensures { Writes (W.taken sink.old) (W.taken sink.new) (W.failures sink.old) (W.failures sink.new) (last_line is_finished) result }
 {
-    if all_retired {
+    if is_finished {
         offer(sink, b"finished\n")
     } else {
         offer(sink, b"unfinished\n")
