@@ -3,9 +3,9 @@ use Rattle.std.proofs.Common.{◌≡◌, ◌⊎◌, ℕ, ◌*◌, ◌/◌, ◌%�
 use Rattle.std.proofs.lemmas.Bool.{cases_eq, eq-eqb, ne_eqb}
 use Rattle.std.specs.Int.{bit_at, w64}
 use Rattle.std.proofs.lemmas.Nat.Bits.{bit_at-lt, bit_at_or, bit_at-zero, bit_at_set_same, bit_at_set_other, shr_and_one}
-use Rattle.lab_plan.specs.Tables.{holds}
+use Rattle.lab_plan.specs.InstrumentSets.{holds}
 
-bit_cases : (n k : ℕ) → (bit_at n k ≡ 0) ⊎ (bit_at n k ≡ 1)
+pub bit_cases : (n k : ℕ) → (bit_at n k ≡ 0) ⊎ (bit_at n k ≡ 1)
 bit_cases n k = let low = bit_at-lt n k in elim (cases_eq (bit_at n k) 0) [ inl h ↦ inl h | inr h ↦ inr (omega arith) ]
 
 -- the empty set
@@ -21,8 +21,9 @@ holds_is set k = ap (λ b. nat_eq b 1) (shr_and_one set k)
 pub holds_union : (a b i : ℕ) → holds (bit_or a b) i ≡ (holds a i || holds b i)
 unfolding holds
 holds_union a b i = elim (bit_cases a i) [
-    inl h ↦ elim (bit_cases b i) [ inl g ↦ rw (bit_at_or a b i, h, g) refl | inr g ↦ rw (bit_at_or a b i, h, g) refl ]
-  | inr h ↦ elim (bit_cases b i) [ inl g ↦ rw (bit_at_or a b i, h, g) refl | inr g ↦ rw (bit_at_or a b i, h, g) refl ] ]
+  | inl h ↦ elim (bit_cases b i) [ inl g ↦ rw (bit_at_or a b i, h, g) refl | inr g ↦ rw (bit_at_or a b i, h, g) refl ]
+  | inr h ↦ elim (bit_cases b i) [ inl g ↦ rw (bit_at_or a b i, h, g) refl | inr g ↦ rw (bit_at_or a b i, h, g) refl ]
+]
 
 or_false : (b : Bool) → b ≡ (b || false)
 or_false true = refl
@@ -35,6 +36,7 @@ or_true false = refl
 pub holds_with : (set k i : ℕ) → k < 64 → holds (bit_or set (1 * 2 ^ k % 2 ^ 64)) i ≡ (holds set i || nat_eq k i)
 unfolding holds
 holds_with set k i within = elim (cases_eq k i) [
-    inl h ↦ subst (λ n. nat_eq (bit_at (bit_or set (1 * 2 ^ k % 2 ^ 64)) n) 1 ≡ (nat_eq (bit_at set n) 1 || nat_eq k n)) h
+  | inl h ↦ subst (λ n. nat_eq (bit_at (bit_or set (1 * 2 ^ k % 2 ^ 64)) n) 1 ≡ (nat_eq (bit_at set n) 1 || nat_eq k n)) h
       (rw (bit_at_set_same w64 set k within, eq-eqb k k refl) (or_true (nat_eq (bit_at set k) 1)))
-  | inr h ↦ rw (bit_at_set_other w64 set k within i (λ e. h (sym e)), ne_eqb k i h) (or_false (nat_eq (bit_at set i) 1)) ]
+  | inr h ↦ rw (bit_at_set_other w64 set k within i (λ e. h (sym e)), ne_eqb k i h) (or_false (nat_eq (bit_at set i) 1))
+]

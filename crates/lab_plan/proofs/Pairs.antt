@@ -1,10 +1,11 @@
 -- The pairs of jobs, one at a time.
-use Rattle.std.proofs.Common.{◌≡◌, ℕ, zero, suc, ◌+◌, ◌-◌, ◌<◌, [], ◌∷◌, ◌++◌, Bool, true, false, ◌||◌, map, arith, refl, sym, ap, ◌∙◌, append-nil}
+use Rattle.std.proofs.Common.{◌≡◌, ℕ, zero, suc, ◌+◌, ◌-◌, ◌<◌, [], ◌∷◌, ◌++◌, Bool, true, false, cond, ◌||◌, map, filter, arith, refl, sym, ap, ◌∙◌, append-nil}
 use Rattle.std.specs.List.{range_with_len, list_any, flat_map}
 use Rattle.std.proofs.lemmas.List.{map-append}
 use Rattle.std.proofs.lemmas.List.Concat.{flat_map-append}
+use Rattle.std.proofs.lemmas.List.Elements.{filter-append}
 use Rattle.std.proofs.lemmas.List.Folds.{list_any-append}
-use Rattle.lab_plan.specs.Tables.{row, rows}
+use Rattle.lab_plan.specs.NamedBy.{row, rows}
 use Rattle.lab_plan.proofs.Ranges.{range_push, range_more}
 
 pub row_more : (low k : ℕ) → low < k → row low (k + 1) ≡ row low k ++ (low, k) ∷ []
@@ -13,9 +14,9 @@ row_more low k below =
     let e : k + 1 - (low + 1) ≡ suc n = omega arith in
     let last : low + 1 + n ≡ k = omega arith in
     ap (λ m. map (λ high. (low, high)) (range_with_len (low + 1) m)) e
-      ∙ ap (map (λ high. (low, high))) (range_push (low + 1) n)
-      ∙ map-append (λ high. (low, high)) (range_with_len (low + 1) n) ((low + 1 + n) ∷ [])
-      ∙ ap (λ m. row low k ++ (low, m) ∷ []) last
+    ∙ ap (map (λ high. (low, high))) (range_push (low + 1) n)
+    ∙ map-append (λ high. (low, high)) (range_with_len (low + 1) n) ((low + 1 + n) ∷ [])
+    ∙ ap (λ m. row low k ++ (low, m) ∷ []) last
 
 pub row_none : (low : ℕ) → row low (low + 1) ≡ []
 row_none low = let e : low + 1 - (low + 1) ≡ 0 = omega arith in ap (λ m. map (λ high. (low, high)) (range_with_len (low + 1) m)) e
@@ -64,3 +65,15 @@ pub any_rows_found : (p : ℕ × ℕ → Bool) (jobs k : ℕ) → k < jobs → t
 any_rows_found p jobs k inside is =
     let e : k + 1 + (jobs - (k + 1)) ≡ jobs = omega arith in
     sym (rows_from p jobs k (jobs - (k + 1)) (sym is)) ∙ ap (λ m. list_any p (rows jobs m)) e
+
+kept_row_more : (p : ℕ × ℕ → Bool) (low k : ℕ) → low < k → filter p (row low (k + 1)) ≡ filter p (row low k) ++ cond (p (low, k)) ((low, k) ∷ []) []
+kept_row_more p low k below = ap (filter p) (row_more low k below) ∙ filter-append p (row low k) ((low, k) ∷ [])
+
+pub kept_row_yes : (p : ℕ × ℕ → Bool) (low k : ℕ) → low < k → true ≡ p (low, k) → filter p (row low (k + 1)) ≡ filter p (row low k) ++ (low, k) ∷ []
+kept_row_yes p low k below h = kept_row_more p low k below ∙ ap (λ b. filter p (row low k) ++ cond b ((low, k) ∷ []) []) (sym h)
+
+pub kept_row_no : (p : ℕ × ℕ → Bool) (low k : ℕ) → low < k → false ≡ p (low, k) → filter p (row low (k + 1)) ≡ filter p (row low k)
+kept_row_no p low k below h = kept_row_more p low k below ∙ ap (λ b. filter p (row low k) ++ cond b ((low, k) ∷ []) []) (sym h) ∙ append-nil (filter p (row low k))
+
+pub kept_rows_more : (p : ℕ × ℕ → Bool) (jobs n : ℕ) → filter p (rows jobs (n + 1)) ≡ filter p (rows jobs n) ++ filter p (row n jobs)
+kept_rows_more p jobs n = ap (filter p) (rows_more jobs n) ∙ filter-append p (rows jobs n) (row n jobs)

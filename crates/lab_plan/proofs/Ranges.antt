@@ -1,5 +1,5 @@
 -- Numbers in ascending order, one at a time.
-use Rattle.std.proofs.Common.{◌≡◌, ℕ, zero, suc, ◌+◌, ◌<◌, [], ◌∷◌, ◌++◌, Bool, true, false, cond, ◌||◌, length, filter, arith, refl, sym, ap, ◌∙◌, zero-add}
+use Rattle.std.proofs.Common.{◌≡◌, ℕ, zero, suc, ◌+◌, ◌<◌, [], ◌∷◌, ◌++◌, Bool, true, false, cond, ◌||◌, length, filter, arith, refl, sym, ap, ◌∙◌, zero-add, append-nil}
 use Rattle.std.specs.List.{range_with_len, list_any}
 use Rattle.std.proofs.lemmas.List.{length-append}
 use Rattle.std.proofs.lemmas.List.Elements.{filter-append}
@@ -15,6 +15,12 @@ range_more n = let e : n + 1 ≡ suc n = omega arith in ap (range_with_len 0) e 
 
 pub kept_more : (p : ℕ → Bool) (n : ℕ) → filter p (range_with_len 0 (n + 1)) ≡ filter p (range_with_len 0 n) ++ cond (p n) (n ∷ []) []
 kept_more p n = ap (filter p) (range_more n) ∙ filter-append p (range_with_len 0 n) (n ∷ [])
+
+pub kept_yes : (p : ℕ → Bool) (n : ℕ) → true ≡ p n → filter p (range_with_len 0 (n + 1)) ≡ filter p (range_with_len 0 n) ++ n ∷ []
+kept_yes p n h = kept_more p n ∙ ap (λ b. filter p (range_with_len 0 n) ++ cond b (n ∷ []) []) (sym h)
+
+pub kept_no : (p : ℕ → Bool) (n : ℕ) → false ≡ p n → filter p (range_with_len 0 (n + 1)) ≡ filter p (range_with_len 0 n)
+kept_no p n h = kept_more p n ∙ ap (λ b. filter p (range_with_len 0 n) ++ cond b (n ∷ []) []) (sym h) ∙ append-nil (filter p (range_with_len 0 n))
 
 pub count_more : (p : ℕ → Bool) (n : ℕ) → length (filter p (range_with_len 0 (n + 1))) ≡ length (filter p (range_with_len 0 n)) + cond (p n) 1 0
 count_more p n = ap length (kept_more p n) ∙ length-append (filter p (range_with_len 0 n)) (cond (p n) (n ∷ []) []) ∙ ap (λ k. length (filter p (range_with_len 0 n)) + k) (one (p n))

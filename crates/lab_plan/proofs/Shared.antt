@@ -105,7 +105,7 @@ names-job plan j i h = elim (cases_lt j (length plan.jobs)) [
   | inr out ↦ absurd (false≢true (sym (ap (λ job. list_any (λ session. list_any (λ command. command.0 == i) session.commands) job.sessions) (past plan.jobs j no_job out)) ∙ h))
 ]
 
-session-instrument : (plan : LabPlan) (j s i : ℕ) → IsNamed plan → session_names plan j s i ≡ true → i < length plan.instruments
+pub session-instrument : (plan : LabPlan) (j s i : ℕ) → IsNamed plan → session_names plan j s i ≡ true → i < length plan.instruments
 session-instrument plan j s i named h =
     let d : ℕ × Verb = (i, Read) in
     let w = any_place (λ command. command.0 == i) (commands plan j s) d h in

@@ -3,6 +3,10 @@ pub mod Names
 pub mod Verbs
 pub mod IsPlan
 pub mod Building
-pub mod Tables
 pub mod Texts
 pub mod Upgrade
+pub mod InstrumentSets
+pub mod NamedBy
+pub mod PairTables
+pub mod SessionTables
+pub mod Tables

@@ -1,7 +1,7 @@
 // Sets of instruments, a bit for each.
 ghost use Rattle.std.specs.Prelude.{◌≡◌, ℕ, ◌<◌, ◌≤◌, ◌||◌, ◌==◌, length, filter};
 ghost use Rattle.std.specs.List.{All, list_any, range_with_len};
-ghost use Rattle.lab_plan.specs.Tables.{holds, both_in};
+ghost use Rattle.lab_plan.specs.InstrumentSets.{holds, both_in};
 
 use crate::numbers::InstrumentNo;
 use crate::verb::Verb;

@@ -2,17 +2,27 @@
 // the edges of the conflict graph and their bottles.
 #![tactic(auto)]
 
+mod bottles;
+pub mod builder;
 mod draft;
+mod edge_table;
 mod instrument_set;
 mod job;
 pub mod name;
 mod naming;
 pub mod numbers;
+pub mod place;
 pub mod plan;
 pub mod refusal;
+mod session_table;
+mod tables;
+#[cfg(test)]
+mod tests;
 pub mod verb;
 
+pub use builder::PlanBuilder;
 pub use numbers::{EdgeNo, InstrumentNo, JobNo};
+pub use place::Place;
 pub use plan::Plan;
 pub use refusal::PlanRefusal;
 pub use verb::Verb;

@@ -3,7 +3,8 @@ ghost use Rattle.std.specs.Prelude.{◌≡◌, ℕ, ◌<◌, ◌≤◌, length, 
 ghost use Rattle.std.specs.List.{All, list_any};
 ghost use Rattle.lab_plan.specs.IsPlan.{IsDraft};
 ghost use Rattle.lab_plan.specs.Building.{has_too_many_in_common};
-ghost use Rattle.lab_plan.specs.Tables.{holds, AreNaming, HasSmall, job_names, are_crowded, row, rows};
+ghost use Rattle.lab_plan.specs.InstrumentSets.{holds};
+ghost use Rattle.lab_plan.specs.NamedBy.{AreNaming, HasSmall, job_names, meet, are_crowded, row, rows};
 
 use crate::draft::Draft;
 use crate::instrument_set::InstrumentSet;
@@ -50,11 +51,33 @@ impl Naming {
         }
     }
 
-    fn set(&self, job: u8) -> InstrumentSet
+    pub(crate) fn set(&self, job: u8) -> InstrumentSet
         requires { job < 32 }
         ensures { result ≡ slice_index_or self.now.sets job 0 }
     {
         self.sets[job as usize]
+    }
+
+    pub(crate) fn jobs(&self) -> u8
+        ensures { result ≡ self.now.jobs }
+    {
+        self.jobs
+    }
+
+    pub(crate) fn instruments(&self) -> u8
+        ensures { result ≡ self.now.instruments }
+    {
+        self.instruments
+    }
+
+    /// Whether two jobs name some instrument together.
+    pub(crate) fn meet(&self, low: u8, high: u8) -> bool
+        requires low { low < 32 }
+        requires high { high < 32 }
+        requires instruments { self.now.instruments ≤ 56 }
+        ensures { result ≡ meet self.now.sets self.now.instruments (low, high) }
+    {
+        self.set(low).meets(self.set(high), self.instruments)
     }
 
     fn are_crowded(&self, low: u8, high: u8) -> bool
@@ -63,9 +86,7 @@ impl Naming {
         requires instruments { self.now.instruments ≤ 56 }
         ensures { result ≡ are_crowded self.now.sets self.now.instruments (low, high) }
     {
-        self.set(low)
-            .in_common(self.set(high), self.instruments)
-            > 28
+        self.set(low).in_common(self.set(high), self.instruments) > 28
     }
 
     #[tactic(auto, using(crate::proofs::Pairs::row_none, crate::proofs::Pairs::any_row_more))]

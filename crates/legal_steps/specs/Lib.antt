@@ -10,3 +10,4 @@ pub mod Holding
 pub mod Things
 pub mod Reached
 pub mod Laws
+pub mod LogLaws

@@ -1,6 +1,7 @@
 use Rattle.std.proofs.Common.{◌≡◌, ℕ, take}
 use Rattle.std.specs.List.{list_any}
-use Rattle.lab_plan.specs.Tables.{holds, names_it}
+use Rattle.lab_plan.specs.InstrumentSets.{holds}
+use Rattle.lab_plan.specs.NamedBy.{names_it}
 use Rattle.lab_plan.proofs.naming.named_by.Given as goal
 
 abbrev pub invariant-loop-session : goal.invariant-loop-session

@@ -1,6 +1,6 @@
 use Rattle.std.proofs.Common.{◌≡◌, ◌≤◌, length, filter}
 use Rattle.std.specs.List.{range_with_len}
-use Rattle.lab_plan.specs.Tables.{both_in}
+use Rattle.lab_plan.specs.InstrumentSets.{both_in}
 use Rattle.lab_plan.proofs.instrument_set.InstrumentSet.in_common.Given as goal
 
 abbrev pub invariant-loop-i : goal.invariant-loop-i

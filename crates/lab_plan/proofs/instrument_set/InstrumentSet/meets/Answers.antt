@@ -1,5 +1,5 @@
 use Rattle.std.proofs.Common.{arith, sym, ◌∙◌}
-use Rattle.lab_plan.specs.Tables.{both_in}
+use Rattle.lab_plan.specs.InstrumentSets.{both_in}
 use Rattle.lab_plan.proofs.Ranges.{any_found}
 use Rattle.lab_plan.proofs.instrument_set.InstrumentSet.meets.Goals as goal
 

@@ -1,6 +1,6 @@
 use Rattle.std.proofs.Common.{◌≡◌, ℕ, ◌==◌, take}
 use Rattle.std.specs.List.{list_any}
-use Rattle.lab_plan.specs.Tables.{holds}
+use Rattle.lab_plan.specs.InstrumentSets.{holds}
 use Rattle.lab_plan.proofs.instrument_set.InstrumentSet.of.Given as goal
 
 abbrev pub invariant-loop-instrument : goal.invariant-loop-instrument

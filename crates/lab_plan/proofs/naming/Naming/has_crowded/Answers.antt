@@ -1,5 +1,5 @@
 use Rattle.std.proofs.Common.{arith, sym, ◌∙◌}
-use Rattle.lab_plan.specs.Tables.{are_crowded}
+use Rattle.lab_plan.specs.NamedBy.{are_crowded}
 use Rattle.lab_plan.proofs.Pairs.{any_rows_found}
 use Rattle.lab_plan.proofs.naming.Naming.has_crowded.Goals as goal
 

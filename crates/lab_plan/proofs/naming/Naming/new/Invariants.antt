@@ -1,5 +1,5 @@
 use Rattle.std.proofs.Common.{◌≡◌, length, take}
-use Rattle.lab_plan.specs.Tables.{AreNaming}
+use Rattle.lab_plan.specs.NamedBy.{AreNaming}
 use Rattle.lab_plan.proofs.naming.Naming.new.Given as goal
 
 abbrev pub invariant-loop-j : goal.invariant-loop-j
