@@ -2,3 +2,4 @@ pub mod Dial
 pub mod Entries
 pub mod Parts
 pub mod InstrumentLog
+pub mod Packed

@@ -1,0 +1,176 @@
+// The log of one instrument.
+ghost use Rattle.std.specs.Prelude.{◌≡◌, ◌≢◌, ◌+◌, ◌-◌, ◌<◌, ◌≤◌, length, map, slice_get, Some, IfOk, IsTrue, ◌↔◌};
+ghost use Rattle.std.specs.Option.{MatchOption};
+ghost use Rattle.instrument_log.specs.Entries.{IsWithinLimits, entry_bytes};
+ghost use Rattle.instrument_log.specs.Dial.{turned, dial};
+ghost use Rattle.instrument_log.specs.Parts.{IsNextPlace, if_open, unfinished_of};
+ghost use Rattle.instrument_log.specs.InstrumentLog.{IsLog, MayAppend, IsRefused, Appends, empty_log, with_entry};
+
+use crate::entry::Entry;
+use crate::packing::{pack_entry, spelled_by};
+use crate::refusal::LogRefusal;
+use std::alloc::{AllocError, Allocator, Global};
+use std::marker::Model;
+
+/// The log of one instrument: what its commands left, in order, with room for a number of entries that
+/// is set when the log is made.
+///
+/// Its entries are parts, one after another: a part is what one session of a job leaves on the
+/// instrument, with places from 1 to its length, and only the last part may be unfinished. Each value
+/// follows from the one before by its entry's verb, the first from 0. Contracts see the list of entries
+/// and the room. An entry takes 16 bytes.
+#[derive(Drop)]
+pub struct InstrumentLog<A: Allocator = Global> {
+    // Each entry as `pack_entry` packs it, with capacity for `room` of them.
+    packed: Vec<[u8; 16], A>,
+    room: usize,
+    // The last entry, where its part is unfinished.
+    open: Option<Entry>,
+    value: u32,
+}
+
+impl<A: Allocator> Model for InstrumentLog<A> {
+    ghost use Rattle.std.specs.Prelude.{◌≤◌, vec_capacity};
+    ghost use Rattle.instrument_log.specs.InstrumentLog.{LogView};
+    ghost use Rattle.instrument_log.specs.Packed.{entries_of, IsKept};
+
+    ghost Value = { LogView };
+
+    ghost view = { λ log. record { entries = entries_of log.packed.items; room = log.room } };
+
+    ghost invariant = { λ log. IsKept log.packed.items log.room log.open log.value × (log.room ≤ vec_capacity log.packed) };
+}
+
+impl<A: Allocator> InstrumentLog<A> {
+    /// An empty log with room for this many entries. All the memory that the log ever takes is taken here.
+    pub fn with_room(alloc: A, room: usize) -> Result<InstrumentLog<A>, AllocError>
+        ensures { IfOk result (λ log. log ≡ empty_log room) }
+    {
+        Ok(InstrumentLog {
+            packed: Vec::with_capacity(alloc, room)?,
+            room,
+            open: None,
+            value: 0,
+        })
+    }
+
+    /// Adds the entry at the end, where it follows: it is the next place of the unfinished part, or
+    /// place 1 where no part is unfinished. Takes no memory. The entry's value is the dial after its
+    /// verb, as [`turned`](crate::turned) answers it from [`value`](Self::value).
+    pub fn append(&mut self, entry: Entry) -> Result<(), LogRefusal>
+        requires within_limits { IsWithinLimits entry }
+        requires on_dial { entry.value ≡ turned entry.verb (dial self.old.entries) }
+        ensures { Appends self.old entry result self.new }
+    {
+        match self.refusal(&entry) {
+            Some(refusal) => Err(refusal),
+            None => {
+                self.add(entry);
+                Ok(())
+            }
+        }
+    }
+
+    fn refusal(&self, entry: &Entry) -> Option<LogRefusal>
+        requires { 1 ≤ entry.now.place }
+        ensures { MatchOption result (MayAppend self.now entry.now) (λ refusal. IsRefused self.now entry.now refusal) }
+    {
+        match &self.open {
+            Some(before) if !is_next_place(before, entry) => Some(LogRefusal::NotNextPlace),
+            None if entry.place != 1 => Some(LogRefusal::NotFirstPlace),
+            _ if self.packed.len() == self.room => Some(LogRefusal::NoRoom),
+            _ => None,
+        }
+    }
+
+    fn add(&mut self, entry: Entry)
+        requires may { MayAppend self.old entry }
+        requires within_limits { IsWithinLimits entry }
+        requires on_dial { entry.value ≡ turned entry.verb (dial self.old.entries) }
+        ensures { self.new ≡ with_entry self.old entry }
+    {
+        self.packed.push_reserved(pack_entry(entry));
+        self.open = if_open(&entry);
+        self.value = entry.value;
+    }
+
+    /// The number of entries.
+    pub fn len(&self) -> usize
+        ensures { result ≡ length self.now.entries }
+    {
+        self.packed.len()
+    }
+
+    /// Whether the log has no entry yet.
+    pub fn is_empty(&self) -> bool
+        ensures { IsTrue result ↔ (length self.now.entries ≡ 0) }
+    {
+        self.packed.is_empty()
+    }
+
+    /// The number of entries that the log was made for.
+    pub fn room(&self) -> usize
+        ensures room { result ≡ self.now.room }
+        ensures fits { length self.now.entries ≤ result }
+    {
+        self.room
+    }
+
+    /// The entry with `index` entries before it.
+    pub fn entry(&self, index: usize) -> Entry
+        requires { index < length self.now.entries }
+        ensures { slice_get self.now.entries index ≡ Some result }
+    {
+        spelled_by(&self.packed[index])
+    }
+
+    /// The number of entries in finished parts.
+    pub fn whole(&self) -> usize
+        ensures { result + unfinished_of self.now.entries ≡ length self.now.entries }
+    {
+        self.len() - self.unfinished()
+    }
+
+    /// The number of entries of the unfinished last part, 0 where none is unfinished.
+    pub fn unfinished(&self) -> usize
+        ensures unfinished { result ≡ unfinished_of self.now.entries }
+        ensures counted { result ≤ length self.now.entries }
+        ensures kept { IsLog self.now }
+    {
+        self.open.map_or(0, |entry| entry.place as usize)
+    }
+
+    /// The number on the dial after all entries, 0 where there is none.
+    pub fn value(&self) -> u32
+        ensures { result ≡ dial self.now.entries }
+    {
+        self.value
+    }
+
+    /// The entries as the log keeps them, in order, each packed as [`pack_entry`] packs it.
+    pub fn packed(&self) -> &[[u8; 16]]
+        ensures { result.now ≡ map entry_bytes self.now.entries }
+    {
+        &self.packed
+    }
+}
+
+fn is_next_place(before: &Entry, entry: &Entry) -> bool
+    requires { 1 ≤ entry.now.place }
+    ensures { IsTrue result ↔ IsNextPlace before.now entry.now }
+{
+    entry.job == before.job
+        && entry.session == before.session
+        && entry.length == before.length
+        && entry.place - 1 == before.place
+}
+
+fn if_open(entry: &Entry) -> Option<Entry>
+    ensures { result ≡ if_open entry.now }
+{
+    if entry.place < entry.length {
+        Some(*entry)
+    } else {
+        None
+    }
+}
