@@ -96,3 +96,93 @@ impl<'a, A: Allocator> Tables<'a, A> {
         self.seats[job.0 as usize].phase()
     }
 }
+
+impl<'a, A: Allocator> Tables<'a, A> {
+    #[tactic(auto, using(crate::proofs::FitLemmas::fits_with_edge))]
+    pub(crate) fn set_edge(&mut self, edge: EdgeNo, state: EdgeState)
+        requires is_edge { edge < length (edges self.old.plan) }
+        requires bottles { IsOfEdge self.old.plan edge state.bottles }
+        requires tokens { IsOfEdge self.old.plan edge state.bottle_tokens }
+        ensures state { self.new.state ≡ with_edge self.old.state edge state }
+        ensures plan { self.new.plan ≡ self.old.plan }
+    {
+        self.edges[edge.0 as usize] = state;
+    }
+
+    #[tactic(auto, using(crate::proofs::FitLemmas::fits_with_seat, crate::proofs::FitLemmas::seat_with_phase))]
+    pub(crate) fn set_phase(&mut self, job: JobNo, phase: JobState)
+        requires is_job { IsJob self.old.plan job }
+        requires fits { IsPhaseOf self.old.plan job phase }
+        ensures state { self.new.state ≡ with_phase self.old.state job phase }
+        ensures plan { self.new.plan ≡ self.old.plan }
+    {
+        let seat = &mut self.seats[job.0 as usize];
+        seat.set_phase(phase);
+    }
+
+    #[tactic(auto, using(crate::proofs::FitLemmas::fits_with_seat, crate::proofs::FitLemmas::seat_with_fork_mark))]
+    pub(crate) fn set_fork_mark(&mut self, job: JobNo, edge: EdgeNo, mark: bool)
+        requires is_job { IsJob self.old.plan job }
+        requires is_edge { edge < length (edges self.old.plan) }
+        ensures state { self.new.state ≡ with_seat self.old.state job (with_fork_mark (seat self.old.state job) edge mark) }
+        ensures plan { self.new.plan ≡ self.old.plan }
+    {
+        let seat = &mut self.seats[job.0 as usize];
+        seat.set_fork_mark(edge.0 as usize, mark);
+    }
+
+    #[tactic(auto, using(crate::proofs::FitLemmas::fits_with_seat, crate::proofs::FitLemmas::seat_with_bottle_marks))]
+    pub(crate) fn set_bottle_marks(&mut self, job: JobNo, edge: EdgeNo, marks: u32)
+        requires is_job { IsJob self.old.plan job }
+        requires is_edge { edge < length (edges self.old.plan) }
+        requires of_edge { IsOfEdge self.old.plan edge marks }
+        ensures state { self.new.state ≡ with_seat self.old.state job (with_bottle_marks (seat self.old.state job) edge marks) }
+        ensures plan { self.new.plan ≡ self.old.plan }
+    {
+        let seat = &mut self.seats[job.0 as usize];
+        seat.set_bottle_marks(edge.0 as usize, marks);
+    }
+
+    // Both marks of the job at an edge.
+    #[tactic(auto, using(crate::proofs::FitLemmas::fits_with_seat, crate::proofs::FitLemmas::seat_with_bottle_marks, crate::proofs::FitLemmas::seat_with_fork_mark))]
+    pub(crate) fn set_marks(&mut self, job: JobNo, edge: EdgeNo, mark: bool, marks: u32)
+        requires is_job { IsJob self.old.plan job }
+        requires is_edge { edge < length (edges self.old.plan) }
+        requires of_edge { IsOfEdge self.old.plan edge marks }
+        ensures state { self.new.state ≡ with_seat self.old.state job (with_bottle_marks (with_fork_mark (seat self.old.state job) edge mark) edge marks) }
+        ensures plan { self.new.plan ≡ self.old.plan }
+    {
+        let seat = &mut self.seats[job.0 as usize];
+        seat.set_marks(edge.0 as usize, mark, marks);
+    }
+
+    // The job dines so, without any fork mark.
+    #[tactic(auto, using(crate::proofs::FitLemmas::fits_with_seat, crate::proofs::FitLemmas::seat_turned_to))]
+    pub(crate) fn turn_to(&mut self, job: JobNo, dining: Dining)
+        requires { IsJob self.old.plan job }
+        ensures state { self.new.state ≡ with_seat self.old.state job (turned_to (seat self.old.state job) dining) }
+        ensures plan { self.new.plan ≡ self.old.plan }
+    {
+        let seat = &mut self.seats[job.0 as usize];
+        seat.turn_to(dining);
+    }
+
+    // Whether the job has a fork mark for one of its edges.
+    pub(crate) fn fork_mark(&self, job: JobNo, edge: EdgeNo) -> bool
+        requires is_job { IsJob self.now.plan job }
+        requires is_edge { edge < length (edges self.now.plan) }
+        ensures { result ≡ fork_mark_at self.now.state job edge }
+    {
+        self.seats[job.0 as usize].fork_mark(edge.0 as usize)
+    }
+
+    // The job's bottle marks for one of its edges.
+    pub(crate) fn bottle_marks(&self, job: JobNo, edge: EdgeNo) -> u32
+        requires is_job { IsJob self.now.plan job }
+        requires is_edge { edge < length (edges self.now.plan) }
+        ensures marks { result ≡ bottle_marks_at self.now.state job edge }
+        ensures of_edge { IsOfEdge self.now.plan edge result }
+    {
+        self.seats[job.0 as usize].bottle_marks(edge.0 as usize)
+    }
+}
