@@ -1,0 +1,10 @@
+pub mod FitsWrites
+pub mod FitsLaw
+pub mod ForkEnds
+pub mod BottleSets
+pub mod BottleLaw
+pub mod ExclusionLaw
+pub mod OpeningLemmas
+pub mod ForkLaw
+pub mod AcyclicLists
+pub mod AcyclicLaw
