@@ -1,0 +1,5 @@
+pub mod Turning
+pub mod Pairs
+pub mod Peeled
+pub mod Paths
+pub mod Ranked

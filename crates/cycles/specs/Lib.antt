@@ -1,0 +1,4 @@
+pub mod Cycles
+pub mod Peeling
+pub mod Walks
+pub mod Rankings
