@@ -2,6 +2,8 @@
 #![tactic(auto)]
 
 mod bottles;
+mod dining;
+mod drinking;
 mod seat;
 mod tables;
 

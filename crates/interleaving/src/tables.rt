@@ -62,6 +62,7 @@ impl<'a, A: Allocator> Tables<'a, A> {
     // Whether the edge is one of the job's.
     pub(crate) fn owns(&self, job: JobNo, edge: EdgeNo) -> bool
         ensures owns { IsTrue result ↔ IsOwn self.now.plan job edge }
+        ensures is_job { IsOwn self.now.plan job edge → IsJob self.now.plan job }
     {
         if edge.0 >= self.plan.edges() {
             return false;
@@ -72,8 +73,9 @@ impl<'a, A: Allocator> Tables<'a, A> {
 
     // The job's own end of the edge.
     pub(crate) fn own_end(&self, job: JobNo, edge: EdgeNo) -> End
-        requires { edge < length (edges self.now.plan) }
-        ensures { result ≡ end_of self.now.plan job edge }
+        requires { IsOwn self.now.plan job edge }
+        ensures end { result ≡ end_of self.now.plan job edge }
+        ensures is_job { IsJob self.now.plan job }
     {
         let (lower, _) = self.plan.ends(edge);
         if lower == job { End::Lower } else { End::Higher }
