@@ -1,2 +1,5 @@
 pub mod FitLemmas
 pub mod OwnEdges
+pub mod BottleLemmas
+pub mod FewCommands
+pub mod LogLemmas

@@ -97,12 +97,30 @@ impl<'a, A: Allocator> Tables<'a, A> {
         self.set_phase(job, JobState { dining: Dining::Hungry, ..phase });
     }
 
+    pub(crate) fn may_sit(&self, job: JobNo) -> bool
+        ensures { IsTrue result ↔ May self.now.plan self.now.state (Sit job) }
+    {
+        self.is_job(job) && self.phase(job).dining == Dining::Hungry && self.is_marked_all(job)
+    }
+
     pub(crate) fn sit(&mut self, job: JobNo)
         requires { May self.old.plan self.old.state (Sit job) }
         ensures state { self.new.state ≡ after self.old.plan self.old.state (Sit job) }
         ensures plan { self.new.plan ≡ self.old.plan }
     {
         self.turn_to(job, Dining::Eating);
+    }
+
+    pub(crate) fn may_leave(&self, job: JobNo) -> bool
+        ensures { IsTrue result ↔ May self.now.plan self.now.state (Leave job) }
+    {
+        if !self.is_job(job) {
+            return false;
+        }
+        let phase = self.phase(job);
+        phase.dining == Dining::Eating
+            && phase.drinking != Drinking::Thirsty
+            && self.is_marked_all(job)
     }
 
     pub(crate) fn leave(&mut self, job: JobNo)

@@ -38,6 +38,14 @@ impl<'a, A: Allocator> Tables<'a, A> {
         self.set_phase(job, thirsty);
     }
 
+    pub(crate) fn may_drink(&self, job: JobNo) -> bool
+        ensures { IsTrue result ↔ May self.now.plan self.now.state (Drink job) }
+    {
+        self.is_job(job)
+            && self.phase(job).drinking == Drinking::Thirsty
+            && self.has_needed(job)
+    }
+
     pub(crate) fn drink(&mut self, job: JobNo)
         requires { May self.old.plan self.old.state (Drink job) }
         ensures state { self.new.state ≡ after self.old.plan self.old.state (Drink job) }

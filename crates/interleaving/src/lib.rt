@@ -1,10 +1,16 @@
 // The core: a world, a state of a plan's bench that steps by one legal event at a time.
 #![tactic(auto)]
 
+mod acting;
+mod bottle_moves;
 mod bottles;
 mod dining;
 mod drinking;
+mod needs;
+mod plan_reading;
 mod seat;
+mod seeing;
+mod stepping;
 mod tables;
 
 pub use legal_steps::{

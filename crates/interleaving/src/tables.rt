@@ -1,15 +1,19 @@
 // The tables of a world: a plan and a state of its bench that fits it. Every write keeps that.
 ghost use Rattle.std.specs.Prelude.{◌≡◌, ℕ, ◌<◌, ◌≤◌, ◌↔◌, IsTrue, length};
 ghost use Rattle.lab_plan.specs.LabPlan.{edges};
-ghost use Rattle.legal_steps.specs.State.{IsOwn, IsOfEdge, end_of, edge as edge_at, phase as phase_at, seat, fork_mark as fork_mark_at, bottle_marks as bottle_marks_at};
-ghost use Rattle.legal_steps.specs.Legal.{IsJob, with_edge, with_seat, with_phase, with_fork_mark, with_bottle_marks, turned_to};
+ghost use Rattle.legal_steps.specs.State.{IsOwn, IsOfEdge, end_of, edge as edge_at, phase as phase_at, seat, fork_mark as fork_mark_at, bottle_marks as bottle_marks_at, log as log_at};
+ghost use Rattle.legal_steps.specs.Legal.{IsJob, with_edge, with_seat, with_phase, with_fork_mark, with_bottle_marks, turned_to, with_entry};
 ghost use Rattle.legal_steps.specs.Fitting.{Fits};
 ghost use Rattle.lab_plan.specs.IsPlan.{IsPlan};
 ghost use Rattle.interleaving.specs.Phases.{IsPhaseOf};
+ghost use Rattle.interleaving.specs.Rooms.{log_with_room};
+ghost use Rattle.instrument_log.specs.Dial.{turned, dial};
+ghost use Rattle.instrument_log.specs.Entries.{IsWithinLimits};
+ghost use Rattle.instrument_log.specs.InstrumentLog.{MayAppend};
 
 use crate::seat::JobSeat;
-use instrument_log::InstrumentLog;
-use lab_plan::{EdgeNo, JobNo, Plan};
+use instrument_log::{Entry, InstrumentLog};
+use lab_plan::{EdgeNo, InstrumentNo, JobNo, Plan};
 use legal_steps::{Dining, EdgeState, End, JobState};
 use std::alloc::{Allocator, Global};
 use std::marker::Model;
@@ -90,10 +94,12 @@ impl<'a, A: Allocator> Tables<'a, A> {
         self.edges[edge.0 as usize]
     }
 
+    #[tactic(auto, using(crate::proofs::FewCommands::few_commands))]
     pub(crate) fn phase(&self, job: JobNo) -> JobState
         requires { IsJob self.now.plan job }
         ensures phase { result ≡ phase_at self.now.state job }
         ensures fits { IsPhaseOf self.now.plan job result }
+        ensures few { result.position ≤ 100000 }
     {
         self.seats[job.0 as usize].phase()
     }
@@ -186,5 +192,30 @@ impl<'a, A: Allocator> Tables<'a, A> {
         ensures of_edge { IsOfEdge self.now.plan edge result }
     {
         self.seats[job.0 as usize].bottle_marks(edge.0 as usize)
+    }
+}
+
+impl<'a, A: Allocator> Tables<'a, A> {
+    pub(crate) fn log(&self, instrument: InstrumentNo) -> &InstrumentLog<A>
+        requires { instrument < length self.now.plan.instruments }
+        ensures { result.now ≡ log_with_room self.now.plan self.now.state instrument }
+    {
+        &self.logs[instrument.0 as usize]
+    }
+
+    // One more entry at the end of a log that takes it.
+    pub(crate) fn push_entry(&mut self, instrument: InstrumentNo, entry: Entry)
+        requires there { instrument < length self.old.plan.instruments }
+        requires may { MayAppend (log_with_room self.old.plan self.old.state instrument) entry }
+        requires within_limits { IsWithinLimits entry }
+        requires value { entry.value ≡ turned entry.verb (dial (log_at self.old.state instrument)) }
+        ensures state { self.new.state ≡ with_entry self.old.state instrument entry }
+        ensures plan { self.new.plan ≡ self.old.plan }
+    {
+        let log = &mut self.logs[instrument.0 as usize];
+        match log.append(entry) {
+            Ok(()) => (),
+            Err(_) => unreachable!(),
+        }
     }
 }
