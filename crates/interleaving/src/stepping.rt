@@ -8,10 +8,10 @@ use legal_steps::{Event, NotLegal};
 use std::alloc::Allocator;
 
 impl<'a, A: Allocator> Tables<'a, A> {
-    pub(crate) fn enabled(&self, event: Event) -> bool
-        ensures { IsTrue result ↔ May self.now.plan self.now.state event }
+    pub(crate) fn enabled(&self, event: &Event) -> bool
+        ensures { IsTrue result ↔ May self.now.plan self.now.state event.now }
     {
-        match event {
+        match *event {
             Event::Look(job, edge, seen) => self.may_look(job, edge, seen),
             Event::AskFork(job, edge) => self.may_ask_fork(job, edge),
             Event::GiveFork(job, edge) => self.may_give_fork(job, edge),
@@ -33,13 +33,13 @@ impl<'a, A: Allocator> Tables<'a, A> {
     }
 
     // The effect of a legal event.
-    pub(crate) fn apply(&mut self, event: Event)
-        requires may { May self.old.plan self.old.state event }
-        requires takes { TakesEntry self.old.plan self.old.state event }
-        ensures state { self.new.state ≡ after self.old.plan self.old.state event }
+    pub(crate) fn apply(&mut self, event: &Event)
+        requires may { May self.old.plan self.old.state event.now }
+        requires takes { TakesEntry self.old.plan self.old.state event.now }
+        ensures state { self.new.state ≡ after self.old.plan self.old.state event.now }
         ensures plan { self.new.plan ≡ self.old.plan }
     {
-        match event {
+        match *event {
             Event::Look(job, edge, seen) => self.look(job, edge, seen),
             Event::AskFork(job, edge) => self.ask_fork(job, edge),
             Event::GiveFork(job, edge) => self.give_fork(job, edge),
@@ -64,10 +64,10 @@ impl<'a, A: Allocator> Tables<'a, A> {
         requires { TakesEntry self.old.plan self.old.state event }
         ensures { IsStep self.old event result self.new }
     {
-        if !self.enabled(event) {
+        if !self.enabled(&event) {
             return Err(NotLegal);
         }
-        self.apply(event);
+        self.apply(&event);
         Ok(())
     }
 }
