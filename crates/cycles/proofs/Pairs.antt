@@ -1,6 +1,5 @@
 -- Pairs by their places.
-use Rattle.std.proofs.Common.{◌≡◌, ℕ, ◌<◌, List, length, get_or, sym, ◌∙◌, ap, subst}
-use Rattle.std.proofs.lemmas.List.{get_or_default}
+use Rattle.std.proofs.Common.{ℕ, ◌<◌, List, subst}
 use Rattle.cycles.specs.Cycles.{IsAmong, AreBelow}
 
 -- both jobs of a pair are below the number

@@ -1,5 +1,5 @@
 -- Walks that come back.
-use Rattle.std.proofs.Common.{Bool, false, ◌⊎◌, inl, inr, set, get_or-set_other, ◌≡◌, ℕ, zero, suc, ◌<◌, List, [], ◌∷◌, ◌++◌, length, get_or, drop, refl, sym, ◌∙◌, subst, arith}
+use Rattle.std.proofs.Common.{Bool, false, inl, inr, set, get_or-set_other, ◌≡◌, ℕ, zero, suc, ◌<◌, List, [], ◌∷◌, ◌++◌, length, get_or, drop, refl, sym, ◌∙◌, subst, arith}
 use Rattle.std.specs.List.{Contains}
 use Rattle.std.proofs.lemmas.List.Elements.{Contains-append_left, Contains-append_right}
 use Rattle.cycles.specs.Cycles.{LeadsBackTo, IsCycleOf}

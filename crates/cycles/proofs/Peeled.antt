@@ -1,9 +1,9 @@
 -- What taking out a sink keeps.
-use Rattle.std.proofs.Common.{◌≡◌, ℕ, zero, suc, ◌<◌, Bool, true, false, List, [], ◌∷◌, ◌++◌, length, get_or, ◌⊎◌, inl, inr, refl, sym, ◌∙◌, ap, subst, arith, get_or-set_other, set}
+use Rattle.std.proofs.Common.{◌≡◌, ℕ, zero, suc, ◌<◌, Bool, true, false, List, [], ◌∷◌, ◌++◌, get_or, inl, inr, refl, sym, ◌∙◌, ap, subst, arith, get_or-set_other, set}
 use Rattle.std.proofs.lemmas.Bool.{cases_eq, cases_Bool}
 use Rattle.std.specs.Prelude.{replicate}
-use Rattle.cycles.specs.Cycles.{LeadsBackTo, IsCycleOf, HasNoCycle, IsAmong, AreBelow}
-use Rattle.cycles.specs.Peeling.{IsLeft, IsOut, IsSink, NoCycleBeginsOut, NoneLeadsOn}
+use Rattle.cycles.specs.Cycles.{IsCycleOf, HasNoCycle, IsAmong, AreBelow}
+use Rattle.cycles.specs.Peeling.{IsSink, NoCycleBeginsOut, NoneLeadsOn}
 use Rattle.cycles.proofs.Turning.{LeadsBackTo-join}
 use Rattle.cycles.proofs.Pairs.{IsAmong-below}
 
@@ -23,7 +23,7 @@ leads_on : (R : ℕ → ℕ → Type 0) (job : ℕ) (jobs : List ℕ) → IsCycl
 leads_on R job [] c = (job, c)
 leads_on R job (next ∷ jobs) c = (next, c.0)
 
-pub replicate_at : (n job : ℕ) → job < n → get_or (replicate n true) job false ≡ true
+replicate_at : (n job : ℕ) → job < n → get_or (replicate n true) job false ≡ true
 replicate_at zero job l = absurd (omega arith)
 replicate_at (suc n) zero l = refl
 replicate_at (suc n) (suc job) l = replicate_at n job (omega arith)

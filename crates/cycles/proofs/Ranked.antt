@@ -1,15 +1,13 @@
 -- What a ranking keeps while it is made.
-use Rattle.std.proofs.Common.{◌≡◌, ℕ, zero, suc, ◌<◌, Bool, true, false, List, [], ◌∷◌, ◌++◌, length, get_or, ◌⊎◌, inl, inr, refl, sym, ◌∙◌, ap, subst, arith, get_or-set_other, get_or-set_same, set}
+use Rattle.std.proofs.Common.{◌≡◌, ℕ, zero, suc, ◌<◌, Bool, false, List, [], ◌∷◌, ◌++◌, length, get_or, ◌⊎◌, inl, inr, refl, sym, ◌∙◌, ap, subst, arith, get_or-set_other, get_or-set_same, set}
 use Rattle.std.proofs.Math.ListN.{length-set, get_or-eq_default}
 use Rattle.std.proofs.lemmas.Bool.{cases_eq, cases_Bool, cases_lt}
-use Rattle.std.proofs.lemmas.List.{length-replicate, get_or_default}
-use Rattle.std.specs.Prelude.{replicate}
+use Rattle.std.proofs.lemmas.List.{get_or_default}
 use Rattle.std.specs.List.{Contains}
-use Rattle.cycles.specs.Cycles.{LeadsBackTo, IsCycleOf, HasNoCycle, IsAmong, AreBelow}
-use Rattle.cycles.specs.Peeling.{IsLeft, IsOut, IsSink, IsSinkLeft, EachLeadsOn}
+use Rattle.cycles.specs.Cycles.{LeadsBackTo, HasNoCycle, IsAmong}
+use Rattle.cycles.specs.Peeling.{IsLeft, IsOut, IsSinkLeft, EachLeadsOn}
 use Rattle.cycles.specs.Rankings.{IsRanked, IsRanking}
 use Rattle.cycles.proofs.Turning.{LeadsBackTo-join}
-use Rattle.cycles.proofs.Peeled.{replicate_at}
 
 -- an order of the jobs that are out
 pub record RanksOut (n : ℕ) (pairs : List (ℕ × ℕ)) (left : List Bool) (order : List ℕ) : Type 0 where
@@ -58,16 +56,6 @@ takes_out n pairs left order taken l s m = record {
     | inl q ↦ still_out left taken next l (s.sink next (subst (λ z. IsAmong pairs z next) q r))
     | inr u ↦ still_out left taken next l (m.closed job next u r)
   ];
-}
-
-pub ranks_none : (n : ℕ) (pairs : List (ℕ × ℕ)) (left : List Bool) → left ≡ replicate n true → RanksOut n pairs left []
-ranks_none n pairs left e = record {
-  len = ap (λ z. length z) e ∙ length-replicate n true;
-  ranked = tt;
-  out = λ job h. absurd (let w = h.1 in omega arith);
-  within = λ job h. absurd (let w = h.1 in omega arith);
-  every = λ job b o. let t : get_or left job false ≡ true = ap (λ z. get_or z job false) e ∙ replicate_at n job b in absurd (cc);
-  closed = λ job next h r. absurd (let w = h.1 in omega arith);
 }
 
 -- a chain leads from one to the other

@@ -41,10 +41,10 @@ fn smallest_place(jobs: &[JobNo]) -> usize
 
 /// A cycle of the pairs that begins with its smallest job, or `None` exactly where there is none.
 ///
-/// Each pair leads from its first job to its second, and both are below `jobs`. A job can stand in
-/// a pair with itself, and is then a cycle alone. Of several cycles any one is answered. It takes
-/// memory in proportion to `jobs`, and at most `jobs` times as many steps as there are jobs and
-/// pairs. The error comes only where a growth is refused.
+/// Each pair leads from its first job to its second, and both are below `jobs`. A pair of a job with
+/// itself is a cycle of that job alone. Of several cycles any one is answered. Memory is taken in
+/// proportion to `jobs`; time at most to its square, times the number of pairs. The error comes only
+/// where a growth is refused.
 pub fn cycle_in<A: Allocator + Copy>(
     alloc: A,
     jobs: usize,

@@ -10,8 +10,10 @@ use std::alloc::Allocator;
 
 /// The jobs below `jobs`, each before all to which a pair leads from it.
 ///
-/// Sinks are taken out one by one, so the last of the ranking come first. Of several rankings any
-/// one is answered. The error comes only where a growth is refused.
+/// Each pair leads from its first job to its second, and both are below `jobs`. Sinks are taken out
+/// one by one, so the last of the ranking are found first. Of several rankings any one is answered.
+/// Memory is taken in proportion to `jobs`; time at most to its square, times the number of pairs.
+/// The error comes only where a growth is refused.
 pub fn ranking<A: Allocator + Copy>(
     alloc: A,
     jobs: usize,

@@ -1,3 +1,5 @@
+pub mod AppendLemmas
 pub mod EntryLemmas
-pub mod PartLemmas
 pub mod LogLemmas
+pub mod PartLemmas
+pub mod WholeLemmas

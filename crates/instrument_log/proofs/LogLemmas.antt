@@ -1,19 +1,20 @@
 -- What a log's type keeps, of an empty log and of one with one more entry.
-use Rattle.std.proofs.Common.{◌≡◌, ℕ, ◌+◌, arith, refl, sym, ◌∙◌, ap, subst, List, [], ◌∷◌, ◌++◌, length, map, Option, None}
+use Rattle.std.proofs.Common.{◌≡◌, ℕ, arith, refl, sym, ◌∙◌, ap, subst, List, [], ◌∷◌, ◌++◌, length, map, Option, None}
 use Rattle.std.proofs.lemmas.List.{map_push, length-append}
 use Rattle.std.proofs.lemmas.List.Elements.{All-push}
 use Rattle.instrument_log.specs.declared.entry.Entry.{Entry}
 use Rattle.instrument_log.specs.Entries.{IsWithinLimits, entry_bytes, entry_of}
 use Rattle.instrument_log.specs.Dial.{turned, dial}
 use Rattle.instrument_log.specs.Parts.{open_entry, if_open, unfinished_of}
-use Rattle.instrument_log.specs.InstrumentLog.{LogView, IsLog, MayAppend, with_entry, empty_log}
+use Rattle.instrument_log.specs.InstrumentLog.{LogView, IsLog, MayAppend, with_entry}
 use Rattle.instrument_log.specs.Packed.{entries_of, IsKept}
 use Rattle.instrument_log.proofs.EntryLemmas.{entry_of-entry_bytes}
-use Rattle.instrument_log.proofs.PartLemmas.{dial-push, open_entry-push, IsMadeOfParts-push, HasDialValues-push, unfinished_of-push-le}
+use Rattle.instrument_log.proofs.WholeLemmas.{IsWholeButEnd-empty, IsWholeButEnd-push}
+use Rattle.instrument_log.proofs.PartLemmas.{dial-push, open_entry-push, HasDialValues-push, unfinished_of-push-le}
 
 pub IsLog-push : (log : LogView) (entry : Entry) → IsLog log → MayAppend log entry → IsWithinLimits entry → entry.value ≡ turned entry.verb (dial log.entries) → IsLog (with_entry log entry)
 IsLog-push log entry kept may within value = record {
-  in_parts = IsMadeOfParts-push log.entries entry kept.in_parts may.follows;
+  whole_but_end = IsWholeButEnd-push log.entries entry kept.whole_but_end may.follows within.place_to;
   on_dial = HasDialValues-push log.entries entry kept.on_dial value;
   within_limits = All-push IsWithinLimits log.entries entry kept.within_limits within;
   fits_room = omega (arith, length-append log.entries (entry ∷ []), may.has_room);
@@ -33,14 +34,16 @@ IsKept-push packed room open_last value entry kept may within dialled =
       open_is = sym (open_entry-push entries entry) ∙ ap open_entry longer;
       counted = omega (arith, length-append packed (entry_bytes entry ∷ []), ap unfinished_of longer, unfinished_of-push-le entries entry (length packed) may.follows kept.counted);
       value_is = dialled ∙ sym (dial-push entries entry) ∙ ap dial longer;
+      value_to = within.value_to;
     }
 
 pub IsKept-empty : (room : ℕ) → IsKept [] room None 0
 unfolding open_entry dial
 IsKept-empty room = record {
-  is_log = record { in_parts = λ k entry got. cc; on_dial = λ k entry got. cc; within_limits = λ k d inside. absurd (omega arith); fits_room = omega arith };
+  is_log = record { whole_but_end = IsWholeButEnd-empty; on_dial = λ k entry got. cc; within_limits = λ k d inside. absurd (omega arith); fits_room = omega arith };
   packed_is = refl;
   open_is = refl;
   counted = omega arith;
   value_is = refl;
+  value_to = omega arith;
 }

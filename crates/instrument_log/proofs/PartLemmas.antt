@@ -1,5 +1,5 @@
 -- A log with one more entry: its parts, its dial, its last entry.
-use Rattle.std.proofs.Common.{◌≡◌, ℕ, zero, suc, ◌+◌, ◌<◌, ◌≤◌, ◌⊎◌, inl, inr, arith, refl, sym, ◌∙◌, ap, subst, List, [], ◌∷◌, ◌++◌, length, take, Bool, true, false, nat_lt, Option, Some, None, slice_get, if◌then◌else◌}
+use Rattle.std.proofs.Common.{◌≡◌, ℕ, zero, suc, ◌+◌, ◌<◌, ◌≤◌, ◌⊎◌, inl, inr, arith, refl, sym, ap, subst, List, [], ◌∷◌, ◌++◌, length, take, Bool, true, false, nat_lt, Option, Some, None, slice_get, if◌then◌else◌}
 use Rattle.std.proofs.lemmas.Grind.{fold-append}
 use Rattle.std.proofs.lemmas.List.{take-append-le}
 use Rattle.std.proofs.Math.Seq.{take-append_seam}
@@ -7,7 +7,7 @@ use Rattle.std.specs.List.{last_or}
 use Rattle.std.specs.Option.{option_and_then, option_map_or, MatchOption}
 use Rattle.instrument_log.specs.declared.entry.Entry.{Entry}
 use Rattle.instrument_log.specs.Dial.{turned, dial, HasDialValues}
-use Rattle.instrument_log.specs.Parts.{open_entry, if_open, unfinished_of, IsNextPlace, Follows, IsMadeOfParts}
+use Rattle.instrument_log.specs.Parts.{open_entry, if_open, unfinished_of, IsNextPlace, Follows}
 
 pub dial-push : (entries : List Entry) (entry : Entry) → dial (entries ++ entry ∷ []) ≡ turned entry.verb (dial entries)
 unfolding dial
@@ -25,7 +25,7 @@ pub unfinished_of-push : (entries : List Entry) (entry : Entry) → unfinished_o
 unfinished_of-push entries entry = ap (λ o. option_map_or (λ last. last.place) o 0) (open_entry-push entries entry)
 
 -- an entry of a longer list is one of the shorter, or the new one
-slice_get-push : (xs : List Entry) (x : Entry) (k : ℕ) (y : Entry) → slice_get (xs ++ x ∷ []) k ≡ Some y → ((k < length xs) × (slice_get xs k ≡ Some y)) ⊎ ((k ≡ length xs) × (x ≡ y))
+pub slice_get-push : (xs : List Entry) (x : Entry) (k : ℕ) (y : Entry) → slice_get (xs ++ x ∷ []) k ≡ Some y → ((k < length xs) × (slice_get xs k ≡ Some y)) ⊎ ((k ≡ length xs) × (x ≡ y))
 slice_get-push [] x zero y e = inr (refl, cc)
 slice_get-push [] x (suc k) y e = cc
 slice_get-push (z ∷ xs) x zero y e = inl (omega arith, e)
@@ -37,9 +37,6 @@ each-push P xs x before here k y e = elim (slice_get-push xs x k y e) [
   | inl w ↦ subst (λ t. P t y) (sym (take-append-le k xs (x ∷ []) (omega arith))) (before k y w.1)
   | inr w ↦ subst (λ n. P (take n (xs ++ x ∷ [])) y) (sym w.0) (subst (λ t. P t y) (sym (take-append_seam xs (x ∷ []))) (subst (λ z. P xs z) w.1 here))
 ]
-
-pub IsMadeOfParts-push : (entries : List Entry) (entry : Entry) → IsMadeOfParts entries → Follows entries entry → IsMadeOfParts (entries ++ entry ∷ [])
-IsMadeOfParts-push entries entry before follows = each-push Follows entries entry before follows
 
 pub HasDialValues-push : (entries : List Entry) (entry : Entry) → HasDialValues entries → entry.value ≡ turned entry.verb (dial entries) → HasDialValues (entries ++ entry ∷ [])
 HasDialValues-push entries entry before here = each-push (λ xs x. x.value ≡ turned x.verb (dial xs)) entries entry before here

@@ -17,3 +17,4 @@ pub record IsKept (packed : List (List ℕ)) (room : ℕ) (open_last : Option En
   pub open_is : open_last ≡ open_entry (entries_of packed)
   pub counted : unfinished_of (entries_of packed) ≤ length packed
   pub value_is : value ≡ dial (entries_of packed)
+  pub value_to : value ≤ 999999

@@ -1,6 +1,6 @@
 -- The parts of a log. A part is what one session of a job leaves on the instrument: its places from 1 to their length, in order.
-use Rattle.std.specs.Prelude.{◌≡◌, ℕ, ◌+◌, List, take, slice_get, Option, Some, None, nat_lt, if◌then◌else◌}
-use Rattle.std.specs.List.{last_or}
+use Rattle.std.specs.Prelude.{◌≡◌, ℕ, ◌+◌, List, [], ◌++◌, length, All, slice_get, Option, Some, None, nat_lt, if◌then◌else◌}
+use Rattle.std.specs.List.{last_or, flat_map}
 use Rattle.std.specs.Option.{option_and_then, option_map_or, MatchOption}
 use Rattle.instrument_log.specs.declared.entry.Entry.{Entry}
 
@@ -27,6 +27,28 @@ pub record IsNextPlace (before entry : Entry) : Type 0 where
 abbrev pub Follows : List Entry → Entry → Type 0
 Follows entries entry = MatchOption (open_entry entries) (entry.place ≡ 1) (λ before. IsNextPlace before entry)
 
--- a log is made of parts, one after another, the last perhaps unfinished: each entry follows those before it
-abbrev pub IsMadeOfParts : List Entry → Type 0
-IsMadeOfParts entries = (k : ℕ) (entry : Entry) → slice_get entries k ≡ Some entry → Follows (take k entries) entry
+-- the entry stands at this place of the part that another entry is of
+pub record IsAtPlace (other : Entry) (place : ℕ) (entry : Entry) : Type 0 where
+  pub same_job : entry.job ≡ other.job
+  pub same_session : entry.session ≡ other.session
+  pub same_length : entry.length ≡ other.length
+  pub at_place : entry.place ≡ place
+
+-- the entries are those of one part, from its place 1 up to this last entry
+pub record IsPartUpTo (last : Entry) (entries : List Entry) : Type 0 where
+  pub up_to : length entries ≡ last.place
+  pub in_order : (k : ℕ) (entry : Entry) → slice_get entries k ≡ Some entry → IsAtPlace last (k + 1) entry
+
+-- the entries are one part, from its place 1 to its length
+pub record IsPart (entries : List Entry) : Type 0 where
+  pub last : Entry
+  pub ends : last.place ≡ last.length
+  pub up_to_last : IsPartUpTo last entries
+
+-- a log is whole but for its end: parts, one after another, and then the beginning of one more, or nothing
+pub record IsWholeButEnd (entries : List Entry) : Type 0 where
+  pub parts : List (List Entry)
+  pub rest : List Entry
+  pub joined : entries ≡ flat_map (λ part. part) parts ++ rest
+  pub whole : All IsPart parts
+  pub ending : MatchOption (open_entry entries) (rest ≡ []) (λ last. IsPartUpTo last rest)

@@ -1,5 +1,6 @@
 // How a command turns a dial.
-ghost use Rattle.std.specs.Prelude.{◌≡◌};
+ghost use Rattle.std.specs.Prelude.{◌≡◌, ◌≤◌};
+ghost use Rattle.lab_plan.specs.Verbs.{Fits};
 ghost use Rattle.instrument_log.specs.Dial.{turned};
 
 use lab_plan::Verb;
@@ -7,7 +8,8 @@ use lab_plan::Verb;
 /// The number on a dial after a command, from the number before it.
 #[tactic(auto, unfolding(crate::specs::Dial::turned))]
 pub fn turned(verb: Verb, value: u32) -> u32
-    ensures { result ≡ turned verb value }
+    ensures turned { result ≡ turned verb value }
+    ensures fits { Fits verb → value ≤ 999999 → result ≤ 999999 }
 {
     match verb {
         Verb::Set(number) => number,

@@ -1,4 +1,6 @@
 // An entry of a log.
+ghost use Rattle.std.specs.Prelude.{◌≡◌, IsTrue, ◌↔◌};
+
 use lab_plan::{JobNo, Verb};
 
 /// What one command left in the log of its instrument.
@@ -17,4 +19,28 @@ pub struct Entry {
     pub verb: Verb,
     /// The dial after the command.
     pub value: u32,
+}
+
+impl Entry {
+    ghost use Rattle.instrument_log.specs.Entries.{IsWithinLimits};
+
+    /// Whether the entry is within the limits of a plan.
+    pub fn is_within_limits(&self) -> bool
+        ensures { IsTrue result ↔ IsWithinLimits self.now }
+    {
+        byte_of_job(self.job) <= 31
+            && 1 <= self.session
+            && self.session <= 1000
+            && self.length <= 100_000
+            && 1 <= self.place
+            && self.place <= self.length
+            && self.verb.fits()
+            && self.value <= 999_999
+    }
+}
+
+pub(crate) fn byte_of_job(job: JobNo) -> u8
+    ensures { result ≡ job }
+{
+    job.0
 }

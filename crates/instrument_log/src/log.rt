@@ -25,7 +25,7 @@ pub struct InstrumentLog<A: Allocator = Global> {
     packed: Vec<[u8; 16], A>,
     room: usize,
     // The last entry, where its part is unfinished.
-    open: Option<Entry>,
+    open_last: Option<Entry>,
     value: u32,
 }
 
@@ -38,7 +38,7 @@ impl<A: Allocator> Model for InstrumentLog<A> {
 
     ghost view = { λ log. record { entries = entries_of log.packed.items; room = log.room } };
 
-    ghost invariant = { λ log. IsKept log.packed.items log.room log.open log.value × (log.room ≤ vec_capacity log.packed) };
+    ghost invariant = { λ log. IsKept log.packed.items log.room log.open_last log.value × (log.room ≤ vec_capacity log.packed) };
 }
 
 impl<A: Allocator> InstrumentLog<A> {
@@ -49,7 +49,7 @@ impl<A: Allocator> InstrumentLog<A> {
         Ok(InstrumentLog {
             packed: Vec::with_capacity(alloc, room)?,
             room,
-            open: None,
+            open_last: None,
             value: 0,
         })
     }
@@ -75,7 +75,7 @@ impl<A: Allocator> InstrumentLog<A> {
         requires { 1 ≤ entry.now.place }
         ensures { MatchOption result (MayAppend self.now entry.now) (λ refusal. IsRefused self.now entry.now refusal) }
     {
-        match &self.open {
+        match &self.open_last {
             Some(before) if !is_next_place(before, entry) => Some(LogRefusal::NotNextPlace),
             None if entry.place != 1 => Some(LogRefusal::NotFirstPlace),
             _ if self.packed.len() == self.room => Some(LogRefusal::NoRoom),
@@ -90,7 +90,7 @@ impl<A: Allocator> InstrumentLog<A> {
         ensures { self.new ≡ with_entry self.old entry }
     {
         self.packed.push_reserved(pack_entry(entry));
-        self.open = if_open(&entry);
+        self.open_last = if_open(&entry);
         self.value = entry.value;
     }
 
@@ -119,7 +119,8 @@ impl<A: Allocator> InstrumentLog<A> {
     /// The entry with `index` entries before it.
     pub fn entry(&self, index: usize) -> Entry
         requires { index < length self.now.entries }
-        ensures { slice_get self.now.entries index ≡ Some result }
+        ensures entry { slice_get self.now.entries index ≡ Some result }
+        ensures within_limits { IsWithinLimits result }
     {
         spelled_by(&self.packed[index])
     }
@@ -137,12 +138,13 @@ impl<A: Allocator> InstrumentLog<A> {
         ensures counted { result ≤ length self.now.entries }
         ensures kept { IsLog self.now }
     {
-        self.open.map_or(0, |entry| entry.place as usize)
+        self.open_last.map_or(0, |entry| entry.place as usize)
     }
 
     /// The number on the dial after all entries, 0 where there is none.
     pub fn value(&self) -> u32
-        ensures { result ≡ dial self.now.entries }
+        ensures value { result ≡ dial self.now.entries }
+        ensures fits { result ≤ 999999 }
     {
         self.value
     }

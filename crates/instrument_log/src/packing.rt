@@ -1,10 +1,10 @@
 // An entry as 16 bytes.
-ghost use Rattle.std.specs.Prelude.{◌≡◌, ◌≢◌, ℕ, ◌+◌, ◌*◌, IfSome, IfNone, IsTrue, ◌↔◌};
+ghost use Rattle.std.specs.Prelude.{◌≡◌, ◌≢◌, ℕ, ◌+◌, ◌*◌, IfSome, IfNone};
 ghost use Rattle.lab_plan.specs.Verbs.{verb_number};
 ghost use Rattle.instrument_log.specs.declared.entry.Entry.{Entry};
 ghost use Rattle.instrument_log.specs.Entries.{IsWithinLimits, verb_code, verb_of, entry_bytes, entry_of};
 
-use crate::entry::Entry;
+use crate::entry::{Entry, byte_of_job};
 use lab_plan::{JobNo, Verb};
 
 /// The entry as 16 bytes, each field with its least byte first: byte 0 is the job, 1 to 2 the session,
@@ -27,13 +27,15 @@ pub fn pack_entry(entry: Entry) -> [u8; 16]
     ]
 }
 
-/// The entry that the bytes are packed from, where it is one within the limits.
+/// The entry that the bytes are packed from, where it is one within the limits. There is none exactly
+/// where the job is above 31, the session 0 or above 1000, the length above 100000, the place 0 or above
+/// the length, the verb above 2, its number or the value above 999999, or a read has a number.
 pub fn unpack_entry(bytes: [u8; 16]) -> Option<Entry>
     ensures spelled { IfSome result (λ entry. (entry_bytes entry ≡ bytes) × IsWithinLimits entry) }
     ensures refused { IfNone result ((entry : Entry) → IsWithinLimits entry → entry_bytes entry ≢ bytes) }
 {
     let entry = spelled_by(&bytes);
-    if is_within_limits(&entry) && pack_entry(entry) == bytes {
+    if entry.is_within_limits() && pack_entry(entry) == bytes {
         Some(entry)
     } else {
         None
@@ -88,23 +90,4 @@ fn number_of_verb(verb: Verb) -> u32
         Verb::Set(number) | Verb::Add(number) => number,
         Verb::Read => 0,
     }
-}
-
-fn byte_of_job(job: JobNo) -> u8
-    ensures { result ≡ job }
-{
-    job.0
-}
-
-fn is_within_limits(entry: &Entry) -> bool
-    ensures { IsTrue result ↔ IsWithinLimits entry.now }
-{
-    byte_of_job(entry.job) <= 31
-        && 1 <= entry.session
-        && entry.session <= 1000
-        && entry.length <= 100_000
-        && 1 <= entry.place
-        && entry.place <= entry.length
-        && entry.verb.fits()
-        && entry.value <= 999_999
 }

@@ -4,6 +4,7 @@
 mod acting;
 mod bottle_moves;
 mod bottles;
+mod counts;
 mod dining;
 mod drinking;
 mod needs;
@@ -12,7 +13,10 @@ mod seat;
 mod seeing;
 mod stepping;
 mod tables;
+mod world;
 
+pub use counts::Counts;
 pub use legal_steps::{
     Dining, Drinking, EdgeState, End, EndChoice, Event, JobState, NotLegal, Step, StepLine,
 };
+pub use world::World;

@@ -60,14 +60,14 @@ impl<'a, A: Allocator> Tables<'a, A> {
         }
     }
 
-    pub(crate) fn step(&mut self, event: Event) -> Result<(), NotLegal>
-        requires { TakesEntry self.old.plan self.old.state event }
-        ensures { IsStep self.old event result self.new }
+    pub(crate) fn step(&mut self, event: &Event) -> Result<(), NotLegal>
+        requires { TakesEntry self.old.plan self.old.state event.now }
+        ensures { IsStep self.old event.now result self.new }
     {
-        if !self.enabled(&event) {
+        if !self.enabled(event) {
             return Err(NotLegal);
         }
-        self.apply(&event);
+        self.apply(event);
         Ok(())
     }
 }

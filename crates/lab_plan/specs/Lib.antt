@@ -3,3 +3,5 @@ pub mod Names
 pub mod Verbs
 pub mod IsPlan
 pub mod Building
+pub mod Texts
+pub mod Upgrade

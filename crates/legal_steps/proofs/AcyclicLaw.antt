@@ -1,13 +1,12 @@
 -- Precedence stays without a cycle, after every legal event.
-use Rattle.std.proofs.Common.{◌≡◌, ◌≢◌, ◌⊎◌, ℕ, ◌<◌, length, slice_index_or, Bool, true, false, List, [], ◌∷◌, arith, refl, sym, subst, ap, ◌∙◌, inl, inr}
-use Rattle.std.proofs.lemmas.Bool.{cases_eq, false≢true}
-use Rattle.lab_plan.specs.LabPlan.{LabPlan, edges, ends}
-use Rattle.legal_steps.specs.declared.end.End.{End}
-use Rattle.legal_steps.specs.declared.phase.Dining.TheVariants.{Thinking, Hungry, Eating}
+use Rattle.std.proofs.Common.{◌≡◌, ◌≢◌, ℕ, ◌<◌, length, true, false, arith, refl, sym, subst, ap, ◌∙◌, inl, inr}
+use Rattle.std.proofs.lemmas.Bool.{false≢true}
+use Rattle.lab_plan.specs.LabPlan.{LabPlan, edges}
+use Rattle.legal_steps.specs.declared.phase.Dining.TheVariants.{Eating}
 use Rattle.legal_steps.specs.declared.edge_state.EdgeState.{EdgeState}
 use Rattle.legal_steps.specs.declared.event.Event.{Event}
 use Rattle.legal_steps.specs.declared.event.Event.TheVariants.{Look, AskFork, GiveFork, Soil, AskBottles, GiveBottles, Thirst, Hunger, Sit, Leave, Drink, Reach, Act, Quit, Retire, Glance, Withdraw}
-use Rattle.legal_steps.specs.State.{State, Seat, seat, edge, dining, IsOwn, end_of, opposite, job_at_end}
+use Rattle.legal_steps.specs.State.{State, Seat, edge, dining, IsOwn, end_of, opposite, job_at_end}
 use Rattle.legal_steps.specs.Fitting.{Fits}
 use Rattle.legal_steps.specs.Legal.{May, after, with_edge, with_seat, with_phase, Here}
 use Rattle.legal_steps.specs.Precedence.{fork_holder, fork_waiter, IsUsed, PrecedesOn, Precedes, IsAcyclic}
@@ -30,21 +29,24 @@ not_waiter plan s j e h here waits = not_opposite (edge s e).fork (sym (end_at p
 -- the same order on an edge where the fork is and counts as before
 same_order : (plan : LabPlan) (s s' : State) (e a b : ℕ) → (edge s' e).fork ≡ (edge s e).fork → (IsUsed plan s' e → IsUsed plan s e) → (IsUsed plan s e → IsUsed plan s' e) → PrecedesOn plan s' e a b → PrecedesOn plan s e a b
 same_order plan s s' e a b f to back p = record {
-    is_edge = p.is_edge;
-    order = elim p.order [
-        inl w ↦ inl (to w.0, w.1 ∙ ap (λ x. job_at_end plan e (opposite x)) f, w.2 ∙ ap (job_at_end plan e) f)
-      | inr w ↦ inr (λ u. w.0 (back u), w.1 ∙ ap (job_at_end plan e) f, w.2 ∙ ap (λ x. job_at_end plan e (opposite x)) f)
-      ]
-  }
+  is_edge = p.is_edge;
+  order = elim p.order [
+    | inl w ↦ inl (to w.0, w.1 ∙ ap (λ x. job_at_end plan e (opposite x)) f, w.2 ∙ ap (job_at_end plan e) f)
+    | inr w ↦ inr (λ u. w.0 (back u), w.1 ∙ ap (job_at_end plan e) f, w.2 ∙ ap (λ x. job_at_end plan e (opposite x)) f)
+  ];
+}
 
 -- forks, dirt and who eats are as before
 all_same : (plan : LabPlan) (s s' : State) → ((e : ℕ) → (edge s' e).fork ≡ (edge s e).fork) → ((e : ℕ) → (edge s' e).dirty ≡ (edge s e).dirty)
     → ((k : ℕ) → dining s' k ≡ Eating → dining s k ≡ Eating) → ((k : ℕ) → dining s k ≡ Eating → dining s' k ≡ Eating) → IsAcyclic plan s → IsAcyclic plan s'
 all_same plan s s' f t eats eats' h jobs c =
-    h jobs (cycle_same (Precedes plan s') (Precedes plan s) (λ a b p. (p.0, same_order plan s s' p.0 a b (f p.0)
-      (λ u. elim u [ inl w ↦ inl (ap (dining s) (ap (job_at_end plan p.0) (sym (f p.0))) ∙ eats _ w) | inr w ↦ inr (sym (t p.0) ∙ w) ])
-      (λ u. elim u [ inl w ↦ inl (ap (dining s') (ap (job_at_end plan p.0) (f p.0)) ∙ eats' _ w) | inr w ↦ inr (t p.0 ∙ w) ])
-      p.1)) jobs c)
+    h jobs (cycle_same (Precedes plan s') (Precedes plan s) (λ a b p. (
+      p.0,
+      same_order plan s s' p.0 a b (f p.0)
+          (λ u. elim u [ inl w ↦ inl (ap (dining s) (ap (job_at_end plan p.0) (sym (f p.0))) ∙ eats _ w) | inr w ↦ inr (sym (t p.0) ∙ w) ])
+          (λ u. elim u [ inl w ↦ inl (ap (dining s') (ap (job_at_end plan p.0) (f p.0)) ∙ eats' _ w) | inr w ↦ inr (t p.0 ∙ w) ])
+          p.1,
+    )) jobs c)
 
 -- another seat of a job with the same dining, or another edge with the same fork
 pub seat_dines : (s : State) (j : ℕ) (x : Seat) → j < length s.seats → x.phase.dining ≡ dining s j → (k : ℕ) → dining (with_seat s j x) k ≡ dining s k
@@ -73,51 +75,65 @@ sits plan s j x inside now all h jobs c =
     let eats : (k : ℕ) → k ≡ j → dining s' k ≡ Eating = λ k same. elim (seat_cases s j x inside k) [ inl w ↦ ap (λ (y : Seat). y.phase.dining) w.1 ∙ now | inr w ↦ absurd (w.0 same) ] in
     let same : (k : ℕ) → k ≢ j → dining s' k ≡ dining s k = λ k other. elim (seat_cases s j x inside k) [ inl w ↦ absurd (other w.0) | inr w ↦ ap (λ (y : Seat). y.phase.dining) w.1 ] in
     let holds : (e : ℕ) → e < length (edges plan) → fork_waiter plan s e ≡ j → ⊥ =
-      λ e n waits. not_waiter plan s j e n (all e (subst (λ k. IsOwn plan k e) waits (own_at plan e (opposite (edge s e).fork) n))) waits in
+    λ e n waits. not_waiter plan s j e n (all e (subst (λ k. IsOwn plan k e) waits (own_at plan e (opposite (edge s e).fork) n))) waits in
     let out : (a b : ℕ) → Precedes plan s' a b → a ≢ j =
-      λ a b p is. elim p.1.order [
-        inl w ↦ holds p.0 p.1.is_edge (sym w.1 ∙ is)
+    λ a b p is. elim p.1.order [
+      | inl w ↦ holds p.0 p.1.is_edge (sym w.1 ∙ is)
       | inr w ↦ w.0 (inl (eats _ (sym w.1 ∙ is)))
-      ] in
+    ] in
     let past : (a b : ℕ) → Precedes plan s' a b → b ≢ j → Precedes plan s a b =
-      λ a b p other. (p.0, record {
+    λ a b p other. (
+      p.0,
+      record {
         is_edge = p.1.is_edge;
         order = elim p.1.order [
-          inl w ↦ inl (elim w.0 [ inl e ↦ inl (sym (same _ (λ is. other (w.2 ∙ is))) ∙ e) | inr d ↦ inr d ], w.1, w.2)
-        | inr w ↦ inr (λ u. elim u [ inl e ↦ w.0 (inl (same _ (λ is. out a b p (w.1 ∙ is)) ∙ e)) | inr d ↦ w.0 (inr d) ], w.1, w.2)
-        ]
-      }) in
+          | inl w ↦ inl (elim w.0 [ inl e ↦ inl (sym (same _ (λ is. other (w.2 ∙ is))) ∙ e) | inr d ↦ inr d ], w.1, w.2)
+          | inr w ↦ inr (λ u. elim u [ inl e ↦ w.0 (inl (same _ (λ is. out a b p (w.1 ∙ is)) ∙ e)) | inr d ↦ w.0 (inr d) ], w.1, w.2)
+        ];
+      },
+    ) in
     h jobs (cycle_past (Precedes plan s') (Precedes plan s) j out past jobs c)
 
 -- a meal ends, with dirty forks
 leaves : (plan : LabPlan) (s : State) (j : ℕ) (x : Seat) → j < length s.seats → (x.phase.dining ≡ Eating → ⊥) → ((e : ℕ) → IsOwn plan j e → (edge s e).dirty ≡ true) → IsAcyclic plan s → IsAcyclic plan (with_seat s j x)
 leaves plan s j x inside now dirty h jobs c =
     let s' = with_seat s j x in
-    h jobs (cycle_same (Precedes plan s') (Precedes plan s) (λ a b p. (p.0, same_order plan s s' p.0 a b refl
-      (λ u. elim u [
-          inl e ↦ elim (seat_cases s j x inside (fork_holder plan s p.0)) [ inl w ↦ absurd (now (ap (λ (y : Seat). y.phase.dining) (sym w.1) ∙ e)) | inr w ↦ inl (ap (λ (y : Seat). y.phase.dining) (sym w.1) ∙ e) ]
-        | inr d ↦ inr d ])
-      (λ u. elim u [
-          inl e ↦ elim (seat_cases s j x inside (fork_holder plan s p.0)) [
-              inl w ↦ inr (dirty p.0 (subst (λ k. IsOwn plan k p.0) w.0 (own_at plan p.0 (edge s p.0).fork p.1.is_edge)))
-            | inr w ↦ inl (ap (λ (y : Seat). y.phase.dining) w.1 ∙ e) ]
-        | inr d ↦ inr d ])
-      p.1)) jobs c)
+    h jobs (cycle_same (Precedes plan s') (Precedes plan s) (λ a b p. (
+      p.0,
+      same_order plan s s' p.0 a b refl
+          (λ u. elim u [
+            | inl e ↦ elim (seat_cases s j x inside (fork_holder plan s p.0)) [ inl w ↦ absurd (now (ap (λ (y : Seat). y.phase.dining) (sym w.1) ∙ e)) | inr w ↦ inl (ap (λ (y : Seat). y.phase.dining) (sym w.1) ∙ e) ]
+            | inr d ↦ inr d
+          ])
+          (λ u. elim u [
+            | inl e ↦ elim (seat_cases s j x inside (fork_holder plan s p.0)) [
+              | inl w ↦ inr (dirty p.0 (subst (λ k. IsOwn plan k p.0) w.0 (own_at plan p.0 (edge s p.0).fork p.1.is_edge)))
+              | inr w ↦ inl (ap (λ (y : Seat). y.phase.dining) w.1 ∙ e)
+            ]
+            | inr d ↦ inr d
+          ])
+          p.1,
+    )) jobs c)
 
 -- the fork of an eating job gets dirty
 soils : (plan : LabPlan) (s : State) (e0 : ℕ) (x : EdgeState) → e0 < length s.edges → x.fork ≡ (edge s e0).fork → x.dirty ≡ true → dining s (fork_holder plan s e0) ≡ Eating → IsAcyclic plan s → IsAcyclic plan (with_edge s e0 x)
 soils plan s e0 x inside f t eats h jobs c =
     let s' = with_edge s e0 x in
     let fork : (e : ℕ) → (edge s' e).fork ≡ (edge s e).fork =
-      λ e. elim (edge_cases s e0 x inside e) [ inl w ↦ ap (λ (y : EdgeState). y.fork) w.1 ∙ (f ∙ ap (λ n. (edge s n).fork) (sym w.0)) | inr w ↦ ap (λ (y : EdgeState). y.fork) w.1 ] in
-    h jobs (cycle_same (Precedes plan s') (Precedes plan s) (λ a b p. (p.0, same_order plan s s' p.0 a b (fork p.0)
-      (λ u. elim (edge_cases s e0 x inside p.0) [
-          inl w ↦ inl (ap (λ n. dining s (fork_holder plan s n)) w.0 ∙ eats)
-        | inr w ↦ elim u [ inl e ↦ inl (ap (dining s) (ap (job_at_end plan p.0) (sym (fork p.0))) ∙ e) | inr d ↦ inr (ap (λ (y : EdgeState). y.dirty) (sym w.1) ∙ d) ] ])
-      (λ u. elim u [
-          inl e ↦ inl (ap (dining s) (ap (job_at_end plan p.0) (fork p.0)) ∙ e)
-        | inr d ↦ inr (elim (edge_cases s e0 x inside p.0) [ inl w ↦ ap (λ (y : EdgeState). y.dirty) w.1 ∙ t | inr w ↦ ap (λ (y : EdgeState). y.dirty) w.1 ∙ d ]) ])
-      p.1)) jobs c)
+    λ e. elim (edge_cases s e0 x inside e) [ inl w ↦ ap (λ (y : EdgeState). y.fork) w.1 ∙ (f ∙ ap (λ n. (edge s n).fork) (sym w.0)) | inr w ↦ ap (λ (y : EdgeState). y.fork) w.1 ] in
+    h jobs (cycle_same (Precedes plan s') (Precedes plan s) (λ a b p. (
+      p.0,
+      same_order plan s s' p.0 a b (fork p.0)
+          (λ u. elim (edge_cases s e0 x inside p.0) [
+            | inl w ↦ inl (ap (λ n. dining s (fork_holder plan s n)) w.0 ∙ eats)
+            | inr w ↦ elim u [ inl e ↦ inl (ap (dining s) (ap (job_at_end plan p.0) (sym (fork p.0))) ∙ e) | inr d ↦ inr (ap (λ (y : EdgeState). y.dirty) (sym w.1) ∙ d) ]
+          ])
+          (λ u. elim u [
+            | inl e ↦ inl (ap (dining s) (ap (job_at_end plan p.0) (fork p.0)) ∙ e)
+            | inr d ↦ inr (elim (edge_cases s e0 x inside p.0) [ inl w ↦ ap (λ (y : EdgeState). y.dirty) w.1 ∙ t | inr w ↦ ap (λ (y : EdgeState). y.dirty) w.1 ∙ d ])
+          ])
+          p.1,
+    )) jobs c)
 
 -- a dirty fork is given and cleaned, to a job that does not eat
 gives : (plan : LabPlan) (s : State) (e0 : ℕ) (x : EdgeState) → e0 < length s.edges → x.fork ≡ opposite (edge s e0).fork → x.dirty ≡ false → (edge s e0).dirty ≡ true → (dining s (fork_waiter plan s e0) ≡ Eating → ⊥) → IsAcyclic plan s → IsAcyclic plan (with_edge s e0 x)
@@ -127,22 +143,27 @@ gives plan s e0 x inside f clean dirty idle h jobs c =
     let fork : (edge s' e0).fork ≡ opposite (edge s e0).fork = ap (λ (y : EdgeState). y.fork) at ∙ f in
     let unused : IsUsed plan s' e0 → ⊥ = λ u. elim u [ inl e ↦ idle (ap (dining s) (ap (job_at_end plan e0) (sym fork)) ∙ e) | inr d ↦ false≢true (sym (ap (λ (y : EdgeState). y.dirty) at ∙ clean) ∙ d) ] in
     let here : (a b : ℕ) → PrecedesOn plan s' e0 a b → PrecedesOn plan s e0 a b =
-      λ a b p. elim p.order [
-          inl w ↦ absurd (unused w.0)
-        | inr w ↦ record { is_edge = p.is_edge; order = inl (inr dirty, w.1 ∙ ap (job_at_end plan e0) fork, w.2 ∙ ap (job_at_end plan e0) (ap opposite fork ∙ opposite_twice (edge s e0).fork)) } ] in
-    h jobs (cycle_same (Precedes plan s') (Precedes plan s) (λ a b p. (p.0, elim (edge_cases s e0 x inside p.0) [
-        inl w ↦ subst (λ n. PrecedesOn plan s n a b) (sym w.0) (here a b (subst (λ n. PrecedesOn plan s' n a b) w.0 p.1))
-      | inr w ↦ same_order plan s s' p.0 a b (ap (λ (y : EdgeState). y.fork) w.1)
-          (λ u. elim u [ inl e ↦ inl (ap (dining s) (ap (job_at_end plan p.0) (ap (λ (y : EdgeState). y.fork) (sym w.1))) ∙ e) | inr d ↦ inr (ap (λ (y : EdgeState). y.dirty) (sym w.1) ∙ d) ])
-          (λ u. elim u [ inl e ↦ inl (ap (dining s) (ap (job_at_end plan p.0) (ap (λ (y : EdgeState). y.fork) w.1)) ∙ e) | inr d ↦ inr (ap (λ (y : EdgeState). y.dirty) w.1 ∙ d) ])
-          p.1 ])) jobs c)
+    λ a b p. elim p.order [
+      | inl w ↦ absurd (unused w.0)
+      | inr w ↦ record { is_edge = p.is_edge; order = inl (inr dirty, w.1 ∙ ap (job_at_end plan e0) fork, w.2 ∙ ap (job_at_end plan e0) (ap opposite fork ∙ opposite_twice (edge s e0).fork)) }
+    ] in
+    h jobs (cycle_same (Precedes plan s') (Precedes plan s) (λ a b p. (
+      p.0,
+      elim (edge_cases s e0 x inside p.0) [
+        | inl w ↦ subst (λ n. PrecedesOn plan s n a b) (sym w.0) (here a b (subst (λ n. PrecedesOn plan s' n a b) w.0 p.1))
+        | inr w ↦ same_order plan s s' p.0 a b (ap (λ (y : EdgeState). y.fork) w.1)
+            (λ u. elim u [ inl e ↦ inl (ap (dining s) (ap (job_at_end plan p.0) (ap (λ (y : EdgeState). y.fork) (sym w.1))) ∙ e) | inr d ↦ inr (ap (λ (y : EdgeState). y.dirty) (sym w.1) ∙ d) ])
+            (λ u. elim u [ inl e ↦ inl (ap (dining s) (ap (job_at_end plan p.0) (ap (λ (y : EdgeState). y.fork) w.1)) ∙ e) | inr d ↦ inr (ap (λ (y : EdgeState). y.dirty) w.1 ∙ d) ])
+            p.1
+      ],
+    )) jobs c)
 
 pub acyclic_after : (plan : LabPlan) (s : State) (event : Event) → Fits plan s → HasForks plan s → IsAcyclic plan s → May plan s event → IsAcyclic plan (after plan s event)
 acyclic_after plan s (Look j e seen) fit true_marks h may = other_seat plan s j _ (omega (arith, fit.seats_there, own_is_job plan j e may.0)) refl h
 acyclic_after plan s (AskFork j e) fit true_marks h may = other_edge plan s e _ (omega (arith, may.0.is_edge, fit.edges_there)) refl refl h
 acyclic_after plan s (GiveFork j e) fit true_marks h may =
     let idle : dining s (fork_waiter plan s e) ≡ Eating → ⊥ =
-      λ eats. not_waiter plan s (fork_waiter plan s e) e may.0.is_edge (true_marks.eating _ e (own_at plan e (opposite (edge s e).fork) may.0.is_edge) eats) refl in
+    λ eats. not_waiter plan s (fork_waiter plan s e) e may.0.is_edge (true_marks.eating _ e (own_at plan e (opposite (edge s e).fork) may.0.is_edge) eats) refl in
     other_seat plan (with_edge s e _) j _ (omega (arith, fit.seats_there, own_is_job plan j e may.0)) refl (gives plan s e _ (omega (arith, may.0.is_edge, fit.edges_there)) refl refl may.3 idle h)
 acyclic_after plan s (Soil j e) fit true_marks h may =
     other_seat plan (with_edge s e _) j _ (omega (arith, fit.seats_there, own_is_job plan j e may.0)) refl (soils plan s e _ (omega (arith, may.0.is_edge, fit.edges_there)) refl refl (ap (dining s) (is_holder plan s j e may.0 may.2) ∙ may.1) h)

@@ -1,5 +1,5 @@
 -- Cycles of two relations.
-use Rattle.std.proofs.Common.{◌≡◌, ◌≢◌, ℕ, List, [], ◌∷◌}
+use Rattle.std.proofs.Common.{◌≢◌, ℕ, List, [], ◌∷◌}
 use Rattle.legal_steps.specs.Precedence.{LeadsBackTo, IsCycleOf}
 
 leads_same : (R' R : ℕ → ℕ → Type 0) → ((a b : ℕ) → R' a b → R a b) → (first a : ℕ) (jobs : List ℕ) → LeadsBackTo R' first a jobs → LeadsBackTo R first a jobs

@@ -1,8 +1,8 @@
 -- A fork mark is true, and an eating job has all its forks: after every legal event.
-use Rattle.std.proofs.Common.{◌≡◌, ◌≢◌, ◌⊎◌, ℕ, ◌<◌, length, slice_index_or, slice_set, replicate, zero, suc, ◌&&◌, Bool, true, false, List, arith, refl, sym, subst, ap, ◌∙◌, inl, inr, get_or-set_same}
+use Rattle.std.proofs.Common.{◌≡◌, ◌⊎◌, ℕ, ◌<◌, length, slice_index_or, slice_set, replicate, zero, suc, ◌&&◌, Bool, true, false, arith, refl, sym, subst, ap, ◌∙◌, inl, inr, get_or-set_same}
 use Rattle.std.proofs.lemmas.Grind.{common_steps}
 use Rattle.std.proofs.lemmas.Bool.{cases_eq, false≢true}
-use Rattle.lab_plan.specs.LabPlan.{LabPlan, edges}
+use Rattle.lab_plan.specs.LabPlan.{LabPlan}
 use Rattle.legal_steps.specs.declared.end.End.{End}
 use Rattle.legal_steps.specs.declared.end.End.TheVariants.{Lower, Higher}
 use Rattle.legal_steps.specs.declared.phase.Dining.{Dining}
@@ -27,53 +27,53 @@ pub record HasForks (plan : LabPlan) (s : State) : Type 0 where
 same_forks : (plan : LabPlan) (s s' : State) → HasForks plan s → ((k : ℕ) → dining s' k ≡ dining s k) → ((k : ℕ) → (seat s' k).fork_marks ≡ (seat s k).fork_marks)
     → ((e : ℕ) → (edge s' e).fork ≡ (edge s e).fork) → ((e : ℕ) → (edge s' e).dirty ≡ (edge s e).dirty) → HasForks plan s'
 same_forks plan s s' h d m f t = record {
-    marked = λ j e own is. f e ∙ h.marked j e own (ap (λ xs. slice_index_or xs e false) (sym (m j)) ∙ is);
-    eating = λ j e own eats. f e ∙ h.eating j e own (sym (d j) ∙ eats);
-    soiled = λ j e own eats is. t e ∙ h.soiled j e own (sym (d j) ∙ eats) (ap (λ xs. slice_index_or xs e false) (sym (m j)) ∙ is);
-  }
+  marked = λ j e own is. f e ∙ h.marked j e own (ap (λ xs. slice_index_or xs e false) (sym (m j)) ∙ is);
+  eating = λ j e own eats. f e ∙ h.eating j e own (sym (d j) ∙ eats);
+  soiled = λ j e own eats is. t e ∙ h.soiled j e own (sym (d j) ∙ eats) (ap (λ xs. slice_index_or xs e false) (sym (m j)) ∙ is);
+}
 
 -- another seat with the same dining and marks
 other_seat : (plan : LabPlan) (s : State) (j : ℕ) (x : Seat) → j < length s.seats → x.phase.dining ≡ dining s j → x.fork_marks ≡ (seat s j).fork_marks → HasForks plan s → HasForks plan (with_seat s j x)
 other_seat plan s j x inside d m h =
     same_forks plan s (with_seat s j x) h
-      (λ k. elim (seat_cases s j x inside k) [ inl w ↦ ap (λ (y : Seat). y.phase.dining) w.1 ∙ (d ∙ ap (dining s) (sym w.0)) | inr w ↦ ap (λ (y : Seat). y.phase.dining) w.1 ])
-      (λ k. elim (seat_cases s j x inside k) [ inl w ↦ ap (λ (y : Seat). y.fork_marks) w.1 ∙ (m ∙ ap (λ n. (seat s n).fork_marks) (sym w.0)) | inr w ↦ ap (λ (y : Seat). y.fork_marks) w.1 ])
-      (λ e. refl) (λ e. refl)
+    (λ k. elim (seat_cases s j x inside k) [ inl w ↦ ap (λ (y : Seat). y.phase.dining) w.1 ∙ (d ∙ ap (dining s) (sym w.0)) | inr w ↦ ap (λ (y : Seat). y.phase.dining) w.1 ])
+    (λ k. elim (seat_cases s j x inside k) [ inl w ↦ ap (λ (y : Seat). y.fork_marks) w.1 ∙ (m ∙ ap (λ n. (seat s n).fork_marks) (sym w.0)) | inr w ↦ ap (λ (y : Seat). y.fork_marks) w.1 ])
+    (λ e. refl) (λ e. refl)
 
 -- another edge with the same fork
 other_edge : (plan : LabPlan) (s : State) (e : ℕ) (x : EdgeState) → e < length s.edges → x.fork ≡ (edge s e).fork → x.dirty ≡ (edge s e).dirty → HasForks plan s → HasForks plan (with_edge s e x)
 other_edge plan s e x inside f t h =
     same_forks plan s (with_edge s e x) h (λ k. refl) (λ k. refl)
-      (λ k. elim (edge_cases s e x inside k) [ inl w ↦ ap (λ (y : EdgeState). y.fork) w.1 ∙ (f ∙ ap (λ n. (edge s n).fork) (sym w.0)) | inr w ↦ ap (λ (y : EdgeState). y.fork) w.1 ])
-      (λ k. elim (edge_cases s e x inside k) [ inl w ↦ ap (λ (y : EdgeState). y.dirty) w.1 ∙ (t ∙ ap (λ n. (edge s n).dirty) (sym w.0)) | inr w ↦ ap (λ (y : EdgeState). y.dirty) w.1 ])
+    (λ k. elim (edge_cases s e x inside k) [ inl w ↦ ap (λ (y : EdgeState). y.fork) w.1 ∙ (f ∙ ap (λ n. (edge s n).fork) (sym w.0)) | inr w ↦ ap (λ (y : EdgeState). y.fork) w.1 ])
+    (λ k. elim (edge_cases s e x inside k) [ inl w ↦ ap (λ (y : EdgeState). y.dirty) w.1 ∙ (t ∙ ap (λ n. (edge s n).dirty) (sym w.0)) | inr w ↦ ap (λ (y : EdgeState). y.dirty) w.1 ])
 
 -- the mark of job k for edge e after job j's mark for edge e0 became m
 pub mark_cases : (s : State) (j e0 : ℕ) (m : Bool) (x : Seat) → j < length s.seats → e0 < length (seat s j).fork_marks → x.fork_marks ≡ slice_set (seat s j).fork_marks e0 m
     → (k e : ℕ) → ((k ≡ j) × (e ≡ e0) × (mark (with_seat s j x) k e ≡ m)) ⊎ (mark (with_seat s j x) k e ≡ mark s k e)
 mark_cases s j e0 m x inside there is k e = elim (seat_cases s j x inside k) [
-    inr w ↦ inr (ap (λ (y : Seat). slice_index_or y.fork_marks e false) w.1)
+  | inr w ↦ inr (ap (λ (y : Seat). slice_index_or y.fork_marks e false) w.1)
   | inl w ↦ elim (cases_eq e e0) [
-      inl same ↦ inl (w.0, same, grind (arith, common_steps, is, w.1))
+    | inl same ↦ inl (w.0, same, grind (arith, common_steps, is, w.1))
     | inr other ↦ inr (grind (arith, common_steps, is, w.1))
-    ]
   ]
+]
 
 -- one mark is set to m, which tells the truth
 remark : (plan : LabPlan) (s : State) (j e0 : ℕ) (m : Bool) (x : Seat) → j < length s.seats → e0 < length (seat s j).fork_marks → x.phase.dining ≡ dining s j → x.fork_marks ≡ slice_set (seat s j).fork_marks e0 m
     → (m ≡ true → Here plan j e0 (edge s e0).fork × (dining s j ≡ Eating → (edge s e0).dirty ≡ true)) → HasForks plan s → HasForks plan (with_seat s j x)
 remark plan s j e0 m x inside there d is truth h =
     let dines : (k : ℕ) → dining (with_seat s j x) k ≡ dining s k =
-      λ k. elim (seat_cases s j x inside k) [ inl w ↦ ap (λ (y : Seat). y.phase.dining) w.1 ∙ (d ∙ ap (dining s) (sym w.0)) | inr w ↦ ap (λ (y : Seat). y.phase.dining) w.1 ] in
+    λ k. elim (seat_cases s j x inside k) [ inl w ↦ ap (λ (y : Seat). y.phase.dining) w.1 ∙ (d ∙ ap (dining s) (sym w.0)) | inr w ↦ ap (λ (y : Seat). y.phase.dining) w.1 ] in
     record {
       marked = λ k e own set. elim (mark_cases s j e0 m x inside there is k e) [
-          inl w ↦ subst (λ n. Here plan n e (edge s e).fork) (sym w.0) (subst (λ n. Here plan j n (edge s n).fork) (sym w.1) (truth (sym w.2 ∙ set)).0)
+        | inl w ↦ subst (λ n. Here plan n e (edge s e).fork) (sym w.0) (subst (λ n. Here plan j n (edge s n).fork) (sym w.1) (truth (sym w.2 ∙ set)).0)
         | inr same ↦ h.marked k e own (sym same ∙ set)
-        ];
+      ];
       eating = λ k e own eats. h.eating k e own (sym (dines k) ∙ eats);
       soiled = λ k e own eats set. elim (mark_cases s j e0 m x inside there is k e) [
-          inl w ↦ subst (λ n. (edge s n).dirty ≡ true) (sym w.1) ((truth (sym w.2 ∙ set)).1 (ap (dining s) (sym w.0) ∙ (sym (dines k) ∙ eats)))
+        | inl w ↦ subst (λ n. (edge s n).dirty ≡ true) (sym w.1) ((truth (sym w.2 ∙ set)).1 (ap (dining s) (sym w.0) ∙ (sym (dines k) ∙ eats)))
         | inr same ↦ h.soiled k e own (sym (dines k) ∙ eats) (sym same ∙ set)
-        ];
+      ];
     }
 
 pub and_true : (a b : Bool) → (a && b) ≡ true → (a ≡ true) × (b ≡ true)
@@ -104,27 +104,31 @@ moved plan s e0 x inside unmarked idle h =
     let at0 : (e : ℕ) → (k : ℕ) → IsOwn plan k e → e ≡ e0 → IsOwn plan k e0 = λ e k own same. subst (IsOwn plan k) same own in
     record {
       marked = λ k e own set. elim (edge_cases s e0 x inside e) [
-          inl w ↦ absurd (unmarked k (at0 e k own w.0) (ap (mark s k) (sym w.0) ∙ set))
-        | inr w ↦ ap (λ (y : EdgeState). y.fork) w.1 ∙ h.marked k e own set ];
+        | inl w ↦ absurd (unmarked k (at0 e k own w.0) (ap (mark s k) (sym w.0) ∙ set))
+        | inr w ↦ ap (λ (y : EdgeState). y.fork) w.1 ∙ h.marked k e own set
+      ];
       eating = λ k e own eats. elim (edge_cases s e0 x inside e) [
-          inl w ↦ absurd (idle k (at0 e k own w.0) eats)
-        | inr w ↦ ap (λ (y : EdgeState). y.fork) w.1 ∙ h.eating k e own eats ];
+        | inl w ↦ absurd (idle k (at0 e k own w.0) eats)
+        | inr w ↦ ap (λ (y : EdgeState). y.fork) w.1 ∙ h.eating k e own eats
+      ];
       soiled = λ k e own eats set. elim (edge_cases s e0 x inside e) [
-          inl w ↦ absurd (idle k (at0 e k own w.0) eats)
-        | inr w ↦ ap (λ (y : EdgeState). y.dirty) w.1 ∙ h.soiled k e own eats set ];
+        | inl w ↦ absurd (idle k (at0 e k own w.0) eats)
+        | inr w ↦ ap (λ (y : EdgeState). y.dirty) w.1 ∙ h.soiled k e own eats set
+      ];
     }
 
 -- a fork gets dirty
 dirtied : (plan : LabPlan) (s : State) (e0 : ℕ) (x : EdgeState) → e0 < length s.edges → x.fork ≡ (edge s e0).fork → x.dirty ≡ true → HasForks plan s → HasForks plan (with_edge s e0 x)
 dirtied plan s e0 x inside f t h =
     let fork : (e : ℕ) → (edge (with_edge s e0 x) e).fork ≡ (edge s e).fork =
-      λ e. elim (edge_cases s e0 x inside e) [ inl w ↦ ap (λ (y : EdgeState). y.fork) w.1 ∙ (f ∙ ap (λ n. (edge s n).fork) (sym w.0)) | inr w ↦ ap (λ (y : EdgeState). y.fork) w.1 ] in
+    λ e. elim (edge_cases s e0 x inside e) [ inl w ↦ ap (λ (y : EdgeState). y.fork) w.1 ∙ (f ∙ ap (λ n. (edge s n).fork) (sym w.0)) | inr w ↦ ap (λ (y : EdgeState). y.fork) w.1 ] in
     record {
       marked = λ k e own set. fork e ∙ h.marked k e own set;
       eating = λ k e own eats. fork e ∙ h.eating k e own eats;
       soiled = λ k e own eats set. elim (edge_cases s e0 x inside e) [
-          inl w ↦ ap (λ (y : EdgeState). y.dirty) w.1 ∙ t
-        | inr w ↦ ap (λ (y : EdgeState). y.dirty) w.1 ∙ h.soiled k e own eats set ];
+        | inl w ↦ ap (λ (y : EdgeState). y.dirty) w.1 ∙ t
+        | inr w ↦ ap (λ (y : EdgeState). y.dirty) w.1 ∙ h.soiled k e own eats set
+      ];
     }
 
 -- a meal begins with all forks, or ends
@@ -134,31 +138,37 @@ turned plan s j d inside all h =
     let bare : (e : ℕ) → slice_index_or x.fork_marks e false ≡ false = λ e. all_false (length (seat s j).fork_marks) e in
     record {
       marked = λ k e own set. elim (seat_cases s j x inside k) [
-          inl w ↦ absurd (false≢true (sym (bare e) ∙ (ap (λ (y : Seat). slice_index_or y.fork_marks e false) (sym w.1) ∙ set)))
-        | inr w ↦ h.marked k e own (ap (λ (y : Seat). slice_index_or y.fork_marks e false) (sym w.1) ∙ set) ];
+        | inl w ↦ absurd (false≢true (sym (bare e) ∙ (ap (λ (y : Seat). slice_index_or y.fork_marks e false) (sym w.1) ∙ set)))
+        | inr w ↦ h.marked k e own (ap (λ (y : Seat). slice_index_or y.fork_marks e false) (sym w.1) ∙ set)
+      ];
       eating = λ k e own eats. elim (seat_cases s j x inside k) [
-          inl w ↦ subst (λ n. IsOwn plan n e → Here plan n e (edge s e).fork) (sym w.0) (all (ap (λ (y : Seat). y.phase.dining) (sym w.1) ∙ eats) e) own
-        | inr w ↦ h.eating k e own (ap (λ (y : Seat). y.phase.dining) (sym w.1) ∙ eats) ];
+        | inl w ↦ subst (λ n. IsOwn plan n e → Here plan n e (edge s e).fork) (sym w.0) (all (ap (λ (y : Seat). y.phase.dining) (sym w.1) ∙ eats) e) own
+        | inr w ↦ h.eating k e own (ap (λ (y : Seat). y.phase.dining) (sym w.1) ∙ eats)
+      ];
       soiled = λ k e own eats set. elim (seat_cases s j x inside k) [
-          inl w ↦ absurd (false≢true (sym (bare e) ∙ (ap (λ (y : Seat). slice_index_or y.fork_marks e false) (sym w.1) ∙ set)))
-        | inr w ↦ h.soiled k e own (ap (λ (y : Seat). y.phase.dining) (sym w.1) ∙ eats) (ap (λ (y : Seat). slice_index_or y.fork_marks e false) (sym w.1) ∙ set) ];
+        | inl w ↦ absurd (false≢true (sym (bare e) ∙ (ap (λ (y : Seat). slice_index_or y.fork_marks e false) (sym w.1) ∙ set)))
+        | inr w ↦ h.soiled k e own (ap (λ (y : Seat). y.phase.dining) (sym w.1) ∙ eats) (ap (λ (y : Seat). slice_index_or y.fork_marks e false) (sym w.1) ∙ set)
+      ];
     }
 
 -- another seat with the same marks, of a job that does not eat
 not_eating : (plan : LabPlan) (s : State) (j : ℕ) (x : Seat) → j < length s.seats → (x.phase.dining ≡ Eating → ⊥) → x.fork_marks ≡ (seat s j).fork_marks → HasForks plan s → HasForks plan (with_seat s j x)
 not_eating plan s j x inside idle m h =
     let marks : (k e : ℕ) → mark (with_seat s j x) k e ≡ mark s k e =
-      λ k e. elim (seat_cases s j x inside k) [
-          inl w ↦ ap (λ (y : Seat). slice_index_or y.fork_marks e false) w.1 ∙ (ap (λ xs. slice_index_or xs e false) m ∙ ap (λ n. mark s n e) (sym w.0))
-        | inr w ↦ ap (λ (y : Seat). slice_index_or y.fork_marks e false) w.1 ] in
+    λ k e. elim (seat_cases s j x inside k) [
+      | inl w ↦ ap (λ (y : Seat). slice_index_or y.fork_marks e false) w.1 ∙ (ap (λ xs. slice_index_or xs e false) m ∙ ap (λ n. mark s n e) (sym w.0))
+      | inr w ↦ ap (λ (y : Seat). slice_index_or y.fork_marks e false) w.1
+    ] in
     record {
       marked = λ k e own set. h.marked k e own (sym (marks k e) ∙ set);
       eating = λ k e own eats. elim (seat_cases s j x inside k) [
-          inl w ↦ absurd (idle (ap (λ (y : Seat). y.phase.dining) (sym w.1) ∙ eats))
-        | inr w ↦ h.eating k e own (ap (λ (y : Seat). y.phase.dining) (sym w.1) ∙ eats) ];
+        | inl w ↦ absurd (idle (ap (λ (y : Seat). y.phase.dining) (sym w.1) ∙ eats))
+        | inr w ↦ h.eating k e own (ap (λ (y : Seat). y.phase.dining) (sym w.1) ∙ eats)
+      ];
       soiled = λ k e own eats set. elim (seat_cases s j x inside k) [
-          inl w ↦ absurd (idle (ap (λ (y : Seat). y.phase.dining) (sym w.1) ∙ eats))
-        | inr w ↦ h.soiled k e own (ap (λ (y : Seat). y.phase.dining) (sym w.1) ∙ eats) (sym (marks k e) ∙ set) ];
+        | inl w ↦ absurd (idle (ap (λ (y : Seat). y.phase.dining) (sym w.1) ∙ eats))
+        | inr w ↦ h.soiled k e own (ap (λ (y : Seat). y.phase.dining) (sym w.1) ∙ eats) (sym (marks k e) ∙ set)
+      ];
     }
 
 pub has_forks_after : (plan : LabPlan) (s : State) (event : Event) → Fits plan s → HasForks plan s → May plan s event → HasForks plan (after plan s event)
@@ -166,7 +176,7 @@ has_forks_after plan s (Look j e seen) fit h may =
     let job = own_is_job plan j e may.0 in
     let here = end_of plan j e in
     let truth : fork_mark_seen (dining s j) here seen ≡ true → Here plan j e (edge s e).fork × (dining s j ≡ Eating → (edge s e).dirty ≡ true) =
-      λ set. let p = mark_seen (dining s j) here seen set in (ap (λ (y : EdgeState). y.fork) (sym may.1) ∙ p.0, λ eats. ap (λ (y : EdgeState). y.dirty) (sym may.1) ∙ p.1 eats) in
+    λ set. let p = mark_seen (dining s j) here seen set in (ap (λ (y : EdgeState). y.fork) (sym may.1) ∙ p.0, λ eats. ap (λ (y : EdgeState). y.dirty) (sym may.1) ∙ p.1 eats) in
     remark plan s j e (fork_mark_seen (dining s j) here seen) _ (omega (arith, fit.seats_there, job)) (omega (arith, may.0.is_edge, (fit.seats_fit j job).fork_marks_there)) refl refl truth h
 has_forks_after plan s (AskFork j e) fit h may = other_edge plan s e _ (omega (arith, may.0.is_edge, fit.edges_there)) refl refl h
 has_forks_after plan s (GiveFork j e) fit h may =
@@ -177,9 +187,9 @@ has_forks_after plan s (GiveFork j e) fit h may =
     let bare = remark plan s j e false x inside there refl refl (λ no. absurd (false≢true no)) h in
     let cleared : mark (with_seat s j x) j e ≡ false = ap (λ (y : Seat). slice_index_or y.fork_marks e false) (seat_same s j x inside) ∙ get_or-set_same (seat s j).fork_marks e false false there in
     moved plan (with_seat s j x) e _ (omega (arith, may.0.is_edge, fit.edges_there))
-      (λ k own set. elim (cases_eq k j) [ inl same ↦ false≢true (sym cleared ∙ (ap (λ n. mark (with_seat s j x) n e) (sym same) ∙ set)) | inr other ↦ other (one_at_end plan k j e own may.0 (sym (bare.marked k e own set) ∙ may.2)) ])
-      (λ k own eats. elim (cases_eq k j) [ inl same ↦ may.1 (ap (λ (y : Seat). y.phase.dining) (sym (seat_same s j x inside)) ∙ (ap (dining (with_seat s j x)) (sym same) ∙ eats)) | inr other ↦ other (one_at_end plan k j e own may.0 (sym (bare.eating k e own eats) ∙ may.2)) ])
-      bare
+    (λ k own set. elim (cases_eq k j) [ inl same ↦ false≢true (sym cleared ∙ (ap (λ n. mark (with_seat s j x) n e) (sym same) ∙ set)) | inr other ↦ other (one_at_end plan k j e own may.0 (sym (bare.marked k e own set) ∙ may.2)) ])
+    (λ k own eats. elim (cases_eq k j) [ inl same ↦ may.1 (ap (λ (y : Seat). y.phase.dining) (sym (seat_same s j x inside)) ∙ (ap (dining (with_seat s j x)) (sym same) ∙ eats)) | inr other ↦ other (one_at_end plan k j e own may.0 (sym (bare.eating k e own eats) ∙ may.2)) ])
+    bare
 has_forks_after plan s (Soil j e) fit h may =
     let job = own_is_job plan j e may.0 in
     let x : EdgeState = record (edge s e) { dirty = true } in

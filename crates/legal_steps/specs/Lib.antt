@@ -9,3 +9,5 @@ pub mod WholeLogs
 pub mod Holding
 pub mod Things
 pub mod Reached
+pub mod Laws
+pub mod LogLaws

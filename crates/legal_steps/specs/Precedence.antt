@@ -1,6 +1,7 @@
 -- Precedence among jobs, and its cycles.
 use Rattle.std.specs.Prelude.{◌≡◌, ◌⊎◌, ℕ, ◌<◌, Bool, true, List, [], ◌∷◌, length}
 use Rattle.lab_plan.specs.LabPlan.{LabPlan, edges}
+pub use Rattle.cycles.specs.Cycles.{LeadsBackTo, IsCycleOf, HasNoCycle}
 use Rattle.legal_steps.specs.declared.phase.Dining.TheVariants.{Eating}
 use Rattle.legal_steps.specs.State.{State, fork, is_dirty, dining, opposite, job_at_end}
 
@@ -23,16 +24,6 @@ pub record PrecedesOn (plan : LabPlan) (s : State) (e a b : ℕ) : Type 0 where
 abbrev pub Precedes : LabPlan → State → ℕ → ℕ → Type 0
 Precedes plan s a b = (e : ℕ) × PrecedesOn plan s e a b
 
--- each job of a list leads to the next, and the last back to the first
-abbrev pub LeadsBackTo : (ℕ → ℕ → Type 0) → ℕ → ℕ → List ℕ → Type 0
-LeadsBackTo R first a [] = R a first
-LeadsBackTo R first a (b ∷ jobs) = R a b × LeadsBackTo R first b jobs
-
--- a cycle of a relation: a nonempty list in which each leads to the next and the last to the first
-abbrev pub IsCycleOf : (ℕ → ℕ → Type 0) → List ℕ → Type 0
-IsCycleOf R [] = ⊥
-IsCycleOf R (first ∷ jobs) = LeadsBackTo R first first jobs
-
 -- precedence has no cycle
 abbrev pub IsAcyclic : LabPlan → State → Type 0
-IsAcyclic plan s = (jobs : List ℕ) → ¬ IsCycleOf (Precedes plan s) jobs
+IsAcyclic plan s = HasNoCycle (Precedes plan s)

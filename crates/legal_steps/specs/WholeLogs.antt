@@ -1,8 +1,8 @@
 -- Whole logs: the parts of sessions one after another, save at most one unfinished last.
-use Rattle.std.specs.Prelude.{◌≡◌, ◌⊎◌, ℕ, ◌<◌, List, [], ◌∷◌, ◌++◌, length, map, filter, take, ◌==◌}
+use Rattle.std.specs.Prelude.{◌≡◌, ◌⊎◌, ℕ, ◌<◌, ◌≤◌, List, [], ◌∷◌, ◌++◌, length, map, filter, take, ◌==◌}
 use Rattle.std.specs.List.{flat_map, enumerate_from, AllPairs, All}
 use Rattle.lab_plan.specs.declared.verb.Verb.{Verb}
-use Rattle.lab_plan.specs.LabPlan.{LabPlan, commands, count_on, all_commands}
+use Rattle.lab_plan.specs.LabPlan.{LabPlan, sessions, commands, count_on, all_commands}
 use Rattle.instrument_log.specs.declared.entry.Entry.{Entry}
 use Rattle.legal_steps.specs.declared.event.Event.{Event}
 use Rattle.legal_steps.specs.declared.event.Event.TheVariants.{Quit}
@@ -34,6 +34,12 @@ part_of plan i own =
 abbrev pub parts_of : LabPlan → ℕ → List (ℕ × ℕ) → List Line
 parts_of plan i owners = flat_map (part_of plan i) owners
 
+-- a session (job, number) of the plan
+pub record IsSessionOf (plan : LabPlan) (own : ℕ × ℕ) : Type 0 where
+  pub job_there : own.0 < length plan.jobs
+  pub from_one : 1 ≤ own.1
+  pub session_there : own.1 ≤ length (sessions plan own.0)
+
 -- of one job, the earlier session comes first
 abbrev pub IsBefore : ℕ × ℕ → ℕ × ℕ → Type 0
 IsBefore earlier later = earlier.0 ≡ later.0 → earlier.1 < later.1
@@ -48,15 +54,16 @@ pub record IsBegun (begun all : List Line) : Type 0 where
   pub proper : length begun < length all
   pub beginning : begun ≡ take (length begun) all
 
--- a log is whole but for its end: nonempty parts of sessions one after another, the sessions of each job ascending,
+-- a log is whole but for its end: nonempty parts of the plan's sessions one after another, the sessions of each job ascending,
 -- then nothing or the beginning of one further part that keeps this order
 pub record IsWholeButEnd (plan : LabPlan) (i : ℕ) (entries : List Entry) : Type 0 where
   pub finished : List (ℕ × ℕ)
   pub unfinished : List Line
   pub joined : map line_of entries ≡ parts_of plan i finished ++ unfinished
+  pub of_plan : All (IsSessionOf plan) finished
   pub not_empty : All (λ own. 0 < length (part_of plan i own)) finished
   pub ascending : IsAscending finished
-  pub end : (unfinished ≡ []) ⊎ ((own : ℕ × ℕ) × IsBegun unfinished (part_of plan i own) × All (λ earlier. IsBefore earlier own) finished)
+  pub end : (unfinished ≡ []) ⊎ ((own : ℕ × ℕ) × IsSessionOf plan own × IsBegun unfinished (part_of plan i own) × All (λ earlier. IsBefore earlier own) finished)
 
 -- the sessions that ended by Quit in a list of events from s, in the order of their ends
 abbrev pub ended_by : State → Event → List (ℕ × ℕ)

@@ -5,6 +5,8 @@
 pub mod edge_state;
 pub mod end;
 pub mod event;
+pub mod laws;
+pub mod log_laws;
 pub mod phase;
 
 pub use edge_state::{EdgeState, EndChoice};

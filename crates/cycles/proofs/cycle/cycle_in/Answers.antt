@@ -1,4 +1,4 @@
-use Rattle.std.proofs.Common.{◌≤◌, ◌<◌, ℕ, length, get_or, sym, subst}
+use Rattle.std.proofs.Common.{◌≤◌, ◌<◌, length, get_or, sym, subst}
 use Rattle.std.specs.List.{All}
 use Rattle.cycles.specs.Cycles.{IsAmong, IsCycleOf, BeginsWithSmallest}
 use Rattle.cycles.specs.Peeling.{EachLeadsOn, NoneLeadsOn}

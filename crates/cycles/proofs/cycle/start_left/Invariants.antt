@@ -1,4 +1,4 @@
-use Rattle.std.proofs.Common.{◌≡◌, ◌<◌, ℕ}
+use Rattle.std.proofs.Common.{◌<◌, ℕ}
 use Rattle.std.specs.Prelude.{slice_index_or}
 use Rattle.cycles.specs.Peeling.{IsOut}
 use Rattle.cycles.proofs.cycle.start_left.Given as goal

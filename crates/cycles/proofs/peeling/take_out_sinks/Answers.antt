@@ -1,4 +1,4 @@
-use Rattle.std.proofs.Common.{◌≡◌, ◌∙◌, subst, false}
+use Rattle.std.proofs.Common.{◌∙◌, subst, false}
 use Rattle.std.proofs.Math.ListN.{length-set}
 use Rattle.cycles.specs.Peeling.{IsSink}
 use Rattle.cycles.proofs.Peeled.{taken_out}

@@ -1,4 +1,4 @@
-use Rattle.std.proofs.Common.{◌≡◌, ◌<◌, ℕ, length, List, [], ◌∷◌, false, sym, ◌∙◌, ap, subst, set}
+use Rattle.std.proofs.Common.{◌<◌, ℕ, length, List, [], ◌∷◌, false, sym, ◌∙◌, ap, subst, set}
 use Rattle.std.specs.Prelude.{reverse}
 use Rattle.std.proofs.lemmas.List.{reverse-append}
 use Rattle.cycles.specs.Peeling.{IsSinkLeft, EachLeadsOn}

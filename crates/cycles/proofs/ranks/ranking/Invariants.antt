@@ -1,4 +1,3 @@
-use Rattle.std.proofs.Common.{ℕ, length}
 use Rattle.std.specs.Prelude.{count_by, reverse}
 use Rattle.cycles.proofs.Ranked.{RanksOut}
 use Rattle.cycles.proofs.ranks.ranking.Given as goal

@@ -1,4 +1,4 @@
-use Rattle.std.proofs.Common.{◌≡◌, ◌<◌, ℕ, length, sym, ◌∙◌, subst, false, set}
+use Rattle.std.proofs.Common.{◌<◌, length, sym, ◌∙◌, subst, false, set}
 use Rattle.std.proofs.Math.ListN.{length-set}
 use Rattle.std.specs.List.{Contains}
 use Rattle.cycles.specs.Cycles.{IsAmong}

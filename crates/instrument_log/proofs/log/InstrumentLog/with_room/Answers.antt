@@ -1,4 +1,3 @@
-use Rattle.std.proofs.Common.{arith}
 use Rattle.instrument_log.proofs.LogLemmas.{IsKept-empty}
 use Rattle.instrument_log.proofs.log.InstrumentLog.with_room.Goals as goal
 
