@@ -1,6 +1,6 @@
 -- The ends of every edge are jobs of the plan, the lower number first.
-use Rattle.std.proofs.Common.{◌≡◌, ℕ, zero, suc, ◌+◌, ◌-◌, ◌<◌, ◌≤◌, List, [], ◌∷◌, ◌++◌, Bool, true, false, length, map, slice_index_or, cond, arith}
-use Rattle.std.specs.List.{AllByRecursion, All, flat_map, range_with_len, filter}
+use Rattle.std.proofs.Common.{ℕ, Bool, zero, suc, ◌+◌, ◌-◌, ◌<◌, ◌≤◌, List, [], ◌∷◌, ◌++◌, length, map, filter, arith}
+use Rattle.std.specs.List.{AllByRecursion, All, flat_map, range_with_len}
 use Rattle.std.proofs.lemmas.List.Elements.{All-filter, All-from_recursion}
 use Rattle.lab_plan.specs.LabPlan.{LabPlan, edges, ends, pairs}
 
@@ -19,6 +19,9 @@ row low a (suc n) jobs l b = ((l, omega arith), row low (a + 1) n jobs (omega ar
 rows : (a n jobs : ℕ) → a + n ≤ jobs → AllByRecursion (IsPair jobs) (flat_map (λ low. map (λ high. (low, high)) (range_with_len (low + 1) (jobs - (low + 1)))) (range_with_len a n))
 rows a zero jobs b = tt
 rows a (suc n) jobs b = joined (IsPair jobs) _ _ (row a (a + 1) (jobs - (a + 1)) jobs (omega arith) (omega arith)) (rows (a + 1) n jobs (omega arith))
+
+pub rows_are_pairs : (p : ℕ × ℕ → Bool) (jobs : ℕ) → All (IsPair jobs) (filter p (pairs jobs))
+rows_are_pairs p jobs = let P : ℕ × ℕ → Type 0 = IsPair jobs in All-filter p P (pairs jobs) (All-from_recursion P _ (rows 0 jobs jobs (omega arith)))
 
 pub edges_are_pairs : (plan : LabPlan) → All (IsPair (length plan.jobs)) (edges plan)
 unfolding edges

@@ -1,6 +1,6 @@
 -- Two jobs that name one instrument share an edge with its bottle.
-use Rattle.std.proofs.Common.{◌≡◌, ◌⊎◌, ℕ, zero, suc, ◌+◌, ◌-◌, ◌<◌, ◌≤◌, List, [], ◌∷◌, ◌++◌, Bool, true, false, cond, ◌||◌, ◌&&◌, nat_eq, ◌==◌, length, map, slice_index_or, arith, refl, sym, ap, ◌∙◌, subst, inl, inr}
-use Rattle.std.specs.List.{flat_map, range_with_len, filter, list_any, All}
+use Rattle.std.proofs.Common.{◌≡◌, ◌⊎◌, ℕ, zero, suc, ◌+◌, ◌-◌, ◌<◌, ◌≤◌, List, [], ◌∷◌, ◌++◌, Bool, true, false, cond, ◌||◌, ◌==◌, length, map, slice_index_or, arith, refl, sym, ap, ◌∙◌, subst, inl, inr}
+use Rattle.std.specs.List.{flat_map, range_with_len, filter, list_any}
 use Rattle.std.proofs.lemmas.Bool.{cases_eq, cases_lt, false≢true}
 use Rattle.std.proofs.lemmas.Bool.Decides.{nat_tests}
 use Rattle.lab_plan.specs.declared.verb.Verb.{Verb}
@@ -105,7 +105,7 @@ names-job plan j i h = elim (cases_lt j (length plan.jobs)) [
   | inr out ↦ absurd (false≢true (sym (ap (λ job. list_any (λ session. list_any (λ command. command.0 == i) session.commands) job.sessions) (past plan.jobs j no_job out)) ∙ h))
 ]
 
-session-instrument : (plan : LabPlan) (j s i : ℕ) → IsNamed plan → session_names plan j s i ≡ true → i < length plan.instruments
+pub session-instrument : (plan : LabPlan) (j s i : ℕ) → IsNamed plan → session_names plan j s i ≡ true → i < length plan.instruments
 session-instrument plan j s i named h =
     let d : ℕ × Verb = (i, Read) in
     let w = any_place (λ command. command.0 == i) (commands plan j s) d h in

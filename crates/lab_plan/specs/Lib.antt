@@ -5,3 +5,8 @@ pub mod IsPlan
 pub mod Building
 pub mod Texts
 pub mod Upgrade
+pub mod InstrumentSets
+pub mod NamedBy
+pub mod PairTables
+pub mod SessionTables
+pub mod Tables

@@ -83,3 +83,11 @@ impl<A: Allocator> Draft<A> {
         self.jobs[job.0 as usize].session(session).patience()
     }
 }
+
+impl<A: Allocator> Draft<A> {
+    pub(crate) fn all_jobs(&self) -> &[Job<A>]
+        ensures { result.now ≡ self.now.jobs }
+    {
+        &self.jobs
+    }
+}

@@ -71,3 +71,11 @@ impl<A: Allocator> Job<A> {
         &self.sessions[session as usize - 1]
     }
 }
+
+impl<A: Allocator> Job<A> {
+    pub(crate) fn sessions(&self) -> &[Session<A>]
+        ensures { result.now ≡ self.now.sessions }
+    {
+        &self.sessions
+    }
+}

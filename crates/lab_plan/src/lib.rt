@@ -2,15 +2,23 @@
 // the edges of the conflict graph and their bottles.
 #![tactic(auto)]
 
+mod bottles;
 mod draft;
+mod edge_table;
+mod instrument_set;
 mod job;
 pub mod name;
+mod naming;
 pub mod numbers;
+pub mod place;
 pub mod plan;
 pub mod refusal;
+mod session_table;
+mod tables;
 pub mod verb;
 
 pub use numbers::{EdgeNo, InstrumentNo, JobNo};
+pub use place::Place;
 pub use plan::Plan;
 pub use refusal::PlanRefusal;
 pub use verb::Verb;

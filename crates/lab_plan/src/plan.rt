@@ -1,22 +1,28 @@
 // A plan, kept with the tables of its edges and bottles.
-ghost use Rattle.std.specs.Prelude.{◌≡◌, ℕ, ◌<◌, ◌≤◌, length, slice_index_or, []};
+ghost use Rattle.std.specs.Prelude.{◌≡◌, ℕ, ◌-◌, ◌^◌, ◌<◌, ◌≤◌, length, slice_index, slice_index_or, slice_get, Contains, IfSome, IfNone, if◌then◌else◌, []};
+ghost use Rattle.std.specs.Int.{bit_at};
 
+use crate::bottles::Bottles;
 use crate::draft::Draft;
 use crate::numbers::{EdgeNo, InstrumentNo, JobNo};
+use crate::place::Place;
+use crate::session_table::SessionTable;
+use crate::tables::Tables;
 use crate::verb::Verb;
 use std::alloc::{Allocator, Global};
 use std::marker::Model;
 
+/// A plan: jobs with their sessions of commands on instruments, within every limit.
 #[derive(Drop)]
 pub struct Plan<A: Allocator = Global> {
     draft: Draft<A>,
-    pairs: Vec<(JobNo, JobNo), A>,
+    tables: Tables<A>,
 }
 
 impl<A: Allocator> Model for Plan<A> {
-    ghost use Rattle.std.specs.Prelude.{◌≡◌, length, ◌≤◌};
-    ghost use Rattle.lab_plan.specs.LabPlan.{LabPlan, edges};
+    ghost use Rattle.lab_plan.specs.LabPlan.{LabPlan};
     ghost use Rattle.lab_plan.specs.IsPlan.{IsPlan};
+    ghost use Rattle.lab_plan.specs.Tables.{AreTablesOf};
 
     ghost Value = { LabPlan };
 
@@ -24,21 +30,32 @@ impl<A: Allocator> Model for Plan<A> {
 
     ghost invariant = { λ p. record {
       is_plan : IsPlan p.draft;
-      few_edges : length p.pairs.items ≤ 496;
-      pairs_are : p.pairs.items ≡ edges p.draft;
+      tables_are : AreTablesOf p.draft p.tables;
     } };
 }
 
 impl<A: Allocator> Plan<A> {
-    ghost use Rattle.lab_plan.specs.LabPlan.{edges, ends, bottles, sessions, commands, patience, job_at};
+    ghost use Rattle.lab_plan.specs.LabPlan.{edges, ends, edges_of, lower_first, bottles, sessions, commands, patience, session_names, part, place_at, length_at, job_at};
     ghost use Rattle.lab_plan.specs.IsPlan.{IsPlan};
+    ghost use Rattle.lab_plan.specs.SessionTables.{IsTable};
+    ghost use Rattle.lab_plan.specs.Tables.{AreTablesOf};
 
+    pub(crate) fn new(draft: Draft<A>, tables: Tables<A>) -> Plan<A>
+        requires plan { IsPlan draft }
+        requires tables { AreTablesOf draft tables }
+        ensures { result ≡ draft }
+    {
+        Plan { draft, tables }
+    }
+
+    /// The version of the plan's script: 1, or 2 where sessions may have a patience.
     pub fn version(&self) -> u8
         ensures { result ≡ self.now.version }
     {
         self.draft.version()
     }
 
+    /// How many jobs there are, at most 32; their numbers are the ones below it.
     pub fn jobs(&self) -> usize
         ensures jobs { result ≡ length self.now.jobs }
         ensures plan { IsPlan self.now }
@@ -46,6 +63,7 @@ impl<A: Allocator> Plan<A> {
         self.draft.jobs()
     }
 
+    /// How many instruments there are; their numbers are the ones below it, in order of first naming.
     pub fn instruments(&self) -> usize
         ensures instruments { result ≡ length self.now.instruments }
         ensures few { result ≤ 56 }
@@ -53,13 +71,15 @@ impl<A: Allocator> Plan<A> {
         self.draft.instruments()
     }
 
+    /// How many edges the conflict graph has: one for each pair of jobs that name some instrument together.
     pub fn edges(&self) -> u16
         ensures edges { result ≡ length (edges self.now) }
         ensures few { result ≤ 496 }
     {
-        self.pairs.len() as u16
+        self.tables.edges().len()
     }
 
+    /// The name of a job: 1 to 16 bytes of ASCII.
     pub fn job_name(&self, job: JobNo) -> &[u8]
         requires { job < length self.now.jobs }
         ensures { result.now ≡ (job_at self.now job).name }
@@ -67,6 +87,7 @@ impl<A: Allocator> Plan<A> {
         self.draft.job_name(job)
     }
 
+    /// The name of an instrument: 1 to 16 bytes of ASCII.
     pub fn instrument_name(&self, instrument: InstrumentNo) -> &[u8]
         requires { instrument < length self.now.instruments }
         ensures { result.now ≡ slice_index_or self.now.instruments instrument [] }
@@ -74,6 +95,7 @@ impl<A: Allocator> Plan<A> {
         self.draft.instrument_name(instrument)
     }
 
+    /// The two jobs of an edge, the lower number first.
     #[tactic(auto, using(crate::proofs::Edges::ends_are_pair))]
     pub fn ends(&self, edge: EdgeNo) -> (JobNo, JobNo)
         requires { edge < length (edges self.now) }
@@ -81,9 +103,68 @@ impl<A: Allocator> Plan<A> {
         ensures ordered { result.0 < result.1 }
         ensures jobs { result.1 < length self.now.jobs }
     {
-        self.pairs[edge.0 as usize]
+        self.tables.edges().ends(edge)
     }
 
+    /// The edges of a job, ascending.
+    #[tactic(auto, using(crate::proofs::Readers::edges_at_is))]
+    pub fn edges_of(&self, job: JobNo) -> &[EdgeNo]
+        requires { job < length self.now.jobs }
+        ensures { result.now ≡ edges_of self.now job }
+    {
+        self.tables.edges().edges_of(job)
+    }
+
+    /// The edge of two jobs, in either order; `None` where they have nothing in common, and for a job and itself.
+    pub fn edge_of(&self, a: JobNo, b: JobNo) -> Option<EdgeNo>
+        requires a { a < length self.now.jobs }
+        requires b { b < length self.now.jobs }
+        ensures found { IfSome result (λ e. slice_get (edges self.now) e ≡ Some (lower_first a b)) }
+        ensures none { IfNone result (¬ Contains (edges self.now) (lower_first a b)) }
+    {
+        self.tables.edges().edge_of(a, b)
+    }
+
+    #[tactic(auto, using(crate::proofs::Readers::bottles_at, crate::proofs::Readers::bottle_lists))]
+    fn bottles_at(&self, edge: EdgeNo) -> &Bottles<A>
+        requires { edge < length (edges self.now) }
+        ensures bottles { result.now ≡ bottles self.now edge }
+        ensures plan { IsPlan self.now }
+    {
+        self.tables.bottles(edge)
+    }
+
+    /// How many bottles an edge has: one of each instrument that both its jobs name.
+    #[tactic(auto, using(crate::proofs::Readers::some_bottles, crate::proofs::Readers::few_bottles))]
+    pub fn bottles(&self, edge: EdgeNo) -> u32
+        requires { edge < length (edges self.now) }
+        ensures bottles { result ≡ length (bottles self.now edge) }
+        ensures some { 1 ≤ result }
+        ensures few { result ≤ 28 }
+    {
+        self.bottles_at(edge).len() as u32
+    }
+
+    /// The bottle of an instrument on an edge, where both its jobs name it.
+    #[tactic(auto, using(crate::proofs::Readers::few_bottles))]
+    pub fn bottle_of(&self, edge: EdgeNo, instrument: InstrumentNo) -> Option<u32>
+        requires { edge < length (edges self.now) }
+        ensures found { IfSome result (λ k. slice_get (bottles self.now edge) k ≡ Some instrument) }
+        ensures none { IfNone result (¬ Contains (bottles self.now edge) instrument) }
+    {
+        self.bottles_at(edge).place_of(instrument)
+    }
+
+    /// The instrument that a bottle of an edge is of; bottles are counted from 0.
+    pub fn instrument_of(&self, edge: EdgeNo, bottle: u32) -> InstrumentNo
+        requires is_edge { edge < length (edges self.now) }
+        requires is_bottle { bottle < length (bottles self.now edge) }
+        ensures { result ≡ slice_index (bottles self.now edge) bottle }
+    {
+        self.bottles_at(edge).at(bottle)
+    }
+
+    /// How many sessions a job has; they are counted from 1.
     pub fn sessions(&self, job: JobNo) -> u32
         requires { job < length self.now.jobs }
         ensures sessions { result ≡ length (sessions self.now job) }
@@ -92,6 +173,7 @@ impl<A: Allocator> Plan<A> {
         self.draft.sessions(job) as u32
     }
 
+    /// The commands of a session, in order.
     pub fn commands(&self, job: JobNo, session: u32) -> &[(InstrumentNo, Verb)]
         requires is_job { job < length self.now.jobs }
         requires begun { 1 ≤ session }
@@ -101,6 +183,7 @@ impl<A: Allocator> Plan<A> {
         self.draft.commands(job, session)
     }
 
+    /// How many of its own turns a session may stay thirsty, where it has a patience.
     pub fn patience(&self, job: JobNo, session: u32) -> Option<u32>
         requires is_job { job < length self.now.jobs }
         requires begun { 1 ≤ session }
@@ -108,5 +191,58 @@ impl<A: Allocator> Plan<A> {
         ensures { result ≡ patience self.now job session }
     {
         self.draft.patience(job, session)
+    }
+
+    #[tactic(auto, using(crate::proofs::Readers::table_of, crate::proofs::Readers::job_tables_of, crate::proofs::Readers::session_tables_of))]
+    fn table(&self, job: JobNo, session: u32) -> &SessionTable<A>
+        requires is_job { job < length self.now.jobs }
+        requires begun { 1 ≤ session }
+        requires is_session { session ≤ length (sessions self.now job) }
+        ensures table { IsTable (commands self.now job session) result.now }
+        ensures plan { IsPlan self.now }
+    {
+        self.tables.session(job, session)
+    }
+
+    /// The instruments that a session names, as a set: bit i stands for instrument i.
+    #[tactic(auto, using(crate::proofs::Readers::needs_bit, crate::proofs::Readers::needs_below))]
+    pub fn needs(&self, job: JobNo, session: u32) -> u64
+        requires is_job { job < length self.now.jobs }
+        requires begun { 1 ≤ session }
+        requires is_session { session ≤ length (sessions self.now job) }
+        ensures needs { (i : ℕ) → bit_at result i ≡ (if session_names self.now job session i then 1 else 0) }
+        ensures few { result < 2 ^ length self.now.instruments }
+    {
+        self.table(job, session).needs().bits()
+    }
+
+    /// How many of a session's commands are on an instrument.
+    #[tactic(auto, using(crate::proofs::Readers::part_is, crate::proofs::Readers::few_instruments))]
+    pub fn part(&self, job: JobNo, session: u32, instrument: InstrumentNo) -> u32
+        requires is_job { job < length self.now.jobs }
+        requires begun { 1 ≤ session }
+        requires is_session { session ≤ length (sessions self.now job) }
+        requires is_instrument { instrument < length self.now.instruments }
+        ensures { result ≡ part self.now job session instrument }
+    {
+        self.table(job, session).part(instrument)
+    }
+
+    /// The place of a session's command, by its position counted from 0, within the session's part on its instrument.
+    #[tactic(auto, using(crate::proofs::Readers::place_is, crate::proofs::Readers::numbered))]
+    pub fn place(&self, job: JobNo, session: u32, position: u32) -> Place
+        requires is_job { job < length self.now.jobs }
+        requires begun { 1 ≤ session }
+        requires is_session { session ≤ length (sessions self.now job) }
+        requires is_position { position < length (commands self.now job session) }
+        ensures place { result.place ≡ place_at self.now job session position }
+        ensures length { result.length ≡ length_at self.now job session position }
+    {
+        let (instrument, _) = self.commands(job, session)[position as usize];
+        let table = self.table(job, session);
+        Place {
+            place: table.place(position),
+            length: table.part(instrument),
+        }
     }
 }

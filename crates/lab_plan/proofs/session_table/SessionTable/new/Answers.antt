@@ -1,0 +1,27 @@
+use Rattle.std.proofs.Common.{◌≡◌, ℕ, ◌+◌, ◌<◌, arith, sym, refl, ap, subst, length, length-set, slice_index_or, ◌∙◌}
+use Rattle.std.proofs.lemmas.List.{get_or_read, length_push}
+use Rattle.lab_plan.specs.declared.verb.Verb.{Verb}
+use Rattle.lab_plan.specs.declared.verb.Verb.TheVariants.{Read}
+use Rattle.lab_plan.proofs.Parts.{zeros, parts_more, places_more, ArePlaces}
+use Rattle.lab_plan.proofs.session_table.SessionTable.new.Goals as goal
+
+pub loop-instrument-init : goal.loop-instrument-init
+loop-instrument-init g c = record { parts = λ i below. zeros 56 i; numbered = refl; placed = ap length c.new-places.ensures.items; places = λ m h. absurd (omega (arith, h)) }
+
+pub loop-instrument-preserved : goal.loop-instrument-preserved
+loop-instrument-preserved g c =
+    let k = c.loop-instrument.instrument-index in
+    let commands = c.args.commands.now in
+    let n = c.instrument.inside.0 in
+    let read = sym (get_or_read commands k c.loop-instrument-item.result c.loop-instrument-test.true c.loop-instrument-item.is (0, Read)) in
+    let is : (slice_index_or commands k (0, Read)).0 ≡ n = ap (λ (command : ℕ × Verb). command.0) read ∙ sym c.instrument.view_is in
+    let number = c.requires.numbered k (0, Read) c.loop-instrument-test.true in
+    let below : n < 56 = omega (arith, number, is) in
+    let new : ℕ = slice_index_or c.loop-instrument.parts n 0 + 1 in
+    let pushed = c.in_ok-push.ensures.items in
+    record {
+      parts = parts_more commands c.loop-instrument.parts k n new c.loop-instrument-test.true is below c.loop-instrument.invariant.numbered c.loop-instrument.invariant.parts refl;
+      numbered = length-set c.loop-instrument.parts n new ∙ c.loop-instrument.invariant.numbered;
+      placed = ap length pushed ∙ length_push c.loop-instrument.places.items new ∙ ap (λ (m : ℕ). m + 1) c.loop-instrument.invariant.placed;
+      places = subst (ArePlaces commands (k + 1)) (sym pushed) (places_more commands c.loop-instrument.parts c.loop-instrument.places.items k n new is below c.loop-instrument.invariant.parts refl c.loop-instrument.invariant.placed c.loop-instrument.invariant.places);
+    }

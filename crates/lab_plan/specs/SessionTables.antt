@@ -1,0 +1,45 @@
+-- What is kept of each session, so that its readers count nothing again.
+use Rattle.std.specs.Prelude.{◌≡◌, ℕ, ◌+◌, ◌<◌, ◌==◌, List, [], take, length, slice_index_or}
+use Rattle.std.specs.List.{list_any}
+use Rattle.lab_plan.specs.declared.verb.Verb.{Verb}
+use Rattle.lab_plan.specs.declared.verb.Verb.TheVariants.{Read}
+use Rattle.lab_plan.specs.LabPlan.{SessionPlan, JobPlan, no_job, no_session, count_on}
+use Rattle.lab_plan.specs.InstrumentSets.{holds}
+
+-- what is kept of a session: the set of what it names, how many commands it has on each instrument,
+-- and for each command its place among those on its instrument, counted from 1
+pub record SessionTable : Type 0 where
+  pub needs : ℕ
+  pub parts : List ℕ
+  pub places : List ℕ
+
+abbrev pub no_table : SessionTable
+no_table = record { needs = 0; parts = []; places = [] }
+
+-- the place of the command at a position among those on its instrument
+abbrev pub place_in : List (ℕ × Verb) → ℕ → ℕ
+place_in commands k = count_on (slice_index_or commands k (0, Read)).0 (take k commands) + 1
+
+pub record IsTable (commands : List (ℕ × Verb)) (table : SessionTable) : Type 0 where
+  pub needs : (i : ℕ) → holds table.needs i ≡ list_any (λ command. command.0 == i) commands
+  pub parts : (i : ℕ) → i < 56 → slice_index_or table.parts i 0 ≡ count_on i commands
+  pub numbered : length table.parts ≡ 56
+  pub placed : length table.places ≡ length commands
+  pub places : (k : ℕ) → k < length commands → slice_index_or table.places k 0 ≡ place_in commands k
+
+-- two lists are of one length, and what stands at one place is related
+abbrev pub Related : {X Y : Type 0} → (X → Y → Type 0) → X → Y → List X → List Y → Type 0
+Related R no_x no_y xs ys = (length ys ≡ length xs) × ((k : ℕ) → k < length xs → R (slice_index_or xs k no_x) (slice_index_or ys k no_y))
+
+-- the tables of a job's sessions, and of all jobs
+abbrev pub IsSessionTable : SessionPlan → SessionTable → Type 0
+IsSessionTable session table = IsTable session.commands table
+
+abbrev pub AreTables : List SessionPlan → List SessionTable → Type 0
+AreTables sessions tables = Related IsSessionTable no_session no_table sessions tables
+
+abbrev pub IsJobTable : JobPlan → List SessionTable → Type 0
+IsJobTable job tables = AreTables job.sessions tables
+
+abbrev pub AreJobTables : List JobPlan → List (List SessionTable) → Type 0
+AreJobTables jobs tables = Related IsJobTable no_job [] jobs tables

@@ -1,0 +1,72 @@
+// The tables of a plan, made from its draft in one go.
+ghost use Rattle.std.specs.Prelude.{◌≡◌, ℕ, ◌-◌, ◌<◌, ◌≤◌, [], length, slice_index_or, IfOk};
+ghost use Rattle.lab_plan.specs.IsPlan.{IsDraft};
+ghost use Rattle.lab_plan.specs.SessionTables.{no_table};
+ghost use Rattle.lab_plan.specs.Tables.{AreTablesOf};
+
+use crate::bottles::{Bottles, bottles_of_all};
+use crate::draft::Draft;
+use crate::edge_table::EdgeTable;
+use crate::naming::Naming;
+use crate::numbers::{EdgeNo, JobNo};
+use crate::session_table::{JobTable, SessionTable, job_tables};
+use std::alloc::{AllocError, Allocator, Global};
+use std::marker::Model;
+
+#[derive(Drop)]
+pub(crate) struct Tables<A: Allocator = Global> {
+    edges: EdgeTable<A>,
+    bottles: Vec<Bottles<A>, A>,
+    jobs: Vec<JobTable<A>, A>,
+}
+
+impl<A: Allocator> Model for Tables<A> {
+    ghost use Rattle.lab_plan.specs.Tables.{PlanTables};
+
+    ghost Value = { PlanTables };
+
+    ghost view = { λ t. record { pairs = t.edges; bottle_lists = t.bottles.items; job_tables = t.jobs.items } };
+}
+
+impl<A: Allocator> Tables<A> {
+    #[tactic(auto, using(crate::proofs::Small::small))]
+    pub(crate) fn new(alloc: A, draft: &Draft<A>) -> Result<Tables<A>, AllocError>
+    where
+        A: Copy,
+        requires { IsDraft draft.now }
+        ensures { IfOk result (λ tables. AreTablesOf draft.now tables) }
+    {
+        let naming = Naming::new(draft);
+        let edges = EdgeTable::new(alloc, &naming)?;
+        let bottles = bottles_of_all(alloc, &naming, edges.pairs())?;
+        let jobs = job_tables(alloc, draft.all_jobs())?;
+        Ok(Tables {
+            edges,
+            bottles,
+            jobs,
+        })
+    }
+
+    pub(crate) fn edges(&self) -> &EdgeTable<A>
+        ensures { result.now ≡ self.now.pairs }
+    {
+        &self.edges
+    }
+
+    pub(crate) fn bottles(&self, edge: EdgeNo) -> &Bottles<A>
+        requires { edge < length self.now.bottle_lists }
+        ensures { result.now ≡ slice_index_or self.now.bottle_lists edge [] }
+    {
+        &self.bottles[edge.0 as usize]
+    }
+
+    /// The table of a session, counted from 1.
+    pub(crate) fn session(&self, job: JobNo, session: u32) -> &SessionTable<A>
+        requires is_job { job < length self.now.job_tables }
+        requires begun { 1 ≤ session }
+        requires is_session { session ≤ length (slice_index_or self.now.job_tables job []) }
+        ensures { result.now ≡ slice_index_or (slice_index_or self.now.job_tables job []) (session - 1) no_table }
+    {
+        self.jobs[job.0 as usize].session(session)
+    }
+}
