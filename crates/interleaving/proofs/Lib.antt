@@ -3,3 +3,4 @@ pub mod OwnEdges
 pub mod BottleLemmas
 pub mod FewCommands
 pub mod LogLemmas
+pub mod NeedsLemmas

@@ -10,7 +10,6 @@ ghost use Rattle.legal_steps.specs.Legal.{IsJob, May, after, next_command, next_
 ghost use Rattle.interleaving.specs.Rooms.{log_with_room};
 ghost use Rattle.interleaving.specs.Step.{TakesNext};
 
-use crate::plan_reading::place_of;
 use crate::tables::Tables;
 use instrument_log::{Entry, turned};
 use lab_plan::{InstrumentNo, JobNo};
@@ -44,7 +43,7 @@ impl<'a, A: Allocator> Tables<'a, A> {
         let phase = self.phase(job);
         let instrument = self.next_instrument(job);
         let (_, verb) = self.plan().commands(job, phase.session)[phase.position as usize];
-        let place = place_of(self.plan(), job, phase.session, phase.position);
+        let place = self.plan().place(job, phase.session, phase.position);
         Entry {
             job,
             session: phase.session,

@@ -8,7 +8,6 @@ mod counts;
 mod dining;
 mod drinking;
 mod needs;
-mod plan_reading;
 mod seat;
 mod seeing;
 mod stepping;

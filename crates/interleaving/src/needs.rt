@@ -1,12 +1,11 @@
 // What a job needs: marks on its edges, and bottles.
 ghost use Rattle.std.specs.Prelude.{◌≡◌, ℕ, ◌<◌, ◌≤◌, ◌↔◌, IsTrue, length};
 ghost use Rattle.std.specs.List.{All, Contains};
-ghost use Rattle.lab_plan.specs.LabPlan.{edges, edges_of, bottles};
+ghost use Rattle.lab_plan.specs.LabPlan.{edges, edges_of, bottles, sessions, session_names};
 ghost use Rattle.legal_steps.specs.State.{IsOwn, IsInSession, IsDrinking, Has, phase as phase_at};
 ghost use Rattle.legal_steps.specs.Legal.{IsJob, IsMarkedAll, HasNeeded, HasNeededAt, Needs, instrument_of};
 
 use crate::bottles::has;
-use crate::plan_reading::{bottles_of, edges_of, instrument_of, names};
 use crate::tables::Tables;
 use lab_plan::{EdgeNo, InstrumentNo, JobNo};
 use legal_steps::Drinking;
@@ -17,7 +16,7 @@ impl<'a, A: Allocator> Tables<'a, A> {
         requires { IsJob self.now.plan job }
         ensures { result.now ≡ edges_of self.now.plan job }
     {
-        edges_of(self.plan(), job)
+        self.plan().edges_of(job)
     }
 
     // Whether the job has a fork mark on every own edge.
@@ -39,10 +38,24 @@ impl<'a, A: Allocator> Tables<'a, A> {
         ensures len { result ≡ length (bottles self.now.plan edge) }
         ensures few { result ≤ 28 }
     {
-        bottles_of(self.plan(), edge)
+        self.plan().bottles(edge)
+    }
+
+    // Whether the session names the instrument.
+    #[tactic(auto, using(crate::proofs::NeedsLemmas::tested_bit))]
+    fn names(&self, job: JobNo, session: u32, instrument: InstrumentNo) -> bool
+        requires is_job { IsJob self.now.plan job }
+        requires begun { 1 ≤ session }
+        requires is_session { session ≤ length (sessions self.now.plan job) }
+        requires is_instrument { instrument < length self.now.plan.instruments }
+        ensures { result ≡ session_names self.now.plan job session instrument }
+    {
+        let _ = self.plan().instruments();
+        self.plan().needs(job, session) >> instrument.0 & 1 == 1
     }
 
     // Whether the job needs the bottle of the edge: it is in a session that names its instrument.
+    #[tactic(auto, using(crate::proofs::NeedsLemmas::instrument_below))]
     pub(crate) fn needs_bottle(&self, job: JobNo, edge: EdgeNo, bottle: u32) -> bool
         requires is_job { IsJob self.now.plan job }
         requires is_edge { edge < length (edges self.now.plan) }
@@ -50,8 +63,8 @@ impl<'a, A: Allocator> Tables<'a, A> {
         ensures { IsTrue result ↔ Needs self.now.plan self.now.state job (instrument_of self.now.plan edge bottle) }
     {
         let phase = self.phase(job);
-        is_in_session(phase.drinking)
-            && names(self.plan(), job, phase.session, instrument_of(self.plan(), edge, bottle))
+        let instrument = self.plan().instrument_of(edge, bottle);
+        is_in_session(phase.drinking) && self.names(job, phase.session, instrument)
     }
 
     // Whether each needed bottle of the edge is marked.
