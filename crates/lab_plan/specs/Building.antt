@@ -1,11 +1,12 @@
 -- Building a plan, one line at a time.
-use Rattle.std.specs.Prelude.{◌≡◌, ℕ, ◌-◌, Bool, ◌&&◌, ◌||◌, not, nat_le, nat_lt, ◌==◌, List, [], ◌∷◌, ◌++◌, length, Option, None, Some, Result, Ok, Err, slice_index_or, if◌then◌else◌}
+use Rattle.std.specs.Prelude.{◌≡◌, ◌⊎◌, ℕ, ◌+◌, ◌-◌, ◌<◌, ◌≤◌, Bool, true, false, ◌&&◌, ◌||◌, not, nat_le, nat_lt, ◌==◌, List, [], ◌∷◌, ◌++◌, length, Option, None, Some, Result, Ok, Err, slice_index_or, if◌then◌else◌}
 use Rattle.std.specs.List.{list_any, position_or_len}
+use Rattle.std.specs.Option.{MatchOption}
 use Rattle.std.specs.Str.{bytes_eq}
 use Rattle.lab_plan.specs.declared.verb.Verb.{Verb}
 use Rattle.lab_plan.specs.declared.refusal.PlanRefusal.{PlanRefusal}
 use Rattle.lab_plan.specs.declared.refusal.PlanRefusal.TheVariants.{LimitPassed, SessionEmpty, JobTwice, TooManyInCommon, NoMemory}
-use Rattle.lab_plan.specs.LabPlan.{SessionPlan, JobPlan, LabPlan, no_session, no_job, edges, common, all_commands}
+use Rattle.lab_plan.specs.LabPlan.{SessionPlan, JobPlan, LabPlan, no_session, no_job, sessions, commands, edges, common, all_commands}
 
 -- ---- what each call adds
 
@@ -37,6 +38,10 @@ instrument_number name plan = position_or_len (bytes_eq name) plan.instruments
 abbrev pub is_instrument : List ℕ → LabPlan → Bool
 is_instrument name plan = list_any (bytes_eq name) plan.instruments
 
+-- the place of a name among the instruments, or that it has none
+abbrev pub IsPlace : List ℕ → LabPlan → Option ℕ → Type 0
+IsPlace name plan place = MatchOption place ((is_instrument name plan ≡ false) × (instrument_number name plan ≡ length plan.instruments)) (λ i. (is_instrument name plan ≡ true) × (i ≡ instrument_number name plan) × (i < length plan.instruments))
+
 -- one more command of the last session of the last job
 abbrev pub and_command : ℕ → Verb → SessionPlan → SessionPlan
 and_command i verb session = record session { commands = session.commands ++ (i, verb) ∷ [] }
@@ -65,6 +70,10 @@ has_session plan = nat_lt 0 (length (last_job plan).sessions)
 -- the last session has no command yet
 abbrev pub is_bare : LabPlan → Bool
 is_bare plan = has_session plan && (length (last_session plan).commands == 0)
+
+-- every session has a command, but for the last session of the last job
+abbrev pub AreClosed : LabPlan → Type 0
+AreClosed plan = (j s : ℕ) → 1 ≤ s → s ≤ length (sessions plan j) → (0 < length (commands plan j s)) ⊎ ((j + 1 ≡ length plan.jobs) × (s ≡ length (sessions plan j)))
 
 abbrev pub is_job : List ℕ → LabPlan → Bool
 is_job name plan = list_any (λ job. bytes_eq name job.name) plan.jobs
@@ -95,3 +104,13 @@ abbrev pub Does : Option PlanRefusal → LabPlan → LabPlan → Result (Unit {0
 Does refusal wanted old (Ok _) new = (refusal ≡ None) × (new ≡ wanted)
 Does refusal wanted old (Err NoMemory) new = (refusal ≡ None) × (new ≡ old)
 Does refusal wanted old (Err cause) new = (refusal ≡ Some cause) × (new ≡ old)
+
+-- a cause as the refusals have it, which leave want of memory out
+abbrev pub but_memory : PlanRefusal → Option PlanRefusal
+but_memory NoMemory = None
+but_memory cause = Some cause
+
+-- what finishing answers: the plan, or the cause and the builder as it was; want of memory comes last
+abbrev pub Finishes : Option PlanRefusal → LabPlan → Result LabPlan (PlanRefusal × LabPlan) → Type 0
+Finishes refusal plan (Ok made) = (refusal ≡ None) × (made ≡ plan)
+Finishes refusal plan (Err refused) = (refusal ≡ but_memory refused.0) × (refused.1 ≡ plan)

@@ -1,11 +1,13 @@
 // What a builder builds and a plan keeps: the jobs and the names of the instruments.
-ghost use Rattle.std.specs.Prelude.{◌≡◌, ℕ, ◌<◌, ◌≤◌, length, slice_index_or, []};
+ghost use Rattle.std.specs.Prelude.{◌≡◌, ℕ, ◌-◌, ◌<◌, ◌≤◌, length, take, slice_index_or, [], ◌∷◌, ◌++◌, is_ok, if◌then◌else◌, IfNone, true};
+ghost use Rattle.std.specs.List.{position};
+ghost use Rattle.std.specs.Str.{bytes_eq};
 
 use crate::job::Job;
 use crate::name::Name;
 use crate::numbers::{InstrumentNo, JobNo};
 use crate::verb::Verb;
-use std::alloc::{Allocator, Global};
+use std::alloc::{AllocError, Allocator, Global};
 use std::marker::Model;
 
 #[derive(Drop)]
@@ -25,6 +27,134 @@ impl<A: Allocator> Model for Draft<A> {
 
 impl<A: Allocator> Draft<A> {
     ghost use Rattle.lab_plan.specs.LabPlan.{sessions, commands, patience, job_at};
+    ghost use Rattle.lab_plan.specs.Building.{is_job, is_bare, has_session, last_job, with_job, with_session, with_command, on_last, in_last_session, IsPlace};
+
+    pub(crate) fn new(alloc: A, version: u8) -> Draft<A>
+    where
+        A: Copy,
+        ensures { result ≡ record { version = version; jobs = []; instruments = [] } }
+    {
+        Draft {
+            version,
+            jobs: Vec::new(alloc),
+            instruments: Vec::new(alloc),
+        }
+    }
+
+    pub(crate) fn is_job(&self, name: &[u8]) -> bool
+        ensures { result ≡ is_job name.now self.now }
+    {
+        self.jobs.iter().any(|job| job.is(name))
+    }
+
+    fn position(&self, name: &[u8]) -> Option<usize>
+        ensures { result ≡ position (bytes_eq name.now) self.now.instruments }
+    {
+        self.instruments.iter().position(|other| other.is(name))
+    }
+
+    /// The number of an instrument that the draft has.
+    #[tactic(auto, using(crate::proofs::Grown::placed))]
+    pub(crate) fn place(&self, name: &[u8]) -> Option<usize>
+        ensures { IsPlace name.now self.now result }
+    {
+        self.position(name)
+    }
+
+    pub(crate) fn has_session(&self) -> bool
+        ensures { result ≡ has_session self.now }
+    {
+        !self.jobs.is_empty() && self.jobs[self.jobs.len() - 1].len() > 0
+    }
+
+    pub(crate) fn is_bare(&self) -> bool
+        ensures { result ≡ is_bare self.now }
+    {
+        !self.jobs.is_empty() && self.jobs[self.jobs.len() - 1].is_bare()
+    }
+
+    pub(crate) fn last_sessions(&self) -> usize
+        requires { 0 < length self.now.jobs }
+        ensures { result ≡ length (last_job self.now).sessions }
+    {
+        self.jobs[self.jobs.len() - 1].len()
+    }
+
+    pub(crate) fn add_job(&mut self, alloc: A, name: &[u8]) -> Result<(), AllocError>
+    where
+        A: Copy,
+        ensures { self.new ≡ (if is_ok result then with_job name.now self.old else self.old) }
+    {
+        let name = Name::new(alloc, name)?;
+        self.jobs.push(Job::new(alloc, name))?;
+        Ok(())
+    }
+
+    pub(crate) fn begin(&mut self, alloc: A, patience: Option<u32>) -> Result<(), AllocError>
+        requires { 0 < length self.old.jobs }
+        ensures { self.new ≡ (if is_ok result then with_session patience self.old else self.old) }
+    {
+        let last = self.jobs.len() - 1;
+        let job = &mut self.jobs[last];
+        job.begin(alloc, patience)
+    }
+
+    pub(crate) fn add_instrument(&mut self, alloc: A, name: &[u8]) -> Result<(), AllocError>
+        ensures { self.new ≡ (if is_ok result then record self.old { instruments = self.old.instruments ++ name.now ∷ [] } else self.old) }
+    {
+        self.instruments.push(Name::new(alloc, name)?)?;
+        Ok(())
+    }
+
+    pub(crate) fn drop_instrument(&mut self)
+        ensures { self.new ≡ record self.old { instruments = take (length self.old.instruments - 1) self.old.instruments } }
+    {
+        let _ = self.instruments.pop();
+    }
+
+    pub(crate) fn push(&mut self, instrument: InstrumentNo, verb: Verb) -> Result<(), AllocError>
+        requires { has_session self.old ≡ true }
+        ensures { self.new ≡ (if is_ok result then record self.old { jobs = on_last (in_last_session instrument verb) self.old.jobs } else self.old) }
+    {
+        let last = self.jobs.len() - 1;
+        let job = &mut self.jobs[last];
+        job.push(instrument, verb)
+    }
+
+    /// A command on the instrument at a place, or on the next one where it has none.
+    pub(crate) fn push_at(
+        &mut self,
+        alloc: A,
+        place: Option<usize>,
+        name: &[u8],
+        verb: Verb,
+    ) -> Result<(), AllocError>
+        requires session { has_session self.old ≡ true }
+        requires place { IsPlace name.now self.old place }
+        requires few { IfNone place (length self.old.instruments < 56) }
+        requires most { length self.old.instruments ≤ 56 }
+        ensures { self.new ≡ (if is_ok result then with_command name.now verb self.old else self.old) }
+    {
+        match place {
+            Some(place) => self.push(InstrumentNo(place as u8), verb),
+            None => self.push_new(alloc, name, verb),
+        }
+    }
+
+    /// A command on an instrument that is new, whose name comes with it.
+    fn push_new(&mut self, alloc: A, name: &[u8], verb: Verb) -> Result<(), AllocError>
+        requires session { has_session self.old ≡ true }
+        requires few { length self.old.instruments < 56 }
+        ensures { self.new ≡ (if is_ok result then record self.old { jobs = on_last (in_last_session (length self.old.instruments) verb) self.old.jobs; instruments = self.old.instruments ++ name.now ∷ [] } else self.old) }
+    {
+        let number = self.instruments() as u8;
+        self.add_instrument(alloc, name)?;
+        let pushed = self.push(InstrumentNo(number), verb);
+        if pushed.is_err() {
+            self.drop_instrument();
+        }
+        pushed
+    }
 
     pub(crate) fn version(&self) -> u8
         ensures { result ≡ self.now.version }

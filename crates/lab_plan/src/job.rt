@@ -1,11 +1,13 @@
 // Jobs and their sessions.
-ghost use Rattle.std.specs.Prelude.{◌≡◌, ℕ, ◌-◌, ◌≤◌, ◌<◌, [], length, slice_index_or};
+ghost use Rattle.std.specs.Prelude.{◌≡◌, ℕ, ◌-◌, ◌≤◌, ◌<◌, ◌&&◌, ◌==◌, nat_lt, [], ◌∷◌, ◌++◌, length, slice_index_or, is_ok, if◌then◌else◌};
+ghost use Rattle.std.specs.Str.{bytes_eq};
 ghost use Rattle.lab_plan.specs.LabPlan.{no_session};
+ghost use Rattle.lab_plan.specs.Building.{and_command, in_last_session, and_session};
 
 use crate::name::Name;
 use crate::numbers::InstrumentNo;
 use crate::verb::Verb;
-use std::alloc::{Allocator, Global};
+use std::alloc::{AllocError, Allocator, Global};
 use std::marker::Model;
 
 #[derive(Drop)]
@@ -23,6 +25,28 @@ impl<A: Allocator> Model for Session<A> {
 }
 
 impl<A: Allocator> Session<A> {
+    fn new(alloc: A, patience: Option<u32>) -> Session<A>
+        ensures { result ≡ record { patience = patience; commands = [] } }
+    {
+        Session {
+            patience,
+            commands: Vec::new(alloc),
+        }
+    }
+
+    fn push(&mut self, instrument: InstrumentNo, verb: Verb) -> Result<(), AllocError>
+        ensures { self.new ≡ (if is_ok result then and_command instrument verb self.old else self.old) }
+    {
+        self.commands.push((instrument, verb))?;
+        Ok(())
+    }
+
+    fn is_empty(&self) -> bool
+        ensures { result ≡ (length self.now.commands == 0) }
+    {
+        self.commands.is_empty()
+    }
+
     pub(crate) fn commands(&self) -> &[(InstrumentNo, Verb)]
         ensures { result.now ≡ self.now.commands }
     {
@@ -51,6 +75,44 @@ impl<A: Allocator> Model for Job<A> {
 }
 
 impl<A: Allocator> Job<A> {
+    pub(crate) fn new(alloc: A, name: Name<A>) -> Job<A>
+        ensures { result ≡ record { name = name; sessions = [] } }
+    {
+        Job {
+            name,
+            sessions: Vec::new(alloc),
+        }
+    }
+
+    pub(crate) fn is(&self, name: &[u8]) -> bool
+        ensures { result ≡ bytes_eq name.now self.now.name }
+    {
+        self.name.is(name)
+    }
+
+    /// Whether the last session has no command yet.
+    pub(crate) fn is_bare(&self) -> bool
+        ensures { result ≡ nat_lt 0 (length self.now.sessions) && (length (slice_index_or self.now.sessions (length self.now.sessions - 1) no_session).commands == 0) }
+    {
+        !self.sessions.is_empty() && self.sessions[self.sessions.len() - 1].is_empty()
+    }
+
+    pub(crate) fn begin(&mut self, alloc: A, patience: Option<u32>) -> Result<(), AllocError>
+        ensures { self.new ≡ (if is_ok result then and_session patience self.old else self.old) }
+    {
+        self.sessions.push(Session::new(alloc, patience))?;
+        Ok(())
+    }
+
+    pub(crate) fn push(&mut self, instrument: InstrumentNo, verb: Verb) -> Result<(), AllocError>
+        requires { 0 < length self.old.sessions }
+        ensures { self.new ≡ (if is_ok result then in_last_session instrument verb self.old else self.old) }
+    {
+        let last = self.sessions.len() - 1;
+        let session = &mut self.sessions[last];
+        session.push(instrument, verb)
+    }
+
     pub(crate) fn name(&self) -> &Name<A>
         ensures { result.now ≡ self.now.name }
     {

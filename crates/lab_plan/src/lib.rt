@@ -3,6 +3,7 @@
 #![tactic(auto)]
 
 mod bottles;
+pub mod builder;
 mod draft;
 mod edge_table;
 mod instrument_set;
@@ -15,8 +16,11 @@ pub mod plan;
 pub mod refusal;
 mod session_table;
 mod tables;
+#[cfg(test)]
+mod tests;
 pub mod verb;
 
+pub use builder::PlanBuilder;
 pub use numbers::{EdgeNo, InstrumentNo, JobNo};
 pub use place::Place;
 pub use plan::Plan;

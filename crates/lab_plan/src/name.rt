@@ -1,6 +1,8 @@
 // Names of jobs and instruments.
 ghost use Rattle.std.specs.Prelude.{◌≡◌, IfOk};
+ghost use Rattle.std.specs.List.{list_all};
 ghost use Rattle.std.specs.Str.{bytes_eq};
+ghost use Rattle.lab_plan.specs.Names.{is_letter, is_digit, is_name_byte, is_reserved, is_name};
 
 use std::alloc::{AllocError, Allocator, Global};
 use std::marker::Model;
@@ -39,4 +41,58 @@ impl<A: Allocator> Name<A> {
     {
         &self.bytes
     }
+}
+
+fn is_letter(byte: u8) -> bool
+    ensures { result ≡ is_letter byte }
+{
+    b'a' <= byte && byte <= b'z'
+}
+
+fn is_digit(byte: u8) -> bool
+    ensures { result ≡ is_digit byte }
+{
+    b'0' <= byte && byte <= b'9'
+}
+
+fn is_name_byte(byte: u8) -> bool
+    ensures { result ≡ is_name_byte byte }
+{
+    is_letter(byte) || is_digit(byte) || byte == b'-'
+}
+
+fn are_name_bytes(bytes: &[u8]) -> bool
+    ensures { result ≡ list_all is_name_byte bytes.now }
+{
+    bytes.iter().all(|byte| is_name_byte(*byte))
+}
+
+#[tactic(auto, unfolding(crate::specs::Names::is_reserved))]
+fn is_reserved(bytes: &[u8]) -> bool
+    ensures { result ≡ is_reserved bytes.now }
+{
+    bytes == b"lab".as_slice()
+        || bytes == b"job".as_slice()
+        || bytes == b"session".as_slice()
+        || bytes == b"end".as_slice()
+        || bytes == b"steps".as_slice()
+        || bytes == b"patience".as_slice()
+}
+
+/// Whether the bytes may name a job or an instrument: 1 to 16 bytes, a lowercase letter, then
+/// lowercase letters, digits and `-`, and none of the six words that begin the other lines of a
+/// script (`lab`, `job`, `session`, `end`, `steps`, `patience`).
+pub fn is_name(bytes: &[u8]) -> bool
+    ensures { result ≡ is_name bytes.now }
+{
+    if bytes.is_empty() || bytes.len() > 16 {
+        return false;
+    }
+    if !is_letter(bytes[0]) {
+        return false;
+    }
+    if !are_name_bytes(bytes) {
+        return false;
+    }
+    !is_reserved(bytes)
 }
