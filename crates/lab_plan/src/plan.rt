@@ -1,5 +1,5 @@
 // A plan, kept with the tables of its edges and bottles.
-ghost use Rattle.std.specs.Prelude.{◌≡◌, ℕ, ◌-◌, ◌^◌, ◌<◌, ◌≤◌, length, slice_index, slice_index_or, slice_get, Contains, IfSome, IfNone, if◌then◌else◌, []};
+ghost use Rattle.std.specs.Prelude.{◌≡◌, ℕ, ◌-◌, ◌^◌, ◌<◌, ◌≤◌, length, slice_index, slice_index_or, slice_get, All, Contains, IfSome, IfNone, if◌then◌else◌, []};
 ghost use Rattle.std.specs.Int.{bit_at};
 
 use crate::bottles::Bottles;
@@ -37,6 +37,7 @@ impl<A: Allocator> Model for Plan<A> {
 impl<A: Allocator> Plan<A> {
     ghost use Rattle.lab_plan.specs.LabPlan.{edges, ends, edges_of, lower_first, bottles, sessions, commands, patience, session_names, part, place_at, length_at, job_at};
     ghost use Rattle.lab_plan.specs.IsPlan.{IsPlan};
+    ghost use Rattle.lab_plan.specs.Names.{IsName};
     ghost use Rattle.lab_plan.specs.SessionTables.{IsTable};
     ghost use Rattle.lab_plan.specs.Tables.{AreTablesOf};
 
@@ -82,7 +83,9 @@ impl<A: Allocator> Plan<A> {
     /// The name of a job: 1 to 16 bytes of ASCII.
     pub fn job_name(&self, job: JobNo) -> &[u8]
         requires { job < length self.now.jobs }
-        ensures { result.now ≡ (job_at self.now job).name }
+        ensures value { result.now ≡ (job_at self.now job).name }
+        ensures name { IsName result.now }
+        ensures short { length result.now ≤ 16 }
     {
         self.draft.job_name(job)
     }
@@ -90,7 +93,9 @@ impl<A: Allocator> Plan<A> {
     /// The name of an instrument: 1 to 16 bytes of ASCII.
     pub fn instrument_name(&self, instrument: InstrumentNo) -> &[u8]
         requires { instrument < length self.now.instruments }
-        ensures { result.now ≡ slice_index_or self.now.instruments instrument [] }
+        ensures value { result.now ≡ slice_index_or self.now.instruments instrument [] }
+        ensures name { IsName result.now }
+        ensures short { length result.now ≤ 16 }
     {
         self.draft.instrument_name(instrument)
     }
@@ -178,7 +183,8 @@ impl<A: Allocator> Plan<A> {
         requires is_job { job < length self.now.jobs }
         requires begun { 1 ≤ session }
         requires is_session { session ≤ length (sessions self.now job) }
-        ensures { result.now ≡ commands self.now job session }
+        ensures commands { result.now ≡ commands self.now job session }
+        ensures named { All (λ command. command.0 < length self.now.instruments) result.now }
     {
         self.draft.commands(job, session)
     }

@@ -1,0 +1,5 @@
+pub mod Phases
+pub mod Rooms
+pub mod Step
+pub mod Counting
+pub mod World
