@@ -17,7 +17,7 @@ past (y ∷ ys) zero d h = absurd (omega (arith, h))
 past (y ∷ ys) (suc k) d h = past ys k d (omega (arith, h))
 
 
-abbrev of_job : JobPlan → List (ℕ × Verb)
+abbrev pub of_job : JobPlan → List (ℕ × Verb)
 of_job job = flat_map (λ (session : SessionPlan). session.commands) job.sessions
 
 of_nothing : (session : SessionPlan) (n : ℕ) → session ≡ no_session → length session.commands ≤ n
@@ -32,7 +32,7 @@ in_job plan j s = elim (cases_lt (s - 1) (length (sessions plan j))) [
 of_no_job : (job : JobPlan) (n : ℕ) → job ≡ no_job → length (of_job job) ≤ n
 of_no_job job n is = let none : length (of_job job) ≡ 0 = ap (λ (x : JobPlan). length (of_job x)) is in omega arith
 
-in_plan : (plan : LabPlan) (j : ℕ) → length (of_job (job_at plan j)) ≤ length (all_commands plan)
+pub in_plan : (plan : LabPlan) (j : ℕ) → length (of_job (job_at plan j)) ≤ length (all_commands plan)
 in_plan plan j = elim (cases_lt j (length plan.jobs)) [
     inl here ↦ part_of_all (λ (job : JobPlan). of_job job) plan.jobs j no_job here
   | inr out ↦ of_no_job (job_at plan j) _ (past plan.jobs j no_job out)

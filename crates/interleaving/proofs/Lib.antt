@@ -4,3 +4,8 @@ pub mod BottleLemmas
 pub mod FewCommands
 pub mod LogLemmas
 pub mod NeedsLemmas
+pub mod CountLemmas
+pub mod WorldLemmas
+pub mod RoomLemmas
+pub mod OpeningTables
+pub mod StepsLemmas

@@ -3,3 +3,4 @@ pub mod Rooms
 pub mod Step
 pub mod Counting
 pub mod World
+pub mod Start

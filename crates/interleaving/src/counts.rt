@@ -1,5 +1,5 @@
 // What each job has done so far.
-ghost use Rattle.std.specs.Prelude.{◌≡◌, ℕ, ◌<◌, length};
+ghost use Rattle.std.specs.Prelude.{◌≡◌, ◌<◌, length, replicate, IfOk};
 ghost use Rattle.interleaving.specs.Counting.{count_at, counted, CanCount, no_counts};
 
 use lab_plan::JobNo;
@@ -30,6 +30,21 @@ impl<A: Allocator> Model for Tally<A> {
 }
 
 impl<A: Allocator> Tally<A> {
+    // No counts yet, of so many jobs.
+    pub(crate) fn new(alloc: A, jobs: usize) -> Result<Tally<A>, AllocError>
+        ensures { IfOk result (λ tally. tally ≡ replicate jobs no_counts) }
+    {
+        let mut counts = Vec::new(alloc);
+        for _job in 0..jobs {
+            counts.push(Counts {
+                meals: 0,
+                sessions_done: 0,
+                withdrawn: 0,
+            })?;
+        }
+        Ok(Tally { counts })
+    }
+
     pub(crate) fn at(&self, job: JobNo) -> Counts
         requires { job < length self.now }
         ensures { result ≡ count_at self.now job }

@@ -6,6 +6,10 @@ mod bottle_moves;
 mod bottles;
 mod counts;
 mod dining;
+mod opening;
+mod precedence;
+mod refusal;
+mod rooms;
 mod drinking;
 mod needs;
 mod seat;
@@ -15,6 +19,7 @@ mod tables;
 mod world;
 
 pub use counts::Counts;
+pub use refusal::StartRefusal;
 pub use legal_steps::{
     Dining, Drinking, EdgeState, End, EndChoice, Event, JobState, NotLegal, Step, StepLine,
 };

@@ -1,9 +1,10 @@
 // One job's seat: how far it is and its marks, by edge number.
-ghost use Rattle.std.specs.Prelude.{◌≡◌, ◌<◌, length, slice_index_or, false, true};
+ghost use Rattle.std.specs.Prelude.{◌≡◌, ◌<◌, length, slice_index_or, false, replicate, IfOk};
+ghost use Rattle.legal_steps.specs.State.{idle_phase};
 ghost use Rattle.legal_steps.specs.Legal.{with_fork_mark, with_bottle_marks, turned_to};
 
-use legal_steps::{Dining, JobState};
-use std::alloc::{Allocator, Global};
+use legal_steps::{Dining, Drinking, JobState};
+use std::alloc::{AllocError, Allocator, Global};
 use std::marker::Model;
 
 #[derive(Drop)]
@@ -19,6 +20,25 @@ impl<A: Allocator> Model for JobSeat<A> {
     ghost Value = { Seat };
 
     ghost view = { λ r. record { phase = r.phase; fork_marks = r.fork_marks.items; bottle_marks = r.bottle_marks.items } };
+}
+
+impl<A: Allocator + Copy> JobSeat<A> {
+    // The seat of a job before its first event, with marks for so many edges.
+    pub(crate) fn idle(alloc: A, edges: usize) -> Result<JobSeat<A>, AllocError>
+        ensures { IfOk result (λ seat. seat ≡ record { phase = idle_phase; fork_marks = replicate edges false; bottle_marks = replicate edges 0 }) }
+    {
+        let phase = JobState {
+            dining: Dining::Thinking,
+            drinking: Drinking::Tranquil,
+            session: 0,
+            position: 0,
+        };
+        Ok(JobSeat {
+            phase,
+            fork_marks: vec![in alloc; false; edges]?,
+            bottle_marks: vec![in alloc; 0; edges]?,
+        })
+    }
 }
 
 impl<A: Allocator> JobSeat<A> {

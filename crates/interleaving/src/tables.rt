@@ -1,9 +1,10 @@
 // The tables of a world: a plan and a state of its bench that fits it. Every write keeps that.
-ghost use Rattle.std.specs.Prelude.{◌≡◌, ℕ, ◌<◌, ◌≤◌, ◌↔◌, IsTrue, length};
+ghost use Rattle.std.specs.Prelude.{◌≡◌, ℕ, ◌<◌, ◌≤◌, ◌↔◌, IsTrue, length, IfOk};
 ghost use Rattle.lab_plan.specs.LabPlan.{edges};
 ghost use Rattle.legal_steps.specs.State.{IsOwn, IsOfEdge, end_of, edge as edge_at, phase as phase_at, seat, fork_mark as fork_mark_at, bottle_marks as bottle_marks_at, log as log_at};
 ghost use Rattle.legal_steps.specs.Legal.{IsJob, with_edge, with_seat, with_phase, with_fork_mark, with_bottle_marks, turned_to, with_entry};
 ghost use Rattle.legal_steps.specs.Fitting.{Fits};
+ghost use Rattle.legal_steps.specs.Opening.{AreChoices, opening_of};
 ghost use Rattle.lab_plan.specs.IsPlan.{IsPlan};
 ghost use Rattle.interleaving.specs.Phases.{IsPhaseOf};
 ghost use Rattle.interleaving.specs.Rooms.{log_with_room};
@@ -11,11 +12,13 @@ ghost use Rattle.instrument_log.specs.Dial.{turned, dial};
 ghost use Rattle.instrument_log.specs.Entries.{IsWithinLimits};
 ghost use Rattle.instrument_log.specs.InstrumentLog.{MayAppend};
 
+use crate::opening::{chosen_edges, idle_seats};
+use crate::rooms::empty_logs;
 use crate::seat::JobSeat;
 use instrument_log::{Entry, InstrumentLog};
 use lab_plan::{EdgeNo, InstrumentNo, JobNo, Plan};
-use legal_steps::{Dining, EdgeState, End, JobState};
-use std::alloc::{Allocator, Global};
+use legal_steps::{Dining, EdgeState, End, EndChoice, JobState};
+use std::alloc::{AllocError, Allocator, Global};
 use std::marker::Model;
 
 #[derive(Drop)]
@@ -46,6 +49,25 @@ impl<'a, A: Allocator> Model for Tables<'a, A> {
         fits : Fits w.plan.now (record { edges = w.edges.items; seats = w.seats.items; logs = map (λ (l : LogView). l.entries) w.logs.items });
         rooms : HasRooms w.plan.now w.logs.items;
     } };
+}
+
+impl<'a, A: Allocator + Copy> Tables<'a, A> {
+    // The tables of the opening state that the choices give.
+    pub(crate) fn opened(
+        alloc: A,
+        plan: &'a Plan<A>,
+        choices: &[EndChoice],
+    ) -> Result<Tables<'a, A>, AllocError>
+        requires { AreChoices plan.now choices.now }
+        ensures { IfOk result (λ tables. tables ≡ record { plan = plan.now; state = opening_of plan.now choices.now }) }
+    {
+        Ok(Tables {
+            plan,
+            edges: chosen_edges(alloc, plan, choices)?,
+            seats: idle_seats(alloc, plan.jobs(), plan.edges() as usize)?,
+            logs: empty_logs(alloc, plan)?,
+        })
+    }
 }
 
 impl<'a, A: Allocator> Tables<'a, A> {
