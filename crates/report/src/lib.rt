@@ -10,8 +10,11 @@ mod showing;
 mod shown;
 mod sink;
 mod tally;
+mod world;
 
 pub use offering::{WriteFault, offer};
 pub use script::write_script;
 pub use sink::{Failed, Sink, ToWrite};
 pub use tally::Tally;
+pub use world::write_world;
+
