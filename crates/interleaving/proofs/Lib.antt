@@ -1,0 +1,11 @@
+pub mod FitLemmas
+pub mod OwnEdges
+pub mod BottleLemmas
+pub mod FewCommands
+pub mod LogLemmas
+pub mod NeedsLemmas
+pub mod CountLemmas
+pub mod WorldLemmas
+pub mod RoomLemmas
+pub mod OpeningTables
+pub mod StepsLemmas

@@ -1,0 +1,75 @@
+-- A world stays reached by a step, and what follows from that.
+use Rattle.std.proofs.Common.{◌≡◌, ℕ, ◌+◌, ◌<◌, ◌≤◌, List, [], ◌∷◌, ◌++◌, length, take, slice_index_or, arith, refl, sym, ap, ◌∙◌, subst}
+use Rattle.std.proofs.lemmas.List.{take_more}
+use Rattle.lab_plan.specs.LabPlan.{LabPlan}
+use Rattle.legal_steps.specs.declared.event.Event.{Event}
+use Rattle.legal_steps.specs.declared.event.Event.TheVariants.{Act, Sit, Quit, Withdraw}
+use Rattle.legal_steps.specs.State.{State}
+use Rattle.legal_steps.specs.Legal.{May, IsLegal}
+use Rattle.legal_steps.specs.Run.{Runs, after_all, meals_of, sessions_done_of, withdrawn_of}
+use Rattle.legal_steps.specs.Reached.{IsReached}
+use Rattle.legal_steps.proofs.RunLemmas.{runs_push, runs_more}
+use Rattle.legal_steps.proofs.AppendLaw.{act_appends, next_within_limits}
+use Rattle.legal_steps.proofs.MealLaw.{meals_few}
+use Rattle.legal_steps.proofs.CountLaw.{done_few}
+use Rattle.interleaving.specs.declared.counts.Counts.{Counts}
+use Rattle.interleaving.specs.Step.{TakesEntry}
+use Rattle.interleaving.specs.Counting.{count_at, GoOnBy, CanCount, HasFewCounts}
+use Rattle.interleaving.specs.World.{WorldView, IsReachedWith, LeadsTo}
+use Rattle.interleaving.proofs.CountLemmas.{goes_on_none, goes_on_push, counts_push}
+
+pub is_reached : (plan : LabPlan) (s : State) (counts : List Counts) → IsReachedWith plan s counts → IsReached plan s
+is_reached plan s counts h = record { is_plan = h.is_plan; opening = h.opening; is_opening = h.is_opening; acyclic = h.acyclic; events = h.events; run = h.run }
+
+-- in a reached state the log of a legal Act takes its entry
+pub takes_entry : (plan : LabPlan) (s : State) (event : Event) → IsReached plan s → TakesEntry plan s event
+takes_entry plan s (Act j) reached = λ may. record {
+  may_append = act_appends plan s j reached may.0 may.1;
+  within_limits = next_within_limits plan s j reached may.0 may.1;
+}
+takes_entry plan s event reached = tt
+
+few_counts : (plan : LabPlan) (s : State) (counts : List Counts) (j : ℕ) → IsReachedWith plan s counts → j < length plan.jobs → HasFewCounts j counts
+few_counts plan s counts j h job =
+    let is = h.counted.counted j job in
+    let done = done_few plan h.opening h.events j h.is_plan h.is_opening h.run.legal in
+    record {
+      is_job = omega (arith, job, h.counted.one_each);
+      few_meals = omega (arith, ap (λ (x : Counts). x.meals) is, meals_few plan h.opening h.events j h.is_plan h.is_opening h.run.legal);
+      few_sessions = omega (arith, ap (λ (x : Counts). x.sessions_done) is, done);
+      few_withdrawn = omega (arith, ap (λ (x : Counts). x.withdrawn) is, done);
+    }
+
+-- a legal event can be counted
+pub can_count : (plan : LabPlan) (s : State) (counts : List Counts) (event : Event) → IsReachedWith plan s counts → May plan s event → CanCount event counts
+can_count plan s counts (Sit j) h may = few_counts plan s counts j h may.0
+can_count plan s counts (Quit j) h may = few_counts plan s counts j h may.0
+can_count plan s counts (Withdraw j) h may = few_counts plan s counts j h may.0
+can_count plan s counts event h may = tt
+
+-- the world after a legal event
+pub reached_with : (plan : LabPlan) (s s' : State) (counts counts' : List Counts) (event : Event) → IsReachedWith plan s counts → IsLegal plan s event s' → GoOnBy counts (event ∷ []) counts' → IsReachedWith plan s' counts'
+reached_with plan s s' counts counts' event h step more = record {
+  is_plan = h.is_plan;
+  opening = h.opening;
+  is_opening = h.is_opening;
+  acyclic = h.acyclic;
+  events = h.events ++ event ∷ [];
+  run = runs_push plan h.opening s s' h.events event h.run step;
+  counted = counts_push plan h.events event counts counts' h.counted more;
+}
+
+-- ---- replays
+
+pub leads_none : (w : WorldView) → LeadsTo w [] w
+leads_none w = record { run = record { legal = tt; leads = refl }; counted = goes_on_none w.counts; same_plan = refl }
+
+pub leads_more : (w mid new : WorldView) (events : List Event) (n : ℕ) (event : Event) → n < length events → event ≡ slice_index_or events n event → LeadsTo w (take n events) mid
+    → IsLegal mid.plan mid.state event new.state → GoOnBy mid.counts (event ∷ []) new.counts → new.plan ≡ mid.plan → LeadsTo w (take (n + 1) events) new
+leads_more w mid new events n event inside is led step more same =
+    let longer : take (n + 1) events ≡ take n events ++ event ∷ [] = subst (λ x. take (n + 1) events ≡ take n events ++ x ∷ []) (sym is) (take_more events n event inside) in
+    record {
+      run = runs_more w.plan w.state mid.state new.state events n event inside is led.run (subst (λ plan. IsLegal plan mid.state event new.state) led.same_plan step);
+      counted = subst (λ xs. GoOnBy w.counts xs new.counts) (sym longer) (goes_on_push w.counts mid.counts new.counts (take n events) event led.counted more);
+      same_plan = same ∙ led.same_plan;
+    }

@@ -1,0 +1,21 @@
+use Rattle.std.proofs.Common.{[], ◌∷◌, sym, subst}
+use Rattle.interleaving.specs.Counting.{GoOnBy}
+use Rattle.interleaving.specs.World.{IsReachedWith}
+use Rattle.interleaving.proofs.WorldLemmas.{is_reached, takes_entry, can_count, reached_with}
+use Rattle.interleaving.proofs.CountLemmas.{goes_on}
+use Rattle.interleaving.proofs.world.World.step.Goals as goal
+
+pub step-requires : goal.step-requires
+step-requires g c = takes_entry _ _ c.args.event (is_reached _ _ _ c.self.invariant)
+
+pub count-requires : goal.count-requires
+count-requires g c = can_count _ _ _ c.args.event c.self.invariant c.in_ok-step.ensures.0.may
+
+pub invariant_of-self-2 : goal.invariant_of-self-2
+invariant_of-self-2 g c =
+    let old = c.self.inside.tables in
+    let counts = c.self.inside.tally in
+    let legal = c.in_ok-step.ensures.0 in
+    let counted : GoOnBy counts (c.args.event ∷ []) c.count.new.self = subst (GoOnBy counts (c.args.event ∷ [])) (sym c.count.ensures) (goes_on c.args.event counts (can_count _ _ _ c.args.event c.self.invariant legal.may)) in
+    subst (λ plan. IsReachedWith plan c.step.new.self.state c.count.new.self) (sym c.in_ok-step.ensures.1)
+      (reached_with old.plan old.state c.step.new.self.state counts c.count.new.self c.args.event c.self.invariant legal counted)

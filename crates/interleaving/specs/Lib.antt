@@ -1,0 +1,6 @@
+pub mod Phases
+pub mod Rooms
+pub mod Step
+pub mod Counting
+pub mod World
+pub mod Start

@@ -1,0 +1,45 @@
+-- Worlds: a plan, a state of its bench that is reached from an opening, and what each job has done since.
+use Rattle.std.specs.Prelude.{◌≡◌, ℕ, List, [], ◌∷◌, length, take, Result, Ok, Err}
+use Rattle.lab_plan.specs.LabPlan.{LabPlan}
+use Rattle.lab_plan.specs.IsPlan.{IsPlan}
+use Rattle.legal_steps.specs.declared.event.Event.{Event}
+use Rattle.legal_steps.specs.declared.event.NotLegal.{NotLegal}
+use Rattle.legal_steps.specs.State.{State}
+use Rattle.legal_steps.specs.Legal.{May, IsLegal}
+use Rattle.legal_steps.specs.Run.{Runs, StopsAt}
+use Rattle.legal_steps.specs.Opening.{IsOpening}
+use Rattle.legal_steps.specs.Precedence.{IsAcyclic}
+use Rattle.interleaving.specs.declared.counts.Counts.{Counts}
+use Rattle.interleaving.specs.Counting.{GoOnBy, AreCountsOf}
+
+-- what contracts see of a world
+pub record WorldView : Type 0 where
+  pub plan : LabPlan
+  pub state : State
+  pub counts : List Counts
+
+-- a legal list of events leads from an acyclic opening state to this one, and the counts are its counts
+pub record IsReachedWith (plan : LabPlan) (s : State) (counts : List Counts) : Type 0 where
+  pub is_plan : IsPlan plan
+  pub opening : State
+  pub is_opening : IsOpening plan opening
+  pub acyclic : IsAcyclic plan opening
+  pub events : List Event
+  pub run : Runs plan opening events s
+  pub counted : AreCountsOf plan events counts
+
+-- from one world to the next by a legal list of events
+pub record LeadsTo (old : WorldView) (events : List Event) (new : WorldView) : Type 0 where
+  pub run : Runs old.plan old.state events new.state
+  pub counted : GoOnBy old.counts events new.counts
+  pub same_plan : new.plan ≡ old.plan
+
+-- an event: Ok where it is legal, and it is done; else nothing changes
+abbrev pub Steps : WorldView → Event → Result (Unit {0}) NotLegal → WorldView → Type 0
+Steps old event (Ok done) new = IsLegal old.plan old.state event new.state × GoOnBy old.counts (event ∷ []) new.counts × (new.plan ≡ old.plan)
+Steps old event (Err refused) new = (¬ May old.plan old.state event) × (new ≡ old)
+
+-- a list of events: Ok with their number where all are legal; else the place of the first that isn't, with those before it done
+abbrev pub Replays : WorldView → List Event → Result ℕ (ℕ × NotLegal) → WorldView → Type 0
+Replays old events (Ok count) new = (count ≡ length events) × LeadsTo old events new
+Replays old events (Err stop) new = StopsAt old.plan old.state events stop.0 new.state × LeadsTo old (take stop.0 events) new

@@ -1,0 +1,75 @@
+// Commands that are done: entries at the ends of logs.
+ghost use Rattle.std.specs.Prelude.{◌≡◌, ℕ, ◌<◌, ◌≤◌, ◌↔◌, IsTrue, length};
+ghost use Rattle.instrument_log.specs.Dial.{turned, dial};
+ghost use Rattle.instrument_log.specs.Entries.{IsWithinLimits};
+ghost use Rattle.instrument_log.specs.InstrumentLog.{MayAppend};
+ghost use Rattle.legal_steps.specs.declared.event.Event.TheVariants.{Act};
+ghost use Rattle.legal_steps.specs.declared.phase.Drinking.TheVariants.{Reaching};
+ghost use Rattle.legal_steps.specs.State.{drinking, log as log_at};
+ghost use Rattle.legal_steps.specs.Legal.{IsJob, May, after, next_command, next_entry, with_entry};
+ghost use Rattle.interleaving.specs.Rooms.{log_with_room};
+ghost use Rattle.interleaving.specs.Step.{TakesNext};
+
+use crate::tables::Tables;
+use instrument_log::{Entry, turned};
+use lab_plan::{InstrumentNo, JobNo};
+use legal_steps::{Drinking, JobState};
+use std::alloc::Allocator;
+
+impl<'a, A: Allocator> Tables<'a, A> {
+    pub(crate) fn may_act(&self, job: JobNo) -> bool
+        ensures { IsTrue result ↔ May self.now.plan self.now.state (Act job) }
+    {
+        self.is_job(job) && self.phase(job).drinking == Drinking::Reaching
+    }
+
+    // The instrument of the next command of a reaching job.
+    pub(crate) fn next_instrument(&self, job: JobNo) -> InstrumentNo
+        requires { May self.now.plan self.now.state (Act job) }
+        ensures instrument { result ≡ (next_command self.now.plan self.now.state job).0 }
+        ensures there { result < length self.now.plan.instruments }
+    {
+        let phase = self.phase(job);
+        let commands = self.plan().commands(job, phase.session);
+        commands[phase.position as usize].0
+    }
+
+    // The entry of the next command of a reaching job.
+    #[tactic(auto, unfolding(legal_steps::specs::Legal::next_entry))]
+    pub(crate) fn next_entry(&self, job: JobNo) -> Entry
+        requires { May self.now.plan self.now.state (Act job) }
+        ensures { result ≡ next_entry self.now.plan self.now.state job }
+    {
+        let phase = self.phase(job);
+        let instrument = self.next_instrument(job);
+        let (_, verb) = self.plan().commands(job, phase.session)[phase.position as usize];
+        let place = self.plan().place(job, phase.session, phase.position);
+        Entry {
+            job,
+            session: phase.session,
+            place: place.place,
+            length: place.length,
+            verb,
+            value: turned(verb, self.log(instrument).value()),
+        }
+    }
+
+    #[tactic(auto, unfolding(legal_steps::specs::Legal::next_entry))]
+    pub(crate) fn act(&mut self, job: JobNo)
+        requires may { May self.old.plan self.old.state (Act job) }
+        requires takes { TakesNext self.old.plan self.old.state job }
+        ensures state { self.new.state ≡ after self.old.plan self.old.state (Act job) }
+        ensures plan { self.new.plan ≡ self.old.plan }
+    {
+        let phase = self.phase(job);
+        let entry = self.next_entry(job);
+        let instrument = self.next_instrument(job);
+        self.push_entry(instrument, entry);
+        let done = JobState {
+            drinking: Drinking::Drinking,
+            position: phase.position + 1,
+            ..phase
+        };
+        self.set_phase(job, done);
+    }
+}

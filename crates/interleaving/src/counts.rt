@@ -1,0 +1,67 @@
+// What each job has done so far.
+ghost use Rattle.std.specs.Prelude.{◌≡◌, ◌<◌, length, replicate, IfOk};
+ghost use Rattle.interleaving.specs.Counting.{count_at, counted, CanCount, no_counts};
+
+use lab_plan::JobNo;
+use legal_steps::Event;
+use std::alloc::{AllocError, Allocator, Global};
+use std::marker::Model;
+
+/// What a job has done so far: its meals, the sessions that it ended, and those that it gave up.
+#[derive(Clone, Copy, PartialEq, Eq, Debug)]
+pub struct Counts {
+    pub meals: u32,
+    pub sessions_done: u32,
+    pub withdrawn: u32,
+}
+
+#[derive(Drop)]
+pub(crate) struct Tally<A: Allocator = Global> {
+    counts: Vec<Counts, A>,
+}
+
+impl<A: Allocator> Model for Tally<A> {
+    ghost use Rattle.std.specs.Prelude.{List};
+    ghost use Rattle.interleaving.specs.declared.counts.Counts.{Counts};
+
+    ghost Value = { List Counts };
+
+    ghost view = { λ t. t.counts.items };
+}
+
+impl<A: Allocator> Tally<A> {
+    // No counts yet, of so many jobs.
+    pub(crate) fn new(alloc: A, jobs: usize) -> Result<Tally<A>, AllocError>
+        ensures { IfOk result (λ tally. tally ≡ replicate jobs no_counts) }
+    {
+        let mut counts = Vec::new(alloc);
+        for _job in 0..jobs {
+            counts.push(Counts {
+                meals: 0,
+                sessions_done: 0,
+                withdrawn: 0,
+            })?;
+        }
+        Ok(Tally { counts })
+    }
+
+    pub(crate) fn at(&self, job: JobNo) -> Counts
+        requires { job < length self.now }
+        ensures { result ≡ count_at self.now job }
+    {
+        self.counts[job.0 as usize]
+    }
+
+    // Counts an event of one of the jobs.
+    pub(crate) fn count(&mut self, event: &Event)
+        requires { CanCount event.now self.old }
+        ensures { self.new ≡ counted event.now self.old }
+    {
+        match *event {
+            Event::Sit(job) => self.counts[job.0 as usize].meals += 1,
+            Event::Quit(job) => self.counts[job.0 as usize].sessions_done += 1,
+            Event::Withdraw(job) => self.counts[job.0 as usize].withdrawn += 1,
+            _ => (),
+        }
+    }
+}

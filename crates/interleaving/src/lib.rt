@@ -1,0 +1,26 @@
+// The core: a world, a state of a plan's bench that steps by one legal event at a time.
+#![tactic(auto)]
+
+mod acting;
+mod bottle_moves;
+mod bottles;
+mod counts;
+mod dining;
+mod opening;
+mod precedence;
+mod refusal;
+mod rooms;
+mod drinking;
+mod needs;
+mod seat;
+mod seeing;
+mod stepping;
+mod tables;
+mod world;
+
+pub use counts::Counts;
+pub use refusal::StartRefusal;
+pub use legal_steps::{
+    Dining, Drinking, EdgeState, End, EndChoice, Event, JobState, NotLegal, Step, StepLine,
+};
+pub use world::World;

@@ -1,0 +1,243 @@
+// The tables of a world: a plan and a state of its bench that fits it. Every write keeps that.
+ghost use Rattle.std.specs.Prelude.{◌≡◌, ℕ, ◌<◌, ◌≤◌, ◌↔◌, IsTrue, length, IfOk};
+ghost use Rattle.lab_plan.specs.LabPlan.{edges};
+ghost use Rattle.legal_steps.specs.State.{IsOwn, IsOfEdge, end_of, edge as edge_at, phase as phase_at, seat, fork_mark as fork_mark_at, bottle_marks as bottle_marks_at, log as log_at};
+ghost use Rattle.legal_steps.specs.Legal.{IsJob, with_edge, with_seat, with_phase, with_fork_mark, with_bottle_marks, turned_to, with_entry};
+ghost use Rattle.legal_steps.specs.Fitting.{Fits};
+ghost use Rattle.legal_steps.specs.Opening.{AreChoices, opening_of};
+ghost use Rattle.lab_plan.specs.IsPlan.{IsPlan};
+ghost use Rattle.interleaving.specs.Phases.{IsPhaseOf};
+ghost use Rattle.interleaving.specs.Rooms.{log_with_room};
+ghost use Rattle.instrument_log.specs.Dial.{turned, dial};
+ghost use Rattle.instrument_log.specs.Entries.{IsWithinLimits};
+ghost use Rattle.instrument_log.specs.InstrumentLog.{MayAppend};
+
+use crate::opening::{chosen_edges, idle_seats};
+use crate::rooms::empty_logs;
+use crate::seat::JobSeat;
+use instrument_log::{Entry, InstrumentLog};
+use lab_plan::{EdgeNo, InstrumentNo, JobNo, Plan};
+use legal_steps::{Dining, EdgeState, End, EndChoice, JobState};
+use std::alloc::{AllocError, Allocator, Global};
+use std::marker::Model;
+
+#[derive(Drop)]
+pub(crate) struct Tables<'a, A: Allocator = Global> {
+    plan: &'a Plan<A>,
+    edges: Vec<EdgeState, A>,
+    seats: Vec<JobSeat<A>, A>,
+    logs: Vec<InstrumentLog<A>, A>,
+}
+
+impl<'a, A: Allocator> Model for Tables<'a, A> {
+    ghost use Rattle.std.specs.Prelude.{◌≡◌, ℕ, ◌<◌, map, length};
+    ghost use Rattle.instrument_log.specs.InstrumentLog.{LogView};
+    ghost use Rattle.legal_steps.specs.State.{Setting};
+    ghost use Rattle.legal_steps.specs.Fitting.{Fits};
+    ghost use Rattle.lab_plan.specs.IsPlan.{IsPlan};
+    ghost use Rattle.interleaving.specs.Rooms.{HasRooms};
+
+    ghost Value = { Setting };
+
+    ghost view = { λ w. record {
+        plan = w.plan.now;
+        state = record { edges = w.edges.items; seats = w.seats.items; logs = map (λ (l : LogView). l.entries) w.logs.items }
+    } };
+
+    ghost invariant = { λ w. record {
+        is_plan : IsPlan w.plan.now;
+        fits : Fits w.plan.now (record { edges = w.edges.items; seats = w.seats.items; logs = map (λ (l : LogView). l.entries) w.logs.items });
+        rooms : HasRooms w.plan.now w.logs.items;
+    } };
+}
+
+impl<'a, A: Allocator + Copy> Tables<'a, A> {
+    // The tables of the opening state that the choices give.
+    pub(crate) fn opened(
+        alloc: A,
+        plan: &'a Plan<A>,
+        choices: &[EndChoice],
+    ) -> Result<Tables<'a, A>, AllocError>
+        requires { AreChoices plan.now choices.now }
+        ensures { IfOk result (λ tables. tables ≡ record { plan = plan.now; state = opening_of plan.now choices.now }) }
+    {
+        Ok(Tables {
+            plan,
+            edges: chosen_edges(alloc, plan, choices)?,
+            seats: idle_seats(alloc, plan.jobs(), plan.edges() as usize)?,
+            logs: empty_logs(alloc, plan)?,
+        })
+    }
+}
+
+impl<'a, A: Allocator> Tables<'a, A> {
+    pub(crate) fn plan(&self) -> &'a Plan<A>
+        ensures plan { result.now ≡ self.now.plan }
+        ensures fits { Fits self.now.plan self.now.state }
+        ensures is_plan { IsPlan self.now.plan }
+    {
+        self.plan
+    }
+
+    pub(crate) fn is_job(&self, job: JobNo) -> bool
+        ensures { IsTrue result ↔ IsJob self.now.plan job }
+    {
+        (job.0 as usize) < self.seats.len()
+    }
+
+    // Whether the edge is one of the job's.
+    pub(crate) fn owns(&self, job: JobNo, edge: EdgeNo) -> bool
+        ensures owns { IsTrue result ↔ IsOwn self.now.plan job edge }
+        ensures is_job { IsOwn self.now.plan job edge → IsJob self.now.plan job }
+    {
+        if edge.0 >= self.plan.edges() {
+            return false;
+        }
+        let (lower, higher) = self.plan.ends(edge);
+        lower == job || higher == job
+    }
+
+    // The job's own end of the edge.
+    pub(crate) fn own_end(&self, job: JobNo, edge: EdgeNo) -> End
+        requires { IsOwn self.now.plan job edge }
+        ensures end { result ≡ end_of self.now.plan job edge }
+        ensures is_job { IsJob self.now.plan job }
+    {
+        let (lower, _) = self.plan.ends(edge);
+        if lower == job { End::Lower } else { End::Higher }
+    }
+
+    pub(crate) fn edge(&self, edge: EdgeNo) -> EdgeState
+        requires { edge < length (edges self.now.plan) }
+        ensures edge { result ≡ edge_at self.now.state edge }
+        ensures bottles { IsOfEdge self.now.plan edge result.bottles }
+        ensures tokens { IsOfEdge self.now.plan edge result.bottle_tokens }
+    {
+        self.edges[edge.0 as usize]
+    }
+
+    #[tactic(auto, using(crate::proofs::FewCommands::few_commands))]
+    pub(crate) fn phase(&self, job: JobNo) -> JobState
+        requires { IsJob self.now.plan job }
+        ensures phase { result ≡ phase_at self.now.state job }
+        ensures fits { IsPhaseOf self.now.plan job result }
+        ensures few { result.position ≤ 100000 }
+    {
+        self.seats[job.0 as usize].phase()
+    }
+}
+
+impl<'a, A: Allocator> Tables<'a, A> {
+    #[tactic(auto, using(crate::proofs::FitLemmas::fits_with_edge))]
+    pub(crate) fn set_edge(&mut self, edge: EdgeNo, state: EdgeState)
+        requires is_edge { edge < length (edges self.old.plan) }
+        requires bottles { IsOfEdge self.old.plan edge state.bottles }
+        requires tokens { IsOfEdge self.old.plan edge state.bottle_tokens }
+        ensures state { self.new.state ≡ with_edge self.old.state edge state }
+        ensures plan { self.new.plan ≡ self.old.plan }
+    {
+        self.edges[edge.0 as usize] = state;
+    }
+
+    #[tactic(auto, using(crate::proofs::FitLemmas::fits_with_seat, crate::proofs::FitLemmas::seat_with_phase))]
+    pub(crate) fn set_phase(&mut self, job: JobNo, phase: JobState)
+        requires is_job { IsJob self.old.plan job }
+        requires fits { IsPhaseOf self.old.plan job phase }
+        ensures state { self.new.state ≡ with_phase self.old.state job phase }
+        ensures plan { self.new.plan ≡ self.old.plan }
+    {
+        let seat = &mut self.seats[job.0 as usize];
+        seat.set_phase(phase);
+    }
+
+    #[tactic(auto, using(crate::proofs::FitLemmas::fits_with_seat, crate::proofs::FitLemmas::seat_with_fork_mark))]
+    pub(crate) fn set_fork_mark(&mut self, job: JobNo, edge: EdgeNo, mark: bool)
+        requires is_job { IsJob self.old.plan job }
+        requires is_edge { edge < length (edges self.old.plan) }
+        ensures state { self.new.state ≡ with_seat self.old.state job (with_fork_mark (seat self.old.state job) edge mark) }
+        ensures plan { self.new.plan ≡ self.old.plan }
+    {
+        let seat = &mut self.seats[job.0 as usize];
+        seat.set_fork_mark(edge.0 as usize, mark);
+    }
+
+    #[tactic(auto, using(crate::proofs::FitLemmas::fits_with_seat, crate::proofs::FitLemmas::seat_with_bottle_marks))]
+    pub(crate) fn set_bottle_marks(&mut self, job: JobNo, edge: EdgeNo, marks: u32)
+        requires is_job { IsJob self.old.plan job }
+        requires is_edge { edge < length (edges self.old.plan) }
+        requires of_edge { IsOfEdge self.old.plan edge marks }
+        ensures state { self.new.state ≡ with_seat self.old.state job (with_bottle_marks (seat self.old.state job) edge marks) }
+        ensures plan { self.new.plan ≡ self.old.plan }
+    {
+        let seat = &mut self.seats[job.0 as usize];
+        seat.set_bottle_marks(edge.0 as usize, marks);
+    }
+
+    // Both marks of the job at an edge.
+    #[tactic(auto, using(crate::proofs::FitLemmas::fits_with_seat, crate::proofs::FitLemmas::seat_with_bottle_marks, crate::proofs::FitLemmas::seat_with_fork_mark))]
+    pub(crate) fn set_marks(&mut self, job: JobNo, edge: EdgeNo, mark: bool, marks: u32)
+        requires is_job { IsJob self.old.plan job }
+        requires is_edge { edge < length (edges self.old.plan) }
+        requires of_edge { IsOfEdge self.old.plan edge marks }
+        ensures state { self.new.state ≡ with_seat self.old.state job (with_bottle_marks (with_fork_mark (seat self.old.state job) edge mark) edge marks) }
+        ensures plan { self.new.plan ≡ self.old.plan }
+    {
+        let seat = &mut self.seats[job.0 as usize];
+        seat.set_marks(edge.0 as usize, mark, marks);
+    }
+
+    // The job dines so, without any fork mark.
+    #[tactic(auto, using(crate::proofs::FitLemmas::fits_with_seat, crate::proofs::FitLemmas::seat_turned_to))]
+    pub(crate) fn turn_to(&mut self, job: JobNo, dining: Dining)
+        requires { IsJob self.old.plan job }
+        ensures state { self.new.state ≡ with_seat self.old.state job (turned_to (seat self.old.state job) dining) }
+        ensures plan { self.new.plan ≡ self.old.plan }
+    {
+        let seat = &mut self.seats[job.0 as usize];
+        seat.turn_to(dining);
+    }
+
+    // Whether the job has a fork mark for one of its edges.
+    pub(crate) fn fork_mark(&self, job: JobNo, edge: EdgeNo) -> bool
+        requires is_job { IsJob self.now.plan job }
+        requires is_edge { edge < length (edges self.now.plan) }
+        ensures { result ≡ fork_mark_at self.now.state job edge }
+    {
+        self.seats[job.0 as usize].fork_mark(edge.0 as usize)
+    }
+
+    // The job's bottle marks for one of its edges.
+    pub(crate) fn bottle_marks(&self, job: JobNo, edge: EdgeNo) -> u32
+        requires is_job { IsJob self.now.plan job }
+        requires is_edge { edge < length (edges self.now.plan) }
+        ensures marks { result ≡ bottle_marks_at self.now.state job edge }
+        ensures of_edge { IsOfEdge self.now.plan edge result }
+    {
+        self.seats[job.0 as usize].bottle_marks(edge.0 as usize)
+    }
+}
+
+impl<'a, A: Allocator> Tables<'a, A> {
+    pub(crate) fn log(&self, instrument: InstrumentNo) -> &InstrumentLog<A>
+        requires { instrument < length self.now.plan.instruments }
+        ensures { result.now ≡ log_with_room self.now.plan self.now.state instrument }
+    {
+        &self.logs[instrument.0 as usize]
+    }
+
+    // One more entry at the end of a log that takes it.
+    pub(crate) fn push_entry(&mut self, instrument: InstrumentNo, entry: Entry)
+        requires there { instrument < length self.old.plan.instruments }
+        requires may { MayAppend (log_with_room self.old.plan self.old.state instrument) entry }
+        requires within_limits { IsWithinLimits entry }
+        requires value { entry.value ≡ turned entry.verb (dial (log_at self.old.state instrument)) }
+        ensures state { self.new.state ≡ with_entry self.old.state instrument entry }
+        ensures plan { self.new.plan ≡ self.old.plan }
+    {
+        let log = &mut self.logs[instrument.0 as usize];
+        match log.append(entry) {
+            Ok(()) => (),
+            Err(_) => unreachable!(),
+        }
+    }
+}

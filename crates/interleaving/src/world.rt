@@ -1,0 +1,144 @@
+// A world: a plan, and a state of its bench that legal events have led to from an opening without a cycle.
+ghost use Rattle.std.specs.Prelude.{◌≡◌, ◌<◌, ◌↔◌, IsTrue, length};
+ghost use Rattle.lab_plan.specs.LabPlan.{edges};
+ghost use Rattle.legal_steps.specs.State.{IsOwn, edge as edge_at, phase as phase_at, fork_mark as fork_mark_at, bottle_marks as bottle_marks_at};
+ghost use Rattle.legal_steps.specs.Legal.{IsJob, May};
+ghost use Rattle.interleaving.specs.Rooms.{log_with_room};
+ghost use Rattle.interleaving.specs.Counting.{count_at};
+ghost use Rattle.interleaving.specs.World.{IsReachedWith, Steps, Replays};
+
+use crate::counts::Tally;
+use crate::tables::Tables;
+use instrument_log::InstrumentLog;
+use lab_plan::{EdgeNo, InstrumentNo, JobNo, Plan};
+use legal_steps::{EdgeState, Event, JobState, NotLegal};
+use std::alloc::{Allocator, Global};
+use std::marker::Model;
+
+/// A state of a plan's bench, with what each job has done so far.
+///
+/// It begins with [`start`](Self::start) or [`opening`](Self::opening) and goes on by one legal event at a
+/// time. So each of its states is reached from an opening without a cycle of precedence, and all that
+/// the laws of such states say is true of it. After its start it takes no memory.
+#[derive(Drop)]
+pub struct World<'a, A: Allocator = Global> {
+    tables: Tables<'a, A>,
+    tally: Tally<A>,
+}
+
+impl<'a, A: Allocator> Model for World<'a, A> {
+    ghost use Rattle.interleaving.specs.World.{WorldView, IsReachedWith};
+
+    ghost Value = { WorldView };
+
+    ghost view = { λ w. record { plan = w.tables.plan; state = w.tables.state; counts = w.tally } };
+
+    ghost invariant = { λ w. IsReachedWith w.tables.plan w.tables.state w.tally };
+}
+
+impl<'a, A: Allocator> World<'a, A> {
+    /// One event, where it is legal; else the world stays as it is.
+    pub fn step(&mut self, event: Event) -> Result<(), NotLegal>
+        ensures { Steps self.old event result self.new }
+    {
+        self.tables.step(&event)?;
+        self.tally.count(&event);
+        Ok(())
+    }
+
+    /// Whether the event is legal now, so that [`step`](Self::step) would do it.
+    pub fn enabled(&self, event: Event) -> bool
+        ensures { IsTrue result ↔ May self.now.plan self.now.state event }
+    {
+        self.tables.enabled(&event)
+    }
+
+    /// The events one after another, up to the first that isn't legal: its place from 0 is the error's,
+    /// and the world stands before it.
+    pub fn replay(&mut self, events: &[Event]) -> Result<usize, (usize, NotLegal)>
+        ensures { Replays self.old events.now result self.new }
+    {
+        let mut done = 0;
+        for event in events {
+            if let Err(refused) = self.step(*event) {
+                return Err((done, refused));
+            }
+            done += 1;
+        }
+        Ok(done)
+    }
+
+    /// The plan, which the world borrows.
+    pub fn plan(&self) -> &'a Plan<A>
+        ensures plan { result.now ≡ self.now.plan }
+        ensures reached { IsReachedWith self.now.plan self.now.state self.now.counts }
+    {
+        self.tables.plan()
+    }
+
+    /// Where the things of the edge are.
+    pub fn edge(&self, edge: EdgeNo) -> EdgeState
+        requires { edge < length (edges self.now.plan) }
+        ensures { result ≡ edge_at self.now.state edge }
+    {
+        self.tables.edge(edge)
+    }
+
+    /// How far the job is.
+    pub fn job(&self, job: JobNo) -> JobState
+        requires { IsJob self.now.plan job }
+        ensures { result ≡ phase_at self.now.state job }
+    {
+        self.tables.phase(job)
+    }
+
+    /// Whether the job has a mark for the fork of one of its edges.
+    pub fn fork_mark(&self, job: JobNo, edge: EdgeNo) -> bool
+        requires { IsOwn self.now.plan job edge }
+        ensures { result ≡ fork_mark_at self.now.state job edge }
+    {
+        let _ = self.tables.own_end(job, edge);
+        self.tables.fork_mark(job, edge)
+    }
+
+    /// The bottles of one of its edges that the job has marks for; bit `k` for bottle `k`.
+    pub fn bottle_marks(&self, job: JobNo, edge: EdgeNo) -> u32
+        requires { IsOwn self.now.plan job edge }
+        ensures { result ≡ bottle_marks_at self.now.state job edge }
+    {
+        let _ = self.tables.own_end(job, edge);
+        self.tables.bottle_marks(job, edge)
+    }
+
+    /// The log of the instrument.
+    pub fn log(&self, instrument: InstrumentNo) -> &InstrumentLog<A>
+        requires { instrument < length self.now.plan.instruments }
+        ensures { result.now ≡ log_with_room self.now.plan self.now.state instrument }
+    {
+        self.tables.log(instrument)
+    }
+
+    /// How many meals the job has begun.
+    pub fn meals(&self, job: JobNo) -> u32
+        requires { IsJob self.now.plan job }
+        ensures { result ≡ (count_at self.now.counts job).meals }
+    {
+        self.tally.at(job).meals
+    }
+
+    /// How many of its sessions the job has ended; those that it gave up are not among them.
+    pub fn sessions_done(&self, job: JobNo) -> u32
+        requires { IsJob self.now.plan job }
+        ensures { result ≡ (count_at self.now.counts job).sessions_done }
+    {
+        self.tally.at(job).sessions_done
+    }
+
+    /// How many of its sessions the job has given up.
+    pub fn withdrawn(&self, job: JobNo) -> u32
+        requires { IsJob self.now.plan job }
+        ensures { result ≡ (count_at self.now.counts job).withdrawn }
+    {
+        self.tally.at(job).withdrawn
+    }
+}

@@ -1,0 +1,20 @@
+// The report of a run, and the upgraded script of a plan: what is printed is a function of what is shown.
+#![tactic(auto)]
+
+mod header;
+mod line;
+mod lines;
+mod offering;
+mod script;
+mod showing;
+mod shown;
+mod sink;
+mod tally;
+mod world;
+
+pub use offering::{WriteFault, offer};
+pub use script::write_script;
+pub use sink::{Failed, Sink, ToWrite};
+pub use tally::Tally;
+pub use world::write_world;
+

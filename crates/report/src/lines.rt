@@ -1,0 +1,160 @@
+// The lines of reports and scripts.
+ghost use Rattle.std.specs.Prelude.{◌≡◌, ◌+◌, ◌≤◌, ◌++◌, length, Some};
+ghost use Rattle.lab_plan.specs.Texts.{verb_text, header_line};
+ghost use Rattle.report.specs.Report.{instrument_line, entry_line, withdrawn_text, job_line};
+ghost use Rattle.lab_plan.specs.Upgrade.{session_line, command_line, name_line};
+
+use crate::line::Line;
+use instrument_log::Entry;
+use lab_plan::Verb;
+
+/// Adds a verb with its number, at most 14 bytes.
+fn add_verb(line: &mut Line, verb: Verb)
+    requires { length line.old + 14 ≤ 128 }
+    ensures text { line.new ≡ line.old ++ verb_text verb }
+    ensures len { length line.new ≤ length line.old + 14 }
+{
+    match verb {
+        Verb::Set(number) => {
+            line.text(b"set ");
+            line.number(number);
+        }
+        Verb::Add(number) => {
+            line.text(b"add ");
+            line.number(number);
+        }
+        Verb::Read => line.text(b"read"),
+    }
+}
+
+/// `lab 1` or `lab 2`.
+pub(crate) fn header_line(version: u8) -> Line
+    ensures { result ≡ header_line version }
+{
+    let mut line = Line::new();
+    line.text(b"lab ");
+    line.number(u32::from(version));
+    line.text(b"\n");
+    line
+}
+
+/// `instrument NAME N`, N the number of its entries.
+pub(crate) fn instrument_line(name: &[u8], entries: usize) -> Line
+    requires { length name.now ≤ 16 }
+    ensures { result ≡ instrument_line name.now entries }
+{
+    let mut line = Line::new();
+    line.text(b"instrument ");
+    line.text(name);
+    line.text(b" ");
+    line.count(entries);
+    line.text(b"\n");
+    line
+}
+
+/// `JOB SESSION PLACE/LENGTH VERB = VALUE`.
+pub(crate) fn entry_line(job: &[u8], entry: &Entry) -> Line
+    requires { length job.now ≤ 16 }
+    ensures { result ≡ entry_line job.now entry.now }
+{
+    let mut line = Line::new();
+    line.text(job);
+    line.text(b" ");
+    line.number(entry.session);
+    line.text(b" ");
+    line.number(entry.place);
+    line.text(b"/");
+    line.number(entry.length);
+    line.text(b" ");
+    add_verb(&mut line, entry.verb);
+    line.text(b" = ");
+    line.number(entry.value);
+    line.text(b"\n");
+    line
+}
+
+/// What a report tells of a job: its sessions and how many of them it did and gave up, its meals, and
+/// whether it is retired.
+#[derive(Clone, Copy, PartialEq, Eq, Debug)]
+pub struct JobTally {
+    pub sessions: u32,
+    pub done: u32,
+    pub withdrawn: u32,
+    pub meals: u32,
+    pub is_retired: bool,
+}
+
+/// Adds ` withdrawn X` in version 2, nothing in version 1.
+fn add_withdrawn(line: &mut Line, version: u8, withdrawn: u32)
+    requires { length line.old + 21 ≤ 128 }
+    ensures text { line.new ≡ line.old ++ withdrawn_text version withdrawn }
+    ensures len { length line.new ≤ length line.old + 21 }
+{
+    if version == 2 {
+        line.text(b" withdrawn ");
+        line.number(withdrawn);
+    }
+}
+
+/// `job NAME sessions D of S meals M STATE`, in version 2 with ` withdrawn X` before the meals.
+pub(crate) fn job_line(version: u8, name: &[u8], tally: JobTally) -> Line
+    requires { length name.now ≤ 16 }
+    ensures { result ≡ job_line version name.now tally }
+{
+    let mut line = Line::new();
+    line.text(b"job ");
+    line.text(name);
+    line.text(b" sessions ");
+    line.number(tally.done);
+    line.text(b" of ");
+    line.number(tally.sessions);
+    add_withdrawn(&mut line, version, tally.withdrawn);
+    line.text(b" meals ");
+    line.number(tally.meals);
+    let state: &[u8] = if tally.is_retired {
+        b" retired\n"
+    } else {
+        b" waiting\n"
+    };
+    line.text(state);
+    line
+}
+
+/// `session`, or `session patience N`.
+pub(crate) fn session_line(patience: Option<u32>) -> Line
+    ensures { result ≡ session_line patience }
+{
+    let mut line = Line::new();
+    line.text(b"session");
+    if let Some(number) = patience {
+        line.text(b" patience ");
+        line.number(number);
+    }
+    line.text(b"\n");
+    line
+}
+
+/// `NAME set N`, `NAME add N` or `NAME read`.
+pub(crate) fn command_line(instrument: &[u8], verb: Verb) -> Line
+    requires { length instrument.now ≤ 16 }
+    ensures { result ≡ command_line instrument.now verb }
+{
+    let mut line = Line::new();
+    line.text(instrument);
+    line.text(b" ");
+    add_verb(&mut line, verb);
+    line.text(b"\n");
+    line
+}
+
+/// `job NAME`.
+pub(crate) fn name_line(name: &[u8]) -> Line
+    requires { length name.now ≤ 16 }
+    ensures { result ≡ name_line name.now }
+{
+    let mut line = Line::new();
+    line.text(b"job ");
+    line.text(name);
+    line.text(b"\n");
+    line
+}
