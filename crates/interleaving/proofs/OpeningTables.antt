@@ -25,12 +25,12 @@ chosen_length : (plan : LabPlan) (choices : List EndChoice) → length (opening_
 chosen_length plan choices = length-map (enumerate_from 0 choices) _ ∙ length-enumerate_from 0 choices
 
 -- one more of the chosen edges
-pub chosen_more : (plan : LabPlan) (choices : List EndChoice) (n : ℕ) (choice : EndChoice) → n < length choices → choice ≡ slice_index_or choices n choice
-    → take (n + 1) (opening_of plan choices).edges ≡ take n (opening_of plan choices).edges ++ chosen_edge plan n choice ∷ []
-chosen_more plan choices n choice inside is =
+pub chosen_more : (plan : LabPlan) (choices : List EndChoice) (n : ℕ) (d : EndChoice) → n < length choices
+    → take (n + 1) (opening_of plan choices).edges ≡ take n (opening_of plan choices).edges ++ chosen_edge plan n (slice_index_or choices n d) ∷ []
+chosen_more plan choices n d inside =
     let all = (opening_of plan choices).edges in
     let there : n < length all = omega (arith, inside, chosen_length plan choices) in
-    take_more all n no_edge there ∙ ap (λ (x : EdgeState). take n all ++ x ∷ []) (opening_edge plan choices n choice inside ∙ ap (chosen_edge plan n) (sym is))
+    take_more all n no_edge there ∙ ap (λ (x : EdgeState). take n all ++ x ∷ []) (opening_edge plan choices n d inside)
 
 pub chosen_all : (plan : LabPlan) (choices : List EndChoice) (n : ℕ) → n ≡ length choices → take n (opening_of plan choices).edges ≡ (opening_of plan choices).edges
 chosen_all plan choices n all = take_all n (opening_of plan choices).edges (omega (arith, all, chosen_length plan choices))

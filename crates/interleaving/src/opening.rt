@@ -39,7 +39,7 @@ fn chosen_edge<A: Allocator>(plan: &Plan<A>, edge: EdgeNo, choice: EndChoice) ->
     }
 }
 
-#[tactic(auto, using(crate::proofs::OpeningTables::chosen_more, crate::proofs::OpeningTables::chosen_all))]
+#[tactic(auto, using(crate::proofs::OpeningTables::chosen_all))]
 pub(crate) fn chosen_edges<A: Allocator>(
     alloc: A,
     plan: &Plan<A>,
