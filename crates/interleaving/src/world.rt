@@ -17,7 +17,7 @@ use crate::tables::Tables;
 use cycles::{NoMemory, cycle_in};
 use instrument_log::InstrumentLog;
 use lab_plan::{EdgeNo, InstrumentNo, JobNo, Plan};
-use legal_steps::{EdgeState, End, EndChoice, Event, JobState, NotLegal};
+use legal_steps::{EdgeState, EndChoice, Event, JobState, NotLegal};
 use std::alloc::{Allocator, Global};
 use std::marker::Model;
 
@@ -71,12 +71,7 @@ impl<'a, A: Allocator + Copy> World<'a, A> {
     pub fn opening(alloc: A, plan: &'a Plan<A>) -> Result<World<'a, A>, NoMemory>
         ensures { IfOk result (λ world. world ≡ at_start plan.now (the_opening plan.now)) }
     {
-        let lower = EndChoice {
-            fork: End::Lower,
-            bottles: 0,
-        };
-        let choices = vec![in alloc; lower; plan.edges() as usize]?;
-        let tables = Tables::opened(alloc, plan, &choices)?;
+        let tables = Tables::opening(alloc, plan)?;
         let tally = Tally::new(alloc, plan.jobs())?;
         Ok(World { tables, tally })
     }
