@@ -11,10 +11,10 @@ pub enum Task {
     Upgrade,
 }
 
-/// The task of some words: exactly one, which names it.
+/// The task of the words of a command line, the program's own name first: exactly one more, which names it.
 pub fn task_of(words: &[String]) -> Option<Task> {
     match words {
-        [word] => match word.as_str() {
+        [_, word] => match word.as_str() {
             "replay" => Some(Task::Replay),
             "check" => Some(Task::Check),
             "upgrade" => Some(Task::Upgrade),
