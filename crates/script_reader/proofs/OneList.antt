@@ -1,12 +1,12 @@
 -- A text with steps has at most one meaning.
-use Rattle.std.proofs.Common.{◌≡◌, ℕ, ◌+◌, ◌<◌, ◌≤◌, List, [], ◌∷◌, ◌++◌, length, zero, suc, refl, sym, ap, ◌∙◌, subst, arith, ◌⊎◌, ⊎_elim, inl, inr}
+use Rattle.std.proofs.Common.{◌≡◌, ℕ, ◌+◌, ◌<◌, ◌≤◌, List, [], ◌∷◌, ◌++◌, length, suc, refl, sym, ap, ◌∙◌, subst, arith, ⊎_elim}
 use Rattle.std.specs.Prelude.{Option, None, Some, map}
 use Rattle.std.proofs.lemmas.Bool.{lt-leb}
 use Rattle.lab_plan.specs.LabPlan.{LabPlan}
 use Rattle.legal_steps.specs.declared.event.Step.{Step}
 use Rattle.legal_steps.specs.declared.event.StepLine.{StepLine}
 use Rattle.script_reader.specs.declared.fault.ScriptCause.{ScriptCause}
-use Rattle.script_reader.specs.Script.{text_lines, LinesMean}
+use Rattle.script_reader.specs.Script.{text_lines}
 use Rattle.script_reader.specs.Steps.{script_part, steps_part, first_step, list_of, placed, step_cause, AreSteps, IsFaultInSteps, StepsMean, StepsFault}
 use Rattle.script_reader.proofs.OneMeaning.{plans, apart, one_fault}
 
@@ -84,8 +84,8 @@ list_or_fault text p s n cause h f =
     ⊎_elim
     (λ k. apart (script_part lines) p n cause h.0 k)
     (λ k.
-      let same = plans (script_part lines) k.0 p k.1 h.0 in
-      never_in p (first_step lines) (steps_part lines) s n cause h.1 (subst (λ plan. IsFaultInSteps plan (first_step lines) (steps_part lines) n cause) same k.2))
+    let same = plans (script_part lines) k.0 p k.1 h.0 in
+    never_in p (first_step lines) (steps_part lines) s n cause h.1 (subst (λ plan. IsFaultInSteps plan (first_step lines) (steps_part lines) n cause) same k.2))
     f
 
 pub one_step_fault : (text : List ℕ) (m n : ℕ) (cause other : ScriptCause) → StepsFault text m cause → StepsFault text n other → (m ≡ n) × (cause ≡ other)
@@ -94,10 +94,10 @@ one_step_fault text m n cause other f g =
     ⊎_elim
     (λ h. ⊎_elim (λ k. one_fault (script_part lines) m n cause other h k) (λ k. absurd (apart (script_part lines) k.0 m cause k.1 h)) g)
     (λ h.
-      ⊎_elim
-      (λ k. absurd (apart (script_part lines) h.0 n other h.1 k))
-      (λ k.
-        let same = plans (script_part lines) k.0 h.0 k.1 h.1 in
-        two_in h.0 (first_step lines) (steps_part lines) m n cause other h.2 (subst (λ plan. IsFaultInSteps plan (first_step lines) (steps_part lines) n other) same k.2))
-      g)
+    ⊎_elim
+    (λ k. absurd (apart (script_part lines) h.0 n other h.1 k))
+    (λ k.
+    let same = plans (script_part lines) k.0 h.0 k.1 h.1 in
+    two_in h.0 (first_step lines) (steps_part lines) m n cause other h.2 (subst (λ plan. IsFaultInSteps plan (first_step lines) (steps_part lines) n other) same k.2))
+    g)
     f

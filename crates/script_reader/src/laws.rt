@@ -13,5 +13,4 @@ pub fn one_meaning_with_steps()
     ensures list { HasOneList }
     ensures either { HasListOrFault }
     ensures fault { HasOneStepFault }
-{
-}
+{}
