@@ -1,7 +1,7 @@
 -- What one more line does to the reader's state.
-use Rattle.std.proofs.Common.{◌≡◌, ℕ, Bool, true, false, cond, if◌then◌else◌, not, ◌||◌, List, [], ◌∷◌, ◌++◌, refl, sym, ap, ◌∙◌, append-nil}
+use Rattle.std.proofs.Common.{◌≡◌, ℕ, Bool, true, false, if◌then◌else◌, not, List, [], ◌∷◌, ◌++◌, refl, sym, ap, ◌∙◌, append-nil}
 use Rattle.std.specs.Prelude.{Option, None, Some, nat_le, length, reverse}
-use Rattle.std.specs.List.{filter_map, list_any, position_or_len}
+use Rattle.std.specs.List.{filter_map, position_or_len}
 use Rattle.std.specs.Str.{bytes_eq}
 use Rattle.std.proofs.lemmas.List.Elements.{filter_map-append}
 use Rattle.lab_plan.specs.LabPlan.{JobPlan, LabPlan}
@@ -13,7 +13,7 @@ use Rattle.script_reader.specs.declared.form.Version.TheVariants.{One, Two}
 use Rattle.script_reader.specs.Line.{Line, Header, Job, Session, PatientSession, Command, End, Steps, Unknown, is_job_line, is_lab_two, instrument, VerbText, verb_number}
 use Rattle.script_reader.specs.Plan.{plan_of, jobs_of, job_of, instruments_of, first_namings, version_of, verb_of}
 use Rattle.script_reader.specs.Script.{is_open, has_no_command, is_empty, has}
-use Rattle.script_reader.specs.State.{State, state_of, cause_in, session_cause, many_sessions, after, at, header_version, is_two}
+use Rattle.script_reader.specs.State.{State, state_of, cause_in, session_cause, many_sessions, after, at, is_two}
 use Rattle.script_reader.specs.Number.{is_number}
 use Rattle.lab_plan.specs.Names.{is_name}
 use Rattle.script_reader.proofs.OneMore.{begins, jobs-session, jobs-command, jobs-other}

@@ -1,12 +1,12 @@
 -- An edge has one number: no pair of jobs stands twice among the edges.
-use Rattle.std.proofs.Common.{◌≡◌, ℕ, zero, suc, ◌+◌, ◌-◌, ◌<◌, ◌≤◌, List, [], ◌∷◌, ◌++◌, Bool, true, false, ◌&&◌, length, map, min, max, get_or, refl, sym, ap, ◌∙◌, subst, arith, ◌⊎◌, ⊎_elim, inl, inr}
-use Rattle.std.specs.Prelude.{Option, None, Some, ◌==◌, slice_get}
-use Rattle.std.specs.List.{AllByRecursion, flat_map, range_with_len, filter, position, Contains}
+use Rattle.std.proofs.Common.{◌≡◌, ℕ, zero, suc, ◌+◌, ◌-◌, ◌<◌, ◌≤◌, List, [], ◌∷◌, ◌++◌, Bool, true, false, ◌&&◌, length, map, get_or, refl, sym, ap, ◌∙◌, subst, arith, ◌⊎◌, ⊎_elim, inl, inr}
+use Rattle.std.specs.Prelude.{None, Some, ◌==◌, slice_get}
+use Rattle.std.specs.List.{AllByRecursion, flat_map, range_with_len, filter, Contains}
 use Rattle.std.proofs.lemmas.Bool.{cases_Bool, false_from_ne_true}
 use Rattle.std.proofs.lemmas.Bool.Decides.{Decides-eqb}
 use Rattle.std.proofs.lemmas.Option.{get_or_from_slice_get, slice_get_within}
 use Rattle.std.proofs.lemmas.List.Elements.{Contains-get_or}
-use Rattle.lab_plan.specs.LabPlan.{LabPlan, edges, pairs, both_name, instrument_numbers, lower_first}
+use Rattle.lab_plan.specs.LabPlan.{LabPlan, edges, pairs, lower_first}
 use Rattle.script_reader.specs.Steps.{edge_between}
 use Rattle.script_reader.proofs.Places.{position_found, position_none}
 

@@ -1,19 +1,19 @@
 -- What the lines before a line say of it, the reader's state says too.
-use Rattle.std.proofs.Common.{◌≡◌, ℕ, ◌+◌, ◌-◌, ◌<◌, Bool, true, false, cond, if◌then◌else◌, not, ◌||◌, ◌&&◌, List, [], ◌∷◌, ◌++◌, length, get_or, refl, sym, ap, ◌∙◌, arith, suc, zero, length-append}
-use Rattle.std.specs.Prelude.{Option, None, Some, nat_le, nat_lt, reverse}
+use Rattle.std.proofs.Common.{◌≡◌, ℕ, ◌-◌, ◌<◌, Bool, true, false, if◌then◌else◌, not, ◌||◌, ◌&&◌, List, [], ◌∷◌, ◌++◌, length, get_or, refl, sym, ap, ◌∙◌, arith, suc, length-append}
+use Rattle.std.specs.Prelude.{Option, None, nat_le, nat_lt, reverse}
 use Rattle.std.specs.List.{list_any, position_or_len}
 use Rattle.std.specs.Str.{bytes_eq}
 use Rattle.std.proofs.lemmas.Bool.Decides.{Decides-ltb}
-use Rattle.lab_plan.specs.LabPlan.{JobPlan, SessionPlan, LabPlan, no_job, all_commands}
+use Rattle.lab_plan.specs.LabPlan.{JobPlan, no_job, all_commands}
 use Rattle.lab_plan.specs.Names.{is_name}
-use Rattle.lab_plan.specs.Building.{is_job, last_job, is_past_limit, and_session, in_last_session, and_command, on_last}
+use Rattle.lab_plan.specs.Building.{last_job, and_session, in_last_session, and_command}
 use Rattle.script_reader.specs.declared.fault.ScriptCause.{ScriptCause}
-use Rattle.script_reader.specs.declared.fault.ScriptCause.TheVariants.{NoHeader, UnknownWord, SessionNotClosed, NotInJob, NotInSession, BadName, BadNumber, JobTwice, EmptySession, LimitPassed}
+use Rattle.script_reader.specs.declared.fault.ScriptCause.TheVariants.{NoHeader, UnknownWord, SessionNotClosed, NotInJob, NotInSession, BadName, BadNumber, JobTwice, LimitPassed}
 use Rattle.script_reader.specs.declared.form.Version.TheVariants.{One, Two}
-use Rattle.script_reader.specs.Line.{Line, Header, Job, Session, PatientSession, Command, End, Steps, Unknown, is_job_line, is_session, is_command, is_lab_two, VerbText, verb_number}
+use Rattle.script_reader.specs.Line.{Line, Header, Job, Session, PatientSession, Command, End, Steps, Unknown, is_job_line, is_session, is_command, is_lab_two, verb_number}
 use Rattle.script_reader.specs.Plan.{plan_of, jobs_of, job_of, instruments_of, up_to_next, patience_of, verb_of}
 use Rattle.script_reader.specs.Script.{is_open, is_empty, count, has, cause_at, cause_at_end}
-use Rattle.script_reader.specs.State.{State, state_of, cause_in, end_cause_in, at, session_cause, header_version, is_two, many_sessions}
+use Rattle.script_reader.specs.State.{state_of, cause_in, end_cause_in, at, is_two}
 use Rattle.script_reader.specs.Number.{is_number}
 use Rattle.script_reader.proofs.OneMore.{begins, jobs-session, jobs-command, jobs-other}
 use Rattle.script_reader.proofs.OnLast.{last_pushed, last_changed, same_length}

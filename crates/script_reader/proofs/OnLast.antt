@@ -1,5 +1,5 @@
 -- The last element changed.
-use Rattle.std.proofs.Common.{◌≡◌, ℕ, ◌+◌, ◌-◌, ◌<◌, List, [], ◌∷◌, ◌++◌, length, get_or, set, suc, zero, refl, sym, ap, ◌∙◌, arith, length-append, get_or-set_same, length-set}
+use Rattle.std.proofs.Common.{◌≡◌, ◌-◌, ◌<◌, List, [], ◌∷◌, ◌++◌, length, get_or, set, suc, refl, sym, ap, ◌∙◌, arith, length-append, get_or-set_same, length-set}
 use Rattle.std.proofs.lemmas.List.{get_or_at}
 use Rattle.lab_plan.specs.Building.{on_last}
 

@@ -1,12 +1,12 @@
 -- A text with steps has at most one meaning.
-use Rattle.std.proofs.Common.{◌≡◌, ℕ, ◌+◌, ◌<◌, ◌≤◌, List, [], ◌∷◌, ◌++◌, length, zero, suc, refl, sym, ap, ◌∙◌, subst, arith, ◌⊎◌, ⊎_elim, inl, inr}
+use Rattle.std.proofs.Common.{◌≡◌, ℕ, ◌+◌, ◌<◌, ◌≤◌, List, [], ◌∷◌, ◌++◌, length, suc, refl, sym, ap, ◌∙◌, subst, arith, ⊎_elim}
 use Rattle.std.specs.Prelude.{Option, None, Some, map}
 use Rattle.std.proofs.lemmas.Bool.{lt-leb}
 use Rattle.lab_plan.specs.LabPlan.{LabPlan}
 use Rattle.legal_steps.specs.declared.event.Step.{Step}
 use Rattle.legal_steps.specs.declared.event.StepLine.{StepLine}
 use Rattle.script_reader.specs.declared.fault.ScriptCause.{ScriptCause}
-use Rattle.script_reader.specs.Script.{text_lines, LinesMean}
+use Rattle.script_reader.specs.Script.{text_lines}
 use Rattle.script_reader.specs.Steps.{script_part, steps_part, first_step, list_of, placed, step_cause, AreSteps, IsFaultInSteps, StepsMean, StepsFault}
 use Rattle.script_reader.proofs.OneMeaning.{plans, apart, one_fault}
 

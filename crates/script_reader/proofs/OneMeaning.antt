@@ -5,7 +5,7 @@ use Rattle.std.proofs.lemmas.List.{reverse-append, map-append, append_assoc}
 use Rattle.script_reader.specs.declared.fault.ScriptCause.{ScriptCause}
 use Rattle.script_reader.specs.Line.{Line}
 use Rattle.lab_plan.specs.LabPlan.{LabPlan}
-use Rattle.script_reader.specs.Script.{script_of, backwards, AreSound, cause_at, LinesMean, IsFaultAtLine, IsFaultAtEnd, IsFaultOfLines}
+use Rattle.script_reader.specs.Script.{script_of, backwards, AreSound, cause_at, LinesMean, IsFaultAtLine, IsFaultOfLines}
 
 sound_at : (later : List Line) (line : Line) (before : List Line) → AreSound (later ++ line ∷ before) → cause_at before line ≡ None
 sound_at [] line before h = h.0

@@ -1,11 +1,10 @@
 -- What one more line does to the jobs of some lines, their names as they are.
-use Rattle.std.proofs.Common.{◌≡◌, ℕ, Bool, true, false, cond, not, ◌||◌, List, [], ◌∷◌, ◌++◌, refl, sym, ap, ◌∙◌, subst, append_assoc, append-nil, ◌⊎◌, ⊎_elim, inl, inr}
-use Rattle.std.specs.Prelude.{Option, None, Some}
-use Rattle.std.specs.List.{filter, filter_map, list_any, position_or_len}
+use Rattle.std.proofs.Common.{◌≡◌, ℕ, Bool, true, false, List, [], ◌∷◌, ◌++◌, refl, ap, ◌∙◌, append-nil, ◌⊎◌, ⊎_elim, inl, inr}
+use Rattle.std.specs.Prelude.{None}
+use Rattle.std.specs.List.{position_or_len}
 use Rattle.std.specs.Str.{bytes_eq}
 use Rattle.std.proofs.lemmas.List.Elements.{filter_map-append}
 use Rattle.std.proofs.lemmas.Bool.{cases_Bool}
-use Rattle.lab_plan.specs.LabPlan.{JobPlan, SessionPlan}
 use Rattle.lab_plan.specs.Building.{on_last, and_session, in_last_session, and_command}
 use Rattle.script_reader.specs.Line.{Line, Command, is_job_line, is_session, VerbText}
 use Rattle.script_reader.specs.Plan.{up_to_next, each_with_its_lines, jobs_of, job_of, session_of, command_of, patience_of, verb_of}

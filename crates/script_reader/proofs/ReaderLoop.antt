@@ -1,17 +1,16 @@
 -- The reader's loop over the lines of a script.
-use Rattle.std.proofs.Common.{◌≡◌, ℕ, ◌+◌, ◌-◌, ◌<◌, Bool, true, false, not, List, [], ◌∷◌, ◌++◌, length, refl, sym, ap, ◌∙◌, subst, arith, length-append, append_assoc, append-nil, ◌⊎◌, inl, inr, suc, zero}
-use Rattle.std.specs.Prelude.{Option, None, Some, Result, Ok, Err, reverse, map}
+use Rattle.std.proofs.Common.{◌≡◌, ℕ, ◌+◌, List, [], ◌∷◌, ◌++◌, length, refl, sym, ap, ◌∙◌, subst, arith, length-append, append_assoc, append-nil, ◌⊎◌, inl, inr, suc}
+use Rattle.std.specs.Prelude.{Option, None, Some, Ok, Err, reverse, map}
 use Rattle.std.specs.Option.{option_map}
 use Rattle.std.specs.List.{cons_option}
 use Rattle.std.proofs.lemmas.List.{reverse-append, map-append}
 use Rattle.lab_plan.specs.LabPlan.{LabPlan, all_commands}
 use Rattle.script_reader.specs.declared.fault.ScriptCause.{ScriptCause}
 use Rattle.script_reader.specs.declared.fault.ScriptCause.TheVariants.{NoHeader, UnknownWord, BadName, BadNumber, JobTwice, NotInSession, NotInJob, EmptySession, SessionNotClosed, LimitPassed, TooManyInCommon, NoMemory, BadStep}
-use Rattle.script_reader.specs.declared.fault.ScriptFault.{ScriptFault}
 use Rattle.script_reader.specs.Line.{Line, form_of, is_command}
 use Rattle.script_reader.specs.Plan.{plan_of}
-use Rattle.script_reader.specs.Script.{numbered, text_lines, script_of, backwards, AreSound, cause_at, cause_at_end, count, LinesMean, IsFaultAtLine, IsFaultAtEnd, IsFaultOfLines, IsCleanUpTo, IsCleanUpToLine, IsCleanUpToEnd, Refuses}
-use Rattle.script_reader.specs.State.{State, state_of, cause_in, end_cause_in, after, at, IsTied, ReadsForm, Ends}
+use Rattle.script_reader.specs.Script.{numbered, script_of, backwards, AreSound, cause_at_end, count, LinesMean, IsFaultAtLine, IsFaultOfLines, IsCleanUpTo, IsCleanUpToLine}
+use Rattle.script_reader.specs.State.{State, state_of, cause_in, end_cause_in, after, IsTied, ReadsForm, Ends}
 use Rattle.script_reader.proofs.After.{after_is}
 use Rattle.script_reader.proofs.Meets.{cause_is}
 use Rattle.script_reader.proofs.Tied.{IsTied-after, counted_after}

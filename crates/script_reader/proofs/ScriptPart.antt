@@ -1,17 +1,16 @@
 -- The loop over the script part of a text with steps.
-use Rattle.std.proofs.Common.{◌≡◌, ℕ, ◌+◌, ◌-◌, ◌<◌, ◌≤◌, Bool, true, false, cond, if◌then◌else◌, List, [], ◌∷◌, ◌++◌, length, take, drop, refl, sym, ap, ◌∙◌, subst, arith, length-append, length-drop, append_assoc, append-nil, ◌⊎◌, ⊎_elim, inl, inr, suc, zero}
-use Rattle.std.specs.Prelude.{Option, None, Some, Result, Ok, Err, map}
-use Rattle.std.proofs.lemmas.List.{drop_all}
+use Rattle.std.proofs.Common.{◌≡◌, ℕ, ◌+◌, ◌≤◌, true, false, List, [], ◌∷◌, ◌++◌, length, drop, refl, sym, ap, ◌∙◌, subst, arith, length-append, length-drop, append_assoc, append-nil, ⊎_elim, inr, suc, zero}
+use Rattle.std.specs.Prelude.{Ok, Err}
 use Rattle.std.proofs.Math.ListN.{drop_of_length-le, length-map}
-use Rattle.bstr.specs.Text.{lines_of, lines_from, line_len}
+use Rattle.bstr.specs.Text.{lines_from, line_len}
 use Rattle.std.proofs.lemmas.Bool.{cases_Bool}
 use Rattle.lab_plan.specs.LabPlan.{LabPlan}
 use Rattle.legal_steps.specs.declared.event.StepLine.{StepLine}
 use Rattle.script_reader.specs.declared.fault.ScriptCause.{ScriptCause}
 use Rattle.script_reader.specs.declared.fault.ScriptFault.{ScriptFault}
-use Rattle.script_reader.specs.Line.{Line, form_of}
+use Rattle.script_reader.specs.Line.{form_of}
 use Rattle.script_reader.specs.Script.{text_lines, LinesMean, Refuses}
-use Rattle.script_reader.specs.State.{State, state_of, ReadsForm, Ends, IsTied}
+use Rattle.script_reader.specs.State.{State, state_of, ReadsForm, Ends}
 use Rattle.script_reader.specs.Steps.{is_steps_line, script_part, steps_part, first_step, AreSteps, RefusesSteps, StepsMean, StepsRefuse}
 use Rattle.script_reader.proofs.ReaderLoop.{IsReading, starts, reads, stops, stops_at_end, ends_well, all_read}
 

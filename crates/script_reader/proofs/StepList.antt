@@ -1,6 +1,6 @@
 -- The loop over the lines of a step list.
-use Rattle.std.proofs.Common.{◌≡◌, ℕ, ◌+◌, ◌-◌, ◌<◌, ◌≤◌, Bool, true, false, not, List, [], ◌∷◌, ◌++◌, length, refl, sym, ap, ◌∙◌, subst, arith, length-append, append_assoc, append-nil, ◌⊎◌, ⊎_elim, inl, inr, suc, zero}
-use Rattle.std.specs.Prelude.{Option, None, Some, Result, Ok, Err, map, nat_le}
+use Rattle.std.proofs.Common.{◌≡◌, ℕ, ◌+◌, ◌≤◌, List, [], ◌∷◌, ◌++◌, length, refl, sym, ap, ◌∙◌, subst, arith, length-append, append_assoc, append-nil, ◌⊎◌, ⊎_elim, inl, inr}
+use Rattle.std.specs.Prelude.{Option, None, Some, Ok, Err, map, nat_le}
 use Rattle.std.proofs.lemmas.List.{map-append}
 use Rattle.std.proofs.lemmas.Bool.{cases_Bool, leb-false}
 use Rattle.lab_plan.specs.LabPlan.{LabPlan}
@@ -8,9 +8,7 @@ use Rattle.legal_steps.specs.declared.event.Step.{Step}
 use Rattle.legal_steps.specs.declared.event.StepLine.{StepLine}
 use Rattle.script_reader.specs.declared.fault.ScriptCause.{ScriptCause}
 use Rattle.script_reader.specs.declared.fault.ScriptCause.TheVariants.{NoHeader, UnknownWord, BadName, BadNumber, JobTwice, NotInSession, NotInJob, EmptySession, SessionNotClosed, LimitPassed, TooManyInCommon, NoMemory, BadStep}
-use Rattle.script_reader.specs.declared.fault.ScriptFault.{ScriptFault}
-use Rattle.script_reader.specs.Script.{numbered, text_lines}
-use Rattle.script_reader.specs.Steps.{step_in, list_of, placed, AreSteps, step_cause, IsFaultInSteps, AreCleanUpTo, RefusesSteps, ReadsStep}
+use Rattle.script_reader.specs.Steps.{step_in, list_of, placed, AreSteps, step_cause, IsFaultInSteps, AreCleanUpTo, ReadsStep}
 use Rattle.script_reader.proofs.ReaderLoop.{numbered-append, one_line, no_line, counts}
 
 -- these lines are read, and these are left

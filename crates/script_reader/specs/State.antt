@@ -1,5 +1,5 @@
 -- What a reader knows after some lines, and what it does at one more. The lines before stand with the nearest first.
-use Rattle.std.specs.Prelude.{ℕ, ◌≡◌, Bool, true, false, not, nat_le, nat_lt, List, [], ◌∷◌, reverse, Option, None, Some, Result, Ok, Err, length, if◌then◌else◌}
+use Rattle.std.specs.Prelude.{ℕ, ◌≡◌, Bool, true, false, not, nat_le, nat_lt, List, reverse, Option, None, Some, Result, Ok, Err, length, if◌then◌else◌}
 use Rattle.std.specs.List.{list_any}
 use Rattle.lab_plan.specs.LabPlan.{LabPlan}
 use Rattle.lab_plan.specs.Names.{is_name}
@@ -8,7 +8,7 @@ use Rattle.script_reader.specs.declared.fault.ScriptCause.{ScriptCause}
 use Rattle.script_reader.specs.declared.fault.ScriptCause.TheVariants.{NoHeader, UnknownWord, SessionNotClosed, NotInJob, NotInSession, BadName, BadNumber, JobTwice, EmptySession, LimitPassed, TooManyInCommon, NoMemory}
 use Rattle.script_reader.specs.declared.form.Version.{Version}
 use Rattle.script_reader.specs.declared.form.Version.TheVariants.{One, Two}
-use Rattle.script_reader.specs.Line.{Line, Header, Job, Session, PatientSession, Command, End, Steps, Unknown, VerbText, verb_number, is_lab_two}
+use Rattle.script_reader.specs.Line.{Line, Header, Job, Session, PatientSession, Command, End, Steps, Unknown, verb_number, is_lab_two}
 use Rattle.script_reader.specs.Number.{is_number, number_of}
 use Rattle.script_reader.specs.Plan.{plan_of, verb_of}
 use Rattle.script_reader.specs.Script.{is_open, has_no_command, is_empty, has}

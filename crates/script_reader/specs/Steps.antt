@@ -1,5 +1,5 @@
 -- Step lists: the lines behind a line `steps`, each one step of the script's plan.
-use Rattle.std.specs.Prelude.{ℕ, ◌≡◌, ◌+◌, ◌^◌, ◌≤◌, Bool, true, false, ◌&&◌, ◌||◌, not, nat_le, ◌==◌, min, max, List, [], ◌∷◌, ◌++◌, Option, None, Some, Result, Ok, Err, length, map, drop, slice_index, slice_index_or, codes, if◌then◌else◌, ◌⊎◌}
+use Rattle.std.specs.Prelude.{ℕ, ◌≡◌, ◌+◌, ◌^◌, ◌≤◌, Bool, true, false, ◌&&◌, not, nat_le, ◌==◌, min, max, List, [], ◌∷◌, ◌++◌, Option, None, Some, Result, Ok, Err, length, map, drop, slice_index, slice_index_or, codes, if◌then◌else◌, ◌⊎◌}
 use Rattle.std.specs.List.{find, list_any, position, sum_by}
 use Rattle.std.specs.Option.{option_map, option_and_then, is_some}
 use Rattle.std.specs.Str.{bytes_eq}
@@ -11,7 +11,7 @@ use Rattle.script_reader.specs.declared.fault.ScriptFault.{ScriptFault}
 use Rattle.script_reader.specs.declared.fault.ScriptCause.{ScriptCause}
 use Rattle.script_reader.specs.declared.fault.ScriptCause.TheVariants.{BadStep, LimitPassed, NoMemory}
 use Rattle.script_reader.specs.Fields.{fields}
-use Rattle.script_reader.specs.Line.{Line, form_of, is_steps}
+use Rattle.script_reader.specs.Line.{form_of, is_steps}
 use Rattle.script_reader.specs.Plan.{up_to_next}
 use Rattle.script_reader.specs.Script.{has, numbered, text_lines, LinesMean, IsFaultOfLines, Refuses}
 

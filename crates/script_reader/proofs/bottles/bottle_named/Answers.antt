@@ -1,5 +1,5 @@
-use Rattle.std.proofs.Common.{◌≡◌, List, [], ℕ, ◌<◌, Bool, true, arith, refl, sym, ap, ◌∙◌, length}
-use Rattle.std.specs.Prelude.{slice_index, slice_index_or}
+use Rattle.std.proofs.Common.{[], ℕ, ◌<◌, Bool, arith, sym, ap, ◌∙◌, length}
+use Rattle.std.specs.Prelude.{slice_index_or}
 use Rattle.std.specs.Str.{bytes_eq}
 use Rattle.lab_plan.specs.LabPlan.{bottles}
 use Rattle.script_reader.proofs.Places.{position_found, position_none}

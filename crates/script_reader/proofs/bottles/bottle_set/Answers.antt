@@ -1,4 +1,4 @@
-use Rattle.std.proofs.Common.{◌≡◌, List, ℕ, [], ◌∷◌, ◌++◌, sym, ap, ◌∙◌, subst}
+use Rattle.std.proofs.Common.{[], ◌∷◌, ◌++◌, sym, ap, ◌∙◌, subst}
 use Rattle.std.specs.Prelude.{bit_and, bit_or}
 use Rattle.script_reader.specs.Fields.{fields}
 use Rattle.script_reader.specs.Steps.{bottle_named, bottle_set}

@@ -1,4 +1,4 @@
-use Rattle.std.proofs.Common.{◌≡◌, ◌<◌, ℕ, List, length}
+use Rattle.std.proofs.Common.{ℕ, List, length}
 use Rattle.script_reader.specs.Fields.{fields}
 use Rattle.script_reader.specs.Steps.{bottle_named}
 use Rattle.script_reader.proofs.BottleSets.{IsSet}

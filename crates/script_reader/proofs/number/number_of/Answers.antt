@@ -4,7 +4,7 @@ use Rattle.std.specs.List.{list_all}
 use Rattle.std.specs.Prelude.{nat_le}
 use Rattle.std.proofs.lemmas.List.{take_more}
 use Rattle.std.proofs.lemmas.Bool.{leb-true}
-use Rattle.script_reader.specs.Number.{value_after, is_number}
+use Rattle.script_reader.specs.Number.{value_after}
 use Rattle.lab_plan.specs.Names.{is_digit}
 use Rattle.script_reader.proofs.number.number_of.Goals as goal
 

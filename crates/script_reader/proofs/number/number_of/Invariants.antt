@@ -1,4 +1,4 @@
-use Rattle.std.proofs.Common.{◌≡◌, ◌<◌, ℕ, take, ◌^◌}
+use Rattle.std.proofs.Common.{◌≡◌, ◌<◌, take, ◌^◌}
 use Rattle.script_reader.specs.Number.{value_after}
 use Rattle.script_reader.proofs.number.number_of.Given as goal
 

@@ -1,4 +1,4 @@
-use Rattle.std.proofs.Common.{◌≡◌, List, ℕ, ◌<◌, true, arith, refl, sym, ap, ◌∙◌, length}
+use Rattle.std.proofs.Common.{◌<◌, arith, sym, ap, ◌∙◌, length}
 use Rattle.std.specs.Str.{bytes_eq}
 use Rattle.lab_plan.specs.LabPlan.{JobPlan, no_job}
 use Rattle.script_reader.proofs.Places.{position_found, position_none}

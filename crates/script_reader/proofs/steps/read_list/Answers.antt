@@ -1,4 +1,4 @@
-use Rattle.std.proofs.Common.{◌≡◌, List, [], ◌∷◌, ◌++◌, ◌+◌, ℕ, arith, refl, sym, ap, ◌∙◌, subst, Bor}
+use Rattle.std.proofs.Common.{List, [], ◌∷◌, ◌+◌, ℕ, arith, refl, sym, subst, Bor}
 use Rattle.std.specs.Prelude.{map}
 use Rattle.std.proofs.lemmas.List.{map-append}
 use Rattle.script_reader.specs.Script.{text_lines}

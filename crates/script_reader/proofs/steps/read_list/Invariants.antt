@@ -1,4 +1,3 @@
-use Rattle.std.proofs.Common.{◌≡◌, ◌<◌, ℕ}
 use Rattle.std.specs.Prelude.{map}
 use Rattle.script_reader.specs.Script.{text_lines}
 use Rattle.script_reader.proofs.StepList.{IsListing}

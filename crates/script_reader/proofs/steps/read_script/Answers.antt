@@ -1,8 +1,8 @@
-use Rattle.std.proofs.Common.{◌≡◌, List, ℕ, [], ◌∷◌, ◌++◌, ◌+◌, true, false, refl, sym, ap, ◌∙◌, subst, Ok, Err}
+use Rattle.std.proofs.Common.{[], ◌∷◌, ◌++◌, refl, sym, ap, ◌∙◌, subst}
 use Rattle.std.proofs.lemmas.Result.{MatchResult-weaker}
 use Rattle.script_reader.specs.Script.{text_lines, Refuses}
 use Rattle.script_reader.specs.Steps.{script_part}
-use Rattle.script_reader.proofs.ScriptPart.{IsAt, IsRest, goes_on, fails, rest_behind, rest_none, steps_none, ends_well_at, ends_badly_at}
+use Rattle.script_reader.proofs.ScriptPart.{IsAt, goes_on, fails, rest_behind, rest_none, steps_none, ends_well_at, ends_badly_at}
 use Rattle.script_reader.proofs.steps.read_script.Goals as goal
 
 pub returns-then-is_steps_line : goal.returns-then-is_steps_line

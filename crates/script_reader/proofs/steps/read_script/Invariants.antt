@@ -1,4 +1,4 @@
-use Rattle.std.proofs.Common.{◌≡◌, ◌<◌, ℕ, List, length}
+use Rattle.std.proofs.Common.{ℕ, List, length}
 use Rattle.script_reader.specs.Script.{text_lines}
 use Rattle.script_reader.proofs.ScriptPart.{IsAt}
 use Rattle.script_reader.proofs.steps.read_script.Given as goal

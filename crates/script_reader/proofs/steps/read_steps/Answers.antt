@@ -1,4 +1,4 @@
-use Rattle.std.proofs.Common.{◌≡◌, List, ℕ, arith, length}
+use Rattle.std.proofs.Common.{arith}
 use Rattle.script_reader.specs.Script.{text_lines}
 use Rattle.script_reader.proofs.ScriptPart.{room, refused}
 use Rattle.script_reader.proofs.steps.read_steps.Goals as goal
