@@ -9,3 +9,4 @@ pub mod WorldLemmas
 pub mod RoomLemmas
 pub mod OpeningTables
 pub mod StepsLemmas
+pub mod PrecedenceLemmas

@@ -1,5 +1,5 @@
 -- The tables of an opening state.
-use Rattle.std.proofs.Common.{◌≡◌, ℕ, ◌+◌, ◌<◌, ◌≤◌, ◌^◌, List, [], ◌∷◌, ◌++◌, length, map, replicate, take, slice_index_or, arith, refl, sym, ap, ◌∙◌, subst}
+use Rattle.std.proofs.Common.{◌≡◌, ℕ, ◌+◌, ◌<◌, ◌≤◌, ◌^◌, ◌↔◌, List, [], ◌∷◌, ◌++◌, length, map, replicate, take, slice_index_or, arith, refl, sym, ap, ◌∙◌, subst}
 use Rattle.std.specs.List.{range_with_len, enumerate_from}
 use Rattle.std.proofs.lemmas.List.{take_more, take_all, length-map, length-replicate, get_or-replicate}
 use Rattle.std.proofs.lemmas.List.FromFn.{length-enumerate_from}
@@ -9,15 +9,19 @@ use Rattle.instrument_log.specs.declared.entry.Entry.{Entry}
 use Rattle.instrument_log.specs.InstrumentLog.{LogView, empty_log}
 use Rattle.legal_steps.specs.declared.edge_state.EdgeState.{EdgeState}
 use Rattle.legal_steps.specs.declared.edge_state.EndChoice.{EndChoice}
-use Rattle.legal_steps.specs.State.{State, Seat, edge, no_edge}
+use Rattle.legal_steps.specs.State.{State, Seat, Setting, edge, no_edge}
+use Rattle.cycles.specs.Cycles.{IsAmong, HasNoCycle, IsCycleOf}
+use Rattle.interleaving.specs.declared.counts.Counts.{Counts}
+use Rattle.interleaving.specs.Start.{at_start}
+use Rattle.interleaving.proofs.PrecedenceLemmas.{acyclic_of, cyclic_of}
 use Rattle.legal_steps.specs.Fitting.{Fits}
 use Rattle.legal_steps.specs.WholeLogs.{room_of}
 use Rattle.legal_steps.specs.Opening.{AreChoices, chosen_edge, opening_of, idle_seat, IsOpening}
-use Rattle.legal_steps.specs.Precedence.{IsAcyclic}
+use Rattle.legal_steps.specs.Precedence.{IsAcyclic, Precedes}
 use Rattle.legal_steps.proofs.OpeningChoices.{opening_edge, opening_of_choices}
 use Rattle.legal_steps.proofs.OpeningLemmas.{fits_opening}
 use Rattle.interleaving.specs.Counting.{no_counts, AreCountsOf, counts_of}
-use Rattle.interleaving.specs.World.{IsReachedWith}
+use Rattle.interleaving.specs.World.{IsReachedWith, WorldView}
 use Rattle.interleaving.proofs.LogLemmas.{shown}
 use Rattle.interleaving.proofs.RoomLemmas.{are_empty}
 
@@ -25,12 +29,12 @@ chosen_length : (plan : LabPlan) (choices : List EndChoice) → length (opening_
 chosen_length plan choices = length-map (enumerate_from 0 choices) _ ∙ length-enumerate_from 0 choices
 
 -- one more of the chosen edges
-pub chosen_more : (plan : LabPlan) (choices : List EndChoice) (n : ℕ) (choice : EndChoice) → n < length choices → choice ≡ slice_index_or choices n choice
-    → take (n + 1) (opening_of plan choices).edges ≡ take n (opening_of plan choices).edges ++ chosen_edge plan n choice ∷ []
-chosen_more plan choices n choice inside is =
+pub chosen_more : (plan : LabPlan) (choices : List EndChoice) (n : ℕ) (d : EndChoice) → n < length choices
+    → take (n + 1) (opening_of plan choices).edges ≡ take n (opening_of plan choices).edges ++ chosen_edge plan n (slice_index_or choices n d) ∷ []
+chosen_more plan choices n d inside =
     let all = (opening_of plan choices).edges in
     let there : n < length all = omega (arith, inside, chosen_length plan choices) in
-    take_more all n no_edge there ∙ ap (λ (x : EdgeState). take n all ++ x ∷ []) (opening_edge plan choices n choice inside ∙ ap (chosen_edge plan n) (sym is))
+    take_more all n no_edge there ∙ ap (λ (x : EdgeState). take n all ++ x ∷ []) (opening_edge plan choices n d inside)
 
 pub chosen_all : (plan : LabPlan) (choices : List EndChoice) (n : ℕ) → n ≡ length choices → take n (opening_of plan choices).edges ≡ (opening_of plan choices).edges
 chosen_all plan choices n all = take_all n (opening_of plan choices).edges (omega (arith, all, chosen_length plan choices))
@@ -62,3 +66,27 @@ reached_at_start plan s is_plan opens acyclic = record {
   run = record { legal = tt; leads = refl };
   counted = record { one_each = length-replicate (length plan.jobs) no_counts; counted = λ k below. none_counted (length plan.jobs) k below };
 }
+
+-- tables that show an opening state, with a tally of no counts
+pub reached_opened : (t : Setting) (plan : LabPlan) (s : State) (tally : List Counts) (n : ℕ) → t ≡ record { plan = plan; state = s } → n ≡ length plan.jobs → tally ≡ replicate n no_counts
+    → IsPlan plan → IsOpening plan s → IsAcyclic plan s → IsReachedWith t.plan t.state tally
+reached_opened t plan s tally n shows all none is_plan opens acyclic =
+    let counts : tally ≡ replicate (length plan.jobs) no_counts = none ∙ ap (λ k. replicate k no_counts) all in
+    subst (λ (x : Setting). IsReachedWith x.plan x.state tally) (sym shows) (subst (IsReachedWith plan s) (sym counts) (reached_at_start plan s is_plan opens acyclic))
+
+pub is_at_start : (t : Setting) (plan : LabPlan) (s : State) (tally : List Counts) (n : ℕ) → t ≡ record { plan = plan; state = s } → n ≡ length plan.jobs → tally ≡ replicate n no_counts
+    → record { plan = t.plan; state = t.state; counts = tally } ≡ at_start plan s
+is_at_start t plan s tally n shows all none =
+    let counts : tally ≡ replicate (length plan.jobs) no_counts = none ∙ ap (λ k. replicate k no_counts) all in
+    let make : Setting → List Counts → WorldView = λ x y. record { plan = x.plan; state = x.state; counts = y } in
+    ap (λ x. make x tally) shows ∙ ap (make (record { plan = plan; state = s })) counts
+
+pub opened_acyclic : (t : Setting) (plan : LabPlan) (s : State) (pairs lent : List (ℕ × ℕ)) → t ≡ record { plan = plan; state = s } → lent ≡ pairs
+    → ((a b : ℕ) → IsAmong pairs a b ↔ Precedes t.plan t.state a b) → HasNoCycle (IsAmong lent) → IsAcyclic plan s
+opened_acyclic t plan s pairs lent shows same these none =
+    subst (λ (x : Setting). IsAcyclic x.plan x.state) shows (acyclic_of t.plan t.state pairs these (subst (λ xs. HasNoCycle (IsAmong xs)) same none))
+
+pub opened_cyclic : (t : Setting) (plan : LabPlan) (s : State) (pairs lent : List (ℕ × ℕ)) (cycle : List ℕ) → t ≡ record { plan = plan; state = s } → lent ≡ pairs
+    → ((a b : ℕ) → IsAmong pairs a b ↔ Precedes t.plan t.state a b) → IsCycleOf (IsAmong lent) cycle → ¬ IsAcyclic plan s
+opened_cyclic t plan s pairs lent cycle shows same these is =
+    subst (λ (x : Setting). ¬ IsAcyclic x.plan x.state) shows (cyclic_of t.plan t.state pairs cycle these (subst (λ xs. IsCycleOf (IsAmong xs) cycle) same is))

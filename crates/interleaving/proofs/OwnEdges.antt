@@ -64,7 +64,7 @@ own_edge_listed plan j e own = contains_in e (edges_of plan j)
     (in_filter (λ e. ((ends plan e).0 == j) || ((ends plan e).1 == j)) e (range_with_len 0 (length (edges plan)))
       (in_range 0 (length (edges plan)) e (omega arith) (omega (arith, own.is_edge))) (passes plan j e own.at_end))
 
-get_default : (xs : List ℕ) (k d : ℕ) → k < length xs → slice_index_or xs k 0 ≡ slice_index_or xs k d
+pub get_default : (xs : List ℕ) (k d : ℕ) → k < length xs → slice_index_or xs k 0 ≡ slice_index_or xs k d
 get_default [] k d h = absurd (omega (arith, h))
 get_default (x ∷ xs) zero d h = refl
 get_default (x ∷ xs) (suc k) d h = get_default xs k d (omega (arith, h))

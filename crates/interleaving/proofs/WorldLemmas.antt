@@ -1,12 +1,14 @@
 -- A world stays reached by a step, and what follows from that.
 use Rattle.std.proofs.Common.{◌≡◌, ℕ, ◌+◌, ◌<◌, ◌≤◌, List, [], ◌∷◌, ◌++◌, length, take, slice_index_or, arith, refl, sym, ap, ◌∙◌, subst}
-use Rattle.std.proofs.lemmas.List.{take_more}
+use Rattle.std.specs.Prelude.{slice_get, Some}
+use Rattle.std.proofs.lemmas.List.{take_more, take_all}
+use Rattle.std.proofs.lemmas.Option.{slice_get_read}
 use Rattle.lab_plan.specs.LabPlan.{LabPlan}
 use Rattle.legal_steps.specs.declared.event.Event.{Event}
 use Rattle.legal_steps.specs.declared.event.Event.TheVariants.{Act, Sit, Quit, Withdraw}
 use Rattle.legal_steps.specs.State.{State}
 use Rattle.legal_steps.specs.Legal.{May, IsLegal}
-use Rattle.legal_steps.specs.Run.{Runs, after_all, meals_of, sessions_done_of, withdrawn_of}
+use Rattle.legal_steps.specs.Run.{Runs, StopsAt, after_all, meals_of, sessions_done_of, withdrawn_of}
 use Rattle.legal_steps.specs.Reached.{IsReached}
 use Rattle.legal_steps.proofs.RunLemmas.{runs_push, runs_more}
 use Rattle.legal_steps.proofs.AppendLaw.{act_appends, next_within_limits}
@@ -73,3 +75,23 @@ leads_more w mid new events n event inside is led step more same =
       counted = subst (λ xs. GoOnBy w.counts xs new.counts) (sym longer) (goes_on_push w.counts mid.counts new.counts (take n events) event led.counted more);
       same_plan = same ∙ led.same_plan;
     }
+
+pub leads_all : (w new : WorldView) (events : List Event) (n : ℕ) → LeadsTo w (take n events) new → length events ≤ n → LeadsTo w events new
+leads_all w new events n led past = subst (λ xs. LeadsTo w xs new) (take_all n events past) led
+
+-- a replay stops at an event that isn't legal
+pub stops_here : (w mid new : WorldView) (events : List Event) (n place : ℕ) (event : Event) → place ≡ n → n < length events → event ≡ slice_index_or events n event
+    → LeadsTo w (take n events) mid → ¬ May mid.plan mid.state event → new ≡ mid → StopsAt w.plan w.state events place new.state × LeadsTo w (take place events) new
+stops_here w mid new events n place event same inside is led refused unchanged =
+    let here : LeadsTo w (take place events) new = subst (λ k. LeadsTo w (take k events) new) (sym same) (subst (LeadsTo w (take n events)) (sym unchanged) led) in
+    let at : slice_get events place ≡ Some event = ap (slice_get events) same ∙ slice_get_read events (length events) n event refl inside is in
+    (record {
+      before = here.run;
+      inside = omega (arith, same, inside);
+      not_legal = λ other is_other may.
+        refused (subst (λ x. May mid.plan mid.state x) (some_is _ _ (sym is_other ∙ at))
+          (subst (λ (x : WorldView). May x.plan x.state other) unchanged (subst (λ plan. May plan new.state other) (sym here.same_plan) may)));
+    }, here)
+  where
+    some_is : (a b : Event) → Some a ≡ Some b → a ≡ b
+    some_is a b h = cc

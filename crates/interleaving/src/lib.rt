@@ -15,10 +15,12 @@ mod needs;
 mod seat;
 mod seeing;
 mod stepping;
+mod steps;
 mod tables;
 mod world;
 
 pub use counts::Counts;
+pub use cycles::{NoMemory, cycle_in};
 pub use refusal::StartRefusal;
 pub use legal_steps::{
     Dining, Drinking, EdgeState, End, EndChoice, Event, JobState, NotLegal, Step, StepLine,

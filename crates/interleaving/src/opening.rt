@@ -2,11 +2,12 @@
 ghost use Rattle.std.specs.Prelude.{◌≡◌, ℕ, ◌<◌, ◌≤◌, ◌↔◌, IsTrue, length, replicate, false, IfOk, slice_index_or};
 ghost use Rattle.lab_plan.specs.LabPlan.{edges};
 ghost use Rattle.legal_steps.specs.State.{IsOfEdge, idle_phase};
+ghost use Rattle.legal_steps.specs.declared.end.End.TheVariants.{Lower};
 ghost use Rattle.legal_steps.specs.Opening.{AreChoices, chosen_edge, opening_of};
 
 use crate::seat::JobSeat;
 use lab_plan::{EdgeNo, Plan};
-use legal_steps::{EdgeState, EndChoice};
+use legal_steps::{EdgeState, End, EndChoice};
 use std::alloc::{AllocError, Allocator};
 
 // Whether there is one choice for each edge, which names bottles of that edge alone.
@@ -39,7 +40,7 @@ fn chosen_edge<A: Allocator>(plan: &Plan<A>, edge: EdgeNo, choice: EndChoice) ->
     }
 }
 
-#[tactic(auto, using(crate::proofs::OpeningTables::chosen_more, crate::proofs::OpeningTables::chosen_all))]
+#[tactic(auto, using(crate::proofs::OpeningTables::chosen_all))]
 pub(crate) fn chosen_edges<A: Allocator>(
     alloc: A,
     plan: &Plan<A>,
@@ -69,4 +70,21 @@ pub(crate) fn idle_seats<A: Allocator + Copy>(
         seats.push(JobSeat::idle(alloc, edges)?)?;
     }
     Ok(seats)
+}
+
+// The choices of THE opening: every fork and every bottle at the edge's lower job.
+pub(crate) fn lower_choices<A: Allocator>(
+    alloc: A,
+    edges: usize,
+) -> Result<Vec<EndChoice, A>, AllocError>
+    ensures { IfOk result (λ choices. choices.items ≡ replicate edges (record { fork = Lower; bottles = 0 })) }
+{
+    let mut choices = Vec::new(alloc);
+    for _edge in 0..edges {
+        choices.push(EndChoice {
+            fork: End::Lower,
+            bottles: 0,
+        })?;
+    }
+    Ok(choices)
 }

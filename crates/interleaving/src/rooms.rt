@@ -38,7 +38,7 @@ fn room<A: Allocator>(plan: &Plan<A>, instrument: InstrumentNo) -> u32
 }
 
 // An empty log for each instrument, with room for the plan's commands on it.
-#[tactic(auto, using(crate::proofs::RoomLemmas::logs_more))]
+
 pub(crate) fn empty_logs<A: Allocator + Copy>(
     alloc: A,
     plan: &Plan<A>,

@@ -4,7 +4,7 @@ ghost use Rattle.lab_plan.specs.LabPlan.{edges};
 ghost use Rattle.legal_steps.specs.State.{IsOwn, IsOfEdge, end_of, edge as edge_at, phase as phase_at, seat, fork_mark as fork_mark_at, bottle_marks as bottle_marks_at, log as log_at};
 ghost use Rattle.legal_steps.specs.Legal.{IsJob, with_edge, with_seat, with_phase, with_fork_mark, with_bottle_marks, turned_to, with_entry};
 ghost use Rattle.legal_steps.specs.Fitting.{Fits};
-ghost use Rattle.legal_steps.specs.Opening.{AreChoices, opening_of};
+ghost use Rattle.legal_steps.specs.Opening.{AreChoices, opening_of, the_opening};
 ghost use Rattle.lab_plan.specs.IsPlan.{IsPlan};
 ghost use Rattle.interleaving.specs.Phases.{IsPhaseOf};
 ghost use Rattle.interleaving.specs.Rooms.{log_with_room};
@@ -12,7 +12,7 @@ ghost use Rattle.instrument_log.specs.Dial.{turned, dial};
 ghost use Rattle.instrument_log.specs.Entries.{IsWithinLimits};
 ghost use Rattle.instrument_log.specs.InstrumentLog.{MayAppend};
 
-use crate::opening::{chosen_edges, idle_seats};
+use crate::opening::{chosen_edges, idle_seats, lower_choices};
 use crate::rooms::empty_logs;
 use crate::seat::JobSeat;
 use instrument_log::{Entry, InstrumentLog};
@@ -67,6 +67,14 @@ impl<'a, A: Allocator + Copy> Tables<'a, A> {
             seats: idle_seats(alloc, plan.jobs(), plan.edges() as usize)?,
             logs: empty_logs(alloc, plan)?,
         })
+    }
+
+    // The tables of THE opening.
+    pub(crate) fn opening(alloc: A, plan: &'a Plan<A>) -> Result<Tables<'a, A>, AllocError>
+        ensures { IfOk result (λ tables. tables ≡ record { plan = plan.now; state = the_opening plan.now }) }
+    {
+        let choices = lower_choices(alloc, plan.edges() as usize)?;
+        Tables::opened(alloc, plan, &choices)
     }
 }
 

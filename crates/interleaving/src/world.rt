@@ -1,17 +1,23 @@
 // A world: a plan, and a state of its bench that legal events have led to from an opening without a cycle.
-ghost use Rattle.std.specs.Prelude.{◌≡◌, ◌<◌, ◌↔◌, IsTrue, length};
+ghost use Rattle.std.specs.Prelude.{◌≡◌, ◌<◌, ◌↔◌, IsTrue, length, IfOk, IfErr};
 ghost use Rattle.lab_plan.specs.LabPlan.{edges};
 ghost use Rattle.legal_steps.specs.State.{IsOwn, edge as edge_at, phase as phase_at, fork_mark as fork_mark_at, bottle_marks as bottle_marks_at};
 ghost use Rattle.legal_steps.specs.Legal.{IsJob, May};
 ghost use Rattle.interleaving.specs.Rooms.{log_with_room};
 ghost use Rattle.interleaving.specs.Counting.{count_at};
 ghost use Rattle.interleaving.specs.World.{IsReachedWith, Steps, Replays};
+ghost use Rattle.interleaving.specs.Start.{at_start, IsStartRefused};
+ghost use Rattle.legal_steps.specs.Opening.{AreChoices, opening_of, the_opening};
+ghost use Rattle.legal_steps.specs.Precedence.{IsAcyclic, Precedes};
 
 use crate::counts::Tally;
+use crate::opening::are_choices;
+use crate::refusal::StartRefusal;
 use crate::tables::Tables;
+use cycles::{NoMemory, cycle_in};
 use instrument_log::InstrumentLog;
 use lab_plan::{EdgeNo, InstrumentNo, JobNo, Plan};
-use legal_steps::{EdgeState, Event, JobState, NotLegal};
+use legal_steps::{EdgeState, EndChoice, Event, JobState, NotLegal};
 use std::alloc::{Allocator, Global};
 use std::marker::Model;
 
@@ -34,6 +40,41 @@ impl<'a, A: Allocator> Model for World<'a, A> {
     ghost view = { λ w. record { plan = w.tables.plan; state = w.tables.state; counts = w.tally } };
 
     ghost invariant = { λ w. IsReachedWith w.tables.plan w.tables.state w.tally };
+}
+
+impl<'a, A: Allocator + Copy> World<'a, A> {
+    /// A world at the start that the choices give: one for each edge, by edge number. Every fork
+    /// starts dirty and every token opposite to its fork or bottle. All memory is taken here.
+    pub fn start(
+        alloc: A,
+        plan: &'a Plan<A>,
+        choices: &[EndChoice],
+    ) -> Result<World<'a, A>, StartRefusal>
+        ensures started { IfOk result (λ world. world ≡ at_start plan.now (opening_of plan.now choices.now)) }
+        ensures opens { IfOk result (λ _. AreChoices plan.now choices.now × IsAcyclic plan.now (opening_of plan.now choices.now)) }
+        ensures refused { IfErr result (IsStartRefused plan.now choices.now) }
+    {
+        if !are_choices(plan, choices) {
+            return Err(StartRefusal::BadChoices);
+        }
+        let tables = Tables::opened(alloc, plan, choices)?;
+        let tally = Tally::new(alloc, plan.jobs())?;
+        let pairs = tables.precedence(alloc)?;
+        match cycle_in(alloc, plan.jobs(), &pairs)? {
+            Some(_) => Err(StartRefusal::Cycle),
+            None => Ok(World { tables, tally }),
+        }
+    }
+
+    /// A world at the opening where each fork and each bottle is at the edge's lower job. On each edge
+    /// the higher job precedes then, so no cycle can be.
+    pub fn opening(alloc: A, plan: &'a Plan<A>) -> Result<World<'a, A>, NoMemory>
+        ensures { IfOk result (λ world. world ≡ at_start plan.now (the_opening plan.now)) }
+    {
+        let tables = Tables::opening(alloc, plan)?;
+        let tally = Tally::new(alloc, plan.jobs())?;
+        Ok(World { tables, tally })
+    }
 }
 
 impl<'a, A: Allocator> World<'a, A> {
@@ -108,6 +149,14 @@ impl<'a, A: Allocator> World<'a, A> {
     {
         let _ = self.tables.own_end(job, edge);
         self.tables.bottle_marks(job, edge)
+    }
+
+    /// Whether the first job precedes the second: of a clean fork the holder does, and of a fork that is
+    /// dirty or whose holder eats the other (Chandy and Misra 1984). Of jobs without an edge neither does.
+    pub fn precedes(&self, a: JobNo, b: JobNo) -> bool
+        ensures { IsTrue result ↔ Precedes self.now.plan self.now.state a b }
+    {
+        self.tables.precedes(a, b)
     }
 
     /// The log of the instrument.

@@ -2,5 +2,5 @@ use Rattle.std.proofs.Common.{◌≡◌, false, replicate}
 use Rattle.legal_steps.specs.State.{Seat, idle_phase}
 use Rattle.interleaving.proofs.opening.idle_seats.Given as goal
 
-abbrev pub invariant-loop-_job : goal.invariant-loop-_job
-invariant-loop-_job g l = l.seats.items ≡ replicate l._job (record { phase = idle_phase; fork_marks = replicate l.edges false; bottle_marks = replicate l.edges 0 })
+abbrev pub invariant-loop-job : goal.invariant-loop-job
+invariant-loop-job g l = l.seats.items ≡ replicate l._job (record { phase = idle_phase; fork_marks = replicate l.edges false; bottle_marks = replicate l.edges 0 })
