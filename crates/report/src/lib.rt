@@ -18,3 +18,5 @@ pub use sink::{Failed, Sink, ToWrite};
 pub use tally::Tally;
 pub use world::write_world;
 
+#[cfg(test)]
+mod tests;

@@ -1,0 +1,97 @@
+// Sinks that take one byte a call, none, or fail at a call: exactly the first bytes went out.
+use super::{TWO_ADD, plan_of, report_by, script_by};
+use crate::{Failed, Sink, ToWrite, WriteFault, offer};
+use interleaving::World;
+use lab_plan::PlanBuilder;
+use std::test::Fail;
+
+/// The report of two jobs before their first event, line by line.
+const REPORT: [&[u8]; 5] = [
+    b"lab 1\n",
+    b"instrument scale 0\n",
+    b"job a sessions 0 of 1 meals 0 waiting\n",
+    b"job b sessions 0 of 1 meals 0 waiting\n",
+    b"unfinished\n",
+];
+
+/// The upgraded script of two jobs, line by line.
+const SCRIPT: [&[u8]; 9] = [
+    b"lab 2\n",
+    b"job a\n",
+    b"session\n",
+    b"scale add 1\n",
+    b"end\n",
+    b"job b\n",
+    b"session\n",
+    b"scale add 1\n",
+    b"end\n",
+];
+
+#[test]
+fn a_line_a_call(rt: HostRuntime) -> Result<(), Fail> {
+    let plan = plan_of(&rt, PlanBuilder::new(rt.alloc()), &TWO_ADD);
+    let world = World::opening(rt.alloc(), &plan)?;
+    let mut first = Vec::new(rt.alloc());
+    for calls in 0..REPORT.len() {
+        let (bytes, answer) = report_by(rt.alloc(), &world, 1000, calls);
+        assert!(rt; answer == Err(WriteFault), "after {calls} calls");
+        assert!(rt; bytes.as_slice() == first.as_slice(), "after {calls} calls");
+        first.extend_from_slice(REPORT[calls])?;
+    }
+    let (bytes, answer) = report_by(rt.alloc(), &world, 1000, REPORT.len());
+    assert!(rt; answer == Ok(()) && bytes.as_slice() == first.as_slice());
+    Ok(())
+}
+
+#[test]
+fn a_line_of_a_script_a_call(rt: HostRuntime) -> Result<(), Fail> {
+    let plan = plan_of(&rt, PlanBuilder::new(rt.alloc()), &TWO_ADD);
+    let mut first = Vec::new(rt.alloc());
+    for calls in 0..SCRIPT.len() {
+        let (bytes, answer) = script_by(rt.alloc(), &plan, 1000, calls);
+        assert!(rt; answer == Err(WriteFault), "after {calls} calls");
+        assert!(rt; bytes.as_slice() == first.as_slice(), "after {calls} calls");
+        first.extend_from_slice(SCRIPT[calls])?;
+    }
+    let (bytes, answer) = script_by(rt.alloc(), &plan, 1000, SCRIPT.len());
+    assert!(rt; answer == Ok(()) && bytes.as_slice() == first.as_slice());
+    Ok(())
+}
+
+#[test]
+fn a_byte_a_call(rt: HostRuntime) -> Result<(), Fail> {
+    let plan = plan_of(&rt, PlanBuilder::new(rt.alloc()), &TWO_ADD);
+    let world = World::opening(rt.alloc(), &plan)?;
+    let mut whole = Vec::new(rt.alloc());
+    for line in REPORT {
+        whole.extend_from_slice(line)?;
+    }
+    for calls in 0..whole.len() {
+        let (bytes, answer) = report_by(rt.alloc(), &world, 1, calls);
+        assert!(rt; answer == Err(WriteFault), "after {calls} calls");
+        assert!(rt; bytes.as_slice() == &whole[..calls], "after {calls} calls");
+    }
+    let (bytes, answer) = report_by(rt.alloc(), &world, 1, whole.len());
+    assert!(rt; answer == Ok(()) && bytes.as_slice() == whole.as_slice());
+    Ok(())
+}
+
+/// A writer that takes no byte fails, and is not asked again.
+#[test]
+fn no_byte(rt: HostRuntime) -> Result<(), Fail> {
+    let plan = plan_of(&rt, PlanBuilder::new(rt.alloc()), &TWO_ADD);
+    let world = World::opening(rt.alloc(), &plan)?;
+    let (bytes, answer) = report_by(rt.alloc(), &world, 0, 1000);
+    assert!(rt; answer == Err(WriteFault) && bytes.is_empty());
+    Ok(())
+}
+
+#[test]
+fn offers_and_flushes(rt: HostRuntime) {
+    let mut bytes = Vec::new(rt.alloc());
+    let mut sink = ToWrite::new(&mut bytes);
+    assert!(rt; offer(&mut sink, b"lamp") == Ok(()) && offer(&mut sink, b"") == Ok(()));
+    assert!(rt; sink.write(b" on") == Ok(3) && sink.flush() == Ok(()));
+    assert!(rt; sink.write(b"!") != Err(Failed));
+    assert!(rt; bytes.as_slice() == b"lamp on!".as_slice());
+}
