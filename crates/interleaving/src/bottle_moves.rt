@@ -64,7 +64,13 @@ impl<'a, A: Allocator> Tables<'a, A> {
         ensures plan { self.new.plan ≡ self.old.plan }
     {
         let state = self.edge(edge);
-        self.set_edge(edge, EdgeState { bottle_tokens: state.bottle_tokens ^ set, ..state });
+        self.set_edge(
+            edge,
+            EdgeState {
+                bottle_tokens: state.bottle_tokens ^ set,
+                ..state
+            },
+        );
     }
 
     // Whether the job keeps the bottle: it needs it, and drinks or has the fork.
@@ -109,9 +115,7 @@ impl<'a, A: Allocator> Tables<'a, A> {
     pub(crate) fn may_give_bottles(&self, job: JobNo, edge: EdgeNo, set: u32) -> bool
         ensures { IsTrue result ↔ May self.now.plan self.now.state (GiveBottles job edge set) }
     {
-        self.owns(job, edge)
-            && self.is_bottle_set(edge, set)
-            && self.may_give_all(job, edge, set)
+        self.owns(job, edge) && self.is_bottle_set(edge, set) && self.may_give_all(job, edge, set)
     }
 
     #[tactic(auto, using(std::proofs::lemmas::Nat::xor_lt, crate::proofs::BottleLemmas::cleared_below))]
@@ -123,7 +127,13 @@ impl<'a, A: Allocator> Tables<'a, A> {
         let _ = self.own_end(job, edge);
         let state = self.edge(edge);
         let marks = self.bottle_marks(job, edge);
-        self.set_edge(edge, EdgeState { bottles: state.bottles ^ set, ..state });
+        self.set_edge(
+            edge,
+            EdgeState {
+                bottles: state.bottles ^ set,
+                ..state
+            },
+        );
         self.set_bottle_marks(job, edge, marks ^ (marks & set));
     }
 }

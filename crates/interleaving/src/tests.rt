@@ -16,7 +16,9 @@ mod guards;
 mod starts;
 
 const A: JobNo = JobNo(0);
+
 const B: JobNo = JobNo(1);
+
 const AB: EdgeNo = EdgeNo(0);
 
 // A line of a plan.
@@ -101,7 +103,11 @@ fn job<T: Allocator>(rt: &impl Abort, world: &World<T>, job: JobNo) -> JobState 
 // Meals, sessions done and sessions given up.
 fn counts<T: Allocator>(rt: &impl Abort, world: &World<T>, job: JobNo) -> (u32, u32, u32) {
     assert!(rt; (job.0 as usize) < world.plan().jobs());
-    (world.meals(job), world.sessions_done(job), world.withdrawn(job))
+    (
+        world.meals(job),
+        world.sessions_done(job),
+        world.withdrawn(job),
+    )
 }
 
 fn phase(dining: Dining, drinking: Drinking, session: u32, position: u32) -> JobState {

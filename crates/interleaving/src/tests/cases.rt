@@ -21,15 +21,33 @@ fn eats_before_drinking(rt: HostRuntime) -> Result<(), Fail> {
     let plan = plan_of(&rt, rt.alloc(), &SCALE);
     let mut world = World::opening(rt.alloc(), &plan)?;
     let steps = [
-        StepLine { line: 11, step: Step::Thirst(A) },
-        StepLine { line: 12, step: Step::Hunger(A) },
-        StepLine { line: 13, step: Step::Look(A, AB) },
-        StepLine { line: 14, step: Step::Sit(A) },
+        StepLine {
+            line: 11,
+            step: Step::Thirst(A),
+        },
+        StepLine {
+            line: 12,
+            step: Step::Hunger(A),
+        },
+        StepLine {
+            line: 13,
+            step: Step::Look(A, AB),
+        },
+        StepLine {
+            line: 14,
+            step: Step::Sit(A),
+        },
     ];
     assert!(rt; are_steps_of(world.plan(), &steps));
     assert_eq!(rt; world.replay_steps(&steps), Ok(4));
-    assert_eq!(rt; job(&rt, &world, A), phase(Dining::Eating, Drinking::Thirsty, 1, 0));
-    assert_eq!(rt; job(&rt, &world, B), phase(Dining::Thinking, Drinking::Tranquil, 0, 0));
+    assert_eq!(rt;
+        job(&rt, &world, A),
+        phase(Dining::Eating, Drinking::Thirsty, 1, 0)
+    );
+    assert_eq!(rt;
+        job(&rt, &world, B),
+        phase(Dining::Thinking, Drinking::Tranquil, 0, 0)
+    );
     assert_eq!(rt; counts(&rt, &world, A), (1, 0, 0));
     assert_eq!(rt; counts(&rt, &world, B), (0, 0, 0));
     assert_eq!(rt; scale_log(&rt, &world).len(), 0);
@@ -43,8 +61,14 @@ fn illegal_step(rt: HostRuntime) -> Result<(), Fail> {
     let mut world = World::opening(rt.alloc(), &plan)?;
     let events = [Event::Thirst(A), Event::Hunger(A), Event::Sit(A)];
     assert_eq!(rt; world.replay(&events), Err((2, NotLegal)));
-    assert_eq!(rt; job(&rt, &world, A), phase(Dining::Hungry, Drinking::Thirsty, 1, 0));
-    assert_eq!(rt; job(&rt, &world, B), phase(Dining::Thinking, Drinking::Tranquil, 0, 0));
+    assert_eq!(rt;
+        job(&rt, &world, A),
+        phase(Dining::Hungry, Drinking::Thirsty, 1, 0)
+    );
+    assert_eq!(rt;
+        job(&rt, &world, B),
+        phase(Dining::Thinking, Drinking::Tranquil, 0, 0)
+    );
     assert_eq!(rt; counts(&rt, &world, A), (0, 0, 0));
     let opened = EdgeState {
         fork: End::Lower,
@@ -101,8 +125,14 @@ fn stale_mark(rt: HostRuntime) -> Result<(), Fail> {
     assert_eq!(rt; walk(&rt, &mut world, &[Step::Sit(A)]), Err(0));
     assert_eq!(rt; counts(&rt, &world, A), (1, 1, 0));
     assert_eq!(rt; counts(&rt, &world, B), (0, 0, 0));
-    assert_eq!(rt; job(&rt, &world, A), phase(Dining::Hungry, Drinking::Thirsty, 2, 0));
-    assert_eq!(rt; job(&rt, &world, B), phase(Dining::Hungry, Drinking::Thirsty, 1, 0));
+    assert_eq!(rt;
+        job(&rt, &world, A),
+        phase(Dining::Hungry, Drinking::Thirsty, 2, 0)
+    );
+    assert_eq!(rt;
+        job(&rt, &world, B),
+        phase(Dining::Hungry, Drinking::Thirsty, 1, 0)
+    );
     let asked = EdgeState {
         fork: End::Lower,
         dirty: true,
@@ -114,14 +144,23 @@ fn stale_mark(rt: HostRuntime) -> Result<(), Fail> {
     let log = scale_log(&rt, &world);
     assert_eq!(rt; log.len(), 1);
     let entry = log.entry(0);
-    assert_eq!(rt; (entry.job, entry.session, entry.place, entry.length), (A, 1, 1, 1));
+    assert_eq!(rt;
+        (entry.job, entry.session, entry.place, entry.length),
+        (A, 1, 1, 1)
+    );
     assert_eq!(rt; (entry.verb, entry.value), (Verb::Add(1), 1));
 
     assert_eq!(rt; walk(&rt, &mut world, &GOES_ON), Ok(13));
     assert_eq!(rt; counts(&rt, &world, A), (2, 1, 0));
     assert_eq!(rt; counts(&rt, &world, B), (1, 0, 0));
-    assert_eq!(rt; job(&rt, &world, A), phase(Dining::Eating, Drinking::Thirsty, 2, 0));
-    assert_eq!(rt; job(&rt, &world, B), phase(Dining::Thinking, Drinking::Drinking, 1, 0));
+    assert_eq!(rt;
+        job(&rt, &world, A),
+        phase(Dining::Eating, Drinking::Thirsty, 2, 0)
+    );
+    assert_eq!(rt;
+        job(&rt, &world, B),
+        phase(Dining::Thinking, Drinking::Drinking, 1, 0)
+    );
     let given = EdgeState {
         fork: End::Lower,
         dirty: false,
@@ -153,6 +192,7 @@ pub(super) const TRIANGLE: [Line<'static>; 15] = [
 ];
 
 const C: JobNo = JobNo(2);
+
 const AC: EdgeNo = EdgeNo(1);
 
 // Whether these pairs, and no others, are those of which the first job precedes the second.

@@ -65,7 +65,11 @@ fn guards(rt: HostRuntime) -> Result<(), Fail> {
         let mut world = World::opening(rt.alloc(), &plan)?;
         assert!(rt; place <= 16);
         assert_eq!(rt; walk(&rt, &mut world, &STALE_MARK[..place]), Ok(place));
-        assert_eq!(rt; walk(&rt, &mut world, &[step]).is_ok(), legal, "after {place} {step:?}");
+        assert_eq!(rt;
+            walk(&rt, &mut world, &[step]).is_ok(),
+            legal,
+            "after {place} {step:?}"
+        );
     }
     Ok(())
 }
@@ -97,7 +101,10 @@ fn marks(rt: HostRuntime) -> Result<(), Fail> {
     let plan = plan_of(&rt, rt.alloc(), &SCALE);
     let mut world = World::opening(rt.alloc(), &plan)?;
     assert_eq!(rt; marks_of(&rt, &world, A), (false, 0));
-    assert_eq!(rt; walk(&rt, &mut world, &[Step::Look(A, AB), Step::Look(B, AB)]), Ok(2));
+    assert_eq!(rt;
+        walk(&rt, &mut world, &[Step::Look(A, AB), Step::Look(B, AB)]),
+        Ok(2)
+    );
     assert_eq!(rt; marks_of(&rt, &world, A), (true, 1));
     assert_eq!(rt; marks_of(&rt, &world, B), (false, 0));
     let other = EdgeState {
@@ -132,7 +139,10 @@ fn retires_at_the_end(rt: HostRuntime) -> Result<(), Fail> {
     assert_eq!(rt; walk(&rt, &mut world, &session), Ok(6));
     assert_eq!(rt; world.step(Event::Thirst(A)), Err(NotLegal));
     assert_eq!(rt; world.step(Event::Retire(A)), Ok(()));
-    assert_eq!(rt; job(&rt, &world, A), phase(Dining::Thinking, Drinking::Retired, 1, 0));
+    assert_eq!(rt;
+        job(&rt, &world, A),
+        phase(Dining::Thinking, Drinking::Retired, 1, 0)
+    );
     Ok(())
 }
 
@@ -168,14 +178,23 @@ fn withdraws(rt: HostRuntime) -> Result<(), Fail> {
     let plan = finished(&rt, builder);
     let mut world = World::opening(rt.alloc(), &plan)?;
     assert_eq!(rt; world.step(Event::Withdraw(B)), Err(NotLegal));
-    assert_eq!(rt; walk(&rt, &mut world, &[Step::Thirst(A), Step::Thirst(B)]), Ok(2));
+    assert_eq!(rt;
+        walk(&rt, &mut world, &[Step::Thirst(A), Step::Thirst(B)]),
+        Ok(2)
+    );
     // the session of a has no patience
     assert_eq!(rt; world.step(Event::Withdraw(A)), Err(NotLegal));
     assert_eq!(rt; world.step(Event::Withdraw(B)), Ok(()));
     assert_eq!(rt; counts(&rt, &world, B), (0, 0, 1));
-    assert_eq!(rt; job(&rt, &world, B), phase(Dining::Thinking, Drinking::Tranquil, 1, 0));
+    assert_eq!(rt;
+        job(&rt, &world, B),
+        phase(Dining::Thinking, Drinking::Tranquil, 1, 0)
+    );
     assert_eq!(rt; world.step(Event::Retire(B)), Ok(()));
-    assert_eq!(rt; walk(&rt, &mut world, &[Step::Look(A, AB), Step::Drink(A)]), Ok(2));
+    assert_eq!(rt;
+        walk(&rt, &mut world, &[Step::Look(A, AB), Step::Drink(A)]),
+        Ok(2)
+    );
     // no session is given up once the job drinks
     assert_eq!(rt; world.step(Event::Withdraw(A)), Err(NotLegal));
     Ok(())
