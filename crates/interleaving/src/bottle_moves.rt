@@ -28,7 +28,6 @@ impl<'a, A: Allocator> Tables<'a, A> {
     {
         let here = self.own_end(job, edge);
         let state = self.edge(edge);
-        let _ = self.bottles(edge);
         self.needs_bottle(job, edge, bottle)
             && bottle_end(state.bottles, bottle) != here
             && bottle_end(state.bottle_tokens, bottle) == here
@@ -77,7 +76,8 @@ impl<'a, A: Allocator> Tables<'a, A> {
     pub(crate) fn keeps_bottle(&self, job: JobNo, edge: EdgeNo, bottle: u32) -> bool
         requires own { IsOwn self.now.plan job edge }
         requires is_bottle { bottle < length (bottles self.now.plan edge) }
-        ensures { IsTrue result ↔ (Needs self.now.plan self.now.state job (instrument_of self.now.plan edge bottle) × (IsDrinking (phase_at self.now.state job) ⊎ Here self.now.plan job edge (fork self.now.state edge))) }
+        ensures few { bottle < 28 }
+        ensures keeps { IsTrue result ↔ (Needs self.now.plan self.now.state job (instrument_of self.now.plan edge bottle) × (IsDrinking (phase_at self.now.state job) ⊎ Here self.now.plan job edge (fork self.now.state edge))) }
     {
         let here = self.own_end(job, edge);
         let fork_here = self.edge(edge).fork == here;
@@ -92,10 +92,9 @@ impl<'a, A: Allocator> Tables<'a, A> {
     {
         let here = self.own_end(job, edge);
         let state = self.edge(edge);
-        let _ = self.bottles(edge);
-        bottle_end(state.bottles, bottle) == here
+        !self.keeps_bottle(job, edge, bottle)
+            && bottle_end(state.bottles, bottle) == here
             && bottle_end(state.bottle_tokens, bottle) == here
-            && !self.keeps_bottle(job, edge, bottle)
     }
 
     // Whether the job may give each bottle of the set.
@@ -124,7 +123,6 @@ impl<'a, A: Allocator> Tables<'a, A> {
         ensures state { self.new.state ≡ after self.old.plan self.old.state (GiveBottles job edge set) }
         ensures plan { self.new.plan ≡ self.old.plan }
     {
-        let _ = self.own_end(job, edge);
         let state = self.edge(edge);
         let marks = self.bottle_marks(job, edge);
         self.set_edge(

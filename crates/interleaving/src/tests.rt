@@ -68,26 +68,30 @@ fn finished<T: Allocator + Copy>(rt: &impl Abort, builder: PlanBuilder<T>) -> Pl
 }
 
 // Two jobs with a session each, which add 1 on the scale that they share.
-const SCALE: [Line<'static>; 6] = [
-    Line::Job(b"a"),
-    Line::Session,
-    Line::Command(b"scale", Verb::Add(1)),
-    Line::Job(b"b"),
-    Line::Session,
-    Line::Command(b"scale", Verb::Add(1)),
-];
+fn scale() -> [Line<'static>; 6] {
+    [
+        Line::Job(b"a"),
+        Line::Session,
+        Line::Command(b"scale", Verb::Add(1)),
+        Line::Job(b"b"),
+        Line::Session,
+        Line::Command(b"scale", Verb::Add(1)),
+    ]
+}
 
 // The same, with a second session of the first job.
-const SCALE_TWICE: [Line<'static>; 8] = [
-    Line::Job(b"a"),
-    Line::Session,
-    Line::Command(b"scale", Verb::Add(1)),
-    Line::Session,
-    Line::Command(b"scale", Verb::Add(1)),
-    Line::Job(b"b"),
-    Line::Session,
-    Line::Command(b"scale", Verb::Add(1)),
-];
+fn scale_twice() -> [Line<'static>; 8] {
+    [
+        Line::Job(b"a"),
+        Line::Session,
+        Line::Command(b"scale", Verb::Add(1)),
+        Line::Session,
+        Line::Command(b"scale", Verb::Add(1)),
+        Line::Job(b"b"),
+        Line::Session,
+        Line::Command(b"scale", Verb::Add(1)),
+    ]
+}
 
 // The edge, once it is seen to be one.
 fn edge<T: Allocator>(rt: &impl Abort, world: &World<T>, edge: EdgeNo) -> EdgeState {

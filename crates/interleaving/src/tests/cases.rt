@@ -1,6 +1,6 @@
 // Whole runs.
 use super::{
-    A, AB, B, Line, SCALE, SCALE_TWICE, are_steps_of, counts, edge, job, phase, plan_of, walk,
+    A, AB, B, Line, are_steps_of, counts, edge, job, phase, plan_of, scale, scale_twice, walk,
 };
 use crate::{Dining, Drinking, EdgeState, End, EndChoice, Event, NotLegal, Step, StepLine, World};
 use instrument_log::InstrumentLog;
@@ -18,7 +18,7 @@ fn scale_log<'w, T: Allocator>(rt: &impl Abort, world: &'w World<T>) -> &'w Inst
 
 #[test]
 fn eats_before_drinking(rt: HostRuntime) -> Result<(), Fail> {
-    let plan = plan_of(&rt, rt.alloc(), &SCALE);
+    let plan = plan_of(&rt, rt.alloc(), &scale());
     let mut world = World::opening(rt.alloc(), &plan)?;
     let steps = [
         StepLine {
@@ -57,7 +57,7 @@ fn eats_before_drinking(rt: HostRuntime) -> Result<(), Fail> {
 
 #[test]
 fn illegal_step(rt: HostRuntime) -> Result<(), Fail> {
-    let plan = plan_of(&rt, rt.alloc(), &SCALE);
+    let plan = plan_of(&rt, rt.alloc(), &scale());
     let mut world = World::opening(rt.alloc(), &plan)?;
     let events = [Event::Thirst(A), Event::Hunger(A), Event::Sit(A)];
     assert_eq!(rt; world.replay(&events), Err((2, NotLegal)));
@@ -82,46 +82,50 @@ fn illegal_step(rt: HostRuntime) -> Result<(), Fail> {
 }
 
 // A job keeps a mark over its neighbour's request, and sits once more by it.
-pub(super) const STALE_MARK: [Step; 16] = [
-    Step::Thirst(A),
-    Step::Hunger(A),
-    Step::Thirst(B),
-    Step::Hunger(B),
-    Step::Look(A, AB),
-    Step::AskFork(B, AB),
-    Step::Sit(A),
-    Step::Drink(A),
-    Step::Look(A, AB),
-    Step::Reach(A),
-    Step::Act(A),
-    Step::Quit(A),
-    Step::Leave(A),
-    Step::Thirst(A),
-    Step::Hunger(A),
-    Step::Look(A, AB),
-];
+pub(super) fn stale_mark_steps() -> [Step; 16] {
+    [
+        Step::Thirst(A),
+        Step::Hunger(A),
+        Step::Thirst(B),
+        Step::Hunger(B),
+        Step::Look(A, AB),
+        Step::AskFork(B, AB),
+        Step::Sit(A),
+        Step::Drink(A),
+        Step::Look(A, AB),
+        Step::Reach(A),
+        Step::Act(A),
+        Step::Quit(A),
+        Step::Leave(A),
+        Step::Thirst(A),
+        Step::Hunger(A),
+        Step::Look(A, AB),
+    ]
+}
 
-const GOES_ON: [Step; 13] = [
-    Step::GiveFork(A, AB),
-    Step::Look(B, AB),
-    Step::Sit(B),
-    Step::AskBottles(B, AB, 1),
-    Step::GiveBottles(A, AB, 1),
-    Step::Look(B, AB),
-    Step::Drink(B),
-    Step::AskFork(A, AB),
-    Step::Soil(B, AB),
-    Step::Leave(B),
-    Step::GiveFork(B, AB),
-    Step::Look(A, AB),
-    Step::Sit(A),
-];
+fn goes_on() -> [Step; 13] {
+    [
+        Step::GiveFork(A, AB),
+        Step::Look(B, AB),
+        Step::Sit(B),
+        Step::AskBottles(B, AB, 1),
+        Step::GiveBottles(A, AB, 1),
+        Step::Look(B, AB),
+        Step::Drink(B),
+        Step::AskFork(A, AB),
+        Step::Soil(B, AB),
+        Step::Leave(B),
+        Step::GiveFork(B, AB),
+        Step::Look(A, AB),
+        Step::Sit(A),
+    ]
+}
 
 #[test]
 fn stale_mark(rt: HostRuntime) -> Result<(), Fail> {
-    let plan = plan_of(&rt, rt.alloc(), &SCALE_TWICE);
+    let plan = plan_of(&rt, rt.alloc(), &scale_twice());
     let mut world = World::opening(rt.alloc(), &plan)?;
-    assert_eq!(rt; walk(&rt, &mut world, &STALE_MARK), Ok(16));
+    assert_eq!(rt; walk(&rt, &mut world, &stale_mark_steps()), Ok(16));
     assert_eq!(rt; walk(&rt, &mut world, &[Step::Sit(A)]), Err(0));
     assert_eq!(rt; counts(&rt, &world, A), (1, 1, 0));
     assert_eq!(rt; counts(&rt, &world, B), (0, 0, 0));
@@ -150,7 +154,7 @@ fn stale_mark(rt: HostRuntime) -> Result<(), Fail> {
     );
     assert_eq!(rt; (entry.verb, entry.value), (Verb::Add(1), 1));
 
-    assert_eq!(rt; walk(&rt, &mut world, &GOES_ON), Ok(13));
+    assert_eq!(rt; walk(&rt, &mut world, &goes_on()), Ok(13));
     assert_eq!(rt; counts(&rt, &world, A), (2, 1, 0));
     assert_eq!(rt; counts(&rt, &world, B), (1, 0, 0));
     assert_eq!(rt;
@@ -173,23 +177,25 @@ fn stale_mark(rt: HostRuntime) -> Result<(), Fail> {
 }
 
 // Jobs 0, 1 and 2 share the edges 0-1, 0-2 and 1-2.
-pub(super) const TRIANGLE: [Line<'static>; 15] = [
-    Line::Job(b"a"),
-    Line::Session,
-    Line::Command(b"x", Verb::Read),
-    Line::Command(b"y", Verb::Read),
-    Line::Command(b"z", Verb::Read),
-    Line::Job(b"b"),
-    Line::Session,
-    Line::Command(b"x", Verb::Read),
-    Line::Command(b"y", Verb::Read),
-    Line::Command(b"z", Verb::Read),
-    Line::Job(b"c"),
-    Line::Session,
-    Line::Command(b"x", Verb::Read),
-    Line::Command(b"y", Verb::Read),
-    Line::Command(b"z", Verb::Read),
-];
+pub(super) fn triangle_lines() -> [Line<'static>; 15] {
+    [
+        Line::Job(b"a"),
+        Line::Session,
+        Line::Command(b"x", Verb::Read),
+        Line::Command(b"y", Verb::Read),
+        Line::Command(b"z", Verb::Read),
+        Line::Job(b"b"),
+        Line::Session,
+        Line::Command(b"x", Verb::Read),
+        Line::Command(b"y", Verb::Read),
+        Line::Command(b"z", Verb::Read),
+        Line::Job(b"c"),
+        Line::Session,
+        Line::Command(b"x", Verb::Read),
+        Line::Command(b"y", Verb::Read),
+        Line::Command(b"z", Verb::Read),
+    ]
+}
 
 const C: JobNo = JobNo(2);
 
@@ -209,7 +215,7 @@ fn are_pairs<T: Allocator>(world: &World<T>, pairs: &[(JobNo, JobNo)]) -> bool {
 
 #[test]
 fn triangle(rt: HostRuntime) -> Result<(), Fail> {
-    let plan = plan_of(&rt, rt.alloc(), &TRIANGLE);
+    let plan = plan_of(&rt, rt.alloc(), &triangle_lines());
     let higher = EndChoice {
         fork: End::Higher,
         bottles: 0,

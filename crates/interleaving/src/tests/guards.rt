@@ -1,7 +1,7 @@
 // Where events are legal, also where no law of runs would tell.
-use super::cases::STALE_MARK;
+use super::cases::stale_mark_steps;
 use super::{
-    A, AB, B, Line, SCALE, SCALE_TWICE, counts, edge, finished, job, phase, plan_of, put, walk,
+    A, AB, B, Line, counts, edge, finished, job, phase, plan_of, put, scale, scale_twice, walk,
 };
 use crate::{Dining, Drinking, EdgeState, Event, NotLegal, Step, World};
 use lab_plan::{EdgeNo, JobNo, PlanBuilder, Verb};
@@ -11,10 +11,11 @@ use std::test::Fail;
 
 #[test]
 fn acts_only_where_it_reaches(rt: HostRuntime) -> Result<(), Fail> {
-    let plan = plan_of(&rt, rt.alloc(), &SCALE_TWICE);
+    let plan = plan_of(&rt, rt.alloc(), &scale_twice());
+    let steps = stale_mark_steps();
     for place in 0..17 {
         let mut world = World::opening(rt.alloc(), &plan)?;
-        assert_eq!(rt; walk(&rt, &mut world, &STALE_MARK[..place]), Ok(place));
+        assert_eq!(rt; walk(&rt, &mut world, &steps[..place]), Ok(place));
         let reaches = place == 10;
         assert_eq!(rt; world.enabled(Event::Act(A)), reaches, "after {place}");
         assert!(rt; !world.enabled(Event::Act(B)), "after {place}");
@@ -24,47 +25,50 @@ fn acts_only_where_it_reaches(rt: HostRuntime) -> Result<(), Fail> {
 }
 
 // How far the stale mark goes, a step, and whether it is legal then.
-const GUARDS: [(usize, Step, bool); 22] = [
-    // no second thirst in a session, nor before the meal ends
-    (1, Step::Thirst(A), false),
-    (12, Step::Thirst(A), false),
-    (13, Step::Thirst(A), true),
-    // hunger only of a thinking, thirsty job
-    (0, Step::Hunger(A), false),
-    (2, Step::Hunger(A), false),
-    (7, Step::Hunger(A), false),
-    // a meal only of a hungry job
-    (13, Step::Sit(A), false),
-    // no end of a meal while the job is thirsty, or without marks
-    (7, Step::Leave(A), false),
-    (8, Step::Leave(A), false),
-    (9, Step::Leave(A), true),
-    (5, Step::Leave(A), false),
-    // a job drinks only once in a session
-    (8, Step::Drink(A), false),
-    (2, Step::Drink(A), false),
-    // only a drinking job with a command left reaches, and with none left it quits
-    (8, Step::Reach(A), true),
-    (11, Step::Reach(A), false),
-    (8, Step::Quit(A), false),
-    (11, Step::Quit(A), true),
-    // no fork is given during a meal, none is asked for by a job that has it
-    (9, Step::GiveFork(A, AB), false),
-    (5, Step::AskFork(A, AB), false),
-    // a fork that is dirty isn't soiled
-    (8, Step::Soil(A, AB), false),
-    // no bottle is asked for by a job that has it, or that isn't thirsty
-    (5, Step::AskBottles(A, AB, 1), false),
-    (2, Step::AskBottles(B, AB, 1), false),
-];
+fn guard_table() -> [(usize, Step, bool); 22] {
+    [
+        // no second thirst in a session, nor before the meal ends
+        (1, Step::Thirst(A), false),
+        (12, Step::Thirst(A), false),
+        (13, Step::Thirst(A), true),
+        // hunger only of a thinking, thirsty job
+        (0, Step::Hunger(A), false),
+        (2, Step::Hunger(A), false),
+        (7, Step::Hunger(A), false),
+        // a meal only of a hungry job
+        (13, Step::Sit(A), false),
+        // no end of a meal while the job is thirsty, or without marks
+        (7, Step::Leave(A), false),
+        (8, Step::Leave(A), false),
+        (9, Step::Leave(A), true),
+        (5, Step::Leave(A), false),
+        // a job drinks only once in a session
+        (8, Step::Drink(A), false),
+        (2, Step::Drink(A), false),
+        // only a drinking job with a command left reaches, and with none left it quits
+        (8, Step::Reach(A), true),
+        (11, Step::Reach(A), false),
+        (8, Step::Quit(A), false),
+        (11, Step::Quit(A), true),
+        // no fork is given during a meal, none is asked for by a job that has it
+        (9, Step::GiveFork(A, AB), false),
+        (5, Step::AskFork(A, AB), false),
+        // a fork that is dirty isn't soiled
+        (8, Step::Soil(A, AB), false),
+        // no bottle is asked for by a job that has it, or that isn't thirsty
+        (5, Step::AskBottles(A, AB, 1), false),
+        (2, Step::AskBottles(B, AB, 1), false),
+    ]
+}
 
 #[test]
 fn guards(rt: HostRuntime) -> Result<(), Fail> {
-    let plan = plan_of(&rt, rt.alloc(), &SCALE_TWICE);
-    for (place, step, legal) in GUARDS {
+    let plan = plan_of(&rt, rt.alloc(), &scale_twice());
+    let steps = stale_mark_steps();
+    for (place, step, legal) in guard_table() {
         let mut world = World::opening(rt.alloc(), &plan)?;
         assert!(rt; place <= 16);
-        assert_eq!(rt; walk(&rt, &mut world, &STALE_MARK[..place]), Ok(place));
+        assert_eq!(rt; walk(&rt, &mut world, &steps[..place]), Ok(place));
         assert_eq!(rt;
             walk(&rt, &mut world, &[step]).is_ok(),
             legal,
@@ -76,7 +80,7 @@ fn guards(rt: HostRuntime) -> Result<(), Fail> {
 
 #[test]
 fn keeps_bottles(rt: HostRuntime) -> Result<(), Fail> {
-    let plan = plan_of(&rt, rt.alloc(), &SCALE);
+    let plan = plan_of(&rt, rt.alloc(), &scale());
     let mut world = World::opening(rt.alloc(), &plan)?;
     let asked = [
         Step::Thirst(A),
@@ -98,7 +102,7 @@ fn keeps_bottles(rt: HostRuntime) -> Result<(), Fail> {
 
 #[test]
 fn marks(rt: HostRuntime) -> Result<(), Fail> {
-    let plan = plan_of(&rt, rt.alloc(), &SCALE);
+    let plan = plan_of(&rt, rt.alloc(), &scale());
     let mut world = World::opening(rt.alloc(), &plan)?;
     assert_eq!(rt; marks_of(&rt, &world, A), (false, 0));
     assert_eq!(rt;
@@ -125,7 +129,7 @@ fn marks_of<T: Allocator>(rt: &impl Abort, world: &World<T>, job: JobNo) -> (boo
 
 #[test]
 fn retires_at_the_end(rt: HostRuntime) -> Result<(), Fail> {
-    let plan = plan_of(&rt, rt.alloc(), &SCALE);
+    let plan = plan_of(&rt, rt.alloc(), &scale());
     let mut world = World::opening(rt.alloc(), &plan)?;
     assert_eq!(rt; world.step(Event::Retire(A)), Err(NotLegal));
     let session = [
@@ -148,7 +152,7 @@ fn retires_at_the_end(rt: HostRuntime) -> Result<(), Fail> {
 
 #[test]
 fn glances(rt: HostRuntime) -> Result<(), Fail> {
-    let plan = plan_of(&rt, rt.alloc(), &SCALE);
+    let plan = plan_of(&rt, rt.alloc(), &scale());
     let mut world = World::opening(rt.alloc(), &plan)?;
     let idle = phase(Dining::Thinking, Drinking::Tranquil, 0, 0);
     let thirsty = phase(Dining::Thinking, Drinking::Thirsty, 1, 0);
@@ -202,7 +206,7 @@ fn withdraws(rt: HostRuntime) -> Result<(), Fail> {
 
 #[test]
 fn no_numbers_beyond_the_plan(rt: HostRuntime) -> Result<(), Fail> {
-    let plan = plan_of(&rt, rt.alloc(), &SCALE);
+    let plan = plan_of(&rt, rt.alloc(), &scale());
     let mut world = World::opening(rt.alloc(), &plan)?;
     let none = JobNo(2);
     let events = [

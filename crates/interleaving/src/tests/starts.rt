@@ -1,6 +1,6 @@
 // Starts, and memory that runs out.
-use super::cases::TRIANGLE;
-use super::{A, AB, Line, SCALE, edge, finished, plan_of, put};
+use super::cases::triangle_lines;
+use super::{A, AB, Line, edge, finished, plan_of, put, scale};
 use crate::{EdgeState, End, EndChoice, Event, StartRefusal, World};
 use lab_plan::{PlanBuilder, Verb};
 use linked_list_allocator::LocalHeap;
@@ -18,7 +18,7 @@ const HIGHER: EndChoice = EndChoice {
 
 #[test]
 fn cycle_is_refused(rt: HostRuntime) -> Result<(), Fail> {
-    let plan = plan_of(&rt, rt.alloc(), &TRIANGLE);
+    let plan = plan_of(&rt, rt.alloc(), &triangle_lines());
     // forks at 0 on 0-1, at 2 on 0-2, at 1 on 1-2
     let round = World::start(rt.alloc(), &plan, &[LOWER, HIGHER, LOWER]);
     assert!(rt; matches!(&round, Err(StartRefusal::Cycle)));
@@ -31,7 +31,7 @@ fn cycle_is_refused(rt: HostRuntime) -> Result<(), Fail> {
 
 #[test]
 fn bad_choices_are_refused(rt: HostRuntime) -> Result<(), Fail> {
-    let plan = plan_of(&rt, rt.alloc(), &TRIANGLE);
+    let plan = plan_of(&rt, rt.alloc(), &triangle_lines());
     let too_few = World::start(rt.alloc(), &plan, &[LOWER, LOWER]);
     assert!(rt; matches!(&too_few, Err(StartRefusal::BadChoices)));
     let too_many = World::start(rt.alloc(), &plan, &[LOWER; 4]);
@@ -101,7 +101,7 @@ fn no_edges(rt: HostRuntime) -> Result<(), Fail> {
 #[test]
 fn growths_are_refused(rt: HostRuntime) -> Result<(), Fail> {
     let ample = LocalHeap::new(rt.alloc(), 1 << 16)?;
-    let plan = plan_of(&rt, &ample, &SCALE);
+    let plan = plan_of(&rt, &ample, &scale());
     let mut refusals = 0;
     let mut starts = 0;
     for budget in 0..64 {
@@ -128,7 +128,7 @@ fn growths_are_refused(rt: HostRuntime) -> Result<(), Fail> {
 #[test]
 fn growths_of_the_opening_are_refused(rt: HostRuntime) -> Result<(), Fail> {
     let ample = LocalHeap::new(rt.alloc(), 1 << 16)?;
-    let plan = plan_of(&rt, &ample, &SCALE);
+    let plan = plan_of(&rt, &ample, &scale());
     let mut refusals = 0;
     let mut starts = 0;
     for budget in 0..64 {
