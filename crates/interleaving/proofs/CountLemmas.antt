@@ -40,24 +40,24 @@ goes_on (Sit j) counts can =
     record {
       one_each = length-set _ _ _;
       counted = λ k below. set_cases (λ n y. y ≡ both_counts (count_at counts n) (counts_of n (Sit j ∷ []))) counts j _ no_counts k can.is_job
-        (same_counts _ _ (one_more (is_sit j) (Sit j) x.meals (eq-eqb j j refl)) (none_more (is_quit j) (Sit j) x.sessions_done refl) (none_more (is_withdraw j) (Sit j) x.withdrawn refl))
-        (λ other. not_counted (count_at counts k) k (Sit j) (ne_eqb j k (λ e. other (sym e))) refl refl);
+          (same_counts _ _ (one_more (is_sit j) (Sit j) x.meals (eq-eqb j j refl)) (none_more (is_quit j) (Sit j) x.sessions_done refl) (none_more (is_withdraw j) (Sit j) x.withdrawn refl))
+          (λ other. not_counted (count_at counts k) k (Sit j) (ne_eqb j k (λ e. other (sym e))) refl refl);
     }
 goes_on (Quit j) counts can =
     let x = count_at counts j in
     record {
       one_each = length-set _ _ _;
       counted = λ k below. set_cases (λ n y. y ≡ both_counts (count_at counts n) (counts_of n (Quit j ∷ []))) counts j _ no_counts k can.is_job
-        (same_counts _ _ (none_more (is_sit j) (Quit j) x.meals refl) (one_more (is_quit j) (Quit j) x.sessions_done (eq-eqb j j refl)) (none_more (is_withdraw j) (Quit j) x.withdrawn refl))
-        (λ other. not_counted (count_at counts k) k (Quit j) refl (ne_eqb j k (λ e. other (sym e))) refl);
+          (same_counts _ _ (none_more (is_sit j) (Quit j) x.meals refl) (one_more (is_quit j) (Quit j) x.sessions_done (eq-eqb j j refl)) (none_more (is_withdraw j) (Quit j) x.withdrawn refl))
+          (λ other. not_counted (count_at counts k) k (Quit j) refl (ne_eqb j k (λ e. other (sym e))) refl);
     }
 goes_on (Withdraw j) counts can =
     let x = count_at counts j in
     record {
       one_each = length-set _ _ _;
       counted = λ k below. set_cases (λ n y. y ≡ both_counts (count_at counts n) (counts_of n (Withdraw j ∷ []))) counts j _ no_counts k can.is_job
-        (same_counts _ _ (none_more (is_sit j) (Withdraw j) x.meals refl) (none_more (is_quit j) (Withdraw j) x.sessions_done refl) (one_more (is_withdraw j) (Withdraw j) x.withdrawn (eq-eqb j j refl)))
-        (λ other. not_counted (count_at counts k) k (Withdraw j) refl refl (ne_eqb j k (λ e. other (sym e))));
+          (same_counts _ _ (none_more (is_sit j) (Withdraw j) x.meals refl) (none_more (is_quit j) (Withdraw j) x.sessions_done refl) (one_more (is_withdraw j) (Withdraw j) x.withdrawn (eq-eqb j j refl)))
+          (λ other. not_counted (count_at counts k) k (Withdraw j) refl refl (ne_eqb j k (λ e. other (sym e))));
     }
 goes_on event counts can = still counts event (λ k. refl) (λ k. refl) (λ k. refl)
 

@@ -16,7 +16,6 @@ past [] k d h = refl
 past (y ∷ ys) zero d h = absurd (omega (arith, h))
 past (y ∷ ys) (suc k) d h = past ys k d (omega (arith, h))
 
-
 abbrev pub of_job : JobPlan → List (ℕ × Verb)
 of_job job = flat_map (λ (session : SessionPlan). session.commands) job.sessions
 
@@ -25,18 +24,18 @@ of_nothing session n is = let none : length session.commands ≡ 0 = ap (λ (x :
 
 in_job : (plan : LabPlan) (j s : ℕ) → length (commands plan j s) ≤ length (of_job (job_at plan j))
 in_job plan j s = elim (cases_lt (s - 1) (length (sessions plan j))) [
-    inl here ↦ part_of_all (λ (session : SessionPlan). session.commands) (sessions plan j) (s - 1) no_session here
+  | inl here ↦ part_of_all (λ (session : SessionPlan). session.commands) (sessions plan j) (s - 1) no_session here
   | inr out ↦ of_nothing (session_at plan j s) _ (past (sessions plan j) (s - 1) no_session out)
-  ]
+]
 
 of_no_job : (job : JobPlan) (n : ℕ) → job ≡ no_job → length (of_job job) ≤ n
 of_no_job job n is = let none : length (of_job job) ≡ 0 = ap (λ (x : JobPlan). length (of_job x)) is in omega arith
 
 pub in_plan : (plan : LabPlan) (j : ℕ) → length (of_job (job_at plan j)) ≤ length (all_commands plan)
 in_plan plan j = elim (cases_lt j (length plan.jobs)) [
-    inl here ↦ part_of_all (λ (job : JobPlan). of_job job) plan.jobs j no_job here
+  | inl here ↦ part_of_all (λ (job : JobPlan). of_job job) plan.jobs j no_job here
   | inr out ↦ of_no_job (job_at plan j) _ (past plan.jobs j no_job out)
-  ]
+]
 
 pub few_commands : (plan : LabPlan) (j s : ℕ) → IsPlan plan → length (commands plan j s) ≤ 100000
 few_commands plan j s is = omega (arith, in_job plan j s, in_plan plan j, is.draft.few_commands)

@@ -64,9 +64,9 @@ pub pushed : (w : Setting) (plan : LabPlan) (edges : List EdgeState) (seats : Li
 pushed w plan edges seats logs i n old new entry view same was is =
     let make : List (List Entry) → State = λ all. record { edges = edges; seats = seats; logs = all } in
     let entries : new.entries ≡ slice_index_or (map (λ (l : LogView). l.entries) logs) i [] ++ entry ∷ [] =
-      ap (λ (l : LogView). l.entries) is ∙ (ap (λ (l : LogView). l.entries ++ entry ∷ []) was ∙ ap (λ xs. xs ++ entry ∷ []) (sym (entries_at logs i))) in
+    ap (λ (l : LogView). l.entries) is ∙ (ap (λ (l : LogView). l.entries ++ entry ∷ []) was ∙ ap (λ xs. xs ++ entry ∷ []) (sym (entries_at logs i))) in
     ap make (entries_set logs i new ∙ ap (slice_set (map (λ (l : LogView). l.entries) logs) i) entries)
-      ∙ (ap (λ (x : Setting). with_entry x.state i entry) view ∙ ap (λ k. with_entry w.state k entry) same)
+    ∙ (ap (λ (x : Setting). with_entry x.state i entry) view ∙ ap (λ k. with_entry w.state k entry) same)
 
 -- the tables fit after it
 pub fits_pushed : (plan : LabPlan) (edges : List EdgeState) (seats : List Seat) (logs : List LogView) (i : ℕ) (new : LogView) → Fits plan (shown edges seats logs) → Fits plan (shown edges seats (slice_set logs i new))

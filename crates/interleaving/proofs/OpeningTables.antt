@@ -45,8 +45,8 @@ pub opening_shown : (plan : LabPlan) (choices : List EndChoice) (edges : List Ed
 opening_shown plan choices edges seats logs is_edges is_seats is_logs =
     let make : List EdgeState → List Seat → List (List Entry) → State = λ e s l. record { edges = e; seats = s; logs = l } in
     ap (λ e. make e seats (map (λ (l : LogView). l.entries) logs)) is_edges
-      ∙ (ap (λ s. make (opening_of plan choices).edges s (map (λ (l : LogView). l.entries) logs)) is_seats
-      ∙ ap (λ l. make (opening_of plan choices).edges (replicate (length plan.jobs) (idle_seat plan)) l) (ap (map (λ (l : LogView). l.entries)) is_logs ∙ are_empty plan 0 (length plan.instruments)))
+    ∙ (ap (λ s. make (opening_of plan choices).edges s (map (λ (l : LogView). l.entries) logs)) is_seats
+    ∙ ap (λ l. make (opening_of plan choices).edges (replicate (length plan.jobs) (idle_seat plan)) l) (ap (map (λ (l : LogView). l.entries)) is_logs ∙ are_empty plan 0 (length plan.instruments)))
 
 pub opening_fits : (plan : LabPlan) (choices : List EndChoice) → AreChoices plan choices → Fits plan (opening_of plan choices)
 opening_fits plan choices are = fits_opening plan (opening_of plan choices) (opening_of_choices plan choices are)

@@ -13,9 +13,9 @@ use Rattle.legal_steps.proofs.AcyclicLists.{cycle_same}
 -- who precedes on an edge is one of its two jobs
 pub precedes_own : (plan : LabPlan) (s : State) (e a b : ℕ) → PrecedesOn plan s e a b → IsOwn plan a e
 precedes_own plan s e a b on = elim on.order [
-    inl used ↦ subst (λ j. IsOwn plan j e) (sym used.1) (own_at plan e (opposite (fork s e)) on.is_edge)
+  | inl used ↦ subst (λ j. IsOwn plan j e) (sym used.1) (own_at plan e (opposite (fork s e)) on.is_edge)
   | inr clean ↦ subst (λ j. IsOwn plan j e) (sym clean.1) (own_at plan e (fork s e) on.is_edge)
-  ]
+]
 
 pub both_equal : (a b c d : ℕ) → a ≡ c → b ≡ d → (eqb a c && eqb b d) ≡ true
 both_equal a b c d h k = rw (eq-eqb a c h, eq-eqb b d k) refl
@@ -39,17 +39,17 @@ pub pairs_more : (plan : LabPlan) (s : State) (n : ℕ) (pairs : List (ℕ × �
     → ((a b : ℕ) → PrecedesOn plan s n a b → (a ≡ order.0) × (b ≡ order.1)) → (order.0 < length plan.jobs) × (order.1 < length plan.jobs) → ArePairsBelow plan s (n + 1) (pairs ++ order ∷ [])
 pairs_more plan s n pairs order h on only jobs = record {
   among = λ a b has. elim (Contains-push_cases pairs order (a, b) has) [
-      inl old ↦ let w = h.among a b old in (w.0, omega (arith, w.1), w.2)
+    | inl old ↦ let w = h.among a b old in (w.0, omega (arith, w.1), w.2)
     | inr is ↦ (n, omega arith, subst (λ (p : ℕ × ℕ). PrecedesOn plan s n p.0 p.1) is on)
-    ];
+  ];
   all = λ a b e below other. elim (cases_lt e n) [
-      inl before ↦ Contains-append_left pairs (order ∷ []) (a, b) (h.all a b e before other)
+    | inl before ↦ Contains-append_left pairs (order ∷ []) (a, b) (h.all a b e before other)
     | inr past ↦
         let last : e ≡ n = omega arith in
         let is = only a b (subst (λ k. PrecedesOn plan s k a b) last other) in
         let pair : ℕ → ℕ → ℕ × ℕ = λ x y. (x, y) in
         subst (Contains (pairs ++ order ∷ [])) (sym (ap (λ x. pair x b) is.0 ∙ ap (pair order.0) is.1)) (Contains-push pairs order)
-    ];
+  ];
   below = All-push (λ (p : ℕ × ℕ). (p.0 < length plan.jobs) × (p.1 < length plan.jobs)) pairs order h.below jobs;
 }
 

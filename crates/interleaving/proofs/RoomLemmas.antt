@@ -46,9 +46,9 @@ all_is_room plan i n all = ap (sum_to (on_by plan i)) all ∙ sym (room_is_sum p
 up_to : (f : ℕ → ℕ) (n m : ℕ) → n ≤ m → sum_to f n ≤ sum_to f m
 up_to f n zero below = let none : n ≡ 0 = omega arith in subst (λ k. sum_to f k ≤ 0) (sym none) (omega arith)
 up_to f n (suc m) below = elim (cases_lt n (suc m)) [
-    inl h ↦ omega (arith, up_to f n m (omega (arith, h)))
+  | inl h ↦ omega (arith, up_to f n m (omega (arith, h)))
   | inr h ↦ let all : n ≡ suc m = omega arith in subst (λ k. sum_to f k ≤ sum_to f (suc m)) (sym all) (omega arith)
-  ]
+]
 
 pub all_few : (plan : LabPlan) (i n : ℕ) → IsPlan plan → n ≤ length plan.jobs → sum_to (on_by plan i) n ≤ 100000
 all_few plan i n is below =

@@ -40,5 +40,5 @@ event_here plan s lines n line now event inside is led here =
     let steps = steps_of lines in
     let there : n < length steps = omega (arith, inside, length-map lines (λ (line : StepLine). line.step)) in
     here ∙ (ap (λ r. event_of r line.step) led
-      ∙ (ap (λ (x : StepLine). event_of (after_all plan s (take n (events_of plan s steps))) x.step) is
-      ∙ (ap (event_of (after_all plan s (take n (events_of plan s steps)))) (sym (step_at lines n line)) ∙ sym (events_at plan s steps n event line.step there))))
+    ∙ (ap (λ (x : StepLine). event_of (after_all plan s (take n (events_of plan s steps))) x.step) is
+    ∙ (ap (event_of (after_all plan s (take n (events_of plan s steps)))) (sym (step_at lines n line)) ∙ sym (events_at plan s steps n event line.step there))))

@@ -84,14 +84,16 @@ pub stops_here : (w mid new : WorldView) (events : List Event) (n place : ℕ) (
     → LeadsTo w (take n events) mid → ¬ May mid.plan mid.state event → new ≡ mid → StopsAt w.plan w.state events place new.state × LeadsTo w (take place events) new
 stops_here w mid new events n place event same inside is led refused unchanged =
     let here : LeadsTo w (take place events) new = subst (λ k. LeadsTo w (take k events) new) (sym same) (subst (LeadsTo w (take n events)) (sym unchanged) led) in
-    let at : slice_get events place ≡ Some event = ap (slice_get events) same ∙ slice_get_read events (length events) n event refl inside is in
-    (record {
-      before = here.run;
-      inside = omega (arith, same, inside);
-      not_legal = λ other is_other may.
-        refused (subst (λ x. May mid.plan mid.state x) (some_is _ _ (sym is_other ∙ at))
-          (subst (λ (x : WorldView). May x.plan x.state other) unchanged (subst (λ plan. May plan new.state other) (sym here.same_plan) may)));
-    }, here)
+    let at : slice_get events place ≡ Some event = ap (slice_get events) same ∙ slice_get_read events (length events) n event refl inside is in (
+      record {
+        before = here.run;
+        inside = omega (arith, same, inside);
+        not_legal = λ other is_other may.
+            refused (subst (λ x. May mid.plan mid.state x) (some_is _ _ (sym is_other ∙ at))
+            (subst (λ (x : WorldView). May x.plan x.state other) unchanged (subst (λ plan. May plan new.state other) (sym here.same_plan) may)));
+      },
+      here,
+    )
   where
     some_is : (a b : Event) → Some a ≡ Some b → a ≡ b
     some_is a b h = cc

@@ -28,7 +28,6 @@ impl<'a, A: Allocator> Tables<'a, A> {
     {
         let here = self.own_end(job, edge);
         let state = self.edge(edge);
-        let _ = self.bottles(edge);
         self.needs_bottle(job, edge, bottle)
             && bottle_end(state.bottles, bottle) != here
             && bottle_end(state.bottle_tokens, bottle) == here
@@ -64,14 +63,21 @@ impl<'a, A: Allocator> Tables<'a, A> {
         ensures plan { self.new.plan ≡ self.old.plan }
     {
         let state = self.edge(edge);
-        self.set_edge(edge, EdgeState { bottle_tokens: state.bottle_tokens ^ set, ..state });
+        self.set_edge(
+            edge,
+            EdgeState {
+                bottle_tokens: state.bottle_tokens ^ set,
+                ..state
+            },
+        );
     }
 
     // Whether the job keeps the bottle: it needs it, and drinks or has the fork.
     pub(crate) fn keeps_bottle(&self, job: JobNo, edge: EdgeNo, bottle: u32) -> bool
         requires own { IsOwn self.now.plan job edge }
         requires is_bottle { bottle < length (bottles self.now.plan edge) }
-        ensures { IsTrue result ↔ (Needs self.now.plan self.now.state job (instrument_of self.now.plan edge bottle) × (IsDrinking (phase_at self.now.state job) ⊎ Here self.now.plan job edge (fork self.now.state edge))) }
+        ensures few { bottle < 28 }
+        ensures keeps { IsTrue result ↔ (Needs self.now.plan self.now.state job (instrument_of self.now.plan edge bottle) × (IsDrinking (phase_at self.now.state job) ⊎ Here self.now.plan job edge (fork self.now.state edge))) }
     {
         let here = self.own_end(job, edge);
         let fork_here = self.edge(edge).fork == here;
@@ -86,10 +92,9 @@ impl<'a, A: Allocator> Tables<'a, A> {
     {
         let here = self.own_end(job, edge);
         let state = self.edge(edge);
-        let _ = self.bottles(edge);
-        bottle_end(state.bottles, bottle) == here
+        !self.keeps_bottle(job, edge, bottle)
+            && bottle_end(state.bottles, bottle) == here
             && bottle_end(state.bottle_tokens, bottle) == here
-            && !self.keeps_bottle(job, edge, bottle)
     }
 
     // Whether the job may give each bottle of the set.
@@ -109,9 +114,7 @@ impl<'a, A: Allocator> Tables<'a, A> {
     pub(crate) fn may_give_bottles(&self, job: JobNo, edge: EdgeNo, set: u32) -> bool
         ensures { IsTrue result ↔ May self.now.plan self.now.state (GiveBottles job edge set) }
     {
-        self.owns(job, edge)
-            && self.is_bottle_set(edge, set)
-            && self.may_give_all(job, edge, set)
+        self.owns(job, edge) && self.is_bottle_set(edge, set) && self.may_give_all(job, edge, set)
     }
 
     #[tactic(auto, using(std::proofs::lemmas::Nat::xor_lt, crate::proofs::BottleLemmas::cleared_below))]
@@ -120,10 +123,15 @@ impl<'a, A: Allocator> Tables<'a, A> {
         ensures state { self.new.state ≡ after self.old.plan self.old.state (GiveBottles job edge set) }
         ensures plan { self.new.plan ≡ self.old.plan }
     {
-        let _ = self.own_end(job, edge);
         let state = self.edge(edge);
         let marks = self.bottle_marks(job, edge);
-        self.set_edge(edge, EdgeState { bottles: state.bottles ^ set, ..state });
+        self.set_edge(
+            edge,
+            EdgeState {
+                bottles: state.bottles ^ set,
+                ..state
+            },
+        );
         self.set_bottle_marks(job, edge, marks ^ (marks & set));
     }
 }

@@ -19,5 +19,9 @@ pub(crate) fn bottle_end(set: u32, bottle: u32) -> End
     requires { bottle < 32 }
     ensures { result ≡ end_of_bottle set bottle }
 {
-    if (set >> bottle) & 1 == 0 { End::Lower } else { End::Higher }
+    if (set >> bottle) & 1 == 0 {
+        End::Lower
+    } else {
+        End::Higher
+    }
 }

@@ -28,7 +28,13 @@ impl<'a, A: Allocator> Tables<'a, A> {
     {
         let here = self.own_end(job, edge);
         let state = self.edge(edge);
-        self.set_edge(edge, EdgeState { token: here.other(), ..state });
+        self.set_edge(
+            edge,
+            EdgeState {
+                token: here.other(),
+                ..state
+            },
+        );
     }
 
     pub(crate) fn may_give_fork(&self, job: JobNo, edge: EdgeNo) -> bool
@@ -52,7 +58,14 @@ impl<'a, A: Allocator> Tables<'a, A> {
     {
         let here = self.own_end(job, edge);
         let state = self.edge(edge);
-        self.set_edge(edge, EdgeState { fork: here.other(), dirty: false, ..state });
+        self.set_edge(
+            edge,
+            EdgeState {
+                fork: here.other(),
+                dirty: false,
+                ..state
+            },
+        );
         self.set_fork_mark(job, edge, false);
     }
 
@@ -74,7 +87,14 @@ impl<'a, A: Allocator> Tables<'a, A> {
     {
         let here = self.own_end(job, edge);
         let state = self.edge(edge);
-        self.set_edge(edge, EdgeState { fork: here, dirty: true, ..state });
+        self.set_edge(
+            edge,
+            EdgeState {
+                fork: here,
+                dirty: true,
+                ..state
+            },
+        );
         self.set_fork_mark(job, edge, true);
     }
 
@@ -94,7 +114,13 @@ impl<'a, A: Allocator> Tables<'a, A> {
         ensures plan { self.new.plan ≡ self.old.plan }
     {
         let phase = self.phase(job);
-        self.set_phase(job, JobState { dining: Dining::Hungry, ..phase });
+        self.set_phase(
+            job,
+            JobState {
+                dining: Dining::Hungry,
+                ..phase
+            },
+        );
     }
 
     pub(crate) fn may_sit(&self, job: JobNo) -> bool

@@ -41,9 +41,7 @@ impl<'a, A: Allocator> Tables<'a, A> {
     pub(crate) fn may_drink(&self, job: JobNo) -> bool
         ensures { IsTrue result ↔ May self.now.plan self.now.state (Drink job) }
     {
-        self.is_job(job)
-            && self.phase(job).drinking == Drinking::Thirsty
-            && self.has_needed(job)
+        self.is_job(job) && self.phase(job).drinking == Drinking::Thirsty && self.has_needed(job)
     }
 
     pub(crate) fn drink(&mut self, job: JobNo)
@@ -52,7 +50,13 @@ impl<'a, A: Allocator> Tables<'a, A> {
         ensures plan { self.new.plan ≡ self.old.plan }
     {
         let phase = self.phase(job);
-        self.set_phase(job, JobState { drinking: Drinking::Drinking, ..phase });
+        self.set_phase(
+            job,
+            JobState {
+                drinking: Drinking::Drinking,
+                ..phase
+            },
+        );
     }
 
     pub(crate) fn may_reach(&self, job: JobNo) -> bool
@@ -72,7 +76,13 @@ impl<'a, A: Allocator> Tables<'a, A> {
         ensures plan { self.new.plan ≡ self.old.plan }
     {
         let phase = self.phase(job);
-        self.set_phase(job, JobState { drinking: Drinking::Reaching, ..phase });
+        self.set_phase(
+            job,
+            JobState {
+                drinking: Drinking::Reaching,
+                ..phase
+            },
+        );
     }
 
     pub(crate) fn may_quit(&self, job: JobNo) -> bool
@@ -92,7 +102,14 @@ impl<'a, A: Allocator> Tables<'a, A> {
         ensures plan { self.new.plan ≡ self.old.plan }
     {
         let phase = self.phase(job);
-        self.set_phase(job, JobState { drinking: Drinking::Tranquil, position: 0, ..phase });
+        self.set_phase(
+            job,
+            JobState {
+                drinking: Drinking::Tranquil,
+                position: 0,
+                ..phase
+            },
+        );
     }
 
     pub(crate) fn may_retire(&self, job: JobNo) -> bool
@@ -113,7 +130,13 @@ impl<'a, A: Allocator> Tables<'a, A> {
         ensures plan { self.new.plan ≡ self.old.plan }
     {
         let phase = self.phase(job);
-        self.set_phase(job, JobState { drinking: Drinking::Retired, ..phase });
+        self.set_phase(
+            job,
+            JobState {
+                drinking: Drinking::Retired,
+                ..phase
+            },
+        );
     }
 
     pub(crate) fn may_withdraw(&self, job: JobNo) -> bool
@@ -123,8 +146,7 @@ impl<'a, A: Allocator> Tables<'a, A> {
             return false;
         }
         let phase = self.phase(job);
-        phase.drinking == Drinking::Thirsty
-            && self.plan().patience(job, phase.session).is_some()
+        phase.drinking == Drinking::Thirsty && self.plan().patience(job, phase.session).is_some()
     }
 
     pub(crate) fn withdraw(&mut self, job: JobNo)
@@ -133,6 +155,13 @@ impl<'a, A: Allocator> Tables<'a, A> {
         ensures plan { self.new.plan ≡ self.old.plan }
     {
         let phase = self.phase(job);
-        self.set_phase(job, JobState { drinking: Drinking::Tranquil, position: 0, ..phase });
+        self.set_phase(
+            job,
+            JobState {
+                drinking: Drinking::Tranquil,
+                position: 0,
+                ..phase
+            },
+        );
     }
 }

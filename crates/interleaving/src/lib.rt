@@ -6,23 +6,25 @@ mod bottle_moves;
 mod bottles;
 mod counts;
 mod dining;
+mod drinking;
+mod needs;
 mod opening;
 mod precedence;
 mod refusal;
 mod rooms;
-mod drinking;
-mod needs;
 mod seat;
 mod seeing;
 mod stepping;
 mod steps;
 mod tables;
+#[cfg(test)]
+mod tests;
 mod world;
 
 pub use counts::Counts;
 pub use cycles::{NoMemory, cycle_in};
-pub use refusal::StartRefusal;
 pub use legal_steps::{
     Dining, Drinking, EdgeState, End, EndChoice, Event, JobState, NotLegal, Step, StepLine,
 };
+pub use refusal::StartRefusal;
 pub use world::World;

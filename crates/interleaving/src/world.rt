@@ -138,7 +138,6 @@ impl<'a, A: Allocator> World<'a, A> {
         requires { IsOwn self.now.plan job edge }
         ensures { result ≡ fork_mark_at self.now.state job edge }
     {
-        let _ = self.tables.own_end(job, edge);
         self.tables.fork_mark(job, edge)
     }
 
@@ -147,7 +146,6 @@ impl<'a, A: Allocator> World<'a, A> {
         requires { IsOwn self.now.plan job edge }
         ensures { result ≡ bottle_marks_at self.now.state job edge }
     {
-        let _ = self.tables.own_end(job, edge);
         self.tables.bottle_marks(job, edge)
     }
 

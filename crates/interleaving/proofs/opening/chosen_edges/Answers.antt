@@ -11,5 +11,5 @@ loop-edge-preserved g c =
     let before = take c.loop-edge.edge (opening_of plan choices).edges in
     let inside : c.loop-edge.edge < length choices = omega (arith, c.requires.one_each, c.edges-edge-end.ensures.edges) in
     c.in_ok-push.ensures.items
-      ∙ (ap (λ xs. xs ++ c.chosen_edge.result ∷ []) c.loop-edge.invariant
-      ∙ (ap (λ (x : EdgeState). before ++ x ∷ []) c.chosen_edge.ensures ∙ sym (chosen_more plan choices c.loop-edge.edge _ inside)))
+    ∙ (ap (λ xs. xs ++ c.chosen_edge.result ∷ []) c.loop-edge.invariant
+    ∙ (ap (λ (x : EdgeState). before ++ x ∷ []) c.chosen_edge.ensures ∙ sym (chosen_more plan choices c.loop-edge.edge _ inside)))

@@ -10,5 +10,5 @@ loop-number-preserved g c =
     let plan = c.args.plan.now in
     let before = map (λ i. empty_log (room_of plan i)) (range_with_len 0 c.loop-number.number) in
     c.in_ok-push.ensures.items
-      ∙ (ap (λ xs. xs ++ c.in_ok-with_room.field-0 ∷ []) c.loop-number.invariant
-      ∙ (ap (λ (l : LogView). before ++ l ∷ []) (c.in_ok-with_room.ensures ∙ ap empty_log c.room-room.ensures) ∙ sym (logs_more plan c.loop-number.number)))
+    ∙ (ap (λ xs. xs ++ c.in_ok-with_room.field-0 ∷ []) c.loop-number.invariant
+    ∙ (ap (λ (l : LogView). before ++ l ∷ []) (c.in_ok-with_room.ensures ∙ ap empty_log c.room-room.ensures) ∙ sym (logs_more plan c.loop-number.number)))

@@ -10,7 +10,7 @@ pub loop-edge-preserved : goal.loop-edge-preserved
 loop-edge-preserved g c =
     let s = c.args.self.now in
     subst (ArePairsBelow s.plan s.state _) (sym c.in_ok-push.ensures.items)
-      (pairs_more s.plan s.state c.loop-edge.edge c.loop-edge.pairs.items c.order.result c.loop-edge.invariant c.order.ensures.precedes c.order.ensures.no_other c.order.ensures.jobs)
+    (pairs_more s.plan s.state c.loop-edge.edge c.loop-edge.pairs.items c.order.result c.loop-edge.invariant c.order.ensures.precedes c.order.ensures.no_other c.order.ensures.jobs)
 
 pub returns-clause-pairs : goal.returns-clause-pairs
 returns-clause-pairs g c =

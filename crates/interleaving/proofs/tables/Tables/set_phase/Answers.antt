@@ -18,7 +18,7 @@ invariant_of-self g c =
     let inside : j < length c.self.inside.seats.items = omega (arith, here, c.self.invariant.fits.seats_there) in
     let fit : IsPhaseOf plan j c.args.phase = subst (λ p. IsPhaseOf p j c.args.phase) (sym same) (subst (λ n. IsPhaseOf c.args.self.now.plan n c.args.phase) (sym c.job.view_is) c.requires.fits) in
     let new : c.set_phase.new.self ≡ record (seat s j) { phase = c.args.phase } =
-      c.set_phase.ensures ∙ ap (λ (x : Seat). record x { phase = c.args.phase }) (get_or_read c.self.inside.seats.items j _ inside c.index_mut-seat.ensures.value _) in
+    c.set_phase.ensures ∙ ap (λ (x : Seat). record x { phase = c.args.phase }) (get_or_read c.self.inside.seats.items j _ inside c.index_mut-seat.ensures.value _) in
     record {
       is_plan = c.self.invariant.is_plan;
       fits = rw new (fits_with_seat plan s j _ c.self.invariant.fits here (seat_with_phase plan j (seat s j) c.args.phase (c.self.invariant.fits.seats_fit j here) fit));

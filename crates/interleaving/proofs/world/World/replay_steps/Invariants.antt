@@ -5,6 +5,6 @@ use Rattle.interleaving.proofs.world.World.replay_steps.Given as goal
 
 abbrev pub invariant-loop-line : goal.invariant-loop-line
 invariant-loop-line g l = record {
-    done_all : l.done ≡ l.line-index;
-    led : LeadsTo l.fn.self (take l.line-index (events_of l.fn.self.plan l.fn.self.state (map (λ line. line.step) l.steps))) l.self
-  }
+  done_all : l.done ≡ l.line-index;
+  led : LeadsTo l.fn.self (take l.line-index (events_of l.fn.self.plan l.fn.self.state (map (λ line. line.step) l.steps))) l.self;
+}

@@ -16,7 +16,7 @@ invariant_of-result g c =
     let choices = c.args.choices.now in
     let none = rw c.in-None.is at c.in_ok-cycle_in.ensures.cycle in
     reached_opened _ plan (opening_of plan choices) _ _ c.in_ok-tables.ensures c.jobs.ensures.jobs c.in_ok-tally.ensures c.jobs.ensures.plan (opening_of_choices plan choices (c.if-not-are_choices.ensures.0 refl))
-      (opened_acyclic _ plan (opening_of plan choices) _ _ c.in_ok-tables.ensures c.deref.ensures.value c.in_ok-pairs.ensures.pairs none)
+    (opened_acyclic _ plan (opening_of plan choices) _ _ c.in_ok-tables.ensures c.deref.ensures.value c.in_ok-pairs.ensures.pairs none)
 
 pub returns-clause-opens : goal.returns-clause-opens
 returns-clause-opens g c =
