@@ -67,7 +67,12 @@ pub fn run_check<R: Source, W: Sink>(
     let text = read_input(alloc, source)?;
     let plan = read_plan(alloc, &text)?;
     let (sessions, commands) = totals(&plan);
-    let line = format!(in alloc; "ok jobs {} instruments {} edges {} sessions {sessions} commands {commands}\n", plan.jobs(), plan.instruments(), plan.edges())?;
+    let line = format!(in alloc;
+        "ok jobs {} instruments {} edges {} sessions {sessions} commands {commands}\n",
+        plan.jobs(),
+        plan.instruments(),
+        plan.edges()
+    )?;
     offer(sink, line.as_bytes())?;
     sink.flush()?;
     Ok(Outcome::Finished)

@@ -3,7 +3,6 @@ use Rattle.std.proofs.lemmas.List.{take_rest}
 use Rattle.std.proofs.Math.Seq.{take-append_seam}
 use Rattle.std.specs.Io.KnownBytes.{Appends}
 use Rattle.std.proofs.KnownBytes.{Appends-trans, Appends-kept}
-
 use Rattle.report.proofs.Prefixes.{is_front}
 use Rattle.report.proofs.offering.offer.Goals as goal
 
