@@ -1,5 +1,5 @@
 -- The entries of a world's logs are of jobs of its plan, since they are made of parts of the plan's sessions.
-use Rattle.std.proofs.Common.{◌≡◌, ℕ, ◌<◌, List, [], ◌∷◌, ◌++◌, length, take, map, slice_index_or, sym, ap, ◌∙◌, subst, inl, inr}
+use Rattle.std.proofs.Common.{◌≡◌, ℕ, ◌<◌, List, [], ◌∷◌, length, take, map, sym, ap, ◌∙◌, subst, inl, inr}
 use Rattle.std.proofs.lemmas.List.{length-map, get_or-map}
 use Rattle.std.proofs.lemmas.List.Concat.{flat_map-cons}
 use Rattle.std.proofs.lemmas.List.Elements.{All-nil, All-same, All-append, All-take, All-map, All-head, All-tail}
@@ -26,7 +26,7 @@ parts_are : (plan : LabPlan) (i : ℕ) (owners : List (ℕ × ℕ)) → All (IsS
 parts_are plan i [] all = All-nil (IsOfPlan plan)
 parts_are plan i (own ∷ owners) all =
     All-same (IsOfPlan plan) _ _ (flat_map-cons (part_of plan i) own owners)
-      (All-append (IsOfPlan plan) _ _ (part_is plan i own (All-head (IsSessionOf plan) own owners all)) (parts_are plan i owners (All-tail (IsSessionOf plan) own owners all)))
+    (All-append (IsOfPlan plan) _ _ (part_is plan i own (All-head (IsSessionOf plan) own owners all)) (parts_are plan i owners (All-tail (IsSessionOf plan) own owners all)))
 
 end_is : (plan : LabPlan) (i : ℕ) (entries : List Entry) (h : IsWholeButEnd plan i entries) → All (IsOfPlan plan) h.unfinished
 end_is plan i entries h = elim h.end [
@@ -39,7 +39,7 @@ end_is plan i entries h = elim h.end [
 entries_are : (plan : LabPlan) (i : ℕ) (entries : List Entry) → IsWholeButEnd plan i entries → All (λ entry. entry.job < length plan.jobs) entries
 entries_are plan i entries h k d inside =
     let lines : All (IsOfPlan plan) (map line_of entries) =
-        All-same (IsOfPlan plan) _ _ h.joined (All-append (IsOfPlan plan) _ _ (parts_are plan i h.finished h.of_plan) (end_is plan i entries h)) in
+    All-same (IsOfPlan plan) _ _ h.joined (All-append (IsOfPlan plan) _ _ (parts_are plan i h.finished h.of_plan) (end_is plan i entries h)) in
     let there : k < length (map line_of entries) = subst (λ n. k < n) (sym (length-map entries line_of)) inside in
     subst (IsOfPlan plan) (get_or-map line_of entries k d (line_of d) inside) (lines k (line_of d) there)
 

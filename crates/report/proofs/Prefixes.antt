@@ -48,7 +48,7 @@ one_more : {X : Type 0} (f : X → List ℕ) (xs : List X) (i : ℕ) (d : X) →
     flat_map f (take (i + 1) xs) ≡ flat_map f (take i xs) ++ f (slice_index_or xs i d)
 one_more f xs i d inside =
     ap (flat_map f) (take_more xs i d inside) ∙ flat_map-append f (take i xs) (slice_index_or xs i d ∷ [])
-      ∙ ap (λ rest. flat_map f (take i xs) ++ rest) (append-nil (f (slice_index_or xs i d)))
+    ∙ ap (λ rest. flat_map f (take i xs) ++ rest) (append-nil (f (slice_index_or xs i d)))
 
 -- one more element went out whole
 pub each_goes : {X : Type 0} (f : X → List ℕ) (xs : List X) (i : ℕ) (d x : X) (a b c : Option (List ℕ)) → i < length xs → x ≡ slice_index_or xs i d →
@@ -61,9 +61,9 @@ pub each_stops : {X : Type 0} (f : X → List ℕ) (xs : List X) (i : ℕ) (d x 
     Appends a b (flat_map f (take i xs)) → AppendsPrefix b c (f x) → AppendsPrefix a c (flat_map f xs)
 each_stops f xs i d x a b c inside is done more =
     let front : AppendsPrefix a c (flat_map f (take (i + 1) xs)) =
-        subst (AppendsPrefix a c) (ap (λ y. flat_map f (take i xs) ++ f y) is ∙ sym (one_more f xs i d inside)) (in_second a b c _ _ done more) in
+    subst (AppendsPrefix a c) (ap (λ y. flat_map f (take i xs) ++ f y) is ∙ sym (one_more f xs i d inside)) (in_second a b c _ _ done more) in
     let whole : flat_map f (take (i + 1) xs) ++ flat_map f (drop (i + 1) xs) ≡ flat_map f xs =
-        sym (flat_map-append f (take (i + 1) xs) (drop (i + 1) xs)) ∙ ap (flat_map f) (take-append-drop (i + 1) xs) in
+    sym (flat_map-append f (take (i + 1) xs) (drop (i + 1) xs)) ∙ ap (flat_map f) (take-append-drop (i + 1) xs) in
     subst (AppendsPrefix a c) whole (in_first a c _ _ front)
 
 -- the number i among the numbers below n

@@ -28,7 +28,7 @@ instrument_line name entries = codes "instrument " ++ name ++ codes " " ++ decim
 abbrev pub entry_line : List ℕ → Entry → List ℕ
 entry_line job entry =
     job ++ codes " " ++ decimal entry.session ++ codes " " ++ decimal entry.place ++ codes "/" ++ decimal entry.length
-        ++ codes " " ++ verb_text entry.verb ++ codes " = " ++ decimal entry.value ++ codes "\n"
+    ++ codes " " ++ verb_text entry.verb ++ codes " = " ++ decimal entry.value ++ codes "\n"
 
 -- ` withdrawn X` stands in the reports of version 2 alone
 abbrev pub withdrawn_text : ℕ → ℕ → List ℕ
@@ -41,7 +41,7 @@ state_text is_retired = if is_retired then codes " retired\n" else codes " waiti
 abbrev pub job_line : ℕ → List ℕ → JobTally → List ℕ
 job_line version name tally =
     codes "job " ++ name ++ codes " sessions " ++ decimal tally.done ++ codes " of " ++ decimal tally.sessions
-        ++ withdrawn_text version tally.withdrawn ++ codes " meals " ++ decimal tally.meals ++ state_text tally.is_retired
+    ++ withdrawn_text version tally.withdrawn ++ codes " meals " ++ decimal tally.meals ++ state_text tally.is_retired
 
 -- what is told of a job
 abbrev pub tally_of : LabPlan → Shown → ℕ → JobTally

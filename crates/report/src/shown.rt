@@ -15,7 +15,11 @@ use lab_plan::{InstrumentNo, JobNo};
 use std::alloc::Allocator;
 
 /// An instrument, with the number of its entries.
-fn write_instrument<R: Showing<P>, P: Allocator, W: Sink>(run: &R, instrument: InstrumentNo, sink: &mut W) -> Result<(), WriteFault>
+fn write_instrument<R: Showing<P>, P: Allocator, W: Sink>(
+    run: &R,
+    instrument: InstrumentNo,
+    sink: &mut W,
+) -> Result<(), WriteFault>
     requires { instrument < length (R.plan run.now).instruments }
     ensures { Writes (W.taken sink.old) (W.taken sink.new) (W.failures sink.old) (W.failures sink.new) (instrument_line (instrument_name (R.plan run.now) instrument) (length ((R.shown run.now).log instrument))) result }
 {
@@ -25,7 +29,11 @@ fn write_instrument<R: Showing<P>, P: Allocator, W: Sink>(run: &R, instrument: I
 }
 
 /// An entry of a log.
-fn write_entry<R: Showing<P>, P: Allocator, W: Sink>(run: &R, entry: Entry, sink: &mut W) -> Result<(), WriteFault>
+fn write_entry<R: Showing<P>, P: Allocator, W: Sink>(
+    run: &R,
+    entry: Entry,
+    sink: &mut W,
+) -> Result<(), WriteFault>
     requires { entry.job < length (R.plan run.now).jobs }
     ensures { Writes (W.taken sink.old) (W.taken sink.new) (W.failures sink.old) (W.failures sink.new) (entry_text (R.plan run.now) entry) result }
 {
@@ -34,7 +42,11 @@ fn write_entry<R: Showing<P>, P: Allocator, W: Sink>(run: &R, entry: Entry, sink
 }
 
 /// The entries of an instrument in the order of its log.
-fn write_entries<R: Showing<P>, P: Allocator, W: Sink>(run: &R, instrument: InstrumentNo, sink: &mut W) -> Result<(), WriteFault>
+fn write_entries<R: Showing<P>, P: Allocator, W: Sink>(
+    run: &R,
+    instrument: InstrumentNo,
+    sink: &mut W,
+) -> Result<(), WriteFault>
     requires { instrument < length (R.plan run.now).instruments }
     ensures { Writes (W.taken sink.old) (W.taken sink.new) (W.failures sink.old) (W.failures sink.new) (flat_map (entry_text (R.plan run.now)) ((R.shown run.now).log instrument)) result }
 {
@@ -45,7 +57,11 @@ fn write_entries<R: Showing<P>, P: Allocator, W: Sink>(run: &R, instrument: Inst
 }
 
 /// An instrument: its line, and its entries.
-fn write_log<R: Showing<P>, P: Allocator, W: Sink>(run: &R, instrument: InstrumentNo, sink: &mut W) -> Result<(), WriteFault>
+fn write_log<R: Showing<P>, P: Allocator, W: Sink>(
+    run: &R,
+    instrument: InstrumentNo,
+    sink: &mut W,
+) -> Result<(), WriteFault>
     requires { instrument < length (R.plan run.now).instruments }
     ensures { Writes (W.taken sink.old) (W.taken sink.new) (W.failures sink.old) (W.failures sink.new) (log_text (R.plan run.now) (R.shown run.now) instrument) result }
 {
@@ -64,7 +80,11 @@ fn write_logs<R: Showing<P>, P: Allocator, W: Sink>(run: &R, sink: &mut W) -> Re
 }
 
 /// What is told of a job.
-fn write_tally<R: Showing<P>, P: Allocator, W: Sink>(run: &R, job: JobNo, sink: &mut W) -> Result<(), WriteFault>
+fn write_tally<R: Showing<P>, P: Allocator, W: Sink>(
+    run: &R,
+    job: JobNo,
+    sink: &mut W,
+) -> Result<(), WriteFault>
     requires { job < length (R.plan run.now).jobs }
     ensures { Writes (W.taken sink.old) (W.taken sink.new) (W.failures sink.old) (W.failures sink.new) (tally_text (R.plan run.now) (R.shown run.now) job) result }
 {
@@ -74,7 +94,10 @@ fn write_tally<R: Showing<P>, P: Allocator, W: Sink>(run: &R, job: JobNo, sink: 
 }
 
 /// What is told of the jobs, in order.
-fn write_tallies<R: Showing<P>, P: Allocator, W: Sink>(run: &R, sink: &mut W) -> Result<(), WriteFault>
+fn write_tallies<R: Showing<P>, P: Allocator, W: Sink>(
+    run: &R,
+    sink: &mut W,
+) -> Result<(), WriteFault>
     ensures { Writes (W.taken sink.old) (W.taken sink.new) (W.failures sink.old) (W.failures sink.new) (flat_map (tally_text (R.plan run.now) (R.shown run.now)) (jobs (R.plan run.now))) result }
 {
     for job in 0..run.plan().jobs() {
@@ -107,7 +130,10 @@ fn write_last<W: Sink>(is_finished: bool, sink: &mut W) -> Result<(), WriteFault
 }
 
 /// The report.
-pub(crate) fn write_shown<R: Showing<P>, P: Allocator, W: Sink>(run: &R, sink: &mut W) -> Result<(), WriteFault>
+pub(crate) fn write_shown<R: Showing<P>, P: Allocator, W: Sink>(
+    run: &R,
+    sink: &mut W,
+) -> Result<(), WriteFault>
     ensures { Writes (W.taken sink.old) (W.taken sink.new) (W.failures sink.old) (W.failures sink.new) (report_of (R.plan run.now) (R.shown run.now)) result }
 {
     write_header(run.plan().version(), sink)?;

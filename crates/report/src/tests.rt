@@ -71,7 +71,9 @@ const TWO_ADD: [Line<'static>; 6] = [
 ];
 
 const A: JobNo = JobNo(0);
+
 const B: JobNo = JobNo(1);
+
 const AB: EdgeNo = EdgeNo(0);
 
 /// What a job does in a run: a look at the one edge, or another event.

@@ -8,11 +8,12 @@ pub returns-in_err-write_job : goal.returns-in_err-write_job
 returns-in_err-write_job g c =
     let inside : c.loop-job.job < length c.args.plan.now.jobs = omega arith in
     writes_err _ _ _ _ _ _ c.from_residual.ensures.0
-      (each_stops (job_text c.args.plan.now) c.args.plan.now.jobs c.loop-job.job no_job _ _ _ _ inside refl c.loop-job.invariant.0 c.in_err-write_job.ensures.0)
-      (c.in_err-write_job.ensures.1 ∙ ap (λ n. n + 1) c.loop-job.invariant.1)
+    (each_stops (job_text c.args.plan.now) c.args.plan.now.jobs c.loop-job.job no_job _ _ _ _ inside refl c.loop-job.invariant.0 c.in_err-write_job.ensures.0)
+    (c.in_err-write_job.ensures.1 ∙ ap (λ n. n + 1) c.loop-job.invariant.1)
 
 pub loop-job-preserved : goal.loop-job-preserved
 loop-job-preserved g c =
-    let inside : c.loop-job.job < length c.args.plan.now.jobs = omega arith in
-    (each_goes (job_text c.args.plan.now) c.args.plan.now.jobs c.loop-job.job no_job _ _ _ _ inside refl c.loop-job.invariant.0 c.in_ok-write_job.ensures.0,
-     c.in_ok-write_job.ensures.1 ∙ c.loop-job.invariant.1)
+    let inside : c.loop-job.job < length c.args.plan.now.jobs = omega arith in (
+      each_goes (job_text c.args.plan.now) c.args.plan.now.jobs c.loop-job.job no_job _ _ _ _ inside refl c.loop-job.invariant.0 c.in_ok-write_job.ensures.0,
+      c.in_ok-write_job.ensures.1 ∙ c.loop-job.invariant.1,
+    )

@@ -12,11 +12,11 @@ pub returns-in_err-write_commands : goal.returns-in_err-write_commands
 returns-in_err-write_commands g c =
     let these = ap (commands_text c.args.plan.now) c.commands.ensures.commands in
     writes_err _ _ _ _ _ _ c.from_residual-in_err-write_commands.ensures.0
-      (in_first _ _ _ _ (in_second _ _ _ _ _ c.in_ok-write_session_line.ensures.0 (prefix_same _ _ _ _ these c.in_err-write_commands.ensures.0)))
-      (c.in_err-write_commands.ensures.1 ∙ ap (λ n. n + 1) c.in_ok-write_session_line.ensures.1)
+    (in_first _ _ _ _ (in_second _ _ _ _ _ c.in_ok-write_session_line.ensures.0 (prefix_same _ _ _ _ these c.in_err-write_commands.ensures.0)))
+    (c.in_err-write_commands.ensures.1 ∙ ap (λ n. n + 1) c.in_ok-write_session_line.ensures.1)
 
 pub returns : goal.returns
 returns g c =
     let these = ap (commands_text c.args.plan.now) c.commands.ensures.commands in
     writes_after _ _ _ _ _ _ _ _ _ (Appends-trans _ _ _ _ _ c.in_ok-write_session_line.ensures.0 (appends_same _ _ _ _ these c.in_ok-write_commands.ensures.0))
-      (c.in_ok-write_commands.ensures.1 ∙ c.in_ok-write_session_line.ensures.1) c.offer.ensures
+    (c.in_ok-write_commands.ensures.1 ∙ c.in_ok-write_session_line.ensures.1) c.offer.ensures
