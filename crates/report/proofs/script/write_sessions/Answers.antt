@@ -1,4 +1,4 @@
-use Rattle.std.proofs.Common.{◌+◌, ◌-◌, ◌<◌, ◌≡◌, ℕ, List, length, slice_index_or, arith, ◌∙◌, ap}
+use Rattle.std.proofs.Common.{◌+◌, ◌-◌, ◌<◌, ◌≡◌, length, slice_index_or, arith, ◌∙◌, ap}
 use Rattle.lab_plan.specs.LabPlan.{sessions, no_session}
 use Rattle.lab_plan.specs.Upgrade.{session_text}
 use Rattle.report.proofs.Prefixes.{each_goes, each_stops, writes_err}

@@ -5,7 +5,7 @@ use base.Logic.{emp, via, fst∗}
 use contract.Running.{tables}
 use denote.RattleType.{owns}
 use denote.Shadow.{pure_i}
-use denote.Triple.Entry.{on_entry, alive}
+use denote.Triple.Entry.{alive}
 use denote.Triple.Walked.{Stays, walk_of, says, ends_at}
 use mir.Val.{vstruct, vnil}
 use types.ByLocal.{alloc_all, pass_all, free_all, look_at, sets}
