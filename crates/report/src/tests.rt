@@ -6,7 +6,6 @@ use lab_plan::{EdgeNo, JobNo, Plan, PlanBuilder, PlanRefusal, Verb};
 use std::alloc::{AllocError, Allocator};
 use std::io::{self, Write};
 use std::process::Abort;
-use std::test::Fail;
 
 mod reports;
 mod scripts;
