@@ -95,7 +95,7 @@ fn do_all<A: Allocator>(rt: &impl Abort, world: &mut World<'_, A>, doings: &[Doi
     }
 }
 
-/// Takes at most `most` bytes a call, and fails once `calls` calls are used.
+/// Takes at most `most` bytes a call, and fails, in a flush too, once `calls` calls are used.
 #[derive(Drop)]
 struct Slow<A: Allocator> {
     bytes: Vec<u8, A>,
@@ -115,6 +115,9 @@ impl<A: Allocator> Write for Slow<A> {
     }
 
     fn flush(&mut self) -> io::Result<()> {
+        if self.calls == 0 {
+            return Err(io::Error::from(AllocError));
+        }
         Ok(())
     }
 }

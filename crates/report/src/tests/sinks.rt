@@ -1,5 +1,5 @@
 // Sinks that take one byte a call, none, or fail at a call: exactly the first bytes went out.
-use super::{TWO_ADD, plan_of, report_by, script_by};
+use super::{Slow, TWO_ADD, plan_of, report_by, script_by};
 use crate::{Failed, Sink, ToWrite, WriteFault, offer};
 use interleaving::World;
 use lab_plan::PlanBuilder;
@@ -94,4 +94,18 @@ fn offers_and_flushes(rt: HostRuntime) {
     assert!(rt; sink.write(b" on") == Ok(3) && sink.flush() == Ok(()));
     assert!(rt; sink.write(b"!") != Err(Failed));
     assert!(rt; bytes.as_slice() == b"lamp on!".as_slice());
+}
+
+/// A flush is the writer's own, with its failure.
+#[test]
+fn flush_fails(rt: HostRuntime) {
+    let mut slow = Slow {
+        bytes: Vec::new(rt.alloc()),
+        most: 10,
+        calls: 1,
+    };
+    let mut sink = ToWrite::new(&mut slow);
+    assert!(rt; sink.flush() == Ok(()) && sink.write(b"lamp") == Ok(4));
+    assert!(rt; sink.flush() == Err(Failed) && sink.write(b"pump") == Err(Failed));
+    assert!(rt; slow.bytes.as_slice() == b"lamp".as_slice());
 }
