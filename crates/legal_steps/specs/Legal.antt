@@ -165,6 +165,23 @@ next_entry plan s j =
 abbrev pub with_entry : State → ℕ → Entry → State
 with_entry s i entry = record s { logs = slice_set s.logs i (log s i ++ entry ∷ []) }
 
+-- what each exchange makes of its edge: the fork's token moves; the fork moves and is cleaned; it is soiled;
+-- the tokens of a set of bottles move; the bottles of a set move
+abbrev pub fork_asked : EdgeState → EdgeState
+fork_asked x = record x { token = opposite x.token }
+
+abbrev pub fork_given : EdgeState → EdgeState
+fork_given x = record x { fork = opposite x.fork; dirty = false }
+
+abbrev pub fork_soiled : EdgeState → EdgeState
+fork_soiled x = record x { dirty = true }
+
+abbrev pub bottles_asked : ℕ → EdgeState → EdgeState
+bottles_asked set x = record x { bottle_tokens = bit_xor x.bottle_tokens set }
+
+abbrev pub bottles_given : ℕ → EdgeState → EdgeState
+bottles_given set x = record x { bottles = bit_xor x.bottles set }
+
 abbrev pub after : LabPlan → State → Event → State
 -- the marks for the edge are set or cleared by what was seen; the bottle marks are exactly the bottles here
 after plan s (Look j e seen) =
@@ -172,17 +189,17 @@ after plan s (Look j e seen) =
     let here = end_of plan j e in
     with_seat s j (with_bottle_marks (with_fork_mark x e (fork_mark_seen x.phase.dining here seen)) e (bottles_at plan e here seen))
 -- the token goes there
-after plan s (AskFork j e) = with_edge s e (record (edge s e) { token = opposite (token s e) })
+after plan s (AskFork j e) = with_edge s e (fork_asked (edge s e))
 -- the fork goes there and is cleaned; its mark is cleared
-after plan s (GiveFork j e) = with_seat (with_edge s e (record (edge s e) { fork = opposite (fork s e); dirty = false })) j (with_fork_mark (seat s j) e false)
+after plan s (GiveFork j e) = with_seat (with_edge s e (fork_given (edge s e))) j (with_fork_mark (seat s j) e false)
 -- the fork is dirty; its mark is set
-after plan s (Soil j e) = with_seat (with_edge s e (record (edge s e) { dirty = true })) j (with_fork_mark (seat s j) e true)
+after plan s (Soil j e) = with_seat (with_edge s e (fork_soiled (edge s e))) j (with_fork_mark (seat s j) e true)
 -- those tokens go there
-after plan s (AskBottles j e set) = with_edge s e (record (edge s e) { bottle_tokens = bit_xor (edge s e).bottle_tokens set })
+after plan s (AskBottles j e set) = with_edge s e (bottles_asked set (edge s e))
 -- those bottles go there; their marks are cleared
 after plan s (GiveBottles j e set) =
     let marks = bottle_marks s j e in
-    with_seat (with_edge s e (record (edge s e) { bottles = bit_xor (edge s e).bottles set })) j (with_bottle_marks (seat s j) e (bit_xor marks (bit_and marks set)))
+    with_seat (with_edge s e (bottles_given set (edge s e))) j (with_bottle_marks (seat s j) e (bit_xor marks (bit_and marks set)))
 -- thirsty, in the next session, at its first command
 after plan s (Thirst j) = with_phase s j (record (phase s j) { drinking = Thirsty; session = session s j + 1; position = 0 })
 after plan s (Hunger j) = with_phase s j (record (phase s j) { dining = Hungry })
