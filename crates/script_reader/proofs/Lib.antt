@@ -23,3 +23,4 @@ pub mod BottleSets
 pub mod OfInstruments
 pub mod EdgeNumbers
 pub mod OneList
+pub mod OwnSteps

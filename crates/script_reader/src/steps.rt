@@ -1,5 +1,6 @@
 // Reading a script with a list of steps.
-ghost use Rattle.std.specs.Prelude.{◌≡◌, ◌+◌, ◌-◌, ◌^◌, ◌<◌, MatchResult, Ok, Err, Some, length};
+ghost use Rattle.std.specs.Prelude.{◌≡◌, ◌+◌, ◌-◌, ◌^◌, ◌<◌, All, IfOk, MatchResult, Ok, Err, Some, length};
+ghost use Rattle.legal_steps.specs.Steps.{IsStepOf};
 ghost use Rattle.script_reader.specs.Script.{text_lines, LinesMean, Refuses};
 ghost use Rattle.script_reader.specs.State.{Ends, IsTied};
 ghost use Rattle.script_reader.specs.Steps.{is_steps_line, script_part, steps_part, first_step, step_in, AreSteps, RefusesSteps, ReadsStep, StepsMean, StepsRefuse};
@@ -149,7 +150,8 @@ pub fn read_steps<A: Allocator + Copy>(
     alloc: A,
     text: &[u8],
 ) -> Result<(Plan<A>, Vec<StepLine, A>), ScriptFault>
-    ensures { MatchResult result (λ r. StepsMean text.now r.0 r.1.items) (StepsRefuse text.now) }
+    ensures meaning { MatchResult result (λ r. StepsMean text.now r.0 r.1.items) (StepsRefuse text.now) }
+    ensures own { IfOk result (λ r. All (λ line. IsStepOf r.0 line.step) r.1.items) }
 {
     let ScriptPart { plan, rest, first } = read_script(alloc, text)?;
     match read_list(alloc, &plan, rest, first) {
