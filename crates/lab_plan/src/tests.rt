@@ -6,6 +6,7 @@ use std::process::Abort;
 
 mod limits;
 mod memory;
+mod reading;
 
 #[derive(Clone, Copy)]
 enum Line<'a> {

@@ -101,13 +101,17 @@ fn faults_of_scripts(rt: HostRuntime) {
 /// Lines that meet two causes: the first in the order of a line's causes is told.
 #[test]
 fn first_cause_of_a_line(rt: HostRuntime) {
-    let texts: [(&str, usize, ScriptCause); 16] = [
+    let texts: [(&str, usize, ScriptCause); 20] = [
         ("job a b", 1, NoHeader),
         ("session", 1, NoHeader),
+        ("session patience 007", 1, NoHeader),
+        ("x read", 1, NoHeader),
         ("end", 1, NoHeader),
         ("Q set 007", 1, NoHeader),
         ("lab 1\njob a\nsession\njob b c", 4, UnknownWord),
         ("lab 1\nsession patience 007", 2, UnknownWord),
+        ("lab 1\njob a\nsession patience 007", 3, UnknownWord),
+        ("lab 1\njob a\nsession\nsession patience 3", 4, UnknownWord),
         ("lab 1\njob a\nsession\njob Q", 4, SessionNotClosed),
         ("lab 1\njob a\nsession\njob a", 4, SessionNotClosed),
         (

@@ -1,8 +1,13 @@
 // Each limit at its number and one past it, with the causes that come before it.
 use super::told;
-use crate::ScriptCause::{BadName, BadNumber, JobTwice, LimitPassed, TooManyInCommon};
+use crate::ScriptCause::{
+    BadName, BadNumber, BadStep, JobTwice, LimitPassed, NotInSession, SessionNotClosed,
+    TooManyInCommon,
+};
 use crate::{read_plan, read_steps};
+use legal_steps::StepLine;
 use std::alloc::{AllocError, Global};
+use std::mem::size_of;
 use std::test::Fail;
 
 /// A text with this line so many times behind its front; the line's mark is its number.
@@ -42,6 +47,22 @@ fn jobs(rt: HostRuntime) -> Result<(), Fail> {
     }
     text.push_str("session\nx read\nend\n")?;
     assert!(rt; told(read_plan(alloc, text.as_bytes())).is_none());
+    Ok(())
+}
+
+/// Lines past a limit, which meet an earlier cause besides.
+#[test]
+fn causes_before_limits(rt: HostRuntime) -> Result<(), Fail> {
+    let alloc = rt.alloc();
+    let mut text = repeated(alloc, "lab 1\n", "job j", "\n", 32)?;
+    text.push_str("session\njob j32")?;
+    assert!(rt; told(read_plan(alloc, text.as_bytes())) == Some((35, SessionNotClosed)));
+    let mut text = repeated(alloc, "lab 1\njob a\n", "session\nx set ", "\nend\n", 999)?;
+    text.push_str("session\nx read\nsession")?;
+    assert!(rt; told(read_plan(alloc, text.as_bytes())) == Some((3002, SessionNotClosed)));
+    let mut text = repeated(alloc, "lab 1\njob a\nsession\n", "x set ", "\n", 100_000)?;
+    text.push_str("end\nx read")?;
+    assert!(rt; told(read_plan(alloc, text.as_bytes())) == Some((100_005, NotInSession)));
     Ok(())
 }
 
@@ -114,6 +135,38 @@ fn steps(rt: HostRuntime) -> Result<(), Fail> {
     Ok(())
 }
 
+#[test]
+fn bad_step_past_the_limit(rt: HostRuntime) -> Result<(), Fail> {
+    let alloc = rt.alloc();
+    let mut text = String::new(alloc);
+    text.push_str("lab 1\njob a\nsteps\n")?;
+    for _ in 0..1_000_000 {
+        text.push_str("sit a\n")?;
+    }
+    text.push_str("sit")?;
+    assert!(rt; told(read_steps(alloc, text.as_bytes())) == Some((1_000_004, BadStep)));
+    Ok(())
+}
+
+/// A step takes 16 bytes, and the list has room for at most twice as many steps as it has.
+#[test]
+fn room_of_steps(rt: HostRuntime) -> Result<(), Fail> {
+    let alloc = rt.alloc();
+    assert!(rt; size_of::<StepLine>() == 16);
+    let mut text = String::new(alloc);
+    text.push_str("lab 1\njob a\nsteps\n")?;
+    for _ in 0..1025 {
+        text.push_str("# skipped\nsit a\n\n")?;
+    }
+    match read_steps(alloc, text.as_bytes()) {
+        Ok((plan, steps)) => {
+            assert!(rt; plan.jobs() == 1 && steps.len() == 1025 && steps.capacity() <= 2050)
+        }
+        Err(_) => assert!(rt; false),
+    }
+    Ok(())
+}
+
 /// Two jobs with so many instruments in common.
 fn sharing(alloc: Global, instruments: u32) -> Result<String, AllocError> {
     let mut text = repeated(
@@ -139,5 +192,7 @@ fn many_in_common(rt: HostRuntime) -> Result<(), Fail> {
     assert!(rt; told(read_steps(alloc, text.as_bytes())) == Some((66, TooManyInCommon)));
     let stepped = format!(in alloc; "{text}\n\nsteps\nbad")?;
     assert!(rt; told(read_steps(alloc, stepped.as_bytes())) == Some((68, TooManyInCommon)));
+    let open = format!(in alloc; "{text}job c\nsession\nx read")?;
+    assert!(rt; told(read_plan(alloc, open.as_bytes())) == Some((69, SessionNotClosed)));
     Ok(())
 }
