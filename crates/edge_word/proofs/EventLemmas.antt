@@ -1,11 +1,12 @@
 -- Each event takes its edge where the move says, and leaves as many edges.
-use Rattle.std.proofs.Common.{◌≡◌, ℕ, ◌<◌, [], ◌∷◌, List, length, slice_set, refl, ap, ◌∙◌, get_or-set_same, length-set}
+use Rattle.std.proofs.Common.{◌≡◌, ℕ, ◌<◌, [], ◌∷◌, List, length, refl, ap, ◌∙◌, length-set}
 use Rattle.lab_plan.specs.LabPlan.{LabPlan}
 use Rattle.legal_steps.specs.declared.edge_state.EdgeState.{EdgeState}
 use Rattle.legal_steps.specs.declared.event.Event.{Event}
 use Rattle.legal_steps.specs.declared.event.Event.TheVariants.{AskFork, GiveFork, Soil, AskBottles, GiveBottles}
 use Rattle.legal_steps.specs.State.{State, edge}
 use Rattle.legal_steps.specs.Legal.{after, fork_asked, fork_given, fork_soiled, bottles_asked, bottles_given}
+use Rattle.legal_steps.proofs.FitsWrites.{edge_same}
 use Rattle.edge_word.specs.Moves.{Lead}
 
 -- an event on edge e changes that edge so, and leaves as many
@@ -13,23 +14,20 @@ pub record Changes (s s' : State) (e : ℕ) (f : EdgeState → EdgeState) : Type
   pub changed : edge s' e ≡ f (edge s e)
   pub as_many : length s'.edges ≡ length s.edges
 
-same_edge : (s : State) (e : ℕ) (x : EdgeState) → e < length s.edges → edge (record s { edges = slice_set s.edges e x }) e ≡ x
-same_edge s e x inside = get_or-set_same s.edges e x _ inside
-
 pub GiveFork-changes : (plan : LabPlan) (s : State) (j e : ℕ) → e < length s.edges → Changes s (after plan s (GiveFork j e)) e fork_given
-GiveFork-changes plan s j e h = record { changed = same_edge s e _ h; as_many = simp length-set }
+GiveFork-changes plan s j e h = record { changed = edge_same s e _ h; as_many = simp length-set }
 
 pub AskFork-changes : (plan : LabPlan) (s : State) (j e : ℕ) → e < length s.edges → Changes s (after plan s (AskFork j e)) e fork_asked
-AskFork-changes plan s j e h = record { changed = same_edge s e _ h; as_many = simp length-set }
+AskFork-changes plan s j e h = record { changed = edge_same s e _ h; as_many = simp length-set }
 
 pub Soil-changes : (plan : LabPlan) (s : State) (j e : ℕ) → e < length s.edges → Changes s (after plan s (Soil j e)) e fork_soiled
-Soil-changes plan s j e h = record { changed = same_edge s e _ h; as_many = simp length-set }
+Soil-changes plan s j e h = record { changed = edge_same s e _ h; as_many = simp length-set }
 
 pub AskBottles-changes : (plan : LabPlan) (s : State) (j e set : ℕ) → e < length s.edges → Changes s (after plan s (AskBottles j e set)) e (bottles_asked set)
-AskBottles-changes plan s j e set h = record { changed = same_edge s e _ h; as_many = simp length-set }
+AskBottles-changes plan s j e set h = record { changed = edge_same s e _ h; as_many = simp length-set }
 
 pub GiveBottles-changes : (plan : LabPlan) (s : State) (j e set : ℕ) → e < length s.edges → Changes s (after plan s (GiveBottles j e set)) e (bottles_given set)
-GiveBottles-changes plan s j e set h = record { changed = same_edge s e _ h; as_many = simp length-set }
+GiveBottles-changes plan s j e set h = record { changed = edge_same s e _ h; as_many = simp length-set }
 
 -- so each event alone leads from an edge to that edge changed
 pub fork_asked-leads : (x y : EdgeState) → y ≡ fork_asked x → Lead (λ j e. AskFork j e ∷ []) x y

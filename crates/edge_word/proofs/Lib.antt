@@ -4,5 +4,6 @@ pub mod PhaseLemmas
 pub mod EventLemmas
 pub mod MoveLemmas
 pub mod MoveLaws
+pub mod MoveFrame
 pub mod TableLaw
 pub mod OpeningWords

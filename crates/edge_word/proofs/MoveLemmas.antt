@@ -14,7 +14,7 @@ use Rattle.edge_word.specs.Moves.{when, after_moves, on, events_of}
 use Rattle.edge_word.proofs.EventLemmas.{Changes, GiveFork-changes, AskFork-changes, Soil-changes, AskBottles-changes, GiveBottles-changes}
 
 -- the state after one event of a group, or without it
-abbrev after_if : LabPlan → Bool → Event → State → State
+abbrev pub after_if : LabPlan → Bool → Event → State → State
 after_if plan false event s = s
 after_if plan true event s = after plan s event
 
@@ -77,18 +77,21 @@ all_but_soil plan s j e m h =
       as_many = d.as_many ∙ (c.as_many ∙ (b.as_many ∙ a.as_many));
     }
 
--- the events of a group lead to the edge that `after_moves` says
+-- the state after a group
+pub after_group : (plan : LabPlan) (s : State) (j e : ℕ) (m : EdgeMoves) → after_all plan s (events_of m j e) ≡ after_if plan m.soil (Soil j e) (bottles_wanted plan s j e m)
+after_group plan s j e m =
+    after_on plan s m.give_fork (GiveFork j e) _
+    ∙ (after_on plan (fork_left plan s j e m) (not (m.give_bottles == 0)) (GiveBottles j e m.give_bottles) _
+    ∙ (after_on plan (bottles_left plan s j e m) m.ask_fork (AskFork j e) _
+    ∙ (after_on plan (fork_wanted plan s j e m) (not (m.ask_bottles == 0)) (AskBottles j e m.ask_bottles) _
+    ∙ after_on plan (bottles_wanted plan s j e m) m.soil (Soil j e) [])))
+
+-- its events lead to the edge that `after_moves` says
 pub after_all-moves : (plan : LabPlan) (s : State) (j e : ℕ) (m : EdgeMoves) → e < length s.edges → edge (after_all plan s (events_of m j e)) e ≡ after_moves m (edge s e)
 after_all-moves plan s j e m h =
     let b = all_but_soil plan s j e m h in
     let last = soil_if plan (bottles_wanted plan s j e m) j e m.soil (omega (arith, b.as_many)) in
-    ap (λ t. edge t e)
-    (after_on plan s m.give_fork (GiveFork j e) _
-    ∙ (after_on plan (fork_left plan s j e m) (not (m.give_bottles == 0)) (GiveBottles j e m.give_bottles) _
-    ∙ (after_on plan (bottles_left plan s j e m) m.ask_fork (AskFork j e) _
-    ∙ (after_on plan (fork_wanted plan s j e m) (not (m.ask_bottles == 0)) (AskBottles j e m.ask_bottles) _
-    ∙ after_on plan (bottles_wanted plan s j e m) m.soil (Soil j e) []))))
-    ∙ (last.changed ∙ ap (when m.soil fork_soiled) b.changed)
+    ap (λ t. edge t e) (after_group plan s j e m) ∙ (last.changed ∙ ap (when m.soil fork_soiled) b.changed)
 
 -- where each event of a legal group is legal
 pub record AreLegal (plan : LabPlan) (s : State) (j e : ℕ) (m : EdgeMoves) : Type 0 where

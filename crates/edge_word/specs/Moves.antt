@@ -1,11 +1,11 @@
 -- The moves of one job on one edge, as events of the core, as the change of an edge, and as the bits that change.
-use Rattle.std.specs.Prelude.{◌≡◌, ℕ, ◌^◌, ◌<◌, Bool, true, false, not, ◌&&◌, ◌==◌, List, [], ◌∷◌, length, bit_xor}
+use Rattle.std.specs.Prelude.{◌≡◌, ◌≢◌, ℕ, ◌^◌, ◌<◌, Bool, true, false, not, ◌&&◌, ◌==◌, List, [], ◌∷◌, length, bit_xor}
 use Rattle.lab_plan.specs.LabPlan.{LabPlan}
 use Rattle.legal_steps.specs.declared.end.End.{End}
 use Rattle.legal_steps.specs.declared.edge_state.EdgeState.{EdgeState}
 use Rattle.legal_steps.specs.declared.event.Event.{Event}
 use Rattle.legal_steps.specs.declared.event.Event.TheVariants.{AskFork, GiveFork, Soil, AskBottles, GiveBottles}
-use Rattle.legal_steps.specs.State.{State, edge, opposite}
+use Rattle.legal_steps.specs.State.{State, edge, seat, phase, opposite}
 use Rattle.legal_steps.specs.Legal.{is_at, fork_asked, fork_given, fork_soiled, bottles_asked, bottles_given}
 use Rattle.legal_steps.specs.Run.{after_all}
 use Rattle.edge_word.specs.Words.{state_of, word_of_fields, flag_bit}
@@ -17,6 +17,15 @@ use Rattle.edge_word.specs.declared.moves.EdgeMoves.{EdgeMoves}
 -- in every state, these events of a job on an edge take the edge from x to y
 abbrev pub Lead : (ℕ → ℕ → List Event) → EdgeState → EdgeState → Type 0
 Lead events x y = (plan : LabPlan) (s : State) (j e : ℕ) → e < length s.edges → edge s e ≡ x → edge (after_all plan s (events j e)) e ≡ y
+
+-- from s to s', only edge e and the marks of job j have changed
+pub record ChangesOnly (j e : ℕ) (s s' : State) : Type 0 where
+  pub as_many_edges : length s'.edges ≡ length s.edges
+  pub other_edges : (i : ℕ) → i ≢ e → edge s' i ≡ edge s i
+  pub as_many_seats : length s'.seats ≡ length s.seats
+  pub other_seats : (i : ℕ) → i ≢ j → seat s' i ≡ seat s i
+  pub own_phase : phase s' j ≡ phase s j
+  pub logs : s'.logs ≡ s.logs
 
 -- the event before the rest, or only the rest
 abbrev pub on : Bool → Event → List Event → List Event

@@ -4,13 +4,13 @@ use Rattle.lab_plan.specs.LabPlan.{LabPlan, edges, bottles}
 use Rattle.legal_steps.specs.declared.edge_state.EdgeState.{EdgeState}
 use Rattle.legal_steps.specs.declared.phase.JobState.{JobState}
 use Rattle.legal_steps.specs.State.{State, edge}
-use Rattle.legal_steps.specs.Run.{IsLegalFrom}
+use Rattle.legal_steps.specs.Run.{IsLegalFrom, after_all}
 use Rattle.legal_steps.specs.Opening.{the_opening}
 use Rattle.edge_word.specs.declared.moves.EdgeMoves.{EdgeMoves}
 use Rattle.edge_word.specs.Words.{word_of, IsOfBottles, opening_edge}
 use Rattle.edge_word.specs.Phases.{phase_word_of, FitsPhaseWord}
 use Rattle.edge_word.specs.Table.{Spells, SpellsPhase}
-use Rattle.edge_word.specs.Moves.{Lead, events_of, after_moves, moves_of_words, AreOfBottles}
+use Rattle.edge_word.specs.Moves.{Lead, ChangesOnly, events_of, after_moves, moves_of_words, AreOfBottles}
 
 -- the word of an edge is the one number that has the bits of the table
 abbrev pub HasTheBitsOfTheTable : Type 0
@@ -34,6 +34,10 @@ OpensAsTheOpening = (plan : LabPlan) (e : ℕ) → e < length (edges plan) → e
 -- the events of a group lead to the edge after its moves
 abbrev pub MovesAreEvents : Type 0
 MovesAreEvents = (m : EdgeMoves) (x : EdgeState) → Lead (events_of m) x (after_moves m x)
+
+-- and change nothing else but marks of the job that moves
+abbrev pub MovesChangeOnlyTheirEdge : Type 0
+MovesChangeOnlyTheirEdge = (plan : LabPlan) (s : State) (j e : ℕ) (m : EdgeMoves) → j < length s.seats → ChangesOnly j e s (after_all plan s (events_of m j e))
 
 -- moves of an edge's own bottles name no other in its word
 abbrev pub StaysOfItsBottles : Type 0

@@ -1,14 +1,12 @@
 // What holds of all words. Each law is the contract of a function that does nothing.
-ghost use Rattle.edge_word.specs.WordLaws.{HasTheBitsOfTheTable, HasTheFieldsOfTheTable, NoTwoEdgesShareAWord, NoTwoPhasesShareAWord, OpensAsTheOpening, MovesAreEvents, StaysOfItsBottles, LegalMovesAreOfTheEdge, MovesAreReadBack};
+ghost use Rattle.edge_word.specs.WordLaws.{HasTheBitsOfTheTable, HasTheFieldsOfTheTable, NoTwoEdgesShareAWord, NoTwoPhasesShareAWord, OpensAsTheOpening, MovesAreEvents, MovesChangeOnlyTheirEdge, StaysOfItsBottles, LegalMovesAreOfTheEdge, MovesAreReadBack};
 
 /// The word of an edge is the one number that has the bits of the table at `EdgeWord`.
-#[tactic(auto, using(crate::proofs::TableLaw::has_the_bits))]
 pub fn bits_of_the_table()
     ensures { HasTheBitsOfTheTable }
 {}
 
 /// The word of a phase is the one number that has the fields of the table at `PhaseWord`.
-#[tactic(auto, using(crate::proofs::TableLaw::has_the_fields))]
 pub fn fields_of_the_table()
     ensures { HasTheFieldsOfTheTable }
 {}
@@ -35,6 +33,11 @@ pub fn opens_as_the_opening()
 #[tactic(auto, using(crate::proofs::MoveLaws::moves_lead))]
 pub fn moves_are_events()
     ensures { MovesAreEvents }
+{}
+
+/// A group of moves changes nothing but its edge, and marks of the job that moves.
+pub fn moves_change_only_their_edge()
+    ensures { MovesChangeOnlyTheirEdge }
 {}
 
 /// After moves of the edge's own bottles, its word names no other bottle.
