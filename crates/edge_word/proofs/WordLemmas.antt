@@ -4,7 +4,9 @@ use Rattle.std.proofs.Math.Nat.{pow-le-pow_right}
 use Rattle.legal_steps.specs.declared.end.End.{End}
 use Rattle.legal_steps.specs.declared.end.End.TheVariants.{Lower, Higher}
 use Rattle.legal_steps.specs.declared.edge_state.EdgeState.{EdgeState}
-use Rattle.edge_word.specs.Words.{end_bit, flag_bit, end_at, flag_at, word_of, word_of_fields, state_of, IsEdgeWord, IsOfBottles}
+use Rattle.edge_word.specs.Words.{end_bit, flag_bit, end_at, flag_at, word_of, word_of_fields, state_of, IsEdgeWord, IsOfBottles, IsSetOf}
+use Rattle.edge_word.specs.declared.moves.EdgeMoves.{EdgeMoves}
+use Rattle.edge_word.specs.Moves.{AreOfBottles}
 
 end_at-end_bit : (x : End) → end_at (end_bit x) ≡ x
 unfolding end_at
@@ -51,3 +53,9 @@ within n set few h = let most : 2 ^ n ≤ 2 ^ 28 = pow-le-pow_right (lit< tt) fe
 
 pub IsOfBottles-28 : (n : ℕ) (x : EdgeState) → n ≤ 28 → IsOfBottles n x → IsOfBottles 28 x
 IsOfBottles-28 n x few h = record { bottles_fit = within n x.bottles few h.bottles_fit; tokens_fit = within n x.bottle_tokens few h.tokens_fit }
+
+pub IsSetOf-28 : (n set : ℕ) → n ≤ 28 → IsSetOf n set → IsSetOf 28 set
+IsSetOf-28 n set few h = record { not_empty = h.not_empty; of_edge = within n set few h.of_edge }
+
+pub AreOfBottles-28 : (n : ℕ) (m : EdgeMoves) → n ≤ 28 → AreOfBottles n m → AreOfBottles 28 m
+AreOfBottles-28 n m few h = record { give_fits = within n m.give_bottles few h.give_fits; ask_fits = within n m.ask_bottles few h.ask_fits }

@@ -56,7 +56,7 @@ struct Flips {
     bottle_tokens: u32,
 }
 
-const NONE: Flips = Flips {
+const NO_FLIP: Flips = Flips {
     fork: false,
     dirty: false,
     token: false,
@@ -67,7 +67,8 @@ const NONE: Flips = Flips {
 /// Whether the set is not empty and names only bottles of an edge that has so many, at most 28.
 pub fn is_bottle_set(set: u32, bottles: u32) -> bool
     requires few { bottles ≤ 28 }
-    ensures { IsTrue result ↔ IsSetOf bottles set }
+    ensures is_set { IsTrue result ↔ IsSetOf bottles set }
+    ensures fits_words { IsTrue result → IsSetOf 28 set }
 {
     set != 0 && (set >> bottles) == 0
 }
@@ -130,6 +131,7 @@ impl EdgeWord {
         }
     }
 
+    /// The word itself.
     #[tactic(auto, using(crate::proofs::WordBits::word_behind))]
     pub fn pack(self) -> u64
         ensures { result ≡ word_of self }
@@ -137,6 +139,7 @@ impl EdgeWord {
         self.word
     }
 
+    /// The end of the fork.
     #[tactic(auto, unfolding(crate::specs::Words::state_of, crate::specs::Words::flag_at))]
     pub fn fork_end(self) -> End
         ensures { result ≡ self.fork }
@@ -195,7 +198,7 @@ impl EdgeWord {
     {
         self.flipped(Flips {
             token: true,
-            ..NONE
+            ..NO_FLIP
         })
     }
 
@@ -207,7 +210,7 @@ impl EdgeWord {
         self.flipped(Flips {
             fork: true,
             dirty: self.dirty(),
-            ..NONE
+            ..NO_FLIP
         })
     }
 
@@ -218,7 +221,7 @@ impl EdgeWord {
     {
         self.flipped(Flips {
             dirty: !self.dirty(),
-            ..NONE
+            ..NO_FLIP
         })
     }
 
@@ -231,7 +234,7 @@ impl EdgeWord {
     {
         self.flipped(Flips {
             bottle_tokens: set,
-            ..NONE
+            ..NO_FLIP
         })
     }
 
@@ -244,7 +247,7 @@ impl EdgeWord {
     {
         self.flipped(Flips {
             bottles: set,
-            ..NONE
+            ..NO_FLIP
         })
     }
 

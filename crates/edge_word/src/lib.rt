@@ -10,6 +10,8 @@
 //             +----------------------------+---------------+------+---------+-------+
 //  PhaseWord  | position                   | session       | zero | drinks  | dines |
 //             +----------------------------+---------------+------+---------+-------+
+//
+// A word needs the definitions of the legal steps, and no world: so this crate stands beside `interleaving`.
 #![tactic(auto)]
 
 pub mod edge;

@@ -23,7 +23,8 @@ impl EdgeMoves {
     /// Whether both sets name only bottles of an edge that has so many, at most 28.
     pub fn are_of_bottles(self, bottles: u32) -> bool
         requires few { bottles ≤ 28 }
-        ensures { IsTrue result ↔ AreOfBottles bottles self }
+        ensures are { IsTrue result ↔ AreOfBottles bottles self }
+        ensures fit_words { IsTrue result → AreOfBottles 28 self }
     {
         (self.give_bottles >> bottles) == 0 && (self.ask_bottles >> bottles) == 0
     }

@@ -91,6 +91,7 @@ impl PhaseWord {
         }
     }
 
+    /// The word itself.
     #[tactic(auto, using(crate::proofs::PhaseLemmas::phase_behind))]
     pub fn pack(self) -> u64
         ensures { result ≡ phase_word_of self }
@@ -98,6 +99,7 @@ impl PhaseWord {
         self.word
     }
 
+    /// What the job does at the table of forks.
     #[tactic(auto, unfolding(crate::specs::Phases::phase_of, crate::specs::Phases::dining_at))]
     pub fn dining(self) -> Dining
         ensures { result ≡ self.dining }
@@ -109,6 +111,7 @@ impl PhaseWord {
         }
     }
 
+    /// What the job does with the bottles of its session.
     #[tactic(auto, unfolding(crate::specs::Phases::phase_of, crate::specs::Phases::drinking_at))]
     pub fn drinking(self) -> Drinking
         ensures { result ≡ self.drinking }
