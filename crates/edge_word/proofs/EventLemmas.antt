@@ -1,8 +1,7 @@
 -- Each event takes its edge where the move says, and leaves as many edges.
-use Rattle.std.proofs.Common.{◌≡◌, ℕ, ◌<◌, [], ◌∷◌, List, length, refl, ap, ◌∙◌, length-set}
+use Rattle.std.proofs.Common.{◌≡◌, ℕ, ◌<◌, [], ◌∷◌, length, refl, ◌∙◌, length-set}
 use Rattle.lab_plan.specs.LabPlan.{LabPlan}
 use Rattle.legal_steps.specs.declared.edge_state.EdgeState.{EdgeState}
-use Rattle.legal_steps.specs.declared.event.Event.{Event}
 use Rattle.legal_steps.specs.declared.event.Event.TheVariants.{AskFork, GiveFork, Soil, AskBottles, GiveBottles}
 use Rattle.legal_steps.specs.State.{State, edge}
 use Rattle.legal_steps.specs.Legal.{after, fork_asked, fork_given, fork_soiled, bottles_asked, bottles_given}

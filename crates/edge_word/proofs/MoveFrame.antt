@@ -1,13 +1,10 @@
 -- What a group of moves leaves as it was.
-use Rattle.std.proofs.Common.{◌≡◌, ℕ, ◌<◌, Bool, true, false, not, ◌==◌, [], length, arith, refl, ap, ◌∙◌, subst, sym, length-set}
+use Rattle.std.proofs.Common.{◌≡◌, ℕ, ◌<◌, Bool, true, false, length, arith, refl, ap, ◌∙◌, subst, sym, length-set}
 use Rattle.lab_plan.specs.LabPlan.{LabPlan}
 use Rattle.legal_steps.specs.declared.edge_state.EdgeState.{EdgeState}
-use Rattle.legal_steps.specs.declared.event.Event.{Event}
 use Rattle.legal_steps.specs.declared.event.Event.TheVariants.{AskFork, GiveFork, Soil, AskBottles, GiveBottles}
-use Rattle.legal_steps.specs.declared.phase.JobState.{JobState}
-use Rattle.legal_steps.specs.State.{State, Seat, edge, seat}
-use Rattle.legal_steps.specs.Legal.{after, with_edge, with_seat}
-use Rattle.legal_steps.specs.Run.{after_all}
+use Rattle.legal_steps.specs.State.{State, Seat, seat}
+use Rattle.legal_steps.specs.Legal.{with_edge, with_seat}
 use Rattle.legal_steps.proofs.FitsWrites.{edge_other, seat_same, seat_other}
 use Rattle.edge_word.specs.declared.moves.EdgeMoves.{EdgeMoves}
 use Rattle.edge_word.specs.Moves.{ChangesOnly}

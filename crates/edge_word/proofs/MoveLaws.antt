@@ -1,5 +1,5 @@
 -- The laws of groups of moves: they are their events, stay of their edge, and are read back from the two words.
-use Rattle.std.proofs.Common.{◌≡◌, ℕ, ◌<◌, ◌^◌, ◌≤◌, Bool, true, false, not, ◌&&◌, ◌==◌, length, bit_xor, arith, refl, sym, ap, ◌∙◌, inl, inr}
+use Rattle.std.proofs.Common.{◌≡◌, ℕ, ◌<◌, ◌^◌, Bool, true, false, not, ◌&&◌, ◌==◌, length, bit_xor, arith, refl, sym, ap, ◌∙◌, inl, inr}
 use Rattle.std.proofs.lemmas.Bool.{cases_eq}
 use Rattle.std.proofs.lemmas.Bool.Decides.{nat_tests}
 use Rattle.std.specs.Int.Bits.{xor_self, xor_zero_l, xor_assoc}
@@ -12,10 +12,9 @@ use Rattle.legal_steps.specs.State.{State, edge, end_of, opposite}
 use Rattle.legal_steps.specs.Legal.{is_at, fork_asked, fork_given, bottles_asked, bottles_given}
 use Rattle.legal_steps.specs.Run.{IsLegalFrom}
 use Rattle.edge_word.specs.declared.moves.EdgeMoves.{EdgeMoves}
-use Rattle.edge_word.specs.Words.{word_of, IsOfBottles}
-use Rattle.edge_word.specs.Moves.{Lead, end_moved, when, after_moves, events_of, moves_between, moves_of_words, AreOfBottles}
+use Rattle.edge_word.specs.Moves.{Lead, end_moved, when, after_moves, events_of, moves_between}
 use Rattle.edge_word.specs.WordLaws.{MovesAreEvents, StaysOfItsBottles, LegalMovesAreOfTheEdge, MovesAreReadBack}
-use Rattle.edge_word.proofs.WordLemmas.{state_of-word_of, within, IsOfBottles-28}
+use Rattle.edge_word.proofs.WordLemmas.{state_of-word_of, IsOfBottles-28}
 use Rattle.edge_word.proofs.MoveLemmas.{after_all-moves, all_but_soil, each_legal}
 
 -- ---- moves are events

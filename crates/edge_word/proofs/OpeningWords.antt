@@ -1,15 +1,14 @@
 -- An edge as it opens.
-use Rattle.std.proofs.Common.{◌≡◌, ℕ, ◌+◌, ◌-◌, ◌*◌, ◌%◌, ◌^◌, ◌<◌, ◌≤◌, length, replicate, arith, refl, sym, ap, ◌∙◌, lit<}
+use Rattle.std.proofs.Common.{◌≡◌, ℕ, ◌+◌, ◌-◌, ◌*◌, ◌%◌, ◌^◌, ◌<◌, ◌≤◌, length, replicate, arith, ap, ◌∙◌, lit<}
 use Rattle.std.proofs.Math.Nat.{pow-le-pow_right}
 use Rattle.std.proofs.lemmas.Nat.{pow_pos}
 use Rattle.std.specs.Int.Bits.{xor_zero_r}
 use Rattle.std.proofs.lemmas.List.{length-replicate, get_or-replicate}
 use Rattle.lab_plan.specs.LabPlan.{LabPlan, edges, bottles}
-use Rattle.legal_steps.specs.declared.end.End.TheVariants.{Lower, Higher}
-use Rattle.legal_steps.specs.declared.edge_state.EdgeState.{EdgeState}
+use Rattle.legal_steps.specs.declared.end.End.TheVariants.{Lower}
 use Rattle.legal_steps.specs.declared.edge_state.EndChoice.{EndChoice}
-use Rattle.legal_steps.specs.State.{edge, all_bottles}
-use Rattle.legal_steps.specs.Opening.{the_opening, chosen_edge}
+use Rattle.legal_steps.specs.State.{all_bottles}
+use Rattle.legal_steps.specs.Opening.{chosen_edge}
 use Rattle.legal_steps.proofs.OpeningChoices.{opening_edge as opened_edge}
 use Rattle.edge_word.specs.WordLaws.{OpensAsTheOpening}
 use Rattle.edge_word.specs.Words.{opening_edge, word_of, word_of_fields, state_of, IsEdgeWord, IsOfBottles}

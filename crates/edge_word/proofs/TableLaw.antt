@@ -1,5 +1,5 @@
 -- Each word is the one number that has the bits of its table.
-use Rattle.std.proofs.Common.{◌≡◌, ℕ, ◌+◌, ◌-◌, ◌/◌, ◌%◌, ◌^◌, ◌≤◌, arith, sym, ap, ◌∙◌, inl, inr, subst, lit<}
+use Rattle.std.proofs.Common.{◌≡◌, ℕ, ◌+◌, ◌-◌, ◌/◌, ◌%◌, ◌^◌, ◌≤◌, arith, sym, ap, ◌∙◌, inl, inr, subst}
 use Rattle.std.specs.Int.{bit_at}
 use Rattle.std.proofs.lemmas.Bool.{cases_lt}
 use Rattle.std.proofs.lemmas.Nat.{shr-shr, shr_split}
@@ -7,8 +7,6 @@ use Rattle.std.proofs.lemmas.Nat.Bits.{bit_at_cat_low, bit_at_above, same_from_b
 use Rattle.legal_steps.specs.declared.edge_state.EdgeState.{EdgeState}
 use Rattle.edge_word.specs.Words.{end_bit, flag_bit, word_of, IsOfBottles}
 use Rattle.edge_word.proofs.WordLemmas.{end_bit-lt, flag_bit-lt, word_fields, IsEdgeWord-word_of, IsOfBottles-28}
-use Rattle.legal_steps.specs.declared.phase.JobState.{JobState}
-use Rattle.edge_word.specs.Phases.{phase_word_of, FitsPhaseWord}
 use Rattle.edge_word.specs.Table.{Spells, SpellsPhase}
 use Rattle.edge_word.specs.WordLaws.{HasTheBitsOfTheTable, HasTheFieldsOfTheTable}
 use Rattle.edge_word.proofs.PhaseLemmas.{phase_fields, phase_word-fields}

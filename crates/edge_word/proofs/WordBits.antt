@@ -9,7 +9,7 @@ use Rattle.legal_steps.specs.declared.end.End.TheVariants.{Lower, Higher}
 use Rattle.legal_steps.specs.declared.edge_state.EdgeState.{EdgeState}
 use Rattle.edge_word.specs.Words.{stray_bits, end_bit, flag_bit, end_at, word_of, word_of_fields, state_of, IsEdgeWord, IsOfBottles}
 use Rattle.edge_word.specs.WordCodec.{word_of-state_of}
-use Rattle.edge_word.proofs.WordLemmas.{end_bit-lt, flag_bit-lt, state_of-word_of, word_of-injective, IsEdgeWord-word_of, word_fields, within}
+use Rattle.edge_word.proofs.WordLemmas.{end_bit-lt, flag_bit-lt, state_of-word_of, word_of-injective, IsEdgeWord-word_of, word_fields}
 use Rattle.legal_steps.specs.State.{bottle_end}
 use Rattle.edge_word.specs.Moves.{mask, flipped, end_moved, flag_turned}
 use Rattle.edge_word.specs.declared.edge.Flips.{Flips}

@@ -1,4 +1,4 @@
-use Rattle.std.proofs.Common.{refl, sym, ◌∙◌}
+use Rattle.std.proofs.Common.{refl}
 use Rattle.std.proofs.lemmas.Bool.{false≢true}
 use Rattle.edge_word.proofs.PhaseLemmas.{passed, passes}
 use Rattle.edge_word.proofs.phase.PhaseWord.unpack.Goals as goal
