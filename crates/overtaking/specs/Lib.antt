@@ -1,0 +1,3 @@
+pub mod Overtaking
+pub mod Stuck
+pub mod Laws
