@@ -3,3 +3,7 @@
 #![tactic(auto)]
 
 pub mod laws;
+mod meals;
+
+pub use cycles::NoMemory;
+pub use meals::meals_after_ask;
