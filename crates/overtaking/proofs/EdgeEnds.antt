@@ -1,6 +1,7 @@
 -- The two ends of an edge, seen from a job at one of them.
-use Rattle.std.proofs.Common.{◌≡◌, ◌≢◌, ◌⊎◌, ℕ, refl, sym, ap, ◌∙◌, inl, inr}
-use Rattle.lab_plan.specs.LabPlan.{LabPlan}
+use Rattle.std.proofs.Common.{◌≡◌, ◌≢◌, ◌⊎◌, ℕ, ◌+◌, ◌<◌, arith, refl, sym, subst, ap, ◌∙◌, inl, inr}
+use Rattle.std.proofs.lemmas.Bool.{cases_lt}
+use Rattle.lab_plan.specs.LabPlan.{LabPlan, ends}
 use Rattle.legal_steps.specs.declared.end.End.{End}
 use Rattle.legal_steps.specs.declared.end.End.TheVariants.{Lower, Higher}
 use Rattle.legal_steps.specs.State.{IsOwn, end_of, opposite, neighbour}
@@ -38,3 +39,18 @@ neighbour_apart plan j e own same = not_opposite (end_of plan j e) (sym (end_at 
 
 pub at_neighbour : (plan : LabPlan) (j e : ℕ) (thing : End) → IsOwn plan j e → There plan j e thing → Here plan (neighbour plan j e) e thing
 at_neighbour plan j e thing own there = at_opposite thing (end_of plan j e) there ∙ sym (end_at plan e (opposite (end_of plan j e)) own.is_edge)
+
+-- ---- edge by edge, for both jobs of each
+
+-- from the edges below n to those up to n
+pub one_more_edge : (plan : LabPlan) (P : ℕ → ℕ → Type 0) (n : ℕ) (pair : ℕ × ℕ) → pair ≡ ends plan n → ((j e : ℕ) → e < n → IsOwn plan j e → P j e) → P pair.0 n → P pair.1 n → (j e : ℕ) → e < n + 1 → IsOwn plan j e → P j e
+one_more_edge plan P n pair is before lower higher j e below own = elim (cases_lt e n) [
+  | inl inside ↦ before j e inside own
+  | inr past ↦
+      let last : n ≡ e = omega (arith, past, below) in
+      let at : (ends plan n ≡ ends plan e) = ap (ends plan) last in
+      subst (P j) last (elim own.at_end [
+        | inl same ↦ subst (λ k. P k n) (ap (λ (p : ℕ × ℕ). p.0) (is ∙ at) ∙ same) lower
+        | inr same ↦ subst (λ k. P k n) (ap (λ (p : ℕ × ℕ). p.1) (is ∙ at) ∙ same) higher
+      ])
+]

@@ -1,8 +1,10 @@
 pub mod EdgeEnds
 pub mod OvertakenOnce
 pub mod Wanted
-pub mod Marks
+pub mod Seen
 pub mod Chains
 pub mod Quiet
 pub mod Moves
 pub mod NeverStuck
+pub mod Ways
+pub mod Worlds

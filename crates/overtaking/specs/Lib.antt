@@ -1,3 +1,4 @@
 pub mod Overtaking
 pub mod Stuck
 pub mod Laws
+pub mod Ways

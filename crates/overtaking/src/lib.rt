@@ -3,7 +3,10 @@
 #![tactic(auto)]
 
 pub mod laws;
+mod marks;
 mod meals;
+mod way;
 
 pub use cycles::NoMemory;
 pub use meals::meals_after_ask;
+pub use way::way_on;
