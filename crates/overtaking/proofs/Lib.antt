@@ -8,3 +8,4 @@ pub mod Moves
 pub mod NeverStuck
 pub mod Ways
 pub mod Worlds
+pub mod Ranked

@@ -5,6 +5,7 @@ use Rattle.legal_steps.specs.declared.event.Event.{Event}
 use Rattle.legal_steps.specs.declared.event.Event.TheVariants.{Look}
 use Rattle.legal_steps.specs.State.{State, IsOwn, edge}
 use Rattle.legal_steps.specs.Legal.{May}
+use Rattle.legal_steps.specs.Precedence.{IsAcyclic}
 use Rattle.legal_steps.proofs.ReachedInvariant.{sound_opening}
 use Rattle.legal_steps.proofs.ReachedLemmas.{reached_sound, reached_fits, reached_acyclic}
 use Rattle.interleaving.specs.declared.counts.Counts.{Counts}
@@ -30,3 +31,6 @@ world_at_end plan s counts h phases forks bottles =
     let opened = sound_opening plan h.opening h.is_opening in
     let wanted : IsWanted plan s = subst (IsWanted plan) (sym h.run.leads) (wanted_after_all plan h.opening h.events opened (wanted_opening plan h.opening h.is_opening) h.run.legal) in
     all_retired plan s (reached_sound plan s reached) wanted (no_way_is_quiet plan s phases forks bottles) (reached_acyclic plan s reached)
+
+pub world_acyclic : (plan : LabPlan) (s : State) (counts : List Counts) → IsReachedWith plan s counts → IsAcyclic plan s
+world_acyclic plan s counts h = reached_acyclic plan s (is_reached plan s counts h)

@@ -2,3 +2,4 @@ pub mod Overtaking
 pub mod Stuck
 pub mod Laws
 pub mod Ways
+pub mod Rankings

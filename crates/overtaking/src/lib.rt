@@ -5,8 +5,10 @@
 pub mod laws;
 mod marks;
 mod meals;
+mod ranks;
 mod way;
 
 pub use cycles::NoMemory;
 pub use meals::meals_after_ask;
+pub use ranks::ranking;
 pub use way::way_on;
