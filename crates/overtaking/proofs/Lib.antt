@@ -1,0 +1,11 @@
+pub mod EdgeEnds
+pub mod OvertakenOnce
+pub mod Wanted
+pub mod Seen
+pub mod Chains
+pub mod Quiet
+pub mod Moves
+pub mod NeverStuck
+pub mod Ways
+pub mod Worlds
+pub mod Ranked

@@ -1,0 +1,5 @@
+pub mod Overtaking
+pub mod Stuck
+pub mod Laws
+pub mod Ways
+pub mod Rankings
