@@ -1,5 +1,5 @@
 -- What a call took from a source, of which not all need be known.
-use Rattle.std.specs.Prelude.{◌≡◌, ℕ, ◌≤◌, List, ◌++◌, length}
+use Rattle.std.specs.Prelude.{◌≡◌, ℕ, ◌≤◌, ◌<◌, List, ◌++◌, length, IfSome}
 use Rattle.std.specs.declared.option.Option.{Option}
 use Rattle.std.specs.Io.KnownBytes.{Consumes, IsAtEnd}
 
@@ -11,3 +11,12 @@ ConsumesUpTo old new most = (bytes : List ℕ) × (length bytes ≤ most) × Con
 abbrev pub Grows : Option (List ℕ) → Option (List ℕ) → List ℕ → List ℕ → ℕ → Type 0
 Grows old new before after n =
     (piece : List ℕ) × (length piece ≡ n) × (after ≡ before ++ piece) × Consumes old new piece × (n ≡ 0 → IsAtEnd new)
+
+-- the input is all that the source had left, where it tells, and within the limit
+pub record IsInput (left : Option (List ℕ)) (input : List ℕ) : Type 0 where
+  pub whole : IfSome left (λ all. input ≡ all)
+  pub within : length input ≤ 16777216
+
+-- the source had more left than an input may have, where it tells
+abbrev pub IsTooLong : Option (List ℕ) → Type 0
+IsTooLong left = IfSome left (λ all. 16777216 < length all)

@@ -1,56 +1,83 @@
-// The program: a script from standard input, and what comes of it on standard output.
+// The program: a script from standard input, and what comes of it on standard output. What it answers is
+// settled by functions over any source and sink; main hands them the standard ones.
 #![tactic(auto)]
 
-mod fault;
+mod counting;
+mod faults;
 mod reading;
-mod runs;
+mod replaying;
+mod running;
+mod sending;
 mod source;
 mod words;
 
-use fault::RunFault;
-use report::ToWrite;
-use runs::{Outcome, run_check, run_replay, run_upgrade};
-use source::FromRead;
-use std::io;
+use faults::{Outcome, RunFault, status_of};
+use report::{Sink, ToWrite};
+use running::{run_check, run_replay, run_upgrade};
+use source::{FromRead, Source};
+use std::alloc::Allocator;
+use std::io::{self, BufWriter};
 use std::process::ExitCode;
-use words::{Task, task_of};
+use words::{NoTask, Task, read_words};
 
-/// Ends with a run's status, and a line on standard error where it failed.
-fn code(rt: &impl Eprint, answer: Result<Outcome, RunFault>) -> ExitCode {
-    match answer {
-        Ok(Outcome::Finished) => ExitCode::SUCCESS,
-        Ok(Outcome::Unfinished) => ExitCode::from(3),
-        Err(fault) => {
-            let _ = eprintln!(rt; "labrun: {fault}");
-            ExitCode::from(fault.status())
-        }
+/// What a task answers over a source and a sink.
+fn run_task<A: Allocator + Copy, R: Source, W: Sink>(
+    task: Task,
+    alloc: A,
+    source: &mut R,
+    sink: &mut W,
+) -> Result<Outcome, RunFault> {
+    match task {
+        Task::Replay => run_replay(alloc, source, sink),
+        Task::Check => run_check(alloc, source, sink),
+        Task::Upgrade => run_upgrade(alloc, source, sink),
     }
 }
 
-fn refused(rt: &impl Eprint) -> ExitCode {
-    let _ = eprintln!(rt; "labrun: command line refused");
-    ExitCode::from(2)
+/// The status of an answer; a fault is one line on standard error.
+fn ended(rt: &impl Eprint, answer: Result<Outcome, RunFault>) -> ExitCode {
+    if let Err(fault) = &answer {
+        let _ = eprintln!(rt; "labrun: {fault}");
+    }
+    ExitCode::from(status_of(&answer))
+}
+
+/// The status where the words gave no task: help is printed, other words are refused.
+fn without_task(rt: &(impl Print + Eprint), reason: NoTask) -> ExitCode {
+    match reason {
+        NoTask::Help(text) => match print!(rt; "{text}") {
+            Ok(()) => ExitCode::SUCCESS,
+            Err(_) => ended(rt, Err(RunFault::Write)),
+        },
+        NoTask::Refused => {
+            let _ = eprintln!(rt; "labrun: command line refused");
+            ExitCode::from(2)
+        }
+        NoTask::NoMemory => ended(rt, Err(RunFault::NoMemory)),
+    }
+}
+
+fn given_task(rt: &HostRuntime) -> Result<Task, NoTask> {
+    let given = match std::env::args(rt) {
+        Ok(given) => given,
+        Err(error) if error.kind() == io::ErrorKind::OutOfMemory => return Err(NoTask::NoMemory),
+        Err(_) => return Err(NoTask::Refused),
+    };
+    let words: Vec<String> = given.collect(rt.alloc())?;
+    read_words(rt.alloc(), words.as_slice())
 }
 
 fn main(rt: HostRuntime) -> ExitCode {
-    let alloc = rt.alloc();
-    let given = match std::env::args(&rt) {
-        Ok(given) => given,
-        Err(error) if error.kind() == io::ErrorKind::OutOfMemory => {
-            return code(&rt, Err(RunFault::NoMemory));
-        }
-        Err(_) => return refused(&rt),
+    let task = match given_task(&rt) {
+        Ok(task) => task,
+        Err(reason) => return without_task(&rt, reason),
     };
-    let words: Vec<String> = match given.collect(alloc) {
-        Ok(words) => words,
-        Err(_) => return code(&rt, Err(RunFault::NoMemory)),
+    let alloc = rt.alloc();
+    let Ok(output) = BufWriter::new(alloc, io::writer(&rt)) else {
+        return ended(&rt, Err(RunFault::NoMemory));
     };
     let mut source = FromRead::new(rt.reader());
-    let mut sink = ToWrite::new(io::writer(&rt));
-    match task_of(&words) {
-        Some(Task::Replay) => code(&rt, run_replay(alloc, &mut source, &mut sink)),
-        Some(Task::Check) => code(&rt, run_check(alloc, &mut source, &mut sink)),
-        Some(Task::Upgrade) => code(&rt, run_upgrade(alloc, &mut source, &mut sink)),
-        None => refused(&rt),
-    }
+    let mut sink = ToWrite::new(output);
+    let answer = run_task(task, alloc, &mut source, &mut sink);
+    ended(&rt, answer)
 }

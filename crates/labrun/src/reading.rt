@@ -1,6 +1,7 @@
 // The whole input, up to its limit.
-ghost use Rattle.std.specs.Prelude.{◌≡◌, ◌+◌, ◌-◌, ◌<◌, ◌≤◌, length, vec_len, IfOk, OnOk, OnErr, IfSome, IsErrOf};
-ghost use Rattle.labrun.specs.Taken.{ConsumesUpTo, Grows};
+ghost use Rattle.std.specs.Prelude.{◌≡◌, ◌+◌, ◌-◌, ◌≤◌, vec_len, IfOk, OnOk, IfSome, IsErrOf};
+ghost use Rattle.labrun.specs.Taken.{ConsumesUpTo, Grows, IsTooLong};
+ghost use Rattle.labrun.specs.Faults.{read_failures};
 
 use crate::source::Source;
 use std::alloc::Allocator;
@@ -11,8 +12,11 @@ pub const INPUT_LIMIT: usize = 16_777_216;
 /// Why an input was not read.
 #[derive(Clone, Copy, Debug, PartialEq, Eq, Drop)]
 pub enum ReadFault {
+    /// A read failed.
     Read,
+    /// The input goes on past its limit.
     TooLong,
+    /// A growth was refused.
     NoMemory,
 }
 
@@ -25,8 +29,7 @@ fn read_piece<R: Source, A: Allocator>(
     ensures grows { IfOk result (Grows (R.left source.old) (R.left source.new) bytes.old.items bytes.new.items) }
     ensures limit { OnOk result (vec_len bytes.new ≤ 16777217) }
     ensures most { ConsumesUpTo (R.left source.old) (R.left source.new) (16777217 - vec_len bytes.old) }
-    ensures well { OnOk result (R.failures source.new ≡ R.failures source.old) }
-    ensures cause { IsErrOf result ReadFault.Read → R.failures source.new ≡ R.failures source.old + 1 }
+    ensures count { R.failures source.new ≡ R.failures source.old + read_failures result }
     ensures short { IsErrOf result ReadFault.TooLong → ⊥ }
 {
     let mut buffer = [0u8; 4096];
@@ -40,17 +43,16 @@ fn read_piece<R: Source, A: Allocator>(
     Ok(n)
 }
 
-/// Reads to the end, or until the limit is passed.
+/// Reads to the end, or until the limit is passed; then one byte past it was read.
 pub fn read_input<R: Source, A: Allocator>(
     alloc: A,
     source: &mut R,
 ) -> Result<Vec<u8, A>, ReadFault>
     ensures whole { IfOk result (λ v. IfSome (R.left source.old) (λ all. v.items ≡ all)) }
     ensures limit { IfOk result (λ v. vec_len v ≤ 16777216) }
-    ensures long { IsErrOf result ReadFault.TooLong → IfSome (R.left source.old) (λ all. 16777216 < length all) }
+    ensures long { IsErrOf result ReadFault.TooLong → IsTooLong (R.left source.old) }
     ensures most { ConsumesUpTo (R.left source.old) (R.left source.new) 16777217 }
-    ensures well { OnOk result (R.failures source.new ≡ R.failures source.old) }
-    ensures cause { IsErrOf result ReadFault.Read → R.failures source.new ≡ R.failures source.old + 1 }
+    ensures count { R.failures source.new ≡ R.failures source.old + read_failures result }
 {
     let mut bytes = Vec::new(alloc);
     while bytes.len() <= INPUT_LIMIT {

@@ -1,9 +1,15 @@
-// What the words of the command line ask for.
+// The words of the command line.
+ghost use Rattle.std.specs.Prelude.{◌≡◌, IfOk, length};
 
-/// What the program is asked to do.
-#[derive(Clone, Copy, PartialEq, Eq, Debug)]
+use clap::error::ErrorKind;
+use clap::{Arg, ArgAction, ArgMatches, Command};
+use std::alloc::{AllocError, Global};
+use std::convert::AsStr;
+
+/// What the words ask for.
+#[derive(Clone, Copy, Debug, PartialEq, Eq, Drop)]
 pub enum Task {
-    /// Replay the steps of a text.
+    /// Replay the steps of a script.
     Replay,
     /// Check a script, and print its counts.
     Check,
@@ -11,15 +17,109 @@ pub enum Task {
     Upgrade,
 }
 
-/// The task of the words of a command line, the program's own name first: exactly one more, which names it.
-pub fn task_of(words: &[String]) -> Option<Task> {
-    match words {
-        [_, word] => match word.as_str() {
-            "replay" => Some(Task::Replay),
-            "check" => Some(Task::Check),
-            "upgrade" => Some(Task::Upgrade),
-            _ => None,
-        },
+/// Why the words gave no task.
+#[derive(Debug, Drop)]
+pub enum NoTask {
+    /// `--help` alone was asked for, and this is its text.
+    Help(String),
+    /// The words are none that the program knows.
+    Refused,
+    /// A growth was refused.
+    NoMemory,
+}
+
+impl From<AllocError> for NoTask {
+    fn from(_error: AllocError) -> NoTask {
+        NoTask::NoMemory
+    }
+}
+
+impl From<clap::Error> for NoTask {
+    fn from(error: clap::Error) -> NoTask {
+        match error.kind() {
+            ErrorKind::OutOfMemory => NoTask::NoMemory,
+            _ => NoTask::Refused,
+        }
+    }
+}
+
+/// What stands below the table of words in the help.
+const AFTER_HELP: &str =
+    "The script comes from standard input, at most 16777216 bytes. What is printed goes to
+standard output, and a fault in one line to standard error.
+
+Statuses:
+  0  replay: every job is retired; check, upgrade, --help: done
+  1  the script or a step is refused; the fault names its line
+  2  the command line is refused
+  3  replay: a job still waits
+  4  reading or writing failed, or the input is longer than 16777216 bytes
+  5  no memory
+
+Example: a script of one job, and a step with which it begins its session
+  printf 'lab 1\\njob a\\nsession\\nscale add 1\\nend\\nsteps\\nthirst a\\n' | labrun replay";
+
+fn word<'a>(alloc: Global, name: &'a str, about: &'a str) -> Command<'a> {
+    Command::new(alloc, name)
+        .about(about)
+        .disable_help_flag(true)
+}
+
+fn command<'a>(alloc: Global) -> Result<Command<'a>, AllocError> {
+    let help = Arg::new(alloc, "help")
+        .long("help")
+        .action(ArgAction::Help)
+        .help("print this help");
+    let replay = word(
+        alloc,
+        "replay",
+        "read a script and its steps, take each step where it is legal, print the report",
+    );
+    let check = word(alloc, "check", "read a script and print its counts");
+    let upgrade = word(
+        alloc,
+        "upgrade",
+        "read a script of either version and print it in version 2",
+    );
+    Command::new(alloc, "labrun")
+        .about("Runs command scripts on the simulated instruments of a shared laboratory")
+        .after_help(AFTER_HELP)
+        .disable_help_subcommand(true)
+        .disable_help_flag(true)
+        .subcommand_required(true)
+        .arg(help)?
+        .subcommand(replay)?
+        .subcommand(check)?
+        .subcommand(upgrade)
+}
+
+fn task_of(matches: &ArgMatches<'_>) -> Option<Task> {
+    let (name, _) = matches.subcommand()?;
+    match name {
+        "replay" => Some(Task::Replay),
+        "check" => Some(Task::Check),
+        "upgrade" => Some(Task::Upgrade),
         _ => None,
     }
+}
+
+/// The task that the words of a command line ask for, the program's own name first: exactly one more
+/// word, the task's. `--help` as the one word more asks for the help.
+pub fn read_words<'a, S: AsStr>(alloc: Global, words: &'a [S]) -> Result<Task, NoTask>
+    ensures { IfOk result (λ _. length words.now ≡ 2) }
+{
+    let labrun: Command<'a> = command(alloc)?;
+    if words.len() != 2 {
+        return Err(NoTask::Refused);
+    }
+    let matches = match labrun.try_get_matches_from(words) {
+        Ok(matches) => matches,
+        Err(error) => {
+            if error.kind() == ErrorKind::DisplayHelp {
+                return Err(NoTask::Help(format!(in alloc; "{error}")?));
+            }
+            return Err(NoTask::from(error));
+        }
+    };
+    task_of(&matches).ok_or(NoTask::Refused)
 }

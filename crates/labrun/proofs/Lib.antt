@@ -1,0 +1,5 @@
+pub mod ReplayReport
+pub mod CountSums
+pub mod RunAnswers
+pub mod Replayed
+pub mod UpgradeStable
