@@ -9,6 +9,8 @@ mod replaying;
 mod running;
 mod sending;
 mod source;
+#[cfg(test)]
+mod tests;
 mod words;
 
 use faults::{Outcome, RunFault, status_of};
