@@ -1,0 +1,97 @@
+// Whole runs.
+use super::{A, AB, B, Bench, OPENED, Shown, after, counts, opened, phase};
+use crate::{Dining, Drinking, EdgeState, End, Event, Step};
+use instrument_log::Entry;
+use lab_plan::Verb;
+use std::test::Fail;
+
+// A job keeps a mark over its neighbour's request. From place 16 on it gives what it was asked for,
+// and sits once more.
+pub(super) const STALE_MARK: [Step; 28] = [
+    Step::Thirst(A),
+    Step::Hunger(A),
+    Step::Thirst(B),
+    Step::Hunger(B),
+    Step::Look(A, AB),
+    Step::AskFork(B, AB),
+    Step::Sit(A),
+    Step::Drink(A),
+    Step::Look(A, AB),
+    Step::Reach(A),
+    Step::Act(A),
+    Step::Quit(A),
+    Step::Leave(A),
+    Step::Thirst(A),
+    Step::Hunger(A),
+    Step::Look(A, AB),
+    Step::GiveFork(A, AB),
+    Step::Look(B, AB),
+    Step::Sit(B),
+    Step::AskBottles(B, AB, 1),
+    Step::GiveBottles(A, AB, 1),
+    Step::Look(B, AB),
+    Step::Drink(B),
+    Step::AskFork(A, AB),
+    Step::Soil(B, AB),
+    Step::Leave(B),
+    Step::GiveFork(B, AB),
+    Step::Look(A, AB),
+];
+
+const FIRST_ENTRY: Entry = Entry {
+    job: A,
+    session: 1,
+    place: 1,
+    length: 1,
+    verb: Verb::Add(1),
+    value: 1,
+};
+
+// The world before the fork is given.
+fn asked() -> Shown {
+    Shown {
+        edge: EdgeState {
+            token: End::Lower,
+            ..OPENED
+        },
+        a: phase(Dining::Hungry, Drinking::Thirsty, 2, 0),
+        b: phase(Dining::Hungry, Drinking::Thirsty, 1, 0),
+        counts: counts(1, 1, 0),
+        last: Some(FIRST_ENTRY),
+        ..opened()
+    }
+}
+
+// The world once a has sat twice.
+fn given() -> Shown {
+    Shown {
+        edge: EdgeState {
+            fork: End::Lower,
+            dirty: false,
+            token: End::Higher,
+            bottles: 1,
+            bottle_tokens: 0,
+        },
+        a: phase(Dining::Eating, Drinking::Thirsty, 2, 0),
+        b: phase(Dining::Thinking, Drinking::Drinking, 1, 0),
+        counts: counts(2, 1, 0),
+        counts_of_b: counts(1, 0, 0),
+        last: Some(FIRST_ENTRY),
+    }
+}
+
+#[test]
+fn stale_mark(rt: HostRuntime) -> Result<(), Fail> {
+    let sits = Event::Sit(A);
+    let done = after(&rt, rt.alloc(), Bench::Scale(2), &STALE_MARK[..16], &sits)?;
+    assert!(rt; done == (false, asked()));
+    Ok(())
+}
+
+#[test]
+fn stale_mark_goes_on(rt: HostRuntime) -> Result<(), Fail> {
+    let sits = Event::Sit(A);
+    let done = after(&rt, rt.alloc(), Bench::Scale(2), &STALE_MARK, &sits)?;
+    assert!(rt; done == (true, given()));
+    Ok(())
+}
