@@ -1,7 +1,7 @@
 -- Each step of a step list is a step of the plan: its jobs and its edge are the plan's.
-use Rattle.std.proofs.Common.{◌≡◌, ℕ, ◌+◌, ◌<◌, Bool, true, false, List, [], ◌∷◌, length, refl, ⊎_elim, subst}
+use Rattle.std.proofs.Common.{◌≡◌, ℕ, ◌+◌, ◌<◌, List, [], ◌∷◌, length, refl, ⊎_elim, subst}
 use Rattle.std.specs.Prelude.{Option, None, Some, IfSome, map, min, max, slice_index, codes, ◌==◌, ◌&&◌}
-use Rattle.std.specs.List.{All, AllByRecursion, cons_option, position}
+use Rattle.std.specs.List.{All, AllByRecursion, cons_option}
 use Rattle.std.specs.Option.{option_map, option_and_then}
 use Rattle.std.specs.Str.{bytes_eq}
 use Rattle.std.proofs.lemmas.Bool.{cases_Bool}
