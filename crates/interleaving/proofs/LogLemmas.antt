@@ -15,7 +15,8 @@ use Rattle.legal_steps.specs.Fitting.{Fits}
 use Rattle.legal_steps.specs.Legal.{with_entry}
 use Rattle.legal_steps.specs.WholeLogs.{room_of}
 use Rattle.interleaving.specs.Rooms.{log_at, log_with_room, HasRooms}
-use Rattle.interleaving.proofs.FitLemmas.{set_cases, fits_with_log}
+use Rattle.legal_steps.proofs.FitsWrites.{fits_with_log}
+use Rattle.interleaving.proofs.FitLemmas.{set_cases}
 
 not_next : (last : Option Entry) (entry : Entry) → MatchOption last (entry.place ≡ 1) (λ before. IsNextPlace before entry) → MatchOption last ⊥ (λ before. ¬ IsNextPlace before entry) → ⊥
 not_next None entry h r = r

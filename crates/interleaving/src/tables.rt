@@ -140,7 +140,7 @@ impl<'a, A: Allocator> Tables<'a, A> {
 }
 
 impl<'a, A: Allocator> Tables<'a, A> {
-    #[tactic(auto, using(crate::proofs::FitLemmas::fits_with_edge))]
+    #[tactic(auto, using(legal_steps::proofs::FitsWrites::fits_with_edge))]
     pub(crate) fn set_edge(&mut self, edge: EdgeNo, state: EdgeState)
         requires is_edge { edge < length (edges self.old.plan) }
         requires bottles { IsOfEdge self.old.plan edge state.bottles }
@@ -151,7 +151,7 @@ impl<'a, A: Allocator> Tables<'a, A> {
         self.edges[edge.0 as usize] = state;
     }
 
-    #[tactic(auto, using(crate::proofs::FitLemmas::fits_with_seat, crate::proofs::FitLemmas::seat_with_phase))]
+    #[tactic(auto, using(legal_steps::proofs::FitsWrites::fits_with_seat, crate::proofs::FitLemmas::seat_with_phase))]
     pub(crate) fn set_phase(&mut self, job: JobNo, phase: JobState)
         requires is_job { IsJob self.old.plan job }
         requires fits { IsPhaseOf self.old.plan job phase }
@@ -162,7 +162,7 @@ impl<'a, A: Allocator> Tables<'a, A> {
         seat.set_phase(phase);
     }
 
-    #[tactic(auto, using(crate::proofs::FitLemmas::fits_with_seat, crate::proofs::FitLemmas::seat_with_fork_mark))]
+    #[tactic(auto, using(legal_steps::proofs::FitsWrites::fits_with_seat, legal_steps::proofs::FitsWrites::seat_fits_fork_mark))]
     pub(crate) fn set_fork_mark(&mut self, job: JobNo, edge: EdgeNo, mark: bool)
         requires is_job { IsJob self.old.plan job }
         requires is_edge { edge < length (edges self.old.plan) }
@@ -173,7 +173,7 @@ impl<'a, A: Allocator> Tables<'a, A> {
         seat.set_fork_mark(edge.0 as usize, mark);
     }
 
-    #[tactic(auto, using(crate::proofs::FitLemmas::fits_with_seat, crate::proofs::FitLemmas::seat_with_bottle_marks))]
+    #[tactic(auto, using(legal_steps::proofs::FitsWrites::fits_with_seat, legal_steps::proofs::FitsWrites::seat_fits_bottle_marks))]
     pub(crate) fn set_bottle_marks(&mut self, job: JobNo, edge: EdgeNo, marks: u32)
         requires is_job { IsJob self.old.plan job }
         requires is_edge { edge < length (edges self.old.plan) }
@@ -186,7 +186,7 @@ impl<'a, A: Allocator> Tables<'a, A> {
     }
 
     // Both marks of the job at an edge.
-    #[tactic(auto, using(crate::proofs::FitLemmas::fits_with_seat, crate::proofs::FitLemmas::seat_with_bottle_marks, crate::proofs::FitLemmas::seat_with_fork_mark))]
+    #[tactic(auto, using(legal_steps::proofs::FitsWrites::fits_with_seat, legal_steps::proofs::FitsWrites::seat_fits_bottle_marks, legal_steps::proofs::FitsWrites::seat_fits_fork_mark))]
     pub(crate) fn set_marks(&mut self, job: JobNo, edge: EdgeNo, mark: bool, marks: u32)
         requires is_job { IsJob self.old.plan job }
         requires is_edge { edge < length (edges self.old.plan) }
@@ -199,7 +199,7 @@ impl<'a, A: Allocator> Tables<'a, A> {
     }
 
     // The job dines so, without any fork mark.
-    #[tactic(auto, using(crate::proofs::FitLemmas::fits_with_seat, crate::proofs::FitLemmas::seat_turned_to))]
+    #[tactic(auto, using(legal_steps::proofs::FitsWrites::fits_with_seat, legal_steps::proofs::FitsWrites::seat_fits_turned))]
     pub(crate) fn turn_to(&mut self, job: JobNo, dining: Dining)
         requires { IsJob self.old.plan job }
         ensures state { self.new.state ≡ with_seat self.old.state job (turned_to (seat self.old.state job) dining) }

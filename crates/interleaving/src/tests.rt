@@ -1,8 +1,11 @@
 // Worked cases, whose answers were reckoned by hand.
 ghost use Rattle.std.specs.Prelude.{IsTrue};
+ghost use Rattle.std.specs.List.{All};
 ghost use Rattle.legal_steps.specs.Steps.{IsStepOf};
 
-use crate::{Counts, Dining, Drinking, EdgeState, End, Event, JobState, Step, World};
+use crate::{
+    Counts, Dining, Drinking, EdgeState, End, Event, JobState, NotLegal, Step, StepLine, World,
+};
 use instrument_log::Entry;
 use lab_plan::{EdgeNo, InstrumentNo, JobNo, Plan};
 use plans::{Bench, plan_of};
@@ -11,7 +14,12 @@ use std::process::Abort;
 use std::test::Fail;
 
 mod cases;
+mod every_list;
+mod guards;
+mod marks;
 mod plans;
+mod starts;
+mod triangle;
 
 const A: JobNo = JobNo(0);
 
@@ -147,6 +155,41 @@ fn walks<T: Allocator>(rt: &impl Abort, world: &mut World<T>, steps: &[Step]) ->
         }
     }
     true
+}
+
+// What a replay answers.
+type Replayed = Result<usize, (usize, NotLegal)>;
+
+fn replay<T: Allocator + Copy>(
+    rt: &impl Abort,
+    alloc: T,
+    bench: Bench,
+    events: &[Event],
+) -> Result<(Replayed, Shown), Fail> {
+    let plan = plan_of(rt, alloc, bench)?;
+    let mut world = World::opening(alloc, &plan)?;
+    let answer = world.replay(events);
+    Ok((answer, shows(rt, &world)))
+}
+
+// Whether the numbers of all the steps are the plan's.
+fn are_steps_of<T: Allocator>(plan: &Plan<T>, lines: &[StepLine]) -> bool
+    ensures { IsTrue result → All (λ line. IsStepOf plan.now line.step) lines.now }
+{
+    lines.iter().all(|line| is_step_of(plan, line.step))
+}
+
+fn replay_steps<T: Allocator + Copy>(
+    rt: &impl Abort,
+    alloc: T,
+    bench: Bench,
+    lines: &[StepLine],
+) -> Result<(Replayed, Shown), Fail> {
+    let plan = plan_of(rt, alloc, bench)?;
+    let mut world = World::opening(alloc, &plan)?;
+    assert!(rt; are_steps_of(world.plan(), lines));
+    let answer = world.replay_steps(lines);
+    Ok((answer, shows(rt, &world)))
 }
 
 // After these legal steps from THE opening: whether the event is legal, and what the world shows then.

@@ -1,9 +1,61 @@
 // Whole runs.
-use super::{A, AB, B, Bench, OPENED, Shown, after, counts, opened, phase};
-use crate::{Dining, Drinking, EdgeState, End, Event, Step};
+use super::{A, AB, B, Bench, OPENED, Shown, after, counts, opened, phase, replay, replay_steps};
+use crate::{Dining, Drinking, EdgeState, End, Event, NotLegal, Step, StepLine};
 use instrument_log::Entry;
 use lab_plan::Verb;
 use std::test::Fail;
+
+// A thirsty job eats before it drinks.
+const TO_MEAL: [StepLine; 4] = [
+    StepLine {
+        line: 11,
+        step: Step::Thirst(A),
+    },
+    StepLine {
+        line: 12,
+        step: Step::Hunger(A),
+    },
+    StepLine {
+        line: 13,
+        step: Step::Look(A, AB),
+    },
+    StepLine {
+        line: 14,
+        step: Step::Sit(A),
+    },
+];
+
+fn eats() -> Shown {
+    Shown {
+        a: phase(Dining::Eating, Drinking::Thirsty, 1, 0),
+        counts: counts(1, 0, 0),
+        ..opened()
+    }
+}
+
+#[test]
+fn eats_before_drinking(rt: HostRuntime) -> Result<(), Fail> {
+    let done = replay_steps(&rt, rt.alloc(), Bench::Scale(1), &TO_MEAL)?;
+    assert!(rt; done == (Ok(4), eats()));
+    Ok(())
+}
+
+// The job sits before it has seen that the fork is here.
+const HASTY: [Event; 3] = [Event::Thirst(A), Event::Hunger(A), Event::Sit(A)];
+
+fn hungry() -> Shown {
+    Shown {
+        a: phase(Dining::Hungry, Drinking::Thirsty, 1, 0),
+        ..opened()
+    }
+}
+
+#[test]
+fn illegal_step(rt: HostRuntime) -> Result<(), Fail> {
+    let done = replay(&rt, rt.alloc(), Bench::Scale(1), &HASTY)?;
+    assert!(rt; done == (Err((2, NotLegal)), hungry()));
+    Ok(())
+}
 
 // A job keeps a mark over its neighbour's request. From place 16 on it gives what it was asked for,
 // and sits once more.

@@ -5,7 +5,8 @@ use Rattle.instrument_log.specs.InstrumentLog.{LogView}
 use Rattle.legal_steps.specs.State.{State, Seat, Setting, seat}
 use Rattle.legal_steps.specs.Fitting.{IsSeatOf}
 use Rattle.interleaving.specs.Phases.{IsPhaseOf}
-use Rattle.interleaving.proofs.FitLemmas.{fits_with_seat, seat_with_phase}
+use Rattle.legal_steps.proofs.FitsWrites.{fits_with_seat}
+use Rattle.interleaving.proofs.FitLemmas.{seat_with_phase}
 use Rattle.interleaving.proofs.tables.Tables.set_phase.Goals as goal
 
 pub invariant_of-self : goal.invariant_of-self
@@ -21,6 +22,6 @@ invariant_of-self g c =
     c.set_phase.ensures ∙ ap (λ (x : Seat). record x { phase = c.args.phase }) (get_or_read c.self.inside.seats.items j _ inside c.index_mut-seat.ensures.value _) in
     record {
       is_plan = c.self.invariant.is_plan;
-      fits = rw new (fits_with_seat plan s j _ c.self.invariant.fits here (seat_with_phase plan j (seat s j) c.args.phase (c.self.invariant.fits.seats_fit j here) fit));
+      fits = rw new (fits_with_seat plan s j _ here (seat_with_phase plan j (seat s j) c.args.phase (c.self.invariant.fits.seats_fit j here) fit) c.self.invariant.fits);
       rooms = c.self.invariant.rooms;
     }
