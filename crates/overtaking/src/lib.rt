@@ -6,6 +6,8 @@ pub mod laws;
 mod marks;
 mod meals;
 mod ranks;
+#[cfg(test)]
+mod tests;
 mod way;
 
 pub use cycles::NoMemory;

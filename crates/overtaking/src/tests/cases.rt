@@ -1,0 +1,96 @@
+// Meals and rankings.
+use super::{
+    A, AB, AC, B, BC, BOTH_SIT, C, FORKS_COME, MEAL, STALE_MARK, THREE, TWICE, go_on, overtaking,
+    plan_of, triangle_world,
+};
+use crate::ranking;
+use interleaving::{End, EndChoice, Event, StartRefusal, World, cycle_in};
+use lab_plan::{EdgeNo, JobNo, PlanBuilder};
+use std::alloc::Allocator;
+use std::process::Abort;
+use std::test::Fail;
+
+#[test]
+fn stale_mark(rt: HostRuntime) -> Result<(), Fail> {
+    let alloc = rt.alloc();
+    let plan = plan_of(&rt, PlanBuilder::new(alloc), &TWICE);
+    let mut world = World::opening(alloc, &plan)?;
+    let mut events = Vec::new(alloc);
+    go_on(&rt, &mut world, &mut events, &STALE_MARK)?;
+    assert!(rt; world.step(Event::Sit(A)).is_err());
+    assert!(rt; overtaking(&rt, &plan, &events, 5, B) == 1);
+    go_on(&rt, &mut world, &mut events, &BOTH_SIT)?;
+    assert!(rt; overtaking(&rt, &plan, &events, 5, B) == 1);
+    assert!(rt; overtaking(&rt, &plan, &events, 23, A) == 0);
+    Ok(())
+}
+
+fn ranks<T: Allocator + Copy>(
+    rt: &impl Abort,
+    alloc: T,
+    world: &World<'_, T>,
+    wanted: [JobNo; 3],
+) -> bool {
+    match ranking(alloc, world) {
+        Ok(order) => order.as_slice() == wanted.as_slice(),
+        Err(_) => panic!(rt; "no memory"),
+    }
+}
+
+#[test]
+fn triangle(rt: HostRuntime) -> Result<(), Fail> {
+    let alloc = rt.alloc();
+    let plan = plan_of(&rt, PlanBuilder::new(alloc), &THREE);
+    let mut world = triangle_world(&rt, alloc, &plan);
+    let mut events = Vec::new(alloc);
+    assert!(rt; ranks(&rt, alloc, &world, [A, B, C]));
+    for doing in FORKS_COME {
+        go_on(&rt, &mut world, &mut events, &[doing])?;
+        assert!(rt; ranks(&rt, alloc, &world, [A, B, C]));
+    }
+    for doing in MEAL {
+        go_on(&rt, &mut world, &mut events, &[doing])?;
+        assert!(rt; ranks(&rt, alloc, &world, [B, C, A]));
+    }
+    Ok(())
+}
+
+/// Who would precede on the edge if only dirt counted: of a dirty fork the job without it.
+fn by_dirt<T: Allocator>(rt: &impl Abort, world: &World<'_, T>, edge: EdgeNo) -> (JobNo, JobNo) {
+    assert!(rt; edge.0 < world.plan().edges());
+    let (lower, higher) = world.plan().ends(edge);
+    let state = world.edge(edge);
+    if (state.fork == End::Lower) == state.dirty {
+        (higher, lower)
+    } else {
+        (lower, higher)
+    }
+}
+
+/// During the meal, by dirt alone, there is a cycle: it isn't precedence.
+#[test]
+fn triangle_by_dirt_alone(rt: HostRuntime) -> Result<(), Fail> {
+    let alloc = rt.alloc();
+    let plan = plan_of(&rt, PlanBuilder::new(alloc), &THREE);
+    let mut world = triangle_world(&rt, alloc, &plan);
+    let mut events = Vec::new(alloc);
+    go_on(&rt, &mut world, &mut events, &FORKS_COME)?;
+    go_on(&rt, &mut world, &mut events, &MEAL[..2])?;
+    assert!(rt; by_dirt(&rt, &world, AB) == (A, B));
+    assert!(rt; by_dirt(&rt, &world, BC) == (B, C));
+    assert!(rt; by_dirt(&rt, &world, AC) == (C, A));
+    let cycle = cycle_in(alloc, 3, &[(A, B), (B, C), (C, A)])?.expect(&rt, "a cycle");
+    assert!(rt; cycle.as_slice() == [A, B, C].as_slice());
+    Ok(())
+}
+
+/// Each job before the next, and the last before the first: no world starts so.
+#[test]
+fn triangle_in_a_ring(rt: HostRuntime) -> Result<(), Fail> {
+    let alloc = rt.alloc();
+    let plan = plan_of(&rt, PlanBuilder::new(alloc), &THREE);
+    let at = |fork| EndChoice { fork, bottles: 0 };
+    let ring = [at(End::Lower), at(End::Higher), at(End::Lower)];
+    assert!(rt; matches!(World::start(alloc, &plan, &ring), Err(StartRefusal::Cycle)));
+    Ok(())
+}
