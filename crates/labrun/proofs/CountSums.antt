@@ -5,7 +5,7 @@ use Rattle.std.proofs.lemmas.List.{take_all}
 use Rattle.std.proofs.lemmas.List.Sums.{sum_by_more, sum_by_more_le, sum_by-cons}
 use Rattle.std.proofs.lemmas.List.Concat.{length-flat_map, flat_map-cons}
 use Rattle.lab_plan.specs.declared.verb.Verb.{Verb}
-use Rattle.lab_plan.specs.LabPlan.{SessionPlan, JobPlan, LabPlan, no_session, no_job, session_at, sessions, all_commands}
+use Rattle.lab_plan.specs.LabPlan.{SessionPlan, JobPlan, LabPlan, no_session, no_job, session_at, sessions}
 use Rattle.lab_plan.specs.IsPlan.{IsPlan}
 use Rattle.labrun.specs.Counts.{session_count, commands_of, command_count}
 

@@ -1,5 +1,5 @@
 -- The report of a world that took some steps from THE opening is that of the steps.
-use Rattle.std.proofs.Common.{◌≡◌, ℕ, zero, suc, Bool, ◌+◌, ◌<◌, List, ◌++◌, length, map, replicate, arith, refl, sym, ap, ◌∙◌, zero-add}
+use Rattle.std.proofs.Common.{◌≡◌, ℕ, zero, suc, ◌+◌, ◌<◌, List, ◌++◌, length, replicate, arith, refl, ap, ◌∙◌, zero-add}
 use Rattle.std.specs.List.{flat_map, range_with_len}
 use Rattle.std.proofs.lemmas.List.{get_or-replicate, length-replicate}
 use Rattle.lab_plan.specs.LabPlan.{LabPlan}

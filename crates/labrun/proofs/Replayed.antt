@@ -4,9 +4,6 @@ use Rattle.std.specs.List.{slice_get}
 use Rattle.std.specs.Prelude.{slice_index_or}
 use Rattle.lab_plan.specs.LabPlan.{LabPlan}
 use Rattle.legal_steps.specs.declared.event.StepLine.{StepLine}
-use Rattle.legal_steps.specs.State.{State}
-use Rattle.legal_steps.specs.Run.{StopsAt}
-use Rattle.legal_steps.specs.Steps.{events_of}
 use Rattle.legal_steps.specs.Opening.{the_opening}
 use Rattle.interleaving.specs.World.{WorldView, LeadsTo}
 use Rattle.interleaving.specs.Start.{at_start}
@@ -15,7 +12,7 @@ use Rattle.report.specs.Report.{report_of, all_retired}
 use Rattle.report.specs.Worlds.{shown_by}
 use Rattle.labrun.specs.declared.faults.Outcome.{Outcome}
 use Rattle.labrun.specs.Replaying.{TakesSteps}
-use Rattle.labrun.specs.Runs.{run_of, outcome_of, Replays, HasIllegalStep, StopsAtLine}
+use Rattle.labrun.specs.Runs.{run_of, outcome_of, Replays, HasIllegalStep}
 use Rattle.labrun.proofs.ReplayReport.{replayed_report, replayed_end}
 
 -- the line of the step at a place

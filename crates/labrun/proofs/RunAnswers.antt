@@ -2,7 +2,6 @@
 use Rattle.std.proofs.Common.{◌≡◌, ℕ, ◌+◌, ◌≤◌, List, Option, Result, Ok, Err, length, refl, sym, ap, ◌∙◌, subst}
 use Rattle.std.specs.Prelude.{IfSome}
 use Rattle.std.specs.Result.{IsErrAnd}
-use Rattle.std.specs.Io.KnownBytes.{Keeps}
 use Rattle.std.proofs.KnownBytes.{Keeps-refl}
 use Rattle.std.proofs.lemmas.Result.{err_from_is_err_and}
 use Rattle.labrun.specs.declared.reading.ReadFault.{ReadFault}
@@ -10,7 +9,7 @@ use Rattle.labrun.specs.declared.reading.ReadFault.TheVariants as reading
 use Rattle.labrun.specs.declared.faults.RunFault.{RunFault}
 use Rattle.labrun.specs.declared.faults.RunFault.TheVariants.{Script, Step, Read, TooLong, Write, NoMemory}
 use Rattle.labrun.specs.declared.faults.Outcome.{Outcome}
-use Rattle.labrun.specs.Taken.{IsInput, IsTooLong}
+use Rattle.labrun.specs.Taken.{IsTooLong}
 use Rattle.labrun.specs.Faults.{fault_of, failed_reads, reads_failed_by}
 use Rattle.labrun.specs.Runs.{AnswersFor, AnswersTo}
 

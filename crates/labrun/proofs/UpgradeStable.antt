@@ -1,9 +1,8 @@
 -- The upgraded text of an upgraded text is the same.
-use Rattle.std.proofs.Common.{◌≡◌, List, ℕ, sym, ap, ◌∙◌}
+use Rattle.std.proofs.Common.{sym, ap, ◌∙◌}
 use Rattle.lab_plan.specs.Upgrade.{script_text}
 use Rattle.script_reader.specs.Laws.{HasOnePlan}
-use Rattle.labrun.specs.declared.faults.Outcome.{Outcome}
-use Rattle.labrun.specs.Runs.{Upgrades, UpgradeIsStable}
+use Rattle.labrun.specs.Runs.{UpgradeIsStable}
 
 pub is_stable : HasOnePlan → UpgradeIsStable
 is_stable one input text again first second u v =

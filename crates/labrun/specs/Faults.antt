@@ -1,5 +1,5 @@
 -- Faults of runs, and the statuses that the program ends with.
-use Rattle.std.specs.Prelude.{ℕ, Bool, true, false, Result, Ok, Err}
+use Rattle.std.specs.Prelude.{ℕ, Result, Ok, Err}
 use Rattle.script_reader.specs.declared.fault.ScriptCause.{ScriptCause}
 use Rattle.script_reader.specs.declared.fault.ScriptCause.TheVariants as causes
 use Rattle.labrun.specs.declared.reading.ReadFault.{ReadFault}

@@ -1,8 +1,9 @@
 // The words of the command line.
-ghost use Rattle.std.specs.Prelude.{◌≡◌, IfOk, length};
+ghost use Rattle.std.specs.Prelude.{◌≡◌, IfOk, IfSome, Some, length, slice_get};
+ghost use Rattle.labrun.specs.Words.{task_named};
 
 use clap::error::ErrorKind;
-use clap::{Arg, ArgAction, ArgMatches, Command};
+use clap::{Arg, ArgAction, Command};
 use std::alloc::{AllocError, Global};
 use std::convert::AsStr;
 
@@ -93,20 +94,28 @@ fn command<'a>(alloc: Global) -> Result<Command<'a>, AllocError> {
         .subcommand(upgrade)
 }
 
-fn task_of(matches: &ArgMatches<'_>) -> Option<Task> {
-    let (name, _) = matches.subcommand()?;
-    match name {
-        "replay" => Some(Task::Replay),
-        "check" => Some(Task::Check),
-        "upgrade" => Some(Task::Upgrade),
-        _ => None,
+/// The task that a word names.
+#[tactic(auto, unfolding(crate::specs::Words::task_named))]
+fn task_named(word: &[u8]) -> Option<Task>
+    ensures { result ≡ task_named word.now }
+{
+    if word == b"replay".as_slice() {
+        return Some(Task::Replay);
     }
+    if word == b"check".as_slice() {
+        return Some(Task::Check);
+    }
+    if word == b"upgrade".as_slice() {
+        return Some(Task::Upgrade);
+    }
+    None
 }
 
 /// The task that the words of a command line ask for, the program's own name first: exactly one more
 /// word, the task's. `--help` as the one word more asks for the help.
 pub fn read_words<'a, S: AsStr>(alloc: Global, words: &'a [S]) -> Result<Task, NoTask>
-    ensures { IfOk result (λ _. length words.now ≡ 2) }
+    ensures alone { IfOk result (λ _. length words.now ≡ 2) }
+    ensures named { IfOk result (λ task. IfSome (slice_get words.now 1) (λ word. task_named (S.text word) ≡ Some task)) }
 {
     let labrun: Command<'a> = command(alloc)?;
     if words.len() != 2 {
@@ -121,5 +130,7 @@ pub fn read_words<'a, S: AsStr>(alloc: Global, words: &'a [S]) -> Result<Task, N
             return Err(NoTask::from(error));
         }
     };
-    task_of(&matches).ok_or(NoTask::Refused)
+    // The words are good, and the one behind the program's name says which task.
+    drop(matches);
+    task_named(words[1].as_str().as_bytes()).ok_or(NoTask::Refused)
 }
