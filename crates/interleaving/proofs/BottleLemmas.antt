@@ -1,5 +1,5 @@
 -- Sets of bottles, as bits.
-use Rattle.std.proofs.Common.{◌≡◌, ℕ, ◌<◌, ◌≤◌, ◌^◌, arith, inl, inr}
+use Rattle.std.proofs.Common.{ℕ, ◌<◌, ◌^◌, arith, inl, inr}
 use Rattle.std.specs.Int.Bits.{bit_xor, bit_and, and_lt}
 use Rattle.std.proofs.lemmas.Bool.{cases_lt}
 use Rattle.std.proofs.lemmas.Nat.{xor_lt}

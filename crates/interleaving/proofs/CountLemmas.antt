@@ -1,14 +1,14 @@
 -- Counts go on event by event.
-use Rattle.std.proofs.Common.{◌≡◌, ◌≢◌, ℕ, ◌+◌, ◌<◌, ◌≤◌, Bool, true, false, cond, List, [], ◌∷◌, ◌++◌, length, slice_set, length-set, arith, refl, sym, ap, ◌∙◌, subst}
+use Rattle.std.proofs.Common.{◌≡◌, ℕ, ◌+◌, Bool, true, false, cond, List, [], ◌∷◌, ◌++◌, length-set, arith, refl, sym, ap, ◌∙◌}
 use Rattle.std.specs.List.{count_by}
 use Rattle.std.proofs.lemmas.Bool.{eq-eqb, ne_eqb}
 use Rattle.std.proofs.lemmas.List.Sums.{sum_by-cons, sum_by-append}
 use Rattle.lab_plan.specs.LabPlan.{LabPlan}
 use Rattle.legal_steps.specs.declared.event.Event.{Event}
-use Rattle.legal_steps.specs.declared.event.Event.TheVariants.{Look, AskFork, GiveFork, Soil, AskBottles, GiveBottles, Thirst, Hunger, Sit, Leave, Drink, Reach, Act, Quit, Retire, Glance, Withdraw}
-use Rattle.legal_steps.specs.Run.{is_sit, is_quit, is_withdraw, meals_of, sessions_done_of, withdrawn_of}
+use Rattle.legal_steps.specs.declared.event.Event.TheVariants.{Sit, Quit, Withdraw}
+use Rattle.legal_steps.specs.Run.{is_sit, is_quit, is_withdraw}
 use Rattle.interleaving.specs.declared.counts.Counts.{Counts}
-use Rattle.interleaving.specs.Counting.{no_counts, count_at, counts_of, both_counts, GoOnBy, AreCountsOf, counted, CanCount, HasFewCounts}
+use Rattle.interleaving.specs.Counting.{no_counts, count_at, counts_of, both_counts, GoOnBy, AreCountsOf, counted, CanCount}
 use Rattle.interleaving.proofs.FitLemmas.{set_cases}
 
 same_counts : (a b : Counts) → a.meals ≡ b.meals → a.sessions_done ≡ b.sessions_done → a.withdrawn ≡ b.withdrawn → a ≡ b

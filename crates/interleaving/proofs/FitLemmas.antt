@@ -1,5 +1,5 @@
 -- What holds of a list after one element is replaced, and that a seat fits its plan with another phase.
-use Rattle.std.proofs.Common.{◌≡◌, ◌≢◌, ◌⊎◌, ℕ, ◌<◌, length, slice_index_or, slice_set, List, sym, subst, get_or-set_same, get_or-set_other, inl, inr}
+use Rattle.std.proofs.Common.{◌≢◌, ℕ, ◌<◌, length, slice_index_or, slice_set, List, sym, subst, get_or-set_same, get_or-set_other, inl, inr}
 use Rattle.std.proofs.lemmas.Bool.{cases_eq}
 use Rattle.lab_plan.specs.LabPlan.{LabPlan}
 use Rattle.legal_steps.specs.declared.phase.JobState.{JobState}

@@ -1,5 +1,5 @@
 -- The logs of a state and their room.
-use Rattle.std.proofs.Common.{◌≡◌, ◌≢◌, ℕ, zero, suc, ◌<◌, ◌≤◌, List, [], ◌∷◌, ◌++◌, length, map, slice_index_or, slice_set, length-set, arith, refl, sym, ap, ◌∙◌, subst}
+use Rattle.std.proofs.Common.{◌≡◌, ◌≢◌, ℕ, zero, suc, ◌<◌, List, [], ◌∷◌, ◌++◌, length, map, slice_index_or, slice_set, length-set, arith, refl, sym, ap, ◌∙◌, subst}
 use Rattle.std.specs.Prelude.{Option, Some, None}
 use Rattle.std.specs.Option.{MatchOption}
 use Rattle.lab_plan.specs.LabPlan.{LabPlan}
@@ -8,7 +8,6 @@ use Rattle.instrument_log.specs.declared.refusal.LogRefusal.{LogRefusal}
 use Rattle.instrument_log.specs.declared.refusal.LogRefusal.TheVariants.{NotNextPlace, NotFirstPlace, NoRoom}
 use Rattle.instrument_log.specs.InstrumentLog.{LogView, MayAppend, IsRefused, empty_log, with_entry as with_log_entry}
 use Rattle.instrument_log.specs.Parts.{open_entry, IsNextPlace}
-use Rattle.lab_plan.specs.IsPlan.{IsPlan}
 use Rattle.legal_steps.specs.declared.edge_state.EdgeState.{EdgeState}
 use Rattle.legal_steps.specs.State.{State, Seat, Setting}
 use Rattle.legal_steps.specs.Fitting.{Fits}

@@ -1,5 +1,5 @@
 -- The tables of an opening state.
-use Rattle.std.proofs.Common.{◌≡◌, ℕ, ◌+◌, ◌<◌, ◌≤◌, ◌^◌, ◌↔◌, List, [], ◌∷◌, ◌++◌, length, map, replicate, take, slice_index_or, arith, refl, sym, ap, ◌∙◌, subst}
+use Rattle.std.proofs.Common.{◌≡◌, ℕ, ◌+◌, ◌<◌, ◌↔◌, List, [], ◌∷◌, ◌++◌, length, map, replicate, take, slice_index_or, arith, refl, sym, ap, ◌∙◌, subst}
 use Rattle.std.specs.List.{range_with_len, enumerate_from}
 use Rattle.std.proofs.lemmas.List.{take_more, take_all, length-map, length-replicate, get_or-replicate}
 use Rattle.std.proofs.lemmas.List.FromFn.{length-enumerate_from}
@@ -9,7 +9,7 @@ use Rattle.instrument_log.specs.declared.entry.Entry.{Entry}
 use Rattle.instrument_log.specs.InstrumentLog.{LogView, empty_log}
 use Rattle.legal_steps.specs.declared.edge_state.EdgeState.{EdgeState}
 use Rattle.legal_steps.specs.declared.edge_state.EndChoice.{EndChoice}
-use Rattle.legal_steps.specs.State.{State, Seat, Setting, edge, no_edge}
+use Rattle.legal_steps.specs.State.{State, Seat, Setting, no_edge}
 use Rattle.cycles.specs.Cycles.{IsAmong, HasNoCycle, IsCycleOf}
 use Rattle.interleaving.specs.declared.counts.Counts.{Counts}
 use Rattle.interleaving.specs.Start.{at_start}
@@ -20,7 +20,7 @@ use Rattle.legal_steps.specs.Opening.{AreChoices, chosen_edge, opening_of, idle_
 use Rattle.legal_steps.specs.Precedence.{IsAcyclic, Precedes}
 use Rattle.legal_steps.proofs.OpeningChoices.{opening_edge, opening_of_choices}
 use Rattle.legal_steps.proofs.OpeningLemmas.{fits_opening}
-use Rattle.interleaving.specs.Counting.{no_counts, AreCountsOf, counts_of}
+use Rattle.interleaving.specs.Counting.{no_counts, counts_of}
 use Rattle.interleaving.specs.World.{IsReachedWith, WorldView}
 use Rattle.interleaving.proofs.LogLemmas.{shown}
 use Rattle.interleaving.proofs.RoomLemmas.{are_empty}

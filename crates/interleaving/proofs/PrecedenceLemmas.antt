@@ -1,12 +1,12 @@
 -- Precedence on edges, as pairs of jobs.
-use Rattle.std.proofs.Common.{◌≡◌, ◌⊎◌, ℕ, ◌+◌, ◌<◌, ◌≤◌, ◌↔◌, Bool, true, false, ◌&&◌, eqb, List, [], ◌∷◌, ◌++◌, length, slice_index_or, arith, refl, sym, ap, ◌∙◌, subst, inl, inr}
+use Rattle.std.proofs.Common.{◌≡◌, ℕ, ◌+◌, ◌<◌, ◌≤◌, ◌↔◌, true, ◌&&◌, eqb, List, [], ◌∷◌, ◌++◌, length, arith, refl, sym, ap, ◌∙◌, subst, inl, inr}
 use Rattle.std.proofs.lemmas.Bool.{cases_lt, eq-eqb}
-use Rattle.std.specs.List.{All, Contains}
+use Rattle.std.specs.List.{Contains}
 use Rattle.std.proofs.lemmas.List.Elements.{Contains-push, Contains-push_cases, Contains-append_left, All-push}
 use Rattle.cycles.specs.Cycles.{IsAmong, AreBelow, HasNoCycle, IsCycleOf}
 use Rattle.lab_plan.specs.LabPlan.{LabPlan, edges}
 use Rattle.legal_steps.specs.State.{State, IsOwn, fork, opposite}
-use Rattle.legal_steps.specs.Precedence.{Precedes, PrecedesOn, IsAcyclic, fork_holder, fork_waiter}
+use Rattle.legal_steps.specs.Precedence.{Precedes, PrecedesOn, IsAcyclic}
 use Rattle.legal_steps.proofs.ForkEnds.{own_at}
 use Rattle.legal_steps.proofs.AcyclicLists.{cycle_same}
 

@@ -8,7 +8,7 @@ use Rattle.legal_steps.specs.declared.event.Event.{Event}
 use Rattle.legal_steps.specs.declared.event.Event.TheVariants.{Act, Sit, Quit, Withdraw}
 use Rattle.legal_steps.specs.State.{State}
 use Rattle.legal_steps.specs.Legal.{May, IsLegal}
-use Rattle.legal_steps.specs.Run.{Runs, StopsAt, after_all, meals_of, sessions_done_of, withdrawn_of}
+use Rattle.legal_steps.specs.Run.{StopsAt}
 use Rattle.legal_steps.specs.Reached.{IsReached}
 use Rattle.legal_steps.proofs.RunLemmas.{runs_push, runs_more}
 use Rattle.legal_steps.proofs.AppendLaw.{act_appends, next_within_limits}
@@ -16,7 +16,7 @@ use Rattle.legal_steps.proofs.MealLaw.{meals_few}
 use Rattle.legal_steps.proofs.CountLaw.{done_few}
 use Rattle.interleaving.specs.declared.counts.Counts.{Counts}
 use Rattle.interleaving.specs.Step.{TakesEntry}
-use Rattle.interleaving.specs.Counting.{count_at, GoOnBy, CanCount, HasFewCounts}
+use Rattle.interleaving.specs.Counting.{GoOnBy, CanCount, HasFewCounts}
 use Rattle.interleaving.specs.World.{WorldView, IsReachedWith, LeadsTo}
 use Rattle.interleaving.proofs.CountLemmas.{goes_on_none, goes_on_push, counts_push}
 

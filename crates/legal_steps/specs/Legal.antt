@@ -1,7 +1,7 @@
 -- The 17 kinds of event: where each is legal, and the state after it.
-use Rattle.std.specs.Prelude.{◌≡◌, ◌≢◌, ◌⊎◌, ℕ, ◌+◌, ◌^◌, ◌<◌, ◌≤◌, Bool, true, false, not, ◌&&◌, ◌||◌, List, [], ◌∷◌, ◌++◌, length, replicate, slice_index_or, slice_set, bit_xor, bit_and, IsSome}
+use Rattle.std.specs.Prelude.{◌≡◌, ◌≢◌, ◌⊎◌, ℕ, ◌+◌, ◌<◌, ◌≤◌, Bool, true, false, not, ◌&&◌, ◌||◌, List, [], ◌∷◌, ◌++◌, length, replicate, slice_index_or, slice_set, bit_xor, bit_and, IsSome}
 use Rattle.lab_plan.specs.declared.verb.Verb.{Verb}
-use Rattle.lab_plan.specs.LabPlan.{LabPlan, edges, ends, bottles, sessions, commands, patience, session_names, command_at, place_at, length_at}
+use Rattle.lab_plan.specs.LabPlan.{LabPlan, bottles, sessions, commands, patience, session_names, command_at, place_at, length_at}
 use Rattle.instrument_log.specs.declared.entry.Entry.{Entry}
 use Rattle.instrument_log.specs.Dial.{turned, dial}
 use Rattle.legal_steps.specs.declared.end.End.{End}

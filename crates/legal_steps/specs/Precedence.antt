@@ -1,5 +1,5 @@
 -- Precedence among jobs, and its cycles.
-use Rattle.std.specs.Prelude.{◌≡◌, ◌⊎◌, ℕ, ◌<◌, Bool, true, List, [], ◌∷◌, length}
+use Rattle.std.specs.Prelude.{◌≡◌, ◌⊎◌, ℕ, ◌<◌, true, length}
 use Rattle.lab_plan.specs.LabPlan.{LabPlan, edges}
 pub use Rattle.cycles.specs.Cycles.{LeadsBackTo, IsCycleOf, HasNoCycle}
 use Rattle.legal_steps.specs.declared.phase.Dining.TheVariants.{Eating}

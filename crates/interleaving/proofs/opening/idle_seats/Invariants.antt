@@ -1,5 +1,5 @@
 use Rattle.std.proofs.Common.{◌≡◌, false, replicate}
-use Rattle.legal_steps.specs.State.{Seat, idle_phase}
+use Rattle.legal_steps.specs.State.{idle_phase}
 use Rattle.interleaving.proofs.opening.idle_seats.Given as goal
 
 abbrev pub invariant-loop-job : goal.invariant-loop-job

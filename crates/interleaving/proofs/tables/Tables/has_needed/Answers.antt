@@ -1,4 +1,4 @@
-use Rattle.std.proofs.Common.{◌≡◌, true, ◌∙◌, sym, refl}
+use Rattle.std.proofs.Common.{refl}
 use Rattle.std.proofs.lemmas.Bool.{false≢true}
 use Rattle.legal_steps.specs.Legal.{HasNeededAt}
 use Rattle.interleaving.proofs.OwnEdges.{own_at, at_own_edges}

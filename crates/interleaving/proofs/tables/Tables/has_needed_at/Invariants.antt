@@ -1,4 +1,4 @@
-use Rattle.std.proofs.Common.{◌≡◌, ◌<◌, ℕ}
+use Rattle.std.proofs.Common.{◌<◌, ℕ}
 use Rattle.legal_steps.specs.State.{Has}
 use Rattle.legal_steps.specs.Legal.{Needs, instrument_of}
 use Rattle.interleaving.proofs.tables.Tables.has_needed_at.Given as goal

@@ -1,4 +1,4 @@
-use Rattle.std.proofs.Common.{ℕ, ◌<◌, arith, refl}
+use Rattle.std.proofs.Common.{◌<◌, arith, refl}
 use Rattle.interleaving.proofs.BottleLemmas.{member_below}
 use Rattle.interleaving.proofs.tables.Tables.may_ask_all.Goals as goal
 

@@ -1,5 +1,4 @@
-use Rattle.std.proofs.Common.{◌≡◌, false, length, replicate, sym, ap, ◌∙◌, subst}
-use Rattle.lab_plan.specs.LabPlan.{edges}
+use Rattle.std.proofs.Common.{false, length, replicate, sym, ap, ◌∙◌, subst}
 use Rattle.legal_steps.specs.State.{State, Seat, Setting, idle_phase}
 use Rattle.legal_steps.specs.Fitting.{Fits}
 use Rattle.interleaving.specs.Rooms.{HasRooms}

@@ -1,7 +1,6 @@
-use Rattle.std.proofs.Common.{◌≡◌, length, replicate, sym, ap, ◌∙◌, subst}
+use Rattle.std.proofs.Common.{replicate, sym, ap, ◌∙◌, subst}
 use Rattle.legal_steps.specs.declared.end.End.TheVariants.{Lower}
 use Rattle.legal_steps.specs.declared.edge_state.EndChoice.{EndChoice}
-use Rattle.lab_plan.specs.LabPlan.{edges}
 use Rattle.legal_steps.specs.Opening.{AreChoices}
 use Rattle.legal_steps.proofs.OpeningChoices.{the_choices}
 use Rattle.interleaving.proofs.tables.Tables.opening.Goals as goal

@@ -1,4 +1,4 @@
-use Rattle.std.proofs.Common.{◌≡◌, ◌≤◌, length, arith, sym, ap, ◌∙◌, subst}
+use Rattle.std.proofs.Common.{◌≤◌, length, arith, sym, ap, subst}
 use Rattle.lab_plan.specs.LabPlan.{edges}
 use Rattle.interleaving.proofs.PrecedenceLemmas.{ArePairsBelow, pairs_none, pairs_more, precedes_of}
 use Rattle.interleaving.proofs.tables.Tables.precedence.Goals as goal

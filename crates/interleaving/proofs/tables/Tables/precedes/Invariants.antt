@@ -1,4 +1,4 @@
-use Rattle.std.proofs.Common.{◌≡◌, ◌<◌, ℕ, slice_index_or}
+use Rattle.std.proofs.Common.{◌<◌, ℕ, slice_index_or}
 use Rattle.legal_steps.specs.Precedence.{PrecedesOn}
 use Rattle.interleaving.proofs.tables.Tables.precedes.Given as goal
 

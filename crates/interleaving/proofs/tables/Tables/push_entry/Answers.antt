@@ -1,4 +1,4 @@
-use Rattle.std.proofs.Common.{◌≡◌, ◌<◌, length, map, arith, sym, subst}
+use Rattle.std.proofs.Common.{◌≡◌, ◌<◌, length, arith, sym, subst}
 use Rattle.std.proofs.lemmas.List.{get_or_read, length-map}
 use Rattle.instrument_log.specs.InstrumentLog.{LogView, MayAppend}
 use Rattle.interleaving.specs.Rooms.{log_at}

@@ -1,9 +1,8 @@
-use Rattle.std.proofs.Common.{◌≡◌, ◌<◌, ◌∙◌, length, map, slice_index_or, arith, ap, sym, subst}
+use Rattle.std.proofs.Common.{◌≡◌, ◌<◌, ◌∙◌, length, map, arith, ap, sym, subst}
 use Rattle.std.proofs.lemmas.List.{get_or_read}
 use Rattle.lab_plan.specs.LabPlan.{LabPlan}
 use Rattle.instrument_log.specs.InstrumentLog.{LogView}
 use Rattle.legal_steps.specs.State.{State, Seat, Setting, seat}
-use Rattle.legal_steps.specs.Fitting.{IsSeatOf}
 use Rattle.interleaving.specs.Phases.{IsPhaseOf}
 use Rattle.legal_steps.proofs.FitsWrites.{fits_with_seat}
 use Rattle.interleaving.proofs.FitLemmas.{seat_with_phase}

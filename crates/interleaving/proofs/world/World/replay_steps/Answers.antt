@@ -1,4 +1,4 @@
-use Rattle.std.proofs.Common.{◌≡◌, ◌<◌, ◌≤◌, length, slice_index_or, arith}
+use Rattle.std.proofs.Common.{◌<◌, length, arith}
 use Rattle.legal_steps.specs.Steps.{events_of}
 use Rattle.interleaving.proofs.StepsLemmas.{steps_of, step_events_length, event_here}
 use Rattle.interleaving.proofs.WorldLemmas.{leads_more, leads_all, stops_here}
