@@ -3,8 +3,9 @@ use super::{
     A, AB, AC, B, BC, BOTH_SIT, C, FORKS_COME, MEAL, STALE_MARK, THREE, TWICE, go_on, overtaking,
     plan_of, triangle_world,
 };
+use crate::laws::{never_stuck, no_cycle, overtaken_once, quiet_is_retired};
 use crate::ranking;
-use interleaving::{End, EndChoice, Event, StartRefusal, World};
+use interleaving::{End, EndChoice, Event, StartRefusal, World, cycle_in};
 use lab_plan::{EdgeNo, JobNo, PlanBuilder};
 use std::alloc::Allocator;
 use std::process::Abort;
@@ -95,5 +96,25 @@ fn triangle_in_a_ring(rt: HostRuntime) -> Result<(), Fail> {
     let at = |fork| EndChoice { fork, bottles: 0 };
     let ring = [at(End::Lower), at(End::Higher), at(End::Lower)];
     assert!(rt; matches!(World::start(alloc, &plan, &ring), Err(StartRefusal::Cycle)));
+    Ok(())
+}
+
+/// The laws are contracts: what is called does nothing.
+#[test]
+fn laws_do_nothing(_rt: HostRuntime) -> Result<(), Fail> {
+    no_cycle();
+    overtaken_once();
+    never_stuck();
+    quiet_is_retired();
+    Ok(())
+}
+
+#[test]
+fn dirt_alone_has_a_cycle(rt: HostRuntime) -> Result<(), Fail> {
+    let pairs = [(A, B), (B, C), (C, A)];
+    let Some(cycle) = cycle_in(rt.alloc(), 3, &pairs)? else {
+        panic!(rt; "no cycle");
+    };
+    assert!(rt; cycle.as_slice() == [A, B, C].as_slice());
     Ok(())
 }
