@@ -3,6 +3,7 @@ use super::{
     A, AB, AC, B, BC, BOTH_SIT, C, FORKS_COME, MEAL, STALE_MARK, THREE, TWICE, go_on, overtaking,
     plan_of, triangle_world,
 };
+use crate::laws::{never_stuck, no_cycle, overtaken_once, quiet_is_retired};
 use crate::ranking;
 use interleaving::{End, EndChoice, Event, StartRefusal, World, cycle_in};
 use lab_plan::{EdgeNo, JobNo, PlanBuilder};
@@ -67,20 +68,23 @@ fn by_dirt<T: Allocator>(rt: &impl Abort, world: &World<'_, T>, edge: EdgeNo) ->
     }
 }
 
-/// During the meal, by dirt alone, there is a cycle: it isn't precedence.
+/// Up to the first fork that is soiled.
+fn begin_meal<T: Allocator + Copy>(rt: &impl Abort, alloc: T, world: &mut World<'_, T>) {
+    let mut events = Vec::new(alloc);
+    assert!(rt; go_on(rt, world, &mut events, &FORKS_COME).is_ok());
+    assert!(rt; go_on(rt, world, &mut events, &MEAL[..2]).is_ok());
+}
+
+/// During the meal dirt alone would put each job before the next, and the last before the first.
 #[test]
 fn triangle_by_dirt_alone(rt: HostRuntime) -> Result<(), Fail> {
     let alloc = rt.alloc();
     let plan = plan_of(&rt, PlanBuilder::new(alloc), &THREE);
     let mut world = triangle_world(&rt, alloc, &plan);
-    let mut events = Vec::new(alloc);
-    go_on(&rt, &mut world, &mut events, &FORKS_COME)?;
-    go_on(&rt, &mut world, &mut events, &MEAL[..2])?;
-    assert!(rt; by_dirt(&rt, &world, AB) == (A, B));
-    assert!(rt; by_dirt(&rt, &world, BC) == (B, C));
-    assert!(rt; by_dirt(&rt, &world, AC) == (C, A));
-    let cycle = cycle_in(alloc, 3, &[(A, B), (B, C), (C, A)])?.expect(&rt, "a cycle");
-    assert!(rt; cycle.as_slice() == [A, B, C].as_slice());
+    begin_meal(&rt, alloc, &mut world);
+    for (edge, before, after) in [(AB, A, B), (BC, B, C), (AC, C, A)] {
+        assert!(rt; by_dirt(&rt, &world, edge) == (before, after));
+    }
     Ok(())
 }
 
@@ -92,5 +96,25 @@ fn triangle_in_a_ring(rt: HostRuntime) -> Result<(), Fail> {
     let at = |fork| EndChoice { fork, bottles: 0 };
     let ring = [at(End::Lower), at(End::Higher), at(End::Lower)];
     assert!(rt; matches!(World::start(alloc, &plan, &ring), Err(StartRefusal::Cycle)));
+    Ok(())
+}
+
+/// The laws are contracts: what is called does nothing.
+#[test]
+fn laws_do_nothing(_rt: HostRuntime) -> Result<(), Fail> {
+    no_cycle();
+    overtaken_once();
+    never_stuck();
+    quiet_is_retired();
+    Ok(())
+}
+
+#[test]
+fn dirt_alone_has_a_cycle(rt: HostRuntime) -> Result<(), Fail> {
+    let pairs = [(A, B), (B, C), (C, A)];
+    let Some(cycle) = cycle_in(rt.alloc(), 3, &pairs)? else {
+        panic!(rt; "no cycle");
+    };
+    assert!(rt; cycle.as_slice() == [A, B, C].as_slice());
     Ok(())
 }
