@@ -1,5 +1,6 @@
 // A world: a plan, and a state of its bench that legal events have led to from an opening without a cycle.
-ghost use Rattle.std.specs.Prelude.{◌≡◌, ◌<◌, ◌↔◌, IsTrue, length, IfOk, IfErr};
+ghost use Rattle.std.specs.Prelude.{◌≡◌, ℕ, ◌<◌, ◌↔◌, IsTrue, length, IfOk, IfErr};
+ghost use Rattle.cycles.specs.Cycles.{IsAmong, AreBelow};
 ghost use Rattle.lab_plan.specs.LabPlan.{edges};
 ghost use Rattle.legal_steps.specs.State.{IsOwn, edge as edge_at, phase as phase_at, fork_mark as fork_mark_at, bottle_marks as bottle_marks_at};
 ghost use Rattle.legal_steps.specs.Legal.{IsJob, May};
@@ -155,6 +156,15 @@ impl<'a, A: Allocator> World<'a, A> {
         ensures { IsTrue result ↔ Precedes self.now.plan self.now.state a b }
     {
         self.tables.precedes(a, b)
+    }
+
+    /// The pairs of jobs of which the first precedes the second: one for each edge, by edge number
+    /// (Chandy and Misra 1984). Only the answer takes memory.
+    pub fn precedence<B: Allocator>(&self, alloc: B) -> Result<Vec<(JobNo, JobNo), B>, NoMemory>
+        ensures pairs { IfOk result (λ pairs. (a b : ℕ) → IsAmong pairs.items a b ↔ Precedes self.now.plan self.now.state a b) }
+        ensures below { IfOk result (λ pairs. AreBelow (length self.now.plan.jobs) pairs.items) }
+    {
+        Ok(self.tables.precedence(alloc)?)
     }
 
     /// The log of the instrument.

@@ -55,7 +55,7 @@ fn has_pairs<T: Allocator + Copy>(
     let mut world = World::start(alloc, &plan, &[HIGHER; 3])?;
     assert!(rt; place <= STEPS.len());
     assert!(rt; walks(rt, &mut world, &STEPS[..place]));
-    Ok(are_pairs(&world, pairs))
+    Ok(are_pairs(&world, pairs) && world.precedence(alloc)?.as_slice() == pairs)
 }
 
 const BY_NUMBER: [Pair; 3] = [(A, B), (A, C), (B, C)];

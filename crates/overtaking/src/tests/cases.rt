@@ -4,9 +4,10 @@ use super::{
     plan_of, triangle_world,
 };
 use crate::laws::{never_stuck, no_cycle, overtaken_once, quiet_is_retired};
-use crate::ranking;
+use crate::{NoMemory, ranking};
 use interleaving::{End, EndChoice, Event, StartRefusal, World, cycle_in};
 use lab_plan::{EdgeNo, JobNo, PlanBuilder};
+use linked_list_allocator::LocalHeap;
 use std::alloc::Allocator;
 use std::process::Abort;
 use std::test::Fail;
@@ -116,5 +117,34 @@ fn dirt_alone_has_a_cycle(rt: HostRuntime) -> Result<(), Fail> {
         panic!(rt; "no cycle");
     };
     assert!(rt; cycle.as_slice() == [A, B, C].as_slice());
+    Ok(())
+}
+
+/// Whether a ranking finds room on the heap; if so, it is the right one.
+fn has_room<T: Allocator + Copy>(rt: &impl Abort, alloc: T, heap: &LocalHeap) -> bool {
+    let plan = plan_of(rt, PlanBuilder::new(alloc), &THREE);
+    let world = triangle_world(rt, alloc, &plan);
+    match ranking(heap, &world) {
+        Ok(order) => {
+            assert!(rt; order.as_slice() == [A, B, C].as_slice());
+            true
+        }
+        Err(NoMemory) => false,
+    }
+}
+
+/// Each growth is refused in turn, by a heap that is a little larger in each run.
+#[test]
+fn refuses_growth(rt: HostRuntime) -> Result<(), Fail> {
+    let (mut refusals, mut answers) = (0u32, 0u32);
+    for budget in 1..40usize {
+        let heap = LocalHeap::new(rt.alloc(), 16 * budget)?;
+        if has_room(&rt, rt.alloc(), &heap) {
+            answers = answers.saturating_add(1);
+        } else {
+            refusals = refusals.saturating_add(1);
+        }
+    }
+    assert!(rt; answers > 1 && refusals > 1);
     Ok(())
 }
