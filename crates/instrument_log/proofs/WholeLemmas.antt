@@ -67,7 +67,7 @@ IsWholeButEnd-ending entries entry parts rest joined whole part within false clo
       let end = append_assoc (flat_map (λ xs. xs) parts) rest (entry ∷ []) in
       let added = flat_map-append (λ (xs : List Entry). xs) parts ((rest ++ entry ∷ []) ∷ []) in
       ap (λ xs. xs ++ entry ∷ []) joined ∙ end ∙ ap (λ xs. flat_map (λ ys. ys) parts ++ xs) (sym (append-nil (rest ++ entry ∷ []))) ∙ sym added ∙ sym (append-nil _);
-  whole = All-push IsPart parts (rest ++ entry ∷ []) whole (record { last = entry; ends = omega (arith, ltb-false entry.place entry.length closed); up_to_last = part });
+  whole = All-push IsPart parts (rest ++ entry ∷ []) whole (record { last = entry; not_empty = omega (arith, length-append rest (entry ∷ []), part.up_to); ends = omega (arith, ltb-false entry.place entry.length closed); up_to_last = part });
   ending = rw is refl;
 }
 

@@ -1,5 +1,5 @@
 -- The parts of a log. A part is what one session of a job leaves on the instrument: its places from 1 to their length, in order.
-use Rattle.std.specs.Prelude.{◌≡◌, ℕ, ◌+◌, List, [], ◌++◌, length, All, slice_get, Option, Some, None, nat_lt, if◌then◌else◌}
+use Rattle.std.specs.Prelude.{◌≡◌, ℕ, ◌+◌, ◌≤◌, List, [], ◌++◌, length, All, slice_get, Option, Some, None, nat_lt, if◌then◌else◌}
 use Rattle.std.specs.List.{last_or, flat_map}
 use Rattle.std.specs.Option.{option_and_then, option_map_or, MatchOption}
 use Rattle.instrument_log.specs.declared.entry.Entry.{Entry}
@@ -39,9 +39,10 @@ pub record IsPartUpTo (last : Entry) (entries : List Entry) : Type 0 where
   pub up_to : length entries ≡ last.place
   pub in_order : (k : ℕ) (entry : Entry) → slice_get entries k ≡ Some entry → IsAtPlace last (k + 1) entry
 
--- the entries are one part, from its place 1 to its length
+-- the entries are one part, from its place 1 to its length, which is at least 1
 pub record IsPart (entries : List Entry) : Type 0 where
   pub last : Entry
+  pub not_empty : 1 ≤ last.place
   pub ends : last.place ≡ last.length
   pub up_to_last : IsPartUpTo last entries
 

@@ -1,5 +1,6 @@
 -- Sets of instruments by their bits.
-use Rattle.std.proofs.Common.{◌≡◌, ◌⊎◌, ℕ, ◌*◌, ◌/◌, ◌%◌, ◌^◌, ◌<◌, Bool, true, false, ◌||◌, nat_eq, bit_and, bit_or, arith, refl, sym, ap, inl, inr, subst}
+use Rattle.std.proofs.Common.{◌≡◌, ◌⊎◌, ℕ, ◌*◌, ◌/◌, ◌%◌, ◌^◌, ◌<◌, false, ◌||◌, nat_eq, bit_and, bit_or, arith, refl, sym, ap, inl, inr, subst}
+use Rattle.std.proofs.Math.Bool.{or-false, or-true}
 use Rattle.std.proofs.lemmas.Bool.{cases_eq, eq-eqb, ne_eqb}
 use Rattle.std.specs.Int.{bit_at, w64}
 use Rattle.std.proofs.lemmas.Nat.Bits.{bit_at-lt, bit_at_or, bit_at-zero, bit_at_set_same, bit_at_set_other, shr_and_one}
@@ -25,18 +26,10 @@ holds_union a b i = elim (bit_cases a i) [
   | inr h ↦ elim (bit_cases b i) [ inl g ↦ rw (bit_at_or a b i, h, g) refl | inr g ↦ rw (bit_at_or a b i, h, g) refl ]
 ]
 
-or_false : (b : Bool) → b ≡ (b || false)
-or_false true = refl
-or_false false = refl
-
-or_true : (b : Bool) → true ≡ (b || true)
-or_true true = refl
-or_true false = refl
-
 pub holds_with : (set k i : ℕ) → k < 64 → holds (bit_or set (1 * 2 ^ k % 2 ^ 64)) i ≡ (holds set i || nat_eq k i)
 unfolding holds
 holds_with set k i within = elim (cases_eq k i) [
   | inl h ↦ subst (λ n. nat_eq (bit_at (bit_or set (1 * 2 ^ k % 2 ^ 64)) n) 1 ≡ (nat_eq (bit_at set n) 1 || nat_eq k n)) h
-      (rw (bit_at_set_same w64 set k within, eq-eqb k k refl) (or_true (nat_eq (bit_at set k) 1)))
-  | inr h ↦ rw (bit_at_set_other w64 set k within i (λ e. h (sym e)), ne_eqb k i h) (or_false (nat_eq (bit_at set i) 1))
+      (rw (bit_at_set_same w64 set k within, eq-eqb k k refl) (sym (or-true (nat_eq (bit_at set k) 1))))
+  | inr h ↦ rw (bit_at_set_other w64 set k within i (λ e. h (sym e)), ne_eqb k i h) (sym (or-false (nat_eq (bit_at set i) 1)))
 ]

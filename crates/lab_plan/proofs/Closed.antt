@@ -3,7 +3,7 @@ use Rattle.std.proofs.Common.{◌≡◌, ℕ, zero, suc, ◌+◌, ◌-◌, ◌<�
 use Rattle.std.specs.Prelude.{Option, nat_lt}
 use Rattle.std.proofs.lemmas.Bool.{cases_lt, cases_eq}
 use Rattle.std.proofs.lemmas.Bool.Decides.{nat_tests}
-use Rattle.std.proofs.lemmas.List.{length_push, get_or_append_left, get_or_push}
+use Rattle.std.proofs.lemmas.List.{length_push, get_or_append_left, get_or_past, get_or_push}
 use Rattle.lab_plan.specs.declared.verb.Verb.{Verb}
 use Rattle.lab_plan.specs.LabPlan.{SessionPlan, JobPlan, LabPlan, no_session, no_job, job_at, sessions, commands, edges, common, bottles}
 use Rattle.lab_plan.specs.IsPlan.{IsDraft, IsPlan}
@@ -23,11 +23,6 @@ on_last_other change (x ∷ []) zero d h = absurd (h (omega arith))
 on_last_other change (x ∷ []) (suc k) d h = refl
 on_last_other change (x ∷ y ∷ xs) zero d h = refl
 on_last_other change (x ∷ y ∷ xs) (suc k) d h = on_last_other change (y ∷ xs) k d (λ e. h (omega (arith, e)))
-
-past : {X : Type 0} (xs : List X) (k : ℕ) (d : X) → length xs ≤ k → get_or xs k d ≡ d
-past [] k d h = refl
-past (y ∷ ys) zero d h = absurd (omega (arith, h))
-past (y ∷ ys) (suc k) d h = past ys k d (omega (arith, h))
 
 -- no session is empty
 abbrev NotEmpty : LabPlan → Type 0
@@ -65,7 +60,7 @@ closed_with_job name plan closed bare j s low high = elim (cases_lt j (length pl
     nothing : (j : ℕ) → length plan.jobs ≤ j → length (sessions (with_job name plan) j) ≡ 0
     nothing j outside = elim (cases_eq (length plan.jobs) j) [
       | inl is ↦ ap (λ (job : JobPlan). length job.sessions) (get_or_push plan.jobs (record { name = name; sessions = [] }) no_job j is)
-      | inr other ↦ ap (λ (job : JobPlan). length job.sessions) (past (with_job name plan).jobs j no_job (omega (arith, other, outside, length_push plan.jobs (record { name = name; sessions = [] }))))
+      | inr other ↦ ap (λ (job : JobPlan). length job.sessions) (get_or_past (with_job name plan).jobs j no_job (omega (arith, other, outside, length_push plan.jobs (record { name = name; sessions = [] }))))
     ]
 
 pub closed_with_session : (patience : Option ℕ) (plan : LabPlan) → AreClosed plan → is_bare plan ≡ false → AreClosed (with_session patience plan)

@@ -1,7 +1,8 @@
 -- The edges by the sets of what the jobs name.
-use Rattle.std.proofs.Common.{◌≡◌, ℕ, ◌<◌, List, [], ◌∷◌, Bool, true, cond, ◌||◌, ◌&&◌, nat_lt, length, filter, arith, refl, sym, ap, ◌∙◌, inl, inr, subst}
+use Rattle.std.proofs.Common.{◌≡◌, ℕ, ◌<◌, List, [], ◌∷◌, Bool, true, cond, ◌&&◌, nat_lt, length, filter, arith, refl, sym, ap, ◌∙◌, inl, inr, subst}
 use Rattle.std.specs.List.{range_with_len, list_any}
-use Rattle.std.proofs.lemmas.Bool.{cases_Bool, false≢true, ltb-true}
+use Rattle.std.proofs.lemmas.Bool.{cases_Bool, ltb-true}
+use Rattle.std.proofs.lemmas.Map.Views.{any-filter_same}
 use Rattle.lab_plan.specs.LabPlan.{LabPlan, edges, common, pairs, both_name, instrument_numbers}
 use Rattle.lab_plan.specs.Building.{has_too_many_in_common}
 use Rattle.lab_plan.specs.NamedBy.{AreNaming, both_hold, meeting, are_crowded, rows}
@@ -9,17 +10,6 @@ use Rattle.lab_plan.specs.NamedBy.{AreNaming, both_hold, meeting, are_crowded, r
 -- the sets say who names what
 pub both_is : (plan : LabPlan) (sets : List ℕ) → AreNaming plan.jobs sets → (pair : ℕ × ℕ) → both_hold sets pair ≡ both_name plan pair
 both_is plan sets naming pair = λ t i. naming pair.0 i t && naming pair.1 i t
-
--- a test of what the filter keeps
-any_in_filter : {X : Type 0} (q p : X → Bool) → ((x : X) → q x ≡ true → p x ≡ true) → (xs : List X) → list_any q (filter p xs) ≡ list_any q xs
-any_in_filter q p more [] = refl
-any_in_filter q p more (x ∷ xs) = elim (cases_Bool (p x)) [
-  | inl h ↦ rw h (ap (λ b. q x || b) (any_in_filter q p more xs))
-  | inr h ↦ elim (cases_Bool (q x)) [
-    | inl g ↦ absurd (false≢true (sym h ∙ more x g))
-    | inr g ↦ rw (h, g) (any_in_filter q p more xs)
-  ]
-]
 
 some_kept : (p : ℕ → Bool) (xs : List ℕ) → 0 < length (filter p xs) → list_any p xs ≡ true
 some_kept p [] h = absurd (omega (arith, h))
@@ -36,7 +26,7 @@ crowded_is plan sets naming =
     let q : ℕ × ℕ → Bool = λ pair. nat_lt 28 (length (filter (both_name plan pair) (instrument_numbers plan))) in
     let more : (pair : ℕ × ℕ) → q pair ≡ true → p pair ≡ true = λ pair h. let b = ltb-true 28 (length (filter (both_name plan pair) (instrument_numbers plan))) h in some_kept (both_name plan pair) (instrument_numbers plan) (omega (arith, b)) in
     let same : are_crowded sets (length plan.instruments) ≡ q = λ t pair. nat_lt 28 (length (filter (both_is plan sets naming pair t) (instrument_numbers plan))) in
-    ap (λ r. list_any r (rows (length plan.jobs) (length plan.jobs))) same ∙ sym (any_in_filter q p more (pairs (length plan.jobs)))
+    ap (λ r. list_any r (rows (length plan.jobs) (length plan.jobs))) same ∙ sym (any-filter_same q p true more (pairs (length plan.jobs)))
 
 pub meeting_is : (plan : LabPlan) (sets : List ℕ) → AreNaming plan.jobs sets → meeting sets (length plan.instruments) (length plan.jobs) ≡ edges plan
 unfolding edges

@@ -11,6 +11,7 @@ use Rattle.std.proofs.lemmas.List.Elements.{All-push, filter-append}
 use Rattle.std.proofs.lemmas.List.Folds.{list_any_at}
 use Rattle.std.proofs.lemmas.List.Quantifiers.{all_pairs_push}
 use Rattle.std.proofs.lemmas.List.Sums.{prefix_len-le-length}
+use Rattle.std.proofs.lemmas.Map.Views.{any-filter_same}
 use Rattle.std.proofs.lemmas.Slice.Eq.{bytes_eq-Decides}
 use Rattle.lab_plan.specs.declared.verb.Verb.{Verb}
 use Rattle.lab_plan.specs.Names.{IsName}
@@ -19,6 +20,7 @@ use Rattle.lab_plan.specs.LabPlan.{SessionPlan, JobPlan, LabPlan, no_session, no
 use Rattle.lab_plan.specs.IsPlan.{IsDraft}
 use Rattle.lab_plan.specs.Building.{empty_plan, on_last, with_job, and_session, with_session, and_command, in_last_session, with_command, instrument_number, is_instrument, is_job, is_past_limit, last_job, has_session}
 use Rattle.lab_plan.proofs.Grown.{all_commands_with_job, all_commands_with_session, all_commands_with_command, commands_with_command, any_is, room}
+use Rattle.lab_plan.proofs.Ranges.{range_push}
 
 -- ---- one more element, and the last one changed
 
@@ -98,14 +100,6 @@ each P plan h j k = let less : (k + 1) - 1 ≡ k = omega arith in subst (λ n. P
 
 -- ---- the first of each number
 
-any_kept : {X : Type 0} (q p : X → Bool) (xs : List X) → ((x : X) → q x ≡ true → p x ≡ true) → list_any q (filter p xs) ≡ list_any q xs
-any_kept q p [] keeps = refl
-any_kept q p (x ∷ xs) keeps =
-    ⊎_elim
-    (λ is. rw is (ap (λ b. q x || b) (any_kept q p xs keeps)))
-    (λ is. let fails : q x ≡ false = ⊎_elim (λ t. absurd (true≢false (sym (keeps x t) ∙ is))) (λ f. f) (cases_Bool (q x)) in rw (is, fails) (any_kept q p xs keeps))
-    (cases_Bool (p x))
-
 gone : {X : Type 0} (p : X → Bool) (xs : List X) (x : X) → p x ≡ false → filter p (xs ++ x ∷ []) ≡ filter p xs
 gone p xs x is = filter-append p xs (x ∷ []) ∙ rw is (append-nil _)
 
@@ -124,7 +118,7 @@ firsts_push (x ∷ ns) n =
     (λ is.
     let keeps : (m : ℕ) → q m ≡ true → p m ≡ true = λ m e. grind (arith, nat_tests, is, e) in
     let inside : p n ≡ true = keeps n (grind (arith, nat_tests)) in
-    missed x n (filter p) (firsts ns) (list_any q (firsts ns)) (list_any q (filter p (firsts ns))) is (any_kept q p (firsts ns) keeps) (left p (firsts ns) n inside))
+    missed x n (filter p) (firsts ns) (list_any q (firsts ns)) (list_any q (filter p (firsts ns))) is (any-filter_same q p true keeps (firsts ns)) (left p (firsts ns) n inside))
     (cases_Bool (x == n))
   where
     found : (x n : ℕ) (f : List ℕ → List ℕ) (ns : List ℕ) (a b : Bool) → (x == n) ≡ true → f (ns ++ n ∷ []) ≡ f ns
@@ -145,10 +139,6 @@ any_range a (suc k) n low high =
 none_range : (a k n : ℕ) → a + k ≤ n → list_any (λ m. m == n) (range_with_len a k) ≡ false
 none_range a zero n high = refl
 none_range a (suc k) n high = let is : (a == n) ≡ false = grind (arith, nat_tests, high) in rw is (none_range (a + 1) k n (omega (arith, high)))
-
-range_push : (a n : ℕ) → range_with_len a (suc n) ≡ range_with_len a n ++ (a + n) ∷ []
-range_push a zero = let e : a ≡ a + 0 = omega arith in ap (λ m. m ∷ []) e
-range_push a (suc n) = let e : a + 1 + n ≡ a + suc n = omega arith in ap (λ l. a ∷ l) (range_push (a + 1) n ∙ ap (λ m. range_with_len (a + 1) n ++ m ∷ []) e)
 
 -- ---- each line keeps a draft
 

@@ -1,11 +1,12 @@
 -- The sets of what the jobs name, job by job.
-use Rattle.std.proofs.Common.{◌≡◌, ℕ, zero, suc, ◌+◌, ◌<◌, List, length, take, replicate, slice_index_or, slice_set, arith, refl, sym, ap, ◌∙◌, subst, inl, inr, get_or-set_same, get_or-set_other}
+use Rattle.std.proofs.Common.{◌≡◌, ℕ, ◌+◌, ◌<◌, List, length, take, replicate, slice_index_or, slice_set, arith, sym, ap, ◌∙◌, subst, inl, inr, get_or-set_same, get_or-set_other}
 use Rattle.std.proofs.lemmas.Bool.{cases_eq, cases_lt}
 use Rattle.std.proofs.lemmas.List.{get_or-take, get_or_past, length-take}
 use Rattle.lab_plan.specs.LabPlan.{JobPlan, no_job}
 use Rattle.lab_plan.specs.InstrumentSets.{holds}
 use Rattle.lab_plan.specs.NamedBy.{job_names, AreNaming}
 use Rattle.lab_plan.proofs.Bits.{holds_none}
+use Rattle.lab_plan.proofs.Alike.{read_alike}
 
 take_other : {X : Type 0} (xs : List X) (k j : ℕ) (d : X) → (j ≡ k → ⊥) → slice_index_or (take k xs) j d ≡ slice_index_or (take (k + 1) xs) j d
 take_other xs k j d other = elim (cases_lt j k) [
@@ -22,11 +23,6 @@ naming_more sets jobs k set job within is of before j i = elim (cases_eq j k) [
   | inr h ↦ ap (λ s. holds s i) (get_or-set_other sets k j set 0 h) ∙ before j i ∙ ap (λ x. job_names x i) (take_other jobs k j no_job h)
 ]
 
-same_everywhere : (n j r : ℕ) → r ≡ 0 → slice_index_or (replicate n r) j 0 ≡ r
-same_everywhere zero j r e = sym e
-same_everywhere (suc n) zero r e = refl
-same_everywhere (suc n) (suc j) r e = same_everywhere n j r e
-
 -- before the first job
 pub naming_none : (jobs : List JobPlan) (n r : ℕ) → r ≡ 0 → AreNaming (take 0 jobs) (replicate n r)
-naming_none jobs n r e j i = ap (λ s. holds s i) (same_everywhere n j r e ∙ e) ∙ holds_none i
+naming_none jobs n r e j i = ap (λ s. holds s i) (ap (slice_index_or (replicate n r) j) (sym e) ∙ read_alike n j r ∙ e) ∙ holds_none i

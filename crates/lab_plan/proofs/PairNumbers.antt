@@ -1,5 +1,5 @@
 -- The numbers of the pairs of jobs, pair by pair.
-use Rattle.std.proofs.Common.{◌≡◌, ℕ, zero, suc, ◌+◌, ◌*◌, ◌<◌, List, [], Option, None, Some, length, take, replicate, slice_index_or, slice_set, arith, refl, sym, ap, ◌∙◌, subst, inl, inr, get_or-set_same, get_or-set_other, map, zero-add}
+use Rattle.std.proofs.Common.{◌≡◌, ℕ, ◌+◌, ◌*◌, ◌<◌, List, [], Option, None, Some, length, take, replicate, slice_index_or, slice_set, arith, sym, ap, ◌∙◌, subst, inl, inr, get_or-set_same, get_or-set_other, map, zero-add}
 use Rattle.std.specs.List.{slice_get, Contains}
 use Rattle.std.specs.Option.{IfSome, IfNone}
 use Rattle.std.proofs.lemmas.Bool.{cases_eq}
@@ -9,6 +9,7 @@ use Rattle.std.proofs.lemmas.Option.{slice_get-get_or, slice_get_within, get_or_
 use Rattle.std.specs.List.{range_with_len}
 use Rattle.std.proofs.lemmas.List.FromFn.{get_or-map-range_with_len}
 use Rattle.lab_plan.specs.PairTables.{IsNumber, AreNumbers, edges_at}
+use Rattle.lab_plan.proofs.Alike.{read_alike}
 
 -- one more pair, another than the one in question
 other_pair : (pairs : List (ℕ × ℕ)) (k : ℕ) (pair : ℕ × ℕ) (number : Option ℕ) → k < length pairs → (slice_index_or pairs k (0, 0) ≡ pair → ⊥)
@@ -47,15 +48,10 @@ numbers_more pairs numbers k low high within is low_below high_below long before
       subst (IsNumber (take (k + 1) pairs) (a, b)) (sym same) (other_pair pairs k (a, b) (slice_index_or numbers (a * 32 + b) None) within other (before a b a_below b_below))
 ]
 
-none_of_none : (n j : ℕ) → slice_index_or {A = Option ℕ} (replicate n None) j None ≡ None
-none_of_none zero j = refl
-none_of_none (suc n) zero = refl
-none_of_none (suc n) (suc j) = none_of_none n j
-
 -- before the first pair
 pub numbers_none : (pairs : List (ℕ × ℕ)) (numbers : List (Option ℕ)) (n : ℕ) → numbers ≡ replicate n None → AreNumbers (take 0 pairs) numbers
 numbers_none pairs numbers n is a b a_below b_below =
-    subst (IsNumber [] (a, b)) (sym (ap (λ ns. slice_index_or ns (a * 32 + b) None) is ∙ none_of_none n (a * 32 + b))) (λ found. let below = found.1 in absurd (omega (arith, below)))
+    subst (IsNumber [] (a, b)) (sym (ap (λ ns. slice_index_or ns (a * 32 + b) None) is ∙ read_alike n (a * 32 + b) None)) (λ found. let below = found.1 in absurd (omega (arith, below)))
 
 -- the list of a job
 pub list_at : (pairs : List (ℕ × ℕ)) (lists : List (List ℕ)) (j : ℕ) (d : List ℕ) → lists ≡ map (edges_at pairs) (range_with_len 0 32) → j < 32 → slice_index_or lists j d ≡ edges_at pairs j

@@ -1,6 +1,7 @@
 -- The pairs of jobs, one at a time.
-use Rattle.std.proofs.Common.{◌≡◌, ℕ, zero, suc, ◌+◌, ◌-◌, ◌<◌, [], ◌∷◌, ◌++◌, Bool, true, false, cond, ◌||◌, map, filter, arith, refl, sym, ap, ◌∙◌, append-nil}
+use Rattle.std.proofs.Common.{◌≡◌, ℕ, zero, suc, ◌+◌, ◌-◌, ◌<◌, [], ◌∷◌, ◌++◌, Bool, true, false, cond, ◌||◌, map, filter, arith, sym, ap, ◌∙◌, append-nil}
 use Rattle.std.specs.List.{range_with_len, list_any, flat_map}
+use Rattle.std.proofs.Math.Bool.{or-false, or-true}
 use Rattle.std.proofs.lemmas.List.{map-append}
 use Rattle.std.proofs.lemmas.List.Concat.{flat_map-append}
 use Rattle.std.proofs.lemmas.List.Elements.{filter-append}
@@ -24,16 +25,8 @@ row_none low = let e : low + 1 - (low + 1) ≡ 0 = omega arith in ap (λ m. map 
 pub rows_more : (jobs n : ℕ) → rows jobs (n + 1) ≡ rows jobs n ++ row n jobs
 rows_more jobs n = ap (flat_map (λ low. row low jobs)) (range_more n) ∙ flat_map-append (λ low. row low jobs) (range_with_len 0 n) (n ∷ []) ∙ ap (λ ps. rows jobs n ++ ps) (append-nil (row n jobs))
 
-or_false : (b : Bool) → (b || false) ≡ b
-or_false true = refl
-or_false false = refl
-
-or_true : (b : Bool) → (b || true) ≡ true
-or_true true = refl
-or_true false = refl
-
 pub any_row_more : (p : ℕ × ℕ → Bool) (low k : ℕ) → low < k → list_any p (row low (k + 1)) ≡ (list_any p (row low k) || p (low, k))
-any_row_more p low k below = ap (list_any p) (row_more low k below) ∙ list_any-append p (row low k) ((low, k) ∷ []) ∙ ap (λ b. list_any p (row low k) || b) (or_false (p (low, k)))
+any_row_more p low k below = ap (list_any p) (row_more low k below) ∙ list_any-append p (row low k) ((low, k) ∷ []) ∙ ap (λ b. list_any p (row low k) || b) (or-false (p (low, k)))
 
 pub any_rows_more : (p : ℕ × ℕ → Bool) (jobs n : ℕ) → list_any p (rows jobs (n + 1)) ≡ (list_any p (rows jobs n) || list_any p (row n jobs))
 any_rows_more p jobs n = ap (list_any p) (rows_more jobs n) ∙ list_any-append p (rows jobs n) (row n jobs)
@@ -41,7 +34,7 @@ any_rows_more p jobs n = ap (list_any p) (rows_more jobs n) ∙ list_any-append 
 row_from : (p : ℕ × ℕ → Bool) (low k n : ℕ) → low < k → p (low, k) ≡ true → list_any p (row low (k + 1 + n)) ≡ true
 row_from p low k zero below is =
     let e : k + 1 + 0 ≡ k + 1 = omega arith in
-    ap (λ m. list_any p (row low m)) e ∙ any_row_more p low k below ∙ ap (λ b. list_any p (row low k) || b) is ∙ or_true (list_any p (row low k))
+    ap (λ m. list_any p (row low m)) e ∙ any_row_more p low k below ∙ ap (λ b. list_any p (row low k) || b) is ∙ or-true (list_any p (row low k))
 row_from p low k (suc n) below is =
     let e : k + 1 + suc n ≡ k + 1 + n + 1 = omega arith in
     let more : low < k + 1 + n = omega arith in
@@ -50,7 +43,7 @@ row_from p low k (suc n) below is =
 rows_from : (p : ℕ × ℕ → Bool) (jobs k n : ℕ) → list_any p (row k jobs) ≡ true → list_any p (rows jobs (k + 1 + n)) ≡ true
 rows_from p jobs k zero is =
     let e : k + 1 + 0 ≡ k + 1 = omega arith in
-    ap (λ m. list_any p (rows jobs m)) e ∙ any_rows_more p jobs k ∙ ap (λ b. list_any p (rows jobs k) || b) is ∙ or_true (list_any p (rows jobs k))
+    ap (λ m. list_any p (rows jobs m)) e ∙ any_rows_more p jobs k ∙ ap (λ b. list_any p (rows jobs k) || b) is ∙ or-true (list_any p (rows jobs k))
 rows_from p jobs k (suc n) is =
     let e : k + 1 + suc n ≡ k + 1 + n + 1 = omega arith in
     ap (λ m. list_any p (rows jobs m)) e ∙ any_rows_more p jobs (k + 1 + n) ∙ ap (λ b. b || list_any p (row (k + 1 + n) jobs)) (rows_from p jobs k n is)

@@ -1,6 +1,7 @@
 -- Numbers in ascending order, one at a time.
 use Rattle.std.proofs.Common.{◌≡◌, ℕ, zero, suc, ◌+◌, ◌<◌, [], ◌∷◌, ◌++◌, Bool, true, false, cond, ◌||◌, length, filter, arith, refl, sym, ap, ◌∙◌, zero-add, append-nil}
 use Rattle.std.specs.List.{range_with_len, list_any}
+use Rattle.std.proofs.Math.Bool.{or-false}
 use Rattle.std.proofs.lemmas.List.{length-append}
 use Rattle.std.proofs.lemmas.List.Elements.{filter-append}
 use Rattle.std.proofs.lemmas.List.Folds.{list_any-append, list_any_at}
@@ -30,11 +31,7 @@ count_more p n = ap length (kept_more p n) ∙ length-append (filter p (range_wi
     one false = refl
 
 pub any_more : (p : ℕ → Bool) (n : ℕ) → list_any p (range_with_len 0 (n + 1)) ≡ (list_any p (range_with_len 0 n) || p n)
-any_more p n = ap (list_any p) (range_more n) ∙ list_any-append p (range_with_len 0 n) (n ∷ []) ∙ ap (λ b. list_any p (range_with_len 0 n) || b) (or_false (p n))
-  where
-    or_false : (b : Bool) → (b || false) ≡ b
-    or_false true = refl
-    or_false false = refl
+any_more p n = ap (list_any p) (range_more n) ∙ list_any-append p (range_with_len 0 n) (n ∷ []) ∙ ap (λ b. list_any p (range_with_len 0 n) || b) (or-false (p n))
 
 pub any_found : (p : ℕ → Bool) (n k : ℕ) → k < n → p k ≡ true → true ≡ list_any p (range_with_len 0 n)
 any_found p n k within is =

@@ -1,8 +1,10 @@
 -- Two jobs that name one instrument share an edge with its bottle.
 use Rattle.std.proofs.Common.{◌≡◌, ◌⊎◌, ℕ, zero, suc, ◌+◌, ◌-◌, ◌<◌, ◌≤◌, List, [], ◌∷◌, ◌++◌, Bool, true, false, cond, ◌||◌, ◌==◌, length, map, slice_index_or, arith, refl, sym, ap, ◌∙◌, subst, inl, inr}
 use Rattle.std.specs.List.{flat_map, range_with_len, filter, list_any}
-use Rattle.std.proofs.lemmas.Bool.{cases_eq, cases_lt, false≢true}
+use Rattle.std.proofs.Math.Bool.{or-true}
+use Rattle.std.proofs.lemmas.Bool.{cases_Bool, cases_eq, cases_lt, false≢true}
 use Rattle.std.proofs.lemmas.Bool.Decides.{nat_tests}
+use Rattle.std.proofs.lemmas.List.{get_or_past}
 use Rattle.lab_plan.specs.declared.verb.Verb.{Verb}
 use Rattle.lab_plan.specs.declared.verb.Verb.TheVariants.{Read}
 use Rattle.lab_plan.specs.LabPlan.{LabPlan, edges, ends, pairs, common, bottles, both_name, names, sessions, session_at, commands, session_names, instrument_numbers, no_session, no_job}
@@ -55,11 +57,7 @@ in_filter p x (y ∷ ys) h t = elim h [
 
 any_from_in : {X : Type 0} (p : X → Bool) (x : X) (xs : List X) → In x xs → p x ≡ true → list_any p xs ≡ true
 any_from_in p x [] h t = absurd h
-any_from_in p x (y ∷ ys) h t = elim h [ inl is ↦ rw (ap p is ∙ t) refl | inr later ↦ rw (any_from_in p x ys later t) (or_true (p y)) ]
-  where
-    or_true : (b : Bool) → (b || true) ≡ true
-    or_true true = refl
-    or_true false = refl
+any_from_in p x (y ∷ ys) h t = elim h [ inl is ↦ rw (ap p is ∙ t) refl | inr later ↦ rw (any_from_in p x ys later t) (or-true (p y)) ]
 
 -- the edge of two jobs that both name the instrument, and the place of its bottle
 pub shared : (plan : LabPlan) (a b i : ℕ) → a < b → b < length plan.jobs → i < length plan.instruments → names plan a i ≡ true → names plan b i ≡ true
@@ -76,18 +74,9 @@ shared plan a b i below job inside na nb =
     let place = at_place i (common plan (a, b)) (in_filter (both_name plan (a, b)) i (instrument_numbers plan) number both) in
     (edge.0, edge.1, is, place.0, subst (λ p. place.0 < length (common plan p)) (sym is) place.1, subst (λ p. slice_index_or (common plan p) place.0 0 ≡ i) (sym is) (place.2 0))
 
-past : {X : Type 0} (xs : List X) (k : ℕ) (d : X) → length xs ≤ k → slice_index_or xs k d ≡ d
-past [] k d h = refl
-past (y ∷ ys) zero d h = absurd (omega (arith, h))
-past (y ∷ ys) (suc k) d h = past ys k d (omega (arith, h))
-
-either : (b : Bool) → (b ≡ true) ⊎ (b ≡ false)
-either true = inl refl
-either false = inr refl
-
 any_place : {X : Type 0} (p : X → Bool) (xs : List X) (d : X) → list_any p xs ≡ true → (k : ℕ) × (k < length xs) × (p (slice_index_or xs k d) ≡ true)
 any_place p [] d h = absurd (false≢true h)
-any_place p (y ∷ ys) d h = elim (either (p y)) [
+any_place p (y ∷ ys) d h = elim (cases_Bool (p y)) [
   | inl is ↦ (zero, omega arith, is)
   | inr is ↦ let w = any_place p ys d (ap (λ b. b || list_any p ys) (sym is) ∙ h) in (suc w.0, omega (arith, w.1), w.2)
 ]
@@ -96,13 +85,13 @@ any_place p (y ∷ ys) d h = elim (either (p y)) [
 session-names : (plan : LabPlan) (j s i : ℕ) → session_names plan j s i ≡ true → names plan j i ≡ true
 session-names plan j s i h = elim (cases_lt (s - 1) (length (sessions plan j))) [
   | inl inside ↦ any_from_in (λ session. list_any (λ command. command.0 == i) session.commands) (session_at plan j s) (sessions plan j) (in_place (sessions plan j) (s - 1) no_session inside) h
-  | inr out ↦ absurd (false≢true (sym (ap (λ session. list_any (λ command. command.0 == i) session.commands) (past (sessions plan j) (s - 1) no_session out)) ∙ h))
+  | inr out ↦ absurd (false≢true (sym (ap (λ session. list_any (λ command. command.0 == i) session.commands) (get_or_past (sessions plan j) (s - 1) no_session out)) ∙ h))
 ]
 
 names-job : (plan : LabPlan) (j i : ℕ) → names plan j i ≡ true → j < length plan.jobs
 names-job plan j i h = elim (cases_lt j (length plan.jobs)) [
   | inl inside ↦ inside
-  | inr out ↦ absurd (false≢true (sym (ap (λ job. list_any (λ session. list_any (λ command. command.0 == i) session.commands) job.sessions) (past plan.jobs j no_job out)) ∙ h))
+  | inr out ↦ absurd (false≢true (sym (ap (λ job. list_any (λ session. list_any (λ command. command.0 == i) session.commands) job.sessions) (get_or_past plan.jobs j no_job out)) ∙ h))
 ]
 
 pub session-instrument : (plan : LabPlan) (j s i : ℕ) → IsNamed plan → session_names plan j s i ≡ true → i < length plan.instruments

@@ -99,20 +99,20 @@ impl<A: Allocator> Draft<A> {
         job.begin(alloc, patience)
     }
 
-    pub(crate) fn add_instrument(&mut self, alloc: A, name: &[u8]) -> Result<(), AllocError>
+    fn add_instrument(&mut self, alloc: A, name: &[u8]) -> Result<(), AllocError>
         ensures { self.new ≡ (if is_ok result then record self.old { instruments = self.old.instruments ++ name.now ∷ [] } else self.old) }
     {
         self.instruments.push(Name::new(alloc, name)?)?;
         Ok(())
     }
 
-    pub(crate) fn drop_instrument(&mut self)
+    fn drop_instrument(&mut self)
         ensures { self.new ≡ record self.old { instruments = take (length self.old.instruments - 1) self.old.instruments } }
     {
         let _ = self.instruments.pop();
     }
 
-    pub(crate) fn push(&mut self, instrument: InstrumentNo, verb: Verb) -> Result<(), AllocError>
+    fn push(&mut self, instrument: InstrumentNo, verb: Verb) -> Result<(), AllocError>
         requires { has_session self.old ≡ true }
         ensures { self.new ≡ (if is_ok result then record self.old { jobs = on_last (in_last_session instrument verb) self.old.jobs } else self.old) }
     {

@@ -21,6 +21,7 @@ mod tests;
 pub mod verb;
 
 pub use builder::PlanBuilder;
+pub use name::is_name;
 pub use numbers::{EdgeNo, InstrumentNo, JobNo};
 pub use place::Place;
 pub use plan::Plan;

@@ -9,7 +9,7 @@ use std::marker::Model;
 
 /// The name of a job or an instrument, as its bytes.
 #[derive(Drop)]
-pub struct Name<A: Allocator = Global> {
+pub(crate) struct Name<A: Allocator = Global> {
     bytes: Vec<u8, A>,
 }
 

@@ -1,10 +1,11 @@
 // Why a plan's builder refuses a call.
 use std::alloc::{AllocError, AllocFailed};
 
-/// Why a plan's builder refuses a call.
+/// Why a plan's builder refuses a call. Of several reasons the first of these is given: an empty
+/// session, a job twice, a limit passed, too many in common, want of memory.
 #[derive(Clone, Copy, PartialEq, Eq, Debug)]
 pub enum PlanRefusal {
-    /// One more would be past a limit on jobs, instruments, sessions of a job or commands.
+    /// One more would be past a limit: 32 jobs, 56 instruments, 1000 sessions of a job, 100000 commands.
     LimitPassed,
     /// The session before has no command.
     SessionEmpty,

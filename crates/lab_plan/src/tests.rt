@@ -1,4 +1,5 @@
-// What no clause says of the builder: that its calls succeed, and go on once memory is there again.
+// What no clause says of the builder: that its calls succeed, and go on once memory is there again; and
+// each reader of a plan on plans worked out by hand.
 use crate::name::is_name;
 use crate::{EdgeNo, InstrumentNo, JobNo, Plan, PlanBuilder, PlanRefusal, Verb};
 use std::alloc::Allocator;

@@ -140,6 +140,54 @@ fn other_causes_come_before_memory(rt: HostRuntime) -> Result<(), Fail> {
     Ok(())
 }
 
+/// The line is refused for a limit that it passes, though memory is out: a new job gets none.
+fn refuse_past_limit<A: Allocator + Copy>(
+    rt: &impl Abort,
+    builder: &mut PlanBuilder<A>,
+    line: Line,
+) {
+    assert!(rt; put(rt, builder, line) == Err(PlanRefusal::LimitPassed));
+    assert!(rt; put(rt, builder, Line::Job(b"more")) == Err(PlanRefusal::NoMemory));
+}
+
+/// A 57th instrument is past the limit with no memory left.
+#[test]
+fn limit_of_instruments_comes_before_memory(rt: HostRuntime) -> Result<(), Fail> {
+    let heap = LocalHeap::new(rt.alloc(), HEAP)?;
+    let mut builder = PlanBuilder::new(&heap);
+    put_all(&rt, &mut builder, &[Line::Job(b"one"), Line::Session]);
+    for number in 0..56 {
+        put_all(
+            &rt,
+            &mut builder,
+            &[Line::Command(&name_of(number), Verb::Read)],
+        );
+    }
+    let blocks = fill(rt.alloc(), &heap)?;
+    refuse_past_limit(&rt, &mut builder, Line::Command(b"lamp", Verb::Read));
+    drop(blocks);
+    Ok(())
+}
+
+/// A 1001st session is past the limit with no memory left.
+#[test]
+fn limit_of_sessions_comes_before_memory(rt: HostRuntime) -> Result<(), Fail> {
+    let heap = LocalHeap::new(rt.alloc(), 8 * HEAP)?;
+    let mut builder = PlanBuilder::new(&heap);
+    put_all(&rt, &mut builder, &[Line::Job(b"one")]);
+    for _ in 0..1000 {
+        put_all(
+            &rt,
+            &mut builder,
+            &[Line::Session, Line::Command(b"lamp", Verb::Read)],
+        );
+    }
+    let blocks = fill(rt.alloc(), &heap)?;
+    refuse_past_limit(&rt, &mut builder, Line::Session);
+    drop(blocks);
+    Ok(())
+}
+
 /// Finishing tells an empty session, and too many in common, with no memory left.
 #[test]
 fn finishing_refuses_without_memory(rt: HostRuntime) -> Result<(), Fail> {

@@ -2,11 +2,12 @@ use Rattle.std.proofs.Common.{◌≡◌, ℕ, ◌+◌, ◌<◌, arith, sym, refl
 use Rattle.std.proofs.lemmas.List.{get_or_read, length_push}
 use Rattle.lab_plan.specs.declared.verb.Verb.{Verb}
 use Rattle.lab_plan.specs.declared.verb.Verb.TheVariants.{Read}
-use Rattle.lab_plan.proofs.Parts.{zeros, parts_more, places_more, ArePlaces}
+use Rattle.lab_plan.proofs.Alike.{read_alike}
+use Rattle.lab_plan.proofs.Parts.{parts_more, places_more, ArePlaces}
 use Rattle.lab_plan.proofs.session_table.SessionTable.new.Goals as goal
 
 pub loop-instrument-init : goal.loop-instrument-init
-loop-instrument-init g c = record { parts = λ i below. zeros 56 i; numbered = refl; placed = ap length c.new-places.ensures.items; places = λ m h. absurd (omega (arith, h)) }
+loop-instrument-init g c = record { parts = λ i below. read_alike 56 i 0; numbered = refl; placed = ap length c.new-places.ensures.items; places = λ m h. absurd (omega (arith, h)) }
 
 pub loop-instrument-preserved : goal.loop-instrument-preserved
 loop-instrument-preserved g c =
