@@ -15,12 +15,12 @@ loop-edge-preserved g c =
 pub returns-clause-by_edge : goal.returns-clause-by_edge
 returns-clause-by_edge g c =
     let s = c.args.self.now in
-    by_edge_of s.plan s.state c.loop-edge.edge c.loop-edge.pairs.items c.loop-edge.invariant (omega (arith, c.edges.ensures.edges, ap (λ p. length (edges p)) c.plan.ensures.plan, c.loop-edge-test.false, c.loop-edge.in_range))
+    by_edge_of s.plan s.state c.loop-edge.edge c.loop-edge.pairs.items c.loop-edge.invariant (omega (arith, c.edges-edges.ensures.edges, ap (λ p. length (edges p)) c.plan.ensures.plan, c.loop-edge-test.false, c.loop-edge.far-edge))
 
 pub returns-clause-pairs : goal.returns-clause-pairs
 returns-clause-pairs g c =
     let s = c.args.self.now in
-    let past : length (edges s.plan) ≤ c.loop-edge.edge = omega (arith, c.edges.ensures.edges, ap (λ p. length (edges p)) c.plan.ensures.plan) in
+    let past : length (edges s.plan) ≤ c.loop-edge.edge = omega (arith, c.edges-edges.ensures.edges, ap (λ p. length (edges p)) c.plan.ensures.plan) in
     precedes_of s.plan s.state c.loop-edge.edge c.loop-edge.pairs.items c.loop-edge.invariant past
 
 pub returns-clause-below : goal.returns-clause-below
