@@ -1,12 +1,14 @@
 -- Precedence on edges, as pairs of jobs.
-use Rattle.std.proofs.Common.{◌≡◌, ℕ, ◌+◌, ◌<◌, ◌≤◌, ◌↔◌, true, ◌&&◌, eqb, List, [], ◌∷◌, ◌++◌, length, arith, refl, sym, ap, ◌∙◌, subst, inl, inr}
+use Rattle.std.proofs.Common.{◌≡◌, ℕ, ◌+◌, ◌<◌, ◌≤◌, ◌↔◌, true, ◌&&◌, eqb, List, [], ◌∷◌, ◌++◌, length, slice_index_or, arith, refl, sym, ap, ◌∙◌, subst, inl, inr}
 use Rattle.std.proofs.lemmas.Bool.{cases_lt, eq-eqb}
 use Rattle.std.specs.List.{Contains}
+use Rattle.std.proofs.lemmas.List.{length_push, get_or_append_left, get_or_push}
 use Rattle.std.proofs.lemmas.List.Elements.{Contains-push, Contains-push_cases, Contains-append_left, All-push}
 use Rattle.cycles.specs.Cycles.{IsAmong, AreBelow, HasNoCycle, IsCycleOf}
 use Rattle.lab_plan.specs.LabPlan.{LabPlan, edges}
 use Rattle.legal_steps.specs.State.{State, IsOwn, fork, opposite}
 use Rattle.legal_steps.specs.Precedence.{Precedes, PrecedesOn, IsAcyclic}
+use Rattle.interleaving.specs.Pairs.{PairPrecedesOn, IsPrecedenceByEdge}
 use Rattle.legal_steps.proofs.ForkEnds.{own_at}
 use Rattle.legal_steps.proofs.AcyclicLists.{cycle_same}
 
@@ -20,8 +22,10 @@ precedes_own plan s e a b on = elim on.order [
 pub both_equal : (a b c d : ℕ) → a ≡ c → b ≡ d → (eqb a c && eqb b d) ≡ true
 both_equal a b c d h k = rw (eq-eqb a c h, eq-eqb b d k) refl
 
--- the pairs of the edges before edge n, and no others
+-- the pairs of the edges before edge n, in their order, and no others
 pub record ArePairsBelow (plan : LabPlan) (s : State) (n : ℕ) (pairs : List (ℕ × ℕ)) : Type 0 where
+  pub count : length pairs ≡ n
+  pub each : (e : ℕ) → e < n → PairPrecedesOn plan s e (slice_index_or pairs e (0, 0))
   pub among : (a b : ℕ) → IsAmong pairs a b → (e : ℕ) × (e < n) × PrecedesOn plan s e a b
   pub all : (a b e : ℕ) → e < n → PrecedesOn plan s e a b → IsAmong pairs a b
   pub below : AreBelow (length plan.jobs) pairs
@@ -30,6 +34,8 @@ pub pairs_none : (plan : LabPlan) (s : State) (pairs : List (ℕ × ℕ)) → pa
 pairs_none plan s pairs none =
     let empty : length pairs ≡ 0 = ap length none in
     record {
+      count = empty;
+      each = λ e below. absurd (omega (arith, below));
       among = λ a b has. absurd (omega (arith, has.1, empty));
       all = λ a b e below on. absurd (omega (arith, below));
       below = λ k d inside. absurd (omega (arith, inside, empty));
@@ -38,6 +44,16 @@ pairs_none plan s pairs none =
 pub pairs_more : (plan : LabPlan) (s : State) (n : ℕ) (pairs : List (ℕ × ℕ)) (order : ℕ × ℕ) → ArePairsBelow plan s n pairs → PrecedesOn plan s n order.0 order.1
     → ((a b : ℕ) → PrecedesOn plan s n a b → (a ≡ order.0) × (b ≡ order.1)) → (order.0 < length plan.jobs) × (order.1 < length plan.jobs) → ArePairsBelow plan s (n + 1) (pairs ++ order ∷ [])
 pairs_more plan s n pairs order h on only jobs = record {
+  count = omega (arith, length_push pairs order, h.count);
+  each = λ e below. elim (cases_lt e n) [
+    | inl before ↦
+        let inside : e < length pairs = omega (arith, before, h.count) in
+        subst (PairPrecedesOn plan s e) (sym (get_or_append_left pairs (order ∷ []) (0, 0) e inside)) (h.each e before)
+    | inr past ↦
+        let last : n ≡ e = omega arith in
+        subst (λ k. PairPrecedesOn plan s k (slice_index_or (pairs ++ order ∷ []) k (0, 0))) last
+        (subst (PairPrecedesOn plan s n) (sym (get_or_push pairs order (0, 0) n h.count)) on)
+  ];
   among = λ a b has. elim (Contains-push_cases pairs order (a, b) has) [
     | inl old ↦ let w = h.among a b old in (w.0, omega (arith, w.1), w.2)
     | inr is ↦ (n, omega arith, subst (λ (p : ℕ × ℕ). PrecedesOn plan s n p.0 p.1) is on)
@@ -55,6 +71,9 @@ pairs_more plan s n pairs order h on only jobs = record {
 
 pub precedes_of : (plan : LabPlan) (s : State) (n : ℕ) (pairs : List (ℕ × ℕ)) → ArePairsBelow plan s n pairs → length (edges plan) ≤ n → (a b : ℕ) → IsAmong pairs a b ↔ Precedes plan s a b
 precedes_of plan s n pairs h past a b = (λ has. let w = h.among a b has in (w.0, w.2), λ p. h.all a b p.0 (omega (arith, p.1.is_edge, past)) p.1)
+
+pub by_edge_of : (plan : LabPlan) (s : State) (n : ℕ) (pairs : List (ℕ × ℕ)) → ArePairsBelow plan s n pairs → n ≡ length (edges plan) → IsPrecedenceByEdge plan s pairs
+by_edge_of plan s n pairs h all = record { one_each = h.count ∙ all; each = λ e is_edge. h.each e (omega (arith, is_edge, all)) }
 
 -- ---- cycles
 

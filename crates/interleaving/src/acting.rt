@@ -12,7 +12,7 @@ ghost use Rattle.interleaving.specs.Step.{TakesNext};
 
 use crate::tables::Tables;
 use instrument_log::{Entry, turned};
-use lab_plan::{InstrumentNo, JobNo};
+use lab_plan::{InstrumentNo, JobNo, Verb};
 use legal_steps::{Drinking, JobState};
 use std::alloc::Allocator;
 
@@ -23,15 +23,14 @@ impl<'a, A: Allocator> Tables<'a, A> {
         self.is_job(job) && self.phase(job).drinking == Drinking::Reaching
     }
 
-    // The instrument of the next command of a reaching job.
-    pub(crate) fn next_instrument(&self, job: JobNo) -> InstrumentNo
+    // The next command of a reaching job.
+    pub(crate) fn next_command(&self, job: JobNo) -> (InstrumentNo, Verb)
         requires { May self.now.plan self.now.state (Act job) }
-        ensures instrument { result ≡ (next_command self.now.plan self.now.state job).0 }
-        ensures there { result < length self.now.plan.instruments }
+        ensures command { result ≡ next_command self.now.plan self.now.state job }
+        ensures there { result.0 < length self.now.plan.instruments }
     {
         let phase = self.phase(job);
-        let commands = self.plan().commands(job, phase.session);
-        commands[phase.position as usize].0
+        self.plan().commands(job, phase.session)[phase.position as usize]
     }
 
     // The entry of the next command of a reaching job.
@@ -41,8 +40,7 @@ impl<'a, A: Allocator> Tables<'a, A> {
         ensures { result ≡ next_entry self.now.plan self.now.state job }
     {
         let phase = self.phase(job);
-        let instrument = self.next_instrument(job);
-        let (_, verb) = self.plan().commands(job, phase.session)[phase.position as usize];
+        let (instrument, verb) = self.next_command(job);
         let place = self.plan().place(job, phase.session, phase.position);
         Entry {
             job,
@@ -63,7 +61,7 @@ impl<'a, A: Allocator> Tables<'a, A> {
     {
         let phase = self.phase(job);
         let entry = self.next_entry(job);
-        let instrument = self.next_instrument(job);
+        let (instrument, _) = self.next_command(job);
         self.push_entry(instrument, entry);
         let done = JobState {
             drinking: Drinking::Drinking,

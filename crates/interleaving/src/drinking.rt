@@ -27,6 +27,7 @@ impl<'a, A: Allocator> Tables<'a, A> {
         ensures state { self.new.state ≡ after self.old.plan self.old.state (Thirst job) }
         ensures plan { self.new.plan ≡ self.old.plan }
     {
+        // no job has more than 1000 sessions, as this call ensures: so the next number is in range
         let _ = self.plan().sessions(job);
         let phase = self.phase(job);
         let thirsty = JobState {

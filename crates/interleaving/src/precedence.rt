@@ -4,6 +4,7 @@ ghost use Rattle.std.specs.List.{Contains};
 ghost use Rattle.cycles.specs.Cycles.{IsAmong, AreBelow};
 ghost use Rattle.lab_plan.specs.LabPlan.{edges};
 ghost use Rattle.legal_steps.specs.Precedence.{Precedes, PrecedesOn};
+ghost use Rattle.interleaving.specs.Pairs.{IsPrecedenceByEdge};
 
 use crate::tables::Tables;
 use lab_plan::{EdgeNo, JobNo};
@@ -46,16 +47,18 @@ impl<'a, A: Allocator> Tables<'a, A> {
         false
     }
 
-    // The pairs of jobs of which the first precedes the second.
+    // The pairs of jobs of which the first precedes the second, by edge number.
     pub(crate) fn precedence<B: Allocator>(
         &self,
         alloc: B,
     ) -> Result<Vec<(JobNo, JobNo), B>, AllocError>
+        ensures by_edge { IfOk result (λ pairs. IsPrecedenceByEdge self.now.plan self.now.state pairs.items) }
         ensures pairs { IfOk result (λ pairs. (a b : ℕ) → IsAmong pairs.items a b ↔ Precedes self.now.plan self.now.state a b) }
         ensures below { IfOk result (λ pairs. AreBelow (length self.now.plan.jobs) pairs.items) }
     {
         let mut pairs = Vec::new(alloc);
-        for edge in 0..self.plan().edges() {
+        let edges = self.plan().edges();
+        for edge in 0..edges {
             pairs.push(self.order(EdgeNo(edge)))?;
         }
         Ok(pairs)

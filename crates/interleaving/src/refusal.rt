@@ -1,6 +1,6 @@
 // Why a world isn't started.
 use cycles::NoMemory;
-use std::alloc::{AllocError, AllocFailed};
+use std::alloc::AllocError;
 
 /// Why a world isn't started. Of several reasons the first in this order is given.
 #[derive(Clone, Copy, PartialEq, Eq, Debug)]
@@ -20,17 +20,6 @@ impl From<AllocError> for StartRefusal {
     ghost from_gives = { λ _ refusal. refusal ≡ refusals.NoMemory };
 
     fn from(_error: AllocError) -> StartRefusal {
-        StartRefusal::NoMemory
-    }
-}
-
-impl<T: Drop> From<AllocFailed<T>> for StartRefusal {
-    ghost use Rattle.std.specs.Prelude.{◌≡◌};
-    ghost use Rattle.interleaving.specs.declared.refusal.StartRefusal.TheVariants as refusals;
-
-    ghost from_gives = { λ _ refusal. refusal ≡ refusals.NoMemory };
-
-    fn from(_error: AllocFailed<T>) -> StartRefusal {
         StartRefusal::NoMemory
     }
 }

@@ -1,13 +1,11 @@
 // What a job sees: its edges, and how far others are.
-ghost use Rattle.std.specs.Prelude.{◌≡◌, ℕ, ◌<◌, ◌↔◌, IsTrue, length};
-ghost use Rattle.lab_plan.specs.LabPlan.{edges};
+ghost use Rattle.std.specs.Prelude.{◌≡◌, ◌↔◌, IsTrue};
 ghost use Rattle.legal_steps.specs.declared.event.Event.TheVariants.{Look, Glance};
-ghost use Rattle.legal_steps.specs.State.{IsOfEdge, bottles_at, edge as edge_at};
-ghost use Rattle.legal_steps.specs.Legal.{May, after, fork_mark_seen};
+ghost use Rattle.legal_steps.specs.Legal.{May, after};
 
 use crate::tables::Tables;
 use lab_plan::{EdgeNo, JobNo};
-use legal_steps::{Dining, EdgeState, End, JobState};
+use legal_steps::{EdgeState, JobState};
 use std::alloc::Allocator;
 
 impl<'a, A: Allocator> Tables<'a, A> {
@@ -23,40 +21,15 @@ impl<'a, A: Allocator> Tables<'a, A> {
         ensures plan { self.new.plan ≡ self.old.plan }
     {
         let here = self.own_end(job, edge);
-        let mark = fork_mark_seen(self.phase(job).dining, here, self.edge(edge));
-        let marks = self.bottles_at(edge, here);
+        let state = self.edge(edge);
+        let mark = state.fork_mark(here, self.phase(job).dining);
+        let marks = state.bottles_at(self.plan(), edge, here);
         self.set_marks(job, edge, mark, marks);
-    }
-
-    // The bottles that are at this end of the edge.
-    #[tactic(auto, unfolding(legal_steps::specs::State::bottles_at), using(std::proofs::lemmas::Nat::xor_lt))]
-    fn bottles_at(&self, edge: EdgeNo, here: End) -> u32
-        requires { edge < length (edges self.now.plan) }
-        ensures bottles { result ≡ bottles_at self.now.plan edge here (edge_at self.now.state edge) }
-        ensures of_edge { IsOfEdge self.now.plan edge result }
-    {
-        let higher = self.edge(edge).bottles;
-        match here {
-            End::Higher => higher,
-            End::Lower => ((1u32 << self.bottles(edge)) - 1) ^ higher,
-        }
     }
 
     pub(crate) fn may_glance(&self, job: JobNo, other: JobNo, seen: JobState) -> bool
         ensures { IsTrue result ↔ May self.now.plan self.now.state (Glance job other seen) }
     {
         self.is_job(job) && self.is_job(other) && other != job && self.phase(other) == seen
-    }
-}
-
-// What a look sets the fork mark to.
-#[tactic(auto, unfolding(legal_steps::specs::Legal::fork_mark_seen))]
-fn fork_mark_seen(dining: Dining, here: End, seen: EdgeState) -> bool
-    ensures { result ≡ fork_mark_seen dining here seen }
-{
-    if dining == Dining::Eating {
-        seen.fork == here && seen.dirty
-    } else {
-        seen.fork == here && (!seen.dirty || seen.token != here)
     }
 }

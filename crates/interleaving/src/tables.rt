@@ -111,12 +111,7 @@ impl<'a, A: Allocator> Tables<'a, A> {
         ensures end { result ≡ end_of self.now.plan job edge }
         ensures is_job { IsJob self.now.plan job }
     {
-        let (lower, _) = self.plan.ends(edge);
-        if lower == job {
-            End::Lower
-        } else {
-            End::Higher
-        }
+        End::of(self.plan, job, edge)
     }
 
     pub(crate) fn edge(&self, edge: EdgeNo) -> EdgeState

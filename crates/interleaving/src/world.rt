@@ -4,6 +4,7 @@ ghost use Rattle.cycles.specs.Cycles.{IsAmong, AreBelow};
 ghost use Rattle.lab_plan.specs.LabPlan.{edges};
 ghost use Rattle.legal_steps.specs.State.{IsOwn, edge as edge_at, phase as phase_at, fork_mark as fork_mark_at, bottle_marks as bottle_marks_at};
 ghost use Rattle.legal_steps.specs.Legal.{IsJob, May};
+ghost use Rattle.interleaving.specs.Pairs.{IsPrecedenceByEdge};
 ghost use Rattle.interleaving.specs.Rooms.{log_with_room};
 ghost use Rattle.interleaving.specs.Counting.{count_at};
 ghost use Rattle.interleaving.specs.World.{IsReachedWith, Steps, Replays};
@@ -161,6 +162,7 @@ impl<'a, A: Allocator> World<'a, A> {
     /// The pairs of jobs of which the first precedes the second: one for each edge, by edge number
     /// (Chandy and Misra 1984). Only the answer takes memory.
     pub fn precedence<B: Allocator>(&self, alloc: B) -> Result<Vec<(JobNo, JobNo), B>, NoMemory>
+        ensures by_edge { IfOk result (λ pairs. IsPrecedenceByEdge self.now.plan self.now.state pairs.items) }
         ensures pairs { IfOk result (λ pairs. (a b : ℕ) → IsAmong pairs.items a b ↔ Precedes self.now.plan self.now.state a b) }
         ensures below { IfOk result (λ pairs. AreBelow (length self.now.plan.jobs) pairs.items) }
     {

@@ -9,7 +9,7 @@ use Rattle.legal_steps.specs.State.{State, job_at_end}
 use Rattle.legal_steps.specs.Opening.{IsOpening}
 use Rattle.legal_steps.specs.Run.{IsLegalFrom, after_all}
 use Rattle.legal_steps.specs.Things.{Thing, Fork, Token, Bottle, BottleToken, thing_end, IsThingOf, StandsAtOne}
-use Rattle.legal_steps.specs.Laws.{StaysWithinPlan, MarksAreTruthful, HasOneHolder, HasOnePlace, HasNoCycle, TheOpeningIsAcyclic, OpeningsAreChosen}
+use Rattle.legal_steps.specs.Laws.{StaysWithinPlan, MarksAreTruthful, HasOneHolder, HasOnePlace, StaysAcyclic, TheOpeningIsAcyclic, OpeningsAreChosen}
 use Rattle.legal_steps.proofs.RunLemmas.{legal_take}
 use Rattle.legal_steps.proofs.ExclusionLaw.{exclusive}
 use Rattle.legal_steps.proofs.ReachedInvariant.{IsSound, sound_opening, sound_after_all, truthful, acyclic_after_all}
@@ -43,8 +43,8 @@ stands_at_one plan s e (BottleToken k) own = at_one plan e (thing_end s e (Bottl
 pub has_one_place : HasOnePlace
 has_one_place plan opening events n is_plan opens legal e thing own = stands_at_one plan (after_all plan opening (take n events)) e thing own
 
-pub has_no_cycle : HasNoCycle
-has_no_cycle plan opening events n is_plan opens acyclic legal = acyclic_after_all plan opening (take n events) (sound_opening plan opening opens) acyclic (legal_take plan opening events n legal)
+pub stays_acyclic : StaysAcyclic
+stays_acyclic plan opening events n is_plan opens acyclic legal = acyclic_after_all plan opening (take n events) (sound_opening plan opening opens) acyclic (legal_take plan opening events n legal)
 
 pub the_opening_is_acyclic : TheOpeningIsAcyclic
 the_opening_is_acyclic plan = (the_opening_opens plan, the_opening_acyclic plan)

@@ -1,5 +1,11 @@
 // Where the things of an edge are.
+ghost use Rattle.std.specs.Prelude.{◌≡◌, ◌<◌, length};
+ghost use Rattle.lab_plan.specs.LabPlan.{edges};
+
 use crate::end::End;
+use crate::phase::Dining;
+use lab_plan::{EdgeNo, Plan};
+use std::alloc::Allocator;
 
 /// Where the things of an edge are: its fork, the fork's request token, the bottles and their tokens.
 /// A set of bottles is a number, in which bit `k` stands for bottle `k` of the edge, below 28.
@@ -15,6 +21,37 @@ pub struct EdgeState {
     pub bottles: u32,
     /// The bottles whose request tokens are at the higher end.
     pub bottle_tokens: u32,
+}
+
+impl EdgeState {
+    ghost use Rattle.legal_steps.specs.State.{IsOfEdge, bottles_at};
+    ghost use Rattle.legal_steps.specs.Legal.{fork_mark_seen};
+
+    /// Whether a look from this end, of a job that dines so, sets the mark for the fork: where the fork is
+    /// here and its neighbour has no claim to it, or where it is here and dirty while the job eats.
+    #[tactic(auto, unfolding(crate::specs::Legal::fork_mark_seen))]
+    pub fn fork_mark(self, here: End, dining: Dining) -> bool
+        ensures { result ≡ fork_mark_seen dining here self }
+    {
+        if dining == Dining::Eating {
+            self.fork == here && self.dirty
+        } else {
+            self.fork == here && (!self.dirty || self.token != here)
+        }
+    }
+
+    /// The bottles that are at this end of the edge; bit `k` for bottle `k`. A look from here sets marks for these.
+    #[tactic(auto, unfolding(crate::specs::State::bottles_at), using(std::proofs::lemmas::Nat::xor_lt))]
+    pub fn bottles_at<A: Allocator>(self, plan: &Plan<A>, edge: EdgeNo, here: End) -> u32
+        requires { edge < length (edges plan.now) }
+        ensures bottles { result ≡ bottles_at plan.now edge here self }
+        ensures of_edge { IsOfEdge plan.now edge self.bottles → IsOfEdge plan.now edge result }
+    {
+        match here {
+            End::Higher => self.bottles,
+            End::Lower => ((1u32 << plan.bottles(edge)) - 1) ^ self.bottles,
+        }
+    }
 }
 
 /// Where the things of one edge start. Every fork starts dirty, every request token at the end

@@ -1,6 +1,9 @@
 // The two ends of an edge.
 ghost use Rattle.std.specs.Prelude.{◌≡◌};
 
+use lab_plan::{EdgeNo, JobNo, Plan};
+use std::alloc::Allocator;
+
 /// An end of an edge: that of its lower job (end 0) or of its higher job (end 1).
 #[derive(Clone, Copy, PartialEq, Eq, Debug)]
 pub enum End {
@@ -11,7 +14,22 @@ pub enum End {
 }
 
 impl End {
-    ghost use Rattle.legal_steps.specs.State.{opposite};
+    ghost use Rattle.legal_steps.specs.State.{IsOwn, end_of, opposite};
+    ghost use Rattle.legal_steps.specs.Legal.{IsJob};
+
+    /// The end at which the job sits, of one of its edges.
+    pub fn of<A: Allocator>(plan: &Plan<A>, job: JobNo, edge: EdgeNo) -> End
+        requires { IsOwn plan.now job edge }
+        ensures end { result ≡ end_of plan.now job edge }
+        ensures is_job { IsJob plan.now job }
+    {
+        let (lower, _) = plan.ends(edge);
+        if lower == job {
+            End::Lower
+        } else {
+            End::Higher
+        }
+    }
 
     /// The other end.
     pub fn other(self) -> End

@@ -3,7 +3,8 @@ use crate::edge_state::EdgeState;
 use crate::phase::JobState;
 use lab_plan::{EdgeNo, JobNo};
 
-/// One atomic step of a job, with what it saw.
+/// One atomic step, with what it saw. The first number is that of the job that acts; a set of bottles is a number
+/// in which bit `k` stands for bottle `k` of the edge.
 #[derive(Clone, Copy, PartialEq, Eq, Debug)]
 pub enum Event {
     /// The job reads an edge of its own, and sets or clears its marks for it.
@@ -36,7 +37,7 @@ pub enum Event {
     Quit(JobNo),
     /// Has no session left.
     Retire(JobNo),
-    /// Reads how far another job is.
+    /// The first job reads how far the second is.
     Glance(JobNo, JobNo, JobState),
     /// Gives up a session that has a patience.
     Withdraw(JobNo),

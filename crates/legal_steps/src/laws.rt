@@ -1,5 +1,5 @@
 // The laws of marks, instruments, things and precedence. Each is the contract of a function that does nothing.
-ghost use Rattle.legal_steps.specs.Laws.{HasNoCycle, HasOneHolder, HasOnePlace, MarksAreTruthful, OpeningsAreChosen, StaysWithinPlan, TheOpeningIsAcyclic};
+ghost use Rattle.legal_steps.specs.Laws.{HasOneHolder, HasOnePlace, MarksAreTruthful, OpeningsAreChosen, StaysAcyclic, StaysWithinPlan, TheOpeningIsAcyclic};
 
 /// After each beginning of a legal list of events, all numbers of the state are the plan's:
 /// its lists are as long as the plan has edges, jobs and instruments, its sets name bottles of their edge alone,
@@ -29,9 +29,9 @@ pub fn one_place()
 
 /// After each beginning of a list of events that is legal from an opening state without a cycle of precedence,
 /// precedence has no cycle (Chandy and Misra 1984).
-#[tactic(auto, using(crate::proofs::ReachedLaws::has_no_cycle))]
+#[tactic(auto, using(crate::proofs::ReachedLaws::stays_acyclic))]
 pub fn no_cycle()
-    ensures { HasNoCycle }
+    ensures { StaysAcyclic }
 {}
 
 /// THE opening, with every fork and bottle at the lower job, is an opening state, and has no cycle of precedence:

@@ -12,7 +12,7 @@ use Rattle.interleaving.specs.declared.counts.Counts.{Counts}
 use Rattle.interleaving.specs.World.{IsReachedWith}
 use Rattle.interleaving.proofs.WorldLemmas.{is_reached}
 use Rattle.overtaking.specs.Stuck.{IsMove, IsWayOn, IsUpToDate, AllRetired}
-use Rattle.overtaking.specs.Ways.{HasNoPhases, HasNoForks, HasNoBottles}
+use Rattle.overtaking.specs.Ways.{HasNoPhaseWays, HasNoForkWays, HasNoBottleWays}
 use Rattle.overtaking.proofs.Wanted.{IsWanted, wanted_opening, wanted_after_all}
 use Rattle.overtaking.proofs.Moves.{move_leads_on, look_leads_on}
 use Rattle.overtaking.proofs.Quiet.{all_retired}
@@ -25,7 +25,7 @@ pub world_look : (plan : LabPlan) (s : State) (counts : List Counts) (j e : ℕ)
 world_look plan s counts j e h own stale = look_leads_on plan s j e (reached_fits plan s (is_reached plan s counts h)) own stale
 
 -- where no way on is left all jobs are retired
-pub world_at_end : (plan : LabPlan) (s : State) (counts : List Counts) → IsReachedWith plan s counts → HasNoPhases plan s → HasNoForks plan s → HasNoBottles plan s → AllRetired plan s
+pub world_at_end : (plan : LabPlan) (s : State) (counts : List Counts) → IsReachedWith plan s counts → HasNoPhaseWays plan s → HasNoForkWays plan s → HasNoBottleWays plan s → AllRetired plan s
 world_at_end plan s counts h phases forks bottles =
     let reached = is_reached plan s counts h in
     let opened = sound_opening plan h.opening h.is_opening in

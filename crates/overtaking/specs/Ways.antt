@@ -7,7 +7,7 @@ use Rattle.legal_steps.specs.Legal.{IsJob, May}
 use Rattle.overtaking.specs.Stuck.{IsUpToDate}
 
 -- the job can't go on by itself
-pub record HasNoPhase (plan : LabPlan) (s : State) (j : ℕ) : Type 0 where
+pub record HasNoPhaseWay (plan : LabPlan) (s : State) (j : ℕ) : Type 0 where
   pub no_quit : ¬ May plan s (Quit j)
   pub no_reach : ¬ May plan s (Reach j)
   pub no_act : ¬ May plan s (Act j)
@@ -19,26 +19,26 @@ pub record HasNoPhase (plan : LabPlan) (s : State) (j : ℕ) : Type 0 where
   pub no_retire : ¬ May plan s (Retire j)
 
 -- its marks for the edge are up to date, and it can do nothing with the fork
-pub record HasNoFork (plan : LabPlan) (s : State) (j e : ℕ) : Type 0 where
+pub record HasNoForkWay (plan : LabPlan) (s : State) (j e : ℕ) : Type 0 where
   pub up_to_date : IsUpToDate plan s j e
   pub no_soil : ¬ May plan s (Soil j e)
   pub no_give : ¬ May plan s (GiveFork j e)
   pub no_ask : ¬ May plan s (AskFork j e)
 
 -- it can do nothing with a bottle
-pub record HasNoBottleOf (plan : LabPlan) (s : State) (j e k : ℕ) : Type 0 where
+pub record HasNoBottleWayOf (plan : LabPlan) (s : State) (j e k : ℕ) : Type 0 where
   pub no_give : ¬ May plan s (GiveBottles j e (2 ^ k))
   pub no_ask : ¬ May plan s (AskBottles j e (2 ^ k))
 
-abbrev pub HasNoBottle : LabPlan → State → ℕ → ℕ → Type 0
-HasNoBottle plan s j e = (k : ℕ) → k < length (bottles plan e) → HasNoBottleOf plan s j e k
+abbrev pub HasNoBottleWay : LabPlan → State → ℕ → ℕ → Type 0
+HasNoBottleWay plan s j e = (k : ℕ) → k < length (bottles plan e) → HasNoBottleWayOf plan s j e k
 
 -- the same for all jobs, and for both jobs of all edges
-abbrev pub HasNoPhases : LabPlan → State → Type 0
-HasNoPhases plan s = (j : ℕ) → IsJob plan j → HasNoPhase plan s j
+abbrev pub HasNoPhaseWays : LabPlan → State → Type 0
+HasNoPhaseWays plan s = (j : ℕ) → IsJob plan j → HasNoPhaseWay plan s j
 
-abbrev pub HasNoForks : LabPlan → State → Type 0
-HasNoForks plan s = (j e : ℕ) → IsOwn plan j e → HasNoFork plan s j e
+abbrev pub HasNoForkWays : LabPlan → State → Type 0
+HasNoForkWays plan s = (j e : ℕ) → IsOwn plan j e → HasNoForkWay plan s j e
 
-abbrev pub HasNoBottles : LabPlan → State → Type 0
-HasNoBottles plan s = (j e : ℕ) → IsOwn plan j e → HasNoBottle plan s j e
+abbrev pub HasNoBottleWays : LabPlan → State → Type 0
+HasNoBottleWays plan s = (j e : ℕ) → IsOwn plan j e → HasNoBottleWay plan s j e

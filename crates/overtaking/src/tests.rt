@@ -74,12 +74,32 @@ fn put_command<T: Allocator + Copy>(
     builder.command(name, verb)
 }
 
-fn plan_of<T: Allocator + Copy>(
-    rt: &impl Abort,
-    mut builder: PlanBuilder<T>,
-    lines: &[Line],
-) -> Plan<T> {
-    for line in lines {
+/// The benches that the tests run.
+#[derive(Clone, Copy)]
+enum Bench {
+    Nobody,
+    Two,
+    Twice,
+    Impatient,
+    Three,
+}
+
+fn lines_of(bench: Bench) -> &'static [Line<'static>] {
+    match bench {
+        Bench::Nobody => &[],
+        Bench::Two => &TWO,
+        Bench::Twice => &TWICE,
+        Bench::Impatient => &IMPATIENT,
+        Bench::Three => &THREE,
+    }
+}
+
+fn plan_of<T: Allocator + Copy>(rt: &impl Abort, alloc: T, bench: Bench) -> Plan<T> {
+    let mut builder = match bench {
+        Bench::Impatient => PlanBuilder::new_two(alloc),
+        _ => PlanBuilder::new(alloc),
+    };
+    for line in lines_of(bench) {
         assert!(rt; put(rt, &mut builder, *line).is_ok());
     }
     match builder.finish() {
@@ -160,8 +180,8 @@ fn go_on<T: Allocator, V: Allocator>(
     doings: &[Doing],
 ) -> Result<(), AllocError> {
     for doing in doings {
-        events.push(event_of(rt, world, *doing))?;
         let event = event_of(rt, world, *doing);
+        events.push(event)?;
         assert!(rt; world.step(event).is_ok());
     }
     Ok(())
@@ -198,9 +218,7 @@ fn leads_on<T: Allocator + Copy>(
     choices: &[EndChoice],
     events: &[Event],
 ) -> bool {
-    let Ok(mut world) = World::start(alloc, plan, choices) else {
-        panic!(rt; "no start");
-    };
+    let mut world = start(rt, alloc, plan, choices);
     assert!(rt; world.replay(events).is_ok());
     match way_on(&world) {
         Some(event) => {
@@ -298,12 +316,13 @@ const MEAL: [Doing; 3] = [
     Doing::Event(Event::Soil(A, AB)),
 ];
 
-fn triangle_world<'a, T: Allocator + Copy>(
+fn start<'a, T: Allocator + Copy>(
     rt: &impl Abort,
     alloc: T,
     plan: &'a Plan<T>,
+    choices: &[EndChoice],
 ) -> World<'a, T> {
-    match World::start(alloc, plan, &FORKS_HIGHER) {
+    match World::start(alloc, plan, choices) {
         Ok(world) => world,
         Err(_) => panic!(rt; "no start"),
     }

@@ -5,7 +5,7 @@ ghost use Rattle.lab_plan.specs.LabPlan.{edges, bottles};
 ghost use Rattle.legal_steps.specs.State.{IsOwn};
 ghost use Rattle.legal_steps.specs.Legal.{IsJob, May};
 ghost use Rattle.overtaking.specs.Stuck.{AllRetired, IsMove, IsWayOn};
-ghost use Rattle.overtaking.specs.Ways.{HasNoPhase, HasNoFork, HasNoBottle, HasNoPhases, HasNoForks, HasNoBottles};
+ghost use Rattle.overtaking.specs.Ways.{HasNoPhaseWay, HasNoForkWay, HasNoBottleWay, HasNoPhaseWays, HasNoForkWays, HasNoBottleWays};
 
 use crate::marks::is_up_to_date;
 use interleaving::{Drinking, Event, World};
@@ -21,6 +21,7 @@ pub fn way_on<A: Allocator>(world: &World<'_, A>) -> Option<Event>
     ensures not_at_end { IfSome result (λ _. ¬ AllRetired world.now.plan world.now.state) }
     ensures end { IfNone result (AllRetired world.now.plan world.now.state) }
 {
+    // this call ensures that the state is reached, so that the laws of such states hold
     let _ = world.plan();
     if are_all_retired(world) {
         return None;
@@ -51,6 +52,7 @@ fn first_legal<A: Allocator>(world: &World<'_, A>, events: &[Event]) -> Option<E
     ensures leads_on { IfSome result (λ event. IsWayOn world.now.plan world.now.state event) }
     ensures none { IfNone result (All (λ event. ¬ May world.now.plan world.now.state event) events.now) }
 {
+    // this call ensures that the state is reached, so that the laws of such states hold
     let _ = world.plan();
     for event in events {
         if world.enabled(*event) {
@@ -64,7 +66,7 @@ fn first_legal<A: Allocator>(world: &World<'_, A>, events: &[Event]) -> Option<E
 #[tactic(auto, using(crate::proofs::Ways::no_phase_of))]
 fn phase_way<A: Allocator>(world: &World<'_, A>, job: JobNo) -> Option<Event>
     ensures leads_on { IfSome result (λ event. IsWayOn world.now.plan world.now.state event) }
-    ensures none { IfNone result (HasNoPhase world.now.plan world.now.state job) }
+    ensures none { IfNone result (HasNoPhaseWay world.now.plan world.now.state job) }
 {
     first_legal(
         world,
@@ -85,7 +87,7 @@ fn phase_way<A: Allocator>(world: &World<'_, A>, job: JobNo) -> Option<Event>
 // What any job can do by itself.
 fn any_phase<A: Allocator>(world: &World<'_, A>) -> Option<Event>
     ensures leads_on { IfSome result (λ event. IsWayOn world.now.plan world.now.state event) }
-    ensures none { IfNone result (HasNoPhases world.now.plan world.now.state) }
+    ensures none { IfNone result (HasNoPhaseWays world.now.plan world.now.state) }
 {
     for job in 0..world.plan().jobs() {
         if let Some(event) = phase_way(world, JobNo(job as u8)) {
@@ -100,8 +102,9 @@ fn any_phase<A: Allocator>(world: &World<'_, A>) -> Option<Event>
 fn fork_way<A: Allocator>(world: &World<'_, A>, job: JobNo, edge: EdgeNo) -> Option<Event>
     requires { IsOwn world.now.plan job edge }
     ensures leads_on { IfSome result (λ event. IsWayOn world.now.plan world.now.state event) }
-    ensures none { IfNone result (HasNoFork world.now.plan world.now.state job edge) }
+    ensures none { IfNone result (HasNoForkWay world.now.plan world.now.state job edge) }
 {
+    // this call ensures that the state is reached, so that the laws of such states hold
     let _ = world.plan();
     if !is_up_to_date(world, job, edge) {
         return Some(Event::Look(job, edge, world.edge(edge)));
@@ -119,7 +122,7 @@ fn fork_way<A: Allocator>(world: &World<'_, A>, job: JobNo, edge: EdgeNo) -> Opt
 // The same on any edge, for both its jobs.
 fn any_fork<A: Allocator>(world: &World<'_, A>) -> Option<Event>
     ensures leads_on { IfSome result (λ event. IsWayOn world.now.plan world.now.state event) }
-    ensures none { IfNone result (HasNoForks world.now.plan world.now.state) }
+    ensures none { IfNone result (HasNoForkWays world.now.plan world.now.state) }
 {
     for number in 0..world.plan().edges() {
         let edge = EdgeNo(number);
@@ -138,7 +141,7 @@ fn any_fork<A: Allocator>(world: &World<'_, A>) -> Option<Event>
 fn bottle_way<A: Allocator>(world: &World<'_, A>, job: JobNo, edge: EdgeNo) -> Option<Event>
     requires { IsOwn world.now.plan job edge }
     ensures leads_on { IfSome result (λ event. IsWayOn world.now.plan world.now.state event) }
-    ensures none { IfNone result (HasNoBottle world.now.plan world.now.state job edge) }
+    ensures none { IfNone result (HasNoBottleWay world.now.plan world.now.state job edge) }
 {
     for bottle in 0..world.plan().bottles(edge) {
         let one = 1u32 << bottle;
@@ -156,7 +159,7 @@ fn bottle_way<A: Allocator>(world: &World<'_, A>, job: JobNo, edge: EdgeNo) -> O
 // The same on any edge, for both its jobs.
 fn any_bottle<A: Allocator>(world: &World<'_, A>) -> Option<Event>
     ensures leads_on { IfSome result (λ event. IsWayOn world.now.plan world.now.state event) }
-    ensures none { IfNone result (HasNoBottles world.now.plan world.now.state) }
+    ensures none { IfNone result (HasNoBottleWays world.now.plan world.now.state) }
 {
     for number in 0..world.plan().edges() {
         let edge = EdgeNo(number);

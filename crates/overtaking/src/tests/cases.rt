@@ -1,30 +1,34 @@
 // Meals and rankings.
 use super::{
-    A, AB, AC, B, BC, BOTH_SIT, C, FORKS_COME, MEAL, STALE_MARK, THREE, TWICE, go_on, overtaking,
-    plan_of, triangle_world,
+    A, AB, AC, ALL_LOWER, B, BC, BOTH_SIT, Bench, C, Doing, FORKS_COME, FORKS_HIGHER, MEAL,
+    STALE_MARK, event_of, go_on, overtaking, plan_of, start,
 };
 use crate::laws::{never_stuck, no_cycle, overtaken_once, quiet_is_retired};
 use crate::{NoMemory, ranking};
 use interleaving::{End, EndChoice, Event, StartRefusal, World, cycle_in};
-use lab_plan::{EdgeNo, JobNo, PlanBuilder};
+use lab_plan::{EdgeNo, JobNo};
 use linked_list_allocator::LocalHeap;
 use std::alloc::Allocator;
 use std::process::Abort;
 use std::test::Fail;
 
+/// The overtaking at a request, while the job with the stale mark has to wait, and after it ate once more.
+fn overtakes_once<T: Allocator + Copy>(rt: &impl Abort, alloc: T) -> Result<(), Fail> {
+    let plan = plan_of(rt, alloc, Bench::Twice);
+    let mut world = start(rt, alloc, &plan, &ALL_LOWER);
+    let mut events = Vec::new(alloc);
+    go_on(rt, &mut world, &mut events, &STALE_MARK)?;
+    assert!(rt; world.step(Event::Sit(A)).is_err());
+    assert!(rt; overtaking(rt, &plan, &events, 5, B) == 1);
+    go_on(rt, &mut world, &mut events, &BOTH_SIT)?;
+    assert!(rt; overtaking(rt, &plan, &events, 5, B) == 1);
+    assert!(rt; overtaking(rt, &plan, &events, 23, A) == 0);
+    Ok(())
+}
+
 #[test]
 fn stale_mark(rt: HostRuntime) -> Result<(), Fail> {
-    let alloc = rt.alloc();
-    let plan = plan_of(&rt, PlanBuilder::new(alloc), &TWICE);
-    let mut world = World::opening(alloc, &plan)?;
-    let mut events = Vec::new(alloc);
-    go_on(&rt, &mut world, &mut events, &STALE_MARK)?;
-    assert!(rt; world.step(Event::Sit(A)).is_err());
-    assert!(rt; overtaking(&rt, &plan, &events, 5, B) == 1);
-    go_on(&rt, &mut world, &mut events, &BOTH_SIT)?;
-    assert!(rt; overtaking(&rt, &plan, &events, 5, B) == 1);
-    assert!(rt; overtaking(&rt, &plan, &events, 23, A) == 0);
-    Ok(())
+    overtakes_once(&rt, rt.alloc())
 }
 
 fn ranks<T: Allocator + Copy>(
@@ -39,22 +43,32 @@ fn ranks<T: Allocator + Copy>(
     }
 }
 
+/// Each of these events, and the same ranking after each.
+fn keeps_ranking<T: Allocator + Copy>(
+    rt: &impl Abort,
+    alloc: T,
+    world: &mut World<'_, T>,
+    doings: &[Doing],
+    wanted: [JobNo; 3],
+) {
+    for doing in doings {
+        let event = event_of(rt, world, *doing);
+        assert!(rt; world.step(event).is_ok());
+        assert!(rt; ranks(rt, alloc, world, wanted));
+    }
+}
+
+fn turns_with_meals<T: Allocator + Copy>(rt: &impl Abort, alloc: T) {
+    let plan = plan_of(rt, alloc, Bench::Three);
+    let mut world = start(rt, alloc, &plan, &FORKS_HIGHER);
+    assert!(rt; ranks(rt, alloc, &world, [A, B, C]));
+    keeps_ranking(rt, alloc, &mut world, &FORKS_COME, [A, B, C]);
+    keeps_ranking(rt, alloc, &mut world, &MEAL, [B, C, A]);
+}
+
 #[test]
-fn triangle(rt: HostRuntime) -> Result<(), Fail> {
-    let alloc = rt.alloc();
-    let plan = plan_of(&rt, PlanBuilder::new(alloc), &THREE);
-    let mut world = triangle_world(&rt, alloc, &plan);
-    let mut events = Vec::new(alloc);
-    assert!(rt; ranks(&rt, alloc, &world, [A, B, C]));
-    for doing in FORKS_COME {
-        go_on(&rt, &mut world, &mut events, &[doing])?;
-        assert!(rt; ranks(&rt, alloc, &world, [A, B, C]));
-    }
-    for doing in MEAL {
-        go_on(&rt, &mut world, &mut events, &[doing])?;
-        assert!(rt; ranks(&rt, alloc, &world, [B, C, A]));
-    }
-    Ok(())
+fn triangle(rt: HostRuntime) {
+    turns_with_meals(&rt, rt.alloc());
 }
 
 /// Who would precede on the edge if only dirt counted: of a dirty fork the job without it.
@@ -77,27 +91,49 @@ fn begin_meal<T: Allocator + Copy>(rt: &impl Abort, alloc: T, world: &mut World<
 }
 
 /// During the meal dirt alone would put each job before the next, and the last before the first.
-#[test]
-fn triangle_by_dirt_alone(rt: HostRuntime) -> Result<(), Fail> {
-    let alloc = rt.alloc();
-    let plan = plan_of(&rt, PlanBuilder::new(alloc), &THREE);
-    let mut world = triangle_world(&rt, alloc, &plan);
-    begin_meal(&rt, alloc, &mut world);
+fn goes_round_by_dirt<T: Allocator + Copy>(rt: &impl Abort, alloc: T) {
+    let plan = plan_of(rt, alloc, Bench::Three);
+    let mut world = start(rt, alloc, &plan, &FORKS_HIGHER);
+    begin_meal(rt, alloc, &mut world);
     for (edge, before, after) in [(AB, A, B), (BC, B, C), (AC, C, A)] {
-        assert!(rt; by_dirt(&rt, &world, edge) == (before, after));
+        assert!(rt; by_dirt(rt, &world, edge) == (before, after));
     }
+}
+
+#[test]
+fn triangle_by_dirt_alone(rt: HostRuntime) {
+    goes_round_by_dirt(&rt, rt.alloc());
+}
+
+/// Each job before the next, and the last before the first.
+const RING: [EndChoice; 3] = [
+    EndChoice {
+        fork: End::Lower,
+        bottles: 0,
+    },
+    EndChoice {
+        fork: End::Higher,
+        bottles: 0,
+    },
+    EndChoice {
+        fork: End::Lower,
+        bottles: 0,
+    },
+];
+
+fn has_start<T: Allocator + Copy>(
+    rt: &impl Abort,
+    alloc: T,
+    choices: &[EndChoice],
+) -> Result<(), StartRefusal> {
+    let plan = plan_of(rt, alloc, Bench::Three);
+    World::start(alloc, &plan, choices)?;
     Ok(())
 }
 
-/// Each job before the next, and the last before the first: no world starts so.
 #[test]
-fn triangle_in_a_ring(rt: HostRuntime) -> Result<(), Fail> {
-    let alloc = rt.alloc();
-    let plan = plan_of(&rt, PlanBuilder::new(alloc), &THREE);
-    let at = |fork| EndChoice { fork, bottles: 0 };
-    let ring = [at(End::Lower), at(End::Higher), at(End::Lower)];
-    assert!(rt; matches!(World::start(alloc, &plan, &ring), Err(StartRefusal::Cycle)));
-    Ok(())
+fn no_world_starts_in_a_ring(rt: HostRuntime) {
+    assert!(rt; has_start(&rt, rt.alloc(), &RING) == Err(StartRefusal::Cycle));
 }
 
 /// The laws are contracts: what is called does nothing.
@@ -122,8 +158,8 @@ fn dirt_alone_has_a_cycle(rt: HostRuntime) -> Result<(), Fail> {
 
 /// Whether a ranking finds room on the heap; if so, it is the right one.
 fn has_room<T: Allocator + Copy>(rt: &impl Abort, alloc: T, heap: &LocalHeap) -> bool {
-    let plan = plan_of(rt, PlanBuilder::new(alloc), &THREE);
-    let world = triangle_world(rt, alloc, &plan);
+    let plan = plan_of(rt, alloc, Bench::Three);
+    let world = start(rt, alloc, &plan, &FORKS_HIGHER);
     match ranking(heap, &world) {
         Ok(order) => {
             assert!(rt; order.as_slice() == [A, B, C].as_slice());

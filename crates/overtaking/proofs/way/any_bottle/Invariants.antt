@@ -1,7 +1,7 @@
 use Rattle.std.proofs.Common.{◌<◌, ℕ}
 use Rattle.legal_steps.specs.State.{IsOwn}
-use Rattle.overtaking.specs.Ways.{HasNoBottle}
+use Rattle.overtaking.specs.Ways.{HasNoBottleWay}
 use Rattle.overtaking.proofs.way.any_bottle.Given as goal
 
 abbrev pub invariant-loop-number : goal.invariant-loop-number
-invariant-loop-number g l = (j e : ℕ) → e < l.number → IsOwn l.world.plan j e → HasNoBottle l.world.plan l.world.state j e
+invariant-loop-number g l = (j e : ℕ) → e < l.number → IsOwn l.world.plan j e → HasNoBottleWay l.world.plan l.world.state j e

@@ -1,6 +1,6 @@
 use Rattle.std.proofs.Common.{◌≡◌, arith, inl, inr, subst}
 use Rattle.std.proofs.lemmas.Bool.{cases_lt}
-use Rattle.overtaking.specs.Ways.{HasNoPhase}
+use Rattle.overtaking.specs.Ways.{HasNoPhaseWay}
 use Rattle.overtaking.proofs.way.any_phase.Goals as goal
 
 pub loop-job-preserved : goal.loop-job-preserved
@@ -8,5 +8,5 @@ loop-job-preserved g c = λ j below. elim (cases_lt j c.loop-job.job) [
   | inl before ↦ c.loop-job.invariant j before
   | inr past ↦
       let last : c.loop-job.job ≡ j = omega arith in
-      subst (HasNoPhase c.args.world.now.plan c.args.world.now.state) last c.in_default.ensures.none
+      subst (HasNoPhaseWay c.args.world.now.plan c.args.world.now.state) last c.in_default.ensures.none
 ]
