@@ -52,10 +52,11 @@ def main():
         for word, name, status, goal in RUNS:
             path = os.path.join(folder, name + ".lab")
             size = os.path.getsize(path)
-            awk = min(run(AWK, path, 0)[0] for _ in range(1))
-            best, peak = None, 0
+            awk = best = None
+            peak = 0
             for _ in range(rounds):
-                awk = min(awk, run(AWK, path, 0)[0])
+                seconds, _ = run(AWK, path, 0)
+                awk = seconds if awk is None else min(awk, seconds)
                 seconds, memory = run([LABRUN, word], path, status)
                 best = seconds if best is None else min(best, seconds)
                 peak = max(peak, memory)

@@ -1,5 +1,5 @@
-// Worked words: the opening, what is refused, each change, and two groups of moves.
-use crate::{EdgeMoves, EdgeWord, PhaseWord, is_bottle_set};
+// Worked words: the opening, what is refused, each change, and two groups of moves; and that each law can be called.
+use crate::{EdgeMoves, EdgeWord, PhaseWord, is_bottle_set, laws};
 use legal_steps::{Dining, Drinking, End, JobState};
 
 const ALL: u32 = 0xfff_ffff;
@@ -176,4 +176,18 @@ fn sets_are_of_an_edge(rt: HostRuntime) {
     };
     assert!(rt; moves.are_of_bottles(2));
     assert!(rt; !moves.are_of_bottles(1));
+}
+
+#[test]
+fn laws_of_words() {
+    laws::bits_of_the_table();
+    laws::fields_of_the_table();
+    laws::one_word_for_each_edge();
+    laws::one_word_for_each_phase();
+    laws::opens_as_the_opening();
+    laws::moves_are_events();
+    laws::moves_change_only_their_edge();
+    laws::stays_of_its_bottles();
+    laws::legal_moves_are_of_the_edge();
+    laws::moves_are_read_back();
 }

@@ -5,7 +5,7 @@ use Rattle.lab_plan.specs.LabPlan.{LabPlan, sessions}
 use Rattle.instrument_log.specs.declared.entry.Entry.{Entry}
 use Rattle.legal_steps.specs.declared.phase.Drinking.{Drinking}
 use Rattle.legal_steps.specs.declared.phase.Drinking.TheVariants.{Retired}
-use Rattle.report.specs.declared.lines.JobTally.{JobTally}
+use Rattle.report.specs.declared.job_tally.JobTally.{JobTally}
 use Rattle.lab_plan.specs.Texts.{job_name, instrument_name, verb_text, header_line}
 
 -- what is shown of a run: each instrument's log, what each job drinks, how many of its sessions it did and gave up, and its meals

@@ -2,6 +2,7 @@
 #![tactic(auto)]
 
 mod header;
+mod job_tally;
 mod line;
 mod lines;
 mod offering;

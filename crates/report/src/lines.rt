@@ -4,6 +4,7 @@ ghost use Rattle.lab_plan.specs.Texts.{verb_text, header_line};
 ghost use Rattle.report.specs.Report.{instrument_line, entry_line, withdrawn_text, job_line};
 ghost use Rattle.lab_plan.specs.Upgrade.{session_line, command_line, name_line};
 
+use crate::job_tally::JobTally;
 use crate::line::Line;
 use instrument_log::Entry;
 use lab_plan::Verb;
@@ -71,17 +72,6 @@ pub(crate) fn entry_line(job: &[u8], entry: &Entry) -> Line
     line.number(entry.value);
     line.text(b"\n");
     line
-}
-
-/// What a report tells of a job: its sessions and how many of them it did and gave up, its meals, and
-/// whether it is retired.
-#[derive(Clone, Copy, PartialEq, Eq, Debug)]
-pub struct JobTally {
-    pub sessions: u32,
-    pub done: u32,
-    pub withdrawn: u32,
-    pub meals: u32,
-    pub is_retired: bool,
 }
 
 /// Adds ` withdrawn X` in version 2, nothing in version 1.

@@ -126,8 +126,8 @@ fn write_jobs<W: Sink, A: Allocator>(plan: &Plan<A>, sink: &mut W) -> Result<(),
     Ok(())
 }
 
-/// Writes the script of version 2 that means the plan: its own text where it is of version 2 already,
-/// the same sessions without patience where it is of version 1. At most 3696678 bytes, one line at a time.
+/// Writes the script of version 2 that means the plan: each session keeps its patience; of a plan of version 1
+/// none has one. At most 3696678 bytes, one line at a time. Takes no memory, and doesn't flush.
 pub fn write_script<W: Sink, A: Allocator>(plan: &Plan<A>, sink: &mut W) -> Result<(), WriteFault>
     ensures { Writes (W.taken sink.old) (W.taken sink.new) (W.failures sink.old) (W.failures sink.new) (script_text plan.now) result }
 {

@@ -3,7 +3,7 @@ ghost use Rattle.std.specs.Prelude.{◌≡◌, ℕ, ◌<◌, length, Some, slice
 ghost use Rattle.lab_plan.specs.LabPlan.{LabPlan};
 ghost use Rattle.report.specs.Report.{Shown, tally_of};
 
-use crate::lines::JobTally;
+use crate::job_tally::JobTally;
 use instrument_log::Entry;
 use lab_plan::{InstrumentNo, JobNo, Plan};
 use std::alloc::Allocator;

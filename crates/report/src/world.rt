@@ -6,7 +6,7 @@ ghost use Rattle.report.specs.Taken.{Writes};
 ghost use Rattle.report.specs.Report.{report_of};
 ghost use Rattle.report.specs.Worlds.{shown_by};
 
-use crate::lines::JobTally;
+use crate::job_tally::JobTally;
 use crate::offering::WriteFault;
 use crate::showing::Showing;
 use crate::shown::write_shown;
