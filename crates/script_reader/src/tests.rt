@@ -4,7 +4,7 @@ use crate::ScriptCause::{
     SessionNotClosed, UnknownWord,
 };
 use crate::{ScriptCause, ScriptFault, read_plan, read_steps};
-use lab_plan::{InstrumentNo, JobNo, Plan, Verb};
+use lab_plan::{InstrumentNo, JobNo, Plan, PlanRefusal, Verb};
 use legal_steps::Step;
 use std::alloc::Allocator;
 use std::process::Abort;
@@ -53,6 +53,20 @@ fn causes_are_printed(rt: HostRuntime) -> Result<(), Fail> {
     let printed = format!(in rt.alloc(); "{fault}")?;
     assert!(rt; printed.as_str() == "line 7: S3 bad name");
     Ok(())
+}
+
+#[test]
+fn causes_of_refusals(rt: HostRuntime) {
+    let refusals = [
+        (PlanRefusal::LimitPassed, ScriptCause::LimitPassed),
+        (PlanRefusal::SessionEmpty, EmptySession),
+        (PlanRefusal::JobTwice, JobTwice),
+        (PlanRefusal::TooManyInCommon, ScriptCause::TooManyInCommon),
+        (PlanRefusal::NoMemory, ScriptCause::NoMemory),
+    ];
+    for (refusal, cause) in refusals {
+        assert!(rt; ScriptCause::from(refusal) == cause, "{cause}");
+    }
 }
 
 #[test]
