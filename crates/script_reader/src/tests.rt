@@ -3,6 +3,8 @@ use crate::ScriptCause::{
     BadName, BadNumber, BadStep, EmptySession, JobTwice, NoHeader, NotInJob, NotInSession,
     SessionNotClosed, UnknownWord,
 };
+use crate::laws::{one_meaning, one_meaning_with_steps};
+use crate::upgrade_law::{upgrade_is_short, upgrade_means_plan};
 use crate::{ScriptCause, ScriptFault, read_plan, read_steps};
 use lab_plan::{InstrumentNo, JobNo, Plan, PlanRefusal, Verb};
 use legal_steps::Step;
@@ -386,4 +388,13 @@ fn faults_before_steps(rt: HostRuntime) {
             "{text}"
         );
     }
+}
+
+/// The laws are contracts: what is called does nothing.
+#[test]
+fn laws_of_scripts() {
+    one_meaning();
+    one_meaning_with_steps();
+    upgrade_means_plan();
+    upgrade_is_short();
 }
