@@ -18,6 +18,7 @@ pub mod UpgradePlan
 pub mod UpgradeText
 pub mod UpgradeForms
 pub mod UpgradeMeans
+pub mod UpgradeShort
 pub mod StepList
 pub mod BottleSets
 pub mod OfInstruments

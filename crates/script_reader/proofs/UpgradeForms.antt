@@ -18,6 +18,7 @@ use Rattle.script_reader.proofs.UpgradeText.{is_shown, is_dark, dark_shown, fiel
 -- what a name is
 pub record NameParts (name : List ℕ) : Type 0 where
   pub some : 0 < length name
+  pub few : length name ≤ 16
   pub dark : list_all is_dark name ≡ true
   pub first : (slice_index name 0 == 35) ≡ false
   pub free : is_reserved name ≡ false
@@ -44,6 +45,7 @@ name_parts name h =
     let first = and_parts some few second.0 in
     record {
       some = above (length name) first.0;
+      few = within (length name) first.1;
       dark = darker is_name_byte dark_name_byte name third.1;
       first = no_hash (slice_index name 0) second.1;
       free = not-true _ fourth.1;
@@ -51,6 +53,9 @@ name_parts name h =
   where
     above : (n : ℕ) → nat_le 1 n ≡ true → 0 < n
     above n h = grind (arith, nat_tests, h)
+
+    within : (n : ℕ) → nat_le n 16 ≡ true → n ≤ 16
+    within n h = grind (arith, nat_tests, h)
 
     no_hash : (b : ℕ) → is_letter b ≡ true → (b == 35) ≡ false
     no_hash b h = grind (arith, nat_tests, h)

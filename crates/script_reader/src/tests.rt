@@ -3,8 +3,10 @@ use crate::ScriptCause::{
     BadName, BadNumber, BadStep, EmptySession, JobTwice, NoHeader, NotInJob, NotInSession,
     SessionNotClosed, UnknownWord,
 };
+use crate::laws::{one_meaning, one_meaning_with_steps};
+use crate::upgrade_law::{upgrade_is_short, upgrade_means_plan};
 use crate::{ScriptCause, ScriptFault, read_plan, read_steps};
-use lab_plan::{InstrumentNo, JobNo, Plan, Verb};
+use lab_plan::{InstrumentNo, JobNo, Plan, PlanRefusal, Verb};
 use legal_steps::Step;
 use std::alloc::Allocator;
 use std::process::Abort;
@@ -53,6 +55,20 @@ fn causes_are_printed(rt: HostRuntime) -> Result<(), Fail> {
     let printed = format!(in rt.alloc(); "{fault}")?;
     assert!(rt; printed.as_str() == "line 7: S3 bad name");
     Ok(())
+}
+
+#[test]
+fn causes_of_refusals(rt: HostRuntime) {
+    let refusals = [
+        (PlanRefusal::LimitPassed, ScriptCause::LimitPassed),
+        (PlanRefusal::SessionEmpty, EmptySession),
+        (PlanRefusal::JobTwice, JobTwice),
+        (PlanRefusal::TooManyInCommon, ScriptCause::TooManyInCommon),
+        (PlanRefusal::NoMemory, ScriptCause::NoMemory),
+    ];
+    for (refusal, cause) in refusals {
+        assert!(rt; ScriptCause::from(refusal) == cause, "{cause}");
+    }
 }
 
 #[test]
@@ -372,4 +388,13 @@ fn faults_before_steps(rt: HostRuntime) {
             "{text}"
         );
     }
+}
+
+/// The laws are contracts: what is called does nothing.
+#[test]
+fn laws_of_scripts() {
+    one_meaning();
+    one_meaning_with_steps();
+    upgrade_means_plan();
+    upgrade_is_short();
 }

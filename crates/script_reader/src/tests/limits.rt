@@ -2,7 +2,7 @@
 use super::told;
 use crate::ScriptCause::{
     BadName, BadNumber, BadStep, JobTwice, LimitPassed, NotInSession, SessionNotClosed,
-    TooManyInCommon,
+    TooManyInCommon, UnknownWord,
 };
 use crate::{read_plan, read_steps};
 use legal_steps::StepLine;
@@ -60,6 +60,9 @@ fn causes_before_limits(rt: HostRuntime) -> Result<(), Fail> {
     let mut text = repeated(alloc, "lab 1\njob a\n", "session\nx set ", "\nend\n", 999)?;
     text.push_str("session\nx read\nsession")?;
     assert!(rt; told(read_plan(alloc, text.as_bytes())) == Some((3002, SessionNotClosed)));
+    let mut text = repeated(alloc, "lab 1\njob a\n", "session\nx set ", "\nend\n", 1000)?;
+    text.push_str("session patience 3")?;
+    assert!(rt; told(read_plan(alloc, text.as_bytes())) == Some((3003, UnknownWord)));
     let mut text = repeated(alloc, "lab 1\njob a\nsession\n", "x set ", "\n", 100_000)?;
     text.push_str("end\nx read")?;
     assert!(rt; told(read_plan(alloc, text.as_bytes())) == Some((100_005, NotInSession)));
@@ -194,5 +197,7 @@ fn many_in_common(rt: HostRuntime) -> Result<(), Fail> {
     assert!(rt; told(read_steps(alloc, stepped.as_bytes())) == Some((68, TooManyInCommon)));
     let open = format!(in alloc; "{text}job c\nsession\nx read")?;
     assert!(rt; told(read_plan(alloc, open.as_bytes())) == Some((69, SessionNotClosed)));
+    let stepped = format!(in alloc; "{open}\nsteps")?;
+    assert!(rt; told(read_steps(alloc, stepped.as_bytes())) == Some((69, SessionNotClosed)));
     Ok(())
 }
