@@ -24,3 +24,4 @@ pub mod OfInstruments
 pub mod EdgeNumbers
 pub mod OneList
 pub mod OwnSteps
+pub mod StepForms
