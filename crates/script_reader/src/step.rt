@@ -1,32 +1,16 @@
 // The steps of a step list, by the names in a plan.
 ghost use Rattle.std.specs.Prelude.{◌≡◌, ◌≢◌, ℕ, ◌<◌, ◌==◌, [], ◌∷◌, None, Some, true, length, if◌then◌else◌, MatchOption};
-ghost use Rattle.std.specs.Str.{bytes_eq};
-ghost use Rattle.lab_plan.specs.LabPlan.{edges, job_at};
+ghost use Rattle.lab_plan.specs.LabPlan.{edges};
 ghost use Rattle.legal_steps.specs.declared.event.Step.TheVariants.{Glance};
 ghost use Rattle.script_reader.specs.Fields.{fields};
 ghost use Rattle.script_reader.specs.Steps.{job_named, edge_between, edge_named, job_event, edge_event, bottle_event, job_step, edge_step, bottle_step, glance_step, or_else, step_with, step_in};
 
 use crate::bottles::bottle_set;
 use crate::field::{is_blank, next_field};
+use crate::name::is_same;
 use lab_plan::{EdgeNo, JobNo, Plan};
 use legal_steps::Step;
 use std::alloc::Allocator;
-
-/// Whether both are of one length and end with one byte: names that share a beginning mostly differ there.
-fn end_alike(a: &[u8], b: &[u8]) -> bool
-    ensures { a.now ≡ b.now → result ≡ true }
-{
-    a.len() == b.len() && a.last() == b.last()
-}
-
-/// Whether the job has this name.
-fn has_name<A: Allocator>(plan: &Plan<A>, job: JobNo, name: &[u8]) -> bool
-    requires { job < length plan.now.jobs }
-    ensures { result ≡ bytes_eq name.now (job_at plan.now job).name }
-{
-    let own = plan.job_name(job);
-    end_alike(name, own) && name == own
-}
 
 /// The job with this name.
 fn job_named<A: Allocator>(plan: &Plan<A>, name: &[u8]) -> Option<JobNo>
@@ -34,7 +18,7 @@ fn job_named<A: Allocator>(plan: &Plan<A>, name: &[u8]) -> Option<JobNo>
 {
     for number in 0..plan.jobs() {
         let job = JobNo(number as u8);
-        if has_name(plan, job, name) {
+        if is_same(name, plan.job_name(job)) {
             return Some(job);
         }
     }
