@@ -25,3 +25,4 @@ pub mod OfInstruments
 pub mod EdgeNumbers
 pub mod OneList
 pub mod OwnSteps
+pub mod StepForms

@@ -1,15 +1,16 @@
 -- The reader's loop over the lines of a script.
 use Rattle.std.proofs.Common.{◌≡◌, ℕ, ◌+◌, List, [], ◌∷◌, ◌++◌, length, refl, sym, ap, ◌∙◌, subst, arith, length-append, append_assoc, append-nil, ◌⊎◌, inl, inr, suc}
-use Rattle.std.specs.Prelude.{Option, None, Some, Ok, Err, reverse, map}
+use Rattle.std.specs.Prelude.{Option, None, Some, Result, Ok, Err, MatchResult, reverse, map}
 use Rattle.std.specs.Option.{option_map}
 use Rattle.std.specs.List.{cons_option}
 use Rattle.std.proofs.lemmas.List.{reverse-append, map-append}
 use Rattle.lab_plan.specs.LabPlan.{LabPlan, all_commands}
+use Rattle.script_reader.specs.declared.fault.ScriptFault.{ScriptFault}
 use Rattle.script_reader.specs.declared.fault.ScriptCause.{ScriptCause}
 use Rattle.script_reader.specs.declared.fault.ScriptCause.TheVariants.{NoHeader, UnknownWord, BadName, BadNumber, JobTwice, NotInSession, NotInJob, EmptySession, SessionNotClosed, LimitPassed, TooManyInCommon, NoMemory, BadStep}
 use Rattle.script_reader.specs.Line.{Line, form_of, is_command}
 use Rattle.script_reader.specs.Plan.{plan_of}
-use Rattle.script_reader.specs.Script.{numbered, script_of, backwards, AreSound, cause_at_end, count, LinesMean, IsFaultAtLine, IsFaultOfLines, IsCleanUpTo, IsCleanUpToLine}
+use Rattle.script_reader.specs.Script.{numbered, text_lines, script_of, backwards, AreSound, cause_at_end, count, LinesMean, IsFaultAtLine, IsFaultOfLines, IsCleanUpTo, IsCleanUpToLine, Refuses, Answers}
 use Rattle.script_reader.specs.State.{State, state_of, cause_in, end_cause_in, after, IsTied, ReadsForm, Ends}
 use Rattle.script_reader.proofs.After.{after_is}
 use Rattle.script_reader.proofs.Meets.{cause_is}
@@ -183,3 +184,10 @@ stops_at_end lines done n s SessionNotClosed h e = inr (ends_badly lines done n 
 stops_at_end lines done n s LimitPassed h e = inr (ends_badly lines done n s LimitPassed h e)
 stops_at_end lines done n s TooManyInCommon h e = inr (ends_badly lines done n s TooManyInCommon h e)
 stops_at_end lines done n s BadStep h e = inr (ends_badly lines done n s BadStep h e)
+
+pub answers_at_end : (text : List ℕ) (done : List (List ℕ)) (n : ℕ) (s : State) (given : Result LabPlan ScriptCause) (result : Result LabPlan ScriptFault) → IsReading (text_lines text) done [] n s → Ends s given
+    → MatchResult result (λ plan. given ≡ Ok plan) (λ fault. (given ≡ Err fault.cause) × (fault.line ≡ n)) → Answers text result
+answers_at_end text done n s given (Ok plan) h e is = ends_well (text_lines text) done n s plan h (subst (Ends s) is e)
+answers_at_end text done n s given (Err fault) h e is =
+    let bad = stops_at_end (text_lines text) done n s fault.cause h (subst (Ends s) is.0 e) in
+    subst (λ m. Refuses (text_lines text) (record { line = m; cause = fault.cause })) (sym is.1) bad

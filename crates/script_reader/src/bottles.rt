@@ -5,6 +5,7 @@ ghost use Rattle.script_reader.specs.Fields.{fields};
 ghost use Rattle.script_reader.specs.Steps.{bottle_named, bottle_set};
 
 use crate::field::next_field;
+use crate::name::is_same;
 use lab_plan::{EdgeNo, Plan};
 use std::alloc::Allocator;
 
@@ -16,7 +17,7 @@ fn bottle_named<A: Allocator>(plan: &Plan<A>, edge: EdgeNo, name: &[u8]) -> Opti
 {
     for bottle in 0..plan.bottles(edge) {
         let instrument = plan.instrument_of(edge, bottle);
-        if name == plan.instrument_name(instrument) {
+        if is_same(name, plan.instrument_name(instrument)) {
             return Some(bottle);
         }
     }

@@ -1,4 +1,6 @@
 // Faults of scripts and step lists.
+ghost use Rattle.std.specs.Prelude.{◌≡◌, Ok, Err, MatchResult};
+
 use lab_plan::PlanRefusal;
 use thiserror::Error;
 
@@ -69,5 +71,15 @@ impl From<PlanRefusal> for ScriptCause {
             PlanRefusal::TooManyInCommon => ScriptCause::TooManyInCommon,
             PlanRefusal::NoMemory => ScriptCause::NoMemory,
         }
+    }
+}
+
+/// What a line gives, or its fault.
+pub(crate) fn at_line<T>(line: usize, given: Result<T, ScriptCause>) -> Result<T, ScriptFault>
+    ensures { MatchResult result (λ x. given ≡ Ok x) (λ fault. (given ≡ Err fault.cause) × (fault.line ≡ line)) }
+{
+    match given {
+        Ok(x) => Ok(x),
+        Err(cause) => Err(ScriptFault { line, cause }),
     }
 }

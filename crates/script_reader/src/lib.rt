@@ -8,6 +8,7 @@ pub mod fault;
 mod field;
 mod form;
 pub mod laws;
+mod name;
 mod number;
 pub mod plan;
 mod reader;

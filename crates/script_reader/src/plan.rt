@@ -1,7 +1,7 @@
 // Reading a script.
 ghost use Rattle.script_reader.specs.Script.{Answers};
 
-use crate::fault::ScriptFault;
+use crate::fault::{ScriptFault, at_line};
 use crate::reader::Reader;
 use bstr::ByteSlice;
 use lab_plan::Plan;
@@ -18,22 +18,8 @@ pub fn read_plan<A: Allocator + Copy>(alloc: A, text: &[u8]) -> Result<Plan<A>, 
     let mut reader = Reader::new(alloc);
     let mut number = 1usize;
     for line in text.lines() {
-        match reader.read(line) {
-            Ok(()) => {}
-            Err(cause) => {
-                return Err(ScriptFault {
-                    line: number,
-                    cause,
-                });
-            }
-        }
+        at_line(number, reader.read(line))?;
         number += 1;
     }
-    match reader.finish() {
-        Ok(plan) => Ok(plan),
-        Err(cause) => Err(ScriptFault {
-            line: number,
-            cause,
-        }),
-    }
+    at_line(number, reader.finish())
 }

@@ -1,11 +1,13 @@
 // The steps of a step list, by the names in a plan.
-ghost use Rattle.std.specs.Prelude.{◌≡◌, ℕ, ◌<◌, None, Some, length, MatchOption};
+ghost use Rattle.std.specs.Prelude.{◌≡◌, ◌≢◌, ℕ, ◌<◌, ◌==◌, [], ◌∷◌, None, Some, length, if◌then◌else◌, MatchOption};
 ghost use Rattle.lab_plan.specs.LabPlan.{edges};
+ghost use Rattle.legal_steps.specs.declared.event.Step.TheVariants.{Glance};
 ghost use Rattle.script_reader.specs.Fields.{fields};
-ghost use Rattle.script_reader.specs.Steps.{job_named, edge_between, edge_named, job_event, edge_event, bottle_event, glance_event, job_step, edge_step, bottle_step, glance_step, step_with, step_in};
+ghost use Rattle.script_reader.specs.Steps.{job_named, edge_between, edge_named, job_event, edge_event, bottle_event, job_step, edge_step, bottle_step, glance_step, or_else, step_with, step_in};
 
 use crate::bottles::bottle_set;
-use crate::field::{is_blank, next_field, one_field, two_fields};
+use crate::field::{is_blank, next_field};
+use crate::name::is_same;
 use lab_plan::{EdgeNo, JobNo, Plan};
 use legal_steps::Step;
 use std::alloc::Allocator;
@@ -16,7 +18,7 @@ fn job_named<A: Allocator>(plan: &Plan<A>, name: &[u8]) -> Option<JobNo>
 {
     for number in 0..plan.jobs() {
         let job = JobNo(number as u8);
-        if name == plan.job_name(job) {
+        if is_same(name, plan.job_name(job)) {
             return Some(job);
         }
     }
@@ -118,73 +120,66 @@ fn bottle_event(word: &[u8], job: JobNo, edge: EdgeNo, set: u32) -> Option<Step>
     None
 }
 
-/// The event of a job at another job that has this word.
-#[tactic(auto, unfolding(crate::specs::Steps::glance_event))]
-fn glance_event(word: &[u8], job: JobNo, other: JobNo) -> Option<Step>
-    ensures { result ≡ glance_event word.now job other }
+/// The glance of a job at another job.
+fn glance(job: JobNo, other: JobNo) -> Option<Step>
+    ensures { result ≡ (if job == other then None else Some (Glance job other)) }
 {
-    if word == b"glance".as_slice() {
-        return Some(Step::Glance(job, other));
-    }
-    None
-}
-
-fn job_step<A: Allocator>(plan: &Plan<A>, word: &[u8], rest: &[u8]) -> Option<Step>
-    ensures { result ≡ job_step plan.now word.now (fields rest.now) }
-{
-    let name = one_field(rest)?;
-    let job = job_named(plan, name)?;
-    job_event(word, job)
-}
-
-fn edge_step<A: Allocator>(plan: &Plan<A>, word: &[u8], rest: &[u8]) -> Option<Step>
-    ensures { result ≡ edge_step plan.now word.now (fields rest.now) }
-{
-    let (name, other) = two_fields(rest)?;
-    let (job, edge) = edge_named(plan, name, other)?;
-    edge_event(word, job, edge)
-}
-
-fn glance_step<A: Allocator>(plan: &Plan<A>, word: &[u8], rest: &[u8]) -> Option<Step>
-    ensures { result ≡ glance_step plan.now word.now (fields rest.now) }
-{
-    let (name, other) = two_fields(rest)?;
-    let job = job_named(plan, name)?;
-    let other = job_named(plan, other)?;
     if job == other {
         return None;
     }
-    glance_event(word, job, other)
+    Some(Step::Glance(job, other))
 }
 
-fn bottle_step<A: Allocator>(plan: &Plan<A>, word: &[u8], rest: &[u8]) -> Option<Step>
-    ensures { result ≡ bottle_step plan.now word.now (fields rest.now) }
+/// The step of the job with this name.
+fn job_step<A: Allocator>(plan: &Plan<A>, word: &[u8], name: &[u8]) -> Option<Step>
+    ensures { result ≡ job_step plan.now word.now (name.now ∷ []) }
 {
-    let (name, rest) = next_field(rest)?;
-    let (other, bottles) = next_field(rest)?;
-    if is_blank(bottles) {
-        return None;
+    job_event(word, job_named(plan, name)?)
+}
+
+/// The step of the job with this name at its edge with the other, or its glance at the other.
+#[tactic(auto, unfolding(crate::specs::Steps::edge_event, crate::specs::Steps::glance_event))]
+fn pair_step<A: Allocator>(plan: &Plan<A>, word: &[u8], name: &[u8], other: &[u8]) -> Option<Step>
+    ensures { let names = name.now ∷ other.now ∷ [] in result ≡ or_else (edge_step plan.now word.now names) (glance_step plan.now word.now names) }
+{
+    let job = job_named(plan, name)?;
+    let other = job_named(plan, other)?;
+    if word == b"glance".as_slice() {
+        return glance(job, other);
     }
+    let edge = edge_between(plan, job, other)?;
+    edge_event(word, job, edge)
+}
+
+/// The step of the job with this name with bottles of its edge with the other.
+fn bottle_step<A: Allocator>(
+    plan: &Plan<A>,
+    word: &[u8],
+    name: &[u8],
+    other: &[u8],
+    bottles: &[u8],
+) -> Option<Step>
+    requires { fields bottles.now ≢ [] }
+    ensures { result ≡ bottle_step plan.now word.now (name.now ∷ other.now ∷ fields bottles.now) }
+{
     let (job, edge) = edge_named(plan, name, other)?;
     let set = bottle_set(plan, edge, bottles)?;
     bottle_event(word, job, edge, set)
 }
 
-/// The step with this word and these names.
-#[tactic(auto, unfolding(crate::specs::Steps::step_with))]
+/// The step with this word and these names: their number tells whose step it can be.
+#[tactic(auto, using(crate::proofs::StepForms::only_first), unfolding(crate::specs::Steps::step_with))]
 fn step_with<A: Allocator>(plan: &Plan<A>, word: &[u8], rest: &[u8]) -> Option<Step>
     ensures { result ≡ step_with plan.now word.now (fields rest.now) }
 {
-    if let Some(step) = job_step(plan, word, rest) {
-        return Some(step);
+    let (name, rest) = next_field(rest)?;
+    let Some((other, bottles)) = next_field(rest) else {
+        return job_step(plan, word, name);
+    };
+    if is_blank(bottles) {
+        return pair_step(plan, word, name, other);
     }
-    if let Some(step) = edge_step(plan, word, rest) {
-        return Some(step);
-    }
-    if let Some(step) = bottle_step(plan, word, rest) {
-        return Some(step);
-    }
-    glance_step(plan, word, rest)
+    bottle_step(plan, word, name, other, bottles)
 }
 
 /// The step of a line, where it has one; None where the line is skipped.

@@ -5,7 +5,7 @@ ghost use Rattle.script_reader.specs.Script.{text_lines, LinesMean, Refuses};
 ghost use Rattle.script_reader.specs.State.{Ends, IsTied};
 ghost use Rattle.script_reader.specs.Steps.{is_steps_line, script_part, steps_part, first_step, step_in, AreSteps, RefusesSteps, ReadsStep, StepsMean, StepsRefuse};
 
-use crate::fault::{ScriptCause, ScriptFault};
+use crate::fault::{ScriptCause, ScriptFault, at_line};
 use crate::form::{Form, form_of};
 use crate::reader::Reader;
 use crate::step::step_in;
@@ -40,17 +40,12 @@ fn end_script<'a, A: Allocator + Copy>(
     requires number { number < 2 ^ 64 - 1 }
     ensures { MatchResult result (λ part. Ends reader (Ok part.plan) × (part.rest.now ≡ rest.now) × (part.first ≡ number + 1)) (λ fault. Ends reader (Err fault.cause) × (fault.line ≡ number)) }
 {
-    match reader.finish() {
-        Ok(plan) => Ok(ScriptPart {
-            plan,
-            rest,
-            first: number + 1,
-        }),
-        Err(cause) => Err(ScriptFault {
-            line: number,
-            cause,
-        }),
-    }
+    let plan = at_line(number, reader.finish())?;
+    Ok(ScriptPart {
+        plan,
+        rest,
+        first: number + 1,
+    })
 }
 
 /// Reads the lines up to a line `steps`, or to the end, as a script.
@@ -67,15 +62,7 @@ fn read_script<'a, A: Allocator + Copy>(
         if is_steps_line(line) {
             return end_script(reader, lines.as_bytes(), number);
         }
-        match reader.read(line) {
-            Ok(()) => {}
-            Err(cause) => {
-                return Err(ScriptFault {
-                    line: number,
-                    cause,
-                });
-            }
-        }
+        at_line(number, reader.read(line))?;
         number += 1;
     }
     end_script(reader, lines.as_bytes(), number)
@@ -127,15 +114,7 @@ fn read_list<A: Allocator + Copy>(
     let mut steps = Vec::new(alloc);
     let mut number = first;
     for line in text.lines() {
-        match read_step(plan, &mut steps, number, line) {
-            Ok(()) => {}
-            Err(cause) => {
-                return Err(ScriptFault {
-                    line: number,
-                    cause,
-                });
-            }
-        }
+        at_line(number, read_step(plan, &mut steps, number, line))?;
         number += 1;
     }
     Ok(steps)
@@ -154,8 +133,6 @@ pub fn read_steps<A: Allocator + Copy>(
     ensures own { IfOk result (λ r. All (λ line. IsStepOf r.0 line.step) r.1.items) }
 {
     let ScriptPart { plan, rest, first } = read_script(alloc, text)?;
-    match read_list(alloc, &plan, rest, first) {
-        Ok(steps) => Ok((plan, steps)),
-        Err(fault) => Err(fault),
-    }
+    let steps = read_list(alloc, &plan, rest, first)?;
+    Ok((plan, steps))
 }

@@ -1,6 +1,8 @@
 use Rattle.std.proofs.Common.{[], ◌∷◌, ◌++◌, refl, sym, ap, ◌∙◌, subst}
-use Rattle.std.proofs.lemmas.Result.{MatchResult-weaker}
+use Rattle.std.proofs.lemmas.Result.{MatchResult-weaker, err_from_is_err_and}
+use Rattle.script_reader.specs.Line.{form_of}
 use Rattle.script_reader.specs.Script.{text_lines, Refuses}
+use Rattle.script_reader.specs.State.{ReadsForm}
 use Rattle.script_reader.specs.Steps.{script_part}
 use Rattle.script_reader.proofs.ScriptPart.{IsAt, goes_on, fails, rest_behind, rest_none, steps_none, ends_well_at, ends_badly_at}
 use Rattle.script_reader.proofs.steps.read_script.Goals as goal
@@ -22,14 +24,18 @@ returns-then-is_steps_line g c =
     ))
     (λ fault h. subst (λ n. Refuses (script_part lines) (record { line = n; cause = fault.cause })) (sym h.1) (ends_badly_at lines done (line ∷ c.next.new.self) c.loop-line.number c.loop-line.reader fault.cause before none h.0))
 
-pub returns-in-Err : goal.returns-in-Err
-returns-in-Err g c =
+pub returns-in_err-at_line : goal.returns-in_err-at_line
+returns-in_err-at_line g c =
     let lines = text_lines c.args.text.now in
     let line = c.in-Some.line.now in
     let done = c.loop-line.invariant.0 in
     let before : IsAt lines done (line ∷ c.next.new.self) c.loop-line.number c.loop-line.reader = subst (λ l. IsAt lines done l c.loop-line.number c.loop-line.reader) c.in-Some.ensures.steps c.loop-line.invariant.1 in
     let isnt = sym c.is_steps_line.ensures ∙ c.if-is_steps_line.false in
-    fails lines line done c.next.new.self c.loop-line.number c.loop-line.reader c.read.new.self c.in-Err.cause before isnt c.in-Err.ensures
+    let fault = c.in_err-at_line.field-0.0 in
+    let read = subst (λ r. ReadsForm c.loop-line.reader (form_of line) r c.read.new.self) c.in_err-at_line.ensures.0 c.read.ensures in
+    let bad = fails lines line done c.next.new.self c.loop-line.number c.loop-line.reader c.read.new.self fault.cause before isnt read in
+    let p = err_from_is_err_and c.from_residual.result c.from_residual.ensures.1 in
+    rw (p.1, p.2) (subst (λ n. Refuses (script_part lines) (record { line = n; cause = fault.cause })) (sym c.in_err-at_line.ensures.1) bad)
 
 pub loop-line-preserved : goal.loop-line-preserved
 loop-line-preserved g c =
@@ -38,7 +44,8 @@ loop-line-preserved g c =
     let done = c.loop-line.invariant.0 in
     let before : IsAt lines done (line ∷ c.next.new.self) c.loop-line.number c.loop-line.reader = subst (λ l. IsAt lines done l c.loop-line.number c.loop-line.reader) c.in-Some.ensures.steps c.loop-line.invariant.1 in
     let isnt = sym c.is_steps_line.ensures ∙ c.if-is_steps_line.false in
-    (done ++ line ∷ [], goes_on lines line done c.next.new.self c.loop-line.number c.loop-line.reader c.read.new.self c.in-Ok.field-0 before isnt c.in-Ok.ensures)
+    let read = subst (λ r. ReadsForm c.loop-line.reader (form_of line) r c.read.new.self) c.in_ok-at_line.ensures c.read.ensures in
+    (done ++ line ∷ [], goes_on lines line done c.next.new.self c.loop-line.number c.loop-line.reader c.read.new.self c.in_ok-at_line.field-0 before isnt read)
 
 pub returns : goal.returns
 returns g c =

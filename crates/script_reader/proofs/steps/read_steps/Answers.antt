@@ -1,4 +1,5 @@
 use Rattle.std.proofs.Common.{arith}
+use Rattle.std.proofs.lemmas.Result.{err_from_is_err_and}
 use Rattle.script_reader.specs.Script.{text_lines}
 use Rattle.script_reader.proofs.ScriptPart.{room, refused}
 use Rattle.script_reader.proofs.OwnSteps.{own_steps}
@@ -11,11 +12,12 @@ read_list-requires g c =
     let fits = room c.args.text.now (text_lines part.rest.now) part.first h.1 h.2 in
     omega (arith, fits)
 
-pub returns-in-Err-clause-meaning : goal.returns-in-Err-clause-meaning
-returns-in-Err-clause-meaning g c =
+pub returns-in_err-steps-clause-meaning : goal.returns-in_err-steps-clause-meaning
+returns-in_err-steps-clause-meaning g c =
     let part = c.in_ok-plan.field-0 in
     let h = c.in_ok-plan.ensures in
-    refused c.args.text.now part.plan (text_lines part.rest.now) part.first c.in-Err.fault h.0 h.1 h.2 c.in-Err.ensures
+    let p = err_from_is_err_and c.from_residual-in_err-steps.result c.from_residual-in_err-steps.ensures.1 in
+    rw (p.1, p.2) (refused c.args.text.now part.plan (text_lines part.rest.now) part.first c.in_err-steps.field-0.0 h.0 h.1 h.2 c.in_err-steps.ensures)
 
-pub returns-in-Ok-clause-own : goal.returns-in-Ok-clause-own
-returns-in-Ok-clause-own g c = own_steps c.in_ok-plan.field-0.plan c.in_ok-plan.field-0.first (text_lines c.in_ok-plan.field-0.rest.now) c.in-Ok.steps.items c.in-Ok.ensures.0
+pub returns-clause-own : goal.returns-clause-own
+returns-clause-own g c = own_steps c.in_ok-plan.field-0.plan c.in_ok-plan.field-0.first (text_lines c.in_ok-plan.field-0.rest.now) c.in_ok-steps.steps.items c.in_ok-steps.ensures.0
