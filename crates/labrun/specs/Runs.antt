@@ -1,5 +1,5 @@
 -- What the runs of the program answer, and what has gone out then.
-use Rattle.std.specs.Prelude.{◌≡◌, ℕ, List, Bool, true, false, map, slice_get, Option, Some, Result, Ok, Err}
+use Rattle.std.specs.Prelude.{◌≡◌, ℕ, ◌≤◌, List, length, Bool, true, false, map, slice_get, Option, Some, Result, Ok, Err}
 use Rattle.std.specs.Io.KnownBytes.{Keeps, Appends}
 use Rattle.lab_plan.specs.LabPlan.{LabPlan}
 use Rattle.lab_plan.specs.Upgrade.{script_text}
@@ -84,12 +84,13 @@ pub record Checks (input text : List ℕ) (outcome : Outcome) : Type 0 where
   pub counts : text ≡ counts_line plan
   pub ends : outcome ≡ Finished
 
--- the input is a script, and the text is the script of version 2 that means the same plan
+-- the input is a script, and the text is the script of version 2 that means the same plan, never too long for an input
 pub record Upgrades (input text : List ℕ) (outcome : Outcome) : Type 0 where
   pub plan : LabPlan
   pub means : ScriptMeans input plan
   pub upgraded : text ≡ script_text plan
   pub means_same : ScriptMeans text (record plan { version = 2 })
+  pub short : length text ≤ 3696678
   pub ends : outcome ≡ Finished
 
 -- upgrading what an upgrade wrote gives the same text

@@ -13,7 +13,7 @@ use crate::source::Source;
 use interleaving::World;
 use report::Sink;
 use script_reader::laws::one_meaning;
-use script_reader::upgrade_law::upgrade_means_plan;
+use script_reader::upgrade_law::{upgrade_is_short, upgrade_means_plan};
 use script_reader::{read_plan, read_steps};
 use std::alloc::Allocator;
 
@@ -97,9 +97,10 @@ fn upgrade<A: Allocator + Copy, W: Sink>(
     ensures writes { W.failures sink.new ≡ W.failures sink.old + failed_writes result }
 {
     let plan = read_plan(alloc, input)?;
-    // What goes out is a script again, since the plan is within every limit.
+    // What goes out is a script again, and not too long, since the plan is within every limit.
     let _ = plan.jobs();
     upgrade_means_plan();
+    upgrade_is_short();
     send_script(&plan, sink)?;
     Ok(Outcome::Finished)
 }

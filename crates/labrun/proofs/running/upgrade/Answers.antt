@@ -19,6 +19,7 @@ returns-in_err-send_script-clause-answer g c =
       means = c.in_ok-plan.ensures;
       upgraded = refl;
       means_same = c.upgrade_means_plan.ensures plan c.jobs.ensures.plan;
+      short = c.upgrade_is_short.ensures plan c.jobs.ensures.plan;
       ends = refl;
     } in
     ends_with Upgrades ScriptRefuses _ _ _ c.from_residual-in_err-send_script.result Write c.from_residual-in_err-send_script.ensures.1 (script_text plan, Finished, upgrades, c.in_err-send_script.ensures.0)
@@ -31,6 +32,7 @@ returns-clause-answer g c =
       means = c.in_ok-plan.ensures;
       upgraded = refl;
       means_same = c.upgrade_means_plan.ensures plan c.jobs.ensures.plan;
+      short = c.upgrade_is_short.ensures plan c.jobs.ensures.plan;
       ends = refl;
     } in
     (script_text plan, upgrades, c.in_ok-send_script.ensures.0)
