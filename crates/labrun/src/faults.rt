@@ -12,7 +12,7 @@ use thiserror::Error;
 /// How a run ended that wrote all that it had to.
 #[derive(Clone, Copy, PartialEq, Eq, Debug)]
 pub enum Outcome {
-    /// Every job is retired; or there were no steps to take.
+    /// A replay: every job is retired. A check or an upgrade: it is done.
     Finished,
     /// A job still waits.
     Unfinished,
