@@ -77,12 +77,20 @@ fn two_readers<T: Allocator + Copy>(rt: &impl Abort, alloc: T) -> Plan<T> {
 
 const AB: EdgeNo = EdgeNo(0);
 
+/// The end of the edge at which one of its jobs sits.
+fn end_of<T: Allocator>(rt: &impl Abort, plan: &Plan<T>, job: JobNo) -> End {
+    assert!(rt; plan.edges() == 1);
+    let (lower, higher) = plan.ends(AB);
+    assert!(rt; lower == job || higher == job);
+    End::of(plan, job, AB)
+}
+
 /// The own end of each job of the edge, and the bottles there.
 fn each_end<T: Allocator + Copy>(rt: &impl Abort, alloc: T) {
     let plan = two_readers(rt, alloc);
-    assert!(rt; plan.edges() == 1 && plan.ends(AB) == (JobNo(0), JobNo(1)));
-    assert!(rt; End::of(&plan, JobNo(0), AB) == End::Lower);
-    assert!(rt; End::of(&plan, JobNo(1), AB) == End::Higher);
+    assert!(rt; end_of(rt, &plan, JobNo(0)) == End::Lower);
+    assert!(rt; end_of(rt, &plan, JobNo(1)) == End::Higher);
+    assert!(rt; plan.edges() == 1);
     for (set, lower) in [
         (0b000, 0b111),
         (0b101, 0b010),

@@ -180,8 +180,8 @@ fn go_on<T: Allocator, V: Allocator>(
     doings: &[Doing],
 ) -> Result<(), AllocError> {
     for doing in doings {
+        events.push(event_of(rt, world, *doing))?;
         let event = event_of(rt, world, *doing);
-        events.push(event)?;
         assert!(rt; world.step(event).is_ok());
     }
     Ok(())
