@@ -6,7 +6,7 @@ use crate::{meals_after_ask, way_on};
 use interleaving::{End, EndChoice, Event, World};
 use lab_plan::name::is_name;
 use lab_plan::{EdgeNo, InstrumentNo, JobNo, Plan, PlanBuilder, PlanRefusal, Verb};
-use std::alloc::{AllocError, Allocator};
+use std::alloc::Allocator;
 use std::process::Abort;
 
 mod cases;
@@ -178,13 +178,12 @@ fn go_on<T: Allocator, V: Allocator>(
     world: &mut World<'_, T>,
     events: &mut Vec<Event, V>,
     doings: &[Doing],
-) -> Result<(), AllocError> {
+) {
     for doing in doings {
-        events.push(event_of(rt, world, *doing))?;
+        assert!(rt; events.push(event_of(rt, world, *doing)).is_ok());
         let event = event_of(rt, world, *doing);
         assert!(rt; world.step(event).is_ok());
     }
-    Ok(())
 }
 
 /// Whether the edge is one of the job's.

@@ -57,6 +57,13 @@ fn illegal_step(rt: HostRuntime) -> Result<(), Fail> {
     Ok(())
 }
 
+#[test]
+fn legal_steps(rt: HostRuntime) -> Result<(), Fail> {
+    let done = replay(&rt, rt.alloc(), Bench::Scale(1), &HASTY[..2])?;
+    assert!(rt; done == (Ok(2), hungry()));
+    Ok(())
+}
+
 // A job keeps a mark over its neighbour's request. From place 16 on it gives what it was asked for,
 // and sits once more.
 pub(super) const STALE_MARK: [Step; 28] = [

@@ -1,7 +1,7 @@
 // Where events are legal, also where no law of runs would tell.
 use super::cases::STALE_MARK;
-use super::{A, AB, B, Bench, OPENED, Shown, after, counts, opened, phase};
-use crate::{Dining, Drinking, EdgeState, End, Event, JobState, Step};
+use super::{A, AB, B, Bench, OPENED, Shown, after, counts, opened, phase, replay_steps};
+use crate::{Dining, Drinking, EdgeState, End, Event, JobState, NotLegal, Step, StepLine};
 use lab_plan::{EdgeNo, JobNo};
 use std::alloc::Allocator;
 use std::process::Abort;
@@ -40,6 +40,38 @@ fn check_acts<T: Allocator + Copy>(rt: &impl Abort, alloc: T) -> Result<(), Fail
 #[test]
 fn acts_only_where_it_reaches(rt: HostRuntime) -> Result<(), Fail> {
     check_acts(&rt, rt.alloc())
+}
+
+fn line_of(step: Step) -> StepLine {
+    StepLine { line: 1, step }
+}
+
+// The first 16 steps of the stale mark, with `act b` put in after so many of them.
+fn with_act_of_b(place: usize) -> [StepLine; 17] {
+    let mut lines = [line_of(Step::Act(B)); 17];
+    for index in 0..16 {
+        let at = if index < place { index } else { index + 1 };
+        lines[at] = line_of(STALE_MARK[index]);
+    }
+    lines
+}
+
+// Job b never reaches in those steps: the replay stops at its entry, after the steps before it.
+fn check_stops<T: Allocator + Copy>(rt: &impl Abort, alloc: T) -> Result<(), Fail> {
+    for place in 0..17 {
+        let lines = with_act_of_b(place);
+        let (answer, shown) = replay_steps(rt, alloc, Bench::Scale(2), &lines)?;
+        let before = &STALE_MARK[..place];
+        let (done, stays) = after(rt, alloc, Bench::Scale(2), before, &Event::Act(B))?;
+        assert!(rt; answer == Err((place, NotLegal)), "after {place}");
+        assert!(rt; !done && shown == stays, "after {place}");
+    }
+    Ok(())
+}
+
+#[test]
+fn stops_where_it_acts_too_soon(rt: HostRuntime) -> Result<(), Fail> {
+    check_stops(&rt, rt.alloc())
 }
 
 const OF_SESSIONS: [Case; 12] = [

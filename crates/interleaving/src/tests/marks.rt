@@ -8,9 +8,9 @@ use std::process::Abort;
 use std::test::Fail;
 
 // Whether the job has a mark for the fork, and which bottles it has marks for.
-type Marks = (bool, u32);
+pub(super) type Marks = (bool, u32);
 
-fn marks<T: Allocator>(rt: &impl Abort, world: &World<T>, job: JobNo) -> Marks {
+pub(super) fn marks<T: Allocator>(rt: &impl Abort, world: &World<T>, job: JobNo) -> Marks {
     assert!(rt; world.plan().edges() > 0);
     let (lower, higher) = world.plan().ends(AB);
     assert!(rt; lower == job || higher == job);

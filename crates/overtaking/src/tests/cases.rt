@@ -13,22 +13,21 @@ use std::process::Abort;
 use std::test::Fail;
 
 /// The overtaking at a request, while the job with the stale mark has to wait, and after it ate once more.
-fn overtakes_once<T: Allocator + Copy>(rt: &impl Abort, alloc: T) -> Result<(), Fail> {
+fn overtakes_once<T: Allocator + Copy>(rt: &impl Abort, alloc: T) {
     let plan = plan_of(rt, alloc, Bench::Twice);
     let mut world = start(rt, alloc, &plan, &ALL_LOWER);
     let mut events = Vec::new(alloc);
-    go_on(rt, &mut world, &mut events, &STALE_MARK)?;
+    go_on(rt, &mut world, &mut events, &STALE_MARK);
     assert!(rt; world.step(Event::Sit(A)).is_err());
     assert!(rt; overtaking(rt, &plan, &events, 5, B) == 1);
-    go_on(rt, &mut world, &mut events, &BOTH_SIT)?;
+    go_on(rt, &mut world, &mut events, &BOTH_SIT);
     assert!(rt; overtaking(rt, &plan, &events, 5, B) == 1);
     assert!(rt; overtaking(rt, &plan, &events, 23, A) == 0);
-    Ok(())
 }
 
 #[test]
-fn stale_mark(rt: HostRuntime) -> Result<(), Fail> {
-    overtakes_once(&rt, rt.alloc())
+fn stale_mark(rt: HostRuntime) {
+    overtakes_once(&rt, rt.alloc());
 }
 
 fn ranks<T: Allocator + Copy>(
@@ -86,8 +85,8 @@ fn by_dirt<T: Allocator>(rt: &impl Abort, world: &World<'_, T>, edge: EdgeNo) ->
 /// Up to the first fork that is soiled.
 fn begin_meal<T: Allocator + Copy>(rt: &impl Abort, alloc: T, world: &mut World<'_, T>) {
     let mut events = Vec::new(alloc);
-    assert!(rt; go_on(rt, world, &mut events, &FORKS_COME).is_ok());
-    assert!(rt; go_on(rt, world, &mut events, &MEAL[..2]).is_ok());
+    go_on(rt, world, &mut events, &FORKS_COME);
+    go_on(rt, world, &mut events, &MEAL[..2]);
 }
 
 /// During the meal dirt alone would put each job before the next, and the last before the first.

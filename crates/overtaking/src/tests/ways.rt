@@ -8,7 +8,6 @@ use interleaving::{EndChoice, Event};
 use lab_plan::InstrumentNo;
 use std::alloc::Allocator;
 use std::process::Abort;
-use std::test::Fail;
 
 /// From the start a way leads on after each beginning of these events; after all of them only where
 /// some job isn't retired by then.
@@ -19,12 +18,12 @@ fn leads_all_along<T: Allocator + Copy>(
     choices: &[EndChoice],
     parts: &[&[Doing]],
     are_retired: bool,
-) -> Result<(), Fail> {
+) {
     let plan = plan_of(rt, alloc, bench);
     let mut world = start(rt, alloc, &plan, choices);
     let mut events = Vec::new(alloc);
     for doings in parts {
-        go_on(rt, &mut world, &mut events, doings)?;
+        go_on(rt, &mut world, &mut events, doings);
     }
     for count in 0..=events.len() {
         let wanted = count < events.len() || !are_retired;
@@ -33,7 +32,6 @@ fn leads_all_along<T: Allocator + Copy>(
             "after {count}"
         );
     }
-    Ok(())
 }
 
 /// Job a eats before it drinks.
@@ -59,28 +57,28 @@ const GIVEN_UP: [Doing; 10] = [
 ];
 
 #[test]
-fn leads_on_while_eating_before_drinking(rt: HostRuntime) -> Result<(), Fail> {
+fn leads_on_while_eating_before_drinking(rt: HostRuntime) {
     let parts = [MEAL_FIRST.as_slice()];
-    leads_all_along(&rt, rt.alloc(), Bench::Two, &ALL_LOWER, &parts, false)
+    leads_all_along(&rt, rt.alloc(), Bench::Two, &ALL_LOWER, &parts, false);
 }
 
 #[test]
-fn leads_on_with_a_stale_mark(rt: HostRuntime) -> Result<(), Fail> {
+fn leads_on_with_a_stale_mark(rt: HostRuntime) {
     let parts = [STALE_MARK.as_slice(), BOTH_SIT.as_slice()];
-    leads_all_along(&rt, rt.alloc(), Bench::Twice, &ALL_LOWER, &parts, false)
+    leads_all_along(&rt, rt.alloc(), Bench::Twice, &ALL_LOWER, &parts, false);
 }
 
 #[test]
-fn leads_on_in_a_triangle(rt: HostRuntime) -> Result<(), Fail> {
+fn leads_on_in_a_triangle(rt: HostRuntime) {
     let parts = [FORKS_COME.as_slice(), MEAL.as_slice()];
-    leads_all_along(&rt, rt.alloc(), Bench::Three, &FORKS_HIGHER, &parts, false)
+    leads_all_along(&rt, rt.alloc(), Bench::Three, &FORKS_HIGHER, &parts, false);
 }
 
 /// Only where both are retired no way on is left.
 #[test]
-fn leads_on_without_patience(rt: HostRuntime) -> Result<(), Fail> {
+fn leads_on_without_patience(rt: HostRuntime) {
     let parts = [GIVEN_UP.as_slice()];
-    leads_all_along(&rt, rt.alloc(), Bench::Impatient, &ALL_LOWER, &parts, true)
+    leads_all_along(&rt, rt.alloc(), Bench::Impatient, &ALL_LOWER, &parts, true);
 }
 
 /// Whether `way_on` alone leads from the start to its end, with these values in the log of each instrument.
