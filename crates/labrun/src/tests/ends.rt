@@ -7,6 +7,7 @@ use crate::words::Task;
 use report::ToWrite;
 use std::alloc::Global;
 use std::io::{self, Read};
+use std::process::Abort;
 
 /// What a run reads that gets its text in pieces of at most so many bytes, and is interrupted after these calls.
 fn replay_of(out: Global, text: &[u8], most: usize, calls: usize) -> super::Told {
@@ -29,6 +30,10 @@ fn replay_of(out: Global, text: &[u8], most: usize, calls: usize) -> super::Told
 /// The report of two jobs before their first event.
 const REPORT: &[u8] =
     b"lab 1\ninstrument scale 0\njob a sessions 0 of 1 meals 0 waiting\njob b sessions 0 of 1 meals 0 waiting\nunfinished\n";
+
+/// The script of two jobs in version 2.
+const UPGRADED: &[u8] =
+    b"lab 2\njob a\nsession\nscale add 1\nend\njob b\nsession\nscale add 1\nend\n";
 
 #[test]
 fn pieces_of_any_length(rt: HostRuntime) {
@@ -101,6 +106,35 @@ fn writer_takes_a_byte(rt: HostRuntime) {
     }
     let (bytes, answer) = told_by(rt.alloc(), rt.alloc(), Task::Replay, text, (1, 1000));
     assert!(rt; answer == Ok(Outcome::Unfinished) && bytes.as_slice() == REPORT);
+}
+
+/// A run that writes this text, of so many lines: a write of a line that fails is told, and so is the flush behind them.
+fn flushes(rt: &impl Abort, alloc: Global, task: Task, lines: u8, text: &[u8]) {
+    let lines = usize::from(lines);
+    for calls in 0..lines + 1 {
+        let (bytes, answer) = told_by(alloc, alloc, task, TWO_ADD.as_bytes(), (4096, calls));
+        assert!(rt; answer == Err(RunFault::Write), "after {calls} calls");
+        assert!(rt;
+            (bytes.as_slice() == text) == (calls == lines),
+            "after {calls} calls"
+        );
+    }
+    let (bytes, answer) = told_by(alloc, alloc, task, TWO_ADD.as_bytes(), (4096, lines + 1));
+    assert!(rt; answer.is_ok() && bytes.as_slice() == text);
+}
+
+/// Each run goes out a line a call, and then one flush, whose failure is told.
+#[test]
+fn flush_fails(rt: HostRuntime) {
+    flushes(&rt, rt.alloc(), Task::Replay, 5, REPORT);
+    flushes(
+        &rt,
+        rt.alloc(),
+        Task::Check,
+        1,
+        b"ok jobs 2 instruments 1 edges 1 sessions 2 commands 2\n",
+    );
+    flushes(&rt, rt.alloc(), Task::Upgrade, 9, UPGRADED);
 }
 
 #[test]
