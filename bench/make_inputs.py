@@ -1,6 +1,7 @@
 #!/usr/bin/env python3
-"""Writes the largest inputs that labrun takes into a folder (the first argument):
+"""Writes large inputs of labrun into a folder (the first argument):
 
+sessions.lab 32 jobs, one instrument, 32000 sessions of one command, the most that there can be: for check
 script.lab   32 jobs, 56 instruments, 3200 sessions, 100000 commands: for check and upgrade
 acts.lab     the same size with each job on instruments of its own, and steps that do every command: for replay
 long.lab     32 jobs that share one instrument, and 400000 looks of 39 bytes: for replay
@@ -63,6 +64,14 @@ def shared(name):
     return lines + ["steps"]
 
 
+def sessions():
+    """Every job with as many sessions as it may have, each of one command."""
+    lines = ["lab 1"]
+    for job in range(JOBS):
+        lines += ["job job-%012d" % job] + ["session", "scale read", "end"] * 1000
+    return lines
+
+
 def steps(word, name, count):
     """So many steps of one word, over every pair of jobs; each is legal wherever it stands."""
     lines = []
@@ -84,6 +93,7 @@ def main():
         return "j%03d" % job
 
     texts = {
+        "sessions": sessions(),
         "script": script(lambda job: [(job * 7 + k) % INSTRUMENTS for k in range(28)]),
         "acts": acts(),
         "long": shared(long_name) + steps("look", long_name, 400_000),

@@ -1,5 +1,5 @@
 #!/usr/bin/env python3
-"""Measures the built program beside awk on the largest inputs, and prints a table.
+"""Measures the built program beside awk on large inputs, and prints a table.
 
 Usage: bench/measure.py [ROUNDS]     (from the repository's root, after ./labrun was built; 5 rounds unless said)
 
@@ -19,6 +19,7 @@ AWK = [shutil.which("mawk") or "awk", "{ a[$1]++; b[$2]++; c[$3]++ } END { print
 
 # the word, the input, the wanted status, and how many times awk's time it may take
 RUNS = [
+    ("check", "sessions", 0, 1.5),
     ("check", "script", 0, 1.5),
     ("upgrade", "script", 0, 2.0),
     ("replay", "acts", 0, 3.0),
