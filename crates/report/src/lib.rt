@@ -18,6 +18,3 @@ pub use script::write_script;
 pub use sink::{Failed, Sink, ToWrite};
 pub use tally::Tally;
 pub use world::write_world;
-
-#[cfg(test)]
-mod tests;
