@@ -32,8 +32,8 @@ fn go_on<T: Allocator, V: Allocator>(
     steps: &[Step],
 ) {
     for step in steps {
+        assert!(rt; events.push(event_of(rt, world, *step)).is_ok());
         let event = event_of(rt, world, *step);
-        assert!(rt; events.push(event).is_ok());
         assert!(rt; world.step(event).is_ok());
     }
 }

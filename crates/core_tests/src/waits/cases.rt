@@ -17,10 +17,11 @@ fn overtakes_once<T: Allocator + Copy>(rt: &impl Abort, alloc: T) {
     let plan = plan_of(rt, alloc, TWICE);
     let mut world = start(rt, alloc, &plan, &ALL_LOWER);
     let mut events = Vec::new(alloc);
-    go_on(rt, &mut world, &mut events, &STALE_MARK[..16]);
+    let steps = STALE_MARK.as_slice();
+    go_on(rt, &mut world, &mut events, &steps[..16]);
     assert!(rt; world.step(Event::Sit(A)).is_err());
     assert!(rt; overtaking(rt, &plan, &events, 5, B) == 1);
-    go_on(rt, &mut world, &mut events, &STALE_MARK[16..]);
+    go_on(rt, &mut world, &mut events, &steps[16..]);
     assert!(rt; overtaking(rt, &plan, &events, 5, B) == 1);
     assert!(rt; overtaking(rt, &plan, &events, 23, A) == 0);
 }
@@ -61,8 +62,9 @@ fn turns_with_meals<T: Allocator + Copy>(rt: &impl Abort, alloc: T) {
     let plan = plan_of(rt, alloc, THREE);
     let mut world = start(rt, alloc, &plan, &FORKS_HIGHER);
     assert!(rt; ranks(rt, alloc, &world, [A, B, C]));
-    keeps_ranking(rt, alloc, &mut world, &MEAL_OF_THREE[..8], [A, B, C]);
-    keeps_ranking(rt, alloc, &mut world, &MEAL_OF_THREE[8..], [B, C, A]);
+    let steps = MEAL_OF_THREE.as_slice();
+    keeps_ranking(rt, alloc, &mut world, &steps[..8], [A, B, C]);
+    keeps_ranking(rt, alloc, &mut world, &steps[8..], [B, C, A]);
 }
 
 #[test]
