@@ -1,0 +1,9 @@
+pub mod DeskView
+pub mod DeskInside
+pub mod BenchInside
+pub mod Filling
+pub mod Company
+pub mod Ending
+pub mod EndView
+pub mod Openings
+pub mod Knowing

@@ -1,0 +1,5 @@
+pub mod History
+pub mod Lists
+pub mod Changes
+pub mod Reaching
+pub mod Patience

@@ -1,0 +1,4 @@
+pub mod Due
+pub mod Acts
+pub mod Turn
+pub mod Turns
