@@ -7,7 +7,7 @@ use Rattle.legal_steps.specs.State.{State, Seat, edge, seat, phase, fork_mark, b
 use Rattle.edge_word.specs.Words.{IsOfBottles}
 use Rattle.edge_rule.specs.declared.desk.Desk.TheInside.{Inside}
 use Rattle.one_history.specs.Grow.{hand_in, mine}
-use Rattle.edge_rule.specs.DeskView.{DeskView, known}
+use Rattle.edge_rule.specs.DeskView.{DeskView, known, IsAtRest}
 use Rattle.edge_rule.specs.DeskInside.{view_of, kept, IsDesk}
 use Rattle.edge_rule.specs.Knowing.{IsKnown}
 use Rattle.edge_rule.proofs.DeskSteps.{mine_seats, mine_edges, mine_fits}
@@ -22,6 +22,9 @@ module _ {A : Type 0} (d : Inside A) (y : DeskView) (is : view_of d ≡ y) (ok :
     edges_fit = λ e l. subst (λ (z : List EdgeState). IsOfBottles (length (bottles (hand_in d.seat.me.0).plan e)) (get_or z e no_edge)) (sym ok.seen) (ok.of_plan e l);
     rests = subst (λ (z : Seat). z.phase.drinking ≢ Reaching) (sym ok.own) ok.rests;
   })
+
+  pub known_rest : IsAtRest y
+  known_rest = subst IsAtRest is (record { inside = ok.at_rest.inside; legal = ok.at_rest.legal; whole = ok.at_rest.whole })
 
   pub known_job : d.job ≡ y.job
   known_job = sym ok.job ∙ ap (λ (z : DeskView). z.job) is

@@ -1,5 +1,5 @@
 -- What contracts see of a bench and of a desk.
-use Rattle.std.specs.Prelude.{◌≡◌, ◌≢◌, ℕ, zero, suc, Bool, List, [], ◌∷◌, ◌++◌}
+use Rattle.std.specs.Prelude.{◌≡◌, ◌≢◌, ℕ, zero, suc, ◌<◌, Bool, List, [], ◌∷◌, ◌++◌, length}
 use Rattle.atomic_table.specs.Seated.{TableId}
 use Rattle.lab_plan.specs.LabPlan.{LabPlan}
 use Rattle.legal_steps.specs.declared.event.Event.{Event}
@@ -39,6 +39,12 @@ known d = known_by d.plan d.deeds
 -- the state that the history so far leads to
 abbrev pub shown : DeskView → State
 shown d = state_after d.plan d.front
+
+-- A desk at rest: its job is one of the plan's, the history that it has seen is legal, and has the desk's record as the job's events
+pub record IsAtRest (d : DeskView) : Type 0 where
+  pub inside : d.job < length d.plan.jobs
+  pub legal : IsHistory d.plan d.front
+  pub whole : events_by d.job d.front ≡ d.deeds
 
 -- The group g is added to the record, and the history so far begins with the front before and ends with g. It is legal, and has the record whole
 pub record Adds (d : DeskView) (g : List Event) (e : DeskView) : Type 0 where

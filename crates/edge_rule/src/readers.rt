@@ -3,7 +3,7 @@ ghost use Rattle.std.specs.Prelude.{◌≡◌, ◌<◌, ◌≤◌, length};
 ghost use Rattle.lab_plan.specs.LabPlan.{edges, bottles};
 ghost use Rattle.legal_steps.specs.State.{IsOwn, edge as edge_at, phase as phase_at, fork_mark as fork_mark_at, bottle_marks as bottle_marks_at};
 ghost use Rattle.edge_word.specs.Words.{IsOfBottles};
-ghost use Rattle.edge_rule.specs.DeskView.{known, waited, noted};
+ghost use Rattle.edge_rule.specs.DeskView.{known, waited, noted, IsAtRest};
 ghost use Rattle.locality.specs.Patience.{is_waiting};
 ghost use Rattle.edge_rule.specs.Knowing.{IsKnown};
 
@@ -30,6 +30,7 @@ impl<A: Allocator> Desk<A> {
     pub fn job(&self) -> JobNo
         ensures job { result ≡ self.now.job }
         ensures known { IsKnown self.now.plan (known self.now) self.now.job }
+        ensures rest { IsAtRest self.now }
     {
         self.job
     }
