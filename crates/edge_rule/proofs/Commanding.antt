@@ -198,11 +198,11 @@ module _ {A : Type 0} (b : bench_fields.Inside A) (d : Inside A) (is_bench : IsB
           let may1 : May cp (mine v1) (Act (hand_in v1).job) = (subst (λ (q : ℕ). q < length cp.jobs) (sym job1) here, ap (λ (q : JobState). q.drinking) phase1) in
           let slot1 : k ≡ next_instrument v1 = slot_known k is_k ∙ sym next_one in
           let z_is : z ≡ with_log_entry (log_view cp u k) (next_entry cp u (hand_in v1).job) =
-              is_z ∙ (λ r. with_log_entry ((same_log ∙ ap (log_view cp u) (sym (slot_known k is_k))) r) ((entry_next ∙ ap (next_entry cp u) (sym job1)) r)) in
+          is_z ∙ (λ r. with_log_entry ((same_log ∙ ap (log_view cp u) (sym (slot_known k is_k))) r) ((entry_next ∙ ap (next_entry cp u) (sym job1)) r)) in
           let whole1 : events_by (hand_in v1).job v1.front ≡ (hand_in v1).deeds = rests1.whole in
           let n_is : n ≡ phase_word_of (record (own_phase v1) { drinking = Drinks; position = (own_phase v1).position + 1 }) = is_n ∙ ap (λ (q : JobState). phase_word_of (record q { drinking = Drinks; position = q.position + 1 })) (sym phase1) in
           let allows : Allows (Kept cp) slots s1.id (v1, c) (phase_place cp (hand_in v1).job) (λ _. n) (λ _. acted (step slots (phase_place cp (hand_in v1).job) n 0 none) (v1, c) n) =
-              acts cp slots s1.id v1 c (led v1 rests1.mine) (subst (λ (q : ℕ). q < length cp.jobs) (sym job1) here) n k z is_c may1 slot1 z_is whole1 n_is in
+          acts cp slots s1.id v1 c (led v1 rests1.mine) (subst (λ (q : ℕ). q < length cp.jobs) (sym job1) here) n k z is_c may1 slot1 z_is whole1 n_is in
           subst (λ q. ActsAt q n c) (sym place) (
             same_table ∙ owns.0,
             (omega arith),

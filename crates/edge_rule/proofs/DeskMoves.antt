@@ -124,6 +124,7 @@ module _ (plan : LabPlan) (j e : ℕ) where
     later : (y : Seat) → seat_all plan y (on (not (m.give_bottles == 0)) (GiveBottles j e m.give_bottles) (on m.ask_fork (AskFork j e) (on (not (m.ask_bottles == 0)) (AskBottles j e m.ask_bottles) (on m.soil (Soil j e) []))))
         ≡ seat_all plan (record y { bottle_marks = set y.bottle_marks e (bottle_marks_after m (get_or y.bottle_marks e 0)) }) (on m.soil (Soil j e) [])
     later y = give_bottles y m.give_bottles _ ∙ (skip_ask _ m.ask_fork _ ∙ skip_tokens _ m.ask_bottles (not (m.ask_bottles == 0)) _)
+
     given_first : (b : Bool) → seat_all plan x (on b (GiveFork j e) (on (not (m.give_bottles == 0)) (GiveBottles j e m.give_bottles) (on m.ask_fork (AskFork j e) (on (not (m.ask_bottles == 0)) (AskBottles j e m.ask_bottles) (on m.soil (Soil j e) [])))))
         ≡ record { phase = x.phase; fork_marks = set x.fork_marks e (if m.soil then true else if b then false else get_or x.fork_marks e false); bottle_marks = set x.bottle_marks e (bottle_marks_after m (get_or x.bottle_marks e 0)) }
     given_first false = later x ∙ forks (record x { bottle_marks = set x.bottle_marks e (bottle_marks_after m (get_or x.bottle_marks e 0)) }) m.soil false []
@@ -211,7 +212,7 @@ module _ {A : Type 0} (b : bench_fields.Inside A) (d : Inside A) (is_bench : IsB
       let wide : length (mine mv).edges ≡ length (edges mp) = mine_edges mv in
       let inside = own.is_edge in
       let back : moves_of_words old new ≡ m = (λ i. moves_of_words ((is_old ∙ ap word_of is_x) i) ((is_new ∙ ap word_of (is_y ∙ ap (after_moves m) is_x)) i))
-          ∙ read_back mp (mine mv) mj e m (omega arith) few seen_fits may in
+      ∙ read_back mp (mine mv) mj e m (omega arith) few seen_fits may in
       subst (λ (z : EdgeMoves × ℕ). Grows mv (events_of z.0 mj z.1) s'.me.0) (λ i. (back i, here i)) (t.0 hit)
 
   -- the desk after moves
@@ -233,7 +234,7 @@ module _ {A : Type 0} (b : bench_fields.Inside A) (d : Inside A) (is_bench : IsB
       let forks_now : d'.fork_marks.items ≡ set d.fork_marks.items e (fork_mark_after m (get_or d.fork_marks.items e false)) = forks_are ∙ (λ i. set d.fork_marks.items (at i) ((is_fork ∙ ap (fork_mark_after m) fork_was) i)) in
       let marks_now : d'.bottle_marks.items ≡ set d.bottle_marks.items e (bottle_marks_after m (get_or d.bottle_marks.items e 0)) = marks_are ∙ (λ i. set d.bottle_marks.items (at i) ((is_marks ∙ ap (bottle_marks_after m) marks_were) i)) in
       let own_now : seat (learned_all mp (mine mv) (events_of m mj e)) mj ≡ kept d' =
-          moved_seat mp mj e m (mine mv) (omega arith) ∙ (ap becomes ok.own ∙ (λ i. record { phase = sym phase i; fork_marks = sym forks_now i; bottle_marks = sym marks_now i })) in
+      moved_seat mp mj e m (mine mv) (omega arith) ∙ (ap becomes ok.own ∙ (λ i. record { phase = sym phase i; fork_marks = sym forks_now i; bottle_marks = sym marks_now i })) in
       let seen_now : d'.seen.items ≡ set d.seen.items e y = seen ∙ ap (λ k. set d.seen.items k y) at in
       desk_grows d ok d' (events_of m mj e) t (empty ∙ ok.empty) job own_now
       (moved_edges mp mj e m (mine mv) (omega arith) ∙ ((λ i. set (ok.seen i) e (sym y_is i)) ∙ sym seen_now))
@@ -339,7 +340,7 @@ module _ {A : Type 0} (b : bench_fields.Inside A) (d : Inside A) (is_bench : IsB
       let here = ok.at_rest.inside in
       let by = by_job what sj in
       let own_now : seat (learned_all sp (mine sv) (event_of what sj ∷ [])) sj ≡ kept d' =
-          subst (λ i. i < length (mine sv).seats → seat (learned sp (mine sv) (event_of what sj)) i ≡ seat_after sp (seat (mine sv) i) (event_of what sj)) by (learned_seat sp (mine sv) (event_of what sj)) (omega arith)
-          ∙ (ap (λ (x : Seat). seat_after sp x (event_of what sj)) ok.own ∙ (seat_stored what sp sj (kept d) ∙ (λ i. record { phase = sym phase i; fork_marks = sym forks_are i; bottle_marks = sym marks_are i }))) in
+      subst (λ i. i < length (mine sv).seats → seat (learned sp (mine sv) (event_of what sj)) i ≡ seat_after sp (seat (mine sv) i) (event_of what sj)) by (learned_seat sp (mine sv) (event_of what sj)) (omega arith)
+      ∙ (ap (λ (x : Seat). seat_after sp x (event_of what sj)) ok.own ∙ (seat_stored what sp sj (kept d) ∙ (λ i. record { phase = sym phase i; fork_marks = sym forks_are i; bottle_marks = sym marks_are i }))) in
       desk_grows d ok d' (event_of what sj ∷ []) t (empty ∙ ok.empty) job own_now (learned_phase what sp sj (mine sv) ∙ (ok.seen ∙ sym seen)) (subst (AreOfPlan sp) (sym seen) ok.of_plan)
       (subst (λ (z : JobState). z.drinking ≢ Reaching) (sym phase) (still_rests what d.phase ok.rests))

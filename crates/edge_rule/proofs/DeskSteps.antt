@@ -195,8 +195,8 @@ module _ {A : Type 0} (d d' : Inside A) (ok : IsDesk d) (e : ℕ) (x : EdgeState
       let fork_is : fork ≡ fork_mark_seen d.phase.dining (end_of lp lj e) x = is_fork ∙ (λ i. fork_mark_seen d.phase.dining (end_of (is_p i) (sym ok.job i) e) x) in
       let marks_is : marks ≡ bottles_at lp e (end_of lp lj e) x = is_marks ∙ (λ i. bottles_at (is_p i) e (end_of (is_p i) (sym ok.job i) e) x) in
       let own : seat (learned_all lp (mine lv) (event ∷ [])) lj ≡ kept d' =
-          learned_seat lp (mine lv) event (omega arith) ∙ (ap (λ (y : Seat). seat_after lp y event) ok.own
-          ∙ (λ i. record { phase = sym phase i; fork_marks = (ap (set d.fork_marks.items e) (sym fork_is) ∙ sym forks) i; bottle_marks = (ap (set d.bottle_marks.items e) (sym marks_is) ∙ sym bottle_marks) i })) in
+      learned_seat lp (mine lv) event (omega arith) ∙ (ap (λ (y : Seat). seat_after lp y event) ok.own
+      ∙ (λ i. record { phase = sym phase i; fork_marks = (ap (set d.fork_marks.items e) (sym fork_is) ∙ sym forks) i; bottle_marks = (ap (set d.bottle_marks.items e) (sym marks_is) ∙ sym bottle_marks) i })) in
       desk_grows d ok d' (event ∷ []) t (empty ∙ ok.empty) job own (ap (λ (l : List EdgeState). set l e x) ok.seen ∙ sym seen)
       (subst (AreOfPlan lp) (sym seen) (of_plan_set d ok e x inside (subst (λ (z : LabPlan). IsOfBottles (length (bottles z e)) x) is_p fits)))
       (subst (λ (z : JobState). z.drinking ≢ Reaching) (sym phase) ok.rests)

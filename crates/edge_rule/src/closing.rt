@@ -6,15 +6,19 @@ ghost use Rattle.edge_rule.specs.DeskView.{Owns};
 ghost use Rattle.edge_rule.specs.Ending.{gathered, HasAll, Rests, IsEnd};
 
 use crate::bench::Bench;
-use one_history::board::{Board, Enters, Notes, View};
 use crate::desk::Desk;
 use crate::ended::Ended;
 use atomic_table::Seat;
 use instrument_log::InstrumentLog;
+use one_history::board::{Board, Enters, Notes, View};
 use std::alloc::Allocator;
 
 // The keeper takes over all hands.
-fn gather<A: Allocator>(table: &Board<A>, keeper: &mut Seat<InstrumentLog<A>, View>, mut desks: Vec<Desk<A>, A>)
+fn gather<A: Allocator>(
+    table: &Board<A>,
+    keeper: &mut Seat<InstrumentLog<A>, View>,
+    mut desks: Vec<Desk<A>, A>,
+)
     requires table { (keeper.old.table_id ≡ table.now.shared.table_id) × (0 < table.now.shared.table_id.words) }
     requires empty { keeper.old.me ≡ (nothing, []) }
     requires own { Each (λ d. d.table ≡ table.now.shared.table_id) desks.items }

@@ -10,12 +10,12 @@ ghost use Rattle.edge_rule.specs.Filling.{entry_after, IsAtCommand};
 ghost use Rattle.edge_rule.specs.DeskView.{Owns, Commanded, known};
 
 use crate::bench::Bench;
-use one_history::board::{Acts, Reaches};
 use crate::desk::Desk;
 use crate::words::{packed_phase, phase_place};
 use instrument_log::{Entry, InstrumentLog, turned};
 use lab_plan::{InstrumentNo, JobNo, Plan, Verb};
 use legal_steps::{Drinking, JobState};
+use one_history::board::{Acts, Reaches};
 use std::alloc::Allocator;
 
 fn next_command<A: Allocator>(plan: &Plan<A>, job: JobNo, phase: JobState) -> (InstrumentNo, Verb)
@@ -34,7 +34,12 @@ fn slot_of<A: Allocator>(plan: &Plan<A>, job: JobNo, phase: JobState) -> usize
 
 // The entry of the next command, where the dial is at this value.
 #[tactic(auto, unfolding(crate::specs::Filling::entry_after))]
-fn next_entry<A: Allocator>(plan: &Plan<A>, job: JobNo, phase: JobState, log: &InstrumentLog<A>) -> Entry
+fn next_entry<A: Allocator>(
+    plan: &Plan<A>,
+    job: JobNo,
+    phase: JobState,
+    log: &InstrumentLog<A>,
+) -> Entry
     requires { IsAtCommand plan.now job phase }
     ensures { result ≡ entry_after plan.now job phase log.now.entries }
 {

@@ -7,14 +7,18 @@ ghost use Rattle.edge_rule.specs.Company.{Met, Distinct, jobs_of};
 ghost use Rattle.locality.specs.Lists.{Each, StartsWith};
 
 use crate::bench::Bench;
-use one_history::board::{Backs, Board, Lends, Notes, Notices, Returns, View};
 use crate::desk::Desk;
 use atomic_table::Seat;
 use instrument_log::InstrumentLog;
+use one_history::board::{Backs, Board, Lends, Notes, Notices, Returns, View};
 use std::alloc::Allocator;
 
 // All hands of the others are lent to `me` for one load, which is no event.
-fn hear<A: Allocator>(table: &Board<A>, me: &mut Seat<InstrumentLog<A>, View>, others: &mut [Desk<A>])
+fn hear<A: Allocator>(
+    table: &Board<A>,
+    me: &mut Seat<InstrumentLog<A>, View>,
+    others: &mut [Desk<A>],
+)
     requires table { (me.old.table_id ≡ table.now.shared.table_id) × (0 < table.now.shared.table_id.words) }
     requires own { Each (λ d. d.table ≡ table.now.shared.table_id) others.old }
     requires led { IsLed me.old.me.0 × (me.old.me.1 ≡ []) }

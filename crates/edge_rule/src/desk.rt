@@ -1,11 +1,11 @@
 //! One job's seat at the bench.
-use one_history::board::View;
 use crate::clock::Clock;
 use atomic_table::Seat;
 use edge_word::EdgeWord;
 use instrument_log::InstrumentLog;
 use lab_plan::JobNo;
 use legal_steps::JobState;
+use one_history::board::View;
 use std::alloc::{Allocator, Global};
 use std::marker::Model;
 

@@ -21,14 +21,14 @@ mod words;
 
 pub use bench::Bench;
 pub use calls::Stepped;
-pub use one_history::PhaseEvent;
-pub use commands::command;
 pub use clock::Clock;
 pub use closing::close;
+pub use commands::command;
 pub use company::meet_all;
 pub use desk::Desk;
 pub use ended::Ended;
 pub use meeting::{glance, meet};
+pub use one_history::PhaseEvent;
 pub use opening::open;
 pub use pairs::look_both;
 pub use readers::unpacked_edge;

@@ -10,13 +10,13 @@ ghost use Rattle.one_history.specs.Grow.{hand_in, IsMine, Does};
 ghost use Rattle.legal_steps.specs.declared.phase.JobState.{JobState};
 
 use crate::bench::Bench;
-use one_history::board::{Board, Glances, Lends, Notes, Returns, View};
 use crate::desk::Desk;
 use crate::words::{phase_place, unpacked_phase};
 use atomic_table::Seat;
 use edge_word::PhaseWord;
 use instrument_log::InstrumentLog;
 use lab_plan::JobNo;
+use one_history::board::{Board, Glances, Lends, Notes, Returns, View};
 use std::alloc::Allocator;
 
 // The other's hand is lent to `me` for one load of the word, which is the other's phase word.

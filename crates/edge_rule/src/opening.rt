@@ -8,7 +8,6 @@ ghost use Rattle.edge_rule.specs.Openings.{opening_edges};
 ghost use Rattle.edge_rule.specs.DeskView.{fresh_desk, fresh_desks};
 
 use crate::bench::Bench;
-use one_history::board::{Board, Deals, View};
 use crate::clock::Clock;
 use crate::desk::Desk;
 use crate::rooms::empty_logs;
@@ -17,6 +16,7 @@ use edge_word::EdgeWord;
 use instrument_log::InstrumentLog;
 use lab_plan::{EdgeNo, JobNo, Plan};
 use legal_steps::{Dining, Drinking, JobState};
+use one_history::board::{Board, Deals, View};
 use std::alloc::{AllocError, Allocator};
 
 // The words of THE opening.
@@ -33,7 +33,10 @@ fn fresh_words<A: Allocator + Copy>(alloc: A, plan: &Plan<A>) -> Result<Vec<u64,
 }
 
 // The edges of THE opening, as a desk sees them.
-fn fresh_edges<A: Allocator + Copy>(alloc: A, plan: &Plan<A>) -> Result<Vec<EdgeWord, A>, AllocError>
+fn fresh_edges<A: Allocator + Copy>(
+    alloc: A,
+    plan: &Plan<A>,
+) -> Result<Vec<EdgeWord, A>, AllocError>
     ensures { IfOk result (λ v. v.items ≡ opening_edges plan.now (length (edges plan.now))) }
 {
     let mut seen = Vec::with_capacity(alloc, plan.edges() as usize)?;
@@ -106,7 +109,10 @@ fn deal<A: Allocator + Copy>(
 }
 
 /// A bench for the plan, in THE opening, and a desk for each job, in ascending order.
-pub fn open<'p, A: Allocator + Copy>(alloc: A, plan: &'p Plan<A>) -> Result<(Bench<'p, A>, Vec<Desk<A>, A>), AllocError>
+pub fn open<'p, A: Allocator + Copy>(
+    alloc: A,
+    plan: &'p Plan<A>,
+) -> Result<(Bench<'p, A>, Vec<Desk<A>, A>), AllocError>
     ensures { IfOk result (λ r. (r.0.plan ≡ plan.now) × (r.1.items ≡ fresh_desks r.0.table plan.now (length plan.now.jobs))) }
 {
     let _ = plan.jobs();

@@ -102,7 +102,11 @@ impl<A: Allocator> Desk<A> {
         let thirsty = thirsty_at_start && is_thirsty(self.phase.drinking);
         self.clock = Clock {
             turns: self.clock.turns.saturating_add(1),
-            waited: if thirsty { waited.saturating_add(1) } else { waited },
+            waited: if thirsty {
+                waited.saturating_add(1)
+            } else {
+                waited
+            },
             session: self.phase.session,
         };
     }

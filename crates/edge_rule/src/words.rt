@@ -11,10 +11,10 @@ ghost use Rattle.one_history.specs.PhaseEvents.{phase_after as next_phase, clear
 ghost use Rattle.one_history.specs.Rule.{phase_place as place_of};
 ghost use Rattle.edge_rule.specs.Filling.{fork_mark_after as mark_after, bottle_marks_after as marks_after};
 
-use one_history::PhaseEvent;
 use edge_word::{EdgeMoves, EdgeWord, PhaseWord};
 use lab_plan::{EdgeNo, JobNo, Plan};
 use legal_steps::{Dining, Drinking, EdgeState, End, JobState};
+use one_history::PhaseEvent;
 use std::alloc::Allocator;
 
 pub(crate) fn number(edge: EdgeNo) -> usize
@@ -67,7 +67,10 @@ pub(crate) fn marks_of<A: Allocator>(
     let _ = plan.bottles(edge);
     let here = End::of(plan, job, edge);
     let state = state_of(seen);
-    (state.fork_mark(here, dining), state.bottles_at(plan, edge, here))
+    (
+        state.fork_mark(here, dining),
+        state.bottles_at(plan, edge, here),
+    )
 }
 
 // The marks for an edge after moves on it.

@@ -36,6 +36,11 @@ module _ (p : LabPlan) (slots id : ℕ) (v : View) (c : List (ℕ × LogView)) (
         tt,
         subst (λ ws. Kept p record { words = ws; homes = s.homes; views = set s.views id (grown p v r.history g) }) (sym (set-get_or s.words (phase_place p k) 0))
             (appends p s r id v at led g (refl, tt) legal s.words r.words s.homes r.homes),
-        (x, r.words.phase_words k inside, phase_fits p w k r.is_plan (history_fits p r.history r.legal) inside,
-          subst (λ z. Does v (Glance j z x) (grown p v r.history g)) (sym back) (tells p s r id v at led g (refl, tt) legal), refl),
+        (
+          x,
+          r.words.phase_words k inside,
+          phase_fits p w k r.is_plan (history_fits p r.history r.legal) inside,
+          subst (λ z. Does v (Glance j z x) (grown p v r.history g)) (sym back) (tells p s r id v at led g (refl, tt) legal),
+          refl,
+        ),
       )

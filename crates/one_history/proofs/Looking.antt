@@ -57,9 +57,11 @@ module _ (p : LabPlan) (slots id : ℕ) (v : View) (c : List (ℕ × LogView)) (
         subst (λ ws. Kept p record { words = ws; homes = s.homes; views = set s.views id (grown p v k.history g) }) (sym (set-get_or s.words (edge_place e) 0))
             (appends p s k id v at led g (refl, tt) legal s.words (spelled_still p w (after p w event) s.words (λ _. refl) phases k.words) s.homes
             (homed_still p w (after p w event) s.homes (λ _. refl) (λ i l. reaching_still p w (after p w event) i l (phases i)) k.homes)),
-        (x,
+        (
+          x,
           k.words.edge_words e own.is_edge,
           subst (λ (z : LabPlan × ℕ). IsOfBottles (length (bottles z.0 z.1)) x) (λ i. (sym held.0 i, sym (place_edge e) i)) fits,
           subst (λ z. Does v (Look j z x) (grown p v k.history g)) (sym (place_edge e)) (tells p s k id v at led g (refl, tt) legal),
-          refl),
+          refl,
+        ),
       )

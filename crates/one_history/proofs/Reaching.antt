@@ -131,7 +131,7 @@ module _ (p : LabPlan) (slots id : ℕ) (v : View) (c : List (ℕ × LogView)) (
       let y : JobState = record (own_phase v) { drinking = Reaching } in
       let becomes : (seat_after p (seat w j) (Reach j)).phase ≡ y = ap (λ (x : Seat). (seat_after p x (Reach j)).phase) own in
       let words : Spelled p (after p w (Reach j)) (set s.words (phase_place p j) n) =
-          subst (λ z. Spelled p (after p w (Reach j)) (set s.words (phase_place p j) z)) (sym is_n) (turned_words p j (Reach j) refl w s.words y job inside becomes refl k.words) in
+      subst (λ z. Spelled p (after p w (Reach j)) (set s.words (phase_place p j) z)) (sym is_n) (turned_words p j (Reach j) refl w s.words y job inside becomes refl k.words) in
       let ahead : state_after (hand_in v).plan (h ++ g) ≡ after p w (Reach j) = ap (λ (q : LabPlan). state_after q (h ++ g)) held.0 ∙ after_all-append p (the_opening p) h g in (
         grown p v h g,
         takes i (log_view p w i),
@@ -174,7 +174,7 @@ module _ (p : LabPlan) (slots id : ℕ) (v : View) (c : List (ℕ × LogView)) (
       let z : JobState = record (own_phase v) { drinking = Drinks; position = (own_phase v).position + 1 } in
       let becomes : (seat_after p (seat w j) (Act j)).phase ≡ z = ap (λ (x : Seat). (seat_after p x (Act j)).phase) own in
       let words : Spelled p (after p w (Act j)) (set s.words (phase_place p j) n) =
-          subst (λ z. Spelled p (after p w (Act j)) (set s.words (phase_place p j) z)) (sym is_n) (turned_words p j (Act j) refl w s.words z job inside becomes refl k.words) in
+      subst (λ z. Spelled p (after p w (Act j)) (set s.words (phase_place p j) z)) (sym is_n) (turned_words p j (Act j) refl w s.words z job inside becomes refl k.words) in
       let homes : Homed p (after p w (Act j)) (set s.homes i (some y)) = subst (λ (q : ℕ × LogView). Homed p (after p w (Act j)) (set s.homes q.0 (some q.1))) (λ r. (sym is_next r, sym right r)) (homed_back p w j s.homes k.homes fit k.is_plan may_now) in (
         grown p v h g,
         gives,

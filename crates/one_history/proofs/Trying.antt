@@ -87,10 +87,10 @@ module _ (p : LabPlan) (slots id : ℕ) (v : View) (c : List (ℕ × LogView)) (
             let phases = phases_only j e w (after_all p w g) only in
             let leads : edge (after_all p w g) e ≡ after_moves m (edge (mine v) e) = moves_lead m (edge (mine v) e) p w j e alike_now.edge_t same in
             let written : Spelled p (after_all p w g) (set s.words (edge_place e) new) =
-                subst (λ z. Spelled p (after_all p w g) (set s.words (edge_place e) z)) (sym is_new)
-                (spelled_edge p w (after_all p w g) s.words e (after_moves m (edge (mine v) e)) own.is_edge leads only.other_edges phases k.words) in
+            subst (λ z. Spelled p (after_all p w g) (set s.words (edge_place e) z)) (sym is_new)
+            (spelled_edge p w (after_all p w g) s.words e (after_moves m (edge (mine v) e)) own.is_edge leads only.other_edges phases k.words) in
             let back : moves_of_words old new ≡ m = (λ i. moves_of_words (is_old i) (is_new i))
-                ∙ ((λ i. moves_of_words (word_of (sym same i)) (word_of (after_moves m (sym same i)))) ∙ read_back p w j e m alike_now.edge_t few fits legal) in (
+            ∙ ((λ i. moves_of_words (word_of (sym same i)) (word_of (after_moves m (sym same i)))) ∙ read_back p w j e m alike_now.edge_t few fits legal) in (
               grown p v k.history g,
               keeps,
               tt,
@@ -100,20 +100,20 @@ module _ (p : LabPlan) (slots id : ℕ) (v : View) (c : List (ℕ × LogView)) (
               ((λ _. subst (λ (z : EdgeMoves × ℕ). Grows v (events_of z.0 j z.1) (grown p v k.history g)) (λ i. (sym back i, sym (place_edge e) i)) (tells p s k id v at led g (moves_by j e m) legal)), (λ miss. absurd (miss hit)), refl),
             )
         | inr miss ↦ (
-              grown p v k.history [],
-              keeps,
-              tt,
-              subst (λ b. Kept p (stepped s (edge_place e) (either b new n) id c (grown p v k.history []) keeps)) (sym (ne_eqb n old miss))
-                  (subst (λ ws. Kept p record { words = ws; homes = s.homes; views = set s.views id (grown p v k.history []) }) (sym (set-get_or s.words (edge_place e) 0))
-                  (appends p s k id v at led [] tt tt s.words k.words s.homes k.homes)),
-              (
-                (λ hit. absurd (miss hit)),
-                (λ _. let now : w ≡ state_after (hand_in v).plan (k.history ++ []) = λ i. state_after (sym held.0 i) (sym (append-nil k.history) i) in (
-                  tells p s k id v at led [] tt tt,
-                  found ∙ (λ i. word_of (edge (now i) (sym (place_edge e) i))),
-                  subst (λ (z : LabPlan × State × ℕ). IsOfBottles (length (bottles z.0 z.2)) (edge z.1 z.2)) (λ i. (sym held.0 i, now i, sym (place_edge e) i)) fits,
-                )),
-                refl,
-              ),
-            )
+          grown p v k.history [],
+          keeps,
+          tt,
+          subst (λ b. Kept p (stepped s (edge_place e) (either b new n) id c (grown p v k.history []) keeps)) (sym (ne_eqb n old miss))
+              (subst (λ ws. Kept p record { words = ws; homes = s.homes; views = set s.views id (grown p v k.history []) }) (sym (set-get_or s.words (edge_place e) 0))
+              (appends p s k id v at led [] tt tt s.words k.words s.homes k.homes)),
+          (
+            (λ hit. absurd (miss hit)),
+            (λ _. let now : w ≡ state_after (hand_in v).plan (k.history ++ []) = λ i. state_after (sym held.0 i) (sym (append-nil k.history) i) in (
+              tells p s k id v at led [] tt tt,
+              found ∙ (λ i. word_of (edge (now i) (sym (place_edge e) i))),
+              subst (λ (z : LabPlan × State × ℕ). IsOfBottles (length (bottles z.0 z.2)) (edge z.1 z.2)) (λ i. (sym held.0 i, now i, sym (place_edge e) i)) fits,
+            )),
+            refl,
+          ),
+        )
       ]

@@ -103,23 +103,26 @@ module _ (plan : LabPlan) (s : State) (j e : ℕ) (he : e < length s.edges) (hj 
           let set_is : (edge t e).bottles ≡ x.bottles = ap (λ (q : EdgeState). q.bottles) one.edge_is ∙ bottles_one.0 in
           let tokens_is : (edge t e).bottle_tokens ≡ x.bottle_tokens = ap (λ (q : EdgeState). q.bottle_tokens) one.edge_is ∙ bottles_one.1 in
           let fork_is : (edge t e).fork ≡ (edge_one m x).fork = ap (λ (q : EdgeState). q.fork) one.edge_is in (
-        λ g. (sym (ap (λ z. bottle_end z k) set_is) ∙ g.bottle_here, sym (ap (λ z. bottle_end z k) tokens_is) ∙ g.token_here,
-            λ q. g.not_kept (n.1 q.0, elim q.1 [ inl d ↦ inl (subst IsDrinking (sym one.phase_is) d) | inr f ↦ inr (fork_is ∙ f) ])),
-        λ g. record {
-          bottle_here = ap (λ z. bottle_end z k) set_is ∙ g.0;
-          token_here = ap (λ z. bottle_end z k) tokens_is ∙ g.1;
-          not_kept = λ q. g.2 (n.0 q.0, elim q.1 [ inl d ↦ inl (subst IsDrinking one.phase_is d) | inr f ↦ inr (sym fork_is ∙ f) ]);
-        },
-      )
+            λ g. (
+              sym (ap (λ z. bottle_end z k) set_is) ∙ g.bottle_here,
+              sym (ap (λ z. bottle_end z k) tokens_is) ∙ g.token_here,
+              λ q. g.not_kept (n.1 q.0, elim q.1 [ inl d ↦ inl (subst IsDrinking (sym one.phase_is) d) | inr f ↦ inr (fork_is ∙ f) ]),
+            ),
+            λ g. record {
+              bottle_here = ap (λ z. bottle_end z k) set_is ∙ g.0;
+              token_here = ap (λ z. bottle_end z k) tokens_is ∙ g.1;
+              not_kept = λ q. g.2 (n.0 q.0, elim q.1 [ inl d ↦ inl (subst IsDrinking one.phase_is d) | inr f ↦ inr (sym fork_is ∙ f) ]);
+            },
+          )
 
       pub gifts_greatest : m.give_bottles ≡ gifts plan e here ph needed x m.give_fork → IsGreatest plan e m.give_bottles (MayGiveBottle plan (fork_gone plan s j e m) j e)
       gifts_greatest is = subst (λ z. IsGreatest plan e z (MayGiveBottle plan (fork_gone plan s j e m) j e)) (sym is) (record {
         of_edge = without_fits (length (bottles plan e)) _ _ (and_lt (length (bottles plan e)) _ _ (at_end_fits plan e here x own_bottles) (at_end_fits plan e here (record x { bottles = x.bottle_tokens }) own_tokens));
         just = λ k l. let w = has_without (bit_and (bottles_at plan e here x) (tokens_at plan e here x)) (kept here ph needed x m.give_fork) k in let a = has_and (bottles_at plan e here x) (tokens_at plan e here x) k in
             let p = at_end plan e here x k l in let t = at_end plan e here (record x { bottles = x.bottle_tokens }) k l in let q = is_kept k l in let g = give_at k in (
-          λ h. let b = w.0 h in let c = a.0 b.0 in g.1 (p.0 c.0, t.0 c.1, λ z. b.1 (q.1 z)),
-          λ h. let b = g.0 h in w.1 (a.1 (p.1 b.0, t.1 b.1), λ z. b.2 (q.0 z)),
-        );
+              λ h. let b = w.0 h in let c = a.0 b.0 in g.1 (p.0 c.0, t.0 c.1, λ z. b.1 (q.1 z)),
+              λ h. let b = g.0 h in w.1 (a.1 (p.1 b.0, t.1 b.1), λ z. b.2 (q.0 z)),
+            );
       })
 
       bottles_three : ((edge_three m x).bottles ≡ bit_xor x.bottles m.give_bottles) × ((edge_three m x).bottle_tokens ≡ x.bottle_tokens)
@@ -135,13 +138,13 @@ module _ (plan : LabPlan) (s : State) (j e : ℕ) (he : e < length s.edges) (hj 
       ask_at k = let t : State = fork_asked_for plan s j e m in let i = instrument_of plan e k in let n = needs_in t i three.phase_is in
           let set_is : (edge t e).bottles ≡ bit_xor x.bottles m.give_bottles = ap (λ (q : EdgeState). q.bottles) three.edge_is ∙ bottles_three.0 in
           let tokens_is : (edge t e).bottle_tokens ≡ x.bottle_tokens = ap (λ (q : EdgeState). q.bottle_tokens) three.edge_is ∙ bottles_three.1 in (
-        λ a. (n.0 a.needed, (λ q. a.bottle_there (ap (λ z. bottle_end z k) set_is ∙ q)), sym (ap (λ z. bottle_end z k) tokens_is) ∙ a.token_here),
-        λ a. record {
-          needed = n.1 a.0;
-          bottle_there = λ q. a.1 (sym (ap (λ z. bottle_end z k) set_is) ∙ q);
-          token_here = ap (λ z. bottle_end z k) tokens_is ∙ a.2;
-        },
-      )
+            λ a. (n.0 a.needed, (λ q. a.bottle_there (ap (λ z. bottle_end z k) set_is ∙ q)), sym (ap (λ z. bottle_end z k) tokens_is) ∙ a.token_here),
+            λ a. record {
+              needed = n.1 a.0;
+              bottle_there = λ q. a.1 (sym (ap (λ z. bottle_end z k) set_is) ∙ q);
+              token_here = ap (λ z. bottle_end z k) tokens_is ∙ a.2;
+            },
+          )
 
       pub wishes_greatest : m.ask_bottles ≡ wishes plan e here ph needed x m.give_bottles → IsGreatest plan e m.ask_bottles (λ k. (drinking s j ≡ Thirsty) × MayAskBottle plan (fork_asked_for plan s j e m) j e k)
       wishes_greatest is = subst (λ z. IsGreatest plan e z (λ k. (drinking s j ≡ Thirsty) × MayAskBottle plan (fork_asked_for plan s j e m) j e k)) (sym is) (at (is_thirsty ph.drinking) refl) where
@@ -156,9 +159,9 @@ module _ (plan : LabPlan) (s : State) (j e : ℕ) (he : e < length s.edges) (hj 
           of_edge = without_fits (length (bottles plan e)) _ _ (and_lt (length (bottles plan e)) _ _ fits (at_end_fits plan e here (record x { bottles = x.bottle_tokens }) own_tokens));
           just = λ k l. let w = has_without (bit_and needed (tokens_at plan e here x)) (bottles_at plan e here (record x { bottles = bit_xor x.bottles m.give_bottles })) k in let a = has_and needed (tokens_at plan e here x) k in
               let p = at_end plan e here (record x { bottles = bit_xor x.bottles m.give_bottles }) k l in let t = at_end plan e here (record x { bottles = x.bottle_tokens }) k l in let q = just k l in let g = ask_at k in (
-            λ h. let b = w.0 h in let c = a.0 b.0 in (thirsts ph.drinking thirsty, g.1 (q.0 c.0, (λ z. b.1 (p.1 z)), t.0 c.1)),
-            λ h. let b = g.0 h.1 in w.1 (a.1 (q.1 b.0, t.1 b.2), λ z. b.1 (p.0 z)),
-          );
+                λ h. let b = w.0 h in let c = a.0 b.0 in (thirsts ph.drinking thirsty, g.1 (q.0 c.0, (λ z. b.1 (p.1 z)), t.0 c.1)),
+                λ h. let b = g.0 h.1 in w.1 (a.1 (q.1 b.0, t.1 b.2), λ z. b.1 (p.0 z)),
+              );
         })
         at false other = subst (λ b. IsGreatest plan e (if b then wanted else 0) P) (sym other) (record {
           of_edge = pow_pos (length (bottles plan e));

@@ -55,10 +55,20 @@ calm_has_nothing_due = λ plan s j e own calm. record {
     soil = ((λ h. absurd (false≢true h)), (λ may. absurd (calm.no_soil may)));
   };
   bottles = record {
-    give_bottles = record { of_edge = pow_pos (length (bottles plan e)); just = λ k l. ((λ h. absurd (has_none k h)),
-        (λ g. absurd (calm.no_bottles_given (2 ^ k) (own, one_bottle plan e k l, λ i member. subst (λ z. MayGiveBottle plan s j e z) (sym (alone k i member)) g)))) };
-    ask_bottles = record { of_edge = pow_pos (length (bottles plan e)); just = λ k l. ((λ h. absurd (has_none k h)),
-        (λ g. absurd (calm.no_bottles_asked (2 ^ k) (own, g.0, one_bottle plan e k l, λ i member. subst (λ z. MayAskBottle plan s j e z) (sym (alone k i member)) g.1)))) };
+    give_bottles = record {
+      of_edge = pow_pos (length (bottles plan e));
+      just = λ k l. (
+        (λ h. absurd (has_none k h)),
+        (λ g. absurd (calm.no_bottles_given (2 ^ k) (own, one_bottle plan e k l, λ i member. subst (λ z. MayGiveBottle plan s j e z) (sym (alone k i member)) g))),
+      );
+    };
+    ask_bottles = record {
+      of_edge = pow_pos (length (bottles plan e));
+      just = λ k l. (
+        (λ h. absurd (has_none k h)),
+        (λ g. absurd (calm.no_bottles_asked (2 ^ k) (own, g.0, one_bottle plan e k l, λ i member. subst (λ z. MayAskBottle plan s j e z) (sym (alone k i member)) g.1))),
+      );
+    };
   };
 }
 
@@ -72,9 +82,9 @@ unfolding Has
 same_set plan e a b P p q = same_from_bits_below (length (bottles plan e)) a b p.of_edge q.of_edge (λ k l. let x = p.just k l in let y = q.just k l in elim (one_or_none (bit_at a k) (bit_at-lt a k)) [
   | inr a1 ↦ a1 ∙ sym (y.1 (x.0 a1))
   | inl a0 ↦ elim (one_or_none (bit_at b k) (bit_at-lt b k)) [
-      | inl b0 ↦ a0 ∙ sym b0
-      | inr b1 ↦ let z = x.1 (y.0 b1) in absurd (omega (arith, z, a0))
-    ]
+    | inl b0 ↦ a0 ∙ sym b0
+    | inr b1 ↦ let z = x.1 (y.0 b1) in absurd (omega (arith, z, a0))
+  ]
 ])
 
 pub one_group_is_due : OneGroupIsDue
@@ -86,7 +96,7 @@ one_group_is_due = λ plan s j e m r p q.
     let af : m.ask_fork ≡ r.ask_fork = same_test m.ask_fork r.ask_fork (May plan (bottles_gone plan s j e r) (AskFork j e)) (subst (λ (t : State). (m.ask_fork ≡ true) ↔ May plan t (AskFork j e)) two p.forks.ask_fork) q.forks.ask_fork in
     let three : fork_asked_for plan s j e m ≡ fork_asked_for plan s j e r = λ i. after_if plan (af i) (AskFork j e) (two i) in
     let ab : m.ask_bottles ≡ r.ask_bottles = same_set plan e m.ask_bottles r.ask_bottles (λ k. (drinking s j ≡ Thirsty) × MayAskBottle plan (fork_asked_for plan s j e r) j e k)
-        (subst (λ (t : State). IsGreatest plan e m.ask_bottles (λ k. (drinking s j ≡ Thirsty) × MayAskBottle plan t j e k)) three p.bottles.ask_bottles) q.bottles.ask_bottles in
+    (subst (λ (t : State). IsGreatest plan e m.ask_bottles (λ k. (drinking s j ≡ Thirsty) × MayAskBottle plan t j e k)) three p.bottles.ask_bottles) q.bottles.ask_bottles in
     let four : all_asked_for plan s j e m ≡ all_asked_for plan s j e r = λ i. after_if plan (not (ab i == 0)) (AskBottles j e (ab i)) (three i) in
     let so : m.soil ≡ r.soil = same_test m.soil r.soil (May plan (all_asked_for plan s j e r) (Soil j e)) (subst (λ (t : State). (m.soil ≡ true) ↔ May plan t (Soil j e)) four p.forks.soil) q.forks.soil in
     λ i. record { give_fork = gf i; give_bottles = gb i; ask_fork = af i; ask_bottles = ab i; soil = so i }

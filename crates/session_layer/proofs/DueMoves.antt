@@ -47,9 +47,12 @@ module _ (plan : LabPlan) (s : State) (j e : ℕ) (he : e < length s.edges) (hj 
         absurd (other (empty_set (length (bottles plan e)) m.ask_bottles a.of_edge (λ k l member. false≢true (sym is ∙ ap is_thirsty ((a.just k l).0 member).0))))
 
     may_ask : not (m.ask_bottles == 0) ≡ true → May plan (fork_asked_for plan s j e m) (AskBottles j e m.ask_bottles)
-    may_ask h = let a = due.bottles.ask_bottles in let t = stage_three plan s j e m he hj in
-        (own, ap (λ (x : JobState). x.drinking) t.phase_is ∙ thirsts (is_thirsty (drinking s j)) refl (some m.ask_bottles h), record { not_empty = some m.ask_bottles h; of_edge = a.of_edge },
-        λ k member. ((a.just k (member_below m.ask_bottles (length (bottles plan e)) k a.of_edge member)).0 member).1)
+    may_ask h = let a = due.bottles.ask_bottles in let t = stage_three plan s j e m he hj in (
+      own,
+      ap (λ (x : JobState). x.drinking) t.phase_is ∙ thirsts (is_thirsty (drinking s j)) refl (some m.ask_bottles h),
+      record { not_empty = some m.ask_bottles h; of_edge = a.of_edge },
+      λ k member. ((a.just k (member_below m.ask_bottles (length (bottles plan e)) k a.of_edge member)).0 member).1,
+    )
 
     pub due_legal : IsLegalFrom plan s (events_of m j e)
     due_legal = legal_on plan s m.give_fork (GiveFork j e) _ due.forks.give_fork.0

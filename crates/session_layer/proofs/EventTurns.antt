@@ -62,11 +62,14 @@ visit_did d v d' t = subst (λ j. Did d (Look d.job v.edge v.saw ∷ (if v.lost 
 
 visits_did : (d : DeskView) (vs : List Visit) (d' : DeskView) → VisitsAll d vs d' → Did d (visits_events d.job vs) d' × AreVisits d.plan d.job (known d) vs
 visits_did d [] d' is = (did_none d d' is, tt)
-visits_did d (v ∷ vs) d' (m, first, later) = let a = visit_did d v m first in let b = visits_did m vs d' later in
-    (subst (λ j. Did d (visit_events d.job v ++ visits_events j vs) d') a.job (did_then d m d' (visit_events d.job v) (visits_events m.job vs) a b.0),
-    ((let look = adds_did d (Look d.job v.edge v.saw ∷ []) first.looked first.look in
+visits_did d (v ∷ vs) d' (m, first, later) = let a = visit_did d v m first in let b = visits_did m vs d' later in (
+  subst (λ j. Did d (visit_events d.job v ++ visits_events j vs) d') a.job (did_then d m d' (visit_events d.job v) (visits_events m.job vs) a b.0),
+  (
+    (let look = adds_did d (Look d.job v.edge v.saw ∷ []) first.looked first.look in
         subst (λ (z : LabPlan × State × ℕ). AreDue z.0 z.1 z.2 v.edge v.moves) (λ i. (look.plan i, known_then d first.looked (Look d.job v.edge v.saw ∷ []) look i, look.job i)) first.due),
-    subst (λ (z : LabPlan × ℕ × State). AreVisits z.0 z.1 z.2 vs) (λ i. (a.plan i, a.job i, known_then d m (visit_events d.job v) a i)) b.1))
+    subst (λ (z : LabPlan × ℕ × State). AreVisits z.0 z.1 z.2 vs) (λ i. (a.plan i, a.job i, known_then d m (visit_events d.job v) a i)) b.1,
+  ),
+)
 
 all_did : (d : DeskView) (events : List Event) (d' : DeskView) → DoesAll d events d' → Did d events d'
 all_did d [] d' is = did_none d d' is
@@ -74,12 +77,17 @@ all_did d (x ∷ xs) d' (m, first, later) = did_then d m d' (x ∷ []) xs (adds_
 
 pub took_is_turn : TookIsTurn
 took_is_turn = λ d r d' t. let a = visits_did d t.visits t.visited t.all in let b = all_did t.visited t.acts t.acted t.does in
-    let both_did = did_then d t.visited t.acted (visits_events d.job t.visits) t.acts a.0 b in
-    (visits_events d.job t.visits ++ t.acts,
-    (t.visits, t.acts, record {
-      edges = t.edges;
-      due = a.1;
-      acts_due = subst (λ (z : LabPlan × State × ℕ). AreActs z.0 z.1 z.2 (waited d) t.acts) (λ i. (a.0.plan i, known_then d t.visited (visits_events d.job t.visits) a.0 i, a.0.job i)) t.due;
-      events_are = refl;
-    }),
-    ap (λ (z : DeskView). z.deeds) t.noted_is ∙ both_did.deeds)
+    let both_did = did_then d t.visited t.acted (visits_events d.job t.visits) t.acts a.0 b in (
+      visits_events d.job t.visits ++ t.acts,
+      (
+        t.visits,
+        t.acts,
+        record {
+          edges = t.edges;
+          due = a.1;
+          acts_due = subst (λ (z : LabPlan × State × ℕ). AreActs z.0 z.1 z.2 (waited d) t.acts) (λ i. (a.0.plan i, known_then d t.visited (visits_events d.job t.visits) a.0 i, a.0.job i)) t.due;
+          events_are = refl;
+        },
+      ),
+      ap (λ (z : DeskView). z.deeds) t.noted_is ∙ both_did.deeds,
+    )

@@ -131,7 +131,9 @@ pub(crate) fn may_leave<A: Allocator>(bench: &Bench<A>, desk: &Desk<A>) -> bool
     ensures { IsTrue result ↔ May desk.now.plan (known desk.now) (Leave desk.now.job) }
 {
     let phase = desk.phase();
-    phase.dining == Dining::Eating && phase.drinking != Drinking::Thirsty && is_marked_all(bench, desk)
+    phase.dining == Dining::Eating
+        && phase.drinking != Drinking::Thirsty
+        && is_marked_all(bench, desk)
 }
 
 pub(crate) fn may_sit<A: Allocator>(bench: &Bench<A>, desk: &Desk<A>) -> bool
@@ -146,7 +148,9 @@ pub(crate) fn may_thirst<A: Allocator>(bench: &Bench<A>, desk: &Desk<A>) -> bool
     ensures { IsTrue result ↔ May desk.now.plan (known desk.now) (Thirst desk.now.job) }
 {
     let phase = desk.phase();
-    phase.drinking == Drinking::Tranquil && phase.dining != Dining::Eating && has_session(bench, desk)
+    phase.drinking == Drinking::Tranquil
+        && phase.dining != Dining::Eating
+        && has_session(bench, desk)
 }
 
 pub(crate) fn may_hunger<A: Allocator>(bench: &Bench<A>, desk: &Desk<A>) -> bool
@@ -162,5 +166,7 @@ pub(crate) fn may_retire<A: Allocator>(bench: &Bench<A>, desk: &Desk<A>) -> bool
     ensures { IsTrue result ↔ May desk.now.plan (known desk.now) (Retire desk.now.job) }
 {
     let phase = desk.phase();
-    phase.dining == Dining::Thinking && phase.drinking == Drinking::Tranquil && !has_session(bench, desk)
+    phase.dining == Dining::Thinking
+        && phase.drinking == Drinking::Tranquil
+        && !has_session(bench, desk)
 }

@@ -60,7 +60,12 @@ pub fn fork_moves<A: Allocator>(bench: &Bench<A>, desk: &Desk<A>, edge: EdgeNo) 
 }
 
 /// The same fork moves with the greatest legal sets of bottles.
-pub fn with_bottles<A: Allocator>(bench: &Bench<A>, desk: &Desk<A>, edge: EdgeNo, moves: EdgeMoves) -> EdgeMoves
+pub fn with_bottles<A: Allocator>(
+    bench: &Bench<A>,
+    desk: &Desk<A>,
+    edge: EdgeNo,
+    moves: EdgeMoves,
+) -> EdgeMoves
     requires own { Owns bench.now desk.now }
     requires edge { IsOwn desk.now.plan desk.now.job edge }
     ensures with { WithBottles desk.now.plan (known desk.now) desk.now.job edge moves result }
@@ -70,7 +75,15 @@ pub fn with_bottles<A: Allocator>(bench: &Bench<A>, desk: &Desk<A>, edge: EdgeNo
     let at = at_edge(bench, desk, edge);
     let plan = bench.plan();
     let needed = needed_bottles(plan, at.job, at.phase, edge);
-    let given = gifts(plan, edge, at.here, at.phase, needed, at.seen, moves.give_fork);
+    let given = gifts(
+        plan,
+        edge,
+        at.here,
+        at.phase,
+        needed,
+        at.seen,
+        moves.give_fork,
+    );
     let asked = wishes(plan, edge, at.here, at.phase, needed, at.seen, given);
     EdgeMoves {
         give_bottles: given,

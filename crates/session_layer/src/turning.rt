@@ -37,7 +37,11 @@ pub enum Turned {
 fn is_nothing(moves: EdgeMoves) -> bool
     ensures { result ≡ are_none moves }
 {
-    !moves.give_fork && moves.give_bottles == 0 && !moves.ask_fork && moves.ask_bottles == 0 && !moves.soil
+    !moves.give_fork
+        && moves.give_bottles == 0
+        && !moves.ask_fork
+        && moves.ask_bottles == 0
+        && !moves.soil
 }
 
 /// Looks at the edge, and does in one exchange what is due by what it saw.

@@ -19,10 +19,12 @@ hears d l e a starts wholes = record { table = a.table; clock = a.clock; plan = 
 
 pub hear-requires-clause-apart : goal.hear-requires-clause-apart
 hear-requires-clause-apart g0 c = let is = split_first c.args.desks.now c.split_at_mut-front.result.0.now c.split_at_mut-front.result.1.now c.index-front-0.result (some_left (length c.args.desks.now) c.if-is_empty.ensures) c.split_at_mut-front.ensures.front c.split_at_mut-front.ensures.back in
-    let d = subst (λ (z : List DeskView). Distinct (jobs_of z)) is.0 c.requires.apart in
-    (subst (λ (z : List Hand). Each (λ (d : DeskView). Each (λ (y : Hand). y.job ≢ d.job) z) c.split_at_mut-front.result.1.now) (sym c.first.invariant.at_rest.mine)
-      (apart_more [] (hand_in c.first.inside.seat.me.0) c.split_at_mut-front.result.1.now (nobody c.split_at_mut-front.result.1.now)
-        (subst (λ (z : ℕ). Each (λ (k : ℕ). k ≢ z) (jobs_of c.split_at_mut-front.result.1.now)) (sym (ap (λ (z : DeskView). z.job) c.first.view_is)) d.0)), d.1)
+    let d = subst (λ (z : List DeskView). Distinct (jobs_of z)) is.0 c.requires.apart in (
+      subst (λ (z : List Hand). Each (λ (d : DeskView). Each (λ (y : Hand). y.job ≢ d.job) z) c.split_at_mut-front.result.1.now) (sym c.first.invariant.at_rest.mine)
+          (apart_more [] (hand_in c.first.inside.seat.me.0) c.split_at_mut-front.result.1.now (nobody c.split_at_mut-front.result.1.now)
+          (subst (λ (z : ℕ). Each (λ (k : ℕ). k ≢ z) (jobs_of c.split_at_mut-front.result.1.now)) (sym (ap (λ (z : DeskView). z.job) c.first.view_is)) d.0)),
+      d.1,
+    )
 
 pub returns : goal.returns
 returns g0 c = let is = split_first c.args.desks.now c.split_at_mut-front.result.0.now c.split_at_mut-front.result.1.now c.index-front-0.result (some_left (length c.args.desks.now) c.if-is_empty.ensures) c.split_at_mut-front.ensures.front c.split_at_mut-front.ensures.back in

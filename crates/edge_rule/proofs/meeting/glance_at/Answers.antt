@@ -42,7 +42,7 @@ load-found-requires g0 c = let t = c.requires.table in let p : LabPlan = c.args.
 pub split_seat-back-requires : goal.split_seat-back-requires
 split_seat-back-requires g0 c = let t = c.requires.table in let v : View = c.args.me.now.me.0 in let o : View = c.args.other.now.me.0 in let w : View = c.load-found.new.seat.me.0 in
     let all = told_lent c.args.table.now.shared.key v o c.join_seat.new.seat.me.0 w c.args.word c.load-found.result (step c.args.table.now.shared.table_id.slots c.args.word 0 0 none) c.join_seat.new.seat.me.1 c.load-found.new.seat.me.1 c.requires.alone.0 c.requires.other_alone.0 c.requires.plan.0
-        (ap (λ m. m.0) c.join_seat.ensures.2 ∙ ap (glued v) (ap (λ m. m.0) c.split_seat-lent.ensures.4)) c.requires.word.0 refl c.load-found.ensures.2 in
+    (ap (λ m. m.0) c.join_seat.ensures.2 ∙ ap (glued v) (ap (λ m. m.0) c.split_seat-lent.ensures.4)) c.requires.word.0 refl c.load-found.ensures.2 in
     let g = Glance (hand_in v).job (hand_in o).job all.0 ∷ [] in (
       c.load-found.ensures.0 ∙ (c.join_seat.ensures.0 ∙ t.0),
       omega arith,
@@ -61,7 +61,7 @@ join_seat-requires-2 g0 c = let t = c.requires.table in let e = c.split_seat-bac
 pub returns-clause-same : goal.returns-clause-same
 returns-clause-same g0 c = let v : View = c.args.me.now.me.0 in let o : View = c.args.other.now.me.0 in let w : View = c.load-found.new.seat.me.0 in
     let all = told_lent c.args.table.now.shared.key v o c.join_seat.new.seat.me.0 w c.args.word c.load-found.result (step c.args.table.now.shared.table_id.slots c.args.word 0 0 none) c.join_seat.new.seat.me.1 c.load-found.new.seat.me.1 c.requires.alone.0 c.requires.other_alone.0 c.requires.plan.0
-        (ap (λ m. m.0) c.join_seat.ensures.2 ∙ ap (glued v) (ap (λ m. m.0) c.split_seat-lent.ensures.4)) c.requires.word.0 refl c.load-found.ensures.2 in
+    (ap (λ m. m.0) c.join_seat.ensures.2 ∙ ap (glued v) (ap (λ m. m.0) c.split_seat-lent.ensures.4)) c.requires.word.0 refl c.load-found.ensures.2 in
     let g = Glance (hand_in v).job (hand_in o).job all.0 ∷ [] in
     let e = c.split_seat-lent.ensures in let k = c.split_seat-back.ensures in (
       c.join_seat-2.ensures.0 ∙ e.0,
@@ -77,14 +77,14 @@ returns-clause-seat g0 c = let t = c.requires.table in (
 pub returns-clause-does : goal.returns-clause-does
 returns-clause-does g0 c = let v : View = c.args.me.now.me.0 in let o : View = c.args.other.now.me.0 in let w : View = c.load-found.new.seat.me.0 in
     let all = told_lent c.args.table.now.shared.key v o c.join_seat.new.seat.me.0 w c.args.word c.load-found.result (step c.args.table.now.shared.table_id.slots c.args.word 0 0 none) c.join_seat.new.seat.me.1 c.load-found.new.seat.me.1 c.requires.alone.0 c.requires.other_alone.0 c.requires.plan.0
-        (ap (λ m. m.0) c.join_seat.ensures.2 ∙ ap (glued v) (ap (λ m. m.0) c.split_seat-lent.ensures.4)) c.requires.word.0 refl c.load-found.ensures.2 in
+    (ap (λ m. m.0) c.join_seat.ensures.2 ∙ ap (glued v) (ap (λ m. m.0) c.split_seat-lent.ensures.4)) c.requires.word.0 refl c.load-found.ensures.2 in
     let g = Glance (hand_in v).job (hand_in o).job all.0 ∷ [] in
     (all.0, all.1, all.2, subst (Grows v g) (sym (ap (λ m. m.0) c.split_seat-back.ensures.2)) (grows_alone v o c.requires.alone.0 c.requires.other_alone.0 g w all.3 c.requires.alone.1))
 
 pub returns-clause-both : goal.returns-clause-both
 returns-clause-both g0 c = let v : View = c.args.me.now.me.0 in let o : View = c.args.other.now.me.0 in let w : View = c.load-found.new.seat.me.0 in
     let all = told_lent c.args.table.now.shared.key v o c.join_seat.new.seat.me.0 w c.args.word c.load-found.result (step c.args.table.now.shared.table_id.slots c.args.word 0 0 none) c.join_seat.new.seat.me.1 c.load-found.new.seat.me.1 c.requires.alone.0 c.requires.other_alone.0 c.requires.plan.0
-        (ap (λ m. m.0) c.join_seat.ensures.2 ∙ ap (glued v) (ap (λ m. m.0) c.split_seat-lent.ensures.4)) c.requires.word.0 refl c.load-found.ensures.2 in
+    (ap (λ m. m.0) c.join_seat.ensures.2 ∙ ap (glued v) (ap (λ m. m.0) c.split_seat-lent.ensures.4)) c.requires.word.0 refl c.load-found.ensures.2 in
     let g = Glance (hand_in v).job (hand_in o).job all.0 ∷ [] in
     let same : c.split_seat-back.new.seat.me.0.front ≡ w.front = ap (λ m. m.0.front) c.split_seat-back.ensures.2 in (
       subst (λ z. StartsWith z o.front) (sym same) (starts_theirs v o c.requires.alone.0 c.requires.other_alone.0 g w all.3 c.requires.alone.1),
