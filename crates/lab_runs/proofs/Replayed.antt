@@ -3,6 +3,7 @@ use Rattle.std.proofs.Common.{◌≡◌, ℕ, zero, suc, ◌<◌, List, [], ◌�
 use Rattle.std.specs.List.{slice_get}
 use Rattle.std.specs.Prelude.{slice_index_or}
 use Rattle.lab_plan.specs.LabPlan.{LabPlan}
+use Rattle.lab_plan.specs.IsPlan.{IsPlan}
 use Rattle.legal_steps.specs.declared.event.StepLine.{StepLine}
 use Rattle.legal_steps.specs.Opening.{the_opening}
 use Rattle.interleaving.specs.World.{WorldView, LeadsTo}
@@ -11,6 +12,7 @@ use Rattle.script_reader.specs.Steps.{StepsMean}
 use Rattle.report.specs.Report.{report_of, all_retired}
 use Rattle.report.specs.Worlds.{shown_by}
 use Rattle.report.specs.Events.{IsReportOfEvents}
+use Rattle.headline.specs.Headline.{HoldsOfEveryRun}
 use Rattle.lab_runs.specs.declared.faults.Outcome.{Outcome}
 use Rattle.lab_runs.specs.Replaying.{TakesSteps}
 use Rattle.lab_runs.specs.Runs.{run_of, outcome_of, Replays, HasIllegalStep}
@@ -34,16 +36,21 @@ stopped input plan seen steps old new line same start means taken =
     }
 
 -- all were legal
-pub replayed : IsReportOfEvents → (input : List ℕ) (plan : LabPlan) (seen steps : List StepLine) (old new : WorldView) (outcome : Outcome) → seen ≡ steps → old ≡ at_start plan (the_opening plan)
-    → StepsMean input plan steps → TakesSteps old seen (Ok tt) new → outcome ≡ outcome_of (all_retired new.plan (shown_by new)) → Replays input (report_of new.plan (shown_by new)) outcome
-replayed law input plan seen steps old new outcome same start means taken ends =
+pub replayed : IsReportOfEvents → HoldsOfEveryRun → (input : List ℕ) (plan : LabPlan) (seen steps : List StepLine) (old new : WorldView) (outcome : Outcome) → IsPlan plan → seen ≡ steps
+    → old ≡ at_start plan (the_opening plan) → StepsMean input plan steps → TakesSteps old seen (Ok tt) new → outcome ≡ outcome_of (all_retired new.plan (shown_by new))
+    → Replays input (report_of new.plan (shown_by new)) outcome
+replayed law holds input plan seen steps old new outcome within same start means taken ends =
     let led : LeadsTo (at_start plan (the_opening plan)) (run_of plan seen) new = subst (λ w. TakesSteps w seen (Ok tt) new) start taken in
     let (same_report, same_end) = law plan (the_opening plan) (run_of plan seen) new led in
     record {
       plan = plan;
       steps = seen;
       means = subst (λ l. StepsMean input plan l) (sym same) means;
-      legal = led.run.legal;
-      report = same_report;
-      ends = ends ∙ ap outcome_of same_end;
+      reported = record {
+        within_limits = within;
+        legal = led.run.legal;
+        report = same_report;
+        ends = ends ∙ ap outcome_of same_end;
+        holds = holds plan (run_of plan seen) within led.run.legal;
+      };
     }

@@ -2,6 +2,7 @@
 use Rattle.std.specs.Prelude.{◌≡◌, ℕ, ◌≤◌, List, length, Bool, true, false, map, slice_get, Option, Some, Result, Ok, Err}
 use Rattle.std.specs.Io.KnownBytes.{Keeps, Appends}
 use Rattle.lab_plan.specs.LabPlan.{LabPlan}
+use Rattle.lab_plan.specs.IsPlan.{IsPlan}
 use Rattle.lab_plan.specs.Upgrade.{script_text}
 use Rattle.legal_steps.specs.declared.event.Event.{Event}
 use Rattle.legal_steps.specs.declared.event.StepLine.{StepLine}
@@ -13,6 +14,7 @@ use Rattle.script_reader.specs.Script.{text_lines, ScriptMeans, Refuses}
 use Rattle.script_reader.specs.Steps.{StepsMean, StepsRefuse}
 use Rattle.report.specs.Events.{report_after, retired_after}
 use Rattle.report.specs.Taken.{AppendsPrefix}
+use Rattle.headline.specs.Headline.{HoldsOf}
 use Rattle.lab_runs.specs.declared.faults.RunFault.{RunFault}
 use Rattle.lab_runs.specs.declared.faults.RunFault.TheVariants.{Script, Step, Read, TooLong, Write, NoMemory}
 use Rattle.lab_runs.specs.declared.faults.Outcome.{Outcome}
@@ -26,10 +28,6 @@ use Rattle.lab_runs.specs.Counts.{counts_line}
 abbrev pub run_of : LabPlan → List StepLine → List Event
 run_of plan steps = events_of plan (the_opening plan) (map (λ line. line.step) steps)
 
--- each is legal after the ones before it
-abbrev pub AreLegal : LabPlan → List StepLine → Type 0
-AreLegal plan steps = IsLegalFrom plan (the_opening plan) (run_of plan steps)
-
 -- this line's step is the first that isn't legal
 pub record StopsAtLine (plan : LabPlan) (steps : List StepLine) (line : ℕ) : Type 0 where
   pub place : ℕ
@@ -41,16 +39,24 @@ abbrev pub outcome_of : Bool → Outcome
 outcome_of true = Finished
 outcome_of false = Unfinished
 
+-- For readers: what is promised of each run that is reported. It is a list of events, each legal after the ones before it from THE opening on;
+-- the text is its report; it is finished exactly where every job is retired after it; and the headline holds of it: logs are whole
+-- but for their ends, values follow the dial, no two jobs hold one instrument, precedence has no cycle, and one meal at most is overtaken
+pub record Reports (plan : LabPlan) (history : List Event) (text : List ℕ) (outcome : Outcome) : Type 0 where
+  pub within_limits : IsPlan plan
+  pub legal : IsLegalFrom plan (the_opening plan) history
+  pub report : text ≡ report_after plan (the_opening plan) history
+  pub ends : outcome ≡ outcome_of (retired_after plan (the_opening plan) history)
+  pub holds : HoldsOf plan history
+
 -- ---- what each kind of run writes for an input, and how it ends; and which inputs it refuses
 
--- the input is a script with steps, all legal, and the text is the report of their run; finished where all jobs are then retired
+-- the input is a script with steps, all legal, and the text is the report of their run
 pub record Replays (input text : List ℕ) (outcome : Outcome) : Type 0 where
   pub plan : LabPlan
   pub steps : List StepLine
   pub means : StepsMean input plan steps
-  pub legal : AreLegal plan steps
-  pub report : text ≡ report_after plan (the_opening plan) (run_of plan steps)
-  pub ends : outcome ≡ outcome_of (retired_after plan (the_opening plan) (run_of plan steps))
+  pub reported : Reports plan (run_of plan steps) text outcome
 
 -- the input is a script with steps, of which this line's is the first that isn't legal
 pub record HasIllegalStep (input : List ℕ) (line : ℕ) : Type 0 where

@@ -10,6 +10,7 @@ use crate::reading::read_input;
 use crate::replaying::{outcome_of, take_steps};
 use crate::sending::{send_report, send_script, send_text};
 use crate::source::Source;
+use headline::holds_of_every_run;
 use interleaving::World;
 use report::Sink;
 use report::laws::report_of_events;
@@ -33,8 +34,11 @@ fn replay<A: Allocator + Copy, W: Sink>(
     if let Err(line) = take_steps(&mut world, &steps) {
         return Err(RunFault::Step { line });
     }
-    // The report of the world is that of the steps.
+    // The plan is within every limit, the report of the world is that of the steps, and what holds of
+    // every run holds of them.
+    let _ = plan.jobs();
     report_of_events();
+    holds_of_every_run();
     send_report(&world, sink)?;
     Ok(outcome_of(&world))
 }
@@ -43,7 +47,7 @@ fn replay<A: Allocator + Copy, W: Sink>(
 ///
 /// The input is at most 16777216 bytes. All steps are read before the first is taken, and all are
 /// taken before the report goes out, a line at a time; a flush follows it. Finished says that every
-/// job is retired then.
+/// job is retired then. Whatever the steps, the logs that are printed are whole but for their ends.
 pub fn run_replay<A: Allocator + Copy, R: Source, W: Sink>(
     alloc: A,
     source: &mut R,
