@@ -1,5 +1,5 @@
 -- Moves that are due are legal, one after another.
-use Rattle.std.proofs.Common.{◌≡◌, ◌≢◌, ℕ, ◌<◌, ◌^◌, Bool, true, false, not, ◌==◌, List, length, arith, refl, sym, ap, ◌∙◌, subst, inl, inr}
+use Rattle.std.proofs.Common.{◌≡◌, ◌≢◌, ℕ, ◌<◌, Bool, true, false, not, ◌==◌, List, length, arith, refl, sym, ap, ◌∙◌}
 use Rattle.std.proofs.lemmas.Bool.{false≢true}
 use Rattle.std.proofs.lemmas.Bool.Decides.{nat_tests}
 use Rattle.lab_plan.specs.LabPlan.{LabPlan, bottles}
@@ -8,16 +8,17 @@ use Rattle.legal_steps.specs.declared.event.Event.TheVariants.{AskFork, GiveFork
 use Rattle.legal_steps.specs.declared.phase.Drinking.{Drinking}
 use Rattle.legal_steps.specs.declared.phase.Drinking.TheVariants.{Tranquil, Thirsty, Drinking as Drinks, Reaching, Retired}
 use Rattle.legal_steps.specs.declared.phase.JobState.{JobState}
-use Rattle.legal_steps.specs.State.{State, Has, IsOwn, phase, drinking}
+use Rattle.legal_steps.specs.State.{State, IsOwn, drinking}
 use Rattle.legal_steps.specs.Legal.{May}
 use Rattle.legal_steps.specs.Run.{IsLegalFrom}
 use Rattle.edge_word.specs.declared.moves.EdgeMoves.{EdgeMoves}
 use Rattle.edge_word.specs.Moves.{on, events_of}
 use Rattle.turns.specs.Due.{after_if, fork_gone, bottles_gone, fork_asked_for, all_asked_for, AreForkMoves, AreDue, WithBottles}
-use Rattle.session_layer.specs.Local.{is_thirsty}
-use Rattle.session_layer.proofs.Sets.{member_below, empty_set}
-use Rattle.session_layer.proofs.Stages.{stage_three}
-use Rattle.session_layer.proofs.ForkMoves.{same_forks}
+use Rattle.turns.specs.Laws.{DueIsLegal}
+use Rattle.locality.specs.Patience.{is_waiting}
+use Rattle.turns.proofs.Sets.{member_below, empty_set}
+use Rattle.turns.proofs.Stages.{stage_three}
+use Rattle.turns.proofs.ForkGuards.{same_forks}
 
 legal_on : (plan : LabPlan) (s : State) (b : Bool) (event : Event) (rest : List Event) → (b ≡ true → May plan s event) → IsLegalFrom plan (after_if plan b event s) rest → IsLegalFrom plan s (on b event rest)
 legal_on plan s false event rest may h = h
@@ -35,21 +36,21 @@ module _ (plan : LabPlan) (s : State) (j e : ℕ) (he : e < length s.edges) (hj 
     may_give h = let g = due.bottles.give_bottles in
         (own, record { not_empty = some m.give_bottles h; of_edge = g.of_edge }, λ k member. (g.just k (member_below m.give_bottles (length (bottles plan e)) k g.of_edge member)).0 member)
 
-    thirsts : (b : Bool) → is_thirsty (drinking s j) ≡ b → m.ask_bottles ≢ 0 → drinking s j ≡ Thirsty
+    thirsts : (b : Bool) → is_waiting (drinking s j) ≡ b → m.ask_bottles ≢ 0 → drinking s j ≡ Thirsty
     thirsts true is other = at (drinking s j) is where
-      at : (d : Drinking) → is_thirsty d ≡ true → d ≡ Thirsty
+      at : (d : Drinking) → is_waiting d ≡ true → d ≡ Thirsty
       at Thirsty h = refl
       at Tranquil h = absurd (false≢true h)
       at Drinks h = absurd (false≢true h)
       at Reaching h = absurd (false≢true h)
       at Retired h = absurd (false≢true h)
     thirsts false is other = let a = due.bottles.ask_bottles in
-        absurd (other (empty_set (length (bottles plan e)) m.ask_bottles a.of_edge (λ k l member. false≢true (sym is ∙ ap is_thirsty ((a.just k l).0 member).0))))
+        absurd (other (empty_set (length (bottles plan e)) m.ask_bottles a.of_edge (λ k l member. false≢true (sym is ∙ ap is_waiting ((a.just k l).0 member).0))))
 
     may_ask : not (m.ask_bottles == 0) ≡ true → May plan (fork_asked_for plan s j e m) (AskBottles j e m.ask_bottles)
     may_ask h = let a = due.bottles.ask_bottles in let t = stage_three plan s j e m he hj in (
       own,
-      ap (λ (x : JobState). x.drinking) t.phase_is ∙ thirsts (is_thirsty (drinking s j)) refl (some m.ask_bottles h),
+      ap (λ (x : JobState). x.drinking) t.phase_is ∙ thirsts (is_waiting (drinking s j)) refl (some m.ask_bottles h),
       record { not_empty = some m.ask_bottles h; of_edge = a.of_edge },
       λ k member. ((a.just k (member_below m.ask_bottles (length (bottles plan e)) k a.of_edge member)).0 member).1,
     )
@@ -60,3 +61,6 @@ module _ (plan : LabPlan) (s : State) (j e : ℕ) (he : e < length s.edges) (hj 
         (legal_on plan (bottles_gone plan s j e m) m.ask_fork (AskFork j e) _ due.forks.ask_fork.0
         (legal_on plan (fork_asked_for plan s j e m) (not (m.ask_bottles == 0)) (AskBottles j e m.ask_bottles) _ may_ask
         (legal_on plan (all_asked_for plan s j e m) m.soil (Soil j e) _ due.forks.soil.0 tt))))
+
+pub due_is_legal : DueIsLegal
+due_is_legal = λ plan s j e m he hj own due. due_legal plan s j e he hj own m due

@@ -1,5 +1,5 @@
 -- Where nothing is due, nothing is legal.
-use Rattle.std.proofs.Common.{◌≡◌, ◌≢◌, ◌↔◌, ℕ, ◌<◌, ◌^◌, inl, inr, Bool, true, false, not, ◌&&◌, ◌==◌, length, refl, sym, ap, ◌∙◌, subst, arith}
+use Rattle.std.proofs.Common.{◌≡◌, ◌↔◌, ℕ, ◌<◌, ◌^◌, inl, inr, Bool, true, false, not, ◌==◌, length, refl, sym, ap, ◌∙◌, subst, arith}
 use Rattle.std.proofs.lemmas.Bool.{false≢true, cases_eq}
 use Rattle.std.specs.Int.{bit_at}
 use Rattle.std.proofs.lemmas.Nat.{pow_pos}
@@ -7,17 +7,16 @@ use Rattle.std.proofs.lemmas.Nat.Bits.{bit_at-lt, bit_at-pow_other, same_from_bi
 use Rattle.std.proofs.Math.Pow.{pow-lt}
 use Rattle.legal_steps.specs.declared.phase.Drinking.TheVariants.{Thirsty}
 use Rattle.std.proofs.lemmas.Bool.Decides.{nat_tests}
-use Rattle.lab_plan.specs.LabPlan.{LabPlan, bottles}
+use Rattle.lab_plan.specs.LabPlan.{LabPlan, bottles, session_names}
 use Rattle.legal_steps.specs.declared.event.Event.TheVariants.{AskFork, GiveFork, Soil, AskBottles, GiveBottles}
-use Rattle.legal_steps.specs.State.{State, Has, IsDrinking, drinking, edge, phase, bottle_end}
+use Rattle.legal_steps.specs.State.{State, Has, IsDrinking, IsInSession, drinking, edge, phase, bottle_end}
 use Rattle.legal_steps.specs.declared.phase.JobState.{JobState}
 use Rattle.legal_steps.specs.declared.edge_state.EdgeState.{EdgeState}
-use Rattle.session_layer.specs.Local.{NeedsIn}
 use Rattle.legal_steps.specs.Legal.{May, MayGiveBottle, MayAskBottle, IsBottleSet, Needs}
-use Rattle.edge_word.specs.declared.moves.EdgeMoves.{EdgeMoves}
-use Rattle.turns.specs.Due.{after_if, fork_gone, bottles_gone, fork_asked_for, all_asked_for, AreDue, IsCalm, IsGreatest, is_nothing, NothingDueIsCalm, CalmHasNothingDue, OneGroupIsDue, StaysCalm}
-use Rattle.session_layer.proofs.Sets.{has_none, empty_set, one_or_none}
-use Rattle.session_layer.proofs.ForkMoves.{both, untrue, GiveAt, AskAt, SoilAt}
+use Rattle.turns.specs.Due.{after_if, fork_gone, bottles_gone, fork_asked_for, all_asked_for, IsCalm, IsGreatest}
+use Rattle.turns.specs.Laws.{NothingDueIsCalm, CalmHasNothingDue, OneGroupIsDue, StaysCalm}
+use Rattle.turns.proofs.Sets.{has_none, empty_set, one_or_none}
+use Rattle.turns.proofs.ForkGuards.{both, untrue, GiveAt, AskAt, SoilAt}
 
 none : (n : ℕ) → (n == 0) ≡ true → n ≡ 0
 none n h = grind (arith, nat_tests)
@@ -103,10 +102,16 @@ one_group_is_due = λ plan s j e m r p q.
 
 module _ (plan : LabPlan) (s t : State) (j e : ℕ) (is : edge t e ≡ edge s e) (ph : phase t j ≡ phase s j) where
   needs_there : (i : ℕ) → Needs plan s j i → Needs plan t j i
-  needs_there i n = let m : NeedsIn plan j (phase t j) i = subst (λ (q : JobState). NeedsIn plan j q i) (sym ph) (record { in_session = n.in_session; named = n.named }) in record { in_session = m.in_session; named = m.named }
+  needs_there i n = record {
+    in_session = subst (λ (x : JobState). IsInSession x.drinking) (sym ph) n.in_session;
+    named = subst (λ (x : JobState). session_names plan j x.session i ≡ true) (sym ph) n.named;
+  }
 
   needs_here : (i : ℕ) → Needs plan t j i → Needs plan s j i
-  needs_here i n = let m : NeedsIn plan j (phase s j) i = subst (λ (q : JobState). NeedsIn plan j q i) ph (record { in_session = n.in_session; named = n.named }) in record { in_session = m.in_session; named = m.named }
+  needs_here i n = record {
+    in_session = subst (λ (x : JobState). IsInSession x.drinking) ph n.in_session;
+    named = subst (λ (x : JobState). session_names plan j x.session i ≡ true) ph n.named;
+  }
 
   give_here : (k : ℕ) → MayGiveBottle plan t j e k → MayGiveBottle plan s j e k
   give_here k g = record {

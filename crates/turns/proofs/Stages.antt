@@ -4,10 +4,10 @@ use Rattle.std.proofs.lemmas.Bool.{cases_eq}
 use Rattle.std.proofs.lemmas.Bool.Decides.{nat_tests}
 use Rattle.std.specs.Int.Bits.{xor_zero_r}
 use Rattle.lab_plan.specs.LabPlan.{LabPlan}
-use Rattle.legal_steps.specs.declared.event.Event.TheVariants.{AskFork, GiveFork, Soil, AskBottles, GiveBottles}
+use Rattle.legal_steps.specs.declared.event.Event.TheVariants.{AskFork, GiveFork, AskBottles, GiveBottles}
 use Rattle.legal_steps.specs.declared.edge_state.EdgeState.{EdgeState}
-use Rattle.legal_steps.specs.State.{State, Seat, edge, phase, seat}
-use Rattle.legal_steps.specs.Legal.{with_edge, fork_asked, fork_given, bottles_asked, bottles_given}
+use Rattle.legal_steps.specs.State.{State, Seat, edge, phase}
+use Rattle.legal_steps.specs.Legal.{fork_asked, fork_given, bottles_asked, bottles_given}
 use Rattle.legal_steps.proofs.FitsWrites.{edge_same, seat_same}
 use Rattle.edge_word.specs.declared.moves.EdgeMoves.{EdgeMoves}
 use Rattle.edge_word.specs.Moves.{when}
