@@ -4,3 +4,4 @@ pub mod Local
 pub mod Histories
 pub mod Holding
 pub mod Few
+pub mod Retired

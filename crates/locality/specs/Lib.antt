@@ -3,3 +3,4 @@ pub mod Lists
 pub mod Changes
 pub mod Reaching
 pub mod Patience
+pub mod Laws
