@@ -1,6 +1,10 @@
 pub mod Frame
+pub mod Changed
+pub mod Reading
 pub mod Runs
+pub mod Knowing
 pub mod Local
 pub mod Histories
 pub mod Holding
 pub mod Few
+pub mod Retired
