@@ -15,9 +15,9 @@ use Rattle.edge_word.specs.declared.moves.EdgeMoves.{EdgeMoves}
 use Rattle.edge_word.specs.Moves.{when}
 use Rattle.turns.specs.Due.{fork_gone, fork_asked_for, IsGreatest, AreBottleMoves}
 use Rattle.session_layer.specs.Local.{NeedsIn, has_instruments, is_thirsty, without, tokens_at, kept, gifts, wishes}
-use Rattle.session_layer.proofs.Sets.{has_and, has_without, has_none, at_end, at_end_fits, without_fits}
-use Rattle.session_layer.proofs.ForkMoves.{at_here, here_at}
-use Rattle.session_layer.proofs.Stages.{Stage, stage_one, stage_three, edge_one, edge_two, edge_three}
+use Rattle.turns.proofs.Sets.{has_and, has_without, has_none, at_end, at_end_fits, without_fits}
+use Rattle.turns.proofs.ForkGuards.{at_here, here_at}
+use Rattle.turns.proofs.Stages.{Stage, stage_one, stage_three, edge_one, edge_two, edge_three}
 
 thirsts : (d : Drinking) → is_thirsty d ≡ true → d ≡ Thirsty
 thirsts Thirsty h = refl

@@ -5,7 +5,7 @@ use Rattle.legal_steps.specs.Legal.{May}
 use Rattle.legal_steps.specs.declared.event.Event.TheVariants.{Thirst, Hunger, Sit, Leave, Drink, Reach, Act, Quit, Retire, Withdraw}
 use Rattle.edge_rule.specs.DeskView.{DeskView, known}
 use Rattle.turns.specs.Acts.{Counts}
-use Rattle.session_layer.proofs.Firsts.{refused, illegal}
+use Rattle.turns.proofs.Firsts.{refused, illegal}
 use Rattle.session_layer.proofs.acting.phase_due.Goals as goal
 
 pub returns-then-may_quit-clause-first : goal.returns-then-may_quit-clause-first
