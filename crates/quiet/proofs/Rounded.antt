@@ -25,7 +25,7 @@ use Rattle.turns.proofs.Idle.{idle_turn_is_calm}
 use Rattle.overtaking.specs.Stuck.{AllRetired, IsMove, IsQuiet, IsUpToDate}
 use Rattle.overtaking.proofs.NeverStuck.{quiet_is_retired}
 use Rattle.quiet.specs.LastLooks.{seen_next, seen_after, last_seen}
-use Rattle.quiet.specs.QuietRound.{EndsIdle, IsQuietRound, IdleJobKnowsWhatItSaw, QuietRoundIsRetired}
+use Rattle.quiet.specs.QuietRound.{EndsIdle, IsQuietRound, IdleJobKnowsWhatItSaw, BothSawIsBothKnow, QuietRoundIsRetired}
 use Rattle.quiet.proofs.Looks.{looks, IsWide, IsClear, wide_before, looks_clear}
 use Rattle.quiet.proofs.Seeing.{one_is_current, current_is}
 
@@ -126,6 +126,28 @@ module _ (plan : LabPlan) (h : List Event) (legal : IsHistory plan h) (j : ℕ) 
 pub idle_job_knows_what_it_saw : IdleJobKnowsWhatItSaw
 idle_job_knows_what_it_saw plan h j e legal q own = (clear plan h legal j q e own).saw
 
+lower_own : (plan : LabPlan) (e : ℕ) → e < length (edges plan) → IsOwn plan (ends plan e).0 e
+lower_own plan e inside = record { is_edge = inside; at_end = inl refl }
+
+higher_own : (plan : LabPlan) (e : ℕ) → e < length (edges plan) → IsOwn plan (ends plan e).1 e
+higher_own plan e inside = record { is_edge = inside; at_end = inr refl }
+
+or_else : EdgeState → Option EdgeState → EdgeState
+or_else d (Some x) = x
+or_else d None = d
+
+same_word : (x y : EdgeState) → Some x ≡ Some y → x ≡ y
+unfolding or_else
+same_word x y is = ap (or_else x) is
+
+pub both_saw_is_both_know : BothSawIsBothKnow
+both_saw_is_both_know plan h legal idle =
+    let saw : (j e : ℕ) → IsOwn plan j e → last_seen e (events_by j h) ≡ Some (edge (known_by plan (events_by j h)) e) =
+    λ j e own. idle_job_knows_what_it_saw plan h j e legal (idle j (own_is_job plan j e own)) own in (
+      λ both e inside. same_word _ _ (sym (saw (ends plan e).0 e (lower_own plan e inside)) ∙ (both e inside ∙ saw (ends plan e).1 e (higher_own plan e inside))),
+      λ both e inside. saw (ends plan e).0 e (lower_own plan e inside) ∙ (ap (λ (x : EdgeState). Some x) (both e inside) ∙ sym (saw (ends plan e).1 e (higher_own plan e inside))),
+    )
+
 -- ---- no act is due
 
 some_event : (x : Event) (l : List Event) → x ∷ l ≡ [] → ⊥
@@ -181,20 +203,14 @@ module _ (plan : LabPlan) (h : List Event) (r : IsQuietRound plan h) where
   ends_idle : (j e : ℕ) → IsOwn plan j e → EndsIdle plan h j
   ends_idle j e own = r.idle j (own_is_job plan j e own)
 
-  lower : (e : ℕ) → e < length (edges plan) → IsOwn plan (ends plan e).0 e
-  lower e inside = record { is_edge = inside; at_end = inl refl }
-
-  higher : (e : ℕ) → e < length (edges plan) → IsOwn plan (ends plan e).1 e
-  higher e inside = record { is_edge = inside; at_end = inr refl }
-
   saw : (j e : ℕ) → IsOwn plan j e → last_seen e (events_by j h) ≡ Some (edge (known j) e)
   saw j e own = (clear plan h r.legal j (ends_idle j e own) e own).saw
 
   -- the lower job of an edge knows it as it is
   lower_knows : (e : ℕ) → e < length (edges plan) → edge w e ≡ edge (known (ends plan e).0) e
   lower_knows e inside = elim (one_is_current plan e (the_opening plan) h None None r.legal (inl (inl refl))) [
-    | inl current ↦ current_is plan e w (last_seen e (events_by (ends plan e).0 h)) (edge (known (ends plan e).0) e) (saw (ends plan e).0 e (lower e inside)) current
-    | inr current ↦ current_is plan e w (last_seen e (events_by (ends plan e).1 h)) (edge (known (ends plan e).1) e) (saw (ends plan e).1 e (higher e inside)) current ∙ sym (r.both_know e inside)
+    | inl current ↦ current_is plan e w (last_seen e (events_by (ends plan e).0 h)) (edge (known (ends plan e).0) e) (saw (ends plan e).0 e (lower_own plan e inside)) current
+    | inr current ↦ current_is plan e w (last_seen e (events_by (ends plan e).1 h)) (edge (known (ends plan e).1) e) (saw (ends plan e).1 e (higher_own plan e inside)) current ∙ sym (r.both_know e inside)
   ]
 
   -- each job knows its edges as they are
