@@ -1,11 +1,11 @@
 -- What an event makes of the edge of its exchange, and to which log it writes. No other edge changes, and no other log.
-use Rattle.std.specs.Prelude.{ℕ, Option, Some, None}
+use Rattle.std.specs.Prelude.{ℕ, ◌+◌, Bool, false, ◌==◌, if◌then◌else◌, List, [], ◌∷◌, Option, Some, None}
 use Rattle.lab_plan.specs.LabPlan.{LabPlan}
 use Rattle.legal_steps.specs.declared.edge_state.EdgeState.{EdgeState}
 use Rattle.legal_steps.specs.declared.event.Event.{Event}
 use Rattle.legal_steps.specs.declared.event.Event.TheVariants.{AskFork, GiveFork, Soil, AskBottles, GiveBottles, Act}
 use Rattle.legal_steps.specs.State.{State}
-use Rattle.legal_steps.specs.Legal.{next_command, fork_asked, fork_given, fork_soiled, bottles_asked, bottles_given}
+use Rattle.legal_steps.specs.Legal.{after, next_command, fork_asked, fork_given, fork_soiled, bottles_asked, bottles_given}
 
 -- the edge that an event changes
 abbrev pub changed_edge : Event → Option ℕ
@@ -29,3 +29,13 @@ edge_after x _ = x
 abbrev pub written_log : LabPlan → State → Event → Option ℕ
 written_log plan s (Act j) = Some (next_command plan s j).0
 written_log plan s _ = None
+
+-- whether an event is an Act on instrument i
+abbrev pub is_act_on : LabPlan → ℕ → State → Event → Bool
+is_act_on plan i s (Act j) = (next_command plan s j).0 == i
+is_act_on plan i s _ = false
+
+-- how many Acts on instrument i a list has from s
+abbrev pub acts_on : LabPlan → ℕ → State → List Event → ℕ
+acts_on plan i s [] = 0
+acts_on plan i s (event ∷ events) = (if is_act_on plan i s event then 1 else 0) + acts_on plan i (after plan s event) events

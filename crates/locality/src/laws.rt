@@ -1,6 +1,6 @@
 // What one event changes and reads, what a job knows by its own events, and what stays over legal lists.
 // Each law is the contract of a function that does nothing.
-ghost use Rattle.locality.specs.Laws.{ChangesOneEdge, ChangesOneLog, ChangesOneSeat, KeepsAll, KnowsItself, ReadsAlike, StaysRetired};
+ghost use Rattle.locality.specs.Laws.{ChangesOneEdge, ChangesOneLog, ChangesOneSeat, CountsItself, HasOneEntryEach, HasOneReaching, HoldsWhatItReaches, IsLegalInParts, KeepsAll, KeepsReachedLog, KnowsItself, LeadsOn, ReadsAlike, RestsAtNoCommand, StaysRetired};
 
 /// After an event there are as many seats, edges and logs as before.
 pub fn keeps_all()
@@ -33,7 +33,47 @@ pub fn knows_itself()
     ensures { KnowsItself }
 {}
 
+/// The meals that a job began, and the sessions that it ended or gave up, are counted in its own events.
+pub fn counts_itself()
+    ensures { CountsItself }
+{}
+
+/// Two lists of events one after another lead where the second leads from where the first led.
+pub fn leads_on()
+    ensures { LeadsOn }
+{}
+
+/// Two lists of events one after another are legal exactly where each is, the second from where the first led.
+pub fn is_legal_in_parts()
+    ensures { IsLegalInParts }
+{}
+
 /// A retired job stays retired over every legal list of events.
 pub fn stays_retired()
     ensures { StaysRetired }
+{}
+
+/// A drinking job with a command left, and a job that reaches, hold the instrument of that command.
+pub fn holds_what_it_reaches()
+    ensures { HoldsWhatItReaches }
+{}
+
+/// While a job reaches for an instrument, its log stays as it was until the job's own next event.
+pub fn keeps_reached_log()
+    ensures { KeepsReachedLog }
+{}
+
+/// No two jobs reach for one instrument.
+pub fn has_one_reaching()
+    ensures { HasOneReaching }
+{}
+
+/// A log has one entry for each Act done on its instrument.
+pub fn has_one_entry_each()
+    ensures { HasOneEntryEach }
+{}
+
+/// A job that is in no session is at no command.
+pub fn rests_at_no_command()
+    ensures { RestsAtNoCommand }
 {}
