@@ -1,20 +1,18 @@
 -- What a desk did in a turn, by its record alone.
-use Rattle.std.proofs.Common.{◌≡◌, ◌≢◌, ℕ, Bool, true, false, not, ◌&&◌, ◌==◌, if◌then◌else◌, List, [], ◌∷◌, ◌++◌, map, refl, sym, ap, ◌∙◌, subst, arith, append_assoc, append-nil}
-use Rattle.std.proofs.lemmas.Bool.{false≢true}
-use Rattle.lab_plan.specs.LabPlan.{LabPlan, edges_of}
+use Rattle.std.proofs.Common.{◌≡◌, ◌≢◌, ℕ, Bool, true, false, if◌then◌else◌, List, [], ◌∷◌, ◌++◌, refl, sym, ap, ◌∙◌, subst, append_assoc, append-nil}
+use Rattle.lab_plan.specs.LabPlan.{LabPlan}
 use Rattle.legal_steps.specs.declared.event.Event.{Event}
-use Rattle.legal_steps.specs.declared.event.Event.TheVariants.{Look, AskFork, GiveFork, Soil, AskBottles, GiveBottles}
+use Rattle.legal_steps.specs.declared.event.Event.TheVariants.{Look}
 use Rattle.legal_steps.specs.State.{State, edge}
 use Rattle.legal_steps.specs.Opening.{the_opening}
-use Rattle.edge_word.specs.declared.moves.EdgeMoves.{EdgeMoves}
-use Rattle.edge_word.specs.Moves.{events_of, on}
-use Rattle.locality.specs.History.{learned, learned_all, known_by}
+use Rattle.edge_word.specs.Moves.{events_of}
+use Rattle.locality.specs.History.{learned_all, known_by}
 use Rattle.edge_rule.specs.DeskView.{DeskView, Adds, known, shown, waited}
 use Rattle.locality.proofs.Runs.{learned_all-append}
 use Rattle.turns.specs.Due.{AreDue, is_nothing}
 use Rattle.turns.specs.Acts.{AreActs}
 use Rattle.turns.specs.Turn.{Visit}
-use Rattle.session_layer.specs.Turn.{Visits, VisitsAll, DoesAll, Chosen, Took}
+use Rattle.session_layer.specs.Turn.{Visits, VisitsAll, DoesAll, Chosen}
 use Rattle.turns.specs.Turn.{visit_events, visits_events, AreVisits}
 use Rattle.session_layer.specs.Turn.{TookIsTurn}
 use Rattle.turns.proofs.Idle.{no_events}

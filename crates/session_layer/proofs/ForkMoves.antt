@@ -1,8 +1,7 @@
 -- Where the fork moves are legal, by the edge and the own phase.
-use Rattle.std.proofs.Common.{◌≡◌, ◌≢◌, ◌↔◌, ℕ, ◌<◌, Bool, true, false, not, ◌&&◌, if◌then◌else◌, length, arith, refl, sym, ap, ◌∙◌, subst}
+use Rattle.std.proofs.Common.{◌≡◌, ◌≢◌, ◌↔◌, ℕ, ◌<◌, Bool, true, false, not, ◌&&◌, if◌then◌else◌, length, refl, sym, ap, ◌∙◌}
 use Rattle.std.proofs.lemmas.Bool.{false≢true}
 use Rattle.lab_plan.specs.LabPlan.{LabPlan}
-use Rattle.legal_steps.specs.declared.event.Event.TheVariants.{AskFork, GiveFork, Soil}
 use Rattle.legal_steps.specs.declared.end.End.{End}
 use Rattle.legal_steps.specs.declared.end.End.TheVariants.{Lower, Higher}
 use Rattle.legal_steps.specs.declared.phase.Dining.{Dining}
@@ -10,10 +9,10 @@ use Rattle.legal_steps.specs.declared.phase.Dining.TheVariants.{Thinking, Hungry
 use Rattle.legal_steps.specs.declared.phase.JobState.{JobState}
 use Rattle.legal_steps.specs.declared.edge_state.EdgeState.{EdgeState}
 use Rattle.legal_steps.specs.State.{State, IsOwn, edge, phase, end_of, opposite}
-use Rattle.legal_steps.specs.Legal.{May, is_at, fork_given, fork_asked}
+use Rattle.legal_steps.specs.Legal.{is_at, fork_given}
 use Rattle.edge_word.specs.declared.moves.EdgeMoves.{EdgeMoves}
 use Rattle.edge_word.specs.Moves.{when}
-use Rattle.turns.specs.Due.{fork_gone, bottles_gone, all_asked_for, AreForkMoves}
+use Rattle.turns.specs.Due.{AreForkMoves}
 use Rattle.session_layer.specs.Local.{is_eating, is_hungry, gives_fork, asks_fork, soils}
 use Rattle.turns.proofs.ForkGuards.{at_here, here_at, not_at, at_not, both, untrue, GiveAt, AskAt, SoilAt, ask_at, soil_at}
 
@@ -90,4 +89,3 @@ module _ (plan : LabPlan) (j e : ℕ) where
       ask_fork = (λ h. (ask_at plan j e s m he hj).1 (at.0 (sym a ∙ h)), λ h. a ∙ at.1 ((ask_at plan j e s m he hj).0 h));
       soil = (λ h. (soil_at plan j e s m he hj).1 (sl.0 (st.0 (sym t ∙ h))), λ h. t ∙ st.1 (sl.1 ((soil_at plan j e s m he hj).0 h)));
     }
-
