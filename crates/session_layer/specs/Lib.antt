@@ -1,0 +1,4 @@
+pub mod Local
+pub mod ActsDue
+pub mod Turn
+pub mod Grown
