@@ -1,7 +1,7 @@
 #!/usr/bin/env python3
 """Many runs of labrun over generated scripts, each report checked whole.
 
-Usage: bench/stress.py PROGRAM [runs=N] [seed=S] [minutes=M] [keep=FOLDER]
+Usage: bench/stress.py PROGRAM [runs=N] [seed=S] [minutes=M] [keep=FOLDER] [faults=no]
 
 PROGRAM is the built program (crates/labrun/out/labrun), or whatever takes the same words: bench/simulate.py, a peer of
 bench/peers. It makes N runs (1000 unless said), or as many as M minutes allow. Each script is of one of six shapes and of
@@ -11,7 +11,8 @@ either version, with 0 to 32 jobs and up to 56 instruments (bench/make_scripts.p
 - `threads W N` with 1 to 8 workers (now and then up to 32) and turns from 0 up: the report passes every check of
   bench/check_report.py. Besides, jobs that share instruments only with jobs of the same worker do just what they do by
   rounds, whatever the other workers do; so with one worker the whole report is that of the rounds.
-- A script that is spoilt in one line: output, line of the fault and status are those of the simulator.
+- A script that is spoilt in one line: output, line of the fault and status are those of the simulator (not with faults=no,
+  for a peer that knows no faults).
 
 Nothing may stand on standard error but the line of a fault, and no run may take longer than 120 seconds. At the end it
 prints how many runs there were and how many problems; the script of each problem is kept, with the words and what the
@@ -198,7 +199,7 @@ def main(words):
         for _ in range(6):
             workers = chance.randint(1, 32) if chance.randrange(10) == 0 else chance.randint(1, 8)
             stress.threads(reckoned, workers, pick_turns(reckoned, chance))
-        if scripts % 5 == 0:
+        if scripts % 5 == 0 and keys.get("faults") != "no":
             stress.spoilt(text, chance)
     print("%d scripts in %.0f seconds: %s" % (
         scripts, time.monotonic() - begun, ", ".join("%d %s" % (count, name) for name, count in stress.counts.items())))
