@@ -1,4 +1,4 @@
--- The laws of events and of histories, as statements.
+-- For readers: what one event reads and changes, what a job knows, and what holds after every history, as statements.
 use Rattle.std.specs.Prelude.{◌≡◌, ◌≢◌, ◌⊎◌, ◌↔◌, ℕ, ◌<◌, List, [], ◌∷◌, ◌++◌, length, Some}
 use Rattle.lab_plan.specs.LabPlan.{LabPlan, edges}
 use Rattle.lab_plan.specs.IsPlan.{IsPlan}

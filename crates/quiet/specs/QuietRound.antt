@@ -1,4 +1,4 @@
--- The quiet round: each job's last turn was idle, and the two ends of every edge saw the same word last.
+-- For readers: the quiet round: each job's last turn was idle, and the two ends of every edge saw the same word last.
 use Rattle.std.specs.Prelude.{◌≡◌, ◌≢◌, ◌↔◌, ℕ, ◌<◌, List, ◌++◌, length, Some}
 use Rattle.lab_plan.specs.LabPlan.{LabPlan, edges, ends}
 use Rattle.legal_steps.specs.declared.event.Event.{Event}
