@@ -1,0 +1,214 @@
+-- What a call on a desk owes and gives, by what the step told.
+use Rattle.std.proofs.Common.{◌≡◌, ◌≢◌, ℕ, ◌+◌, ◌*◌, ◌/◌, ◌<◌, ◌≤◌, Bool, List, [], ◌∷◌, ◌++◌, length, get_or, set, refl, sym, ap, ◌∙◌, subst, inl, inr, arith, length-set, get_or-set_same, get_or-set_other}
+use Rattle.std.proofs.lemmas.Bool.{cases_eq}
+use mathlib.Core.Option.{none}
+use Rattle.atomic_table.specs.Table.{Me, step, Allows}
+use Rattle.atomic_table.specs.declared.shared.Seat.{Seat as TableSeat}
+use Rattle.lab_plan.specs.LabPlan.{LabPlan, edges, bottles}
+use Rattle.instrument_log.specs.InstrumentLog.{LogView}
+use Rattle.legal_steps.specs.declared.edge_state.EdgeState.{EdgeState}
+use Rattle.legal_steps.specs.declared.phase.JobState.{JobState}
+use Rattle.legal_steps.specs.declared.event.Event.{Event}
+use Rattle.legal_steps.specs.declared.event.Event.TheVariants.{Look}
+use Rattle.legal_steps.specs.declared.phase.Drinking.TheVariants.{Reaching}
+use Rattle.legal_steps.specs.State.{Seat, State, IsOwn, edge, seat, no_edge, end_of, bottles_at}
+use Rattle.legal_steps.specs.Legal.{with_edge, fork_mark_seen}
+use Rattle.legal_steps.specs.Opening.{the_opening}
+use Rattle.legal_steps.specs.Fitting.{IsSeatOf}
+use Rattle.edge_word.specs.Words.{word_of, IsOfBottles}
+use Rattle.edge_word.proofs.WordBits.{no_two_edges}
+use Rattle.edge_word.proofs.WordLemmas.{IsOfBottles-28}
+use Rattle.one_history.specs.declared.board.Hand.{Hand}
+use Rattle.one_history.specs.declared.board.View.{View}
+use Rattle.edge_rule.specs.declared.desk.Desk.TheInside.{Inside}
+use Rattle.edge_rule.specs.declared.clock.Clock.{Clock}
+use Rattle.edge_rule.specs.declared.bench.Bench.TheInside as bench_fields
+use Rattle.locality.specs.History.{actor, events_by, learned, learned_all, known_by, IsHistory, state_after}
+use Rattle.one_history.specs.Rule.{edge_place, word_count, Kept}
+use Rattle.locality.specs.Lists.{Each}
+use Rattle.one_history.specs.Grow.{hand_or, hand_in, rest_hands, adding, IsLed, IsMine, mine, Grows, Does, looked}
+use Rattle.edge_rule.specs.DeskView.{DeskView, BenchView, Owns, Adds, known}
+use Rattle.edge_rule.specs.DeskInside.{seat_view, view_of, kept, AreOfPlan, AtRest, IsDesk}
+use Rattle.edge_rule.specs.BenchInside.{bench_of, IsBench}
+use Rattle.locality.specs.Changes.{seat_after}
+use Rattle.locality.proofs.Frame.{learned_seat}
+use Rattle.locality.proofs.Runs.{learned_all-append, learned_all_seats, learned_all_edges, opening_seats, opening_edges, own_known}
+use Rattle.locality.proofs.Histories.{history_fits}
+use Rattle.one_history.proofs.Looking.{looks}
+
+-- ---- a view at rest
+
+pub hand_grown : (v w : View) (g : List Event) → w.hands ≡ adding (hand_in v) g ∷ rest_hands v.hands → hand_in w ≡ adding (hand_in v) g
+hand_grown v w g e = ap hand_or e
+
+pub led : (v : View) → IsMine v → IsLed v
+led v mine = let alone : rest_hands v.hands ≡ [] = ap rest_hands mine in
+    (mine ∙ ap (λ (z : List Hand). hand_in v ∷ z) (sym alone), subst (λ (z : List Hand). Each (λ (y : Hand). y.job ≢ (hand_in v).job) z) (sym alone) tt)
+
+pub mine_seats : (v : View) → length (mine v).seats ≡ length (hand_in v).plan.jobs
+mine_seats v = learned_all_seats (hand_in v).plan (the_opening (hand_in v).plan) (hand_in v).deeds ∙ opening_seats (hand_in v).plan
+
+pub mine_edges : (v : View) → length (mine v).edges ≡ length (edges (hand_in v).plan)
+mine_edges v = learned_all_edges (hand_in v).plan (the_opening (hand_in v).plan) (hand_in v).deeds ∙ opening_edges (hand_in v).plan
+
+-- what a job knows after a group of its events
+pub mine_grown : (v w : View) (g : List Event) → Grows v g w → mine w ≡ learned_all (hand_in v).plan (mine v) g
+mine_grown v w g t = ap (λ (x : Hand). known_by x.plan x.deeds) (hand_grown v w g t.hands) ∙ learned_all-append (hand_in v).plan (the_opening (hand_in v).plan) (hand_in v).deeds g
+
+pub rest_grown : (v w : View) (g : List Event) → AtRest v → Grows v g w → AtRest w
+rest_grown v w g ok t = let x = hand_grown v w g t.hands in record {
+  mine = t.hands ∙ (λ i. sym x i ∷ ap rest_hands ok.mine i);
+  inside = subst (λ (z : Hand). z.job < length z.plan.jobs) (sym x) ok.inside;
+  none_told = t.none_told;
+  legal = subst (λ (z : Hand). IsHistory z.plan w.front) (sym x) t.legal;
+  whole = subst (λ (z : Hand). events_by z.job w.front ≡ z.deeds) (sym x) t.whole;
+}
+
+-- its seat fits the plan
+pub mine_fits : (v : View) → AtRest v → IsSeatOf (hand_in v).plan (hand_in v).job (seat (mine v) (hand_in v).job)
+mine_fits v ok =
+    let p : LabPlan = (hand_in v).plan in
+    let j : ℕ = (hand_in v).job in
+    subst (IsSeatOf p j) (own_known p j v.front ok.inside ∙ ap (λ (l : List Event). seat (known_by p l) j) ok.whole) ((history_fits p v.front ok.legal).seats_fit j ok.inside)
+
+-- ---- a desk
+
+module _ {A : Type 0} (d : Inside A) (ok : IsDesk d) where
+  abbrev v : View
+  v = d.seat.me.0
+
+  abbrev p : LabPlan
+  p = (hand_in v).plan
+
+  abbrev j : ℕ
+  j = (hand_in v).job
+
+  pub desk_seat : IsSeatOf p j (kept d)
+  desk_seat = subst (IsSeatOf p j) ok.own (mine_fits v ok.at_rest)
+
+  pub desk_edges : length d.seen.items ≡ length (edges p)
+  desk_edges = ap length (sym ok.seen) ∙ mine_edges v
+
+  pub inside_forks : (e n : ℕ) → n ≡ e → e < length (edges p) → n < length d.fork_marks.items
+  inside_forks e n is inside = let h = desk_seat.fork_marks_there in omega arith
+
+  pub inside_bottles : (e n : ℕ) → n ≡ e → e < length (edges p) → n < length d.bottle_marks.items
+  inside_bottles e n is inside = let h = desk_seat.bottle_marks_there in omega arith
+
+  pub inside_seen : (e n : ℕ) → n ≡ e → e < length (edges p) → n < length d.seen.items
+  inside_seen e n is inside = let h = desk_edges in omega arith
+
+  -- a desk after a group of events, where its fields follow
+  pub desk_grows : (d' : Inside A) (g : List Event) → Grows v g d'.seat.me.0 → d'.seat.me.1 ≡ [] → d'.job ≡ d.job
+      → seat (learned_all p (mine v) g) j ≡ kept d' → (learned_all p (mine v) g).edges ≡ d'.seen.items → AreOfPlan p d'.seen.items → d'.phase.drinking ≢ Reaching → IsDesk d'
+  desk_grows d' g t empty job own seen of_plan rests = let x = hand_grown v d'.seat.me.0 g t.hands in let m = mine_grown v d'.seat.me.0 g t in record {
+    at_rest = rest_grown v d'.seat.me.0 g ok.at_rest t;
+    empty = empty;
+    job = ap (λ (z : Hand). z.job) x ∙ (ok.job ∙ sym job);
+    own = (λ i. seat (m i) (x i).job) ∙ own;
+    seen = ap (λ (z : State). z.edges) m ∙ seen;
+    of_plan = subst (λ (z : Hand). AreOfPlan z.plan d'.seen.items) (sym x) of_plan;
+    rests = rests;
+  }
+
+  -- one edge is seen
+  pub of_plan_set : (e : ℕ) (x : EdgeState) → e < length (edges p) → IsOfBottles (length (bottles p e)) x → AreOfPlan p (set d.seen.items e x)
+  of_plan_set e x inside fit f l = let n = desk_edges in elim (cases_eq f e) [
+    | inl is ↦ subst (λ (z : ℕ). IsOfBottles (length (bottles p z)) (get_or (set d.seen.items e x) z no_edge)) (sym is) (subst (IsOfBottles (length (bottles p e))) (sym (get_or-set_same d.seen.items e x no_edge (omega arith))) fit)
+    | inr ne ↦ subst (IsOfBottles (length (bottles p f))) (sym (get_or-set_other d.seen.items e f x no_edge ne)) (ok.of_plan f l)
+  ]
+
+-- ---- a bench and a desk
+
+-- a fact of the values that contracts see, as one of the fields
+pub owned : {A : Type 0} (b : bench_fields.Inside A) (d : Inside A) (x : BenchView) (y : DeskView) → bench_of b ≡ x → view_of d ≡ y → Owns x y → Owns (bench_of b) (view_of d)
+owned b d x y e f o = subst (λ (z : BenchView × DeskView). Owns z.0 z.1) (λ i. (sym e i, sym f i)) o
+
+-- a fact of the value that contracts see, as one of the seat
+pub of_seat : (P : DeskView → Type 0) {A : Type 0} (d : Inside A) (y : DeskView) → view_of d ≡ y → P y → P (view_of d)
+of_seat P d y e h = subst P (sym e) h
+
+module _ {A : Type 0} (b : bench_fields.Inside A) (d : Inside A) (is_bench : IsBench b) (ok : IsDesk d) (owns : Owns (bench_of b) (view_of d)) where
+  abbrev key : LabPlan
+  key = b.table.shared.key
+
+  abbrev mine_plan : LabPlan
+  mine_plan = (hand_in d.seat.me.0).plan
+
+  abbrev slots : ℕ
+  slots = b.table.shared.table_id.slots
+
+  abbrev Framed : (i : ℕ) (f : ℕ → ℕ) (then : ℕ → Me LogView View → Type 0) → Type 0
+  Framed i f then = (d.seat.table_id ≡ b.table.shared.table_id) × (i < b.table.shared.table_id.words) × Allows (Kept key) slots d.seat.id d.seat.me i f then
+
+  -- a step by the plan of the hand is one by the key of the table
+  pub framed : (i : ℕ) (f : ℕ → ℕ) (then : ℕ → Me LogView View → Type 0) → i < word_count mine_plan → Allows (Kept mine_plan) slots d.seat.id d.seat.me i f then → Framed i f then
+  framed i f then l allows = (
+    owns.0,
+    (let words = is_bench.words in let l' : i < word_count key = subst (λ (z : LabPlan). i < word_count z) owns.1 l in omega arith),
+    subst (λ (z : LabPlan). Allows (Kept z) slots d.seat.id d.seat.me i f then) owns.1 allows,
+  )
+
+  pub plan_known : b.plan.now ≡ mine_plan
+  plan_known = sym is_bench.plan ∙ sym owns.1
+
+  pub look_requires : (e n : ℕ) → n ≡ edge_place e → IsOwn mine_plan (hand_in d.seat.me.0).job e → Framed n (λ n. n) (looked (step slots n 0 0 none) d.seat.me)
+  look_requires e n is own = subst (λ z. Framed z (λ n. n) (looked (step slots z 0 0 none) d.seat.me)) (sym is)
+      (let inside = own.is_edge in framed (edge_place e) (λ n. n) (looked (step slots (edge_place e) 0 0 none) d.seat.me) (omega arith)
+      (looks mine_plan slots d.seat.id d.seat.me.0 d.seat.me.1 (led d.seat.me.0 ok.at_rest.mine) ok.at_rest.inside e own))
+
+-- what a call gives: y is what the caller saw before
+pub seat_adds : {k : Clock} (s s' : TableSeat LogView View) (y : DeskView) (g : DeskView → List Event) → seat_view k s ≡ y → Grows s.me.0 (g (seat_view k s)) s'.me.0 → s'.table_id ≡ s.table_id → Adds y (g y) (seat_view k s')
+seat_adds {k} s s' y g f t table = let v : View = s.me.0 in let w : View = s'.me.0 in let x = hand_grown v w (g (seat_view k s)) t.hands in
+    let all : Adds (seat_view k s) (g (seat_view k s)) (seat_view k s') = record {
+      table = table;
+      clock = refl;
+      plan = ap (λ (z : Hand). z.plan) x;
+      job = ap (λ (z : Hand). z.job) x;
+      deeds = ap (λ (z : Hand). z.deeds) x;
+      between = t.between;
+      front = t.front;
+      legal = subst (λ (z : Hand). IsHistory z.plan w.front) (sym x) t.legal;
+      whole = subst (λ (z : Hand). events_by z.job w.front ≡ z.deeds) (sym x) t.whole;
+    } in subst (λ (z : DeskView). Adds z (g z) (seat_view k s')) f all
+
+-- ---- look
+
+module _ {A : Type 0} (d d' : Inside A) (ok : IsDesk d) (e : ℕ) (x : EdgeState) (fork : Bool) (marks : ℕ) (q : LabPlan) where
+  abbrev lv : View
+  lv = d.seat.me.0
+
+  abbrev lp : LabPlan
+  lp = (hand_in lv).plan
+
+  abbrev lj : ℕ
+  lj = (hand_in lv).job
+
+  -- the desk after a look
+  pub look_kept : e < length (edges lp) → q ≡ lp → IsOfBottles (length (bottles q e)) x → Does lv (Look lj e x) d'.seat.me.0 → d'.seat.me.1 ≡ d.seat.me.1 → d'.job ≡ d.job → d'.phase ≡ d.phase
+      → fork ≡ fork_mark_seen d.phase.dining (end_of q d.job e) x → marks ≡ bottles_at q e (end_of q d.job e) x
+      → d'.fork_marks.items ≡ set d.fork_marks.items e fork → d'.bottle_marks.items ≡ set d.bottle_marks.items e marks → d'.seen.items ≡ set d.seen.items e x → IsDesk d'
+  look_kept inside is_p fits t empty job phase is_fork is_marks forks bottle_marks seen =
+      let event : Event = Look lj e x in
+      let jobs = mine_seats lv in
+      let here = ok.at_rest.inside in
+      let fork_is : fork ≡ fork_mark_seen d.phase.dining (end_of lp lj e) x = is_fork ∙ (λ i. fork_mark_seen d.phase.dining (end_of (is_p i) (sym ok.job i) e) x) in
+      let marks_is : marks ≡ bottles_at lp e (end_of lp lj e) x = is_marks ∙ (λ i. bottles_at (is_p i) e (end_of (is_p i) (sym ok.job i) e) x) in
+      let own : seat (learned_all lp (mine lv) (event ∷ [])) lj ≡ kept d' =
+      learned_seat lp (mine lv) event (omega arith) ∙ (ap (λ (y : Seat). seat_after lp y event) ok.own
+      ∙ (λ i. record { phase = sym phase i; fork_marks = (ap (set d.fork_marks.items e) (sym fork_is) ∙ sym forks) i; bottle_marks = (ap (set d.bottle_marks.items e) (sym marks_is) ∙ sym bottle_marks) i })) in
+      desk_grows d ok d' (event ∷ []) t (empty ∙ ok.empty) job own (ap (λ (l : List EdgeState). set l e x) ok.seen ∙ sym seen)
+      (subst (AreOfPlan lp) (sym seen) (of_plan_set d ok e x inside (subst (λ (z : LabPlan). IsOfBottles (length (bottles z e)) x) is_p fits)))
+      (subst (λ (z : JobState). z.drinking ≢ Reaching) (sym phase) ok.rests)
+
+-- what a look tells, of the word that was unpacked
+module _ {A : Type 0} (b : bench_fields.Inside A) (d : Inside A) (is_bench : IsBench b) (ok : IsDesk d) (owns : Owns (bench_of b) (view_of d)) where
+  pub look_told : (s' : TableSeat LogView View) (e n m : ℕ) (x : EdgeState) → n ≡ edge_place e → IsOwn (hand_in d.seat.me.0).plan (hand_in d.seat.me.0).job e → word_of x ≡ m → IsOfBottles (length (bottles b.plan.now e)) x
+      → looked (step b.table.shared.table_id.slots n 0 0 none) d.seat.me m s'.me → Does d.seat.me.0 (Look (hand_in d.seat.me.0).job e x) s'.me.0 × (s'.me.1 ≡ d.seat.me.1)
+  look_told s' e n m x is own word fits t =
+      let p : LabPlan = (hand_in d.seat.me.0).plan in
+      let at : n / 8 ≡ e = omega arith in
+      let plan = plan_known b d is_bench ok owns in
+      let few : length (bottles p e) ≤ 28 = subst (λ (z : LabPlan). length (bottles z e) ≤ 28) (sym owns.1) (is_bench.is_plan.few_bottles e (subst (λ (z : LabPlan). e < length (edges z)) owns.1 own.is_edge)) in
+      let same : t.0 ≡ x = no_two_edges t.0 x (IsOfBottles-28 _ t.0 few (subst (λ z. IsOfBottles (length (bottles p z)) t.0) at t.2)) (IsOfBottles-28 _ x few (subst (λ (z : LabPlan). IsOfBottles (length (bottles z e)) x) plan fits)) (sym t.1 ∙ sym word) in
+      (subst (λ (z : ℕ × EdgeState). Does d.seat.me.0 (Look (hand_in d.seat.me.0).job z.0 z.1) s'.me.0) (λ i. (at i, same i)) t.3, t.4)

@@ -1,0 +1,11 @@
+pub mod WordFields
+pub mod DeskSteps
+pub mod DeskMoves
+pub mod Commanding
+pub mod ManyHands
+pub mod Tidings
+pub mod Endings
+pub mod GlancedDesks
+pub mod RoomLemmas
+pub mod OpenedDesks
+pub mod Knowledge

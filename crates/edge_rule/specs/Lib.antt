@@ -1,0 +1,11 @@
+pub mod DeskView
+pub mod DeskInside
+pub mod BenchInside
+pub mod Filling
+pub mod Company
+pub mod Ending
+pub mod EndView
+pub mod Openings
+pub mod Knowing
+pub mod Telling
+pub mod NewsInside

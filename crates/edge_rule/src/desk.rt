@@ -1,0 +1,34 @@
+//! One job's seat at the bench.
+use crate::clock::Clock;
+use atomic_table::Seat;
+use edge_word::EdgeWord;
+use instrument_log::InstrumentLog;
+use lab_plan::JobNo;
+use legal_steps::JobState;
+use one_history::board::View;
+use std::alloc::{Allocator, Global};
+use std::marker::Model;
+
+/// One job's seat, with what the job knows: its phase, its marks, and the word last seen on each edge.
+#[derive(Drop)]
+pub struct Desk<A: Allocator = Global> {
+    pub(crate) seat: Seat<InstrumentLog<A>, View>,
+    pub(crate) job: JobNo,
+    pub(crate) phase: JobState,
+    pub(crate) fork_marks: Vec<bool, A>,
+    pub(crate) bottle_marks: Vec<u32, A>,
+    pub(crate) seen: Vec<EdgeWord, A>,
+    pub(crate) clock: Clock,
+}
+
+impl<A: Allocator> Model for Desk<A> {
+    ghost use Rattle.edge_rule.specs.DeskView.{DeskView};
+
+    ghost Value = { DeskView };
+
+    ghost use Rattle.edge_rule.specs.DeskInside.{view_of, IsDesk};
+
+    ghost view = { view_of };
+
+    ghost invariant = { IsDesk };
+}

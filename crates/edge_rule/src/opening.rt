@@ -1,0 +1,128 @@
+//! Opening a bench.
+ghost use Rattle.std.specs.Prelude.{◌≡◌, ◌<◌, ◌+◌, ◌*◌, ◌∷◌, [], length, replicate, IfOk};
+ghost use Rattle.lab_plan.specs.LabPlan.{edges};
+ghost use Rattle.legal_steps.specs.Opening.{the_opening};
+ghost use Rattle.one_history.specs.Rule.{Spelled, first_view, word_count};
+ghost use Rattle.one_history.specs.Seating.{undealt, nothing};
+ghost use Rattle.edge_rule.specs.Openings.{opening_edges};
+ghost use Rattle.edge_rule.specs.DeskView.{fresh_desk, fresh_desks};
+
+use crate::bench::Bench;
+use crate::clock::Clock;
+use crate::desk::Desk;
+use crate::rooms::empty_logs;
+use atomic_table::{Seat, Table};
+use edge_word::EdgeWord;
+use instrument_log::InstrumentLog;
+use lab_plan::{EdgeNo, JobNo, Plan};
+use legal_steps::{Dining, Drinking, JobState};
+use one_history::board::{Board, Deals, View};
+use std::alloc::{AllocError, Allocator};
+
+// The words of THE opening.
+fn fresh_words<A: Allocator + Copy>(alloc: A, plan: &Plan<A>) -> Result<Vec<u64, A>, AllocError>
+    ensures { IfOk result (λ v. Spelled plan.now (the_opening plan.now) v.items) }
+{
+    let count = 8 * (plan.edges() as usize + plan.jobs() + 1);
+    let mut words = Vec::from_elem(alloc, 0u64, count)?;
+    for edge in 0..plan.edges() {
+        let word = EdgeWord::opening(plan.bottles(EdgeNo(edge))).pack();
+        words[8 * edge as usize] = word;
+    }
+    Ok(words)
+}
+
+// The edges of THE opening, as a desk sees them.
+fn fresh_edges<A: Allocator + Copy>(
+    alloc: A,
+    plan: &Plan<A>,
+) -> Result<Vec<EdgeWord, A>, AllocError>
+    ensures { IfOk result (λ v. v.items ≡ opening_edges plan.now (length (edges plan.now))) }
+{
+    let mut seen = Vec::with_capacity(alloc, plan.edges() as usize)?;
+    for edge in 0..plan.edges() {
+        let word = EdgeWord::opening(plan.bottles(EdgeNo(edge)));
+        seen.push(word)?;
+    }
+    Ok(seen)
+}
+
+// The desk of the next job, by a seat that is cut off.
+fn next_desk<A: Allocator + Copy>(
+    alloc: A,
+    table: &Board<A>,
+    keeper: &mut Seat<InstrumentLog<A>, View>,
+    plan: &Plan<A>,
+    job: usize,
+) -> Result<Desk<A>, AllocError>
+    requires table { (table.now.shared.key ≡ plan.now) × (keeper.old.table_id ≡ table.now.shared.table_id) × (table.now.shared.table_id.words ≡ word_count plan.now) }
+    requires job { job < length plan.now.jobs }
+    requires left { keeper.old.me ≡ (undealt plan.now job, []) }
+    ensures keeper { IfOk result (λ d. (keeper.new.table_id ≡ keeper.old.table_id) × (keeper.new.me ≡ (undealt plan.now (job + 1), []))) }
+    ensures desk { IfOk result (λ d. d ≡ fresh_desk keeper.old.table_id plan.now job) }
+{
+    let jobs = plan.jobs();
+    let count = plan.edges() as usize;
+    let fork_marks = Vec::from_elem(alloc, false, count)?;
+    let bottle_marks = Vec::from_elem(alloc, 0u32, count)?;
+    let seen = fresh_edges(alloc, plan)?;
+    let phase = JobState {
+        dining: Dining::Thinking,
+        drinking: Drinking::Tranquil,
+        session: 0,
+        position: 0,
+    };
+    let number = JobNo(job as u8);
+    let seat = table.shared.split_seat::<Deals>(keeper);
+    Ok(Desk {
+        seat,
+        job: number,
+        phase,
+        fork_marks,
+        bottle_marks,
+        seen,
+        clock: Clock {
+            turns: 0,
+            waited: 0,
+            session: 0,
+        },
+    })
+}
+
+fn deal<A: Allocator + Copy>(
+    alloc: A,
+    table: &Board<A>,
+    keeper: &mut Seat<InstrumentLog<A>, View>,
+    plan: &Plan<A>,
+) -> Result<Vec<Desk<A>, A>, AllocError>
+    requires table { (table.now.shared.key ≡ plan.now) × (keeper.old.table_id ≡ table.now.shared.table_id) × (table.now.shared.table_id.words ≡ word_count plan.now) }
+    requires left { keeper.old.me ≡ (first_view plan.now, []) }
+    ensures keeper { IfOk result (λ v. (keeper.new.table_id ≡ keeper.old.table_id) × (keeper.new.me ≡ (nothing, []))) }
+    ensures desks { IfOk result (λ v. v.items ≡ fresh_desks keeper.old.table_id plan.now (length plan.now.jobs)) }
+{
+    let mut desks = Vec::with_capacity(alloc, plan.jobs())?;
+    for job in 0..plan.jobs() {
+        let desk = next_desk(alloc, table, keeper, plan, job)?;
+        desks.push(desk)?;
+    }
+    Ok(desks)
+}
+
+/// A bench for the plan, in THE opening, and a desk for each job, in ascending order.
+pub fn open<'p, A: Allocator + Copy>(
+    alloc: A,
+    plan: &'p Plan<A>,
+) -> Result<(Bench<'p, A>, Vec<Desk<A>, A>), AllocError>
+    ensures { IfOk result (λ r. (r.0.plan ≡ plan.now) × (r.1.items ≡ fresh_desks r.0.table plan.now (length plan.now.jobs))) }
+{
+    let _ = plan.jobs();
+    let words = fresh_words(alloc, plan)?;
+    let logs = empty_logs(alloc, plan)?;
+    let made = Table::new(alloc, words.as_slice(), logs, plan);
+    let Ok((table, mut keeper)) = made else {
+        return Err(AllocError);
+    };
+    let desks = deal(alloc, &table, &mut keeper, plan)?;
+    let bench = Bench { table, plan };
+    Ok((bench, desks))
+}

@@ -1,0 +1,121 @@
+//! What a desk and a bench answer without a step.
+ghost use Rattle.std.specs.Prelude.{◌≡◌, ◌<◌, ◌≤◌, length};
+ghost use Rattle.lab_plan.specs.LabPlan.{edges, bottles};
+ghost use Rattle.legal_steps.specs.State.{IsOwn, edge as edge_at, phase as phase_at, fork_mark as fork_mark_at, bottle_marks as bottle_marks_at};
+ghost use Rattle.edge_word.specs.Words.{IsOfBottles};
+ghost use Rattle.edge_rule.specs.DeskView.{known, waited, noted, IsAtRest};
+ghost use Rattle.locality.specs.Patience.{is_waiting};
+ghost use Rattle.edge_rule.specs.Knowing.{IsKnown};
+
+use crate::bench::Bench;
+use crate::clock::Clock;
+use crate::desk::Desk;
+use crate::words::{number, state_of};
+use edge_word::EdgeWord;
+use lab_plan::{EdgeNo, JobNo, Plan};
+use legal_steps::{Drinking, EdgeState, JobState};
+use std::alloc::Allocator;
+
+impl<'p, A: Allocator> Bench<'p, A> {
+    /// The plan that the bench was opened with.
+    pub fn plan(&self) -> &'p Plan<A>
+        ensures { result.now ≡ self.now.plan }
+    {
+        self.plan
+    }
+}
+
+impl<A: Allocator> Desk<A> {
+    /// The desk's job.
+    pub fn job(&self) -> JobNo
+        ensures job { result ≡ self.now.job }
+        ensures known { IsKnown self.now.plan (known self.now) self.now.job }
+        ensures rest { IsAtRest self.now }
+    {
+        self.job
+    }
+
+    /// How far the job is.
+    pub fn phase(&self) -> JobState
+        ensures phase { result ≡ phase_at (known self.now) self.now.job }
+        ensures known { IsKnown self.now.plan (known self.now) self.now.job }
+    {
+        self.phase
+    }
+
+    /// The word last seen on the edge.
+    pub fn seen(&self, edge: EdgeNo) -> EdgeWord
+        requires { edge < length (edges self.now.plan) }
+        ensures word { result ≡ edge_at (known self.now) edge }
+        ensures fits { IsOfBottles (length (bottles self.now.plan edge)) result }
+    {
+        self.seen[number(edge)]
+    }
+
+    /// Whether the edge has a fork mark.
+    pub fn fork_mark(&self, edge: EdgeNo) -> bool
+        requires { edge < length (edges self.now.plan) }
+        ensures { result ≡ fork_mark_at (known self.now) self.now.job edge }
+    {
+        self.fork_marks[number(edge)]
+    }
+
+    /// The marked bottles of the edge.
+    pub fn bottle_marks(&self, edge: EdgeNo) -> u32
+        requires { edge < length (edges self.now.plan) }
+        ensures { result ≡ bottle_marks_at (known self.now) self.now.job edge }
+    {
+        self.bottle_marks[number(edge)]
+    }
+}
+
+fn is_thirsty(drinking: Drinking) -> bool
+    ensures { result ≡ is_waiting drinking }
+{
+    drinking == Drinking::Thirsty
+}
+
+impl<A: Allocator> Desk<A> {
+    /// The turns that were noted, up to the largest number.
+    pub fn turns(&self) -> u64
+        ensures { result ≡ self.now.clock.turns }
+    {
+        self.clock.turns
+    }
+
+    /// In how many of its turns the job's session was thirsty at the start and at the end. It is 0 after each Thirst.
+    pub fn waited(&self) -> u32
+        ensures { result ≡ waited self.now }
+    {
+        if self.clock.session == self.phase.session {
+            self.clock.waited
+        } else {
+            0
+        }
+    }
+
+    /// Notes a turn, at whose start the job was thirsty or not.
+    pub fn note_turn(&mut self, thirsty_at_start: bool)
+        ensures { self.new ≡ noted self.old thirsty_at_start }
+    {
+        let waited = self.waited();
+        let thirsty = thirsty_at_start && is_thirsty(self.phase.drinking);
+        self.clock = Clock {
+            turns: self.clock.turns.saturating_add(1),
+            waited: if thirsty {
+                waited.saturating_add(1)
+            } else {
+                waited
+            },
+            session: self.phase.session,
+        };
+    }
+}
+
+/// The state of an edge that its word spells.
+pub fn unpacked_edge(word: EdgeWord) -> EdgeState
+    requires { IsOfBottles 28 word }
+    ensures { result ≡ word }
+{
+    state_of(word)
+}

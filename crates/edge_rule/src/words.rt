@@ -1,0 +1,167 @@
+//! Words as they are read and written.
+ghost use Rattle.std.specs.Prelude.{◌≡◌, ◌<◌, ◌≤◌, ◌^◌, length, slice_index_or, bit_xor, bit_and};
+ghost use Rattle.lab_plan.specs.LabPlan.{edges, bottles};
+ghost use Rattle.legal_steps.specs.declared.edge_state.EdgeState.{EdgeState};
+ghost use Rattle.legal_steps.specs.State.{IsOwn, end_of, bottles_at};
+ghost use Rattle.legal_steps.specs.Legal.{fork_mark_seen};
+ghost use Rattle.legal_steps.specs.declared.phase.JobState.{JobState};
+ghost use Rattle.edge_word.specs.Words.{word_of, IsOfBottles};
+ghost use Rattle.edge_word.specs.Phases.{phase_word_of, FitsPhaseWord};
+ghost use Rattle.one_history.specs.PhaseEvents.{phase_after as next_phase, clears as clears_marks};
+ghost use Rattle.one_history.specs.Rule.{phase_place as place_of};
+ghost use Rattle.edge_rule.specs.Filling.{fork_mark_after as mark_after, bottle_marks_after as marks_after};
+
+use edge_word::{EdgeMoves, EdgeWord, PhaseWord};
+use lab_plan::{EdgeNo, JobNo, Plan};
+use legal_steps::{Dining, Drinking, EdgeState, End, JobState};
+use one_history::PhaseEvent;
+use std::alloc::Allocator;
+
+pub(crate) fn number(edge: EdgeNo) -> usize
+    ensures { (result ≡ edge) × (result < 65536) }
+{
+    edge.0 as usize
+}
+
+// The edge that a word of the table spells.
+pub(crate) fn unpacked<A: Allocator>(plan: &Plan<A>, edge: EdgeNo, word: u64) -> EdgeWord
+    requires edge { edge < length (edges plan.now) }
+    requires spelled { (x : EdgeState) × (word ≡ word_of x) × IsOfBottles (length (bottles plan.now edge)) x }
+    ensures word { word_of result ≡ word }
+    ensures fits { IsOfBottles (length (bottles plan.now edge)) result }
+{
+    match EdgeWord::unpack(word, plan.bottles(edge)) {
+        Some(word) => word,
+        None => unreachable!(),
+    }
+}
+
+// The state of an edge that a word spells.
+pub(crate) fn state_of(word: EdgeWord) -> EdgeState
+    requires { IsOfBottles 28 word }
+    ensures { result ≡ word }
+{
+    let bits = word.pack();
+    EdgeState {
+        fork: word.fork_end(),
+        dirty: word.dirty(),
+        token: word.token_end(),
+        bottles: ((bits >> 4) % 0x1000_0000) as u32,
+        bottle_tokens: (bits >> 32) as u32,
+    }
+}
+
+// What a look sets: the mark of the fork, and those of the bottles.
+pub(crate) fn marks_of<A: Allocator>(
+    plan: &Plan<A>,
+    job: JobNo,
+    edge: EdgeNo,
+    dining: Dining,
+    seen: EdgeWord,
+) -> (bool, u32)
+    requires own { IsOwn plan.now job edge }
+    requires fits { IsOfBottles (length (bottles plan.now edge)) seen }
+    ensures fork { result.0 ≡ fork_mark_seen dining (end_of plan.now job edge) seen }
+    ensures bottles { result.1 ≡ bottles_at plan.now edge (end_of plan.now job edge) seen }
+{
+    let _ = plan.bottles(edge);
+    let here = End::of(plan, job, edge);
+    let state = state_of(seen);
+    (
+        state.fork_mark(here, dining),
+        state.bottles_at(plan, edge, here),
+    )
+}
+
+// The marks for an edge after moves on it.
+pub(crate) fn fork_mark_after(moves: EdgeMoves, old: bool) -> bool
+    ensures { result ≡ mark_after moves old }
+{
+    if moves.soil {
+        true
+    } else if moves.give_fork {
+        false
+    } else {
+        old
+    }
+}
+
+pub(crate) fn bottle_marks_after(moves: EdgeMoves, old: u32) -> u32
+    ensures { result ≡ marks_after moves old }
+{
+    old ^ (old & moves.give_bottles)
+}
+
+// Where the word of a job's phase is.
+pub(crate) fn phase_place<A: Allocator>(plan: &Plan<A>, job: JobNo) -> usize
+    ensures { result ≡ place_of plan.now job }
+{
+    8 * (plan.edges() as usize + job.0 as usize)
+}
+
+pub(crate) fn packed_phase(phase: JobState) -> u64
+    requires { phase.session < 2 ^ 24 }
+    ensures { result ≡ phase_word_of phase }
+{
+    PhaseWord::new(phase).pack()
+}
+
+// The phase after an event.
+pub(crate) fn phase_after(what: PhaseEvent, phase: JobState) -> JobState
+    requires { phase.session ≤ 1000 }
+    ensures phase { result ≡ next_phase what phase }
+    ensures few { result.session ≤ 1001 }
+{
+    match what {
+        PhaseEvent::Thirst => JobState {
+            drinking: Drinking::Thirsty,
+            session: phase.session + 1,
+            position: 0,
+            ..phase
+        },
+        PhaseEvent::Hunger => JobState {
+            dining: Dining::Hungry,
+            ..phase
+        },
+        PhaseEvent::Sit => JobState {
+            dining: Dining::Eating,
+            ..phase
+        },
+        PhaseEvent::Leave => JobState {
+            dining: Dining::Thinking,
+            ..phase
+        },
+        PhaseEvent::Drink => JobState {
+            drinking: Drinking::Drinking,
+            ..phase
+        },
+        PhaseEvent::Retire => JobState {
+            drinking: Drinking::Retired,
+            ..phase
+        },
+        PhaseEvent::Quit | PhaseEvent::Withdraw => JobState {
+            drinking: Drinking::Tranquil,
+            position: 0,
+            ..phase
+        },
+    }
+}
+
+// Whether a meal starts or ends, and so clears the fork marks.
+pub(crate) fn clears(what: PhaseEvent) -> bool
+    ensures { result ≡ clears_marks what }
+{
+    matches!(what, PhaseEvent::Sit | PhaseEvent::Leave)
+}
+
+// The phase that a word of the table spells.
+pub(crate) fn unpacked_phase(word: u64) -> PhaseWord
+    requires { (x : JobState) × (word ≡ phase_word_of x) × FitsPhaseWord x }
+    ensures word { phase_word_of result ≡ word }
+    ensures fits { FitsPhaseWord result }
+{
+    match PhaseWord::unpack(word) {
+        Some(word) => word,
+        None => unreachable!(),
+    }
+}

@@ -1,0 +1,4 @@
+pub mod Rule
+pub mod Grow
+pub mod Seating
+pub mod PhaseEvents

@@ -1,0 +1,75 @@
+//! The phase act of a turn.
+ghost use Rattle.std.specs.Prelude.{◌≡◌, ◌∷◌, []};
+ghost use Rattle.edge_rule.specs.DeskView.{Owns, known};
+ghost use Rattle.turns.specs.Acts.{AreActs};
+ghost use Rattle.session_layer.specs.ActsDue.{events_due, MayDue};
+ghost use Rattle.session_layer.specs.Turn.{IsActed};
+
+use crate::legal::{
+    may_drink, may_hunger, may_leave, may_quit, may_reach, may_retire, may_sit, may_thirst,
+    withdraws,
+};
+use edge_rule::{Bench, Desk, PhaseEvent, command, store_phase};
+use std::alloc::Allocator;
+
+/// The phase act that is due.
+#[derive(Clone, Copy, PartialEq, Eq, Debug)]
+pub enum Due {
+    Command,
+    Store(PhaseEvent),
+    Nothing,
+}
+
+/// The first phase act that is legal, where a session is given up only when its patience is used up by this count.
+pub fn phase_due<A: Allocator>(bench: &Bench<A>, desk: &Desk<A>, waited: u32) -> Due
+    requires own { Owns bench.now desk.now }
+    ensures first { AreActs desk.now.plan (known desk.now) desk.now.job waited (events_due result desk.now.job) }
+    ensures may { MayDue desk.now.plan (known desk.now) result desk.now.job }
+{
+    if may_quit(bench, desk) {
+        return Due::Store(PhaseEvent::Quit);
+    }
+    if may_reach(bench, desk) {
+        return Due::Command;
+    }
+    if may_drink(bench, desk) {
+        return Due::Store(PhaseEvent::Drink);
+    }
+    if withdraws(bench, desk, waited) {
+        return Due::Store(PhaseEvent::Withdraw);
+    }
+    if may_leave(bench, desk) {
+        return Due::Store(PhaseEvent::Leave);
+    }
+    if may_sit(bench, desk) {
+        return Due::Store(PhaseEvent::Sit);
+    }
+    if may_thirst(bench, desk) {
+        return Due::Store(PhaseEvent::Thirst);
+    }
+    if may_hunger(bench, desk) {
+        return Due::Store(PhaseEvent::Hunger);
+    }
+    if may_retire(bench, desk) {
+        return Due::Store(PhaseEvent::Retire);
+    }
+    Due::Nothing
+}
+
+/// Does the phase act that is due, and answers how many it did.
+pub fn act<A: Allocator>(bench: &Bench<A>, desk: &mut Desk<A>, waited: u32) -> u32
+    requires own { Owns bench.now desk.old }
+    ensures { IsActed desk.old waited result desk.new }
+{
+    match phase_due(bench, desk, waited) {
+        Due::Command => {
+            let _ = command(bench, desk);
+            1
+        }
+        Due::Store(what) => {
+            store_phase(bench, desk, what);
+            1
+        }
+        Due::Nothing => 0,
+    }
+}

@@ -1,0 +1,172 @@
+//! Where a phase act is legal, by the desk.
+ghost use Rattle.std.specs.Prelude.{◌≡◌, ◌≢◌, ◌↔◌, ℕ, ◌<◌, ◌≤◌, IsTrue, IsSome, length};
+ghost use Rattle.lab_plan.specs.LabPlan.{edges, bottles, sessions, patience};
+ghost use Rattle.legal_steps.specs.declared.phase.Drinking.TheVariants.{Thirsty, Drinking as Drinks};
+ghost use Rattle.legal_steps.specs.declared.event.Event.TheVariants.{Thirst, Hunger, Sit, Leave, Drink, Reach, Quit, Retire, Withdraw};
+ghost use Rattle.legal_steps.specs.State.{IsOwn, IsInSession, Has, session as session_at, position as position_at, drinking as drinking_at, fork_mark as fork_mark_at};
+ghost use Rattle.legal_steps.specs.Legal.{May, IsMarkedAll, HasNeeded, HasNeededAt, session_commands};
+ghost use Rattle.edge_rule.specs.DeskView.{Owns, known};
+ghost use Rattle.turns.specs.Acts.{Counts, IsUsedUp};
+
+use crate::local::needed_bottles;
+use edge_rule::{Bench, Desk};
+use lab_plan::EdgeNo;
+use legal_steps::{Dining, Drinking};
+use std::alloc::Allocator;
+
+// Whether the session has a command left.
+fn has_command<A: Allocator>(bench: &Bench<A>, desk: &Desk<A>) -> bool
+    requires own { Owns bench.now desk.now }
+    requires drinks { drinking_at (known desk.now) desk.now.job ≡ Drinks }
+    ensures { IsTrue result ↔ (position_at (known desk.now) desk.now.job < length (session_commands desk.now.plan (known desk.now) desk.now.job)) }
+{
+    let phase = desk.phase();
+    let job = desk.job();
+    let plan = bench.plan();
+    (phase.position as usize) < plan.commands(job, phase.session).len()
+}
+
+// Whether the job has a session left.
+fn has_session<A: Allocator>(bench: &Bench<A>, desk: &Desk<A>) -> bool
+    requires own { Owns bench.now desk.now }
+    ensures { IsTrue result ↔ (session_at (known desk.now) desk.now.job < length (sessions desk.now.plan desk.now.job)) }
+{
+    let phase = desk.phase();
+    let job = desk.job();
+    let plan = bench.plan();
+    phase.session < plan.sessions(job)
+}
+
+// Whether the session's patience is used up; not where it has none.
+fn is_used_up<A: Allocator>(bench: &Bench<A>, desk: &Desk<A>, waited: u32) -> bool
+    requires own { Owns bench.now desk.now }
+    requires thirsty { drinking_at (known desk.now) desk.now.job ≡ Thirsty }
+    ensures { IsTrue result ↔ (IsSome (patience desk.now.plan desk.now.job (session_at (known desk.now) desk.now.job)) × IsUsedUp desk.now.plan (known desk.now) desk.now.job waited) }
+{
+    let phase = desk.phase();
+    let job = desk.job();
+    let plan = bench.plan();
+    match plan.patience(job, phase.session) {
+        Some(turns) => turns <= waited,
+        None => false,
+    }
+}
+
+// Whether each own edge has a fork mark.
+fn is_marked_all<A: Allocator>(bench: &Bench<A>, desk: &Desk<A>) -> bool
+    requires own { Owns bench.now desk.now }
+    ensures { IsTrue result ↔ IsMarkedAll desk.now.plan (known desk.now) desk.now.job }
+{
+    let job = desk.job();
+    let plan = bench.plan();
+    let own = plan.edges_of(job);
+    for edge in own {
+        if !desk.fork_mark(*edge) {
+            return false;
+        }
+    }
+    true
+}
+
+// Whether each needed bottle of the edge is marked.
+fn has_needed_at<A: Allocator>(bench: &Bench<A>, desk: &Desk<A>, edge: EdgeNo) -> bool
+    requires own { Owns bench.now desk.now }
+    requires edge { edge < length (edges desk.now.plan) }
+    ensures { IsTrue result ↔ HasNeededAt desk.now.plan (known desk.now) desk.now.job edge }
+{
+    let phase = desk.phase();
+    let job = desk.job();
+    let plan = bench.plan();
+    let marks = desk.bottle_marks(edge);
+    let needed = needed_bottles(plan, job, phase, edge);
+    needed & marks == needed
+}
+
+// Whether each needed bottle of every own edge is marked.
+fn has_needed<A: Allocator>(bench: &Bench<A>, desk: &Desk<A>) -> bool
+    requires own { Owns bench.now desk.now }
+    ensures { IsTrue result ↔ HasNeeded desk.now.plan (known desk.now) desk.now.job }
+{
+    let job = desk.job();
+    let plan = bench.plan();
+    let own = plan.edges_of(job);
+    for edge in own {
+        if !has_needed_at(bench, desk, *edge) {
+            return false;
+        }
+    }
+    true
+}
+
+pub(crate) fn may_quit<A: Allocator>(bench: &Bench<A>, desk: &Desk<A>) -> bool
+    requires own { Owns bench.now desk.now }
+    ensures { IsTrue result ↔ May desk.now.plan (known desk.now) (Quit desk.now.job) }
+{
+    desk.phase().drinking == Drinking::Drinking && !has_command(bench, desk)
+}
+
+pub(crate) fn may_reach<A: Allocator>(bench: &Bench<A>, desk: &Desk<A>) -> bool
+    requires own { Owns bench.now desk.now }
+    ensures { IsTrue result ↔ May desk.now.plan (known desk.now) (Reach desk.now.job) }
+{
+    desk.phase().drinking == Drinking::Drinking && has_command(bench, desk)
+}
+
+pub(crate) fn may_drink<A: Allocator>(bench: &Bench<A>, desk: &Desk<A>) -> bool
+    requires own { Owns bench.now desk.now }
+    ensures { IsTrue result ↔ May desk.now.plan (known desk.now) (Drink desk.now.job) }
+{
+    desk.phase().drinking == Drinking::Thirsty && has_needed(bench, desk)
+}
+
+pub(crate) fn withdraws<A: Allocator>(bench: &Bench<A>, desk: &Desk<A>, waited: u32) -> bool
+    requires own { Owns bench.now desk.now }
+    ensures { IsTrue result ↔ Counts desk.now.plan (known desk.now) desk.now.job waited (Withdraw desk.now.job) }
+{
+    desk.phase().drinking == Drinking::Thirsty && is_used_up(bench, desk, waited)
+}
+
+pub(crate) fn may_leave<A: Allocator>(bench: &Bench<A>, desk: &Desk<A>) -> bool
+    requires own { Owns bench.now desk.now }
+    ensures { IsTrue result ↔ May desk.now.plan (known desk.now) (Leave desk.now.job) }
+{
+    let phase = desk.phase();
+    phase.dining == Dining::Eating
+        && phase.drinking != Drinking::Thirsty
+        && is_marked_all(bench, desk)
+}
+
+pub(crate) fn may_sit<A: Allocator>(bench: &Bench<A>, desk: &Desk<A>) -> bool
+    requires own { Owns bench.now desk.now }
+    ensures { IsTrue result ↔ May desk.now.plan (known desk.now) (Sit desk.now.job) }
+{
+    desk.phase().dining == Dining::Hungry && is_marked_all(bench, desk)
+}
+
+pub(crate) fn may_thirst<A: Allocator>(bench: &Bench<A>, desk: &Desk<A>) -> bool
+    requires own { Owns bench.now desk.now }
+    ensures { IsTrue result ↔ May desk.now.plan (known desk.now) (Thirst desk.now.job) }
+{
+    let phase = desk.phase();
+    phase.drinking == Drinking::Tranquil
+        && phase.dining != Dining::Eating
+        && has_session(bench, desk)
+}
+
+pub(crate) fn may_hunger<A: Allocator>(bench: &Bench<A>, desk: &Desk<A>) -> bool
+    requires own { Owns bench.now desk.now }
+    ensures { IsTrue result ↔ May desk.now.plan (known desk.now) (Hunger desk.now.job) }
+{
+    let phase = desk.phase();
+    phase.dining == Dining::Thinking && phase.drinking == Drinking::Thirsty
+}
+
+pub(crate) fn may_retire<A: Allocator>(bench: &Bench<A>, desk: &Desk<A>) -> bool
+    requires own { Owns bench.now desk.now }
+    ensures { IsTrue result ↔ May desk.now.plan (known desk.now) (Retire desk.now.job) }
+{
+    let phase = desk.phase();
+    phase.dining == Dining::Thinking
+        && phase.drinking == Drinking::Tranquil
+        && !has_session(bench, desk)
+}

@@ -1,0 +1,115 @@
+//! A turn: each own edge is visited, and then comes the phase act.
+ghost use Rattle.std.specs.Prelude.{◌≡◌, ℕ, ◌+◌, ◌≤◌, take, length};
+ghost use Rattle.lab_plan.specs.LabPlan.{edges_of};
+ghost use Rattle.legal_steps.specs.State.{IsOwn, drinking};
+ghost use Rattle.edge_rule.specs.DeskView.{Owns, known};
+ghost use Rattle.locality.specs.Patience.{is_waiting};
+ghost use Rattle.turns.specs.Due.{is_nothing as are_none};
+ghost use Rattle.session_layer.specs.Turn.{IsVisited, Took, done_by as done_in, lost_by as lost_in};
+
+use crate::acting::act;
+use crate::moves::{fork_moves, with_bottles};
+use edge_rule::{Bench, Desk, Stepped, exchange, look};
+use edge_word::EdgeMoves;
+use lab_plan::EdgeNo;
+use legal_steps::Drinking;
+use std::alloc::Allocator;
+
+/// What became of a visit: its moves were done, or their exchange found another word, or none were due.
+#[derive(Clone, Copy, PartialEq, Eq, Debug)]
+pub enum Visited {
+    Done,
+    Lost,
+    Calm,
+}
+
+/// What became of a turn.
+#[derive(Clone, Copy, PartialEq, Eq, Debug)]
+pub enum Turned {
+    /// So many exchanges were done, with the phase act.
+    Acted(u32),
+    /// Nothing was done, and an exchange found another word.
+    Moved,
+    /// Nothing was legal, by the words seen.
+    Idle,
+}
+
+fn is_nothing(moves: EdgeMoves) -> bool
+    ensures { result ≡ are_none moves }
+{
+    !moves.give_fork
+        && moves.give_bottles == 0
+        && !moves.ask_fork
+        && moves.ask_bottles == 0
+        && !moves.soil
+}
+
+/// Looks at the edge, and does in one exchange what is due by what it saw.
+pub fn visit<A: Allocator>(bench: &Bench<A>, desk: &mut Desk<A>, edge: EdgeNo) -> Visited
+    requires own { Owns bench.now desk.old }
+    requires edge { IsOwn desk.old.plan desk.old.job edge }
+    ensures { IsVisited desk.old edge result desk.new }
+{
+    let _ = look(bench, desk, edge);
+    let forks = fork_moves(bench, desk, edge);
+    let moves = with_bottles(bench, desk, edge, forks);
+    if is_nothing(moves) {
+        return Visited::Calm;
+    }
+    match exchange(bench, desk, edge, moves) {
+        Stepped::Done => Visited::Done,
+        Stepped::Moved(_) => Visited::Lost,
+    }
+}
+
+fn done_by(visited: Visited) -> u32
+    ensures { result ≡ done_in visited }
+{
+    match visited {
+        Visited::Done => 1,
+        Visited::Lost | Visited::Calm => 0,
+    }
+}
+
+fn lost_by(visited: Visited) -> u32
+    ensures { result ≡ lost_in visited }
+{
+    match visited {
+        Visited::Lost => 1,
+        Visited::Done | Visited::Calm => 0,
+    }
+}
+
+fn is_thirsty<A: Allocator>(desk: &Desk<A>) -> bool
+    ensures { result ≡ is_waiting (drinking (known desk.now) desk.now.job) }
+{
+    desk.phase().drinking == Drinking::Thirsty
+}
+
+/// One turn.
+pub fn turn<A: Allocator>(bench: &Bench<A>, desk: &mut Desk<A>) -> Turned
+    requires own { Owns bench.now desk.old }
+    ensures { Took desk.old result desk.new }
+{
+    let thirsty = is_thirsty(desk);
+    let waited = desk.waited();
+    let plan = bench.plan();
+    let _ = plan.edges();
+    let own = plan.edges_of(desk.job());
+    let mut done = 0u32;
+    let mut lost = 0u32;
+    for edge in own {
+        let visited = visit(bench, desk, *edge);
+        done += done_by(visited);
+        lost += lost_by(visited);
+    }
+    let all = done + act(bench, desk, waited);
+    desk.note_turn(thirsty);
+    if all > 0 {
+        Turned::Acted(all)
+    } else if lost > 0 {
+        Turned::Moved
+    } else {
+        Turned::Idle
+    }
+}
