@@ -388,7 +388,10 @@ fn words_of_steps(rt: HostRuntime) -> Result<(), Fail> {
     for (word, step) in WORDS {
         let text = format!(in rt.alloc(); "{SHARED}steps\n{word}")?;
         let wanted = [StepLine { line: 14, step }];
-        assert!(rt; has_steps(&rt, rt.alloc(), text.as_bytes(), &wanted), "{word}");
+        assert!(rt;
+            has_steps(&rt, rt.alloc(), text.as_bytes(), &wanted),
+            "{word}"
+        );
     }
     Ok(())
 }

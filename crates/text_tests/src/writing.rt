@@ -59,7 +59,12 @@ fn run<A: Allocator + Copy>(rt: &impl Abort, alloc: A, text: &[u8]) -> Result<Ve
 }
 
 /// Whether all the steps of the text are legal and the report after them is as wanted.
-fn has_report<A: Allocator + Copy>(rt: &impl Abort, alloc: A, parts: &[&str], wanted: &str) -> bool {
+fn has_report<A: Allocator + Copy>(
+    rt: &impl Abort,
+    alloc: A,
+    parts: &[&str],
+    wanted: &str,
+) -> bool {
     let text = joined(rt, alloc, parts);
     match run(rt, alloc, &text) {
         Ok(bytes) => bytes.as_slice() == wanted.as_bytes(),
