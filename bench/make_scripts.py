@@ -106,6 +106,14 @@ def large(chance):
         patience=chance.choice((0, 2, 20, 1000)), patient=chance.choice((10, 50, 100)), own=chance.choice((0, 0, 1)))
 
 
+def contended(chance):
+    """Few jobs with many short sessions on few instruments: where threads meet most."""
+    return make(
+        chance.choice(("ring", "clique", "clique", "star", "pairs")), chance, jobs=chance.choice((2, 2, 3, 4, 6)),
+        instruments=chance.choice((1, 2, 3)), sessions=chance.choice((20, 60, 200)), commands=chance.choice((1, 2)),
+        version=chance.choice((1, 2)), patience=chance.choice((1, 30, 1000)), patient=chance.choice((10, 50)))
+
+
 def main(words):
     if not words or words[0] == "--help":
         print(__doc__, end="")

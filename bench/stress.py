@@ -14,6 +14,9 @@ either version, with 0 to 32 jobs and up to 56 instruments (bench/make_scripts.p
 - A script that is spoilt in one line: output, line of the fault and status are those of the simulator (not with faults=no,
   for a peer that knows no faults).
 
+A run by threads that hasn't finished although each desk had a million turns and a thousand times what rounds take is told
+as a suspect, and kept too: nothing promises that it ends, but a request that was lost looks like that.
+
 Nothing may stand on standard error but the line of a fault, and no run may take longer than 120 seconds. At the end it
 prints how many runs there were and how many problems; the script of each problem is kept, with the words and what the
 program wrote, in FOLDER (a new one under the system's place for temporary files unless said). The status is 1 where there
@@ -76,7 +79,7 @@ class Stress:
     def __init__(self, program, keep):
         self.program, self.keep = program, keep
         self.counts = collections.Counter()
-        self.problems = 0
+        self.problems = self.suspects = 0
 
     def run(self, words, text):
         """What the program writes, and its status."""
@@ -87,18 +90,19 @@ class Stress:
             return None
         return done.stdout.decode(errors="replace"), done.stderr.decode(errors="replace"), done.returncode
 
-    def problem(self, words, text, got, what):
-        self.problems += 1
+    def problem(self, words, text, got, what, kind="problem"):
+        self.problems += kind == "problem"
+        self.suspects += kind == "suspect"
         self.keep = self.keep or tempfile.mkdtemp(prefix="labrun-problems-")
         os.makedirs(self.keep, exist_ok=True)
-        name = os.path.join(self.keep, "problem-%04d" % self.problems)
+        name = os.path.join(self.keep, "%s-%04d" % (kind, self.problems if kind == "problem" else self.suspects))
         with open(name + ".lab", "w", newline="") as out:
             out.write(text)
         with open(name + ".txt", "w") as out:
             out.write("labrun %s\n%s\n" % (" ".join(words), "\n".join(what)))
             if got:
                 out.write("status %d\n-- standard error\n%s-- standard output\n%s" % (got[2], got[1], got[0]))
-        print("labrun %s < %s.lab: %s" % (" ".join(words), name, what[0]), flush=True)
+        print("%s: labrun %s < %s.lab: %s" % (kind, " ".join(words), name, what[0]), flush=True)
 
     def rounds(self, reckoned, limit):
         words = ["rounds", str(limit)]
@@ -125,6 +129,8 @@ class Stress:
             self.counts["threads that went as rounds do"] += report == reckoned.after(turns)[0]
         if what:
             self.problem(words, reckoned.text, got, what)
+        elif status == 3 and reckoned.finished and turns >= max(1000000, 1000 * reckoned.whole):
+            self.problem(words, reckoned.text, got, ["not finished"], "suspect")
         self.counts["threads finished"] += status == 0
 
     def apart(self, reckoned, workers, turns, report):
@@ -177,7 +183,7 @@ def pick_turns(reckoned, chance):
     whole = reckoned.whole
     return chance.choice((
         chance.randint(0, 20), chance.randint(0, 20), chance.randint(0, whole + 3), max(0, whole - chance.randint(0, 3)),
-        whole * 2, whole * 50, 1000, 100000, 1000000))
+        whole * 2, whole * 50, 1000, 100000, 1000000, max(1000000, 1000 * whole)))
 
 
 def main(words):
@@ -190,7 +196,8 @@ def main(words):
     chance = random.Random(int(keys.get("seed", "1")))
     stress, scripts, begun = Stress(os.path.abspath(words[0]), keys.get("keep")), 0, time.monotonic()
     while stress.counts["runs"] < most and (end is None or time.monotonic() < end):
-        text = make_scripts.large(chance) if scripts % 20 == 19 else make_scripts.small(chance)
+        sort = make_scripts.large if scripts % 20 == 19 else make_scripts.contended if scripts % 4 == 3 else make_scripts.small
+        text = sort(chance)
         scripts += 1
         reckoned = Reckoned(text)
         for limit in {chance.randint(0, 20), chance.randint(0, reckoned.whole + 2), 10000}:
@@ -203,7 +210,8 @@ def main(words):
             stress.spoilt(text, chance)
     print("%d scripts in %.0f seconds: %s" % (
         scripts, time.monotonic() - begun, ", ".join("%d %s" % (count, name) for name, count in stress.counts.items())))
-    print("%d runs, %d problems%s" % (stress.counts["runs"], stress.problems, ", kept in %s" % stress.keep if stress.problems else ""))
+    print("%d runs, %d problems, %d suspects%s" % (
+        stress.counts["runs"], stress.problems, stress.suspects, ", kept in %s" % stress.keep if stress.keep else ""))
     return 1 if stress.problems else 0
 
 
