@@ -15,15 +15,16 @@ use Rattle.edge_rule.specs.Company.{jobs_of}
 use Rattle.edge_rule.specs.Ending.{Any}
 use Rattle.rounds.specs.declared.ended.Ended.{Ended}
 use Rattle.rounds.specs.declared.ended.Ended.TheVariants as reasons
-use Rattle.rounds.specs.Company.{AllOf, Company, is_gone, is_retired, all_retired, seen_by, IsAgreed}
+use Rattle.rounds.specs.Company.{AllOf, Company, all_retired, seen_by, IsAgreed}
 use Rattle.rounds.specs.Rounds.{Player, players_of, known_in, AreRetired, BothKnow, IsOver, Rounds, Why, Played}
+use Rattle.session_layer.specs.Retired.{has_retired, is_retired}
 use Rattle.rounds.proofs.Lists.{zip_each}
 
 and_both : (a b : Bool) → (a && b) ≡ true → (a ≡ true) × (b ≡ true)
 and_both true b e = (refl, e)
 and_both false b e = absurd (cc)
 
-gone_is : (d : Drinking) → is_gone d ≡ true → d ≡ Retired
+gone_is : (d : Drinking) → has_retired d ≡ true → d ≡ Retired
 gone_is Retired e = refl
 gone_is Tranquil e = absurd (cc)
 gone_is Thirsty e = absurd (cc)
@@ -63,7 +64,7 @@ module _ (b : BenchView) (h : List Event) (desks : List DeskView) (c : Company b
       (zip_each IsNow (λ (d : DeskView). is_retired d ≡ true) (λ (d : DeskView). drinking (state_after b.plan h) d.job ≡ Retired) (λ d now is. sym (drinks d now) ∙ gone_is (drinking (known d) d.job) is) desks nows (retired_each desks e))
 
   pub then_retired : AreRetired b.plan h → all_retired desks ≡ true
-  then_retired are = each_retired desks (zip_each IsNow IsNow (λ (d : DeskView). is_retired d ≡ true) (λ d now _. ap is_gone (drinks d now ∙ are d.job now.1)) desks nows nows)
+  then_retired are = each_retired desks (zip_each IsNow IsNow (λ (d : DeskView). is_retired d ≡ true) (λ d now _. ap has_retired (drinks d now ∙ are d.job now.1)) desks nows nows)
 
   -- ---- both ends know the same
 

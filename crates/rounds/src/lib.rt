@@ -12,4 +12,4 @@ mod retired;
 
 pub use driving::rounds;
 pub use ended::Ended;
-pub use retired::all_retired;
+pub use retired::{all_retired, are_at_rest};
