@@ -9,3 +9,5 @@ pub mod ClosedView
 pub mod ClosedInside
 pub mod Openings
 pub mod Knowing
+pub mod Telling
+pub mod NewsInside

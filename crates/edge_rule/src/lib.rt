@@ -18,6 +18,7 @@ mod refusals;
 mod rooms;
 mod roster;
 mod steps;
+mod telling;
 mod words;
 
 pub use bench::Bench;
@@ -34,3 +35,4 @@ pub use pairs::look_both;
 pub use readers::unpacked_edge;
 pub use refusals::{CloseCause, CloseRefused, OpenError};
 pub use steps::{exchange, look, store_phase};
+pub use telling::{News, heed, tell};

@@ -1,3 +1,5 @@
 pub mod Local
 pub mod ActsDue
 pub mod Turn
+pub mod Grown
+pub mod Retired
