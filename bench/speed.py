@@ -2,6 +2,7 @@
 """Measures how fast labrun runs, beside plain Rust programs that do the same without proofs.
 
 Usage: bench/speed.py [rounds=N] [program=PATH] [only=NAME,..]     (from anywhere, after ./labrun was built)
+       bench/speed.py growth [rounds=N] [program=PATH]
 
 Builds the peers of bench/peers with `rustc -O` into a temporary folder, generates workloads, and runs all programs on each
 of them, one after the other, N times over (9 unless said); of all times of a program on a workload the best counts.
@@ -14,6 +15,10 @@ of them, one after the other, N times over (9 unless said); of all times of a pr
 What is compared is the run itself: the time from a program's start to the first byte of its report, less the same time on
 the same script with no turns. So starting, reading, opening and printing are left out. Every report is checked by
 bench/check_report.py once before the measuring.
+
+With `growth` it measures instead how the time of `rounds` grows, of labrun and of the port, where one thing is doubled again
+and again: the exponent that fits best is told, 1.00 where the time grows as the number of commands does (where instruments are
+doubled, which leaves that number as it is, 0.00 where it doesn't grow).
 
 Printed are ratios of runs, a line a workload, and their geometric means, with the goals; absolute times only at the end,
 as an aside. Where labrun hasn't the words yet, its columns are left out, and the port stands in for it.
@@ -45,6 +50,15 @@ WORKLOADS = (
     ("long", "pairs", dict(jobs=16, instruments=48, sessions=400, commands=20)),
     ("short", "ring", dict(jobs=16, instruments=16, sessions=1000, commands=1)),
     ("random", "random", dict(jobs=32, instruments=56, sessions=60, commands=20)),
+)
+# what is doubled: heading, shape, the keys that stay, the key that grows, its values
+GROWTHS = (
+    ("sessions of 8 jobs in pairs", "pairs", dict(jobs=8, instruments=16, commands=10), "sessions", (125, 250, 500, 1000)),
+    ("jobs, each on its own", "disjoint", dict(instruments=56, sessions=400, commands=10), "jobs", (4, 8, 16, 32)),
+    ("jobs in pairs", "pairs", dict(instruments=32, sessions=400, commands=10), "jobs", (4, 8, 16, 32)),
+    ("jobs in a ring", "ring", dict(instruments=32, sessions=400, commands=10), "jobs", (4, 8, 16, 32)),
+    ("instruments of 8 jobs in pairs", "pairs", dict(jobs=8, sessions=1000, commands=10), "instruments", (4, 8, 16, 32)),
+    ("commands of a session", "pairs", dict(jobs=8, instruments=16, sessions=500), "commands", (5, 10, 20, 40)),
 )
 # what is compared: heading, over, under, goal (at most; None: told as it is)
 RATIOS = (
@@ -180,16 +194,50 @@ def speed_up(times):
     table(["times as fast"] + list(times) + ["goal, at least"], rows)
 
 
+def exponent(sizes, times):
+    """The slope of the line that fits best, both scales logarithmic."""
+    xs, ys = [math.log(size) for size in sizes], [math.log(spent) for spent in times]
+    x, y = sum(xs) / len(xs), sum(ys) / len(ys)
+    return sum((a - x) * (b - y) for a, b in zip(xs, ys)) / sum((a - x) ** 2 for a in xs)
+
+
+def growth(folder, runs, rounds):
+    """For each thing that is doubled, the nanoseconds a command and the exponent."""
+    rows = []
+    for heading, shape, keys, growing, values in GROWTHS:
+        sizes, times = [], {name: [] for name in runs}
+        for value in values:
+            text = make_scripts.make(shape, random.Random(7), **dict(keys, **{growing: value}))
+            path = os.path.join(folder, "growth.lab")
+            with open(path, "w") as out:
+                out.write(text)
+            sizes.append(sum(line.startswith("i") for line in text.split("\n")))
+            found, _ = measure(runs, path, rounds)
+            for name in runs:
+                times[name].append(found[name])
+        for name in runs:
+            each = ["%.0f" % (spent / size * 1e9) for size, spent in zip(sizes, times[name])]
+            # instruments alone leave the number of commands as it is
+            exact = exponent(values if growing == "instruments" else sizes, times[name])
+            rows.append([heading, name, " ".join(str(value) for value in values), " ".join(each), "%.2f" % exact])
+    table(["doubled", "run", "values", "nanoseconds a command", "exponent"], rows)
+
+
 def main(words):
     if words and words[0] == "--help":
         print(__doc__, end="")
         return 0
+    grows = words[:1] == ["growth"]
+    words = words[grows:]
     keys = dict(word.split("=") for word in words)
     rounds, labrun = int(keys.get("rounds", "9")), os.path.abspath(keys.get("program", LABRUN))
     only = keys["only"].split(",") if "only" in keys else None
     with tempfile.TemporaryDirectory() as folder:
         peers = build(folder)
         runs = programs(peers, labrun if has_words(labrun) else None)
+        if grows:
+            growth(folder, {name: run for name, run in runs.items() if name.endswith(" rounds")}, rounds)
+            return 0
         times, clocks, counts = {}, {}, {}
         for name, path, text in scripts(folder, only):
             for program, (full, _) in runs.items():

@@ -17,6 +17,9 @@ either version, with 0 to 32 jobs and up to 56 instruments (bench/make_scripts.p
 A run by threads that hasn't finished although each desk had a million turns and a thousand times what rounds take is told
 as a suspect, and kept too: nothing promises that it ends, but a request that was lost looks like that.
 
+A third of the runs by threads is kept on one core, and a third on two, so that workers are also stopped in the midst of a
+turn and others go on for a whole slice of time (where the system has `taskset`).
+
 Nothing may stand on standard error but the line of a fault, and no run may take longer than 120 seconds. At the end it
 prints how many runs there were and how many problems; the script of each problem is kept, with the words and what the
 program wrote, in FOLDER (a new one under the system's place for temporary files unless said). The status is 1 where there
@@ -25,6 +28,7 @@ was a problem.
 import collections
 import os
 import random
+import shutil
 import subprocess
 import sys
 import tempfile
@@ -77,15 +81,20 @@ class Reckoned:
 
 class Stress:
     def __init__(self, program, keep):
-        self.program, self.keep = program, keep
+        self.program, self.keep, self.chance = program, keep, random.Random(3)
+        self.cores = sorted(os.sched_getaffinity(0)) if shutil.which("taskset") else []
         self.counts = collections.Counter()
         self.problems = self.suspects = 0
 
     def run(self, words, text):
         """What the program writes, and its status."""
         self.counts["runs"] += 1
+        cores = self.chance.randrange(3)
+        kept = []
+        if words[:1] == ["threads"] and 0 < cores <= len(self.cores):
+            kept = ["taskset", "-c", ",".join(map(str, self.chance.sample(self.cores, cores)))]
         try:
-            done = subprocess.run([self.program] + words, input=text.encode(), capture_output=True, timeout=SECONDS)
+            done = subprocess.run(kept + [self.program] + words, input=text.encode(), capture_output=True, timeout=SECONDS)
         except subprocess.TimeoutExpired:
             return None
         return done.stdout.decode(errors="replace"), done.stderr.decode(errors="replace"), done.returncode
