@@ -59,14 +59,16 @@ class Reckoned:
     def has(self, limit):
         return self.finished or limit <= self.most
 
-    def after(self, limit):
-        """The report and the status after so many rounds, and the run itself."""
-        limit = min(limit, self.whole)
-        if limit not in self.known:
-            run = simulate.Run(self.plan)
+    def prepare(self, limits):
+        """Reckons the reports of all these limits, in one go."""
+        run = simulate.Run(self.plan)
+        for limit in sorted({min(limit, self.whole) for limit in limits}):
             run.drive_rounds(limit)
-            self.known[limit] = (run.report(), run.status(), run)
-        return self.known[limit]
+            self.known[limit] = (run.report(), run.status())
+
+    def after(self, limit):
+        """The report and the status after so many rounds, of the limits that were prepared."""
+        return self.known[min(limit, self.whole)]
 
     def groups(self):
         """The jobs, in groups: two are in one where a chain of edges leads from one to the other."""
@@ -117,7 +119,7 @@ class Stress:
         words = ["rounds", str(limit)]
         if limit == 10000:
             words = []
-        report, status, _ = reckoned.after(limit)
+        report, status = reckoned.after(limit)
         got = self.run(words, reckoned.text)
         self.counts["rounds"] += 1
         if got != (report, "", status):
@@ -144,9 +146,8 @@ class Stress:
 
     def apart(self, reckoned, workers, turns, report):
         """Jobs that share instruments with jobs of the same worker alone do what they do by rounds."""
-        what, run = [], reckoned.after(turns)[2]
-        plan, lines = reckoned.plan, report.split("\n")
-        wanted = run.report().split("\n")
+        what, plan, lines = [], reckoned.plan, report.split("\n")
+        wanted = reckoned.after(turns)[0].split("\n")
         for group in reckoned.groups():
             if len({job % workers for job in group}) > 1:
                 continue
@@ -209,12 +210,14 @@ def main(words):
         text = sort(chance)
         scripts += 1
         reckoned = Reckoned(text)
-        for limit in {chance.randint(0, 20), chance.randint(0, reckoned.whole + 2), 10000}:
-            if reckoned.has(limit):
-                stress.rounds(reckoned, limit)
-        for _ in range(6):
+        limits = [limit for limit in (chance.randint(0, 20), chance.randint(0, reckoned.whole + 2), 10000) if reckoned.has(limit)]
+        turns = [pick_turns(reckoned, chance) for _ in range(9)]
+        reckoned.prepare(limits + [limit for limit in turns if reckoned.has(limit)])
+        for limit in limits:
+            stress.rounds(reckoned, limit)
+        for own in turns:
             workers = chance.randint(1, 32) if chance.randrange(10) == 0 else chance.randint(1, 8)
-            stress.threads(reckoned, workers, pick_turns(reckoned, chance))
+            stress.threads(reckoned, workers, own)
         if scripts % 5 == 0 and keys.get("faults") != "no":
             stress.spoilt(text, chance)
     print("%d scripts in %.0f seconds: %s" % (
