@@ -10,7 +10,7 @@ Usage:
   bench/simulate.py --check [RUNS]               compares itself with worked runs that were reckoned by hand, and with a
                                                  second form of the rules (200 runs unless said)
 
-How the checks ran: `bench/simulate.py --check 2000` on 2026-11-22, on Python 3.11: no problem. Its worked runs are those
+How the checks ran: `bench/simulate.py --check 4000` on 2026-11-22, on Python 3.11: no problem. Its worked runs are those
 of the documentation: two jobs that take turns, with every edge word and the phase words of the second job; a second
 session, stopped after each of 0 to 14 rounds; set and then read in 9 and in 8 rounds; a patience of 0, 1 and 3; a lone
 job; a stop in the midst of a session; no rounds; faults of scripts. Each random run, by rounds and by threads, is done

@@ -17,6 +17,9 @@ either version, with 0 to 32 jobs and up to 56 instruments (bench/make_scripts.p
 A run by threads that hasn't finished although each desk had a million turns and a thousand times what rounds take is told
 as a suspect, and kept too: nothing promises that it ends, but a request that was lost looks like that.
 
+A third of the runs by threads is kept on one core, and a third on two, so that workers are also stopped in the midst of a
+turn and others go on for a whole slice of time (where the system has `taskset`).
+
 Nothing may stand on standard error but the line of a fault, and no run may take longer than 120 seconds. At the end it
 prints how many runs there were and how many problems; the script of each problem is kept, with the words and what the
 program wrote, in FOLDER (a new one under the system's place for temporary files unless said). The status is 1 where there
@@ -25,6 +28,7 @@ was a problem.
 import collections
 import os
 import random
+import shutil
 import subprocess
 import sys
 import tempfile
@@ -55,14 +59,16 @@ class Reckoned:
     def has(self, limit):
         return self.finished or limit <= self.most
 
-    def after(self, limit):
-        """The report and the status after so many rounds, and the run itself."""
-        limit = min(limit, self.whole)
-        if limit not in self.known:
-            run = simulate.Run(self.plan)
+    def prepare(self, limits):
+        """Reckons the reports of all these limits, in one go."""
+        run = simulate.Run(self.plan)
+        for limit in sorted({min(limit, self.whole) for limit in limits}):
             run.drive_rounds(limit)
-            self.known[limit] = (run.report(), run.status(), run)
-        return self.known[limit]
+            self.known[limit] = (run.report(), run.status())
+
+    def after(self, limit):
+        """The report and the status after so many rounds, of the limits that were prepared."""
+        return self.known[min(limit, self.whole)]
 
     def groups(self):
         """The jobs, in groups: two are in one where a chain of edges leads from one to the other."""
@@ -77,15 +83,20 @@ class Reckoned:
 
 class Stress:
     def __init__(self, program, keep):
-        self.program, self.keep = program, keep
+        self.program, self.keep, self.chance = program, keep, random.Random(3)
+        self.cores = sorted(os.sched_getaffinity(0)) if shutil.which("taskset") else []
         self.counts = collections.Counter()
         self.problems = self.suspects = 0
 
     def run(self, words, text):
         """What the program writes, and its status."""
         self.counts["runs"] += 1
+        cores = self.chance.randrange(3)
+        kept = []
+        if words[:1] == ["threads"] and 0 < cores <= len(self.cores):
+            kept = ["taskset", "-c", ",".join(map(str, self.chance.sample(self.cores, cores)))]
         try:
-            done = subprocess.run([self.program] + words, input=text.encode(), capture_output=True, timeout=SECONDS)
+            done = subprocess.run(kept + [self.program] + words, input=text.encode(), capture_output=True, timeout=SECONDS)
         except subprocess.TimeoutExpired:
             return None
         return done.stdout.decode(errors="replace"), done.stderr.decode(errors="replace"), done.returncode
@@ -108,7 +119,7 @@ class Stress:
         words = ["rounds", str(limit)]
         if limit == 10000:
             words = []
-        report, status, _ = reckoned.after(limit)
+        report, status = reckoned.after(limit)
         got = self.run(words, reckoned.text)
         self.counts["rounds"] += 1
         if got != (report, "", status):
@@ -135,9 +146,8 @@ class Stress:
 
     def apart(self, reckoned, workers, turns, report):
         """Jobs that share instruments with jobs of the same worker alone do what they do by rounds."""
-        what, run = [], reckoned.after(turns)[2]
-        plan, lines = reckoned.plan, report.split("\n")
-        wanted = run.report().split("\n")
+        what, plan, lines = [], reckoned.plan, report.split("\n")
+        wanted = reckoned.after(turns)[0].split("\n")
         for group in reckoned.groups():
             if len({job % workers for job in group}) > 1:
                 continue
@@ -200,12 +210,14 @@ def main(words):
         text = sort(chance)
         scripts += 1
         reckoned = Reckoned(text)
-        for limit in {chance.randint(0, 20), chance.randint(0, reckoned.whole + 2), 10000}:
-            if reckoned.has(limit):
-                stress.rounds(reckoned, limit)
-        for _ in range(6):
+        limits = [limit for limit in (chance.randint(0, 20), chance.randint(0, reckoned.whole + 2), 10000) if reckoned.has(limit)]
+        turns = [pick_turns(reckoned, chance) for _ in range(9)]
+        reckoned.prepare(limits + [limit for limit in turns if reckoned.has(limit)])
+        for limit in limits:
+            stress.rounds(reckoned, limit)
+        for own in turns:
             workers = chance.randint(1, 32) if chance.randrange(10) == 0 else chance.randint(1, 8)
-            stress.threads(reckoned, workers, pick_turns(reckoned, chance))
+            stress.threads(reckoned, workers, own)
         if scripts % 5 == 0 and keys.get("faults") != "no":
             stress.spoilt(text, chance)
     print("%d scripts in %.0f seconds: %s" % (
