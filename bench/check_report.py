@@ -8,7 +8,7 @@ REPORT may be - for standard input. `status` is the program's exit status, `turn
 that the run was given; both may be left out. One line goes out for each problem that is found; the status is 1 where there
 is one, else 0. With --check it is itself checked: by reports of bench/simulate.py, which must pass, and by wrong ones, made
 of them by one change each, which must be found (1000 scripts unless said; the kinds of change are `WRONGS`). On 2026-11-22
-`--check 3000` found no problem.
+`--check 4000` found no problem.
 
 The check of a report shares nothing with the program and nothing with bench/simulate.py, and knows no forks and no bottles but these facts:
 a session holds all its instruments from its first command to its end; a turn does one act at most. So it asks:

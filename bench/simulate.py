@@ -10,7 +10,7 @@ Usage:
   bench/simulate.py --check [RUNS]               compares itself with worked runs that were reckoned by hand, and with a
                                                  second form of the rules (200 runs unless said)
 
-How the checks ran: `bench/simulate.py --check 2000` on 2026-11-22, on Python 3.11: no problem. Its worked runs are those
+How the checks ran: `bench/simulate.py --check 4000` on 2026-11-22, on Python 3.11: no problem. Its worked runs are those
 of the documentation: two jobs that take turns, with every edge word and the phase words of the second job; a second
 session, stopped after each of 0 to 14 rounds; set and then read in 9 and in 8 rounds; a patience of 0, 1 and 3; a lone
 job; a stop in the midst of a session; no rounds; faults of scripts. Each random run, by rounds and by threads, is done
@@ -993,9 +993,16 @@ def number_word(word):
     return int(word)
 
 
+LONGEST = 16777216
+
+
+def told(text, status):
+    sys.stderr.write("labrun: %s\n" % text)
+    return status
+
+
 def refused():
-    sys.stderr.write("labrun: command line refused\n")
-    return 2
+    return told("command line refused", 2)
 
 
 def main(words):
@@ -1011,12 +1018,15 @@ def main(words):
         return refused()
     if words[0] == "threads" and not 1 <= numbers[0] <= 32:
         return refused()
-    data = sys.stdin.buffer.read()
     try:
+        data = sys.stdin.buffer.read(LONGEST + 1)
+        if len(data) > LONGEST:
+            return told("input longer than %d bytes" % LONGEST, 4)
         plan = read_script(data)
+    except OSError:
+        return told("read fault", 4)
     except Fault as fault:
-        sys.stderr.write("labrun: %s\n" % fault)
-        return 1
+        return told(str(fault), 1)
     if words[0] == "--trace":
         show_trace(data, numbers[0])
         return 0
@@ -1025,7 +1035,12 @@ def main(words):
         run.drive_rounds(numbers[0])
     else:
         run.drive_threads(numbers[0], numbers[1], random.Random(numbers[2] if len(numbers) > 2 else None))
-    sys.stdout.write(run.report())
+    try:
+        left = run.report().encode()
+        while left:
+            left = left[os.write(1, left):]
+    except OSError:
+        return told("write fault", 4)
     return run.status()
 
 

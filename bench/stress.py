@@ -2,6 +2,7 @@
 """Many runs of labrun over generated scripts, each report checked whole.
 
 Usage: bench/stress.py PROGRAM [runs=N] [seed=S] [minutes=M] [keep=FOLDER] [faults=no]
+       bench/stress.py PROGRAM stops [keep=FOLDER]
 
 PROGRAM is the built program (crates/labrun/out/labrun), or whatever takes the same words: bench/simulate.py, a peer of
 bench/peers. It makes N runs (1000 unless said), or as many as M minutes allow. Each script is of one of six shapes and of
@@ -17,6 +18,13 @@ either version, with 0 to 32 jobs and up to 56 instruments (bench/make_scripts.p
 A run by threads that hasn't finished although each desk had a million turns and a thousand times what rounds take is told
 as a suspect, and kept too: nothing promises that it ends, but a request that was lost looks like that.
 
+A third of the runs by threads is kept on one core, and a third on two, so that workers are also stopped in the midst of a
+turn and others go on for a whole slice of time (where the system has `taskset`).
+
+With `stops` a few plans are stopped everywhere: a second session, a ring, a clique, two edges with 28 bottles each, patience,
+and the examples. With each limit from 0 to past the end, `rounds` and `threads` with one worker print what the simulator does;
+with two and three workers and each number of turns from 0 to 20, some times each, every report is checked.
+
 Nothing may stand on standard error but the line of a fault, and no run may take longer than 120 seconds. At the end it
 prints how many runs there were and how many problems; the script of each problem is kept, with the words and what the
 program wrote, in FOLDER (a new one under the system's place for temporary files unless said). The status is 1 where there
@@ -25,6 +33,7 @@ was a problem.
 import collections
 import os
 import random
+import shutil
 import subprocess
 import sys
 import tempfile
@@ -55,14 +64,16 @@ class Reckoned:
     def has(self, limit):
         return self.finished or limit <= self.most
 
-    def after(self, limit):
-        """The report and the status after so many rounds, and the run itself."""
-        limit = min(limit, self.whole)
-        if limit not in self.known:
-            run = simulate.Run(self.plan)
+    def prepare(self, limits):
+        """Reckons the reports of all these limits, in one go."""
+        run = simulate.Run(self.plan)
+        for limit in sorted({min(limit, self.whole) for limit in limits}):
             run.drive_rounds(limit)
-            self.known[limit] = (run.report(), run.status(), run)
-        return self.known[limit]
+            self.known[limit] = (run.report(), run.status())
+
+    def after(self, limit):
+        """The report and the status after so many rounds, of the limits that were prepared."""
+        return self.known[min(limit, self.whole)]
 
     def groups(self):
         """The jobs, in groups: two are in one where a chain of edges leads from one to the other."""
@@ -77,15 +88,20 @@ class Reckoned:
 
 class Stress:
     def __init__(self, program, keep):
-        self.program, self.keep = program, keep
+        self.program, self.keep, self.chance = program, keep, random.Random(3)
+        self.cores = sorted(os.sched_getaffinity(0)) if shutil.which("taskset") else []
         self.counts = collections.Counter()
         self.problems = self.suspects = 0
 
     def run(self, words, text):
         """What the program writes, and its status."""
         self.counts["runs"] += 1
+        cores = self.chance.randrange(3)
+        kept = []
+        if words[:1] == ["threads"] and 0 < cores <= len(self.cores):
+            kept = ["taskset", "-c", ",".join(map(str, self.chance.sample(self.cores, cores)))]
         try:
-            done = subprocess.run([self.program] + words, input=text.encode(), capture_output=True, timeout=SECONDS)
+            done = subprocess.run(kept + [self.program] + words, input=text.encode(), capture_output=True, timeout=SECONDS)
         except subprocess.TimeoutExpired:
             return None
         return done.stdout.decode(errors="replace"), done.stderr.decode(errors="replace"), done.returncode
@@ -108,7 +124,7 @@ class Stress:
         words = ["rounds", str(limit)]
         if limit == 10000:
             words = []
-        report, status, _ = reckoned.after(limit)
+        report, status = reckoned.after(limit)
         got = self.run(words, reckoned.text)
         self.counts["rounds"] += 1
         if got != (report, "", status):
@@ -135,9 +151,8 @@ class Stress:
 
     def apart(self, reckoned, workers, turns, report):
         """Jobs that share instruments with jobs of the same worker alone do what they do by rounds."""
-        what, run = [], reckoned.after(turns)[2]
-        plan, lines = reckoned.plan, report.split("\n")
-        wanted = run.report().split("\n")
+        what, plan, lines = [], reckoned.plan, report.split("\n")
+        wanted = reckoned.after(turns)[0].split("\n")
         for group in reckoned.groups():
             if len({job % workers for job in group}) > 1:
                 continue
@@ -186,26 +201,75 @@ def pick_turns(reckoned, chance):
         whole * 2, whole * 50, 1000, 100000, 1000000, max(1000000, 1000 * whole)))
 
 
+def two_wide_edges():
+    """Two jobs each share 28 instruments with a third."""
+    names = ["i%d" % k for k in range(56)]
+    lines = ["lab 1"]
+    for job, own in (("left", names[:28]), ("middle", names), ("right", names[28:])):
+        lines.append("job " + job)
+        for part in (own[:2], own, own[-3:]):
+            lines += ["session"] + ["%s add %d" % (name, len(part)) for name in part] + ["end"]
+    return "".join(line + "\n" for line in lines)
+
+
+def plans_to_stop():
+    chance = random.Random(5)
+    again = simulate.text(simulate.AGAIN).decode()
+    yield "a second session", again
+    yield "a second session with patience", again.replace("lab 1", "lab 2").replace("job b\nsession", "job b\nsession patience 2")
+    yield "ring", make_scripts.make("ring", chance, jobs=5, instruments=5, sessions=2, commands=3)
+    yield "clique", make_scripts.make("clique", chance, jobs=4, instruments=3, sessions=2, commands=2)
+    yield "two wide edges", two_wide_edges()
+    yield "patience", make_scripts.make("clique", chance, jobs=4, instruments=2, sessions=3, commands=2, version=2, patience=6, patient=80)
+    folder = os.path.join(os.path.dirname(os.path.dirname(os.path.abspath(__file__))), "examples")
+    for name in sorted(os.listdir(folder)):
+        with open(os.path.join(folder, name)) as script:
+            text = script.read() if name.endswith(".lab") else ""
+        if "# labrun rounds" in text:
+            yield name, text
+
+
+def stop_everywhere(stress):
+    for name, text in plans_to_stop():
+        reckoned = Reckoned(text)
+        limits = [limit for limit in range(reckoned.whole + 2) if reckoned.has(limit)]
+        reckoned.prepare(set(limits) | set(range(21)))
+        for limit in limits:
+            stress.rounds(reckoned, limit)
+            stress.threads(reckoned, 1, limit)
+        for workers in (2, 3):
+            for turns in range(21):
+                for _ in range(5):
+                    stress.threads(reckoned, workers, turns)
+        print("%s: stopped after each of 0 to %d rounds" % (name, limits[-1]), flush=True)
+
+
 def main(words):
     if not words or words[0] == "--help":
         print(__doc__, end="")
         return 0 if words else 2
-    keys = dict(word.split("=") for word in words[1:])
+    stops = words[1:2] == ["stops"]
+    keys = dict(word.split("=") for word in words[1 + stops:])
     most = int(keys["runs"]) if "runs" in keys else 10**9 if "minutes" in keys else 1000
     end = time.monotonic() + 60 * float(keys["minutes"]) if "minutes" in keys else None
     chance = random.Random(int(keys.get("seed", "1")))
     stress, scripts, begun = Stress(os.path.abspath(words[0]), keys.get("keep")), 0, time.monotonic()
+    if stops:
+        stop_everywhere(stress)
+        most = 0
     while stress.counts["runs"] < most and (end is None or time.monotonic() < end):
         sort = make_scripts.large if scripts % 20 == 19 else make_scripts.contended if scripts % 4 == 3 else make_scripts.small
         text = sort(chance)
         scripts += 1
         reckoned = Reckoned(text)
-        for limit in {chance.randint(0, 20), chance.randint(0, reckoned.whole + 2), 10000}:
-            if reckoned.has(limit):
-                stress.rounds(reckoned, limit)
-        for _ in range(6):
+        limits = [limit for limit in (chance.randint(0, 20), chance.randint(0, reckoned.whole + 2), 10000) if reckoned.has(limit)]
+        turns = [pick_turns(reckoned, chance) for _ in range(9)]
+        reckoned.prepare(limits + [limit for limit in turns if reckoned.has(limit)])
+        for limit in limits:
+            stress.rounds(reckoned, limit)
+        for own in turns:
             workers = chance.randint(1, 32) if chance.randrange(10) == 0 else chance.randint(1, 8)
-            stress.threads(reckoned, workers, pick_turns(reckoned, chance))
+            stress.threads(reckoned, workers, own)
         if scripts % 5 == 0 and keys.get("faults") != "no":
             stress.spoilt(text, chance)
     print("%d scripts in %.0f seconds: %s" % (

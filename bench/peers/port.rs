@@ -5,9 +5,9 @@
 //!     rustc -O bench/peers/port.rs && ./port threads 2 1000000 < SCRIPT
 //!
 //! What makes it fast: an edge that is as last seen, while nothing was due there and the own phase is as it was then, is
-//! passed over after its load; a worker whose round was all idle yields.
+//! passed over after its load and one comparison; a worker whose round was all idle yields.
 mod shared;
-use shared::{Counts, Log, Plan, Times};
+use shared::{Counts, Edge, Log, Plan, Times};
 use std::cell::UnsafeCell;
 use std::sync::atomic::{AtomicU64, Ordering::SeqCst};
 
@@ -31,7 +31,6 @@ unsafe impl Sync for Slot {}
 
 struct Bench<'a> {
     plan: &'a Plan,
-    edges: Vec<Word>,
     phases: Vec<Word>,
     slots: Vec<Slot>,
 }
@@ -39,7 +38,6 @@ struct Bench<'a> {
 /// A job's end of an edge. A word of it is turned by `turn` so that a bit says "here": 0 the fork, 2 its token, from 4 on
 /// the bottles, from 32 on their tokens; bit 1 is dirt.
 struct End {
-    edge: usize,
     turn: u64,
     common: u64,
     all: u64,
@@ -47,15 +45,19 @@ struct End {
     seen: u64,
 }
 
-/// One job's seat. `forks`, `bottles` and `calm` have a bit for each own edge: a fork mark; a mark on each needed bottle;
-/// nothing was due there when the word was last seen, and the phase is as it was then.
-struct Desk {
+/// No word of an edge.
+const NOT_CALM: u64 = u64::MAX;
+
+/// One job's seat. `forks` and `bottles` have a bit for each own edge: a fork mark; a mark on each needed bottle. `calm` has
+/// the word last seen where nothing was due there and the phase is as it was then, and no word elsewhere.
+struct Desk<'a> {
     job: usize,
+    words: Vec<&'a AtomicU64>,
+    calm: Vec<u64>,
     ends: Vec<End>,
     every: u32,
     forks: u32,
     bottles: u32,
-    calm: u32,
     dining: u64,
     drinking: u64,
     session: usize,
@@ -64,25 +66,33 @@ struct Desk {
     counts: Counts,
 }
 
-fn open<'a>(plan: &'a Plan) -> (Bench<'a>, Vec<Desk>) {
-    let opening = |common: u64| 6 + (((1u64 << common.count_ones()) - 1) << 32);
-    let edges = plan.edges.iter().map(|edge| Word(AtomicU64::new(opening(edge.common)))).collect();
-    let phases = plan.jobs.iter().map(|_| Word(AtomicU64::new(0))).collect();
-    let slots = shared::empty_logs(plan).into_iter().map(|log| Slot(UnsafeCell::new(log))).collect();
-    let desks = (0..plan.jobs.len()).map(|job| {
-        let ends: Vec<End> = plan.edges_of[job].iter().map(|&edge| {
-            let common = plan.edges[edge].common;
-            let all = (1u64 << common.count_ones()) - 1;
-            let turn = if plan.edges[edge].lower == job { 5 | all << 4 | all << 32 } else { 0 };
-            End { edge, turn, common, all, needed: 0, seen: opening(common) }
-        }).collect();
-        let every = ((1u64 << ends.len()) - 1) as u32;
-        Desk {
-            job, ends, every, forks: 0, bottles: 0, calm: 0, dining: THINKING, drinking: TRANQUIL, session: 0, position: 0,
-            waited: 0, counts: Counts::default(),
-        }
-    }).collect();
-    (Bench { plan, edges, phases, slots }, desks)
+fn opening(edge: &Edge) -> u64 {
+    6 + (((1u64 << edge.common.count_ones()) - 1) << 32)
+}
+
+fn open_desk<'a>(plan: &Plan, words: &'a [Word], job: usize) -> Desk<'a> {
+    let own = &plan.edges_of[job];
+    let end = |&number: &usize| {
+        let edge = &plan.edges[number];
+        let all = (1u64 << edge.common.count_ones()) - 1;
+        let turn = if edge.lower == job { 5 | all << 4 | all << 32 } else { 0 };
+        End { turn, common: edge.common, all, needed: 0, seen: opening(edge) }
+    };
+    Desk {
+        job,
+        words: own.iter().map(|&number| &words[number].0).collect(),
+        calm: vec![NOT_CALM; own.len()],
+        ends: own.iter().map(end).collect(),
+        every: ((1u64 << own.len()) - 1) as u32,
+        forks: 0,
+        bottles: 0,
+        dining: THINKING,
+        drinking: TRANQUIL,
+        session: 0,
+        position: 0,
+        waited: 0,
+        counts: Counts::default(),
+    }
 }
 
 #[derive(PartialEq)]
@@ -92,7 +102,7 @@ enum Turned {
     Idle,
 }
 
-impl Desk {
+impl Desk<'_> {
     /// The marks that a look at a word, turned, sets.
     fn mark(&mut self, at: usize, here: u64) {
         let bit = 1u32 << at;
@@ -128,19 +138,18 @@ impl Desk {
 
     /// A look at an edge where something may be due, and the exchange.
     #[inline(never)]
-    fn visit(&mut self, bench: &Bench, at: usize, word: u64) -> Turned {
-        let bit = 1u32 << at;
+    fn visit(&mut self, at: usize, word: u64) -> Turned {
         self.ends[at].seen = word;
         let here = word ^ self.ends[at].turn;
         let after = self.due(&self.ends[at], here);
         if after == here {
             self.mark(at, here);
-            self.calm |= bit;
+            self.calm[at] = word;
             return Turned::Idle;
         }
-        self.calm &= !bit;
+        self.calm[at] = NOT_CALM;
         let new = after ^ self.ends[at].turn;
-        if bench.edges[self.ends[at].edge].0.compare_exchange(word, new, SeqCst, SeqCst).is_err() {
+        if self.words[at].compare_exchange(word, new, SeqCst, SeqCst).is_err() {
             self.mark(at, here);
             return Turned::Lost;
         }
@@ -231,25 +240,28 @@ impl Desk {
         } else {
             return false;
         }
-        self.calm = 0;
+        self.calm.fill(NOT_CALM);
         self.store(bench);
         true
+    }
+
+    /// Looks at the own edges from one on, up to the first where something may be due: its place and its word.
+    fn next_not_calm(&self, from: usize) -> Option<(usize, u64)> {
+        let looks = self.words[from..].iter().zip(&self.calm[from..]).enumerate();
+        looks.map(|(k, (word, calm))| (from + k, word.load(SeqCst), calm)).find(|(_, word, calm)| word != *calm).map(|(at, word, _)| (at, word))
     }
 
     fn turn(&mut self, bench: &Bench) -> Turned {
         let (thirsty, waited) = (self.drinking == THIRSTY, self.waited);
         let (mut acted, mut lost) = (false, false);
-        for at in 0..self.ends.len() {
-            let end = &self.ends[at];
-            let word = bench.edges[end.edge].0.load(SeqCst);
-            if word == end.seen && self.calm >> at & 1 == 1 {
-                continue;
-            }
-            match self.visit(bench, at, word) {
+        let mut from = 0;
+        while let Some((at, word)) = self.next_not_calm(from) {
+            match self.visit(at, word) {
                 Turned::Acted => acted = true,
                 Turned::Lost => lost = true,
                 Turned::Idle => {}
             }
+            from = at + 1;
         }
         acted |= self.act(bench, waited);
         if thirsty && self.drinking == THIRSTY {
@@ -317,7 +329,11 @@ fn main() {
     let mut times = Times::new();
     let plan = shared::read_plan(&shared::read_input());
     times.part("read");
-    let (bench, mut desks) = open(&plan);
+    let words: Vec<Word> = plan.edges.iter().map(|edge| Word(AtomicU64::new(opening(edge)))).collect();
+    let phases = plan.jobs.iter().map(|_| Word(AtomicU64::new(0))).collect();
+    let slots = shared::empty_logs(&plan).into_iter().map(|log| Slot(UnsafeCell::new(log))).collect();
+    let bench = Bench { plan: &plan, phases, slots };
+    let mut desks: Vec<Desk> = (0..plan.jobs.len()).map(|job| open_desk(&plan, &words, job)).collect();
     times.part("open");
     if workers == 0 {
         rounds(&bench, &mut desks, turns);

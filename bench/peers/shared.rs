@@ -1,5 +1,6 @@
 //! What the peers share: a script that is read, a log, the report. Scripts are taken to be good ones.
 #![allow(dead_code)]
+use std::collections::HashMap;
 use std::io::{Read, Write};
 use std::time::Instant;
 
@@ -56,11 +57,11 @@ fn close(session: &mut Session) {
     }
 }
 
-fn command(plan: &mut Plan, name: &str, verb: &str, number: Option<&str>) -> Command {
-    let known = plan.instrument_names.iter().position(|other| other == name);
-    let instrument = known.unwrap_or_else(|| {
+fn command<'a>(plan: &mut Plan, numbers: &mut HashMap<&'a str, u8>, name: &'a str, verb: &str, number: Option<&str>) -> Command {
+    let next = numbers.len() as u8;
+    let instrument = *numbers.entry(name).or_insert_with(|| {
         plan.instrument_names.push(name.to_string());
-        plan.instrument_names.len() - 1
+        next
     });
     let verb = match verb {
         "set" => SET,
@@ -68,7 +69,7 @@ fn command(plan: &mut Plan, name: &str, verb: &str, number: Option<&str>) -> Com
         _ => READ,
     };
     let number = number.map_or(0, |digits| digits.parse().expect("a number"));
-    Command { instrument: instrument as u8, verb, number, place: 0, length: 0 }
+    Command { instrument, verb, number, place: 0, length: 0 }
 }
 
 fn find_edges(plan: &mut Plan) {
@@ -87,9 +88,9 @@ fn find_edges(plan: &mut Plan) {
 }
 
 pub fn read_plan(text: &str) -> Plan {
-    let mut plan = Plan::default();
+    let (mut plan, mut numbers) = (Plan::default(), HashMap::new());
     for line in text.lines() {
-        let mut fields = line.split([' ', '\t']).filter(|field| !field.is_empty());
+        let mut fields = line.split_ascii_whitespace();
         let Some(first) = fields.next() else { continue };
         match first {
             _ if first.starts_with('#') => {}
@@ -106,7 +107,7 @@ pub fn read_plan(text: &str) -> Plan {
             "end" => close(plan.jobs.last_mut().and_then(|own| own.last_mut()).expect("a session")),
             name => {
                 let verb = fields.next().expect("a verb");
-                let found = command(&mut plan, name, verb, fields.next());
+                let found = command(&mut plan, &mut numbers, name, verb, fields.next());
                 plan.jobs.last_mut().and_then(|own| own.last_mut()).expect("a session").commands.push(found);
             }
         }
@@ -115,16 +116,9 @@ pub fn read_plan(text: &str) -> Plan {
     plan
 }
 
+/// An entry of a log in 16 bytes: job 8 bits, session 16, place 24, verb 8; length 20, number 20, value 20.
 #[derive(Clone, Copy)]
-pub struct Entry {
-    pub job: u8,
-    pub verb: u8,
-    pub session: u16,
-    pub instrument_place: u32,
-    pub length: u32,
-    pub number: u32,
-    pub value: u32,
-}
+pub struct Entry(u64, u64);
 
 /// The log of one instrument, with room for all that may come.
 pub struct Log {
@@ -139,15 +133,11 @@ impl Log {
             ADD => (self.dial + command.number) % 1_000_000,
             _ => self.dial,
         };
-        self.entries.push(Entry {
-            job: job as u8,
-            verb: command.verb,
-            session: session as u16,
-            instrument_place: command.place,
-            length: command.length,
-            number: if command.verb == READ { 0 } else { command.number },
-            value: self.dial,
-        });
+        let number = if command.verb == READ { 0 } else { command.number as u64 };
+        self.entries.push(Entry(
+            job as u64 | (session as u64) << 8 | (command.place as u64) << 24 | (command.verb as u64) << 48,
+            command.length as u64 | number << 20 | (self.dial as u64) << 40,
+        ));
     }
 }
 
@@ -181,24 +171,26 @@ fn put_number(out: &mut Vec<u8>, number: u32) {
     out.extend_from_slice(&digits[at..]);
 }
 
-fn put_entry(out: &mut Vec<u8>, plan: &Plan, entry: &Entry) {
-    out.extend_from_slice(plan.job_names[entry.job as usize].as_bytes());
+fn put_entry(out: &mut Vec<u8>, plan: &Plan, &Entry(first, second): &Entry) {
+    let bits = |word: u64, from: u32, count: u32| (word >> from & ((1 << count) - 1)) as u32;
+    out.extend_from_slice(plan.job_names[bits(first, 0, 8) as usize].as_bytes());
     out.push(b' ');
-    put_number(out, entry.session as u32);
+    put_number(out, bits(first, 8, 16));
     out.push(b' ');
-    put_number(out, entry.instrument_place);
+    put_number(out, bits(first, 24, 24));
     out.push(b'/');
-    put_number(out, entry.length);
-    match entry.verb {
-        SET => out.extend_from_slice(b" set "),
-        ADD => out.extend_from_slice(b" add "),
-        _ => out.extend_from_slice(b" read"),
-    }
-    if entry.verb != READ {
-        put_number(out, entry.number);
+    put_number(out, bits(second, 0, 20));
+    let verb = bits(first, 48, 8) as u8;
+    out.extend_from_slice(match verb {
+        SET => b" set ",
+        ADD => b" add ",
+        _ => b" read",
+    });
+    if verb != READ {
+        put_number(out, bits(second, 20, 20));
     }
     out.extend_from_slice(b" = ");
-    put_number(out, entry.value);
+    put_number(out, bits(second, 40, 20));
     out.push(b'\n');
 }
 

@@ -59,7 +59,7 @@ glance_sees e seen (AskBottles j f set) is = absurd (cc)
 glance_sees e seen (GiveBottles j f set) is = absurd (cc)
 glance_sees e seen _ is = refl
 
-known_but : (plan : LabPlan) (s : State) (l : List Event) → learned_all plan s (but_glances l) ≡ learned_all plan s l
+pub known_but : (plan : LabPlan) (s : State) (l : List Event) → learned_all plan s (but_glances l) ≡ learned_all plan s l
 known_but plan s [] = refl
 known_but plan s (x ∷ l) = at (is_glance x) refl (λ t. known_but plan t l) where
   at : (b : Bool) → is_glance x ≡ b → ((t : State) → learned_all plan t (but_glances l) ≡ learned_all plan t l) → learned_all plan s (if b then but_glances l else x ∷ but_glances l) ≡ learned_all plan (learned plan s x) l
