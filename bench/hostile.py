@@ -133,13 +133,17 @@ def check_sizes(cases):
             cases.report("%s, %s" % (name, " ".join(words)), words, text, int(words[-1]))
 
 
-def check_memory(cases):
+# kilobytes: in small steps where a run of this size begins to have enough
+MEMORY = tuple(range(1024, 16384, 256)) + (20000, 30000, 50000, 100000, 400000)
+
+
+def check_memory(cases, runs=(["rounds", "1000000"], ["threads", "4", "1000000000"]), memory=MEMORY):
     """Less and less memory: the whole report, or want of memory."""
     text = make_scripts.make("ring", make_scripts.random.Random(4), jobs=8, sessions=300, commands=20)
-    for words in (["rounds", "1000000"], ["threads", "4", "1000000000"]):
+    for words in runs:
         ends = {}
-        for size in list(range(1, 40)) + list(range(40, 400, 20)):
-            most = size * 1024 * 1024
+        for size in memory:
+            most = size * 1024
 
             def lessen():
                 resource.setrlimit(resource.RLIMIT_AS, (most, most))
@@ -158,9 +162,9 @@ def check_memory(cases):
                 # the system couldn't start it
                 wrong, end = errors.startswith("labrun") or status not in (None, 127, -9, -11) or out, "not started (%s)" % status
             if wrong:
-                cases.tell("%s with %d MiB" % (" ".join(words), size), "status %s, %r" % (status, errors[:200] or wrong))
+                cases.tell("%s with %d KiB" % (" ".join(words), size), "status %s, %r" % (status, errors[:200] or wrong))
             ends.setdefault(end.split(":")[0] if end.startswith("not") else end, []).append(size)
-        told = "; ".join("%s with %d to %d MiB" % (end, sizes[0], sizes[-1]) for end, sizes in ends.items())
+        told = "; ".join("%s with %d to %d KiB" % (end, sizes[0], sizes[-1]) for end, sizes in ends.items())
         cases.tell("%s with less and less memory (%s)" % (" ".join(words), told), None if "finished" in ends else "never finished")
 
 
