@@ -3,6 +3,7 @@ pub mod DeskSteps
 pub mod DeskMoves
 pub mod Commanding
 pub mod ManyHands
+pub mod Tidings
 pub mod Endings
 pub mod GlancedDesks
 pub mod RoomLemmas

@@ -32,11 +32,11 @@ last_snoc : (x : Hand) (l : List Hand) (y : Hand) → last_from x (l ++ y ∷ []
 last_snoc x [] y = refl
 last_snoc x (z ∷ l) y = last_snoc z l y
 
-each_begin : {A : Type 0} (P : A → Type 0) (a b : List A) → Each P (a ++ b) → Each P a
+pub each_begin : {A : Type 0} (P : A → Type 0) (a b : List A) → Each P (a ++ b) → Each P a
 each_begin P [] b e = tt
 each_begin P (x ∷ a) b e = (e.0, each_begin P a b e.1)
 
-each_end : {A : Type 0} (P : A → Type 0) (a b : List A) → Each P (a ++ b) → Each P b
+pub each_end : {A : Type 0} (P : A → Type 0) (a b : List A) → Each P (a ++ b) → Each P b
 each_end P [] b e = e
 each_end P (x ∷ a) b e = each_end P a b e.1
 

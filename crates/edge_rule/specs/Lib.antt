@@ -7,3 +7,5 @@ pub mod Ending
 pub mod EndView
 pub mod Openings
 pub mod Knowing
+pub mod Telling
+pub mod NewsInside

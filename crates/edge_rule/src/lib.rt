@@ -15,6 +15,7 @@ mod pairs;
 mod readers;
 mod rooms;
 mod steps;
+mod telling;
 #[cfg(test)]
 mod tests;
 mod words;
@@ -33,3 +34,4 @@ pub use opening::open;
 pub use pairs::look_both;
 pub use readers::unpacked_edge;
 pub use steps::{exchange, look, store_phase};
+pub use telling::{News, heed, tell};

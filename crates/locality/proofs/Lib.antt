@@ -1,6 +1,14 @@
 pub mod Frame
+pub mod Changed
+pub mod Reading
 pub mod Runs
+pub mod Knowing
+pub mod Parts
 pub mod Local
 pub mod Histories
 pub mod Holding
+pub mod Reached
+pub mod Entries
+pub mod Resting
 pub mod Few
+pub mod Retired

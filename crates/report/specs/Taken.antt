@@ -16,3 +16,7 @@ pub record AppendsPrefix (old new : Option (List ℕ)) (text : List ℕ) : Type 
 abbrev pub Writes : Option (List ℕ) → Option (List ℕ) → ℕ → ℕ → List ℕ → Result (Unit {0}) WriteFault → Type 0
 Writes old new before after text (Ok done) = Appends old new text × (after ≡ before)
 Writes old new before after text (Err fault) = AppendsPrefix old new text × (after ≡ before + 1)
+
+-- a call sent a text to a sink: what it had taken, and its number of failures, before and after
+abbrev pub Sends : {S : Type 0} → (S → Option (List ℕ)) → (S → ℕ) → S → S → List ℕ → Result (Unit {0}) WriteFault → Type 0
+Sends taken failures old new text result = Writes (taken old) (taken new) (failures old) (failures new) text result

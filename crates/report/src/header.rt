@@ -1,6 +1,6 @@
 // The first line of reports and scripts.
 ghost use Rattle.lab_plan.specs.Texts.{header_line};
-ghost use Rattle.report.specs.Taken.{Writes};
+ghost use Rattle.report.specs.Taken.{Sends};
 
 use crate::lines::header_line;
 use crate::offering::{WriteFault, offer};
@@ -8,7 +8,7 @@ use crate::sink::Sink;
 
 /// The header of a version.
 pub(crate) fn write_header<W: Sink>(version: u8, sink: &mut W) -> Result<(), WriteFault>
-    ensures { Writes (W.taken sink.old) (W.taken sink.new) (W.failures sink.old) (W.failures sink.new) (header_line version) result }
+    ensures { Sends W.taken W.failures sink.old sink.new (header_line version) result }
 {
     let line = header_line(version);
     offer(sink, line.as_bytes())

@@ -3,6 +3,7 @@
 
 mod header;
 mod job_tally;
+pub mod laws;
 mod line;
 mod lines;
 mod offering;
@@ -13,8 +14,11 @@ mod sink;
 mod tally;
 mod world;
 
+pub use job_tally::JobTally;
 pub use offering::{WriteFault, offer};
 pub use script::write_script;
+pub use showing::Showing;
+pub use shown::{all_retired, write_report};
 pub use sink::{Failed, Sink, ToWrite};
 pub use tally::Tally;
 pub use world::write_world;

@@ -1,5 +1,5 @@
 // A text goes out by a loop over `write`.
-ghost use Rattle.report.specs.Taken.{Writes};
+ghost use Rattle.report.specs.Taken.{Sends};
 
 use crate::sink::{Failed, Sink};
 
@@ -9,7 +9,7 @@ pub struct WriteFault;
 
 /// Offers a text until all of it is taken or the sink fails.
 pub fn offer<W: Sink>(sink: &mut W, text: &[u8]) -> Result<(), WriteFault>
-    ensures { Writes (W.taken sink.old) (W.taken sink.new) (W.failures sink.old) (W.failures sink.new) text.now result }
+    ensures { Sends W.taken W.failures sink.old sink.new text.now result }
 {
     let mut rest = text;
     while !rest.is_empty() {

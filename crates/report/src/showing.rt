@@ -9,7 +9,7 @@ use lab_plan::{InstrumentNo, JobNo, Plan};
 use std::alloc::Allocator;
 
 /// A run at its end: its plan, the log of each instrument, and what is told of each job.
-pub(crate) trait Showing<P: Allocator> {
+pub trait Showing<P: Allocator> {
     /// The plan of the run.
     ghost plan: { Self → LabPlan };
 

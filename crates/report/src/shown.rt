@@ -2,7 +2,7 @@
 ghost use Rattle.std.specs.Prelude.{◌≡◌, ℕ, ◌<◌, length};
 ghost use Rattle.std.specs.List.{flat_map};
 ghost use Rattle.lab_plan.specs.Texts.{instrument_name};
-ghost use Rattle.report.specs.Taken.{Writes};
+ghost use Rattle.report.specs.Taken.{Sends};
 ghost use Rattle.report.specs.Report.{instrument_line, entry_text, log_text, tally_text, all_retired, last_line, report_of, jobs, instruments};
 
 use crate::header::write_header;
@@ -21,7 +21,7 @@ fn write_instrument<R: Showing<P>, P: Allocator, W: Sink>(
     sink: &mut W,
 ) -> Result<(), WriteFault>
     requires { instrument < length (R.plan run.now).instruments }
-    ensures { Writes (W.taken sink.old) (W.taken sink.new) (W.failures sink.old) (W.failures sink.new) (instrument_line (instrument_name (R.plan run.now) instrument) (length ((R.shown run.now).log instrument))) result }
+    ensures { Sends W.taken W.failures sink.old sink.new (instrument_line (instrument_name (R.plan run.now) instrument) (length ((R.shown run.now).log instrument))) result }
 {
     let name = run.plan().instrument_name(instrument);
     let line = instrument_line(name, run.entries(instrument));
@@ -35,7 +35,7 @@ fn write_entry<R: Showing<P>, P: Allocator, W: Sink>(
     sink: &mut W,
 ) -> Result<(), WriteFault>
     requires { entry.job < length (R.plan run.now).jobs }
-    ensures { Writes (W.taken sink.old) (W.taken sink.new) (W.failures sink.old) (W.failures sink.new) (entry_text (R.plan run.now) entry) result }
+    ensures { Sends W.taken W.failures sink.old sink.new (entry_text (R.plan run.now) entry) result }
 {
     let line = entry_line(run.plan().job_name(entry.job), &entry);
     offer(sink, line.as_bytes())
@@ -48,7 +48,7 @@ fn write_entries<R: Showing<P>, P: Allocator, W: Sink>(
     sink: &mut W,
 ) -> Result<(), WriteFault>
     requires { instrument < length (R.plan run.now).instruments }
-    ensures { Writes (W.taken sink.old) (W.taken sink.new) (W.failures sink.old) (W.failures sink.new) (flat_map (entry_text (R.plan run.now)) ((R.shown run.now).log instrument)) result }
+    ensures { Sends W.taken W.failures sink.old sink.new (flat_map (entry_text (R.plan run.now)) ((R.shown run.now).log instrument)) result }
 {
     for index in 0..run.entries(instrument) {
         write_entry(run, run.entry(instrument, index), sink)?;
@@ -63,7 +63,7 @@ fn write_log<R: Showing<P>, P: Allocator, W: Sink>(
     sink: &mut W,
 ) -> Result<(), WriteFault>
     requires { instrument < length (R.plan run.now).instruments }
-    ensures { Writes (W.taken sink.old) (W.taken sink.new) (W.failures sink.old) (W.failures sink.new) (log_text (R.plan run.now) (R.shown run.now) instrument) result }
+    ensures { Sends W.taken W.failures sink.old sink.new (log_text (R.plan run.now) (R.shown run.now) instrument) result }
 {
     write_instrument(run, instrument, sink)?;
     write_entries(run, instrument, sink)
@@ -71,7 +71,7 @@ fn write_log<R: Showing<P>, P: Allocator, W: Sink>(
 
 /// The instruments in order, each with its log.
 fn write_logs<R: Showing<P>, P: Allocator, W: Sink>(run: &R, sink: &mut W) -> Result<(), WriteFault>
-    ensures { Writes (W.taken sink.old) (W.taken sink.new) (W.failures sink.old) (W.failures sink.new) (flat_map (log_text (R.plan run.now) (R.shown run.now)) (instruments (R.plan run.now))) result }
+    ensures { Sends W.taken W.failures sink.old sink.new (flat_map (log_text (R.plan run.now) (R.shown run.now)) (instruments (R.plan run.now))) result }
 {
     for instrument in 0..run.plan().instruments() {
         write_log(run, InstrumentNo(instrument as u8), sink)?;
@@ -86,7 +86,7 @@ fn write_tally<R: Showing<P>, P: Allocator, W: Sink>(
     sink: &mut W,
 ) -> Result<(), WriteFault>
     requires { job < length (R.plan run.now).jobs }
-    ensures { Writes (W.taken sink.old) (W.taken sink.new) (W.failures sink.old) (W.failures sink.new) (tally_text (R.plan run.now) (R.shown run.now) job) result }
+    ensures { Sends W.taken W.failures sink.old sink.new (tally_text (R.plan run.now) (R.shown run.now) job) result }
 {
     let plan = run.plan();
     let line = job_line(plan.version(), plan.job_name(job), run.tally(job));
@@ -98,7 +98,7 @@ fn write_tallies<R: Showing<P>, P: Allocator, W: Sink>(
     run: &R,
     sink: &mut W,
 ) -> Result<(), WriteFault>
-    ensures { Writes (W.taken sink.old) (W.taken sink.new) (W.failures sink.old) (W.failures sink.new) (flat_map (tally_text (R.plan run.now) (R.shown run.now)) (jobs (R.plan run.now))) result }
+    ensures { Sends W.taken W.failures sink.old sink.new (flat_map (tally_text (R.plan run.now) (R.shown run.now)) (jobs (R.plan run.now))) result }
 {
     for job in 0..run.plan().jobs() {
         write_tally(run, JobNo(job as u8), sink)?;
@@ -107,7 +107,7 @@ fn write_tallies<R: Showing<P>, P: Allocator, W: Sink>(
 }
 
 /// Whether every job is retired.
-fn all_retired<R: Showing<P>, P: Allocator>(run: &R) -> bool
+pub fn all_retired<R: Showing<P>, P: Allocator>(run: &R) -> bool
     ensures { result ≡ all_retired (R.plan run.now) (R.shown run.now) }
 {
     for job in 0..run.plan().jobs() {
@@ -120,7 +120,7 @@ fn all_retired<R: Showing<P>, P: Allocator>(run: &R) -> bool
 
 /// `finished` where every job is retired, else `unfinished`.
 fn write_last<W: Sink>(is_finished: bool, sink: &mut W) -> Result<(), WriteFault>
-    ensures { Writes (W.taken sink.old) (W.taken sink.new) (W.failures sink.old) (W.failures sink.new) (last_line is_finished) result }
+    ensures { Sends W.taken W.failures sink.old sink.new (last_line is_finished) result }
 {
     if is_finished {
         offer(sink, b"finished\n")
@@ -129,12 +129,12 @@ fn write_last<W: Sink>(is_finished: bool, sink: &mut W) -> Result<(), WriteFault
     }
 }
 
-/// The report.
-pub(crate) fn write_shown<R: Showing<P>, P: Allocator, W: Sink>(
+/// Writes the report of a run, one line at a time. Takes no memory, and doesn't flush.
+pub fn write_report<R: Showing<P>, P: Allocator, W: Sink>(
     run: &R,
     sink: &mut W,
 ) -> Result<(), WriteFault>
-    ensures { Writes (W.taken sink.old) (W.taken sink.new) (W.failures sink.old) (W.failures sink.new) (report_of (R.plan run.now) (R.shown run.now)) result }
+    ensures { Sends W.taken W.failures sink.old sink.new (report_of (R.plan run.now) (R.shown run.now)) result }
 {
     write_header(run.plan().version(), sink)?;
     write_logs(run, sink)?;

@@ -2,14 +2,14 @@
 ghost use Rattle.std.specs.Prelude.{◌≡◌, ℕ, ◌<◌, length};
 ghost use Rattle.std.specs.List.{All};
 ghost use Rattle.legal_steps.specs.State.{log};
-ghost use Rattle.report.specs.Taken.{Writes};
+ghost use Rattle.report.specs.Taken.{Sends};
 ghost use Rattle.report.specs.Report.{report_of};
 ghost use Rattle.report.specs.Worlds.{shown_by};
 
 use crate::job_tally::JobTally;
 use crate::offering::WriteFault;
 use crate::showing::Showing;
-use crate::shown::write_shown;
+use crate::shown::write_report;
 use crate::sink::Sink;
 use instrument_log::{Entry, InstrumentLog};
 use interleaving::{Drinking, World};
@@ -65,7 +65,7 @@ pub fn write_world<A: Allocator, W: Sink>(
     world: &World<'_, A>,
     sink: &mut W,
 ) -> Result<(), WriteFault>
-    ensures { Writes (W.taken sink.old) (W.taken sink.new) (W.failures sink.old) (W.failures sink.new) (report_of world.now.plan (shown_by world.now)) result }
+    ensures { Sends W.taken W.failures sink.old sink.new (report_of world.now.plan (shown_by world.now)) result }
 {
-    write_shown(world, sink)
+    write_report(world, sink)
 }

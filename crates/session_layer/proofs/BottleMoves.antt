@@ -1,5 +1,5 @@
 -- The sets of bottles that are given and asked for are the greatest legal ones.
-use Rattle.std.proofs.Common.{◌≡◌, ◌≢◌, ◌↔◌, ◌⊎◌, ℕ, ◌<◌, ◌≤◌, Bool, true, false, not, ◌&&◌, ◌||◌, bit_and, bit_xor, if◌then◌else◌, length, arith, refl, sym, ap, ◌∙◌, subst, inl, inr}
+use Rattle.std.proofs.Common.{◌≡◌, ◌≢◌, ◌↔◌, ◌⊎◌, ℕ, ◌<◌, Bool, true, false, ◌||◌, bit_and, bit_xor, if◌then◌else◌, length, refl, sym, ap, ◌∙◌, subst, inl, inr}
 use Rattle.std.proofs.lemmas.Bool.{false≢true}
 use Rattle.std.specs.Int.Bits.{and_lt}
 use Rattle.std.proofs.lemmas.Nat.{pow_pos}
@@ -9,15 +9,15 @@ use Rattle.legal_steps.specs.declared.phase.Drinking.{Drinking}
 use Rattle.legal_steps.specs.declared.phase.Drinking.TheVariants.{Tranquil, Thirsty, Drinking as Drinks, Reaching, Retired}
 use Rattle.legal_steps.specs.declared.phase.JobState.{JobState}
 use Rattle.legal_steps.specs.declared.edge_state.EdgeState.{EdgeState}
-use Rattle.legal_steps.specs.State.{State, Has, IsOfEdge, IsDrinking, edge, phase, drinking, end_of, bottle_end, bottles_at, fork}
-use Rattle.legal_steps.specs.Legal.{MayAskBottle, MayGiveBottle, Needs, Here, There, instrument_of, is_at, fork_given, fork_asked}
+use Rattle.legal_steps.specs.State.{State, Has, IsOfEdge, IsDrinking, edge, phase, drinking, end_of, bottle_end, bottles_at}
+use Rattle.legal_steps.specs.Legal.{MayAskBottle, MayGiveBottle, Needs, instrument_of, is_at, fork_given, fork_asked}
 use Rattle.edge_word.specs.declared.moves.EdgeMoves.{EdgeMoves}
 use Rattle.edge_word.specs.Moves.{when}
-use Rattle.turns.specs.Due.{fork_gone, fork_asked_for, IsGreatest, AreBottleMoves}
+use Rattle.turns.specs.Due.{fork_gone, fork_asked_for, IsGreatest}
 use Rattle.session_layer.specs.Local.{NeedsIn, has_instruments, is_thirsty, without, tokens_at, kept, gifts, wishes}
-use Rattle.session_layer.proofs.Sets.{has_and, has_without, has_none, at_end, at_end_fits, without_fits}
-use Rattle.session_layer.proofs.ForkMoves.{at_here, here_at}
-use Rattle.session_layer.proofs.Stages.{Stage, stage_one, stage_three, edge_one, edge_two, edge_three}
+use Rattle.turns.proofs.Sets.{has_and, has_without, has_none, at_end, at_end_fits, without_fits}
+use Rattle.turns.proofs.ForkGuards.{at_here, here_at}
+use Rattle.turns.proofs.Stages.{Stage, stage_one, stage_three, edge_one, edge_two, edge_three}
 
 thirsts : (d : Drinking) → is_thirsty d ≡ true → d ≡ Thirsty
 thirsts Thirsty h = refl

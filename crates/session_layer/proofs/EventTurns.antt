@@ -1,23 +1,21 @@
 -- What a desk did in a turn, by its record alone.
-use Rattle.std.proofs.Common.{◌≡◌, ◌≢◌, ℕ, Bool, true, false, not, ◌&&◌, ◌==◌, if◌then◌else◌, List, [], ◌∷◌, ◌++◌, map, refl, sym, ap, ◌∙◌, subst, arith, append_assoc, append-nil}
-use Rattle.std.proofs.lemmas.Bool.{false≢true}
-use Rattle.lab_plan.specs.LabPlan.{LabPlan, edges_of}
+use Rattle.std.proofs.Common.{◌≡◌, ◌≢◌, ℕ, Bool, true, false, if◌then◌else◌, List, [], ◌∷◌, ◌++◌, refl, sym, ap, ◌∙◌, subst, append_assoc, append-nil}
+use Rattle.lab_plan.specs.LabPlan.{LabPlan}
 use Rattle.legal_steps.specs.declared.event.Event.{Event}
-use Rattle.legal_steps.specs.declared.event.Event.TheVariants.{Look, AskFork, GiveFork, Soil, AskBottles, GiveBottles}
+use Rattle.legal_steps.specs.declared.event.Event.TheVariants.{Look}
 use Rattle.legal_steps.specs.State.{State, edge}
 use Rattle.legal_steps.specs.Opening.{the_opening}
-use Rattle.edge_word.specs.declared.moves.EdgeMoves.{EdgeMoves}
-use Rattle.edge_word.specs.Moves.{events_of, on}
-use Rattle.locality.specs.History.{learned, learned_all, known_by}
+use Rattle.edge_word.specs.Moves.{events_of}
+use Rattle.locality.specs.History.{learned_all, known_by}
 use Rattle.edge_rule.specs.DeskView.{DeskView, Adds, known, shown, waited}
 use Rattle.locality.proofs.Runs.{learned_all-append}
 use Rattle.turns.specs.Due.{AreDue, is_nothing}
 use Rattle.turns.specs.Acts.{AreActs}
 use Rattle.turns.specs.Turn.{Visit}
-use Rattle.session_layer.specs.Turn.{Visits, VisitsAll, DoesAll, Chosen, Took}
+use Rattle.session_layer.specs.Turn.{Visits, VisitsAll, DoesAll, Chosen}
 use Rattle.turns.specs.Turn.{visit_events, visits_events, AreVisits}
 use Rattle.session_layer.specs.Turn.{TookIsTurn}
-use Rattle.session_layer.proofs.ForkMoves.{both, untrue}
+use Rattle.turns.proofs.Idle.{no_events}
 
 -- the record grew by these events
 pub record Did (d : DeskView) (events : List Event) (e : DeskView) : Type 0 where
@@ -37,22 +35,11 @@ did_none d e is = record { plan = ap (λ (z : DeskView). z.plan) is; job = ap (�
 pub known_then : (d e : DeskView) (g : List Event) → Did d g e → known e ≡ learned_all d.plan (known d) g
 known_then d e g t = (λ i. known_by (t.plan i) (t.deeds i)) ∙ learned_all-append d.plan (the_opening d.plan) d.deeds g
 
-empty_on : (a b c d f : Bool) (u v w x y : Event) → (not a && b && not c && d && not f) ≡ true → [] ≡ on a u (on (not b) v (on c w (on (not d) x (on f y []))))
-empty_on true b c d f u v w x y h = absurd (false≢true h)
-empty_on false false c d f u v w x y h = absurd (false≢true h)
-empty_on false true true d f u v w x y h = absurd (false≢true h)
-empty_on false true false false f u v w x y h = absurd (false≢true h)
-empty_on false true false true true u v w x y h = absurd (false≢true h)
-empty_on false true false true false u v w x y h = refl
-
-pub no_events : (m : EdgeMoves) (j e : ℕ) → is_nothing m ≡ true → [] ≡ events_of m j e
-no_events m j e h = empty_on m.give_fork (m.give_bottles == 0) m.ask_fork (m.ask_bottles == 0) m.soil (GiveFork j e) (GiveBottles j e m.give_bottles) (AskFork j e) (AskBottles j e m.ask_bottles) (Soil j e) h
-
 tried : (d : DeskView) (v : Visit) (d' : DeskView) (b c : Bool) → is_nothing v.moves ≡ b → v.lost ≡ c
     → Chosen b (d' ≡ d) (Chosen c (Adds d [] d' × (edge (shown d') v.edge ≢ edge (known d) v.edge)) (Adds d (events_of v.moves d.job v.edge) d'))
     → Did d (if c then [] else events_of v.moves d.job v.edge) d'
 tried d v d' true true is lost t = did_none d d' t
-tried d v d' true false is lost t = subst (λ g. Did d g d') (no_events v.moves d.job v.edge is) (did_none d d' t)
+tried d v d' true false is lost t = subst (λ g. Did d g d') (sym (no_events v.moves d.job v.edge is)) (did_none d d' t)
 tried d v d' false true is lost t = adds_did d [] d' t.0
 tried d v d' false false is lost t = adds_did d (events_of v.moves d.job v.edge) d' t
 

@@ -19,7 +19,8 @@ use Rattle.turns.specs.Turns.{AreTurns, AreGrouped, Stands, flat, but_glances, i
 use Rattle.session_layer.specs.declared.turning.Turned.{Turned}
 use Rattle.session_layer.specs.Turn.{Visits, VisitsAll, DoesAll, Chosen, Took}
 use Rattle.session_layer.specs.Grown.{Grew, TookTurns, turns_after, OneTurn, GlancesAlone, HearingAlone, TurnsGoOn, GroupsAreTurns}
-use Rattle.session_layer.proofs.EventTurns.{known_then, no_events, visits_did}
+use Rattle.turns.proofs.Idle.{no_events}
+use Rattle.session_layer.proofs.EventTurns.{known_then, visits_did}
 
 -- ---- groups that stand
 
@@ -101,7 +102,7 @@ tried : (d : DeskView) (v : Visit) (e : DeskView) (b c : Bool) → is_nothing v.
     → Chosen b (e ≡ d) (Chosen c (Adds d [] e × (edge (shown e) v.edge ≢ edge (known d) v.edge)) (Adds d (events_of v.moves d.job v.edge) e))
     → Goes d ((if c then [] else events_of v.moves d.job v.edge) ∷ []) e
 tried d v e true true is lost t = goes_empty d e t
-tried d v e true false is lost t = subst (λ g. Goes d (g ∷ []) e) (no_events v.moves d.job v.edge is) (goes_empty d e t)
+tried d v e true false is lost t = subst (λ g. Goes d (g ∷ []) e) (sym (no_events v.moves d.job v.edge is)) (goes_empty d e t)
 tried d v e false true is lost t = adds_goes d [] e t.0
 tried d v e false false is lost t = adds_goes d (events_of v.moves d.job v.edge) e t
 

@@ -1,5 +1,5 @@
 -- How visits and acts make a turn.
-use Rattle.std.proofs.Common.{◌≡◌, ◌≢◌, ℕ, ◌+◌, ◌<◌, ◌≤◌, Bool, true, false, not, ◌&&◌, if◌then◌else◌, List, [], ◌∷◌, ◌++◌, length, map, filter, arith, refl, sym, ap, ◌∙◌, subst, cond, ◌||◌, ◌==◌}
+use Rattle.std.proofs.Common.{◌≡◌, ◌≢◌, ℕ, ◌+◌, ◌≤◌, Bool, true, false, not, ◌&&◌, if◌then◌else◌, List, [], ◌∷◌, ◌++◌, length, filter, arith, refl, sym, ap, ◌∙◌, subst, cond, ◌||◌, ◌==◌}
 use Rattle.std.proofs.lemmas.List.{map-append}
 use Rattle.std.specs.List.{range_with_len}
 use Rattle.std.proofs.lemmas.List.FromFn.{length-range_with_len}
@@ -18,7 +18,7 @@ use Rattle.session_layer.specs.declared.turning.Turned.{Turned}
 use Rattle.turns.specs.Due.{AreDue, is_nothing}
 use Rattle.turns.specs.Acts.{AreActs}
 use Rattle.turns.specs.Turn.{Visit, is_done, is_lost, count, once}
-use Rattle.session_layer.specs.Turn.{Visits, VisitsAll, Chosen, Tries, IsVisited, Along, IsActed, Took, Says, done_by, lost_by}
+use Rattle.session_layer.specs.Turn.{Visits, VisitsAll, Chosen, IsVisited, Along, IsActed, Took, Says, done_by, lost_by}
 
 abbrev pub visit : ℕ → EdgeState → EdgeMoves → Bool → Visit
 visit e x m lost = record { edge = e; saw = x; moves = m; lost = lost }

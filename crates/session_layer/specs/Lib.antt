@@ -2,3 +2,4 @@ pub mod Local
 pub mod ActsDue
 pub mod Turn
 pub mod Grown
+pub mod Retired

@@ -1,13 +1,10 @@
 -- One turn of a job, as a chain of steps on its desk.
-use Rattle.std.specs.Prelude.{◌≡◌, ◌≢◌, ℕ, ◌+◌, ◌<◌, Bool, true, false, not, ◌&&◌, if◌then◌else◌, List, [], ◌∷◌, ◌++◌, map}
-use Rattle.lab_plan.specs.LabPlan.{LabPlan, edges_of}
-use Rattle.legal_steps.specs.declared.edge_state.EdgeState.{EdgeState}
+use Rattle.std.specs.Prelude.{◌≡◌, ◌≢◌, ℕ, ◌+◌, ◌<◌, Bool, true, false, if◌then◌else◌, List, [], ◌∷◌, ◌++◌, map}
+use Rattle.lab_plan.specs.LabPlan.{edges_of}
 use Rattle.legal_steps.specs.declared.event.Event.{Event}
 use Rattle.legal_steps.specs.declared.event.Event.TheVariants.{Look}
-use Rattle.legal_steps.specs.State.{State, edge, drinking}
-use Rattle.edge_word.specs.declared.moves.EdgeMoves.{EdgeMoves}
+use Rattle.legal_steps.specs.State.{edge, drinking}
 use Rattle.edge_word.specs.Moves.{events_of}
-use Rattle.locality.specs.History.{learned_all}
 use Rattle.edge_rule.specs.DeskView.{DeskView, Adds, known, shown, waited, noted}
 use Rattle.locality.specs.Patience.{is_waiting}
 use Rattle.session_layer.specs.declared.turning.Visited.{Visited}

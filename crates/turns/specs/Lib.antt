@@ -2,3 +2,4 @@ pub mod Due
 pub mod Acts
 pub mod Turn
 pub mod Turns
+pub mod Laws

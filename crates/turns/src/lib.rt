@@ -1,2 +1,9 @@
 //! What a job does in one turn, as definitions over its own events: which moves are due on an edge, which phase act is due, and turns one after another.
 #![tactic(auto)]
+
+mod laws;
+
+pub use laws::{
+    calm_has_nothing_due, due_is_legal, idle_turn_is_calm, nothing_done_is_idle,
+    nothing_due_is_calm, one_act_is_due, one_group_is_due, stays_calm,
+};

@@ -1,11 +1,10 @@
-use Rattle.std.proofs.Common.{◌≡◌, ℕ, refl, sym, ap, ◌∙◌, inl, inr}
+use Rattle.std.proofs.Common.{refl, inl, inr}
 use Rattle.legal_steps.specs.State.{State}
-use Rattle.lab_plan.specs.LabPlan.{LabPlan}
 use Rattle.legal_steps.specs.Legal.{May}
-use Rattle.legal_steps.specs.declared.event.Event.TheVariants.{Thirst, Hunger, Sit, Leave, Drink, Reach, Act, Quit, Retire, Withdraw}
+use Rattle.legal_steps.specs.declared.event.Event.TheVariants.{Thirst, Hunger, Sit, Leave, Drink, Reach, Quit, Retire, Withdraw}
 use Rattle.edge_rule.specs.DeskView.{DeskView, known}
 use Rattle.turns.specs.Acts.{Counts}
-use Rattle.session_layer.proofs.Firsts.{refused, illegal}
+use Rattle.turns.proofs.Firsts.{refused, illegal}
 use Rattle.session_layer.proofs.acting.phase_due.Goals as goal
 
 pub returns-then-may_quit-clause-first : goal.returns-then-may_quit-clause-first

@@ -1,0 +1,7 @@
+pub mod Taken
+pub mod Faults
+pub mod Counts
+pub mod Runs
+pub mod Replaying
+pub mod Words
+pub mod Tasks

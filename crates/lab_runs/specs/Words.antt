@@ -1,0 +1,38 @@
+-- The words of the command line, the program's own name first.
+use Rattle.std.specs.Prelude.{◌≡◌, ◌⊎◌, ℕ, Bool, true, false, List, [], ◌∷◌, Option, None, Some, Result, Ok, Err, codes, if◌then◌else◌}
+use Rattle.std.specs.Str.{bytes_eq}
+use Rattle.lab_runs.specs.declared.words.Task.{Task}
+use Rattle.lab_runs.specs.declared.words.Task.TheVariants.{Replay, Check, Upgrade}
+use Rattle.lab_runs.specs.declared.words.NoTask.{NoTask}
+use Rattle.lab_runs.specs.declared.words.NoTask.TheVariants.{Help, Refused, NoMemory}
+
+-- the task that a word names
+unfoldable pub task_named : List ℕ → Option Task
+task_named word =
+    if bytes_eq word (codes "replay") then Some Replay
+    else (if bytes_eq word (codes "check") then Some Check
+    else (if bytes_eq word (codes "upgrade") then Some Upgrade
+    else None))
+
+-- the task that some words ask for
+abbrev pub task_of : List (List ℕ) → Option Task
+task_of (name ∷ word ∷ []) = task_named word
+task_of _ = None
+
+-- `--help` is the one word
+abbrev pub asks_for_help : List (List ℕ) → Bool
+asks_for_help (name ∷ word ∷ []) = bytes_eq word (codes "--help")
+asks_for_help _ = false
+
+-- words that ask for a task give it, `--help` gives the help or the want of memory for its text, and all others are refused
+abbrev pub AnswersWords : List (List ℕ) → Result Task NoTask → Type 0
+AnswersWords words (Ok task) = task_of words ≡ Some task
+AnswersWords words (Err (Help text)) = asks_for_help words ≡ true
+AnswersWords words (Err NoMemory) = asks_for_help words ≡ true
+AnswersWords words (Err Refused) = (task_of words ≡ None) × (asks_for_help words ≡ false)
+
+-- the status where the words gave no task: 0 for help that was printed and 4 where it wasn't, 2 for words that are refused, 5 for want of memory
+abbrev pub EndsWithoutTask : NoTask → ℕ → Type 0
+EndsWithoutTask (Help text) status = (status ≡ 0) ⊎ (status ≡ 4)
+EndsWithoutTask Refused status = status ≡ 2
+EndsWithoutTask NoMemory status = status ≡ 5

@@ -1,5 +1,0 @@
-pub mod ReplayReport
-pub mod CountSums
-pub mod RunAnswers
-pub mod Replayed
-pub mod UpgradeStable

@@ -1,0 +1,96 @@
+// Whole runs by their bytes: worked scripts, readers and writers that fail, memory that runs out, and printed texts.
+use lab_runs::{FromRead, Outcome, RunFault, Task, run_task};
+use report::ToWrite;
+use std::alloc::{AllocError, Allocator, Global};
+use std::io::{self, ErrorKind, Read, Write};
+
+mod ends;
+mod memory;
+mod replays;
+mod scripts;
+mod texts;
+
+/// Two jobs, each of which adds 1 on the scale in its one session: nine lines.
+const TWO_ADD: &str = "lab 1\njob a\nsession\nscale add 1\nend\njob b\nsession\nscale add 1\nend\n";
+
+/// A reader of a text, at most `most` bytes a call, that is interrupted once `calls` calls are used.
+#[derive(Drop)]
+struct Pieces<'a> {
+    rest: &'a [u8],
+    most: usize,
+    calls: usize,
+}
+
+impl Read for &mut Pieces<'_> {
+    fn read(&mut self, buffer: &mut [u8]) -> io::Result<usize> {
+        if self.calls == 0 {
+            return Err(io::Error::from(ErrorKind::Interrupted));
+        }
+        self.calls -= 1;
+        let count = self.rest.len().min(buffer.len()).min(self.most);
+        let (front, rest) = self.rest.split_at(count);
+        buffer[..count].copy_from_slice(front);
+        self.rest = rest;
+        Ok(count)
+    }
+}
+
+/// A writer that takes at most `most` bytes a call, and fails, in a flush too, once `calls` calls are used.
+#[derive(Drop)]
+struct Slow {
+    bytes: Vec<u8>,
+    most: usize,
+    calls: usize,
+}
+
+impl Write for &mut Slow {
+    fn write(&mut self, bytes: &[u8]) -> io::Result<usize> {
+        if self.calls == 0 {
+            return Err(io::Error::from(AllocError));
+        }
+        self.calls -= 1;
+        let count = bytes.len().min(self.most);
+        self.bytes.extend_from_slice(&bytes[..count])?;
+        Ok(count)
+    }
+
+    fn flush(&mut self) -> io::Result<()> {
+        if self.calls == 0 {
+            return Err(io::Error::from(AllocError));
+        }
+        Ok(())
+    }
+}
+
+/// What a writer has taken, and what the run answers.
+type Told = (Vec<u8>, Result<Outcome, RunFault>);
+
+/// A run over a text that comes whole and a writer that takes all.
+fn told<A: Allocator + Copy>(alloc: A, out: Global, task: Task, text: &[u8]) -> Told {
+    told_by(alloc, out, task, text, (4096, 1_000_000))
+}
+
+/// The same, where the writer takes at most so many bytes a call and no more calls than these.
+fn told_by<A: Allocator + Copy>(
+    alloc: A,
+    out: Global,
+    task: Task,
+    text: &[u8],
+    writer: (usize, usize),
+) -> Told {
+    let mut pieces = Pieces {
+        rest: text,
+        most: 4096,
+        calls: 1_000_000,
+    };
+    let (most, calls) = writer;
+    let mut slow = Slow {
+        bytes: Vec::new(out),
+        most,
+        calls,
+    };
+    let mut source = FromRead::new(&mut pieces);
+    let mut sink = ToWrite::new(&mut slow);
+    let answer = run_task(task, alloc, &mut source, &mut sink);
+    (slow.bytes, answer)
+}

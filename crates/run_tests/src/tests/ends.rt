@@ -1,0 +1,162 @@
+// Readers and writers that give little, take little, or fail.
+use super::{Pieces, Slow, TWO_ADD, told, told_by};
+use lab_runs::{FromRead, Outcome, RunFault, Source, Task, run_replay};
+use report::ToWrite;
+use std::alloc::Global;
+use std::io::{self, Read};
+use std::process::Abort;
+
+/// What a run reads that gets its text in pieces of at most so many bytes, and is interrupted after these calls.
+fn replay_of(out: Global, text: &[u8], most: usize, calls: usize) -> super::Told {
+    let mut pieces = Pieces {
+        rest: text,
+        most,
+        calls,
+    };
+    let mut slow = Slow {
+        bytes: Vec::new(out),
+        most: 4096,
+        calls: 1_000_000,
+    };
+    let mut source = FromRead::new(&mut pieces);
+    let mut sink = ToWrite::new(&mut slow);
+    let answer = run_replay(out, &mut source, &mut sink);
+    (slow.bytes, answer)
+}
+
+/// The report of two jobs before their first event.
+const REPORT: &[u8] =
+    b"lab 1\ninstrument scale 0\njob a sessions 0 of 1 meals 0 waiting\njob b sessions 0 of 1 meals 0 waiting\nunfinished\n";
+
+/// The script of two jobs in version 2.
+const UPGRADED: &[u8] =
+    b"lab 2\njob a\nsession\nscale add 1\nend\njob b\nsession\nscale add 1\nend\n";
+
+#[test]
+fn pieces_of_any_length(rt: HostRuntime) {
+    for most in [1, 2, 7, 80, 5000usize] {
+        let (bytes, answer) = replay_of(rt.alloc(), TWO_ADD.as_bytes(), most, 1000);
+        assert!(rt; answer == Ok(Outcome::Unfinished), "{most} bytes");
+        assert!(rt; bytes.as_slice() == REPORT, "{most} bytes");
+    }
+}
+
+/// The k-th read fails, for each k up to the one that finds the end.
+#[test]
+fn reader_fails(rt: HostRuntime) {
+    let text = TWO_ADD.as_bytes();
+    for calls in 0..text.len() + 1 {
+        let (bytes, answer) = replay_of(rt.alloc(), text, 1, calls);
+        assert!(rt; answer == Err(RunFault::Read), "after {calls} calls");
+        assert!(rt; bytes.is_empty(), "after {calls} calls");
+    }
+    let (bytes, answer) = replay_of(rt.alloc(), text, 1, text.len() + 1);
+    assert!(rt; answer == Ok(Outcome::Unfinished) && bytes.as_slice() == REPORT);
+}
+
+/// Gives `#` for ever, and counts what it gave.
+#[derive(Drop)]
+struct Hashes {
+    given: u64,
+}
+
+impl Read for &mut Hashes {
+    fn read(&mut self, buffer: &mut [u8]) -> io::Result<usize> {
+        buffer.fill(b'#');
+        self.given = self.given.saturating_add(buffer.len() as u64);
+        Ok(buffer.len())
+    }
+}
+
+#[test]
+fn reader_without_end(rt: HostRuntime) {
+    let mut hashes = Hashes { given: 0 };
+    let mut slow = Slow {
+        bytes: Vec::new(rt.alloc()),
+        most: 4096,
+        calls: 1000,
+    };
+    let mut source = FromRead::new(&mut hashes);
+    let mut sink = ToWrite::new(&mut slow);
+    let answer = run_replay(rt.alloc(), &mut source, &mut sink);
+    assert!(rt; answer == Err(RunFault::TooLong) && slow.bytes.is_empty());
+    assert!(rt; hashes.given == 16_777_217);
+}
+
+/// The first line goes out whole, and the second write fails.
+#[test]
+fn writer_fails(rt: HostRuntime) {
+    let text = TWO_ADD.as_bytes();
+    let (bytes, answer) = told_by(rt.alloc(), rt.alloc(), Task::Replay, text, (4096, 1));
+    assert!(rt; answer == Err(RunFault::Write));
+    assert!(rt; bytes.as_slice() == b"lab 1\n".as_slice());
+}
+
+/// A byte a call: the whole report, and where the k-th call fails, the flush counted, the bytes before it.
+#[test]
+fn writer_takes_a_byte(rt: HostRuntime) {
+    let text = TWO_ADD.as_bytes();
+    for calls in 0..REPORT.len() + 1 {
+        let (bytes, answer) = told_by(rt.alloc(), rt.alloc(), Task::Replay, text, (1, calls));
+        assert!(rt; answer == Err(RunFault::Write), "after {calls} calls");
+        assert!(rt; bytes.as_slice() == &REPORT[..calls], "after {calls} calls");
+    }
+    let (bytes, answer) = told_by(rt.alloc(), rt.alloc(), Task::Replay, text, (1, 1000));
+    assert!(rt; answer == Ok(Outcome::Unfinished) && bytes.as_slice() == REPORT);
+}
+
+/// A run that writes this text, of so many lines: a write of a line that fails is told, and so is the flush behind them.
+fn flushes(rt: &impl Abort, alloc: Global, task: Task, lines: u8, text: &[u8]) {
+    let lines = usize::from(lines);
+    for calls in 0..lines + 1 {
+        let (bytes, answer) = told_by(alloc, alloc, task, TWO_ADD.as_bytes(), (4096, calls));
+        assert!(rt; answer == Err(RunFault::Write), "after {calls} calls");
+        assert!(rt;
+            (bytes.as_slice() == text) == (calls == lines),
+            "after {calls} calls"
+        );
+    }
+    let (bytes, answer) = told_by(alloc, alloc, task, TWO_ADD.as_bytes(), (4096, lines + 1));
+    assert!(rt; answer.is_ok() && bytes.as_slice() == text);
+}
+
+/// Each run goes out a line a call, and then one flush, whose failure is told.
+#[test]
+fn flush_fails(rt: HostRuntime) {
+    flushes(&rt, rt.alloc(), Task::Replay, 5, REPORT);
+    flushes(
+        &rt,
+        rt.alloc(),
+        Task::Check,
+        1,
+        b"ok jobs 2 instruments 1 edges 1 sessions 2 commands 2\n",
+    );
+    flushes(&rt, rt.alloc(), Task::Upgrade, 9, UPGRADED);
+}
+
+#[test]
+fn writer_takes_nothing(rt: HostRuntime) {
+    let text = TWO_ADD.as_bytes();
+    for task in [Task::Replay, Task::Check, Task::Upgrade] {
+        let (bytes, answer) = told_by(rt.alloc(), rt.alloc(), task, text, (0, 1000));
+        assert!(rt; answer == Err(RunFault::Write) && bytes.is_empty());
+    }
+}
+
+/// A source is read to its end, and gives nothing more there.
+#[test]
+fn source_reads(rt: HostRuntime) {
+    let mut pieces = Pieces {
+        rest: b"lamp",
+        most: 3,
+        calls: 3,
+    };
+    let mut source = FromRead::new(&mut pieces);
+    let mut buffer = [0u8; 8];
+    assert!(rt; source.read(&mut buffer) == Ok(3) && &buffer[..3] == b"lam".as_slice());
+    assert!(rt; source.read(&mut buffer) == Ok(1) && buffer[0] == b'p');
+    assert!(rt; source.read(&mut buffer) == Ok(0) && source.read(&mut buffer).is_err());
+    let (bytes, answer) = told(rt.alloc(), rt.alloc(), Task::Replay, b"lab 2\n");
+    assert!(rt; answer == Ok(Outcome::Finished));
+    assert!(rt; bytes.as_slice() == b"lab 2\nfinished\n".as_slice());
+}

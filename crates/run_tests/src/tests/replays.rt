@@ -1,0 +1,128 @@
+// Replays of worked scripts.
+use super::{TWO_ADD, told};
+use lab_runs::{Outcome, RunFault, Task};
+use script_reader::{ScriptCause, ScriptFault};
+use std::test::Fail;
+
+const NO_HEADER: RunFault = RunFault::Script(ScriptFault {
+    line: 1,
+    cause: ScriptCause::NoHeader,
+});
+
+/// The script of two jobs, of which the first has a second session: twelve lines, and `steps`.
+const TWO_SESSIONS: &str =
+    "lab 1\njob a\nsession\nscale add 1\nend\nsession\nscale add 1\nend\njob b\nsession\nscale add 1\nend\nsteps\n";
+
+/// The first job looks, the second asks for the fork, and the first starts its meal by the mark that it has.
+const STALE_MARK: [&str; 16] = [
+    "thirst a\n",
+    "hunger a\n",
+    "thirst b\n",
+    "hunger b\n",
+    "look a b\n",
+    "askfork b a\n",
+    "sit a\n",
+    "drink a\n",
+    "look a b\n",
+    "reach a\n",
+    "act a\n",
+    "quit a\n",
+    "leave a\n",
+    "thirst a\n",
+    "hunger a\n",
+    "look a b\n",
+];
+
+const STALE_MARK_REPORT: &str =
+    "lab 1\ninstrument scale 1\na 1 1/1 add 1 = 1\njob a sessions 1 of 2 meals 1 waiting\njob b sessions 0 of 1 meals 0 waiting\nunfinished\n";
+
+#[test]
+fn empty_input(rt: HostRuntime) {
+    let (bytes, answer) = told(rt.alloc(), rt.alloc(), Task::Replay, b"");
+    assert!(rt; answer == Err(NO_HEADER) && bytes.is_empty());
+}
+
+#[test]
+fn header_alone(rt: HostRuntime) {
+    let (bytes, answer) = told(rt.alloc(), rt.alloc(), Task::Replay, b"lab 1");
+    assert!(rt; answer == Ok(Outcome::Finished));
+    assert!(rt; bytes.as_slice() == b"lab 1\nfinished\n".as_slice());
+}
+
+#[test]
+fn eats_before_drinking(rt: HostRuntime) -> Result<(), Fail> {
+    let text = format!(in rt.alloc(); "{TWO_ADD}steps\nthirst a\nhunger a\nlook a b\nsit a\n")?;
+    let (bytes, answer) = told(rt.alloc(), rt.alloc(), Task::Replay, text.as_bytes());
+    assert!(rt; answer == Ok(Outcome::Unfinished));
+    assert!(rt;
+        bytes.as_slice()
+            == b"lab 1\ninstrument scale 0\njob a sessions 0 of 1 meals 1 waiting\njob b sessions 0 of 1 meals 0 waiting\nunfinished\n".as_slice()
+    );
+    Ok(())
+}
+
+#[test]
+fn illegal_step(rt: HostRuntime) -> Result<(), Fail> {
+    let text = format!(in rt.alloc(); "{TWO_ADD}steps\nthirst a\nhunger a\nsit a\n")?;
+    let (bytes, answer) = told(rt.alloc(), rt.alloc(), Task::Replay, text.as_bytes());
+    assert!(rt; answer == Err(RunFault::Step { line: 13 }) && bytes.is_empty());
+    Ok(())
+}
+
+/// The second meal has to wait for the look that sees the request: line 30 is not legal.
+#[test]
+fn stale_mark(rt: HostRuntime) -> Result<(), Fail> {
+    let mut text = String::from_str(rt.alloc(), TWO_SESSIONS)?;
+    for line in STALE_MARK {
+        text.push_str(line)?;
+    }
+    let (bytes, answer) = told(rt.alloc(), rt.alloc(), Task::Replay, text.as_bytes());
+    assert!(rt; answer == Ok(Outcome::Unfinished));
+    assert!(rt; bytes.as_slice() == STALE_MARK_REPORT.as_bytes());
+    text.push_str("sit a\n")?;
+    let (bytes, answer) = told(rt.alloc(), rt.alloc(), Task::Replay, text.as_bytes());
+    assert!(rt; answer == Err(RunFault::Step { line: 30 }) && bytes.is_empty());
+    Ok(())
+}
+
+/// A step that is never legal there is named by its line, wherever it stands.
+#[test]
+fn stale_mark_with_a_step_put_in(rt: HostRuntime) -> Result<(), Fail> {
+    for place in 0..17usize {
+        let mut text = String::from_str(rt.alloc(), TWO_SESSIONS)?;
+        for line in &STALE_MARK[..place] {
+            text.push_str(line)?;
+        }
+        text.push_str("act b\n")?;
+        for line in &STALE_MARK[place..] {
+            text.push_str(line)?;
+        }
+        let (bytes, answer) = told(rt.alloc(), rt.alloc(), Task::Replay, text.as_bytes());
+        assert!(rt;
+            answer == Err(RunFault::Step { line: 14 + place }),
+            "place {place}"
+        );
+        assert!(rt; bytes.is_empty(), "place {place}");
+    }
+    Ok(())
+}
+
+/// The first job gives the fork that was asked for, the second eats, and then the first its second meal.
+#[test]
+fn stale_mark_goes_on(rt: HostRuntime) -> Result<(), Fail> {
+    let mut text = String::from_str(rt.alloc(), TWO_SESSIONS)?;
+    for line in STALE_MARK {
+        text.push_str(line)?;
+    }
+    text.push_str(
+        "givefork a b\nlook b a\nsit b\naskbottles b a scale\ngivebottles a b scale\nlook b a\ndrink b\naskfork a b\n",
+    )?;
+    text.push_str("soil b a\nleave b\ngivefork b a\nlook a b\nsit a\n")?;
+    let (bytes, answer) = told(rt.alloc(), rt.alloc(), Task::Replay, text.as_bytes());
+    assert!(rt; answer == Ok(Outcome::Unfinished));
+    assert!(rt;
+        bytes.as_slice()
+            == b"lab 1\ninstrument scale 1\na 1 1/1 add 1 = 1\njob a sessions 1 of 2 meals 2 waiting\njob b sessions 0 of 1 meals 1 waiting\nunfinished\n".as_slice()
+    );
+    Ok(())
+}

@@ -1,0 +1,118 @@
+// What no contract says: the words of command lines, the text of the help, and the texts and statuses of faults.
+use lab_runs::{NoTask, Outcome, RunFault, Task, read_words, status_of};
+use script_reader::{ScriptCause, ScriptFault};
+use std::test::Fail;
+
+fn is_told(answer: &Result<Task, NoTask>, want: Option<Task>) -> bool {
+    match (answer, want) {
+        (Ok(task), Some(wanted)) => *task == wanted,
+        (Err(NoTask::Refused), None) => true,
+        _ => false,
+    }
+}
+
+#[test]
+fn words(rt: HostRuntime) {
+    let lines = [
+        (["labrun", "replay"].as_slice(), Some(Task::Replay)),
+        (["./labrun", "check"].as_slice(), Some(Task::Check)),
+        (["", "upgrade"].as_slice(), Some(Task::Upgrade)),
+        ([].as_slice(), None),
+        (["labrun"].as_slice(), None),
+        (["labrun", ""].as_slice(), None),
+        (["labrun", "repla"].as_slice(), None),
+        (["labrun", "Replay"].as_slice(), None),
+        (["labrun", "rounds"].as_slice(), None),
+        (["labrun", "rounds", "7"].as_slice(), None),
+        (["labrun", "threads", "2", "7"].as_slice(), None),
+        (["labrun", "replay", "x"].as_slice(), None),
+        (["labrun", "replay", "--"].as_slice(), None),
+        (["labrun", "--", "replay"].as_slice(), None),
+        (["labrun", "check", "upgrade"].as_slice(), None),
+        (["labrun", "-h"].as_slice(), None),
+        (["labrun", "--hel"].as_slice(), None),
+        (["labrun", "--help=x"].as_slice(), None),
+        (["labrun", "--help", "replay"].as_slice(), None),
+        (["labrun", "replay", "--help"].as_slice(), None),
+        (["labrun", "--version"].as_slice(), None),
+        (["labrun", "help"].as_slice(), None),
+    ];
+    for (i, (words, want)) in lines.into_iter().enumerate() {
+        let answer = read_words(rt.alloc(), words);
+        assert!(rt; is_told(&answer, want), "line {i}");
+    }
+}
+
+const HELP: &str = "Runs command scripts on the simulated instruments of a shared laboratory
+
+Usage: labrun <COMMAND>
+
+Commands:
+  replay   read a script and its steps, take each step where it is legal, print the report
+  check    read a script and print its counts
+  upgrade  read a script of either version and print it in version 2
+
+Options:
+      --help  print this help
+
+The script comes from standard input, at most 16777216 bytes. What is printed goes to
+standard output, and a fault in one line to standard error.
+
+Statuses:
+  0  replay: every job is retired; check, upgrade, --help: done
+  1  the script or a step is refused; the fault names its line
+  2  the command line is refused
+  3  replay: a job still waits
+  4  reading or writing failed, or the input is longer than 16777216 bytes
+  5  no memory
+
+Example: a script of one job, and a step with which it begins its session
+  printf 'lab 1\\njob a\\nsession\\nscale add 1\\nend\\nsteps\\nthirst a\\n' | labrun replay
+";
+
+#[test]
+fn help(rt: HostRuntime) {
+    let text = match read_words(rt.alloc(), &["labrun", "--help"]) {
+        Err(NoTask::Help(text)) => text,
+        _ => String::new(rt.alloc()),
+    };
+    assert!(rt; text.as_str() == HELP, "{text}");
+}
+
+fn script_fault(line: usize, cause: ScriptCause) -> RunFault {
+    RunFault::Script(ScriptFault { line, cause })
+}
+
+#[test]
+fn faults(rt: HostRuntime) -> Result<(), Fail> {
+    let faults = [
+        (
+            script_fault(1, ScriptCause::NoHeader),
+            1,
+            "line 1: S1 no lab header",
+        ),
+        (
+            script_fault(603, ScriptCause::NoMemory),
+            5,
+            "line 603: S12 no memory",
+        ),
+        (
+            script_fault(9, ScriptCause::BadStep),
+            1,
+            "line 9: S13 bad step",
+        ),
+        (RunFault::Step { line: 13 }, 1, "line 13: step is not legal"),
+        (RunFault::Read, 4, "read fault"),
+        (RunFault::TooLong, 4, "input longer than 16777216 bytes"),
+        (RunFault::Write, 4, "write fault"),
+        (RunFault::NoMemory, 5, "no memory"),
+    ];
+    for (fault, status, text) in faults {
+        let printed = format!(in rt.alloc(); "{fault}")?;
+        assert!(rt; printed.as_str() == text, "{text}");
+        assert!(rt; status_of(&Err(fault)) == status, "{text}");
+    }
+    assert!(rt; status_of(&Ok(Outcome::Finished)) == 0);
+    assert!(rt; status_of(&Ok(Outcome::Unfinished)) == 3);
+    Ok(())
+}

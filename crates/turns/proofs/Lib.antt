@@ -1,0 +1,8 @@
+pub mod Sets
+pub mod Stages
+pub mod ForkGuards
+pub mod DueMoves
+pub mod Firsts
+pub mod OwnEdges
+pub mod Calm
+pub mod Idle

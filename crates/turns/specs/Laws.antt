@@ -1,0 +1,60 @@
+-- What holds of the moves and acts that are due, and of a turn in which nothing is done.
+use Rattle.std.specs.Prelude.{◌≡◌, ℕ, ◌+◌, ◌<◌, true, List, [], length, map}
+use Rattle.lab_plan.specs.LabPlan.{LabPlan, edges_of}
+use Rattle.legal_steps.specs.declared.event.Event.{Event}
+use Rattle.legal_steps.specs.declared.event.Event.TheVariants.{Look}
+use Rattle.legal_steps.specs.State.{State, IsOwn, edge, phase}
+use Rattle.legal_steps.specs.Run.{IsLegalFrom}
+use Rattle.edge_word.specs.declared.moves.EdgeMoves.{EdgeMoves}
+use Rattle.edge_word.specs.Moves.{events_of}
+use Rattle.locality.specs.History.{learned_all}
+use Rattle.turns.specs.Due.{AreDue, IsCalm, is_nothing, no_moves}
+use Rattle.turns.specs.Acts.{AreActs}
+use Rattle.turns.specs.Turn.{Visit, is_done, is_lost, count, once, IsTurnBy, IsIdleTurn}
+
+-- ---- what is due on an edge
+
+-- the moves that are due are legal, one after another
+abbrev pub DueIsLegal : Type 0
+DueIsLegal = (plan : LabPlan) (s : State) (j e : ℕ) (m : EdgeMoves) → e < length s.edges → j < length s.seats → IsOwn plan j e → AreDue plan s j e m → IsLegalFrom plan s (events_of m j e)
+
+-- they are one group
+abbrev pub OneGroupIsDue : Type 0
+OneGroupIsDue = (plan : LabPlan) (s : State) (j e : ℕ) (m r : EdgeMoves) → AreDue plan s j e m → AreDue plan s j e r → m ≡ r
+
+-- where nothing is due, nothing is legal
+abbrev pub NothingDueIsCalm : Type 0
+NothingDueIsCalm = (plan : LabPlan) (s : State) (j e : ℕ) (m : EdgeMoves) → AreDue plan s j e m → is_nothing m ≡ true → IsCalm plan s j e
+
+-- and the other way: what a memo of calm edges rests on
+abbrev pub CalmHasNothingDue : Type 0
+CalmHasNothingDue = (plan : LabPlan) (s : State) (j e : ℕ) → IsOwn plan j e → IsCalm plan s j e → AreDue plan s j e no_moves
+
+-- calm is a matter of the own phase and of that edge alone
+abbrev pub StaysCalm : Type 0
+StaysCalm = (plan : LabPlan) (s t : State) (j e : ℕ) → edge t e ≡ edge s e → phase t j ≡ phase s j → IsCalm plan s j e → IsCalm plan t j e
+
+-- ---- which phase act is due
+
+-- the phase act that is due is one
+abbrev pub OneActIsDue : Type 0
+OneActIsDue = (plan : LabPlan) (s : State) (j waited : ℕ) (a b : List Event) → AreActs plan s j waited a → AreActs plan s j waited b → a ≡ b
+
+-- ---- a turn in which nothing is done
+
+-- these are looks alone, one at each own edge; after them each own edge is calm by what was seen, the phase is as before, and no phase act counts as legal
+pub record LeavesCalm (plan : LabPlan) (j waited : ℕ) (s : State) (events : List Event) : Type 0 where
+  pub visits : List Visit
+  pub edges : map (λ (v : Visit). v.edge) visits ≡ edges_of plan j
+  pub looks : events ≡ map (λ (v : Visit). Look j v.edge v.saw) visits
+  pub calm : (e : ℕ) → IsOwn plan j e → IsCalm plan (learned_all plan s events) j e
+  pub phase_stays : phase (learned_all plan s events) j ≡ phase s j
+  pub no_act : AreActs plan (learned_all plan s events) j waited []
+
+-- a turn in which nothing was done and no exchange was lost is an idle turn
+abbrev pub NothingDoneIsIdle : Type 0
+NothingDoneIsIdle = (plan : LabPlan) (j waited : ℕ) (s : State) (visits : List Visit) (acts events : List Event) → IsTurnBy plan j waited s visits acts events → count is_done visits + once acts ≡ 0 → count is_lost visits ≡ 0 → IsIdleTurn plan j waited s events
+
+-- after an idle turn each own edge is calm
+abbrev pub IdleTurnIsCalm : Type 0
+IdleTurnIsCalm = (plan : LabPlan) (j waited : ℕ) (s : State) (events : List Event) → IsIdleTurn plan j waited s events → LeavesCalm plan j waited s events
