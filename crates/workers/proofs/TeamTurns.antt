@@ -1,5 +1,7 @@
 -- Lists of desks that took turns.
-use Rattle.std.proofs.Common.{◌≡◌, ℕ, zero, suc, ◌+◌, ◌<◌, ◌≤◌, ◌⊎◌, inl, inr, ⊎_elim, Bool, true, List, [], ◌∷◌, ◌++◌, length, get_or, set, refl, sym, ap, ◌∙◌, subst, arith, add-one}
+use Rattle.std.specs.Fork.{slice_chunk}
+use Rattle.std.proofs.lemmas.List.{length-drop, take-append-drop, drop-drop}
+use Rattle.std.proofs.Common.{take, drop, ◌*◌, ◌≡◌, ℕ, zero, suc, ◌+◌, ◌<◌, ◌≤◌, ◌⊎◌, inl, inr, ⊎_elim, Bool, true, List, [], ◌∷◌, ◌++◌, length, get_or, set, refl, sym, ap, ◌∙◌, subst, arith, add-one}
 use Rattle.legal_steps.specs.declared.phase.JobState.{JobState}
 use Rattle.legal_steps.specs.declared.event.Event.{Event}
 use Rattle.locality.specs.Lists.{Each}
@@ -10,14 +12,11 @@ use Rattle.session_layer.specs.declared.turning.Turned.{Turned}
 use Rattle.session_layer.specs.Turn.{Took}
 use Rattle.session_layer.specs.Grown.{Grew, TookTurns}
 use Rattle.session_layer.proofs.Grows as grows
-use Rattle.workers.specs.Temp.{AllRetired, Glanced, glances}
+use Rattle.session_layer.specs.Retired.{AllRetired, Glanced, glances}
+use Rattle.session_layer.proofs.Glances.{glances_none}
 use Rattle.workers.specs.Team.{TookUpTo, Pairs, Worked}
 
 -- ---- one desk
-
-glances_gone : (j : ℕ) (saw : List (ℕ × JobState)) → but_glances (glances j saw) ≡ []
-glances_gone j [] = refl
-glances_gone j (s ∷ saw) = glances_gone j saw
 
 pub took_none : (d : DeskView) → TookTurns 0 d d
 took_none d = grows.glances_alone d d [] (grows.grew_none d) refl refl
@@ -29,7 +28,7 @@ none_more : (n : ℕ) → n + 0 ≡ n
 none_more n = omega arith
 
 pub took_glanced : (n : ℕ) (d m e : DeskView) (r : Bool) → TookTurns n d m → Glanced m r e → TookTurns n d e
-took_glanced n d m e r a t = subst (λ k. TookTurns k d e) (none_more n) (grows.turns_go_on n 0 d m e a (grows.glances_alone m e (glances m.job t.saw) t.grew (glances_gone m.job t.saw) t.clock))
+took_glanced n d m e r a t = subst (λ k. TookTurns k d e) (none_more n) (grows.turns_go_on n 0 d m e a (grows.glances_alone m e (glances m.job t.saw) t.grew (glances_none m.job t.saw) t.clock))
 
 pub took_owns : (b : BenchView) (n : ℕ) (d e : DeskView) → TookTurns n d e → Owns b d → Owns b e
 took_owns b n d e t o = (t.grew.table ∙ o.0, t.grew.plan ∙ o.1)
@@ -155,5 +154,53 @@ worked_both turns a a' b b' s t = let Seen : DeskView → Type 0 = λ e. AllReti
       (λ (f : Any Seen a'). inr (any_left Seen a' b' f)) s.full;
 }
 
-pub worked_from : (turns : ℕ) (old new a a' b b' : List DeskView) → old ≡ a ++ b → new ≡ a' ++ b' → Worked turns a a' → Worked turns b b' → Worked turns old new
-worked_from turns old new a a' b b' was is s t = subst (λ (z : List DeskView × List DeskView). Worked turns z.0 z.1) (λ i. (sym was i, sym is i)) (worked_both turns a a' b b' s t)
+pub worked_none : (turns : ℕ) → Worked turns [] []
+worked_none turns = record { took = refl; full = inl refl }
+
+-- ---- chunks
+
+module _ {A : Type 0} (P : A → Type 0) where
+  pub each_take : (n : ℕ) (l : List A) → Each P l → Each P (take n l)
+  each_take zero l e = tt
+  each_take (suc n) [] e = tt
+  each_take (suc n) (x ∷ l) e = (e.0, each_take n l e.1)
+
+  pub each_drop : (n : ℕ) (l : List A) → Each P l → Each P (drop n l)
+  each_drop zero l e = e
+  each_drop (suc n) [] e = tt
+  each_drop (suc n) (x ∷ l) e = each_drop n l e.1
+
+abbrev W : ℕ → List DeskView → List DeskView → Type 0
+W turns old new = Worked turns old new
+
+-- the first chunk, and the others
+chunks_from : (turns size fuel : ℕ) (old new : List DeskView) → 0 < size → length old ≤ fuel → length new ≡ length old
+    → ((n : ℕ) → n * size < length old → Worked turns (slice_chunk old size n) (slice_chunk new size n)) → Worked turns old new
+chunks_from turns size fuel [] [] some few same each = worked_none turns
+chunks_from turns size fuel [] (e ∷ new) some few same each = absurd (omega arith)
+chunks_from turns size zero (d ∷ old) new some few same each = absurd (omega arith)
+chunks_from turns size (suc fuel) (d ∷ old) new some few same each =
+    let xs : List DeskView = d ∷ old in let one = length-drop size xs in let two = length-drop size new in
+    subst (λ (z : List DeskView × List DeskView). Worked turns z.0 z.1) (λ i. (take-append-drop size xs i, take-append-drop size new i))
+    (worked_both turns (take size xs) (take size new) (drop size xs) (drop size new)
+    (first (each 0 (omega arith)))
+    (chunks_from turns size fuel (drop size xs) (drop size new) some (omega arith) (omega arith) (λ n l. later n (each (suc n) (past n l))))) where
+  first : Worked turns (slice_chunk (d ∷ old) size 0) (slice_chunk new size 0) → Worked turns (take size (d ∷ old)) (take size new)
+  first w = subst (λ (k : ℕ). Worked turns (take size (drop k (d ∷ old))) (take size (drop k new))) nothing w where
+    nothing : 0 * size ≡ 0
+    nothing = omega arith
+
+  past : (n : ℕ) → n * size < length (drop size (d ∷ old)) → suc n * size < length (d ∷ old)
+  past n l = let one = length-drop size (d ∷ old) in let m = next n in omega (arith, l, one, m) where
+    next : (n : ℕ) → suc n * size ≡ size + n * size
+    next n = omega arith
+
+  later : (n : ℕ) → Worked turns (slice_chunk (d ∷ old) size (suc n)) (slice_chunk new size (suc n)) → Worked turns (slice_chunk (drop size (d ∷ old)) size n) (slice_chunk (drop size new) size n)
+  later n w = subst (λ (z : List DeskView × List DeskView). Worked turns (take size z.0) (take size z.1)) (λ i. (sym (at (d ∷ old)) i, sym (at new) i)) w where
+    at : (l : List DeskView) → drop (n * size) (drop size l) ≡ drop (suc n * size) l
+    at l = drop-drop (n * size) size l ∙ ap (λ k. drop k l) next where
+      next : size + n * size ≡ suc n * size
+      next = omega arith
+
+pub chunks_worked : (turns size : ℕ) (old new : List DeskView) → 0 < size → length new ≡ length old → ((n : ℕ) → n * size < length old → Worked turns (slice_chunk old size n) (slice_chunk new size n)) → Worked turns old new
+chunks_worked turns size old new some same each = chunks_from turns size (length old) old new some (omega arith) same each

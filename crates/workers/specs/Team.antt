@@ -5,9 +5,10 @@ use Rattle.edge_rule.specs.DeskView.{DeskView, BenchView}
 use Rattle.edge_rule.specs.Company.{jobs_of}
 use Rattle.edge_rule.specs.Ending.{Any, HasAll}
 use Rattle.session_layer.specs.Grown.{TookTurns}
-use Rattle.workers.specs.Temp.{AllRetired, first_front, Company, all_retired}
-use Rattle.workers.specs.declared.temp.Ended.{Ended}
-use Rattle.workers.specs.declared.temp.Ended.TheVariants as Ends
+use Rattle.session_layer.specs.Retired.{AllRetired}
+use Rattle.rounds.specs.Company.{first_front, Company, all_retired}
+use Rattle.rounds.specs.declared.ended.Ended.{Ended}
+use Rattle.rounds.specs.declared.ended.Ended.TheVariants as Ends
 
 -- the desk took at most so many turns
 abbrev pub TookUpTo : ℕ → DeskView → DeskView → Type 0

@@ -8,8 +8,8 @@ ghost use Rattle.workers.specs.Team.{Threaded};
 
 use crate::gate::Gate;
 use crate::teams::in_teams;
-use crate::temp::{Ended, all_retired};
 use edge_rule::{Bench, Desk, meet_all};
+use rounds::{Ended, all_retired};
 use std::alloc::Allocator;
 use std::thread::Threads;
 
@@ -48,11 +48,11 @@ fn drive<R: Threads + Sync, S: Allocator, A: Allocator + Send + Sync, G: Gate>(
     if sorted.is_err() {
         return Ended::NoMemory;
     }
-    in_teams(rt, bench, gate, workers, 0, workers, turns, desks);
+    in_teams(rt, bench, gate, workers, turns, desks);
     desks.sort_unstable_by_key(|desk| desk.job().0);
     meet_all(bench, desks);
     at_rest(desks);
-    if all_retired(bench, desks) {
+    if all_retired(desks) {
         return Ended::AllRetired;
     }
     Ended::Limit

@@ -4,7 +4,6 @@
 mod driving;
 mod gate;
 mod teams;
-mod temp;
 
 pub use driving::threads;
 pub use gate::{Gate, NoGate};
