@@ -1,10 +1,10 @@
 -- A desk that has reached, and has the log of its instrument in hand.
-use Rattle.std.proofs.Common.{◌≡◌, ◌≢◌, ℕ, ◌+◌, ◌*◌, ◌^◌, ◌<◌, ◌≤◌, List, [], ◌∷◌, ◌++◌, length, get_or, refl, sym, ap, ◌∙◌, subst, inl, inr, arith}
+use Rattle.std.proofs.Common.{◌≡◌, ℕ, ◌+◌, ◌<◌, List, [], ◌∷◌, ◌++◌, length, get_or, refl, sym, ap, ◌∙◌, subst, inl, inr, arith}
 use mathlib.Core.Option.{none}
-use Rattle.atomic_table.specs.Table.{Me, step, rest, Allows}
+use Rattle.atomic_table.specs.Table.{step, rest, Allows}
 use Rattle.atomic_table.specs.declared.shared.Seat.{Seat as TableSeat}
 use Rattle.lab_plan.specs.declared.verb.Verb.{Verb}
-use Rattle.lab_plan.specs.LabPlan.{LabPlan, edges, sessions, commands, command_at}
+use Rattle.lab_plan.specs.LabPlan.{LabPlan, commands, command_at}
 use Rattle.lab_plan.specs.IsPlan.{IsPlan}
 use Rattle.instrument_log.specs.declared.entry.Entry.{Entry}
 use Rattle.instrument_log.specs.Dial.{turned, dial}
@@ -18,7 +18,7 @@ use Rattle.legal_steps.specs.declared.event.Event.TheVariants.{Reach, Act}
 use Rattle.legal_steps.specs.State.{Seat, State, seat, phase, drinking, log}
 use Rattle.legal_steps.specs.Legal.{May, IsJob, next_command, next_entry}
 use Rattle.legal_steps.specs.Opening.{the_opening}
-use Rattle.legal_steps.specs.WholeLogs.{room_of, ended_sessions}
+use Rattle.legal_steps.specs.WholeLogs.{ended_sessions}
 use Rattle.legal_steps.proofs.LogRun.{IsLogged, logged}
 use Rattle.legal_steps.proofs.AppendLaw.{act_appends_logged, within_limits_logged, next_value}
 use Rattle.legal_steps.proofs.ReachedLaws.{the_opening_is_acyclic}
@@ -30,9 +30,12 @@ use Rattle.edge_rule.specs.declared.bench.Bench.TheInside as bench_fields
 use Rattle.edge_rule.specs.Filling.{entry_after, IsAtCommand}
 use Rattle.locality.specs.History.{learned_all, known_by, state_after, events_by, IsHistory}
 use Rattle.one_history.specs.Rule.{phase_place, word_count, log_view, Kept}
-use Rattle.one_history.specs.Grow.{hand_in, adding, mine, seen_state, Grows, Does, own_phase, next_instrument, reached, acted}
-use Rattle.edge_rule.specs.DeskView.{DeskView, Owns, Adds, Commanded, known, shown}
-use Rattle.edge_rule.specs.DeskInside.{seat_view, view_of, kept, AreOfPlan, AtRest, IsDesk}
+use Rattle.one_history.specs.Grow.{hand_in, adding, mine, Does, own_phase, next_instrument, reached, acted}
+use Rattle.edge_rule.specs.DeskView.{DeskView, Owns, Adds, Commanded, known}
+use Rattle.edge_rule.specs.declared.counts.Counts.{Counts}
+use Rattle.edge_rule.specs.Counting.{counts_of}
+use Rattle.edge_rule.proofs.CountsKept.{counts_stay}
+use Rattle.edge_rule.specs.DeskInside.{seat_view, view_of, kept, AreOfPlan, AtRest, IsDesk, fixed}
 use Rattle.edge_rule.specs.BenchInside.{bench_of, IsBench}
 use Rattle.locality.specs.Changes.{seat_after}
 use Rattle.locality.proofs.Frame.{learned_seat}
@@ -215,18 +218,21 @@ module _ {A : Type 0} (b : bench_fields.Inside A) (d : Inside A) (is_bench : IsB
       abbrev w : View
       w = d'.seat.me.0
 
-      pub commanded : d'.seat.me.1 ≡ [] → d'.job ≡ d.job → kept d' ≡ record (kept d) { phase = record d.phase { drinking = Drinks; position = d.phase.position + 1 } } → d'.seen.items ≡ d.seen.items → IsDesk d'
-      commanded empty job own seen =
+      pub commanded : d'.seat.me.1 ≡ [] → fixed d' ≡ fixed d → kept d' ≡ record (kept d) { phase = record d.phase { drinking = Drinks; position = d.phase.position + 1 } } → d'.seen.items ≡ d.seen.items → IsDesk d'
+      commanded empty same own seen =
           let here = ok.at_rest.inside in
           let x2 : hand_in w ≡ adding (hand_in v1) (Act (hand_in v1).job ∷ []) = hand_grown v1 w (Act (hand_in v1).job ∷ []) did.hands in
           let job2 : (hand_in w).job ≡ cj = ap (λ (q : Hand). q.job) x2 ∙ ap (λ (q : Hand). q.job) x1 in
+          let deeds2 : (hand_in w).deeds ≡ ((hand_in cv).deeds ++ Reach cj ∷ []) ++ Act cj ∷ [] = ap (λ (q : Hand). q.deeds) x2 ∙ (λ r. (x1 r).deeds ++ Act (x1 r).job ∷ []) in
           let plan2 : (hand_in w).plan ≡ cp = ap (λ (q : Hand). q.plan) x2 ∙ ap (λ (q : Hand). q.plan) x1 in
           let mine2 : mine w ≡ learned_all cp (mine v1) (Act cj ∷ []) = mine_grown v1 w (Act (hand_in v1).job ∷ []) did ∙ (λ r. learned_all (x1 r).plan (mine v1) (Act (x1 r).job ∷ [])) in
           let seats : length (mine v1).seats ≡ length cp.jobs = mine_seats v1 ∙ ap (λ (q : Hand). length q.plan.jobs) x1 in
           record {
             at_rest = rest_grown v1 w (Act (hand_in v1).job ∷ []) rests1 did;
             empty = empty;
-            job = job2 ∙ (ok.job ∙ sym job);
+            job = job2 ∙ (ok.job ∙ sym (ap (λ (z : ℕ × Counts). z.0) same));
+            counts = (λ r. counts_of (job2 r) (deeds2 r)) ∙ (counts_stay cj ((hand_in cv).deeds ++ Reach cj ∷ []) (Act cj ∷ []) ((refl, refl, refl), tt)
+                ∙ (counts_stay cj (hand_in cv).deeds (Reach cj ∷ []) ((refl, refl, refl), tt) ∙ (ok.counts ∙ sym (ap (λ (z : ℕ × Counts). z.1) same))));
             own = (λ r. seat (mine2 r) (job2 r)) ∙ (learned_seat cp (mine v1) (Act cj) (omega arith) ∙ (ap (λ (q : Seat). seat_after cp q (Act cj)) seat1 ∙ sym own));
             seen = ap (λ (q : State). q.edges) mine2 ∙ (ap (λ (q : State). q.edges) mine1 ∙ (ok.seen ∙ sym seen));
             of_plan = subst (λ (q : LabPlan × List EdgeState). AreOfPlan q.0 q.1) (λ r. (sym plan2 r, sym seen r)) ok.of_plan;

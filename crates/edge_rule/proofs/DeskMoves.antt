@@ -1,14 +1,15 @@
 -- A desk after moves on an edge, and after a phase was stored.
-use Rattle.std.proofs.Common.{◌≡◌, ◌≢◌, ℕ, zero, suc, ◌+◌, ◌*◌, ◌/◌, ◌^◌, ◌<◌, ◌≤◌, ◌==◌, not, if◌then◌else◌, eqb, Bool, true, false, List, [], ◌∷◌, ◌++◌, length, get_or, set, replicate, bit_xor, bit_and, refl, sym, ap, ◌∙◌, subst, inl, inr, arith, length-set, set-set, get_or-set_same}
+use Rattle.std.proofs.Common.{◌≡◌, ◌≢◌, ℕ, zero, suc, ◌/◌, ◌<◌, ◌≤◌, ◌==◌, not, if◌then◌else◌, eqb, Bool, true, false, List, [], ◌∷◌, length, get_or, set, replicate, bit_xor, bit_and, refl, sym, ap, ◌∙◌, subst, inl, inr, arith, length-set, set-set, get_or-set_same}
 use Rattle.std.proofs.lemmas.List.{set-get_or}
 use Rattle.std.proofs.lemmas.Bool.{cases_eq}
 use Rattle.std.proofs.lemmas.Bool.Decides.{nat_tests}
 use Rattle.std.specs.Int.Bits.{xor_zero_r, and_zero_r}
 use mathlib.Core.Option.{none}
 use prog.Atomic.{either}
-use Rattle.atomic_table.specs.Table.{Me, step, Allows}
+use Rattle.atomic_table.specs.Table.{step, Allows}
 use Rattle.atomic_table.specs.declared.shared.Seat.{Seat as TableSeat}
 use Rattle.lab_plan.specs.LabPlan.{LabPlan, edges, bottles, sessions, commands}
+use Rattle.lab_plan.specs.IsPlan.{IsPlan}
 use Rattle.instrument_log.specs.InstrumentLog.{LogView}
 use Rattle.legal_steps.specs.declared.edge_state.EdgeState.{EdgeState}
 use Rattle.legal_steps.specs.declared.phase.JobState.{JobState}
@@ -26,7 +27,6 @@ use Rattle.edge_word.proofs.WordBits.{no_two_edges}
 use Rattle.edge_word.proofs.WordLemmas.{IsOfBottles-28, AreOfBottles-28}
 use Rattle.edge_word.proofs.MoveLaws.{moves_lead, read_back, stays_of_its_bottles, legal_moves_are_of_the_edge}
 use Rattle.edge_word.proofs.PhaseLemmas.{phase_of-phase_word_of}
-use Rattle.one_history.specs.declared.board.Hand.{Hand}
 use Rattle.one_history.specs.declared.board.View.{View}
 use Rattle.one_history.specs.declared.phase_event.PhaseEvent.{PhaseEvent}
 use Rattle.one_history.specs.declared.phase_event.PhaseEvent.TheVariants as phase_events
@@ -34,21 +34,22 @@ use Rattle.edge_rule.specs.declared.desk.Desk.TheInside.{Inside}
 use Rattle.edge_rule.specs.declared.bench.Bench.TheInside as bench_fields
 use Rattle.one_history.specs.PhaseEvents.{event_of, phase_after, clears}
 use Rattle.edge_rule.specs.Filling.{fork_mark_after, bottle_marks_after}
+use Rattle.edge_rule.specs.Counting.{counts_of, counted, AreFew}
+use Rattle.edge_rule.proofs.CountsKept.{moves_uncounted, counts_grow, counts_whole, few_in}
 use Rattle.locality.specs.History.{actor, learned, learned_all, state_after}
-use Rattle.one_history.specs.Rule.{edge_place, phase_place, word_count, Kept}
+use Rattle.one_history.specs.Rule.{edge_place, phase_place, Kept}
 use Rattle.locality.specs.Lists.{Each}
 use Rattle.one_history.specs.Grow.{hand_in, mine, seen_state, Grows, Does, tried, phase_event, own_phase, stored}
-use Rattle.edge_rule.specs.DeskView.{DeskView, Owns, Adds, Tried, known, shown}
-use Rattle.edge_rule.specs.DeskInside.{seat_view, view_of, kept, AreOfPlan, IsDesk}
+use Rattle.edge_rule.specs.DeskView.{DeskView, Owns, Adds, known, shown}
+use Rattle.edge_rule.specs.DeskInside.{seat_view, view_of, kept, fixed, AreOfPlan, IsDesk}
 use Rattle.edge_rule.specs.BenchInside.{bench_of, IsBench}
 use Rattle.locality.proofs.Frame.{own_seat, as_many_seats, learned_seat}
 use Rattle.locality.specs.Changes.{seat_after}
 use Rattle.locality.proofs.Local.{each_move}
 use Rattle.locality.proofs.Few.{few_commands}
-use Rattle.one_history.proofs.Looking.{place_edge}
-use Rattle.one_history.proofs.Trying.{moves_by, tries}
+use Rattle.one_history.proofs.Trying.{tries}
 use Rattle.one_history.proofs.Storing.{by_job, told_back, stores}
-use Rattle.edge_rule.proofs.DeskSteps.{led, hand_grown, mine_seats, mine_edges, mine_fits, desk_seat, desk_edges, desk_grows, of_plan_set, of_seat, framed, plan_known, seat_adds}
+use Rattle.edge_rule.proofs.DeskSteps.{led, hand_grown, mine_seats, mine_edges, desk_seat, desk_edges, desk_grows, desk_keeps, of_plan_set, framed, plan_known, seat_adds}
 
 -- ---- the state after moves, as lists
 
@@ -216,7 +217,7 @@ module _ {A : Type 0} (b : bench_fields.Inside A) (d : Inside A) (is_bench : IsB
       subst (λ (z : EdgeMoves × ℕ). Grows mv (events_of z.0 mj z.1) s'.me.0) (λ i. (back i, here i)) (t.0 hit)
 
   -- the desk after moves
-  pub moves_kept : (d' : Inside A) (n : ℕ) (x y : EdgeState) (fork : Bool) (marks : ℕ) (old_fork : Bool) (old_marks : ℕ) → n ≡ e → Grows mv (events_of m mj e) d'.seat.me.0 → d'.seat.me.1 ≡ d.seat.me.1 → d'.job ≡ d.job → d'.phase ≡ d.phase
+  pub moves_kept : (d' : Inside A) (n : ℕ) (x y : EdgeState) (fork : Bool) (marks : ℕ) (old_fork : Bool) (old_marks : ℕ) → n ≡ e → Grows mv (events_of m mj e) d'.seat.me.0 → d'.seat.me.1 ≡ d.seat.me.1 → fixed d' ≡ fixed d → d'.phase ≡ d.phase
       → x ≡ edge (mine mv) e → y ≡ after_moves m x → old_fork ≡ get_or d.fork_marks.items n old_fork → old_marks ≡ get_or d.bottle_marks.items n old_marks → fork ≡ fork_mark_after m old_fork → marks ≡ bottle_marks_after m old_marks
       → d'.fork_marks.items ≡ set d.fork_marks.items n fork → d'.bottle_marks.items ≡ set d.bottle_marks.items n marks → d'.seen.items ≡ set d.seen.items n y → IsDesk d'
   moves_kept d' n x y fork marks old_fork old_marks at t empty job phase is_x is_y is_old_fork is_old_marks is_fork is_marks forks_are marks_are seen =
@@ -236,7 +237,7 @@ module _ {A : Type 0} (b : bench_fields.Inside A) (d : Inside A) (is_bench : IsB
       let own_now : seat (learned_all mp (mine mv) (events_of m mj e)) mj ≡ kept d' =
       moved_seat mp mj e m (mine mv) (omega arith) ∙ (ap becomes ok.own ∙ (λ i. record { phase = sym phase i; fork_marks = sym forks_now i; bottle_marks = sym marks_now i })) in
       let seen_now : d'.seen.items ≡ set d.seen.items e y = seen ∙ ap (λ k. set d.seen.items k y) at in
-      desk_grows d ok d' (events_of m mj e) t (empty ∙ ok.empty) job own_now
+      desk_keeps d ok d' (events_of m mj e) (moves_uncounted mj mp e m) t (empty ∙ ok.empty) job own_now
       (moved_edges mp mj e m (mine mv) (omega arith) ∙ ((λ i. set (ok.seen i) e (sym y_is i)) ∙ sym seen_now))
       (subst (AreOfPlan mp) (sym seen_now) (of_plan_set d ok e y own.is_edge fits))
       (subst (λ (z : JobState). z.drinking ≢ Reaching) (sym phase) ok.rests)
@@ -304,6 +305,10 @@ module _ {A : Type 0} (b : bench_fields.Inside A) (d : Inside A) (is_bench : IsB
   desk_position = let x = (desk_seat d ok).position_there in let few = few_commands b.table.shared.key sj d.phase.session is_bench.is_plan in
       let same : length (commands sp sj d.phase.session) ≡ length (commands b.table.shared.key sj d.phase.session) = ap (λ (z : LabPlan). length (commands z sj d.phase.session)) owns.1 in omega arith
 
+  pub few_counts : AreFew d.counts
+  few_counts = subst AreFew (sym (counts_whole sj sv.front) ∙ (ap (counts_of sj) ok.at_rest.whole ∙ ok.counts))
+      (few_in sp sj sv.front (subst IsPlan (sym owns.1) is_bench.is_plan) ok.at_rest.legal)
+
   pub own_is : own_phase sv ≡ d.phase
   own_is = ap (λ (x : Seat). x.phase) ok.own
 
@@ -333,9 +338,9 @@ module _ {A : Type 0} (b : bench_fields.Inside A) (d : Inside A) (is_bench : IsB
       subst (λ z. Does sv z w) (ap (phase_event sj (own_phase sv)) becomes ∙ told_back what sp sj (mine sv) may) t
 
   -- the desk after it
-  pub phase_kept : (what : PhaseEvent) (d' : Inside A) → Does sv (event_of what sj) d'.seat.me.0 → d'.seat.me.1 ≡ d.seat.me.1 → d'.job ≡ d.job → d'.phase ≡ phase_after what d.phase
+  pub phase_kept : (what : PhaseEvent) (d' : Inside A) → Does sv (event_of what sj) d'.seat.me.0 → d'.seat.me.1 ≡ d.seat.me.1 → d'.job ≡ d.job → d'.counts ≡ counted what d.counts → d'.phase ≡ phase_after what d.phase
       → d'.fork_marks.items ≡ (if clears what then replicate (length d.fork_marks.items) false else d.fork_marks.items) → d'.bottle_marks.items ≡ d.bottle_marks.items → d'.seen.items ≡ d.seen.items → IsDesk d'
-  phase_kept what d' t empty job phase forks_are marks_are seen =
+  phase_kept what d' t empty job counts phase forks_are marks_are seen =
       let jobs = mine_seats sv in
       let here = ok.at_rest.inside in
       let by = by_job what sj in
@@ -344,3 +349,4 @@ module _ {A : Type 0} (b : bench_fields.Inside A) (d : Inside A) (is_bench : IsB
       ∙ (ap (λ (x : Seat). seat_after sp x (event_of what sj)) ok.own ∙ (seat_stored what sp sj (kept d) ∙ (λ i. record { phase = sym phase i; fork_marks = sym forks_are i; bottle_marks = sym marks_are i }))) in
       desk_grows d ok d' (event_of what sj ∷ []) t (empty ∙ ok.empty) job own_now (learned_phase what sp sj (mine sv) ∙ (ok.seen ∙ sym seen)) (subst (AreOfPlan sp) (sym seen) ok.of_plan)
       (subst (λ (z : JobState). z.drinking ≢ Reaching) (sym phase) (still_rests what d.phase ok.rests))
+      (counts_grow what sj (hand_in sv).deeds ∙ (ap (counted what) ok.counts ∙ sym counts))

@@ -1,5 +1,5 @@
 -- What a call on a desk owes and gives, by what the step told.
-use Rattle.std.proofs.Common.{◌≡◌, ◌≢◌, ℕ, ◌+◌, ◌*◌, ◌/◌, ◌<◌, ◌≤◌, Bool, List, [], ◌∷◌, ◌++◌, length, get_or, set, refl, sym, ap, ◌∙◌, subst, inl, inr, arith, length-set, get_or-set_same, get_or-set_other}
+use Rattle.std.proofs.Common.{◌≡◌, ◌≢◌, ℕ, ◌/◌, ◌<◌, ◌≤◌, Bool, List, [], ◌∷◌, ◌++◌, length, get_or, set, refl, sym, ap, ◌∙◌, subst, inl, inr, arith, get_or-set_same, get_or-set_other}
 use Rattle.std.proofs.lemmas.Bool.{cases_eq}
 use mathlib.Core.Option.{none}
 use Rattle.atomic_table.specs.Table.{Me, step, Allows}
@@ -11,8 +11,8 @@ use Rattle.legal_steps.specs.declared.phase.JobState.{JobState}
 use Rattle.legal_steps.specs.declared.event.Event.{Event}
 use Rattle.legal_steps.specs.declared.event.Event.TheVariants.{Look}
 use Rattle.legal_steps.specs.declared.phase.Drinking.TheVariants.{Reaching}
-use Rattle.legal_steps.specs.State.{Seat, State, IsOwn, edge, seat, no_edge, end_of, bottles_at}
-use Rattle.legal_steps.specs.Legal.{with_edge, fork_mark_seen}
+use Rattle.legal_steps.specs.State.{Seat, State, IsOwn, seat, no_edge, end_of, bottles_at}
+use Rattle.legal_steps.specs.Legal.{fork_mark_seen}
 use Rattle.legal_steps.specs.Opening.{the_opening}
 use Rattle.legal_steps.specs.Fitting.{IsSeatOf}
 use Rattle.edge_word.specs.Words.{word_of, IsOfBottles}
@@ -22,13 +22,16 @@ use Rattle.one_history.specs.declared.board.Hand.{Hand}
 use Rattle.one_history.specs.declared.board.View.{View}
 use Rattle.edge_rule.specs.declared.desk.Desk.TheInside.{Inside}
 use Rattle.edge_rule.specs.declared.clock.Clock.{Clock}
+use Rattle.edge_rule.specs.declared.counts.Counts.{Counts}
+use Rattle.edge_rule.specs.Counting.{counts_of}
+use Rattle.edge_rule.proofs.CountsKept.{IsUncounted, counts_stay}
 use Rattle.edge_rule.specs.declared.bench.Bench.TheInside as bench_fields
-use Rattle.locality.specs.History.{actor, events_by, learned, learned_all, known_by, IsHistory, state_after}
+use Rattle.locality.specs.History.{events_by, learned_all, known_by, IsHistory}
 use Rattle.one_history.specs.Rule.{edge_place, word_count, Kept}
 use Rattle.locality.specs.Lists.{Each}
 use Rattle.one_history.specs.Grow.{hand_or, hand_in, rest_hands, adding, IsLed, IsMine, mine, Grows, Does, looked}
-use Rattle.edge_rule.specs.DeskView.{DeskView, BenchView, Owns, Adds, known}
-use Rattle.edge_rule.specs.DeskInside.{seat_view, view_of, kept, AreOfPlan, AtRest, IsDesk}
+use Rattle.edge_rule.specs.DeskView.{DeskView, BenchView, Owns, Adds}
+use Rattle.edge_rule.specs.DeskInside.{seat_view, view_of, kept, fixed, AreOfPlan, AtRest, IsDesk}
 use Rattle.edge_rule.specs.BenchInside.{bench_of, IsBench}
 use Rattle.locality.specs.Changes.{seat_after}
 use Rattle.locality.proofs.Frame.{learned_seat}
@@ -100,16 +103,23 @@ module _ {A : Type 0} (d : Inside A) (ok : IsDesk d) where
 
   -- a desk after a group of events, where its fields follow
   pub desk_grows : (d' : Inside A) (g : List Event) → Grows v g d'.seat.me.0 → d'.seat.me.1 ≡ [] → d'.job ≡ d.job
-      → seat (learned_all p (mine v) g) j ≡ kept d' → (learned_all p (mine v) g).edges ≡ d'.seen.items → AreOfPlan p d'.seen.items → d'.phase.drinking ≢ Reaching → IsDesk d'
-  desk_grows d' g t empty job own seen of_plan rests = let x = hand_grown v d'.seat.me.0 g t.hands in let m = mine_grown v d'.seat.me.0 g t in record {
+      → seat (learned_all p (mine v) g) j ≡ kept d' → (learned_all p (mine v) g).edges ≡ d'.seen.items → AreOfPlan p d'.seen.items → d'.phase.drinking ≢ Reaching → counts_of j ((hand_in v).deeds ++ g) ≡ d'.counts → IsDesk d'
+  desk_grows d' g t empty job own seen of_plan rests counts = let x = hand_grown v d'.seat.me.0 g t.hands in let m = mine_grown v d'.seat.me.0 g t in record {
     at_rest = rest_grown v d'.seat.me.0 g ok.at_rest t;
     empty = empty;
     job = ap (λ (z : Hand). z.job) x ∙ (ok.job ∙ sym job);
+    counts = ap (λ (z : Hand). counts_of z.job z.deeds) x ∙ counts;
     own = (λ i. seat (m i) (x i).job) ∙ own;
     seen = ap (λ (z : State). z.edges) m ∙ seen;
     of_plan = subst (λ (z : Hand). AreOfPlan z.plan d'.seen.items) (sym x) of_plan;
     rests = rests;
   }
+
+  -- a desk after events that aren't counted
+  pub desk_keeps : (d' : Inside A) (g : List Event) → Each (IsUncounted j) g → Grows v g d'.seat.me.0 → d'.seat.me.1 ≡ [] → fixed d' ≡ fixed d
+      → seat (learned_all p (mine v) g) j ≡ kept d' → (learned_all p (mine v) g).edges ≡ d'.seen.items → AreOfPlan p d'.seen.items → d'.phase.drinking ≢ Reaching → IsDesk d'
+  desk_keeps d' g uncounted t empty same own seen of_plan rests = desk_grows d' g t empty (ap (λ (z : ℕ × Counts). z.0) same) own seen of_plan rests
+      (counts_stay j (hand_in v).deeds g uncounted ∙ (ok.counts ∙ sym (ap (λ (z : ℕ × Counts). z.1) same)))
 
   -- one edge is seen
   pub of_plan_set : (e : ℕ) (x : EdgeState) → e < length (edges p) → IsOfBottles (length (bottles p e)) x → AreOfPlan p (set d.seen.items e x)
@@ -185,7 +195,7 @@ module _ {A : Type 0} (d d' : Inside A) (ok : IsDesk d) (e : ℕ) (x : EdgeState
   lj = (hand_in lv).job
 
   -- the desk after a look
-  pub look_kept : e < length (edges lp) → q ≡ lp → IsOfBottles (length (bottles q e)) x → Does lv (Look lj e x) d'.seat.me.0 → d'.seat.me.1 ≡ d.seat.me.1 → d'.job ≡ d.job → d'.phase ≡ d.phase
+  pub look_kept : e < length (edges lp) → q ≡ lp → IsOfBottles (length (bottles q e)) x → Does lv (Look lj e x) d'.seat.me.0 → d'.seat.me.1 ≡ d.seat.me.1 → fixed d' ≡ fixed d → d'.phase ≡ d.phase
       → fork ≡ fork_mark_seen d.phase.dining (end_of q d.job e) x → marks ≡ bottles_at q e (end_of q d.job e) x
       → d'.fork_marks.items ≡ set d.fork_marks.items e fork → d'.bottle_marks.items ≡ set d.bottle_marks.items e marks → d'.seen.items ≡ set d.seen.items e x → IsDesk d'
   look_kept inside is_p fits t empty job phase is_fork is_marks forks bottle_marks seen =
@@ -197,7 +207,7 @@ module _ {A : Type 0} (d d' : Inside A) (ok : IsDesk d) (e : ℕ) (x : EdgeState
       let own : seat (learned_all lp (mine lv) (event ∷ [])) lj ≡ kept d' =
       learned_seat lp (mine lv) event (omega arith) ∙ (ap (λ (y : Seat). seat_after lp y event) ok.own
       ∙ (λ i. record { phase = sym phase i; fork_marks = (ap (set d.fork_marks.items e) (sym fork_is) ∙ sym forks) i; bottle_marks = (ap (set d.bottle_marks.items e) (sym marks_is) ∙ sym bottle_marks) i })) in
-      desk_grows d ok d' (event ∷ []) t (empty ∙ ok.empty) job own (ap (λ (l : List EdgeState). set l e x) ok.seen ∙ sym seen)
+      desk_keeps d ok d' (event ∷ []) ((refl, refl, refl), tt) t (empty ∙ ok.empty) job own (ap (λ (l : List EdgeState). set l e x) ok.seen ∙ sym seen)
       (subst (AreOfPlan lp) (sym seen) (of_plan_set d ok e x inside (subst (λ (z : LabPlan). IsOfBottles (length (bottles z e)) x) is_p fits)))
       (subst (λ (z : JobState). z.drinking ≢ Reaching) (sym phase) ok.rests)
 

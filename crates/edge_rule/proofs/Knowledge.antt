@@ -1,14 +1,15 @@
 -- A desk's fields are what its job knows.
-use Rattle.std.proofs.Common.{◌≡◌, ◌≢◌, ℕ, ◌<◌, List, Bool, length, get_or, false, refl, sym, ap, ◌∙◌, subst, arith}
-use Rattle.lab_plan.specs.LabPlan.{LabPlan, edges, bottles}
+use Rattle.std.proofs.Common.{◌≡◌, ◌≢◌, ℕ, List, length, get_or, false, sym, ap, ◌∙◌, subst}
+use Rattle.lab_plan.specs.LabPlan.{bottles}
 use Rattle.legal_steps.specs.declared.edge_state.EdgeState.{EdgeState}
 use Rattle.legal_steps.specs.declared.phase.Drinking.TheVariants.{Reaching}
-use Rattle.legal_steps.specs.State.{State, Seat, edge, seat, phase, fork_mark, bottle_marks, no_edge}
+use Rattle.legal_steps.specs.State.{Seat, edge, phase, fork_mark, bottle_marks, no_edge}
 use Rattle.edge_word.specs.Words.{IsOfBottles}
 use Rattle.edge_rule.specs.declared.desk.Desk.TheInside.{Inside}
-use Rattle.one_history.specs.Grow.{hand_in, mine}
+use Rattle.one_history.specs.Grow.{hand_in}
 use Rattle.edge_rule.specs.DeskView.{DeskView, known, IsAtRest}
-use Rattle.edge_rule.specs.DeskInside.{view_of, kept, IsDesk}
+use Rattle.edge_rule.specs.DeskInside.{view_of, IsDesk}
+use Rattle.edge_rule.specs.Counting.{counts_of}
 use Rattle.edge_rule.specs.Knowing.{IsKnown}
 use Rattle.edge_rule.proofs.DeskSteps.{mine_seats, mine_edges, mine_fits}
 
@@ -25,6 +26,9 @@ module _ {A : Type 0} (d : Inside A) (y : DeskView) (is : view_of d ≡ y) (ok :
 
   pub known_rest : IsAtRest y
   known_rest = subst IsAtRest is (record { inside = ok.at_rest.inside; legal = ok.at_rest.legal; whole = ok.at_rest.whole })
+
+  pub known_counts : d.counts ≡ counts_of y.job y.deeds
+  known_counts = sym ok.counts ∙ ap (λ (z : DeskView). counts_of z.job z.deeds) is
 
   pub known_job : d.job ≡ y.job
   known_job = sym ok.job ∙ ap (λ (z : DeskView). z.job) is

@@ -1,11 +1,14 @@
 pub mod WordFields
+pub mod CountsKept
 pub mod DeskSteps
 pub mod DeskMoves
 pub mod Commanding
 pub mod ManyHands
 pub mod Tidings
 pub mod Endings
+pub mod ClosedWords
 pub mod GlancedDesks
+pub mod Rosters
 pub mod RoomLemmas
 pub mod OpenedDesks
 pub mod Knowledge

@@ -1,17 +1,17 @@
 -- Many hands are lent to one seat for one load.
-use Rattle.std.proofs.Common.{zero, suc, false, ◌==◌, take, drop, get_or, arith, ◌≡◌, ◌≢◌, ℕ, ◌+◌, ◌<◌, List, [], ◌∷◌, ◌++◌, length, set, refl, sym, ap, ◌∙◌, subst, append-nil, append_assoc}
+use Rattle.std.proofs.Common.{zero, suc, false, ◌==◌, take, drop, get_or, arith, ◌≡◌, ◌≢◌, ℕ, ◌<◌, List, [], ◌∷◌, ◌++◌, length, set, refl, sym, ap, ◌∙◌, subst}
 use lib.Seq.{set-get_or}
 use mathlib.Core.Option.{none}
-use Rattle.atomic_table.specs.Table.{State as TableState, step, keeps, Allows, Splits}
+use Rattle.atomic_table.specs.Table.{step, keeps, Allows, Splits}
 use Rattle.lab_plan.specs.LabPlan.{LabPlan}
 use Rattle.legal_steps.specs.State.{seat}
+use Rattle.edge_rule.specs.Counting.{counts_of}
 use Rattle.edge_rule.specs.DeskInside.{kept, AreOfPlan, AtRest, IsDesk}
 use Rattle.edge_rule.specs.declared.desk.Desk.TheInside.{Inside}
 use Rattle.atomic_table.specs.declared.shared.Seat.{Seat}
 use Rattle.edge_rule.specs.DeskView.{DeskView}
 use Rattle.edge_rule.specs.Company.{Distinct, jobs_of}
 use Rattle.atomic_table.specs.Seated.{TableId}
-use Rattle.legal_steps.specs.declared.event.Event.{Event}
 use Rattle.one_history.specs.declared.board.Hand.{Hand}
 use Rattle.one_history.specs.declared.board.View.{View}
 use Rattle.instrument_log.specs.InstrumentLog.{LogView}
@@ -133,11 +133,12 @@ row id hands l front back y some f b tables aways distinct = let is : l ≡ get_
     record { table = t.0; tables = t.1; away = a.0; aways = a.1; other = d.0; others = d.1 }
 
 -- a desk whose seat is as before
-pub desk_still : {A : Type 0} (d : Inside A) (s : Seat LogView View) → s.me ≡ d.seat.me → IsDesk d → IsDesk record { seat = s; job = d.job; phase = d.phase; fork_marks = d.fork_marks; bottle_marks = d.bottle_marks; seen = d.seen; clock = d.clock }
+pub desk_still : {A : Type 0} (d : Inside A) (s : Seat LogView View) → s.me ≡ d.seat.me → IsDesk d → IsDesk record { seat = s; job = d.job; phase = d.phase; fork_marks = d.fork_marks; bottle_marks = d.bottle_marks; seen = d.seen; clock = d.clock; counts = d.counts }
 desk_still d s e ok = let v = sym (ap (λ m. m.0) e) in record {
   at_rest = subst AtRest v ok.at_rest;
   empty = ap (λ m. m.1) e ∙ ok.empty;
   job = subst (λ z. (hand_in z).job ≡ d.job) v ok.job;
+  counts = subst (λ z. counts_of (hand_in z).job (hand_in z).deeds ≡ d.counts) v ok.counts;
   own = subst (λ z. seat (mine z) (hand_in z).job ≡ kept d) v ok.own;
   seen = subst (λ (z : View). (mine z).edges ≡ d.seen.items) v ok.seen;
   of_plan = subst (λ z. AreOfPlan (hand_in z).plan d.seen.items) v ok.of_plan;

@@ -1,5 +1,5 @@
 -- A bench as it opens, and its desks.
-use Rattle.std.proofs.Common.{◌≡◌, ◌≢◌, ℕ, zero, suc, ◌+◌, ◌-◌, ◌*◌, ◌^◌, ◌<◌, ◌≤◌, List, [], ◌∷◌, ◌++◌, length, map, get_or, replicate, refl, sym, ap, ◌∙◌, subst, inl, inr, arith, length-append}
+use Rattle.std.proofs.Common.{◌≡◌, ℕ, zero, suc, ◌+◌, ◌^◌, ◌<◌, ◌≤◌, List, [], ◌∷◌, ◌++◌, length, map, get_or, refl, sym, ap, ◌∙◌, subst, inl, inr, arith, length-append}
 use Rattle.std.specs.List.{range_with_len}
 use Rattle.std.proofs.lemmas.Bool.{cases_lt}
 use Rattle.std.proofs.lemmas.List.{ext_get_or, get_or_append_left, get_or-append-add, get_or-replicate}
@@ -10,7 +10,7 @@ use Rattle.lab_plan.specs.LabPlan.{LabPlan, edges, bottles}
 use Rattle.instrument_log.specs.InstrumentLog.{LogView, empty_log}
 use Rattle.legal_steps.specs.declared.edge_state.EdgeState.{EdgeState}
 use Rattle.legal_steps.specs.declared.phase.Drinking.TheVariants.{Tranquil, Reaching}
-use Rattle.legal_steps.specs.State.{Seat, State, edge, seat, phase, no_edge, no_seat, idle_phase}
+use Rattle.legal_steps.specs.State.{Seat, seat, no_edge, no_seat, idle_phase}
 use Rattle.legal_steps.specs.Opening.{the_opening, idle_seat}
 use Rattle.legal_steps.specs.WholeLogs.{room_of}
 use Rattle.edge_word.specs.Words.{word_of, opening_edge, IsOfBottles}
@@ -18,10 +18,10 @@ use Rattle.edge_word.specs.Phases.{phase_word_of}
 use Rattle.edge_word.proofs.OpeningWords.{opens_as_the_opening}
 use Rattle.one_history.specs.declared.board.View.{View}
 use Rattle.edge_rule.specs.declared.desk.Desk.TheInside.{Inside}
-use Rattle.locality.specs.History.{IsHistory, events_by}
 use Rattle.one_history.specs.Rule.{hand, phase_place, Spelled}
-use Rattle.one_history.specs.Grow.{hand_in, IsMine, mine}
+use Rattle.one_history.specs.Grow.{hand_in, mine}
 use Rattle.edge_rule.specs.Openings.{opening_edges, AreWritten}
+use Rattle.edge_rule.specs.Counting.{counts_of}
 use Rattle.edge_rule.specs.DeskInside.{kept, AreOfPlan, AtRest, IsDesk}
 use Rattle.locality.proofs.Runs.{opening_edges as opening_wide}
 
@@ -77,13 +77,14 @@ fresh_view plan j = record { hands = hand plan j [] ∷ []; front = []; told = [
 fresh_rests : (plan : LabPlan) (j : ℕ) → j < length plan.jobs → AtRest (fresh_view plan j)
 fresh_rests plan j job = record { mine = refl; inside = job; none_told = refl; legal = tt; whole = refl }
 
-pub fresh_is_desk : {A : Type 0} (d : Inside A) (plan : LabPlan) (j : ℕ) → d.seat.me ≡ (fresh_view plan j, []) → j < length plan.jobs → d.job ≡ j → kept d ≡ idle_seat plan → d.seen.items ≡ opening_edges plan (length (edges plan)) → IsDesk d
-fresh_is_desk d plan j me job is_job own seen =
+pub fresh_is_desk : {A : Type 0} (d : Inside A) (plan : LabPlan) (j : ℕ) → d.seat.me ≡ (fresh_view plan j, []) → j < length plan.jobs → d.job ≡ j → d.counts ≡ counts_of j [] → kept d ≡ idle_seat plan → d.seen.items ≡ opening_edges plan (length (edges plan)) → IsDesk d
+fresh_is_desk d plan j me job is_job counts own seen =
     let v : d.seat.me.0 ≡ fresh_view plan j = ap (λ m. m.0) me in
     record {
       at_rest = subst AtRest (sym v) (fresh_rests plan j job);
       empty = ap (λ m. m.1) me;
       job = ap (λ (z : View). (hand_in z).job) v ∙ sym is_job;
+      counts = ap (λ (z : View). counts_of (hand_in z).job (hand_in z).deeds) v ∙ sym counts;
       own = ap (λ (z : View). seat (mine z) (hand_in z).job) v ∙ (opening_seat plan j job ∙ sym own);
       seen = ap (λ (z : View). (mine z).edges) v ∙ (opening_is plan ∙ sym seen);
       of_plan = subst (λ (z : View). AreOfPlan (hand_in z).plan d.seen.items) (sym v)

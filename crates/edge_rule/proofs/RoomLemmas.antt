@@ -1,14 +1,13 @@
 -- The room of logs, added up.
-use Rattle.std.proofs.Common.{◌≡◌, ℕ, zero, suc, ◌+◌, ◌<◌, ◌≤◌, List, [], ◌∷◌, ◌++◌, length, map, replicate, arith, refl, sym, ap, ◌∙◌, subst, add-one, inl, inr}
+use Rattle.std.proofs.Common.{◌≡◌, ℕ, zero, suc, ◌+◌, ◌<◌, ◌≤◌, [], ◌∷◌, ◌++◌, length, map, arith, sym, ap, ◌∙◌, subst, add-one, inl, inr}
 use Rattle.std.specs.List.{flat_map, range_with_len}
 use Rattle.std.proofs.lemmas.Bool.{cases_lt}
 use Rattle.std.proofs.lemmas.List.{take_all}
-use Rattle.std.proofs.lemmas.List.FromFn.{get_or-map-range_with_len, length-map-range_with_len, map-range_with_len_more}
+use Rattle.std.proofs.lemmas.List.FromFn.{map-range_with_len_more}
 use Rattle.std.proofs.lemmas.List.Sums.{count_by-le-length}
 use Rattle.lab_plan.specs.LabPlan.{LabPlan, SessionPlan, job_at, sessions, count_on, part, all_commands}
 use Rattle.lab_plan.specs.IsPlan.{IsPlan}
-use Rattle.instrument_log.specs.declared.entry.Entry.{Entry}
-use Rattle.instrument_log.specs.InstrumentLog.{LogView, empty_log}
+use Rattle.instrument_log.specs.InstrumentLog.{empty_log}
 use Rattle.legal_steps.specs.WholeLogs.{room_of}
 use Rattle.legal_steps.proofs.RoomShares.{sum_to, first_on, first_on-more, first_on-le, room_is_sum}
 use Rattle.locality.proofs.Few.{of_job, in_plan}

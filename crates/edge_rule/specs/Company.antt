@@ -1,5 +1,5 @@
 -- Desks that meet.
-use Rattle.std.specs.Prelude.{◌≡◌, ◌≢◌, ℕ, ◌<◌, List, [], ◌∷◌, ◌++◌, map}
+use Rattle.std.specs.Prelude.{◌≡◌, ◌≢◌, ℕ, List, [], ◌∷◌, ◌++◌, map}
 use Rattle.legal_steps.specs.declared.event.Event.{Event}
 use Rattle.locality.specs.History.{IsHistory, events_by}
 use Rattle.locality.specs.Lists.{StartsWith, Each}

@@ -1,14 +1,16 @@
 -- What is true of the fields of a desk.
-use Rattle.std.specs.Prelude.{◌≡◌, ◌≢◌, ℕ, ◌<◌, List, [], ◌∷◌, length, slice_index_or}
+use Rattle.std.specs.Prelude.{◌≡◌, ◌≢◌, ℕ, ◌<◌, List, [], length, slice_index_or}
 use Rattle.atomic_table.specs.declared.shared.Seat.{Seat as TableSeat}
 use Rattle.lab_plan.specs.LabPlan.{LabPlan, edges, bottles}
 use Rattle.instrument_log.specs.InstrumentLog.{LogView}
 use Rattle.legal_steps.specs.declared.edge_state.EdgeState.{EdgeState}
 use Rattle.legal_steps.specs.declared.phase.Drinking.TheVariants.{Reaching}
-use Rattle.legal_steps.specs.State.{Seat, State, seat, no_edge}
+use Rattle.legal_steps.specs.State.{Seat, seat, no_edge}
 use Rattle.edge_word.specs.Words.{IsOfBottles}
 use Rattle.one_history.specs.declared.board.View.{View}
 use Rattle.edge_rule.specs.declared.clock.Clock.{Clock}
+use Rattle.edge_rule.specs.declared.counts.Counts.{Counts}
+use Rattle.edge_rule.specs.Counting.{counts_of}
 use Rattle.locality.specs.History.{IsHistory, events_by}
 use Rattle.one_history.specs.Grow.{hand_in, IsMine, mine}
 use Rattle.edge_rule.specs.DeskView.{DeskView}
@@ -23,6 +25,10 @@ view_of d = seat_view d.clock d.seat
 -- the seat of the core that the fields are
 abbrev pub kept : {A : Type 0} → Inside A → Seat
 kept d = record { phase = d.phase; fork_marks = d.fork_marks.items; bottle_marks = d.bottle_marks.items }
+
+-- what no step but one of a phase changes
+abbrev pub fixed : {A : Type 0} → Inside A → ℕ × Counts
+fixed d = (d.job, d.counts)
 
 -- the edges have bottles of their own alone
 abbrev pub AreOfPlan : LabPlan → List EdgeState → Type 0
@@ -40,6 +46,7 @@ pub record IsDesk {A : Type 0} (d : Inside A) : Type 0 where
   pub at_rest : AtRest d.seat.me.0
   pub empty : d.seat.me.1 ≡ []
   pub job : (hand_in d.seat.me.0).job ≡ d.job
+  pub counts : counts_of (hand_in d.seat.me.0).job (hand_in d.seat.me.0).deeds ≡ d.counts
   pub own : seat (mine d.seat.me.0) (hand_in d.seat.me.0).job ≡ kept d
   pub seen : (mine d.seat.me.0).edges ≡ d.seen.items
   pub of_plan : AreOfPlan (hand_in d.seat.me.0).plan d.seen.items

@@ -1,18 +1,20 @@
 -- What a bench leaves when it is closed.
-use Rattle.std.specs.Prelude.{◌≡◌, ◌≢◌, ℕ, ◌<◌, ◌⊎◌, List, [], ◌∷◌, ◌++◌, length}
-use mathlib.Core.Option.{some}
-use lib.ListN.{get_elem?}
-use Rattle.lab_plan.specs.LabPlan.{LabPlan}
-use Rattle.instrument_log.specs.InstrumentLog.{LogView}
+use Rattle.std.specs.Prelude.{◌≡◌, ◌≢◌, ℕ, ◌<◌, ◌⊎◌, List, [], ◌∷◌, ◌++◌, length, slice_index_or}
+use Rattle.lab_plan.specs.LabPlan.{LabPlan, edges}
+use Rattle.lab_plan.specs.IsPlan.{IsPlan}
 use Rattle.legal_steps.specs.declared.phase.Drinking.TheVariants.{Reaching}
-use Rattle.legal_steps.specs.State.{drinking}
+use Rattle.legal_steps.specs.State.{edge, phase, drinking}
 use Rattle.legal_steps.specs.declared.event.Event.{Event}
 use Rattle.one_history.specs.declared.board.Hand.{Hand}
 use Rattle.one_history.specs.declared.board.View.{View}
-use Rattle.locality.specs.History.{state_after, IsHistory, events_by}
-use Rattle.one_history.specs.Rule.{hand, log_view, Spelled}
+use Rattle.locality.specs.History.{actor, state_after, IsHistory, events_by}
+use Rattle.one_history.specs.Rule.{hand, log_view}
 use Rattle.locality.specs.Lists.{StartsWith, Each}
 use Rattle.edge_rule.specs.DeskView.{DeskView, known}
+use Rattle.edge_rule.specs.ClosedView.{ClosedView, edge_in, phase_in, log_in, counts_in}
+use Rattle.edge_rule.specs.Counting.{no_counts, counts_of}
+use Rattle.edge_rule.specs.declared.counts.Counts.{Counts}
+use Rattle.edge_rule.specs.Company.{Distinct, jobs_of}
 
 abbrev pub hand_of : DeskView → Hand
 hand_of d = hand d.plan d.job d.deeds
@@ -34,19 +36,34 @@ abbrev pub Any : {A : Type 0} → (A → Type 0) → List A → Type 0
 Any P [] = ⊥
 Any P (x ∷ xs) = P x ⊎ Any P xs
 
--- each job has a desk
-abbrev pub HasAll : LabPlan → List DeskView → Type 0
-HasAll p desks = (j : ℕ) → j < length p.jobs → Any (λ (d : DeskView). d.job ≡ j) desks
+-- each of the jobs below n has a desk
+abbrev pub HasEach : ℕ → List DeskView → Type 0
+HasEach n desks = (j : ℕ) → j < n → Any (λ (d : DeskView). d.job ≡ j) desks
+
+-- each job of the plan has one desk there, and no job a second
+pub record HasAll (p : LabPlan) (desks : List DeskView) : Type 0 where
+  pub every : HasEach (length p.jobs) desks
+  pub once : Distinct (jobs_of desks)
 
 -- a desk at rest doesn't reach for a log
 abbrev pub Rests : DeskView → Type 0
 Rests d = drinking (known d) d.job ≢ Reaching
 
--- There is one legal history. The events of each job in it are the record of its desk, each desk saw a beginning of it, and it ends in the state that words and logs show
-pub record IsEnd (p : LabPlan) (desks : List DeskView) (ws : List ℕ) (ls : List LogView) : Type 0 where
+-- the counts of each desk's record stand at its job
+abbrev pub AreCounted : List Counts → List DeskView → Type 0
+AreCounted counts desks = Each (λ (d : DeskView). slice_index_or counts d.job no_counts ≡ counts_of d.job d.deeds) desks
+
+-- There is one history, for exactly the records of these desks: it is legal from THE opening, the events of each job in it are its desk's record,
+-- in order, and nothing else is in it; each desk saw a beginning of it; and it ends as the closed bench shows
+pub record IsEnd (p : LabPlan) (desks : List DeskView) (c : ClosedView) : Type 0 where
+  pub is_plan : IsPlan p
+  pub plan : c.plan ≡ p
   pub history : List Event
   pub legal : IsHistory p history
   pub records : Each (λ (d : DeskView). events_by d.job history ≡ d.deeds) desks
+  pub nobody_else : Each (λ (event : Event). actor event < length p.jobs) history
   pub fronts : Each (λ (d : DeskView). StartsWith history d.front) desks
-  pub words : Spelled p (state_after p history) ws
-  pub logs : (i : ℕ) → i < length p.instruments → get_elem? ls i ≡ some (log_view p (state_after p history) i)
+  pub edges : (e : ℕ) → e < length (edges p) → edge_in c e ≡ edge (state_after p history) e
+  pub phases : (j : ℕ) → j < length p.jobs → phase_in c j ≡ phase (state_after p history) j
+  pub logs : (i : ℕ) → i < length p.instruments → log_in c i ≡ log_view p (state_after p history) i
+  pub counts : (j : ℕ) → j < length p.jobs → counts_in c j ≡ counts_of j history

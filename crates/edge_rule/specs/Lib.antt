@@ -1,10 +1,12 @@
+pub mod Counting
 pub mod DeskView
 pub mod DeskInside
 pub mod BenchInside
 pub mod Filling
 pub mod Company
 pub mod Ending
-pub mod EndView
+pub mod ClosedView
+pub mod ClosedInside
 pub mod Openings
 pub mod Knowing
 pub mod Telling

@@ -1,5 +1,6 @@
 //! One job's seat at the bench.
 use crate::clock::Clock;
+use crate::counts::Counts;
 use atomic_table::Seat;
 use edge_word::EdgeWord;
 use instrument_log::InstrumentLog;
@@ -19,6 +20,7 @@ pub struct Desk<A: Allocator = Global> {
     pub(crate) bottle_marks: Vec<u32, A>,
     pub(crate) seen: Vec<EdgeWord, A>,
     pub(crate) clock: Clock,
+    pub(crate) counts: Counts,
 }
 
 impl<A: Allocator> Model for Desk<A> {

@@ -9,7 +9,9 @@ ghost use Rattle.edge_rule.specs.DeskView.{fresh_desk, fresh_desks};
 
 use crate::bench::Bench;
 use crate::clock::Clock;
+use crate::counts::NO_COUNTS;
 use crate::desk::Desk;
+use crate::refusals::OpenError;
 use crate::rooms::empty_logs;
 use atomic_table::{Seat, Table};
 use edge_word::EdgeWord;
@@ -86,6 +88,7 @@ fn next_desk<A: Allocator + Copy>(
             waited: 0,
             session: 0,
         },
+        counts: NO_COUNTS,
     })
 }
 
@@ -108,8 +111,8 @@ fn deal<A: Allocator + Copy>(
     Ok(desks)
 }
 
-/// A bench for the plan, in THE opening, and a desk for each job, in ascending order.
-pub fn open<'p, A: Allocator + Copy>(
+// A bench in THE opening, with its desks.
+fn opened<'p, A: Allocator + Copy>(
     alloc: A,
     plan: &'p Plan<A>,
 ) -> Result<(Bench<'p, A>, Vec<Desk<A>, A>), AllocError>
@@ -125,4 +128,17 @@ pub fn open<'p, A: Allocator + Copy>(
     let desks = deal(alloc, &table, &mut keeper, plan)?;
     let bench = Bench { table, plan };
     Ok((bench, desks))
+}
+
+impl<'p, A: Allocator + Copy> Bench<'p, A> {
+    /// A bench for the plan, in THE opening, and a desk for each job, in ascending order. The room of all logs is
+    /// reserved here.
+    pub fn open(alloc: A, plan: &'p Plan<A>) -> Result<(Bench<'p, A>, Vec<Desk<A>, A>), OpenError>
+        ensures { IfOk result (λ r. (r.0.plan ≡ plan.now) × (r.1.items ≡ fresh_desks r.0.table plan.now (length plan.now.jobs))) }
+    {
+        match opened(alloc, plan) {
+            Ok(made) => Ok(made),
+            Err(_) => Err(OpenError::NoMemory),
+        }
+    }
 }

@@ -1,14 +1,18 @@
 //! What a desk and a bench answer without a step.
-ghost use Rattle.std.specs.Prelude.{◌≡◌, ◌<◌, ◌≤◌, length};
+ghost use Rattle.std.specs.Prelude.{◌≡◌, ◌↔◌, ◌<◌, ◌≤◌, length, IsTrue};
 ghost use Rattle.lab_plan.specs.LabPlan.{edges, bottles};
-ghost use Rattle.legal_steps.specs.State.{IsOwn, edge as edge_at, phase as phase_at, fork_mark as fork_mark_at, bottle_marks as bottle_marks_at};
+ghost use Rattle.legal_steps.specs.State.{IsOwn, edge as edge_at, phase as phase_at, fork_mark as fork_mark_at, bottle_marks as bottle_marks_at, drinking as drinking_at};
+ghost use Rattle.legal_steps.specs.declared.phase.Drinking.TheVariants.{Retired};
+ghost use Rattle.legal_steps.specs.Run.{meals_of, sessions_done_of, withdrawn_of};
 ghost use Rattle.edge_word.specs.Words.{IsOfBottles};
 ghost use Rattle.edge_rule.specs.DeskView.{known, waited, noted, IsAtRest};
 ghost use Rattle.locality.specs.Patience.{is_waiting};
+ghost use Rattle.edge_rule.specs.Counting.{counts_of};
 ghost use Rattle.edge_rule.specs.Knowing.{IsKnown};
 
 use crate::bench::Bench;
 use crate::clock::Clock;
+use crate::counts::Counts;
 use crate::desk::Desk;
 use crate::words::{number, state_of};
 use edge_word::EdgeWord;
@@ -76,6 +80,41 @@ fn is_thirsty(drinking: Drinking) -> bool
 }
 
 impl<A: Allocator> Desk<A> {
+    /// What the job has done.
+    pub fn counts(&self) -> Counts
+        ensures { result ≡ counts_of self.now.job self.now.deeds }
+    {
+        self.counts
+    }
+
+    /// How many meals the job has had.
+    pub fn meals(&self) -> u32
+        ensures { result ≡ meals_of self.now.job self.now.deeds }
+    {
+        self.counts().meals
+    }
+
+    /// How many sessions the job has ended.
+    pub fn sessions_done(&self) -> u32
+        ensures { result ≡ sessions_done_of self.now.job self.now.deeds }
+    {
+        self.counts().sessions_done
+    }
+
+    /// How many sessions the job has given up.
+    pub fn withdrawn(&self) -> u32
+        ensures { result ≡ withdrawn_of self.now.job self.now.deeds }
+    {
+        self.counts().withdrawn
+    }
+
+    /// Whether the job has retired.
+    pub fn retired(&self) -> bool
+        ensures { IsTrue result ↔ (drinking_at (known self.now) self.now.job ≡ Retired) }
+    {
+        self.phase().drinking == Drinking::Retired
+    }
+
     /// The turns that were noted, up to the largest number.
     pub fn turns(&self) -> u64
         ensures { result ≡ self.now.clock.turns }

@@ -23,6 +23,12 @@ pub(crate) fn number(edge: EdgeNo) -> usize
     edge.0 as usize
 }
 
+pub(crate) fn job_number(job: JobNo) -> usize
+    ensures { (result ≡ job) × (result < 256) }
+{
+    job.0 as usize
+}
+
 // The edge that a word of the table spells.
 pub(crate) fn unpacked<A: Allocator>(plan: &Plan<A>, edge: EdgeNo, word: u64) -> EdgeWord
     requires edge { edge < length (edges plan.now) }

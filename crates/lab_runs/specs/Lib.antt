@@ -5,3 +5,4 @@ pub mod Runs
 pub mod Replaying
 pub mod Words
 pub mod Tasks
+pub mod Numbers

@@ -5,6 +5,7 @@
 mod counting;
 mod ending;
 mod faults;
+mod numbers;
 mod reading;
 mod replaying;
 mod running;

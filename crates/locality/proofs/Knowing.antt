@@ -1,13 +1,16 @@
 -- What a job knows by its own events: its seat, and its counts.
-use Rattle.std.proofs.Common.{◌≡◌, ℕ, ◌+◌, cond, Bool, true, false, List, [], ◌∷◌, refl, sym, ap, ◌∙◌, arith}
+use Rattle.std.proofs.Common.{◌≡◌, ℕ, ◌+◌, ◌<◌, cond, Bool, true, false, List, [], ◌∷◌, ◌++◌, length, refl, sym, ap, subst, ◌∙◌, arith}
 use Rattle.std.specs.List.{count_by}
 use Rattle.std.proofs.lemmas.List.Sums.{sum_by-cons}
 use Rattle.legal_steps.specs.declared.event.Event.{Event}
-use Rattle.legal_steps.specs.declared.event.Event.TheVariants.{Sit, Quit, Withdraw}
+use Rattle.legal_steps.specs.declared.event.Event.TheVariants.{Look, Sit, Quit, Withdraw}
+use Rattle.legal_steps.specs.State.{State, edge}
+use Rattle.legal_steps.specs.Opening.{the_opening}
+use Rattle.legal_steps.proofs.FitsWrites.{edge_same, edge_other}
 use Rattle.legal_steps.specs.Run.{is_sit, is_quit, is_withdraw}
-use Rattle.locality.specs.History.{is_by, events_by}
-use Rattle.locality.specs.Laws.{KnowsItself, CountsItself}
-use Rattle.locality.proofs.Runs.{own_known}
+use Rattle.locality.specs.History.{is_by, events_by, learned, known_by}
+use Rattle.locality.specs.Laws.{KnowsItself, KnowsWhatItSaw, CountsItself}
+use Rattle.locality.proofs.Runs.{learned_all-append, learned_all_edges, opening_edges, own_known}
 
 pub knows_itself : KnowsItself
 knows_itself plan h j job = own_known plan j h job
@@ -40,3 +43,10 @@ withdraws j _ is = refl
 
 pub counts_itself : CountsItself
 counts_itself h j = (counted j (is_sit j) (sits j) h, counted j (is_quit j) (quits j) h, counted j (is_withdraw j) (withdraws j) h)
+
+pub knows_what_it_saw : KnowsWhatItSaw
+knows_what_it_saw plan deeds j e seen inside =
+    let before : State = known_by plan deeds in
+    let ends : known_by plan (deeds ++ Look j e seen ∷ []) ≡ learned plan before (Look j e seen) = learned_all-append plan (the_opening plan) deeds (Look j e seen ∷ []) in
+    let there : e < length before.edges = subst (λ n. e < n) (sym (learned_all_edges plan (the_opening plan) deeds ∙ opening_edges plan)) inside in
+    (ap (λ (s : State). edge s e) ends ∙ edge_same before e seen there, λ f other. ap (λ (s : State). edge s f) ends ∙ edge_other before e seen f other)

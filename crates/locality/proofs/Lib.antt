@@ -4,6 +4,7 @@ pub mod Reading
 pub mod Runs
 pub mod Knowing
 pub mod Parts
+pub mod Whole
 pub mod Local
 pub mod Histories
 pub mod Holding

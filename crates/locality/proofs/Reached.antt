@@ -3,9 +3,9 @@ use Rattle.std.proofs.Common.{inl, inr, refl}
 use Rattle.legal_steps.specs.Legal.{next_command}
 use Rattle.legal_steps.specs.Fitting.{Fits}
 use Rattle.locality.specs.History.{state_after}
-use Rattle.locality.specs.Laws.{HoldsWhatItReaches, KeepsReachedLog, HasOneReaching}
+use Rattle.locality.specs.Laws.{EntryReadsAlike, HoldsWhatItReaches, KeepsReachedLog, HasOneReaching}
 use Rattle.locality.proofs.Histories.{history_fits, history_exclusive}
-use Rattle.locality.proofs.Holding.{ready_holds, reaching_holds, log_kept}
+use Rattle.locality.proofs.Holding.{ready_holds, reaching_holds, log_kept, next_entry_same}
 
 pub holds_what_it_reaches : HoldsWhatItReaches
 holds_what_it_reaches plan h j legal (inl may) = ready_holds plan (state_after plan h) j may
@@ -19,3 +19,6 @@ pub has_one_reaching : HasOneReaching
 has_one_reaching plan h j k i is_plan legal mine other =
     let fit : Fits plan (state_after plan h) = history_fits plan h legal in
     history_exclusive plan h is_plan legal j k i (reaching_holds plan (state_after plan h) j i fit mine) (reaching_holds plan (state_after plan h) k i fit other)
+
+pub entry_reads_alike : EntryReadsAlike
+entry_reads_alike plan s t j own logs = next_entry_same plan s t j own logs

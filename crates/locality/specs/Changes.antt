@@ -1,4 +1,4 @@
--- What an event makes of the seat of the job that acts. No other seat changes.
+-- For readers: what an event makes of the seat of the job that acts. No other seat changes.
 use Rattle.std.specs.Prelude.{◌+◌, true, false, slice_index_or, bit_xor, bit_and}
 use Rattle.lab_plan.specs.LabPlan.{LabPlan}
 use Rattle.legal_steps.specs.declared.phase.Dining.TheVariants.{Thinking, Hungry, Eating}

@@ -1,4 +1,4 @@
--- What an event makes of the edge of its exchange, and to which log it writes. No other edge changes, and no other log.
+-- For readers: what an event makes of the edge of its exchange, and to which log it writes. No other edge changes, and no other log.
 use Rattle.std.specs.Prelude.{ℕ, ◌+◌, Bool, false, ◌==◌, if◌then◌else◌, List, [], ◌∷◌, Option, Some, None}
 use Rattle.lab_plan.specs.LabPlan.{LabPlan}
 use Rattle.legal_steps.specs.declared.edge_state.EdgeState.{EdgeState}

@@ -1,9 +1,10 @@
--- The laws of events and of histories, as statements.
+-- For readers: what one event reads and changes, what a job knows, and what holds after every history, as statements.
 use Rattle.std.specs.Prelude.{◌≡◌, ◌≢◌, ◌⊎◌, ◌↔◌, ℕ, ◌<◌, List, [], ◌∷◌, ◌++◌, length, Some}
-use Rattle.lab_plan.specs.LabPlan.{LabPlan}
+use Rattle.lab_plan.specs.LabPlan.{LabPlan, edges}
 use Rattle.lab_plan.specs.IsPlan.{IsPlan}
+use Rattle.legal_steps.specs.declared.edge_state.EdgeState.{EdgeState}
 use Rattle.legal_steps.specs.declared.event.Event.{Event}
-use Rattle.legal_steps.specs.declared.event.Event.TheVariants.{Reach, Act}
+use Rattle.legal_steps.specs.declared.event.Event.TheVariants.{Look, Reach, Act}
 use Rattle.legal_steps.specs.declared.phase.Drinking.TheVariants.{Retired}
 use Rattle.legal_steps.specs.State.{State, edge, seat, log, drinking, position, IsInSession}
 use Rattle.legal_steps.specs.Legal.{May, after, next_command, next_entry}
@@ -57,11 +58,20 @@ ChangesOneLog = (plan : LabPlan) (s : State) (event : Event) → HasOneLogChange
 abbrev pub ReadsAlike : Type 0
 ReadsAlike = (plan : LabPlan) (s t : State) (event : Event) → AreAlikeFor s t event → May plan s event ↔ May plan t event
 
+-- and the entry that an Act makes depends on the seat of its job and on the one log that it writes
+abbrev pub EntryReadsAlike : Type 0
+EntryReadsAlike = (plan : LabPlan) (s t : State) (j : ℕ) → seat s j ≡ seat t j → log s (next_command plan s j).0 ≡ log t (next_command plan t j).0 → next_entry plan s j ≡ next_entry plan t j
+
 -- ---- what a job knows
 
 -- the seat of a job after any list of events from THE opening, legal or not, is what the job knows by its own events in it
 abbrev pub KnowsItself : Type 0
 KnowsItself = (plan : LabPlan) (h : List Event) (j : ℕ) → j < length plan.jobs → seat (state_after plan h) j ≡ seat (known_by plan (events_by j h)) j
+
+-- a look at an edge puts there what it saw, and leaves what the job knows of the other edges
+abbrev pub KnowsWhatItSaw : Type 0
+KnowsWhatItSaw = (plan : LabPlan) (deeds : List Event) (j e : ℕ) (seen : EdgeState) → e < length (edges plan)
+    → (edge (known_by plan (deeds ++ Look j e seen ∷ [])) e ≡ seen) × ((f : ℕ) → f ≢ e → edge (known_by plan (deeds ++ Look j e seen ∷ [])) f ≡ edge (known_by plan deeds) f)
 
 -- a job's counts in any list are those of its own events in it
 abbrev pub CountsItself : Type 0
@@ -76,6 +86,12 @@ LeadsOn = (plan : LabPlan) (s : State) (a b : List Event) → after_all plan s (
 -- both are legal where the first is, and the second from where it led
 abbrev pub IsLegalInParts : Type 0
 IsLegalInParts = (plan : LabPlan) (s : State) (a b : List Event) → IsLegalFrom plan s (a ++ b) ↔ (IsLegalFrom plan s a × IsLegalFrom plan (after_all plan s a) b)
+
+-- ---- what holds after histories
+
+-- P holds of the state after every history of every plan
+abbrev pub AfterEvery : (LabPlan → State → Type 0) → Type 0
+AfterEvery P = (plan : LabPlan) (h : List Event) → IsPlan plan → IsHistory plan h → P plan (state_after plan h)
 
 -- ---- what stays over legal lists
 

@@ -1,4 +1,4 @@
--- The count of patience: in how many of its job's turns a session was thirsty at the start and at the end.
+-- For readers: the count of patience: in how many of its job's turns a session was thirsty at the start and at the end.
 use Rattle.std.specs.Prelude.{ℕ, ◌+◌, ◌==◌, ◌&&◌, min, if◌then◌else◌, Bool, true, false}
 use Rattle.legal_steps.specs.declared.phase.Drinking.{Drinking}
 use Rattle.legal_steps.specs.declared.phase.Drinking.TheVariants.{Tranquil, Thirsty, Drinking as Drinks, Reaching, Retired}

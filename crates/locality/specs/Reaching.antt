@@ -1,4 +1,4 @@
--- Which job reaches for which instrument.
+-- For readers: which job reaches for which instrument.
 use Rattle.std.specs.Prelude.{◌≡◌, ℕ}
 use Rattle.lab_plan.specs.LabPlan.{LabPlan}
 use Rattle.legal_steps.specs.declared.phase.Drinking.TheVariants.{Reaching}

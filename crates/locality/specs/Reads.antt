@@ -1,4 +1,4 @@
--- What decides whether an event is legal.
+-- For readers: what decides whether an event is legal.
 use Rattle.std.specs.Prelude.{◌≡◌}
 use Rattle.legal_steps.specs.declared.event.Event.{Event}
 use Rattle.legal_steps.specs.declared.event.Event.TheVariants.{Look, AskFork, GiveFork, Soil, AskBottles, GiveBottles, Thirst, Hunger, Sit, Leave, Drink, Reach, Act, Quit, Retire, Glance, Withdraw}

@@ -1,6 +1,9 @@
 // What one event changes and reads, what a job knows by its own events, and what stays over legal lists.
 // Each law is the contract of a function that does nothing.
-ghost use Rattle.locality.specs.Laws.{ChangesOneEdge, ChangesOneLog, ChangesOneSeat, CountsItself, HasOneEntryEach, HasOneReaching, HoldsWhatItReaches, IsLegalInParts, KeepsAll, KeepsReachedLog, KnowsItself, LeadsOn, ReadsAlike, RestsAtNoCommand, StaysRetired};
+ghost use Rattle.legal_steps.specs.Fitting.{Fits};
+ghost use Rattle.legal_steps.specs.Holding.{AreTruthful, IsExclusive};
+ghost use Rattle.legal_steps.specs.Precedence.{IsAcyclic};
+ghost use Rattle.locality.specs.Laws.{AfterEvery, ChangesOneEdge, ChangesOneLog, ChangesOneSeat, CountsItself, EntryReadsAlike, HasOneEntryEach, HasOneReaching, HoldsWhatItReaches, IsLegalInParts, KeepsAll, KeepsReachedLog, KnowsItself, KnowsWhatItSaw, LeadsOn, ReadsAlike, RestsAtNoCommand, StaysRetired};
 
 /// After an event there are as many seats, edges and logs as before.
 pub fn keeps_all()
@@ -28,9 +31,19 @@ pub fn reads_alike()
     ensures { ReadsAlike }
 {}
 
+/// The entry of a job's next command depends on the seat of the job and on the log of the command's instrument.
+pub fn entry_reads_alike()
+    ensures { EntryReadsAlike }
+{}
+
 /// The seat of a job is what its own events make of it, whatever events of others stand between them.
 pub fn knows_itself()
     ensures { KnowsItself }
+{}
+
+/// What a job knows of an edge after a look at it is what the look saw.
+pub fn knows_what_it_saw()
+    ensures { KnowsWhatItSaw }
 {}
 
 /// The meals that a job began, and the sessions that it ended or gave up, are counted in its own events.
@@ -46,6 +59,15 @@ pub fn leads_on()
 /// Two lists of events one after another are legal exactly where each is, the second from where the first led.
 pub fn is_legal_in_parts()
     ensures { IsLegalInParts }
+{}
+
+/// After every history: all numbers of the state are the plan's, marks are truthful, no two jobs hold one instrument,
+/// and precedence has no cycle.
+pub fn after_every_history()
+    ensures fits { AfterEvery Fits }
+    ensures truthful { AfterEvery AreTruthful }
+    ensures exclusive { AfterEvery IsExclusive }
+    ensures acyclic { AfterEvery IsAcyclic }
 {}
 
 /// A retired job stays retired over every legal list of events.

@@ -3,13 +3,12 @@ use Rattle.std.specs.Prelude.{Bool, true, false, ◌&&◌, ◌≡◌, ℕ, ◌<�
 use Rattle.lab_plan.specs.LabPlan.{LabPlan, ends}
 use Rattle.legal_steps.specs.declared.event.Event.{Event}
 use Rattle.legal_steps.specs.declared.edge_state.EdgeState.{EdgeState}
-use Rattle.legal_steps.specs.declared.phase.Drinking.{Drinking}
-use Rattle.legal_steps.specs.declared.phase.Drinking.TheVariants.{Tranquil, Thirsty, Drinking as Drinks, Reaching, Retired}
-use Rattle.legal_steps.specs.State.{edge, no_edge, drinking}
+use Rattle.legal_steps.specs.State.{edge, no_edge}
 use Rattle.locality.specs.History.{IsHistory, events_by}
 use Rattle.locality.specs.Lists.{StartsWith, Each}
 use Rattle.edge_rule.specs.DeskView.{DeskView, BenchView, Owns, IsAtRest, known}
 use Rattle.edge_rule.specs.Ending.{Any}
+use Rattle.session_layer.specs.Retired.{is_retired}
 
 -- the history that the first desk has seen
 abbrev pub first_front : List DeskView → List Event
@@ -41,17 +40,7 @@ pub record Company (b : BenchView) (h : List Event) (desks : List DeskView) : Ty
 
 -- ---- tests
 
-abbrev pub is_gone : Drinking → Bool
-is_gone Retired = true
-is_gone Tranquil = false
-is_gone Thirsty = false
-is_gone Drinks = false
-is_gone Reaching = false
-
--- the desk's job is retired
-abbrev pub is_retired : DeskView → Bool
-is_retired d = is_gone (drinking (known d) d.job)
-
+-- the job of each of the desks is retired
 abbrev pub all_retired : List DeskView → Bool
 all_retired [] = true
 all_retired (d ∷ desks) = is_retired d && all_retired desks

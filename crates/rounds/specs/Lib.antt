@@ -1,1 +1,2 @@
 pub mod Company
+pub mod Rounds

@@ -5,8 +5,11 @@
 #![tactic(auto)]
 
 mod agreeing;
+mod driving;
 mod ended;
+mod one_round;
 mod retired;
 
+pub use driving::rounds;
 pub use ended::Ended;
-pub use retired::all_retired;
+pub use retired::{all_retired, are_at_rest};

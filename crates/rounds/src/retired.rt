@@ -2,7 +2,8 @@
 ghost use Rattle.std.specs.Prelude.{◌≡◌};
 ghost use Rattle.locality.specs.Lists.{Each};
 ghost use Rattle.edge_rule.specs.DeskView.{IsAtRest};
-ghost use Rattle.rounds.specs.Company.{is_retired, all_retired};
+ghost use Rattle.session_layer.specs.Retired.{is_retired};
+ghost use Rattle.rounds.specs.Company.{all_retired};
 
 use edge_rule::Desk;
 use legal_steps::Drinking;
@@ -24,8 +25,8 @@ pub fn all_retired<A: Allocator>(desks: &[Desk<A>]) -> bool
     }
 }
 
-/// Tells of each desk that it is at rest.
-pub(crate) fn are_at_rest<A: Allocator>(desks: &[Desk<A>])
+/// Does nothing; a caller knows then of each desk that it is at rest.
+pub fn are_at_rest<A: Allocator>(desks: &[Desk<A>])
     ensures { Each IsAtRest desks.now }
 {
     match desks {

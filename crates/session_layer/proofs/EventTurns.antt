@@ -1,5 +1,5 @@
 -- What a desk did in a turn, by its record alone.
-use Rattle.std.proofs.Common.{◌≡◌, ◌≢◌, ℕ, Bool, true, false, if◌then◌else◌, List, [], ◌∷◌, ◌++◌, refl, sym, ap, ◌∙◌, subst, append_assoc, append-nil}
+use Rattle.std.proofs.Common.{◌≡◌, ◌≢◌, ℕ, ◌+◌, Bool, true, false, not, ◌&&◌, map, arith, if◌then◌else◌, List, [], ◌∷◌, ◌++◌, refl, sym, ap, ◌∙◌, subst, append_assoc, append-nil}
 use Rattle.lab_plan.specs.LabPlan.{LabPlan}
 use Rattle.legal_steps.specs.declared.event.Event.{Event}
 use Rattle.legal_steps.specs.declared.event.Event.TheVariants.{Look}
@@ -11,11 +11,13 @@ use Rattle.edge_rule.specs.DeskView.{DeskView, Adds, known, shown, waited}
 use Rattle.locality.proofs.Runs.{learned_all-append}
 use Rattle.turns.specs.Due.{AreDue, is_nothing}
 use Rattle.turns.specs.Acts.{AreActs}
-use Rattle.turns.specs.Turn.{Visit}
-use Rattle.session_layer.specs.Turn.{Visits, VisitsAll, DoesAll, Chosen}
-use Rattle.turns.specs.Turn.{visit_events, visits_events, AreVisits}
-use Rattle.session_layer.specs.Turn.{TookIsTurn}
-use Rattle.turns.proofs.Idle.{no_events}
+use Rattle.turns.specs.Turn.{Visit, count, once, is_done}
+use Rattle.session_layer.specs.Turn.{Visits, VisitsAll, DoesAll, Chosen, Took}
+use Rattle.turns.specs.Turn.{visit_events, visits_events, AreVisits, IsTurnBy}
+use Rattle.session_layer.specs.Turn.{TookIsTurn, IdleIsIdle, MovedDidNothing}
+use Rattle.session_layer.specs.declared.turning.Turned.{Turned}
+use Rattle.session_layer.specs.declared.turning.Turned.TheVariants.{Moved, Idle}
+use Rattle.turns.proofs.Idle.{no_events, nothing_done_is_idle}
 
 -- the record grew by these events
 pub record Did (d : DeskView) (events : List Event) (e : DeskView) : Type 0 where
@@ -62,19 +64,47 @@ all_did : (d : DeskView) (events : List Event) (d' : DeskView) → DoesAll d eve
 all_did d [] d' is = did_none d d' is
 all_did d (x ∷ xs) d' (m, first, later) = did_then d m d' (x ∷ []) xs (adds_did d (x ∷ []) m first) (all_did m xs d' later)
 
+-- by which turn
+turn_by : (d : DeskView) (r : Turned) (d' : DeskView) (t : Took d r d') → IsTurnBy d.plan d.job (waited d) (known d) t.visits t.acts (visits_events d.job t.visits ++ t.acts)
+turn_by d r d' t = let a = visits_did d t.visits t.visited t.all in record {
+  edges = t.edges;
+  due = a.1;
+  acts_due = subst (λ (z : LabPlan × State × ℕ). AreActs z.0 z.1 z.2 (waited d) t.acts) (λ i. (a.0.plan i, known_then d t.visited (visits_events d.job t.visits) a.0 i, a.0.job i)) t.due;
+  events_are = refl;
+}
+
+deeds_then : (d : DeskView) (r : Turned) (d' : DeskView) (t : Took d r d') → d'.deeds ≡ d.deeds ++ (visits_events d.job t.visits ++ t.acts)
+deeds_then d r d' t = ap (λ (z : DeskView). z.deeds) t.noted_is ∙ (did_then d t.visited t.acted (visits_events d.job t.visits) t.acts (visits_did d t.visits t.visited t.all).0 (all_did t.visited t.acts t.acted t.does)).deeds
+
 pub took_is_turn : TookIsTurn
-took_is_turn = λ d r d' t. let a = visits_did d t.visits t.visited t.all in let b = all_did t.visited t.acts t.acted t.does in
-    let both_did = did_then d t.visited t.acted (visits_events d.job t.visits) t.acts a.0 b in (
-      visits_events d.job t.visits ++ t.acts,
-      (
-        t.visits,
-        t.acts,
-        record {
-          edges = t.edges;
-          due = a.1;
-          acts_due = subst (λ (z : LabPlan × State × ℕ). AreActs z.0 z.1 z.2 (waited d) t.acts) (λ i. (a.0.plan i, known_then d t.visited (visits_events d.job t.visits) a.0 i, a.0.job i)) t.due;
-          events_are = refl;
-        },
-      ),
-      ap (λ (z : DeskView). z.deeds) t.noted_is ∙ both_did.deeds,
-    )
+took_is_turn = λ d r d' t. (visits_events d.job t.visits ++ t.acts, (t.visits, t.acts, turn_by d r d' t), deeds_then d r d' t)
+
+pub idle_is_idle : IdleIsIdle
+idle_is_idle = λ d d' t. (
+  visits_events d.job t.visits ++ t.acts,
+  nothing_done_is_idle d.plan d.job (waited d) (known d) t.visits t.acts (visits_events d.job t.visits ++ t.acts) (turn_by d Idle d' t) t.says.0 t.says.1,
+  deeds_then d Idle d' t,
+)
+
+-- a visit that did nothing is a look
+not_done : (nothing lost : Bool) (n : ℕ) (events : List Event) → (if not nothing && not lost then 1 else 0) + n ≡ 0 → (nothing ≡ true → events ≡ []) → (if lost then [] else events) ≡ []
+not_done nothing true n events h none = refl
+not_done true false n events h none = none refl
+not_done false false n events h none = absurd (omega (arith, h))
+
+looks_alone : (j : ℕ) (vs : List Visit) → count is_done vs ≡ 0 → visits_events j vs ≡ map (λ (v : Visit). Look j v.edge v.saw) vs
+looks_alone j [] h = refl
+looks_alone j (v ∷ vs) h = λ i. Look j v.edge v.saw ∷ not_done (is_nothing v.moves) v.lost (count is_done vs) (events_of v.moves j v.edge) h (no_events v.moves j v.edge) i ++ looks_alone j vs (omega (arith, h)) i
+
+none_at_all : (acts : List Event) → once acts ≡ 0 → acts ≡ []
+none_at_all [] h = refl
+none_at_all (x ∷ acts) h = absurd (omega (arith, h))
+
+pub moved_did_nothing : MovedDidNothing
+moved_did_nothing = λ d d' t. let none = t.says.0 in let z : visits_events d.job t.visits ++ t.acts ≡ map (λ (v : Visit). Look d.job v.edge v.saw) t.visits =
+    ap (λ l. visits_events d.job t.visits ++ l) (none_at_all t.acts (omega (arith, none))) ∙ (append-nil (visits_events d.job t.visits) ∙ looks_alone d.job t.visits (omega (arith, none))) in record {
+      visits = t.visits;
+      edges = t.edges;
+      looks = deeds_then d Moved d' t ∙ ap (λ l. d.deeds ++ l) z;
+      lost = t.says.1;
+    }

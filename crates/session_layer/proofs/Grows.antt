@@ -74,12 +74,12 @@ pub known_grown : (d e : DeskView) (events : List Event) → Grew d events e →
 known_grown d e events g = known_then d e events (record { plan = g.plan; job = g.job; deeds = g.deeds })
 
 -- the desk did these groups, in the middle of a turn
-record Goes (d : DeskView) (groups : List (List Event)) (e : DeskView) : Type 0 where
+pub record Goes (d : DeskView) (groups : List (List Event)) (e : DeskView) : Type 0 where
   pub grew : Grew d (flat groups) e
   pub clock : e.clock ≡ d.clock
   pub stands : Stands groups grew.more
 
-adds_goes : (d : DeskView) (g : List Event) (e : DeskView) → Adds d g e → Goes d (g ∷ []) e
+pub adds_goes : (d : DeskView) (g : List Event) (e : DeskView) → Adds d g e → Goes d (g ∷ []) e
 adds_goes d g e a = record { grew = grew_as d g (g ++ []) e (sym (append-nil g)) (adds_grew d g e a); clock = a.clock; stands = (a.between, [], ap (λ z. a.between ++ z) (sym (append-nil g)), tt) }
 
 goes_none : (d e : DeskView) → e ≡ d → Goes d [] e
@@ -106,16 +106,16 @@ tried d v e true false is lost t = subst (λ g. Goes d (g ∷ []) e) (sym (no_ev
 tried d v e false true is lost t = adds_goes d [] e t.0
 tried d v e false false is lost t = adds_goes d (events_of v.moves d.job v.edge) e t
 
-visit_goes : (d : DeskView) (v : Visit) (e : DeskView) → Visits d v e → Goes d (visit_groups d.job v) e
+pub visit_goes : (d : DeskView) (v : Visit) (e : DeskView) → Visits d v e → Goes d (visit_groups d.job v) e
 visit_goes d v e t = subst (λ j. Goes d ((Look d.job v.edge v.saw ∷ []) ∷ (if v.lost then [] else events_of v.moves j v.edge) ∷ []) e) t.look.job
     (goes_then d t.looked e ((Look d.job v.edge v.saw ∷ []) ∷ []) _ (adds_goes d _ t.looked t.look) (tried t.looked v e (is_nothing v.moves) v.lost refl refl t.tries))
 
-visits_go : (d : DeskView) (vs : List Visit) (e : DeskView) → VisitsAll d vs e → Goes d (visits_groups d.job vs) e
+pub visits_go : (d : DeskView) (vs : List Visit) (e : DeskView) → VisitsAll d vs e → Goes d (visits_groups d.job vs) e
 visits_go d [] e is = goes_none d e is
 visits_go d (v ∷ vs) e (m, first, later) = let a = visit_goes d v m first in
     subst (λ j. Goes d (visit_groups d.job v ++ visits_groups j vs) e) a.grew.job (goes_then d m e (visit_groups d.job v) (visits_groups m.job vs) a (visits_go m vs e later))
 
-acts_go : (d : DeskView) (acts : List Event) (e : DeskView) → DoesAll d acts e → Goes d (map (λ (event : Event). event ∷ []) acts) e
+pub acts_go : (d : DeskView) (acts : List Event) (e : DeskView) → DoesAll d acts e → Goes d (map (λ (event : Event). event ∷ []) acts) e
 acts_go d [] e is = goes_none d e is
 acts_go d (x ∷ xs) e (m, first, later) = goes_then d m e ((x ∷ []) ∷ []) (map (λ (event : Event). event ∷ []) xs) (adds_goes d (x ∷ []) m first) (acts_go m xs e later)
 
@@ -167,7 +167,7 @@ but_turn plan j w s vs acts events t = ap but_glances t.events_are ∙ (but_plai
 -- ---- turns
 
 -- by which turn
-took_by : (d : DeskView) (r : Turned) (e : DeskView) (t : Took d r e) → IsTurnBy d.plan d.job (waited d) (known d) t.visits t.acts (visits_events d.job t.visits ++ t.acts)
+pub took_by : (d : DeskView) (r : Turned) (e : DeskView) (t : Took d r e) → IsTurnBy d.plan d.job (waited d) (known d) t.visits t.acts (visits_events d.job t.visits ++ t.acts)
 took_by d r e t = let a = visits_did d t.visits t.visited t.all in record {
   edges = t.edges;
   due = a.1;
@@ -175,7 +175,7 @@ took_by d r e t = let a = visits_did d t.visits t.visited t.all in record {
   events_are = refl;
 }
 
-took_goes : (d : DeskView) (r : Turned) (e : DeskView) (t : Took d r e) → Goes d (turn_groups d.job t.visits t.acts) t.acted
+pub took_goes : (d : DeskView) (r : Turned) (e : DeskView) (t : Took d r e) → Goes d (turn_groups d.job t.visits t.acts) t.acted
 took_goes d r e t = goes_then d t.visited t.acted (visits_groups d.job t.visits) (map (λ (event : Event). event ∷ []) t.acts) (visits_go d t.visits t.visited t.all) (acts_go t.visited t.acts t.acted t.does)
 
 pub one_turn : OneTurn

@@ -1,4 +1,3 @@
-pub mod Local
 pub mod ActsDue
 pub mod Turn
 pub mod Grown

@@ -13,7 +13,7 @@ use Rattle.session_layer.specs.declared.turning.Turned.{Turned}
 use Rattle.session_layer.specs.declared.turning.Turned.TheVariants.{Acted, Moved, Idle}
 use Rattle.turns.specs.Due.{AreDue, is_nothing}
 use Rattle.turns.specs.Acts.{AreActs}
-use Rattle.turns.specs.Turn.{Visit, is_done, is_lost, count, once, IsTurn}
+use Rattle.turns.specs.Turn.{Visit, is_done, is_lost, count, once, IsTurn, IsIdleTurn}
 
 -- P where the test is true, Q where it is false
 abbrev pub Chosen : Bool → Type 0 → Type 0 → Type 0
@@ -99,3 +99,17 @@ pub record Took (d : DeskView) (r : Turned) (d' : DeskView) : Type 0 where
 -- what a desk did in a turn is a turn of its record
 abbrev pub TookIsTurn : Type 0
 TookIsTurn = (d : DeskView) (r : Turned) (d' : DeskView) → Took d r d' → (events : List Event) × IsTurn d.plan d.job (waited d) (known d) events × (d'.deeds ≡ d.deeds ++ events)
+
+-- the answer Idle is given for an idle turn alone
+abbrev pub IdleIsIdle : Type 0
+IdleIsIdle = (d d' : DeskView) → Took d Idle d' → (events : List Event) × IsIdleTurn d.plan d.job (waited d) (known d) events × (d'.deeds ≡ d.deeds ++ events)
+
+-- the answer Moved is given only where looks alone were added to the record, one at each own edge, and an exchange found another word
+pub record OnlyLooked (d d' : DeskView) : Type 0 where
+  pub visits : List Visit
+  pub edges : map (λ (v : Visit). v.edge) visits ≡ edges_of d.plan d.job
+  pub looks : d'.deeds ≡ d.deeds ++ map (λ (v : Visit). Look d.job v.edge v.saw) visits
+  pub lost : 0 < count is_lost visits
+
+abbrev pub MovedDidNothing : Type 0
+MovedDidNothing = (d d' : DeskView) → Took d Moved d' → OnlyLooked d d'

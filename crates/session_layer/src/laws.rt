@@ -1,7 +1,17 @@
 //! What holds of all turns.
-ghost use Rattle.session_layer.specs.Turn.{TookIsTurn};
+ghost use Rattle.session_layer.specs.Turn.{TookIsTurn, IdleIsIdle, MovedDidNothing};
 
 /// What a desk did in a turn is a turn of its record.
 pub fn took_is_turn()
     ensures { TookIsTurn }
+{}
+
+/// Idle is answered for an idle turn alone.
+pub fn idle_is_idle()
+    ensures { IdleIsIdle }
+{}
+
+/// Moved is answered only where nothing but looks was added to the record, and an exchange found another word.
+pub fn moved_did_nothing()
+    ensures { MovedDidNothing }
 {}

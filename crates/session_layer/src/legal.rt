@@ -1,16 +1,14 @@
-//! Where a phase act is legal, by the desk.
-ghost use Rattle.std.specs.Prelude.{◌≡◌, ◌≢◌, ◌↔◌, ℕ, ◌<◌, ◌≤◌, IsTrue, IsSome, length};
-ghost use Rattle.lab_plan.specs.LabPlan.{edges, bottles, sessions, patience};
+//! Where the acts of a session are legal, by the desk.
+ghost use Rattle.std.specs.Prelude.{◌≡◌, ◌↔◌, ◌<◌, IsTrue, IsSome, length};
+ghost use Rattle.lab_plan.specs.LabPlan.{sessions, patience};
 ghost use Rattle.legal_steps.specs.declared.phase.Drinking.TheVariants.{Thirsty, Drinking as Drinks};
-ghost use Rattle.legal_steps.specs.declared.event.Event.TheVariants.{Thirst, Hunger, Sit, Leave, Drink, Reach, Quit, Retire, Withdraw};
-ghost use Rattle.legal_steps.specs.State.{IsOwn, IsInSession, Has, session as session_at, position as position_at, drinking as drinking_at, fork_mark as fork_mark_at};
-ghost use Rattle.legal_steps.specs.Legal.{May, IsMarkedAll, HasNeeded, HasNeededAt, session_commands};
+ghost use Rattle.legal_steps.specs.declared.event.Event.TheVariants.{Thirst, Reach, Quit, Retire, Withdraw};
+ghost use Rattle.legal_steps.specs.State.{session as session_at, position as position_at, drinking as drinking_at};
+ghost use Rattle.legal_steps.specs.Legal.{May, session_commands};
 ghost use Rattle.edge_rule.specs.DeskView.{Owns, known};
 ghost use Rattle.turns.specs.Acts.{Counts, IsUsedUp};
 
-use crate::local::needed_bottles;
 use edge_rule::{Bench, Desk};
-use lab_plan::EdgeNo;
 use legal_steps::{Dining, Drinking};
 use std::alloc::Allocator;
 
@@ -52,52 +50,6 @@ fn is_used_up<A: Allocator>(bench: &Bench<A>, desk: &Desk<A>, waited: u32) -> bo
     }
 }
 
-// Whether each own edge has a fork mark.
-fn is_marked_all<A: Allocator>(bench: &Bench<A>, desk: &Desk<A>) -> bool
-    requires own { Owns bench.now desk.now }
-    ensures { IsTrue result ↔ IsMarkedAll desk.now.plan (known desk.now) desk.now.job }
-{
-    let job = desk.job();
-    let plan = bench.plan();
-    let own = plan.edges_of(job);
-    for edge in own {
-        if !desk.fork_mark(*edge) {
-            return false;
-        }
-    }
-    true
-}
-
-// Whether each needed bottle of the edge is marked.
-fn has_needed_at<A: Allocator>(bench: &Bench<A>, desk: &Desk<A>, edge: EdgeNo) -> bool
-    requires own { Owns bench.now desk.now }
-    requires edge { edge < length (edges desk.now.plan) }
-    ensures { IsTrue result ↔ HasNeededAt desk.now.plan (known desk.now) desk.now.job edge }
-{
-    let phase = desk.phase();
-    let job = desk.job();
-    let plan = bench.plan();
-    let marks = desk.bottle_marks(edge);
-    let needed = needed_bottles(plan, job, phase, edge);
-    needed & marks == needed
-}
-
-// Whether each needed bottle of every own edge is marked.
-fn has_needed<A: Allocator>(bench: &Bench<A>, desk: &Desk<A>) -> bool
-    requires own { Owns bench.now desk.now }
-    ensures { IsTrue result ↔ HasNeeded desk.now.plan (known desk.now) desk.now.job }
-{
-    let job = desk.job();
-    let plan = bench.plan();
-    let own = plan.edges_of(job);
-    for edge in own {
-        if !has_needed_at(bench, desk, *edge) {
-            return false;
-        }
-    }
-    true
-}
-
 pub(crate) fn may_quit<A: Allocator>(bench: &Bench<A>, desk: &Desk<A>) -> bool
     requires own { Owns bench.now desk.now }
     ensures { IsTrue result ↔ May desk.now.plan (known desk.now) (Quit desk.now.job) }
@@ -112,35 +64,11 @@ pub(crate) fn may_reach<A: Allocator>(bench: &Bench<A>, desk: &Desk<A>) -> bool
     desk.phase().drinking == Drinking::Drinking && has_command(bench, desk)
 }
 
-pub(crate) fn may_drink<A: Allocator>(bench: &Bench<A>, desk: &Desk<A>) -> bool
-    requires own { Owns bench.now desk.now }
-    ensures { IsTrue result ↔ May desk.now.plan (known desk.now) (Drink desk.now.job) }
-{
-    desk.phase().drinking == Drinking::Thirsty && has_needed(bench, desk)
-}
-
 pub(crate) fn withdraws<A: Allocator>(bench: &Bench<A>, desk: &Desk<A>, waited: u32) -> bool
     requires own { Owns bench.now desk.now }
     ensures { IsTrue result ↔ Counts desk.now.plan (known desk.now) desk.now.job waited (Withdraw desk.now.job) }
 {
     desk.phase().drinking == Drinking::Thirsty && is_used_up(bench, desk, waited)
-}
-
-pub(crate) fn may_leave<A: Allocator>(bench: &Bench<A>, desk: &Desk<A>) -> bool
-    requires own { Owns bench.now desk.now }
-    ensures { IsTrue result ↔ May desk.now.plan (known desk.now) (Leave desk.now.job) }
-{
-    let phase = desk.phase();
-    phase.dining == Dining::Eating
-        && phase.drinking != Drinking::Thirsty
-        && is_marked_all(bench, desk)
-}
-
-pub(crate) fn may_sit<A: Allocator>(bench: &Bench<A>, desk: &Desk<A>) -> bool
-    requires own { Owns bench.now desk.now }
-    ensures { IsTrue result ↔ May desk.now.plan (known desk.now) (Sit desk.now.job) }
-{
-    desk.phase().dining == Dining::Hungry && is_marked_all(bench, desk)
 }
 
 pub(crate) fn may_thirst<A: Allocator>(bench: &Bench<A>, desk: &Desk<A>) -> bool
@@ -151,14 +79,6 @@ pub(crate) fn may_thirst<A: Allocator>(bench: &Bench<A>, desk: &Desk<A>) -> bool
     phase.drinking == Drinking::Tranquil
         && phase.dining != Dining::Eating
         && has_session(bench, desk)
-}
-
-pub(crate) fn may_hunger<A: Allocator>(bench: &Bench<A>, desk: &Desk<A>) -> bool
-    requires own { Owns bench.now desk.now }
-    ensures { IsTrue result ↔ May desk.now.plan (known desk.now) (Hunger desk.now.job) }
-{
-    let phase = desk.phase();
-    phase.dining == Dining::Thinking && phase.drinking == Drinking::Thirsty
 }
 
 pub(crate) fn may_retire<A: Allocator>(bench: &Bench<A>, desk: &Desk<A>) -> bool

@@ -8,7 +8,8 @@ ghost use Rattle.turns.specs.Due.{is_nothing as are_none};
 ghost use Rattle.session_layer.specs.Turn.{IsVisited, Took, done_by as done_in, lost_by as lost_in};
 
 use crate::acting::act;
-use crate::moves::{fork_moves, with_bottles};
+use dining_layer::fork_moves;
+use drinking_layer::with_bottles;
 use edge_rule::{Bench, Desk, Stepped, exchange, look};
 use edge_word::EdgeMoves;
 use lab_plan::EdgeNo;

@@ -1,4 +1,4 @@
-use Rattle.std.proofs.Common.{rules, ◌≡◌, ◌≢◌, ℕ, ◌<◌, List, [], ◌∷◌, ◌++◌, length, take, drop, get_or, set, refl, sym, ap, ◌∙◌, subst, arith}
+use Rattle.std.proofs.Common.{◌≡◌, ◌≢◌, ℕ, ◌<◌, List, [], ◌∷◌, ◌++◌, length, get_or, set, sym, ap, ◌∙◌, subst, arith}
 use Rattle.one_history.specs.declared.board.View.{View}
 use Rattle.edge_rule.specs.declared.clock.Clock.{Clock}
 use Rattle.one_history.specs.declared.board.Hand.{Hand}
@@ -7,12 +7,12 @@ use Rattle.edge_rule.specs.DeskInside.{seat_view}
 use Rattle.atomic_table.specs.Seated.{TableId}
 use Rattle.atomic_table.specs.Table.{Me}
 use Rattle.instrument_log.specs.InstrumentLog.{LogView}
-use Rattle.edge_rule.specs.Company.{Distinct, jobs_of}
+use Rattle.edge_rule.specs.Company.{jobs_of}
 use Rattle.locality.specs.History.{events_by}
-use Rattle.one_history.specs.Grow.{hand_in, IsLed, IsMine, Grows, rest_hands, adding}
-use Rattle.one_history.specs.Seating.{glued, lent_left, backed_left, backed_right, taken_back}
+use Rattle.one_history.specs.Grow.{hand_in, IsLed, Grows, rest_hands, adding}
+use Rattle.one_history.specs.Seating.{glued, backed_right, taken_back}
 use Rattle.locality.specs.Lists.{Each, StartsWith}
-use Rattle.edge_rule.proofs.ManyHands.{split_first, some_left, Row, row, apart_more, notices, backs, hands_are, leads_all, led_all, hands_then, grows_back, starts_there, whole_there, as_it_was, desk_still}
+use Rattle.edge_rule.proofs.ManyHands.{split_first, some_left, row, apart_more, notices, backs, led_all, hands_then, grows_back, starts_there, whole_there, as_it_was, desk_still}
 use Rattle.one_history.proofs.Seats.{lends, glues, takes_back}
 use Rattle.edge_rule.proofs.company.+hear.Goals as goal
 

@@ -1,4 +1,4 @@
-use Rattle.std.proofs.Common.{rules, ◌≡◌, ◌≢◌, ℕ, List, [], ◌∷◌, ◌++◌, length, get_or, set, refl, sym, ap, ◌∙◌, subst, append-nil}
+use Rattle.std.proofs.Common.{◌≡◌, ◌≢◌, ℕ, List, [], ◌∷◌, ◌++◌, length, get_or, set, refl, sym, ap, ◌∙◌, subst, append-nil}
 use Rattle.one_history.specs.declared.board.Hand.{Hand}
 use Rattle.edge_rule.specs.DeskView.{DeskView, Adds}
 use Rattle.edge_rule.specs.DeskInside.{seat_view}
@@ -6,7 +6,7 @@ use Rattle.edge_rule.specs.Company.{Met, Hears, Distinct, jobs_of}
 use Rattle.locality.specs.History.{events_by}
 use Rattle.one_history.specs.Grow.{hand_in}
 use Rattle.locality.specs.Lists.{Each, StartsWith}
-use Rattle.edge_rule.proofs.DeskSteps.{seat_adds, desk_grows}
+use Rattle.edge_rule.proofs.DeskSteps.{seat_adds, desk_keeps}
 use Rattle.edge_rule.proofs.ManyHands.{split_first, some_left, apart_more}
 use Rattle.edge_rule.proofs.company.meet_all.Goals as goal
 
@@ -33,4 +33,4 @@ returns g0 c = let is = split_first c.args.desks.now c.split_at_mut-front.result
     (e, (λ i. set (is.1 i) 0 e ++ h.same i), hears (get_or c.split_at_mut-front.result.0.now 0 c.index-front-0.result) back e (seat_adds c.first.inside.seat c.hear.new.me _ (λ _. []) c.first.view_is h.grows h.seat.0) h.starts h.wholes)
 
 pub invariant_of-first : goal.invariant_of-first
-invariant_of-first g0 c = let ok = c.first.invariant in let h = c.hear.ensures in desk_grows c.first.inside ok _ [] h.grows h.seat.1 refl ok.own ok.seen ok.of_plan ok.rests
+invariant_of-first g0 c = let ok = c.first.invariant in let h = c.hear.ensures in desk_keeps c.first.inside ok _ [] tt h.grows h.seat.1 refl ok.own ok.seen ok.of_plan ok.rests

@@ -1,18 +1,15 @@
-use Rattle.std.proofs.Common.{◌≡◌, ◌≢◌, ℕ, ◌<◌, ◌-◌, ◌+◌, ◌*◌, ◌/◌, [], ◌∷◌, length, refl, sym, ap, ◌∙◌, subst, arith}
+use Rattle.std.proofs.Common.{◌≡◌, ◌≢◌, ℕ, ◌<◌, [], ◌∷◌, length, refl, sym, ap, ◌∙◌, subst, arith}
 use mathlib.Core.Option.{none}
 use Rattle.atomic_table.specs.Table.{step, Allows}
-use Rattle.lab_plan.specs.LabPlan.{LabPlan, edges}
-use Rattle.legal_steps.specs.declared.event.Event.{Event}
+use Rattle.lab_plan.specs.LabPlan.{LabPlan}
 use Rattle.legal_steps.specs.declared.event.Event.TheVariants.{Glance}
-use Rattle.legal_steps.specs.declared.phase.JobState.{JobState}
-use Rattle.edge_word.specs.Phases.{phase_word_of, FitsPhaseWord}
 use Rattle.one_history.specs.declared.board.View.{View}
 use Rattle.one_history.specs.declared.board.Hand.{Hand}
 use Rattle.locality.specs.History.{events_by}
 use Rattle.locality.specs.Lists.{StartsWith}
-use Rattle.one_history.specs.Rule.{phase_place, Kept}
-use Rattle.one_history.specs.Grow.{hand_in, IsLed, Grows, Does, adding, glanced}
-use Rattle.one_history.specs.Seating.{glued, lent_left, returned_left, returned_right, taken_back}
+use Rattle.one_history.specs.Rule.{Kept}
+use Rattle.one_history.specs.Grow.{hand_in, IsLed, Grows, adding, glanced}
+use Rattle.one_history.specs.Seating.{glued, taken_back}
 use Rattle.one_history.proofs.Glancing.{glances}
 use Rattle.edge_rule.proofs.GlancedDesks.{told_lent}
 use Rattle.one_history.proofs.Seats.{lends, glues, returns as gives_back, takes_back}

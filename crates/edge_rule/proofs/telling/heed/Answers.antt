@@ -6,7 +6,7 @@ use Rattle.one_history.specs.Seating.{glued}
 use Rattle.edge_rule.specs.Telling.{NewsView}
 use Rattle.edge_rule.specs.DeskView.{BenchView}
 use Rattle.one_history.proofs.Seats.{glues}
-use Rattle.edge_rule.proofs.DeskSteps.{owned, led, desk_grows, seat_adds}
+use Rattle.edge_rule.proofs.DeskSteps.{owned, led, desk_keeps, seat_adds}
 use Rattle.edge_rule.proofs.ManyHands.{notices}
 use Rattle.edge_rule.proofs.Tidings.{still_mine, grows_by_news, starts_news, heard}
 use Rattle.edge_rule.proofs.telling.heed.Goals as goal
@@ -23,7 +23,7 @@ load-requires g0 c = let b = c.bench.inside in let d = c.desk.inside in let n = 
 pub invariant_of-desk : goal.invariant_of-desk
 invariant_of-desk g0 c = let ok = c.desk.invariant in let d = c.desk.inside in let n = c.news.inside in let j = c.join_seat.ensures in
     let grown = grows_by_news d.seat.me.0 n.seat.me.0 ok.at_rest.mine c.news.invariant.hands c.join_seat.new.seat.me.0 c.load.new.seat.me.0 (ap (λ m. m.0) j.2) c.load.ensures.2.0 in
-    desk_grows d ok _ [] grown (c.load.ensures.2.1 ∙ (ap (λ m. m.1) j.2 ∙ ok.empty)) refl ok.own ok.seen ok.of_plan ok.rests
+    desk_keeps d ok _ [] tt grown (c.load.ensures.2.1 ∙ (ap (λ m. m.1) j.2 ∙ ok.empty)) refl ok.own ok.seen ok.of_plan ok.rests
 
 pub returns : goal.returns
 returns g0 c = let ok = c.desk.invariant in let d = c.desk.inside in let n = c.news.inside in let j = c.join_seat.ensures in let w : View = c.load.new.seat.me.0 in

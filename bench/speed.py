@@ -1,0 +1,258 @@
+#!/usr/bin/env python3
+"""Measures how fast labrun runs, beside plain Rust programs that do the same without proofs.
+
+Usage: bench/speed.py [rounds=N] [program=PATH] [only=NAME,..]     (from anywhere, after ./labrun was built)
+       bench/speed.py growth [rounds=N] [program=PATH]
+
+Builds the peers of bench/peers with `rustc -O` into a temporary folder, generates workloads, and runs all programs on each
+of them, one after the other, N times over (9 unless said); of all times of a program on a workload the best counts.
+
+  blocking   a thread a job, a lock an instrument, taken in ascending order
+  condvar    a thread a job, one broker that gives a session all its instruments at once
+  port       labrun's algorithm without proofs: `rounds`, and `threads` with 1, 2 and 4 workers
+  labrun     the same words
+
+What is compared is the run itself: the time from a program's start to the first byte of its report, less the same time on
+the same script with no turns. So starting, reading, opening and printing are left out. Every report is checked by
+bench/check_report.py once before the measuring.
+
+With `growth` it measures instead how the time of `rounds` grows, of labrun and of the port, where one thing is doubled again
+and again: the exponent that fits best is told, 1.00 where the time grows as the number of commands does (where instruments are
+doubled, which leaves that number as it is, 0.00 where it doesn't grow).
+
+Printed are ratios of runs, a line a workload, and their geometric means, with the goals; absolute times only at the end,
+as an aside. Where labrun hasn't the words yet, its columns are left out, and the port stands in for it.
+"""
+import math
+import os
+import random
+import subprocess
+import sys
+import tempfile
+import time
+
+HERE = os.path.dirname(os.path.abspath(__file__))
+sys.path.insert(0, HERE)
+import check_report
+import make_scripts
+
+LABRUN = os.path.join(os.path.dirname(HERE), "crates", "labrun", "out", "labrun")
+TURNS = "1000000000"
+WORKERS = (1, 2, 4)
+
+# name, shape, keys: as many commands as keep the run long beside the start of a program
+WORKLOADS = (
+    ("disjoint", "disjoint", dict(jobs=8, instruments=56, sessions=1000, commands=20)),
+    ("ring", "ring", dict(jobs=8, instruments=8, sessions=1000, commands=10)),
+    ("star", "star", dict(jobs=8, instruments=7, sessions=1000, commands=10)),
+    ("pairs", "pairs", dict(jobs=8, instruments=16, sessions=1000, commands=10)),
+    ("clique", "clique", dict(jobs=8, instruments=8, sessions=600, commands=10)),
+    ("long", "pairs", dict(jobs=16, instruments=48, sessions=400, commands=20)),
+    ("short", "ring", dict(jobs=16, instruments=16, sessions=1000, commands=1)),
+    ("random", "random", dict(jobs=32, instruments=56, sessions=60, commands=20)),
+)
+# what is doubled: heading, shape, the keys that stay, the key that grows, its values
+GROWTHS = (
+    ("sessions of 8 jobs in pairs", "pairs", dict(jobs=8, instruments=16, commands=10), "sessions", (125, 250, 500, 1000)),
+    ("jobs, each on its own", "disjoint", dict(instruments=56, sessions=400, commands=10), "jobs", (4, 8, 16, 32)),
+    ("jobs in pairs", "pairs", dict(instruments=32, sessions=400, commands=10), "jobs", (4, 8, 16, 32)),
+    ("jobs in a ring", "ring", dict(instruments=32, sessions=400, commands=10), "jobs", (4, 8, 16, 32)),
+    ("instruments of 8 jobs in pairs", "pairs", dict(jobs=8, sessions=1000, commands=10), "instruments", (4, 8, 16, 32)),
+    ("commands of a session", "pairs", dict(jobs=8, instruments=16, sessions=500), "commands", (5, 10, 20, 40)),
+)
+# what is compared: heading, over, under, goal (at most; None: told as it is)
+RATIOS = (
+    ("labrun rounds / port rounds", "labrun rounds", "port rounds", 1.15),
+    ("labrun threads 1 / port threads 1", "labrun threads 1", "port threads 1", 1.15),
+    ("labrun threads 2 / port threads 2", "labrun threads 2", "port threads 2", 1.15),
+    ("labrun threads 4 / port threads 4", "labrun threads 4", "port threads 4", 1.15),
+    ("labrun threads 1 / labrun rounds", "labrun threads 1", "labrun rounds", 1.1),
+    ("labrun threads 4 / blocking", "labrun threads 4", "blocking", 2.0),
+    ("labrun threads 4 / condvar", "labrun threads 4", "condvar", 1.0),
+    ("port threads 4 / blocking", "port threads 4", "blocking", None),
+    ("port threads 4 / condvar", "port threads 4", "condvar", None),
+)
+
+
+def build(folder):
+    """The peers, by name."""
+    found = {}
+    for name in ("blocking", "condvar", "port"):
+        found[name] = os.path.join(folder, name)
+        subprocess.run(["rustc", "-O", "-o", found[name], os.path.join(HERE, "peers", name + ".rs")], check=True)
+    return found
+
+
+def programs(peers, labrun):
+    """For each name the words of a whole run, and those of a run without turns."""
+    found = {}
+    for name in ("blocking", "condvar"):
+        found[name] = ([peers[name], "threads", "1", TURNS], [peers[name], "threads", "1", "0"])
+    for name, path in (("port", peers["port"]), ("labrun", labrun)):
+        if path:
+            found[name + " rounds"] = ([path, "rounds", TURNS], [path, "rounds", "0"])
+            for workers in WORKERS:
+                words = [path, "threads", str(workers)]
+                found["%s threads %d" % (name, workers)] = (words + [TURNS], words + ["0"])
+    return found
+
+
+def seconds(words, data):
+    """The seconds to the first byte of the report, and to the end of the program."""
+    with open(data, "rb") as source:
+        begun = time.perf_counter()
+        child = subprocess.Popen(words, stdin=source, stdout=subprocess.PIPE, stderr=subprocess.DEVNULL, bufsize=0)
+        child.stdout.read(1)
+        first = time.perf_counter() - begun
+        while child.stdout.read(1 << 16):
+            pass
+        child.wait()
+        return first, time.perf_counter() - begun
+
+
+def own_clock(words, data):
+    """What a peer says by its own clock of the seconds of its run."""
+    with open(data, "rb") as source:
+        told = subprocess.run(words, stdin=source, capture_output=True, env=dict(os.environ, PEER_TIMES="1"))
+    told = told.stderr.decode().split()
+    return int(told[told.index("run") + 1]) / 1e9
+
+
+def checked(name, words, data, text):
+    """Once, before the measuring: the report passes its check."""
+    with open(data, "rb") as source:
+        done = subprocess.run(words, stdin=source, capture_output=True)
+    problems = check_report.problems_of(text, done.stdout.decode(), done.returncode)
+    if problems or done.returncode:
+        sys.exit("%s on %s: %s" % (name, data, "; ".join(problems[:3]) or "status %d" % done.returncode))
+
+
+def measure(runs, data, rounds):
+    """The seconds of each program's run itself; and what the port says of its rounds by its own clock."""
+    full, empty, clock = {}, {}, math.inf
+    for _ in range(rounds):
+        for name, (with_turns, without) in runs.items():
+            full[name] = min(full.get(name, math.inf), seconds(with_turns, data)[0])
+            empty[name] = min(empty.get(name, math.inf), seconds(without, data)[0])
+        clock = min(clock, own_clock(runs["port rounds"][0], data))
+    # a run can't take no time at all: what lies below the noise counts as a tenth of a millisecond
+    return {name: max(full[name] - empty[name], 1e-4) for name in runs}, clock
+
+
+def has_words(labrun):
+    done = subprocess.run([labrun, "threads", "2", "3"], input=b"lab 1\n", capture_output=True) if os.path.exists(labrun) else None
+    return done is not None and done.returncode == 0
+
+
+def mean(numbers):
+    return math.exp(sum(math.log(number) for number in numbers) / len(numbers))
+
+
+def table(heads, rows):
+    print("| " + " | ".join(heads) + " |")
+    print("|" + "---|" * len(heads))
+    for row in rows:
+        print("| " + " | ".join(row) + " |")
+    print(flush=True)
+
+
+def scripts(folder, only):
+    found = []
+    for name, shape, keys in WORKLOADS:
+        if only and name not in only:
+            continue
+        text = make_scripts.make(shape, random.Random(7), **keys)
+        path = os.path.join(folder, name + ".lab")
+        with open(path, "w") as out:
+            out.write(text)
+        found.append((name, path, text))
+    return found
+
+
+def ratios(times):
+    """The table of ratios, for those programs that ran."""
+    names = list(times)
+    rows = []
+    for heading, over, under, goal in RATIOS:
+        if over not in times[names[0]] or under not in times[names[0]]:
+            continue
+        each = [times[name][over] / times[name][under] for name in names]
+        rows.append([heading] + ["%.2f" % ratio for ratio in each] + ["%.2f" % mean(each), "%.2f" % goal if goal else ""])
+    table(["run"] + names + ["mean", "goal, at most"], rows)
+
+
+def speed_up(times):
+    """How much faster more workers are than one."""
+    rows = []
+    for program in ("labrun", "port"):
+        for workers in WORKERS[1:]:
+            many, one = "%s threads %d" % (program, workers), "%s threads 1" % program
+            if all(many in own for own in times.values()):
+                goal = "1.80 on disjoint" if workers == 2 and program == "labrun" else ""
+                each = ["%.2f" % (own[one] / own[many]) for own in times.values()]
+                rows.append(["%s threads 1 / threads %d" % (program, workers)] + each + [goal])
+    table(["times as fast"] + list(times) + ["goal, at least"], rows)
+
+
+def exponent(sizes, times):
+    """The slope of the line that fits best, both scales logarithmic."""
+    xs, ys = [math.log(size) for size in sizes], [math.log(spent) for spent in times]
+    x, y = sum(xs) / len(xs), sum(ys) / len(ys)
+    return sum((a - x) * (b - y) for a, b in zip(xs, ys)) / sum((a - x) ** 2 for a in xs)
+
+
+def growth(folder, runs, rounds):
+    """For each thing that is doubled, the nanoseconds a command and the exponent."""
+    rows = []
+    for heading, shape, keys, growing, values in GROWTHS:
+        sizes, times = [], {name: [] for name in runs}
+        for value in values:
+            text = make_scripts.make(shape, random.Random(7), **dict(keys, **{growing: value}))
+            path = os.path.join(folder, "growth.lab")
+            with open(path, "w") as out:
+                out.write(text)
+            sizes.append(sum(line.startswith("i") for line in text.split("\n")))
+            found, _ = measure(runs, path, rounds)
+            for name in runs:
+                times[name].append(found[name])
+        for name in runs:
+            each = ["%.0f" % (spent / size * 1e9) for size, spent in zip(sizes, times[name])]
+            # instruments alone leave the number of commands as it is
+            exact = exponent(values if growing == "instruments" else sizes, times[name])
+            rows.append([heading, name, " ".join(str(value) for value in values), " ".join(each), "%.2f" % exact])
+    table(["doubled", "run", "values", "nanoseconds a command", "exponent"], rows)
+
+
+def main(words):
+    if words and words[0] == "--help":
+        print(__doc__, end="")
+        return 0
+    grows = words[:1] == ["growth"]
+    words = words[grows:]
+    keys = dict(word.split("=") for word in words)
+    rounds, labrun = int(keys.get("rounds", "9")), os.path.abspath(keys.get("program", LABRUN))
+    only = keys["only"].split(",") if "only" in keys else None
+    with tempfile.TemporaryDirectory() as folder:
+        peers = build(folder)
+        runs = programs(peers, labrun if has_words(labrun) else None)
+        if grows:
+            growth(folder, {name: run for name, run in runs.items() if name.endswith(" rounds")}, rounds)
+            return 0
+        times, clocks, counts = {}, {}, {}
+        for name, path, text in scripts(folder, only):
+            for program, (full, _) in runs.items():
+                checked(program, full, path, text)
+            times[name], clocks[name] = measure(runs, path, rounds)
+            counts[name] = sum(line.startswith("i") for line in text.split("\n"))
+            print("%s: %d commands measured" % (name, counts[name]), file=sys.stderr, flush=True)
+    ratios(times)
+    speed_up(times)
+    print("As an aside, the best times on this machine, in nanoseconds a command:\n")
+    rows = [[program] + ["%.0f" % (times[name][program] / counts[name] * 1e9) for name in times] for program in runs]
+    rows.append(["port rounds, by its own clock"] + ["%.0f" % (clocks[name] / counts[name] * 1e9) for name in times])
+    table(["program"] + list(times), rows)
+    return 0
+
+
+if __name__ == "__main__":
+    sys.exit(main(sys.argv[1:]))

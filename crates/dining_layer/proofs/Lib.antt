@@ -1,0 +1,2 @@
+pub mod ForkMoves
+pub mod Trying

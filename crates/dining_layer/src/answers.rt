@@ -1,0 +1,27 @@
+//! What became of a move.
+ghost use Rattle.std.specs.Prelude.{◌≡◌};
+ghost use Rattle.dining_layer.specs.Tries.{tried_as};
+
+use edge_rule::Stepped;
+use edge_word::EdgeWord;
+
+/// What became of a move.
+#[derive(Clone, Copy, PartialEq, Eq, Debug)]
+pub enum Tried {
+    /// It was done.
+    Done,
+    /// It was legal by the word last seen, and the exchange found this other word.
+    Moved(EdgeWord),
+    /// It isn't legal by the word last seen.
+    NotLegal,
+}
+
+/// The answer for an exchange that was tried.
+pub fn answered(stepped: Stepped) -> Tried
+    ensures { result ≡ tried_as stepped }
+{
+    match stepped {
+        Stepped::Done => Tried::Done,
+        Stepped::Moved(found) => Tried::Moved(found),
+    }
+}

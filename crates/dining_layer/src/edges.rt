@@ -1,0 +1,45 @@
+//! What a job has at hand at an edge.
+ghost use Rattle.std.specs.Prelude.{◌≡◌, ◌≤◌, length};
+ghost use Rattle.lab_plan.specs.LabPlan.{bottles};
+ghost use Rattle.legal_steps.specs.State.{IsOwn, end_of, edge as edge_at, phase as phase_at};
+ghost use Rattle.edge_word.specs.Words.{IsOfBottles};
+ghost use Rattle.edge_rule.specs.DeskView.{Owns, known};
+ghost use Rattle.edge_rule.specs.Knowing.{IsKnown};
+
+use edge_rule::{Bench, Desk, unpacked_edge};
+use lab_plan::{EdgeNo, JobNo};
+use legal_steps::{EdgeState, End, JobState};
+use std::alloc::Allocator;
+
+/// What a job has at hand at an edge: its own phase, its end, and the edge as it saw it last.
+#[derive(Clone, Copy)]
+pub struct AtEdge {
+    pub job: JobNo,
+    pub phase: JobState,
+    pub here: End,
+    pub seen: EdgeState,
+}
+
+/// What the desk's job has at hand at one of its edges.
+pub fn at_edge<A: Allocator>(bench: &Bench<A>, desk: &Desk<A>, edge: EdgeNo) -> AtEdge
+    requires own { Owns bench.now desk.now }
+    requires edge { IsOwn desk.now.plan desk.now.job edge }
+    ensures job { result.job ≡ desk.now.job }
+    ensures phase { result.phase ≡ phase_at (known desk.now) desk.now.job }
+    ensures here { result.here ≡ end_of desk.now.plan desk.now.job edge }
+    ensures seen { result.seen ≡ edge_at (known desk.now) edge }
+    ensures fits { IsOfBottles (length (bottles desk.now.plan edge)) result.seen }
+    ensures few { length (bottles desk.now.plan edge) ≤ 28 }
+    ensures known { IsKnown desk.now.plan (known desk.now) desk.now.job }
+{
+    let job = desk.job();
+    let plan = bench.plan();
+    let here = End::of(plan, job, edge);
+    let _ = plan.bottles(edge);
+    AtEdge {
+        job,
+        phase: desk.phase(),
+        here,
+        seen: unpacked_edge(desk.seen(edge)),
+    }
+}

@@ -1,0 +1,3 @@
+pub mod Needed
+pub mod BottleMoves
+pub mod AllAtOnce

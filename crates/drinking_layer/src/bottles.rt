@@ -1,0 +1,77 @@
+//! The greatest legal sets of bottles.
+ghost use Rattle.std.specs.Prelude.{◌≡◌};
+ghost use Rattle.legal_steps.specs.declared.phase.Drinking.TheVariants.{Thirsty};
+ghost use Rattle.legal_steps.specs.State.{IsOwn, drinking};
+ghost use Rattle.legal_steps.specs.Legal.{MayGiveBottle, MayAskBottle};
+ghost use Rattle.legal_steps.specs.Run.{IsLegalFrom};
+ghost use Rattle.edge_word.specs.Moves.{events_of};
+ghost use Rattle.edge_rule.specs.DeskView.{Owns, known};
+ghost use Rattle.turns.specs.Due.{AreForkMoves, AreDue, WithBottles, IsGreatest};
+
+use crate::needs::{gifts, needed_bottles, wishes};
+use dining_layer::at_edge;
+use edge_rule::{Bench, Desk};
+use edge_word::EdgeMoves;
+use lab_plan::EdgeNo;
+use std::alloc::Allocator;
+
+/// The same fork moves with the greatest legal sets of bottles.
+pub fn with_bottles<A: Allocator>(
+    bench: &Bench<A>,
+    desk: &Desk<A>,
+    edge: EdgeNo,
+    moves: EdgeMoves,
+) -> EdgeMoves
+    requires own { Owns bench.now desk.now }
+    requires edge { IsOwn desk.now.plan desk.now.job edge }
+    ensures with { WithBottles desk.now.plan (known desk.now) desk.now.job edge moves result }
+    ensures due { AreForkMoves desk.now.plan (known desk.now) desk.now.job edge moves → AreDue desk.now.plan (known desk.now) desk.now.job edge result }
+    ensures legal { AreForkMoves desk.now.plan (known desk.now) desk.now.job edge moves → IsLegalFrom desk.now.plan (known desk.now) (events_of result desk.now.job edge) }
+{
+    let at = at_edge(bench, desk, edge);
+    let plan = bench.plan();
+    let needed = needed_bottles(plan, at.job, at.phase, edge);
+    let given = gifts(
+        plan,
+        edge,
+        at.here,
+        at.phase,
+        needed,
+        at.seen,
+        moves.give_fork,
+    );
+    let asked = wishes(plan, edge, at.here, at.phase, needed, at.seen, given);
+    EdgeMoves {
+        give_bottles: given,
+        ask_bottles: asked,
+        ..moves
+    }
+}
+
+// All bottles that may be given, by the word last seen.
+pub(crate) fn all_gifts<A: Allocator>(bench: &Bench<A>, desk: &Desk<A>, edge: EdgeNo) -> u32
+    requires own { Owns bench.now desk.now }
+    requires edge { IsOwn desk.now.plan desk.now.job edge }
+    ensures { IsGreatest desk.now.plan edge result (MayGiveBottle desk.now.plan (known desk.now) desk.now.job edge) }
+{
+    let none = EdgeMoves {
+        give_fork: false,
+        give_bottles: 0,
+        ask_fork: false,
+        ask_bottles: 0,
+        soil: false,
+    };
+    with_bottles(bench, desk, edge, none).give_bottles
+}
+
+// All bottles that may be asked for, by the word last seen.
+pub(crate) fn all_wishes<A: Allocator>(bench: &Bench<A>, desk: &Desk<A>, edge: EdgeNo) -> u32
+    requires own { Owns bench.now desk.now }
+    requires edge { IsOwn desk.now.plan desk.now.job edge }
+    ensures { IsGreatest desk.now.plan edge result (λ k. (drinking (known desk.now) desk.now.job ≡ Thirsty) × MayAskBottle desk.now.plan (known desk.now) desk.now.job edge k) }
+{
+    let at = at_edge(bench, desk, edge);
+    let plan = bench.plan();
+    let needed = needed_bottles(plan, at.job, at.phase, edge);
+    wishes(plan, edge, at.here, at.phase, needed, at.seen, 0)
+}

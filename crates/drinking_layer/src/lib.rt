@@ -1,0 +1,11 @@
+//! Bottles and drinking: which bottles a job may give and ask for on an edge by the word last seen there, always all of them at once, and calls that do so, or drink, where it is legal.
+#![tactic(auto)]
+
+mod bottles;
+mod drinks;
+mod needs;
+mod serving;
+
+pub use bottles::with_bottles;
+pub use drinks::{drink, may_drink};
+pub use serving::{serve_bottles, want_bottles};

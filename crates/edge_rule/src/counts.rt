@@ -1,0 +1,45 @@
+//! What a job has done so far, as its desk counts it.
+ghost use Rattle.std.specs.Prelude.{◌≡◌, ◌≤◌};
+ghost use Rattle.edge_rule.specs.Counting.{counted as counted_after, AreFew};
+
+use one_history::PhaseEvent;
+
+/// How many meals a job had, how many sessions it ended, and how many it gave up.
+#[derive(Clone, Copy, PartialEq, Eq, Debug)]
+pub struct Counts {
+    pub meals: u32,
+    pub sessions_done: u32,
+    pub withdrawn: u32,
+}
+
+pub(crate) const NO_COUNTS: Counts = Counts {
+    meals: 0,
+    sessions_done: 0,
+    withdrawn: 0,
+};
+
+// The counts after an event.
+pub(crate) fn counted(what: PhaseEvent, counts: Counts) -> Counts
+    requires { AreFew counts }
+    ensures { result ≡ counted_after what counts }
+{
+    match what {
+        PhaseEvent::Sit => Counts {
+            meals: counts.meals + 1,
+            ..counts
+        },
+        PhaseEvent::Quit => Counts {
+            sessions_done: counts.sessions_done + 1,
+            ..counts
+        },
+        PhaseEvent::Withdraw => Counts {
+            withdrawn: counts.withdrawn + 1,
+            ..counts
+        },
+        PhaseEvent::Thirst
+        | PhaseEvent::Hunger
+        | PhaseEvent::Leave
+        | PhaseEvent::Drink
+        | PhaseEvent::Retire => counts,
+    }
+}

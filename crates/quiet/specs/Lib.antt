@@ -1,0 +1,2 @@
+pub mod LastLooks
+pub mod QuietRound
