@@ -1,0 +1,83 @@
+//! The call that starts the workers, and what it answers.
+ghost use Rattle.std.specs.Prelude.{◌≡◌, ◌<◌, ◌≤◌, length};
+ghost use Rattle.locality.specs.Lists.{Each};
+ghost use Rattle.edge_rule.specs.DeskView.{Owns, IsAtRest};
+ghost use Rattle.edge_rule.specs.Company.{Distinct, jobs_of};
+ghost use Rattle.edge_rule.specs.Ending.{HasAll};
+ghost use Rattle.workers.specs.Team.{Threaded};
+
+use crate::gate::Gate;
+use crate::teams::in_teams;
+use edge_rule::{Bench, Desk, meet_all};
+use rounds::{Ended, all_retired};
+use std::alloc::Allocator;
+use std::thread::Threads;
+
+// What each desk shows: it is at rest.
+fn at_rest<A: Allocator>(desks: &[Desk<A>])
+    ensures { Each IsAtRest desks.now }
+{
+    match desks {
+        [] => {}
+        [desk, others @ ..] => {
+            let _ = desk.job();
+            at_rest(others)
+        }
+    }
+}
+
+// Drives the desks of the slice. Their order may change, save where there is no memory.
+fn drive<R: Threads + Sync, S: Allocator, A: Allocator + Send + Sync, G: Gate>(
+    rt: &R,
+    alloc: S,
+    bench: &Bench<A>,
+    desks: &mut [Desk<A>],
+    workers: u32,
+    turns: u32,
+    gate: &G,
+) -> Ended
+    requires workers { 1 ≤ workers }
+    requires some { 0 < length desks.old }
+    requires own { Each (Owns bench.now) desks.old }
+    requires all { HasAll bench.now.plan desks.old × Distinct (jobs_of desks.old) }
+    ensures { Threaded bench.now turns desks.old result desks.new }
+{
+    let sorted = desks.sort_by_key(alloc, |desk| {
+        (u32::from(desk.job().0) % workers, desk.job().0)
+    });
+    if sorted.is_err() {
+        return Ended::NoMemory;
+    }
+    in_teams(rt, bench, gate, workers, turns, desks);
+    desks.sort_unstable_by_key(|desk| desk.job().0);
+    meet_all(bench, desks);
+    at_rest(desks);
+    if all_retired(desks) {
+        return Ended::AllRetired;
+    }
+    Ended::Limit
+}
+
+/// Worker `w` drives the desks whose job number is `w` modulo the workers, in ascending order, one turn each a round, and passes the gate
+/// before each turn. It ends after its turns, or after a round where its first desk saw all jobs retired. A worker without desks isn't
+/// started; where a thread can't be made its rounds run on another. `alloc` is asked once, before the first worker starts.
+pub fn threads<R: Threads + Sync, S: Allocator, A: Allocator + Send + Sync, G: Gate>(
+    rt: &R,
+    alloc: S,
+    bench: &Bench<A>,
+    mut desks: Vec<Desk<A>, A>,
+    workers: u32,
+    turns: u32,
+    gate: &G,
+) -> (Vec<Desk<A>, A>, Ended)
+    requires workers { 1 ≤ workers }
+    requires own { Each (Owns bench.now) desks.items }
+    requires all { HasAll bench.now.plan desks.items × Distinct (jobs_of desks.items) }
+    ensures { Threaded bench.now turns desks.items result.1 result.0.items }
+{
+    if desks.is_empty() {
+        return (desks, Ended::AllRetired);
+    }
+    let ended = drive(rt, alloc, bench, desks.as_mut_slice(), workers, turns, gate);
+    (desks, ended)
+}
