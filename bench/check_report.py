@@ -44,8 +44,8 @@ class Script:
     """A good script: jobs in order, each with its sessions; a session is (patience, commands of (instrument, verb))."""
 
     def __init__(self, text):
-        self.version, self.jobs, self.instruments = None, {}, []
-        sessions = None
+        self.version, self.jobs, self.instruments, self.parts = None, {}, [], {}
+        sessions, known = None, set()
         for line in text.split("\n"):
             fields = line.split()
             if not fields or fields[0].startswith("#"):
@@ -58,7 +58,8 @@ class Script:
                 sessions.append((int(fields[2]) if len(fields) == 3 else None, []))
             elif fields[0] != "end":
                 sessions[-1][1].append((fields[0], " ".join(fields[1:])))
-                if fields[0] not in self.instruments:
+                if fields[0] not in known:
+                    known.add(fields[0])
                     self.instruments.append(fields[0])
         users = {name: set() for name in self.instruments}
         for job, own in self.jobs.items():
@@ -75,7 +76,11 @@ class Script:
 
     def part(self, job, session, instrument):
         """The verbs of a session on an instrument, in order."""
-        return [verb for name, verb in self.commands(job, session) if name == instrument]
+        if (job, session) not in self.parts:
+            found = self.parts[job, session] = {}
+            for name, verb in self.commands(job, session):
+                found.setdefault(name, []).append(verb)
+        return self.parts[job, session].get(instrument, [])
 
     def shares(self, job, session):
         return bool(self.named(job, session) & self.shared)

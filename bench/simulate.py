@@ -993,9 +993,16 @@ def number_word(word):
     return int(word)
 
 
+LONGEST = 16777216
+
+
+def told(text, status):
+    sys.stderr.write("labrun: %s\n" % text)
+    return status
+
+
 def refused():
-    sys.stderr.write("labrun: command line refused\n")
-    return 2
+    return told("command line refused", 2)
 
 
 def main(words):
@@ -1011,12 +1018,15 @@ def main(words):
         return refused()
     if words[0] == "threads" and not 1 <= numbers[0] <= 32:
         return refused()
-    data = sys.stdin.buffer.read()
     try:
+        data = sys.stdin.buffer.read(LONGEST + 1)
+        if len(data) > LONGEST:
+            return told("input longer than %d bytes" % LONGEST, 4)
         plan = read_script(data)
+    except OSError:
+        return told("read fault", 4)
     except Fault as fault:
-        sys.stderr.write("labrun: %s\n" % fault)
-        return 1
+        return told(str(fault), 1)
     if words[0] == "--trace":
         show_trace(data, numbers[0])
         return 0
@@ -1025,7 +1035,12 @@ def main(words):
         run.drive_rounds(numbers[0])
     else:
         run.drive_threads(numbers[0], numbers[1], random.Random(numbers[2] if len(numbers) > 2 else None))
-    sys.stdout.write(run.report())
+    try:
+        left = run.report().encode()
+        while left:
+            left = left[os.write(1, left):]
+    except OSError:
+        return told("write fault", 4)
     return run.status()
 
 

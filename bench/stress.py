@@ -2,6 +2,7 @@
 """Many runs of labrun over generated scripts, each report checked whole.
 
 Usage: bench/stress.py PROGRAM [runs=N] [seed=S] [minutes=M] [keep=FOLDER] [faults=no]
+       bench/stress.py PROGRAM stops [keep=FOLDER]
 
 PROGRAM is the built program (crates/labrun/out/labrun), or whatever takes the same words: bench/simulate.py, a peer of
 bench/peers. It makes N runs (1000 unless said), or as many as M minutes allow. Each script is of one of six shapes and of
@@ -19,6 +20,10 @@ as a suspect, and kept too: nothing promises that it ends, but a request that wa
 
 A third of the runs by threads is kept on one core, and a third on two, so that workers are also stopped in the midst of a
 turn and others go on for a whole slice of time (where the system has `taskset`).
+
+With `stops` a few plans are stopped everywhere: a second session, a ring, a clique, two edges with 28 bottles each, patience,
+and the examples. With each limit from 0 to past the end, `rounds` and `threads` with one worker print what the simulator does;
+with two and three workers and each number of turns from 0 to 20, some times each, every report is checked.
 
 Nothing may stand on standard error but the line of a fault, and no run may take longer than 120 seconds. At the end it
 prints how many runs there were and how many problems; the script of each problem is kept, with the words and what the
@@ -196,15 +201,62 @@ def pick_turns(reckoned, chance):
         whole * 2, whole * 50, 1000, 100000, 1000000, max(1000000, 1000 * whole)))
 
 
+def two_wide_edges():
+    """Two jobs each share 28 instruments with a third."""
+    names = ["i%d" % k for k in range(56)]
+    lines = ["lab 1"]
+    for job, own in (("left", names[:28]), ("middle", names), ("right", names[28:])):
+        lines.append("job " + job)
+        for part in (own[:2], own, own[-3:]):
+            lines += ["session"] + ["%s add %d" % (name, len(part)) for name in part] + ["end"]
+    return "".join(line + "\n" for line in lines)
+
+
+def plans_to_stop():
+    chance = random.Random(5)
+    again = simulate.text(simulate.AGAIN).decode()
+    yield "a second session", again
+    yield "a second session with patience", again.replace("lab 1", "lab 2").replace("job b\nsession", "job b\nsession patience 2")
+    yield "ring", make_scripts.make("ring", chance, jobs=5, instruments=5, sessions=2, commands=3)
+    yield "clique", make_scripts.make("clique", chance, jobs=4, instruments=3, sessions=2, commands=2)
+    yield "two wide edges", two_wide_edges()
+    yield "patience", make_scripts.make("clique", chance, jobs=4, instruments=2, sessions=3, commands=2, version=2, patience=6, patient=80)
+    folder = os.path.join(os.path.dirname(os.path.dirname(os.path.abspath(__file__))), "examples")
+    for name in sorted(os.listdir(folder)):
+        with open(os.path.join(folder, name)) as script:
+            text = script.read() if name.endswith(".lab") else ""
+        if "# labrun rounds" in text:
+            yield name, text
+
+
+def stop_everywhere(stress):
+    for name, text in plans_to_stop():
+        reckoned = Reckoned(text)
+        limits = [limit for limit in range(reckoned.whole + 2) if reckoned.has(limit)]
+        reckoned.prepare(set(limits) | set(range(21)))
+        for limit in limits:
+            stress.rounds(reckoned, limit)
+            stress.threads(reckoned, 1, limit)
+        for workers in (2, 3):
+            for turns in range(21):
+                for _ in range(5):
+                    stress.threads(reckoned, workers, turns)
+        print("%s: stopped after each of 0 to %d rounds" % (name, limits[-1]), flush=True)
+
+
 def main(words):
     if not words or words[0] == "--help":
         print(__doc__, end="")
         return 0 if words else 2
-    keys = dict(word.split("=") for word in words[1:])
+    stops = words[1:2] == ["stops"]
+    keys = dict(word.split("=") for word in words[1 + stops:])
     most = int(keys["runs"]) if "runs" in keys else 10**9 if "minutes" in keys else 1000
     end = time.monotonic() + 60 * float(keys["minutes"]) if "minutes" in keys else None
     chance = random.Random(int(keys.get("seed", "1")))
     stress, scripts, begun = Stress(os.path.abspath(words[0]), keys.get("keep")), 0, time.monotonic()
+    if stops:
+        stop_everywhere(stress)
+        most = 0
     while stress.counts["runs"] < most and (end is None or time.monotonic() < end):
         sort = make_scripts.large if scripts % 20 == 19 else make_scripts.contended if scripts % 4 == 3 else make_scripts.small
         text = sort(chance)

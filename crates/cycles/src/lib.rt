@@ -6,8 +6,6 @@ mod cycle;
 mod no_memory;
 mod peeling;
 mod ranks;
-#[cfg(test)]
-mod tests;
 mod walk;
 
 pub use cycle::cycle_in;

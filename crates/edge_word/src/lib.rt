@@ -22,6 +22,3 @@ pub mod phase;
 pub use edge::{EdgeWord, is_bottle_set};
 pub use moves::EdgeMoves;
 pub use phase::PhaseWord;
-
-#[cfg(test)]
-mod tests;

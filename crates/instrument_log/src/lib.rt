@@ -13,6 +13,3 @@ pub use entry::Entry;
 pub use log::InstrumentLog;
 pub use packing::{pack_entry, unpack_entry};
 pub use refusal::LogRefusal;
-
-#[cfg(test)]
-mod tests;

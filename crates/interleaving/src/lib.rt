@@ -17,8 +17,6 @@ mod seeing;
 mod stepping;
 mod steps;
 mod tables;
-#[cfg(test)]
-mod tests;
 mod world;
 
 pub use counts::Counts;

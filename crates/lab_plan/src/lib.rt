@@ -16,8 +16,6 @@ pub mod plan;
 pub mod refusal;
 mod session_table;
 mod tables;
-#[cfg(test)]
-mod tests;
 pub mod verb;
 
 pub use builder::PlanBuilder;

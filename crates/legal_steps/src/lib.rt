@@ -8,8 +8,6 @@ pub mod event;
 pub mod laws;
 pub mod log_laws;
 pub mod phase;
-#[cfg(test)]
-mod tests;
 
 pub use edge_state::{EdgeState, EndChoice};
 pub use end::End;

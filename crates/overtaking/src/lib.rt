@@ -6,8 +6,6 @@ pub mod laws;
 mod marks;
 mod meals;
 mod ranks;
-#[cfg(test)]
-mod tests;
 mod way;
 
 pub use cycles::NoMemory;

@@ -22,6 +22,3 @@ pub use shown::{all_retired, write_report};
 pub use sink::{Failed, Sink, ToWrite};
 pub use tally::Tally;
 pub use world::write_world;
-
-#[cfg(test)]
-mod tests;

@@ -17,7 +17,7 @@ use Rattle.rounds.proofs.Together.{whole_before, no_more, heard_rests}
 
 -- each job of the plan has a desk
 pub all_of : (plan : LabPlan) (desks : List DeskView) → HasAll plan desks → AllOf plan (jobs_of desks)
-all_of plan desks all m inside = go desks (all m inside) where
+all_of plan desks all m inside = go desks (all.every m inside) where
   go : (l : List DeskView) → Any (λ (d : DeskView). d.job ≡ m) l → Any (λ (j : ℕ). j ≡ m) (jobs_of l)
   go [] any = absurd any
   go (d ∷ l) (inl h) = inl h

@@ -3,7 +3,7 @@ ghost use Rattle.std.specs.Prelude.{◌≡◌};
 ghost use Rattle.locality.specs.Lists.{Each};
 ghost use Rattle.edge_rule.specs.DeskView.{Owns};
 ghost use Rattle.edge_rule.specs.Ending.{HasAll};
-ghost use Rattle.edge_rule.specs.Company.{Distinct, jobs_of};
+ghost use Rattle.edge_rule.specs.Company.{jobs_of};
 ghost use Rattle.rounds.specs.Company.{AllOf, IsWhole, Spread};
 ghost use Rattle.rounds.specs.Rounds.{Played, Drove, players_of};
 
@@ -60,7 +60,6 @@ fn play<A: Allocator>(
 pub fn rounds<A: Allocator>(bench: &Bench<A>, desks: &mut [Desk<A>], limit: u32) -> (Ended, u32)
     requires own { Each (Owns bench.now) desks.old }
     requires all { HasAll bench.now.plan desks.old }
-    requires once { Distinct (jobs_of desks.old) }
     ensures { Drove bench.now limit desks.old result.0 result.1 desks.new }
 {
     if desks.is_empty() {

@@ -14,8 +14,6 @@ pub mod plan;
 mod reader;
 mod step;
 pub mod steps;
-#[cfg(test)]
-mod tests;
 pub mod upgrade_law;
 
 pub use fault::{ScriptCause, ScriptFault};

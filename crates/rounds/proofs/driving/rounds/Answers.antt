@@ -28,7 +28,7 @@ pub meet_all-requires-2-clause-apart : goal.meet_all-requires-2-clause-apart
 meet_all-requires-2-clause-apart g c = let old : List DeskView = c.args.desks.now in let new : List DeskView = c.play-ended.new.desks in
     let s = began c.args.bench.now old c.meet_all.new.desks c.index-desks-0.result c.tell-news.new.desk c.tell-news.result.front c.requires.own c.are_at_rest.ensures c.meet_all.ensures (some_left (length old) c.if-is_empty.ensures) c.index-desks-0.is c.tell-news.ensures.same c.tell-news.ensures.news.1 in
     let x : DeskView = get_or new 0 c.index-desks-0-2.result in
-    subst Distinct (sym (jobs_set new 0 x c.heed.new.desk (ap (get_or new 0) c.index-desks-0-2.is) c.heed.ensures.job ∙ (c.play-ended.ensures.jobs ∙ (ap jobs_of s.same ∙ s.knows.jobs)))) c.requires.once
+    subst Distinct (sym (jobs_set new 0 x c.heed.new.desk (ap (get_or new 0) c.index-desks-0-2.is) c.heed.ensures.job ∙ (c.play-ended.ensures.jobs ∙ (ap jobs_of s.same ∙ s.knows.jobs)))) c.requires.all.once
 
 pub returns : goal.returns
 returns g c = let b = c.args.bench.now in let old : List DeskView = c.args.desks.now in let met : List DeskView = c.meet_all.new.desks in let new : List DeskView = c.play-ended.new.desks in let h : List Event = c.tell-news.result.front in

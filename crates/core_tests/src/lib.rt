@@ -1,0 +1,9 @@
+// Tests of worlds that step, and of what a job that waits can count on, over the public calls of their crates alone.
+#![tactic(auto)]
+
+#[cfg(test)]
+mod benches;
+#[cfg(test)]
+mod steps;
+#[cfg(test)]
+mod waits;

@@ -1,0 +1,6 @@
+pub mod OneTurn
+pub mod InRounds
+pub mod QuietEnd
+pub mod SameTurn
+pub mod SameRun
+pub mod Opened

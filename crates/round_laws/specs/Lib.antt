@@ -1,0 +1,3 @@
+pub mod QuietEnd
+pub mod OneRun
+pub mod FromOpening

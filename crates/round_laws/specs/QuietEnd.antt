@@ -1,0 +1,20 @@
+-- For readers: rounds don't end because nothing is left to do.
+use Rattle.std.specs.Prelude.{true, ◌≡◌, ℕ, ◌<◌, List, [], length, map}
+use Rattle.lab_plan.specs.LabPlan.{LabPlan}
+use Rattle.legal_steps.specs.declared.event.Event.{Event}
+use Rattle.locality.specs.History.{IsHistory}
+use Rattle.edge_rule.specs.Ending.{Any}
+use Rattle.edge_rule.specs.Company.{Distinct}
+use Rattle.rounds.specs.Rounds.{Player, Rounds, AreRetired, BothKnow}
+
+abbrev pub jobs_in : List Player → List ℕ
+jobs_in players = map (λ (x : Player). x.job) players
+
+-- every job of the plan is a player's
+abbrev pub HasAllPlayers : LabPlan → List Player → Type 0
+HasAllPlayers plan players = (j : ℕ) → j < length plan.jobs → Any (λ (i : ℕ). i ≡ j) (jobs_in players)
+
+-- Rounds of all jobs from the opening: where every turn of the last one was idle, and both ends of every edge know the same of it, all jobs are retired
+abbrev pub NoQuietEnd : Type 0
+NoQuietEnd = (plan : LabPlan) (players players' : List Player) (n : ℕ) (h : List Event) → HasAllPlayers plan players → Distinct (jobs_in players) → IsHistory plan h
+    → Rounds plan players n true [] h players' → BothKnow plan h → AreRetired plan h

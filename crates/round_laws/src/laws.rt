@@ -1,0 +1,31 @@
+// The laws of rounds. Each is the contract of a function that does nothing.
+ghost use Rattle.round_laws.specs.FromOpening.{DrivesFromOpening, NeverEndsQuiet, OneRunOfAPlan};
+ghost use Rattle.round_laws.specs.OneRun.{OneRun};
+ghost use Rattle.round_laws.specs.QuietEnd.{NoQuietEnd};
+
+/// Rounds from the opening don't end because nothing is left to do: where the last round was idle and both ends of every
+/// edge know the same of it, all jobs are retired.
+pub fn no_quiet_end()
+    ensures { NoQuietEnd }
+{}
+
+/// Rounds follow from the plan, the limit and where they began: two that begin alike end for the same reason, after as
+/// many rounds, with the same history.
+pub fn one_run()
+    ensures { OneRun }
+{}
+
+/// What `rounds` drives after `open` is rounds of all jobs from the opening.
+pub fn drives_from_opening()
+    ensures { DrivesFromOpening }
+{}
+
+/// After `open`, `rounds` never ends because it is quiet.
+pub fn never_ends_quiet()
+    ensures { NeverEndsQuiet }
+{}
+
+/// After `open`, `rounds` has one outcome for a plan and a limit: one reason, one number of rounds and one history.
+pub fn one_run_of_a_plan()
+    ensures { OneRunOfAPlan }
+{}
