@@ -65,8 +65,8 @@ pub fn fork_moves<A: Allocator>(bench: &Bench<A>, desk: &Desk<A>, edge: EdgeNo) 
     due_forks(at.phase.dining, at.here, at.seen)
 }
 
-// Whether the fork may be given, by the word last seen.
-pub(crate) fn may_give<A: Allocator>(bench: &Bench<A>, desk: &Desk<A>, edge: EdgeNo) -> bool
+/// Whether the fork may be given, by the word last seen.
+pub fn may_give<A: Allocator>(bench: &Bench<A>, desk: &Desk<A>, edge: EdgeNo) -> bool
     requires own { Owns bench.now desk.now }
     requires edge { IsOwn desk.now.plan desk.now.job edge }
     ensures { IsTrue result ↔ May desk.now.plan (known desk.now) (GiveFork desk.now.job edge) }
@@ -75,8 +75,8 @@ pub(crate) fn may_give<A: Allocator>(bench: &Bench<A>, desk: &Desk<A>, edge: Edg
     gives_fork(at.phase.dining, at.here, at.seen)
 }
 
-// Whether it may be asked for.
-pub(crate) fn may_ask<A: Allocator>(bench: &Bench<A>, desk: &Desk<A>, edge: EdgeNo) -> bool
+/// Whether the fork may be asked for, by the word last seen.
+pub fn may_ask<A: Allocator>(bench: &Bench<A>, desk: &Desk<A>, edge: EdgeNo) -> bool
     requires own { Owns bench.now desk.now }
     requires edge { IsOwn desk.now.plan desk.now.job edge }
     ensures { IsTrue result ↔ May desk.now.plan (known desk.now) (AskFork desk.now.job edge) }
@@ -85,8 +85,8 @@ pub(crate) fn may_ask<A: Allocator>(bench: &Bench<A>, desk: &Desk<A>, edge: Edge
     wants_fork(at.phase.dining, at.here, at.seen)
 }
 
-// Whether it may be soiled.
-pub(crate) fn may_soil<A: Allocator>(bench: &Bench<A>, desk: &Desk<A>, edge: EdgeNo) -> bool
+/// Whether the fork may be soiled, by the word last seen.
+pub fn may_soil<A: Allocator>(bench: &Bench<A>, desk: &Desk<A>, edge: EdgeNo) -> bool
     requires own { Owns bench.now desk.now }
     requires edge { IsOwn desk.now.plan desk.now.job edge }
     ensures { IsTrue result ↔ May desk.now.plan (known desk.now) (Soil desk.now.job edge) }

@@ -48,8 +48,8 @@ pub fn with_bottles<A: Allocator>(
     }
 }
 
-// All bottles that may be given, by the word last seen.
-pub(crate) fn all_gifts<A: Allocator>(bench: &Bench<A>, desk: &Desk<A>, edge: EdgeNo) -> u32
+/// All bottles that may be given, by the word last seen.
+pub fn all_gifts<A: Allocator>(bench: &Bench<A>, desk: &Desk<A>, edge: EdgeNo) -> u32
     requires own { Owns bench.now desk.now }
     requires edge { IsOwn desk.now.plan desk.now.job edge }
     ensures { IsGreatest desk.now.plan edge result (MayGiveBottle desk.now.plan (known desk.now) desk.now.job edge) }
@@ -64,8 +64,8 @@ pub(crate) fn all_gifts<A: Allocator>(bench: &Bench<A>, desk: &Desk<A>, edge: Ed
     with_bottles(bench, desk, edge, none).give_bottles
 }
 
-// All bottles that may be asked for, by the word last seen.
-pub(crate) fn all_wishes<A: Allocator>(bench: &Bench<A>, desk: &Desk<A>, edge: EdgeNo) -> u32
+/// All bottles that may be asked for, by the word last seen.
+pub fn all_wishes<A: Allocator>(bench: &Bench<A>, desk: &Desk<A>, edge: EdgeNo) -> u32
     requires own { Owns bench.now desk.now }
     requires edge { IsOwn desk.now.plan desk.now.job edge }
     ensures { IsGreatest desk.now.plan edge result (λ k. (drinking (known desk.now) desk.now.job ≡ Thirsty) × MayAskBottle desk.now.plan (known desk.now) desk.now.job edge k) }

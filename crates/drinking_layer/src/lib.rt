@@ -6,6 +6,6 @@ mod drinks;
 mod needs;
 mod serving;
 
-pub use bottles::with_bottles;
+pub use bottles::{all_gifts, all_wishes, with_bottles};
 pub use drinks::{drink, may_drink};
 pub use serving::{serve_bottles, want_bottles};

@@ -181,7 +181,12 @@ fn check_jobs<A: Allocator>(rt: &impl Abort, plan: &Plan<A>) {
 
 /// No session has a patience.
 fn check_commands<A: Allocator>(rt: &impl Abort, plan: &Plan<A>) {
-    for (job, session, commands) in SESSIONS {
+    let sessions: [(u8, u32, &[(InstrumentNo, Verb)]); 3] = [
+        (0, 1, &FIRST),
+        (0, 2, &SECOND),
+        (2, 1, &THIRD),
+    ];
+    for (job, session, commands) in sessions {
         assert!(rt; commands_of(rt, plan, job, session) == commands);
         assert!(rt; patience_of(rt, plan, job, session).is_none());
     }
@@ -197,7 +202,3 @@ const FIRST: [(InstrumentNo, Verb); 3] = [
 const SECOND: [(InstrumentNo, Verb); 1] = [(InstrumentNo(2), Verb::Read)];
 
 const THIRD: [(InstrumentNo, Verb); 1] = [(InstrumentNo(0), Verb::Add(1))];
-
-/// Each session by its job and number.
-const SESSIONS: [(u8, u32, &[(InstrumentNo, Verb)]); 3] =
-    [(0, 1, &FIRST), (0, 2, &SECOND), (2, 1, &THIRD)];

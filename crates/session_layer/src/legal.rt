@@ -50,14 +50,16 @@ fn is_used_up<A: Allocator>(bench: &Bench<A>, desk: &Desk<A>, waited: u32) -> bo
     }
 }
 
-pub(crate) fn may_quit<A: Allocator>(bench: &Bench<A>, desk: &Desk<A>) -> bool
+/// Whether the session may end: the job drinks, and has no command left in it.
+pub fn may_quit<A: Allocator>(bench: &Bench<A>, desk: &Desk<A>) -> bool
     requires own { Owns bench.now desk.now }
     ensures { IsTrue result ↔ May desk.now.plan (known desk.now) (Quit desk.now.job) }
 {
     desk.phase().drinking == Drinking::Drinking && !has_command(bench, desk)
 }
 
-pub(crate) fn may_reach<A: Allocator>(bench: &Bench<A>, desk: &Desk<A>) -> bool
+/// Whether the next command may be done: the job drinks, and has a command left.
+pub fn may_reach<A: Allocator>(bench: &Bench<A>, desk: &Desk<A>) -> bool
     requires own { Owns bench.now desk.now }
     ensures { IsTrue result ↔ May desk.now.plan (known desk.now) (Reach desk.now.job) }
 {
@@ -71,7 +73,8 @@ pub(crate) fn withdraws<A: Allocator>(bench: &Bench<A>, desk: &Desk<A>, waited: 
     desk.phase().drinking == Drinking::Thirsty && is_used_up(bench, desk, waited)
 }
 
-pub(crate) fn may_thirst<A: Allocator>(bench: &Bench<A>, desk: &Desk<A>) -> bool
+/// Whether the next session may begin: the job is tranquil, doesn't eat, and has a session left.
+pub fn may_thirst<A: Allocator>(bench: &Bench<A>, desk: &Desk<A>) -> bool
     requires own { Owns bench.now desk.now }
     ensures { IsTrue result ↔ May desk.now.plan (known desk.now) (Thirst desk.now.job) }
 {
@@ -81,7 +84,8 @@ pub(crate) fn may_thirst<A: Allocator>(bench: &Bench<A>, desk: &Desk<A>) -> bool
         && has_session(bench, desk)
 }
 
-pub(crate) fn may_retire<A: Allocator>(bench: &Bench<A>, desk: &Desk<A>) -> bool
+/// Whether the job may retire: it thinks, is tranquil, and has no session left.
+pub fn may_retire<A: Allocator>(bench: &Bench<A>, desk: &Desk<A>) -> bool
     requires own { Owns bench.now desk.now }
     ensures { IsTrue result ↔ May desk.now.plan (known desk.now) (Retire desk.now.job) }
 {
