@@ -1,1 +1,2 @@
 pub mod TeamTurns
+pub mod Sorting

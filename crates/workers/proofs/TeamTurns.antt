@@ -27,8 +27,12 @@ took_more n d m e a t = grows.turns_go_on n 1 d m e a t
 none_more : (n : ℕ) → n + 0 ≡ n
 none_more n = omega arith
 
+-- what is no turn leaves their number
+pub took_then : (n : ℕ) (d m e : DeskView) → TookTurns n d m → TookTurns 0 m e → TookTurns n d e
+took_then n d m e a t = subst (λ k. TookTurns k d e) (none_more n) (grows.turns_go_on n 0 d m e a t)
+
 pub took_glanced : (n : ℕ) (d m e : DeskView) (r : Bool) → TookTurns n d m → Glanced m r e → TookTurns n d e
-took_glanced n d m e r a t = subst (λ k. TookTurns k d e) (none_more n) (grows.turns_go_on n 0 d m e a (grows.glances_alone m e (glances m.job t.saw) t.grew (glances_none m.job t.saw) t.clock))
+took_glanced n d m e r a t = took_then n d m e a (grows.glances_alone m e (glances m.job t.saw) t.grew (glances_none m.job t.saw) t.clock)
 
 pub took_owns : (b : BenchView) (n : ℕ) (d e : DeskView) → TookTurns n d e → Owns b d → Owns b e
 took_owns b n d e t o = (t.grew.table ∙ o.0, t.grew.plan ∙ o.1)

@@ -1,30 +1,16 @@
 //! The call that starts the workers, and what it answers.
 ghost use Rattle.std.specs.Prelude.{◌≡◌, ◌<◌, ◌≤◌, length};
 ghost use Rattle.locality.specs.Lists.{Each};
-ghost use Rattle.edge_rule.specs.DeskView.{Owns, IsAtRest};
-ghost use Rattle.edge_rule.specs.Company.{Distinct, jobs_of};
+ghost use Rattle.edge_rule.specs.DeskView.{Owns};
 ghost use Rattle.edge_rule.specs.Ending.{HasAll};
 ghost use Rattle.workers.specs.Team.{Threaded};
 
 use crate::gate::Gate;
 use crate::teams::in_teams;
 use edge_rule::{Bench, Desk, meet_all};
-use rounds::{Ended, all_retired};
+use rounds::{Ended, all_retired, are_at_rest};
 use std::alloc::Allocator;
 use std::thread::Threads;
-
-// What each desk shows: it is at rest.
-fn at_rest<A: Allocator>(desks: &[Desk<A>])
-    ensures { Each IsAtRest desks.now }
-{
-    match desks {
-        [] => {}
-        [desk, others @ ..] => {
-            let _ = desk.job();
-            at_rest(others)
-        }
-    }
-}
 
 // Drives the desks of the slice. Their order may change, save where there is no memory.
 fn drive<R: Threads + Sync, S: Allocator, A: Allocator + Send + Sync, G: Gate>(
@@ -39,7 +25,7 @@ fn drive<R: Threads + Sync, S: Allocator, A: Allocator + Send + Sync, G: Gate>(
     requires workers { 1 ≤ workers }
     requires some { 0 < length desks.old }
     requires own { Each (Owns bench.now) desks.old }
-    requires all { HasAll bench.now.plan desks.old × Distinct (jobs_of desks.old) }
+    requires all { HasAll bench.now.plan desks.old }
     ensures { Threaded bench.now turns desks.old result desks.new }
 {
     let sorted = desks.sort_by_key(alloc, |desk| {
@@ -50,8 +36,8 @@ fn drive<R: Threads + Sync, S: Allocator, A: Allocator + Send + Sync, G: Gate>(
     }
     in_teams(rt, bench, gate, workers, turns, desks);
     desks.sort_unstable_by_key(|desk| desk.job().0);
+    are_at_rest(desks);
     meet_all(bench, desks);
-    at_rest(desks);
     if all_retired(desks) {
         return Ended::AllRetired;
     }
@@ -72,7 +58,7 @@ pub fn threads<R: Threads + Sync, S: Allocator, A: Allocator + Send + Sync, G: G
 ) -> (Vec<Desk<A>, A>, Ended)
     requires workers { 1 ≤ workers }
     requires own { Each (Owns bench.now) desks.items }
-    requires all { HasAll bench.now.plan desks.items × Distinct (jobs_of desks.items) }
+    requires all { HasAll bench.now.plan desks.items }
     ensures { Threaded bench.now turns desks.items result.1 result.0.items }
 {
     if desks.is_empty() {
