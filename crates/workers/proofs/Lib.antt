@@ -1,2 +1,3 @@
 pub mod TeamTurns
 pub mod Sorting
+pub mod ClosedTurns

@@ -184,7 +184,7 @@ module _ (b : BenchView) (turns : ℕ) (old mid back sorted new : List DeskView)
       all_seen : Any (λ (e : DeskView). AllRetired e.plan e.front) back → AllRetired b.plan F
       all_seen any = any_each (λ (e : DeskView). AllRetired e.plan e.front) (λ (e : DeskView). Owns b e × StartsWith F e.front) (AllRetired b.plan F) sorted
           (λ e done q j inside. let is : AllRetired b.plan e.front = subst (λ (p : LabPlan). AllRetired p e.front) q.0.1 done in
-              subst (λ (h : List Event). AllRetired b.plan h) (sym q.1.1) (λ k l. retired_on b.plan k e.front q.1.0 (subst (IsHistory b.plan) q.1.1 knows.company.legal) (is k l)) j inside)
+          subst (λ (h : List Event). AllRetired b.plan h) (sym q.1.1) (λ k l. retired_on b.plan k e.front q.1.0 (subst (IsHistory b.plan) q.1.1 knows.company.legal) (is k l)) j inside)
           (any_perm (λ (e : DeskView). AllRetired e.plan e.front) back sorted last any)
           (zip_each (Owns b) (λ (e : DeskView). StartsWith F e.front) (λ (e : DeskView). Owns b e × StartsWith F e.front) (λ e o s. (o, s)) sorted own_sorted knows.starts)
 

@@ -189,22 +189,22 @@ chunks_from turns size (suc fuel) (d ∷ old) new some few same each =
     (worked_both turns (take size xs) (take size new) (drop size xs) (drop size new)
     (first (each 0 (omega arith)))
     (chunks_from turns size fuel (drop size xs) (drop size new) some (omega arith) (omega arith) (λ n l. later n (each (suc n) (past n l))))) where
-  first : Worked turns (slice_chunk (d ∷ old) size 0) (slice_chunk new size 0) → Worked turns (take size (d ∷ old)) (take size new)
-  first w = subst (λ (k : ℕ). Worked turns (take size (drop k (d ∷ old))) (take size (drop k new))) nothing w where
-    nothing : 0 * size ≡ 0
-    nothing = omega arith
+      first : Worked turns (slice_chunk (d ∷ old) size 0) (slice_chunk new size 0) → Worked turns (take size (d ∷ old)) (take size new)
+      first w = subst (λ (k : ℕ). Worked turns (take size (drop k (d ∷ old))) (take size (drop k new))) nothing w where
+        nothing : 0 * size ≡ 0
+        nothing = omega arith
 
-  past : (n : ℕ) → n * size < length (drop size (d ∷ old)) → suc n * size < length (d ∷ old)
-  past n l = let one = length-drop size (d ∷ old) in let m = next n in omega (arith, l, one, m) where
-    next : (n : ℕ) → suc n * size ≡ size + n * size
-    next n = omega arith
+      past : (n : ℕ) → n * size < length (drop size (d ∷ old)) → suc n * size < length (d ∷ old)
+      past n l = let one = length-drop size (d ∷ old) in let m = next n in omega (arith, l, one, m) where
+        next : (n : ℕ) → suc n * size ≡ size + n * size
+        next n = omega arith
 
-  later : (n : ℕ) → Worked turns (slice_chunk (d ∷ old) size (suc n)) (slice_chunk new size (suc n)) → Worked turns (slice_chunk (drop size (d ∷ old)) size n) (slice_chunk (drop size new) size n)
-  later n w = subst (λ (z : List DeskView × List DeskView). Worked turns (take size z.0) (take size z.1)) (λ i. (sym (at (d ∷ old)) i, sym (at new) i)) w where
-    at : (l : List DeskView) → drop (n * size) (drop size l) ≡ drop (suc n * size) l
-    at l = drop-drop (n * size) size l ∙ ap (λ k. drop k l) next where
-      next : size + n * size ≡ suc n * size
-      next = omega arith
+      later : (n : ℕ) → Worked turns (slice_chunk (d ∷ old) size (suc n)) (slice_chunk new size (suc n)) → Worked turns (slice_chunk (drop size (d ∷ old)) size n) (slice_chunk (drop size new) size n)
+      later n w = subst (λ (z : List DeskView × List DeskView). Worked turns (take size z.0) (take size z.1)) (λ i. (sym (at (d ∷ old)) i, sym (at new) i)) w where
+        at : (l : List DeskView) → drop (n * size) (drop size l) ≡ drop (suc n * size) l
+        at l = drop-drop (n * size) size l ∙ ap (λ k. drop k l) next where
+          next : size + n * size ≡ suc n * size
+          next = omega arith
 
 pub chunks_worked : (turns size : ℕ) (old new : List DeskView) → 0 < size → length new ≡ length old → ((n : ℕ) → n * size < length old → Worked turns (slice_chunk old size n) (slice_chunk new size n)) → Worked turns old new
 chunks_worked turns size old new some same each = chunks_from turns size (length old) old new some (omega arith) same each

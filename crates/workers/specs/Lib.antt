@@ -1,1 +1,2 @@
 pub mod Team
+pub mod Closed

@@ -3,7 +3,9 @@
 
 mod driving;
 mod gate;
+mod laws;
 mod teams;
 
 pub use driving::threads;
 pub use gate::{Gate, NoGate};
+pub use laws::turns_in_history;

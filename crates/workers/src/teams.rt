@@ -62,10 +62,15 @@ fn in_chunks<R: Threads + Sync, A: Allocator + Send + Sync, G: Gate>(
     requires own { Each (Owns bench.now) desks.old }
     ensures { Worked turns desks.old desks.new }
 {
-    for_each_chunk_mut(rt, desks, size, &|_start: usize, team: &mut [Desk<A>]|
-        requires { (0 < length team.now) × Each (Owns bench.now) team.now }
-        ensures { Worked turns team.entry.now team.exit.now }
-    { work(bench, gate, turns, team) });
+    for_each_chunk_mut(
+        rt,
+        desks,
+        size,
+        &|_start: usize, team: &mut [Desk<A>]|
+            requires { (0 < length team.now) × Each (Owns bench.now) team.now }
+            ensures { Worked turns team.entry.now team.exit.now }
+        { work(bench, gate, turns, team) },
+    );
 }
 
 fn on_part<T, F: Fn(usize, &mut [T])>(f: &F, size: usize, part: &mut [T])

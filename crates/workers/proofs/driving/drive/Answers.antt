@@ -15,9 +15,15 @@ pub meet_all-requires-clause-apart : goal.meet_all-requires-clause-apart
 meet_all-requires-clause-apart g c = let r = c.requires in apart_sorted c.args.bench.now c.args.turns c.args.desks.now c.sort_by_key-sorted.new.self c.in_teams.new.desks c.sort_unstable_by_key.new.self [] r.own r.all c.sort_by_key-sorted.ensures.permutation c.in_teams.ensures c.sort_unstable_by_key.ensures.permutation
 
 pub returns-then-all_retired : goal.returns-then-all_retired
-returns-then-all_retired g c = let r = c.requires in (driven c.args.bench.now c.args.turns c.args.desks.now c.sort_by_key-sorted.new.self c.in_teams.new.desks c.sort_unstable_by_key.new.self c.meet_all.new.desks r.own r.all c.sort_by_key-sorted.ensures.permutation c.in_teams.ensures c.sort_unstable_by_key.ensures.permutation c.are_at_rest.ensures
-    (IsNonDecreasingBy-from_sort_by_key job_of _ c.sort_unstable_by_key.ensures.sorted (λ a r q k. search rules)) c.meet_all.ensures, sym c.all_retired.ensures ∙ c.if-all_retired.true)
+returns-then-all_retired g c = let r = c.requires in (
+  driven c.args.bench.now c.args.turns c.args.desks.now c.sort_by_key-sorted.new.self c.in_teams.new.desks c.sort_unstable_by_key.new.self c.meet_all.new.desks r.own r.all c.sort_by_key-sorted.ensures.permutation c.in_teams.ensures c.sort_unstable_by_key.ensures.permutation c.are_at_rest.ensures
+      (IsNonDecreasingBy-from_sort_by_key job_of _ c.sort_unstable_by_key.ensures.sorted (λ a r q k. search rules)) c.meet_all.ensures,
+  sym c.all_retired.ensures ∙ c.if-all_retired.true,
+)
 
 pub returns : goal.returns
-returns g c = let r = c.requires in (driven c.args.bench.now c.args.turns c.args.desks.now c.sort_by_key-sorted.new.self c.in_teams.new.desks c.sort_unstable_by_key.new.self c.meet_all.new.desks r.own r.all c.sort_by_key-sorted.ensures.permutation c.in_teams.ensures c.sort_unstable_by_key.ensures.permutation c.are_at_rest.ensures
-    (IsNonDecreasingBy-from_sort_by_key job_of _ c.sort_unstable_by_key.ensures.sorted (λ a r q k. search rules)) c.meet_all.ensures, sym c.all_retired.ensures ∙ c.if-all_retired.false)
+returns g c = let r = c.requires in (
+  driven c.args.bench.now c.args.turns c.args.desks.now c.sort_by_key-sorted.new.self c.in_teams.new.desks c.sort_unstable_by_key.new.self c.meet_all.new.desks r.own r.all c.sort_by_key-sorted.ensures.permutation c.in_teams.ensures c.sort_unstable_by_key.ensures.permutation c.are_at_rest.ensures
+      (IsNonDecreasingBy-from_sort_by_key job_of _ c.sort_unstable_by_key.ensures.sorted (λ a r q k. search rules)) c.meet_all.ensures,
+  sym c.all_retired.ensures ∙ c.if-all_retired.false,
+)
