@@ -1,0 +1,102 @@
+// The benches that the tests open, and the scripts of their plans.
+ghost use Rattle.std.specs.Prelude.{IsTrue};
+ghost use Rattle.legal_steps.specs.State.{IsOwn};
+ghost use Rattle.locality.specs.Lists.{Each};
+ghost use Rattle.edge_rule.specs.DeskView.{Owns};
+
+use edge_rule::{Bench, Desk};
+use lab_plan::{EdgeNo, JobNo, Plan};
+use script_reader::read_plan;
+use std::alloc::Allocator;
+use std::process::Abort;
+
+pub(crate) const A: JobNo = JobNo(0);
+
+pub(crate) const B: JobNo = JobNo(1);
+
+pub(crate) const C: JobNo = JobNo(2);
+
+// The edges of three jobs; of two there is only the first.
+pub(crate) const AB: EdgeNo = EdgeNo(0);
+
+pub(crate) const AC: EdgeNo = EdgeNo(1);
+
+pub(crate) const BC: EdgeNo = EdgeNo(2);
+
+// Jobs a and b, which add 1 on the scale in one session each.
+pub(crate) const TWO: &str =
+    "lab 1\njob a\nsession\nscale add 1\nend\njob b\nsession\nscale add 1\nend\n";
+
+// The same, with a second session of a.
+pub(crate) const TWICE: &str =
+    "lab 1\njob a\nsession\nscale add 1\nend\nsession\nscale add 1\nend\njob b\nsession\nscale add 1\nend\n";
+
+// The same as the first, with a session of b that has the patience 0.
+pub(crate) const IMPATIENT: &str =
+    "lab 2\njob a\nsession\nscale add 1\nend\njob b\nsession patience 0\nscale add 1\nend\n";
+
+// Jobs a, b and c, which add 1 on the same three instruments in one session each.
+pub(crate) const THREE: &str =
+    "lab 1\njob a\nsession\nlamp add 1\npump add 1\nscale add 1\nend\njob b\nsession\nlamp add 1\npump add 1\nscale add 1\nend\njob c\nsession\nlamp add 1\npump add 1\nscale add 1\nend\n";
+
+// A plan without jobs.
+pub(crate) const NOBODY: &str = "lab 1\n";
+
+pub(crate) fn plan_of<T: Allocator + Copy>(rt: &impl Abort, alloc: T, script: &str) -> Plan<T> {
+    match read_plan(alloc, script.as_bytes()) {
+        Ok(plan) => plan,
+        Err(_) => panic!(rt; "no plan"),
+    }
+}
+
+pub(crate) fn bench_of<'p, T: Allocator + Copy>(
+    rt: &impl Abort,
+    alloc: T,
+    plan: &'p Plan<T>,
+) -> (Bench<'p, T>, Vec<Desk<T>, T>)
+    ensures { Each (Owns result.0) result.1.items }
+{
+    match Bench::open(alloc, plan) {
+        Ok(made) => made,
+        Err(_) => panic!(rt; "no bench"),
+    }
+}
+
+// Whether the edge is one of the job's.
+fn has_end<T: Allocator>(plan: &Plan<T>, job: JobNo, edge: EdgeNo) -> bool
+    ensures { IsTrue result → IsOwn plan.now job edge }
+{
+    if edge.0 >= plan.edges() {
+        return false;
+    }
+    let (lower, higher) = plan.ends(edge);
+    lower == job || higher == job
+}
+
+// Whether the edge is one of the desk's job.
+pub(crate) fn is_own<T: Allocator>(bench: &Bench<T>, desk: &Desk<T>, edge: EdgeNo) -> bool
+    requires own { Owns bench.now desk.now }
+    ensures { IsTrue result → IsOwn desk.now.plan desk.now.job edge }
+{
+    let job = desk.job();
+    let plan = bench.plan();
+    has_end(plan, job, edge)
+}
+
+// The desks of a bench for two jobs.
+pub(crate) fn both<'p, T: Allocator>(
+    rt: &impl Abort,
+    bench: &Bench<'p, T>,
+    mut desks: Vec<Desk<T>, T>,
+) -> (Desk<T>, Desk<T>)
+    requires own { Each (Owns bench.now) desks.items }
+    ensures { Owns bench.now result.0 × Owns bench.now result.1 }
+{
+    let Some(second) = desks.pop() else {
+        panic!(rt; "no desk");
+    };
+    let Some(first) = desks.pop() else {
+        panic!(rt; "one desk");
+    };
+    (first, second)
+}

@@ -1,0 +1,298 @@
+// Calls on desks, and what they answer.
+ghost use Rattle.legal_steps.specs.State.{IsOwn};
+ghost use Rattle.locality.specs.Lists.{Each};
+ghost use Rattle.edge_rule.specs.DeskView.{Owns};
+
+use crate::benches::{bench_of, is_own, plan_of};
+use desk_calls::{
+    ask_bottles, ask_fork, give_bottles, give_fork, may_ask_bottles, may_ask_fork, may_command,
+    may_give_bottles, may_give_fork, may_phase, may_soil, soil,
+};
+use dining_layer::fork_moves;
+use drinking_layer::with_bottles;
+use edge_rule::{
+    Bench, Counts, Desk, PhaseEvent, Stepped, command, exchange, glance, look, store_phase,
+};
+use edge_word::PhaseWord;
+use instrument_log::Entry;
+use lab_plan::{EdgeNo, JobNo};
+use std::alloc::Allocator;
+use std::process::Abort;
+
+// A move on an edge, or all that are due there.
+#[derive(Clone, Copy)]
+pub(crate) enum Move {
+    GiveFork,
+    GiveBottles(u32),
+    AskFork,
+    AskBottles(u32),
+    Soil,
+    AllDue,
+}
+
+// A call on a desk.
+#[derive(Clone, Copy)]
+pub(crate) enum Call {
+    Look(EdgeNo),
+    Try(Move, EdgeNo),
+    May(Move, EdgeNo),
+    Store(PhaseEvent),
+    Command,
+    Glance(JobNo),
+    NoteTurn(bool),
+    Seen(EdgeNo),
+    Marks(EdgeNo),
+    Phase,
+    Retired,
+    Counts,
+}
+
+// What is answered; words as they are packed.
+#[derive(Clone, Copy, PartialEq, Eq, Debug)]
+pub(crate) enum Answer {
+    // an edge as it was seen, or as a move left it; or how far a job is
+    Word(u64),
+    // the other word that an exchange found
+    Found(u64),
+    Is(bool),
+    Added(Entry),
+    // whether there is a mark for the fork, and which bottles there are marks for
+    Marks(bool, u32),
+    // the turns, and in how many of them the session waited
+    Turns(u64, u32),
+    Counted(Counts),
+}
+
+fn looked<T: Allocator>(
+    rt: &impl Abort,
+    bench: &Bench<T>,
+    desk: &mut Desk<T>,
+    edge: EdgeNo,
+) -> Answer
+    requires own { Owns bench.now desk.old }
+    ensures { Owns bench.now desk.new }
+{
+    assert!(rt; is_own(bench, desk, edge));
+    Answer::Word(look(bench, desk, edge).pack())
+}
+
+// Moves that are seen to be legal.
+fn moved<T: Allocator>(
+    rt: &impl Abort,
+    bench: &Bench<T>,
+    desk: &mut Desk<T>,
+    what: Move,
+    edge: EdgeNo,
+) -> Stepped
+    requires own { Owns bench.now desk.old }
+    requires edge { IsOwn desk.old.plan desk.old.job edge }
+    ensures { Owns bench.now desk.new }
+{
+    match what {
+        Move::GiveFork => {
+            assert!(rt; may_give_fork(bench, desk, edge));
+            give_fork(bench, desk, edge)
+        }
+        Move::GiveBottles(set) => {
+            assert!(rt; may_give_bottles(bench, desk, edge, set));
+            give_bottles(bench, desk, edge, set)
+        }
+        Move::AskFork => {
+            assert!(rt; may_ask_fork(bench, desk, edge));
+            ask_fork(bench, desk, edge)
+        }
+        Move::AskBottles(set) => {
+            assert!(rt; may_ask_bottles(bench, desk, edge, set));
+            ask_bottles(bench, desk, edge, set)
+        }
+        Move::Soil => {
+            assert!(rt; may_soil(bench, desk, edge));
+            soil(bench, desk, edge)
+        }
+        Move::AllDue => {
+            let forks = fork_moves(bench, desk, edge);
+            let moves = with_bottles(bench, desk, edge, forks);
+            exchange(bench, desk, edge, moves)
+        }
+    }
+}
+
+fn seen<T: Allocator>(rt: &impl Abort, bench: &Bench<T>, desk: &Desk<T>, edge: EdgeNo) -> u64
+    requires own { Owns bench.now desk.now }
+{
+    assert!(rt; is_own(bench, desk, edge));
+    desk.seen(edge).pack()
+}
+
+fn tried<T: Allocator>(
+    rt: &impl Abort,
+    bench: &Bench<T>,
+    desk: &mut Desk<T>,
+    what: Move,
+    edge: EdgeNo,
+) -> Answer
+    requires own { Owns bench.now desk.old }
+    ensures { Owns bench.now desk.new }
+{
+    assert!(rt; is_own(bench, desk, edge));
+    match moved(rt, bench, desk, what, edge) {
+        Stepped::Done => Answer::Word(seen(rt, bench, desk, edge)),
+        Stepped::Moved(found) => Answer::Found(found.pack()),
+    }
+}
+
+// Whether a single move is legal by the word last seen.
+fn may<T: Allocator>(
+    rt: &impl Abort,
+    bench: &Bench<T>,
+    desk: &Desk<T>,
+    what: Move,
+    edge: EdgeNo,
+) -> bool
+    requires own { Owns bench.now desk.now }
+{
+    assert!(rt; is_own(bench, desk, edge));
+    match what {
+        Move::GiveFork => may_give_fork(bench, desk, edge),
+        Move::GiveBottles(set) => may_give_bottles(bench, desk, edge, set),
+        Move::AskFork => may_ask_fork(bench, desk, edge),
+        Move::AskBottles(set) => may_ask_bottles(bench, desk, edge, set),
+        Move::Soil => may_soil(bench, desk, edge),
+        Move::AllDue => true,
+    }
+}
+
+fn phase_of<T: Allocator>(rt: &impl Abort, desk: &Desk<T>) -> u64 {
+    let phase = desk.phase();
+    assert!(rt; phase.session < 16_777_216);
+    PhaseWord::new(phase).pack()
+}
+
+fn stored<T: Allocator>(
+    rt: &impl Abort,
+    bench: &Bench<T>,
+    desk: &mut Desk<T>,
+    what: PhaseEvent,
+) -> Answer
+    requires own { Owns bench.now desk.old }
+    ensures { Owns bench.now desk.new }
+{
+    assert!(rt; may_phase(bench, desk, what));
+    store_phase(bench, desk, what);
+    Answer::Word(phase_of(rt, desk))
+}
+
+fn commanded<T: Allocator>(rt: &impl Abort, bench: &Bench<T>, desk: &mut Desk<T>) -> Answer
+    requires own { Owns bench.now desk.old }
+    ensures { Owns bench.now desk.new }
+{
+    assert!(rt; may_command(bench, desk));
+    Answer::Added(command(bench, desk))
+}
+
+fn glanced<T: Allocator>(
+    rt: &impl Abort,
+    bench: &Bench<T>,
+    desk: &mut Desk<T>,
+    other: JobNo,
+) -> Answer
+    requires own { Owns bench.now desk.old }
+    ensures { Owns bench.now desk.new }
+{
+    let me = desk.job();
+    let jobs = bench.plan().jobs();
+    assert!(rt; (other.0 as usize) < jobs && other.0 != me.0);
+    Answer::Word(glance(bench, desk, other).pack())
+}
+
+fn noted<T: Allocator>(bench: &Bench<T>, desk: &mut Desk<T>, thirsty_at_start: bool) -> Answer
+    requires own { Owns bench.now desk.old }
+    ensures { Owns bench.now desk.new }
+{
+    desk.note_turn(thirsty_at_start);
+    Answer::Turns(desk.turns(), desk.waited())
+}
+
+fn marks<T: Allocator>(rt: &impl Abort, bench: &Bench<T>, desk: &Desk<T>, edge: EdgeNo) -> Answer
+    requires own { Owns bench.now desk.now }
+{
+    assert!(rt; is_own(bench, desk, edge));
+    Answer::Marks(desk.fork_mark(edge), desk.bottle_marks(edge))
+}
+
+fn counted<T: Allocator>(rt: &impl Abort, desk: &Desk<T>) -> Answer {
+    let counts = desk.counts();
+    assert!(rt; counts.meals == desk.meals());
+    assert!(rt; counts.sessions_done == desk.sessions_done());
+    assert!(rt; counts.withdrawn == desk.withdrawn());
+    Answer::Counted(counts)
+}
+
+pub(crate) fn called<T: Allocator>(
+    rt: &impl Abort,
+    bench: &Bench<T>,
+    desk: &mut Desk<T>,
+    call: Call,
+) -> Answer
+    requires own { Owns bench.now desk.old }
+    ensures { Owns bench.now desk.new }
+{
+    match call {
+        Call::Look(edge) => looked(rt, bench, desk, edge),
+        Call::Try(what, edge) => tried(rt, bench, desk, what, edge),
+        Call::May(what, edge) => Answer::Is(may(rt, bench, desk, what, edge)),
+        Call::Store(what) => stored(rt, bench, desk, what),
+        Call::Command => commanded(rt, bench, desk),
+        Call::Glance(other) => glanced(rt, bench, desk, other),
+        Call::NoteTurn(thirsty_at_start) => noted(bench, desk, thirsty_at_start),
+        Call::Seen(edge) => Answer::Word(seen(rt, bench, desk, edge)),
+        Call::Marks(edge) => marks(rt, bench, desk, edge),
+        Call::Phase => Answer::Word(phase_of(rt, desk)),
+        Call::Retired => Answer::Is(desk.retired()),
+        Call::Counts => counted(rt, desk),
+    }
+}
+
+// The desks stand in ascending order of their jobs.
+fn answer_of<T: Allocator>(
+    rt: &impl Abort,
+    bench: &Bench<T>,
+    desks: &mut [Desk<T>],
+    job: JobNo,
+    call: Call,
+) -> Answer
+    requires own { Each (Owns bench.now) desks.old }
+    ensures { Each (Owns bench.now) desks.new }
+{
+    let place = job.0 as usize;
+    assert!(rt; place < desks.len());
+    assert!(rt; desks[place].job() == job);
+    called(rt, bench, &mut desks[place], call)
+}
+
+// A job, a call on its desk, and what has to be answered.
+pub(crate) type Line = (JobNo, Call, Answer);
+
+// Does all the calls, and compares each answer.
+pub(crate) fn do_all<T: Allocator>(
+    rt: &impl Abort,
+    bench: &Bench<T>,
+    desks: &mut [Desk<T>],
+    lines: &[Line],
+)
+    requires own { Each (Owns bench.now) desks.old }
+    ensures { Each (Owns bench.now) desks.new }
+{
+    for number in 0..lines.len() {
+        let (job, call, wanted) = lines[number];
+        let told = answer_of(rt, bench, desks, job, call);
+        assert!(rt; told == wanted, "call {number}: {told:?}");
+    }
+}
+
+// The calls on a bench that is opened for them.
+pub(crate) fn check<T: Allocator + Copy>(rt: &impl Abort, alloc: T, script: &str, lines: &[Line]) {
+    let plan = plan_of(rt, alloc, script);
+    let (bench, mut desks) = bench_of(rt, alloc, &plan);
+    do_all(rt, &bench, desks.as_mut_slice(), lines);
+}

@@ -1,0 +1,288 @@
+// Benches that are closed: what they leave, and desks that are missing.
+ghost use Rattle.std.specs.Prelude.{◌≡◌, ◌++◌, ◌∷◌, []};
+ghost use Rattle.locality.specs.Lists.{Each};
+ghost use Rattle.edge_rule.specs.DeskView.{Owns};
+
+use crate::benches::{A, AB, AC, B, BC, C, NOBODY, THREE, TWO, bench_of, both, plan_of};
+use crate::calls::{Answer, Call, Line, Move, do_all};
+use edge_rule::{Bench, CloseCause, Closed, Counts, Desk, PhaseEvent};
+use instrument_log::{Entry, InstrumentLog};
+use lab_plan::{EdgeNo, InstrumentNo, JobNo, Plan, Verb};
+use std::alloc::Allocator;
+use std::process::Abort;
+
+/// What a bench leaves: the words of its edges; for each job its phase word, what it did, and whether it is retired;
+/// and of the entries in the first instrument's log, each of the one command of a session, its job and value.
+pub(crate) struct Left {
+    edges: &'static [u64],
+    jobs: &'static [(u64, Counts, bool)],
+    entries: &'static [(u8, u32)],
+}
+
+fn edge_of<T: Allocator>(rt: &impl Abort, closed: &Closed<T>, number: usize) -> u64 {
+    assert!(rt; number < closed.plan().edges() as usize);
+    closed.edge(EdgeNo(number as u16)).pack()
+}
+
+fn job_of<T: Allocator>(rt: &impl Abort, closed: &Closed<T>, number: usize) -> (u64, Counts, bool) {
+    assert!(rt; number < closed.plan().jobs());
+    let job = JobNo(number as u8);
+    let counts = Counts {
+        meals: closed.meals(job),
+        sessions_done: closed.sessions_done(job),
+        withdrawn: closed.withdrawn(job),
+    };
+    (closed.phase(job).pack(), counts, closed.retired(job))
+}
+
+// The entry of the one command of a job's first session, which adds 1.
+fn entry_of(job: JobNo, value: u32) -> Entry {
+    Entry {
+        job,
+        session: 1,
+        place: 1,
+        length: 1,
+        verb: Verb::Add(1),
+        value,
+    }
+}
+
+fn has_entries<T: Allocator>(log: &InstrumentLog<T>, wanted: &[(u8, u32)]) -> bool {
+    if log.len() != wanted.len() {
+        return false;
+    }
+    for number in 0..log.len() {
+        let (job, value) = wanted[number];
+        if log.entry(number) != entry_of(JobNo(job), value) {
+            return false;
+        }
+    }
+    true
+}
+
+fn check_log<T: Allocator>(rt: &impl Abort, closed: &Closed<T>, wanted: &[(u8, u32)]) {
+    assert!(rt; closed.plan().instruments() > 0);
+    assert!(rt; has_entries(closed.log(InstrumentNo(0)), wanted));
+}
+
+pub(crate) fn check_left<T: Allocator>(rt: &impl Abort, closed: &Closed<T>, wanted: &Left) {
+    let plan = closed.plan();
+    assert!(rt; plan.edges() as usize == wanted.edges.len());
+    assert!(rt; plan.jobs() == wanted.jobs.len());
+    for number in 0..wanted.edges.len() {
+        assert!(rt;
+            edge_of(rt, closed, number) == wanted.edges[number],
+            "edge {number}"
+        );
+    }
+    for number in 0..wanted.jobs.len() {
+        assert!(rt;
+            job_of(rt, closed, number) == wanted.jobs[number],
+            "job {number}"
+        );
+    }
+    if !wanted.jobs.is_empty() {
+        check_log(rt, closed, wanted.entries);
+    }
+}
+
+fn closed<'p, T: Allocator>(
+    rt: &impl Abort,
+    alloc: T,
+    bench: Bench<'p, T>,
+    desks: Vec<Desk<T>, T>,
+) -> Closed<'p, T>
+    requires own { Each (Owns bench) desks.items }
+{
+    match bench.close(alloc, desks) {
+        Ok(closed) => closed,
+        Err(_) => panic!(rt; "not closed"),
+    }
+}
+
+/// Calls on a bench, which is then closed with the second allocator, and where memory is refused with the first.
+/// What is left is the same. Answers whether the first close did.
+pub(crate) fn closes<T: Allocator + Copy>(
+    rt: &impl Abort,
+    alloc: T,
+    small: T,
+    script: &str,
+    lines: &[Line],
+    wanted: &Left,
+) -> bool {
+    let plan = plan_of(rt, alloc, script);
+    let (bench, mut desks) = bench_of(rt, alloc, &plan);
+    do_all(rt, &bench, desks.as_mut_slice(), lines);
+    assert!(rt; bench.has_all(desks.as_slice()));
+    match bench.close(small, desks) {
+        Ok(closed) => {
+            check_left(rt, &closed, wanted);
+            true
+        }
+        Err(refused) => {
+            assert!(rt; refused.cause == CloseCause::NoMemory);
+            check_left(rt, &closed(rt, alloc, refused.bench, refused.desks), wanted);
+            false
+        }
+    }
+}
+
+const NOTHING_DONE: Counts = Counts {
+    meals: 0,
+    sessions_done: 0,
+    withdrawn: 0,
+};
+
+const ONE_SESSION: Counts = Counts {
+    meals: 0,
+    sessions_done: 1,
+    withdrawn: 0,
+};
+
+/// A bench for two jobs on which nothing was done.
+const UNTOUCHED: Left = Left {
+    edges: &[4294967302],
+    jobs: &[(0, NOTHING_DONE, false), (0, NOTHING_DONE, false)],
+    entries: &[],
+};
+
+const OF_A: Entry = Entry {
+    job: A,
+    session: 1,
+    place: 1,
+    length: 1,
+    verb: Verb::Add(1),
+    value: 1,
+};
+
+const OF_B: Entry = Entry {
+    job: B,
+    session: 1,
+    place: 1,
+    length: 1,
+    verb: Verb::Add(1),
+    value: 2,
+};
+
+/// Job a has its session and retires, and gives its bottle to b, which does the same. Nobody eats.
+pub(crate) const BOTH_DRINK: [Line; 16] = [
+    (A, Call::Store(PhaseEvent::Thirst), Answer::Word(260)),
+    (A, Call::Look(AB), Answer::Word(4294967302)),
+    (A, Call::Store(PhaseEvent::Drink), Answer::Word(264)),
+    (A, Call::Command, Answer::Added(OF_A)),
+    (A, Call::Phase, Answer::Word(4294967560)),
+    (A, Call::Store(PhaseEvent::Quit), Answer::Word(256)),
+    (A, Call::Store(PhaseEvent::Retire), Answer::Word(272)),
+    (B, Call::Store(PhaseEvent::Thirst), Answer::Word(260)),
+    (B, Call::Try(Move::AllDue, AB), Answer::Word(6)),
+    (A, Call::Look(AB), Answer::Word(6)),
+    (A, Call::Try(Move::AllDue, AB), Answer::Word(22)),
+    (B, Call::Look(AB), Answer::Word(22)),
+    (B, Call::Store(PhaseEvent::Drink), Answer::Word(264)),
+    (B, Call::Command, Answer::Added(OF_B)),
+    (B, Call::Store(PhaseEvent::Quit), Answer::Word(256)),
+    (B, Call::Store(PhaseEvent::Retire), Answer::Word(272)),
+];
+
+pub(crate) const BOTH_DRANK: Left = Left {
+    edges: &[22],
+    jobs: &[(272, ONE_SESSION, true), (272, ONE_SESSION, true)],
+    entries: &[(0, 1), (1, 2)],
+};
+
+/// Of three jobs the last has begun its session, and asked for the bottles of one edge.
+const ONE_THIRSTY: [Line; 3] = [
+    (C, Call::Store(PhaseEvent::Thirst), Answer::Word(260)),
+    (C, Call::Look(BC), Answer::Word(30064771078)),
+    (C, Call::Try(Move::AllDue, BC), Answer::Word(6)),
+];
+
+const THIRSTY: Left = Left {
+    edges: &[30064771078, 30064771078, 6],
+    jobs: &[
+        (0, NOTHING_DONE, false),
+        (0, NOTHING_DONE, false),
+        (260, NOTHING_DONE, false),
+    ],
+    entries: &[],
+};
+
+const NOTHING: Left = Left {
+    edges: &[],
+    jobs: &[],
+    entries: &[],
+};
+
+#[test]
+fn closed_benches(rt: HostRuntime) {
+    let alloc = rt.alloc();
+    assert!(rt; closes(&rt, alloc, alloc, TWO, &[], &UNTOUCHED));
+    assert!(rt; closes(&rt, alloc, alloc, TWO, &BOTH_DRINK, &BOTH_DRANK));
+    assert!(rt; closes(&rt, alloc, alloc, THREE, &ONE_THIRSTY, &THIRSTY));
+    assert!(rt; closes(&rt, alloc, alloc, NOBODY, &[], &NOTHING));
+}
+
+/// The bench and the desks come back where not all of them are there.
+fn kept_open<'p, T: Allocator>(
+    rt: &impl Abort,
+    alloc: T,
+    bench: Bench<'p, T>,
+    desks: Vec<Desk<T>, T>,
+) -> (Bench<'p, T>, Vec<Desk<T>, T>)
+    requires own { Each (Owns bench) desks.items }
+    ensures { (result.0 ≡ bench.entry) × (result.1.items ≡ desks.items) }
+{
+    match bench.close(alloc, desks) {
+        Ok(_) => panic!(rt; "closed"),
+        Err(refused) => {
+            assert!(rt; refused.cause == CloseCause::NotEveryDesk);
+            (refused.bench, refused.desks)
+        }
+    }
+}
+
+fn with_one_more<T: Allocator>(
+    rt: &impl Abort,
+    mut desks: Vec<Desk<T>, T>,
+    desk: Desk<T>,
+) -> Vec<Desk<T>, T>
+    ensures { result.items ≡ desks.items ++ desk ∷ [] }
+{
+    match desks.push(desk) {
+        Ok(()) => desks,
+        Err(_) => panic!(rt; "no memory"),
+    }
+}
+
+/// A bench isn't closed with the first desk alone, and is with the second behind it.
+fn closes_with_both<'p, T: Allocator + Copy>(
+    rt: &impl Abort,
+    alloc: T,
+    bench: Bench<'p, T>,
+    first: Desk<T>,
+    second: Desk<T>,
+)
+    requires own { Owns bench first × Owns bench second }
+{
+    let one = with_one_more(rt, Vec::new(alloc), first);
+    let (bench, one) = kept_open(rt, alloc, bench, one);
+    let two = with_one_more(rt, one, second);
+    check_left(rt, &closed(rt, alloc, bench, two), &UNTOUCHED);
+}
+
+fn closes_in_order<T: Allocator + Copy>(rt: &impl Abort, alloc: T, is_swapped: bool) {
+    let plan = plan_of(rt, alloc, TWO);
+    let (bench, desks) = bench_of(rt, alloc, &plan);
+    let (a, b) = both(rt, &bench, desks);
+    if is_swapped {
+        closes_with_both(rt, alloc, bench, b, a);
+    } else {
+        closes_with_both(rt, alloc, bench, a, b);
+    }
+}
+
+#[test]
+fn desk_missing_at_close(rt: HostRuntime) {
+    closes_in_order(&rt, rt.alloc(), false);
+    closes_in_order(&rt, rt.alloc(), true);
+}
