@@ -1,0 +1,29 @@
+-- The desks of a bench stay its desks.
+use Rattle.std.proofs.Common.{◌≡◌, ℕ, zero, suc, List, [], ◌∷◌, ◌++◌, length, refl, sym, ap, ◌∙◌, subst}
+use Rattle.lab_plan.specs.LabPlan.{LabPlan}
+use Rattle.locality.specs.Lists.{Each}
+use Rattle.edge_rule.specs.DeskView.{DeskView, BenchView, Owns, fresh_desk, fresh_desks}
+use Rattle.session_layer.specs.declared.turning.Turned.{Turned}
+use Rattle.session_layer.specs.Turn.{Took}
+use Rattle.session_layer.proofs.Grows as grows
+
+-- a turn leaves the bench and the plan
+pub took_owned : (b : BenchView) (d : DeskView) (r : Turned) (d' : DeskView) → Owns b d → Took d r d' → Owns b d'
+took_owned b d r d' own t = let n = grows.one_turn d r d' t in (n.grew.table ∙ own.0, n.grew.plan ∙ own.1)
+
+each-append : (P : DeskView → Type 0) (a b : List DeskView) → Each P a → Each P b → Each P (a ++ b)
+each-append P [] b p q = q
+each-append P (x ∷ a) b p q = (p.0, each-append P a b p.1 q)
+
+fresh_owned : (b : BenchView) (n : ℕ) → Each (Owns b) (fresh_desks b.table b.plan n)
+fresh_owned b zero = tt
+fresh_owned b (suc n) = each-append (Owns b) (fresh_desks b.table b.plan n) (fresh_desk b.table b.plan n ∷ []) (fresh_owned b n) ((refl, refl), tt)
+
+-- the desks that a bench opens with are its own
+pub opened_owned : (b : BenchView) (plan : LabPlan) (desks : List DeskView) → b.plan ≡ plan → desks ≡ fresh_desks b.table plan (length plan.jobs) → Each (Owns b) desks
+opened_owned b plan desks is are = subst (Each (Owns b)) (sym (are ∙ ap (λ (p : LabPlan). fresh_desks b.table p (length plan.jobs)) (sym is))) (fresh_owned b (length plan.jobs))
+
+-- what holds of each holds of the last, and of those before it
+pub each_last : (P : DeskView → Type 0) (a : List DeskView) (x : DeskView) → Each P (a ++ x ∷ []) → Each P a × P x
+each_last P [] x p = (tt, p.0)
+each_last P (y ∷ a) x p = let q = each_last P a x p.1 in ((p.0, q.0), q.1)

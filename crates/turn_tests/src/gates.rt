@@ -1,0 +1,125 @@
+// Gates of the tests, for four jobs and two workers.
+use lab_plan::JobNo;
+use std::sync::atomic::{AtomicU64, Ordering};
+use std::thread::yield_now;
+use workers::Gate;
+
+fn four() -> [AtomicU64; 4] {
+    [
+        AtomicU64::new(0),
+        AtomicU64::new(0),
+        AtomicU64::new(0),
+        AtomicU64::new(0),
+    ]
+}
+
+// The number of a job; that of a job past the fourth is nought.
+fn number_of(counts: &[AtomicU64; 4], job: u8) -> u64 {
+    match counts.get(job as usize) {
+        Some(count) => count.load(Ordering::SeqCst),
+        None => 0,
+    }
+}
+
+fn set(counts: &[AtomicU64; 4], job: u8, number: u64) {
+    if let Some(count) = counts.get(job as usize) {
+        count.store(number, Ordering::SeqCst);
+    }
+}
+
+/// Counts the passes of each job, and notes where one isn't the next of its job, or not in the order of its worker: of two workers the
+/// first drives jobs 0 and 2, the second jobs 1 and 3, the lower job first in each round.
+#[derive(Drop)]
+pub(crate) struct Counting {
+    passes: [AtomicU64; 4],
+    wrong: AtomicU64,
+}
+
+impl Counting {
+    pub(crate) fn new() -> Counting {
+        Counting {
+            passes: four(),
+            wrong: AtomicU64::new(0),
+        }
+    }
+
+    /// How often the job passed.
+    pub(crate) fn passes(&self, job: JobNo) -> u64 {
+        number_of(&self.passes, job.0)
+    }
+
+    /// Whether all passes came in order.
+    pub(crate) fn is_in_order(&self) -> bool {
+        self.wrong.load(Ordering::SeqCst) == 0
+    }
+}
+
+impl Gate for Counting {
+    fn pass(&self, job: JobNo, turn: u64) {
+        let own = number_of(&self.passes, job.0).wrapping_add(1);
+        let other = number_of(&self.passes, job.0 ^ 2);
+        let expected = if job.0 < 2 { own.wrapping_sub(1) } else { own };
+        if own != turn || other != expected {
+            self.wrong.store(1, Ordering::SeqCst);
+        }
+        set(&self.passes, job.0, own);
+    }
+}
+
+/// How often a job looks for the one that it meets, before it gives up.
+const TRIES: u64 = 20_000_000;
+
+/// Lets jobs of different workers wait for one another: in the first turn 0 and 1, and 2 and 3; in the second 0 and 3; in the third 1 and 2.
+/// So the desks are driven on two threads, and neither 0 nor 2 on the same as 1 or 3.
+#[derive(Drop)]
+pub(crate) struct Meeting {
+    turns: [AtomicU64; 4],
+    missed: AtomicU64,
+}
+
+fn partner(job: JobNo, turn: u64) -> Option<u8> {
+    match (turn, job.0) {
+        (1, 0) => Some(1),
+        (1, 1) => Some(0),
+        (1, 2) => Some(3),
+        (1, 3) => Some(2),
+        (2, 0) => Some(3),
+        (2, 3) => Some(0),
+        (3, 1) => Some(2),
+        (3, 2) => Some(1),
+        _ => None,
+    }
+}
+
+impl Meeting {
+    pub(crate) fn new() -> Meeting {
+        Meeting {
+            turns: four(),
+            missed: AtomicU64::new(0),
+        }
+    }
+
+    /// Whether all met.
+    pub(crate) fn all_met(&self) -> bool {
+        self.missed.load(Ordering::SeqCst) == 0
+    }
+
+    fn wait_for(&self, other: u8, turn: u64) {
+        for _ in 0..TRIES {
+            if number_of(&self.turns, other) >= turn || !self.all_met() {
+                return;
+            }
+            yield_now();
+        }
+        self.missed.store(1, Ordering::SeqCst);
+    }
+}
+
+impl Gate for Meeting {
+    fn pass(&self, job: JobNo, turn: u64) {
+        set(&self.turns, job.0, turn);
+        if let Some(other) = partner(job, turn) {
+            self.wait_for(other, turn);
+        }
+    }
+}

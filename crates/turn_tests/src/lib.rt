@@ -1,0 +1,17 @@
+// Tests of jobs at a bench, over public calls alone: single calls, turns one after another, rounds, threads and their gates.
+#![tactic(auto)]
+
+#[cfg(test)]
+mod calls;
+#[cfg(test)]
+mod gates;
+#[cfg(test)]
+mod labs;
+#[cfg(test)]
+mod runs;
+#[cfg(test)]
+mod seats;
+#[cfg(test)]
+mod tables;
+#[cfg(test)]
+mod teams;

@@ -1,0 +1,405 @@
+// A job at its bench: the calls of its desk by name, and what each answers.
+ghost use Rattle.std.specs.Prelude.{◌≡◌, ◌⊎◌, ◌<◌, length, IsTrue};
+ghost use Rattle.locality.specs.Lists.{Each};
+ghost use Rattle.legal_steps.specs.State.{IsOwn};
+ghost use Rattle.edge_rule.specs.DeskView.{Owns};
+
+use desk_calls::{
+    ask_bottles, ask_fork, give_bottles, give_fork, may_ask_bottles, may_ask_fork, may_command,
+    may_drink, may_give_bottles, may_give_fork, may_hunger, may_leave, may_phase, may_quit,
+    may_retire, may_sit, may_soil, may_thirst, may_withdraw,
+};
+use dining_layer::{Tried, ask, dine, fork_moves, give, soil, table};
+use drinking_layer::{drink, serve_bottles, want_bottles, with_bottles};
+use edge_rule::{Bench, Desk, PhaseEvent, Stepped, command, glance, look, store_phase};
+use edge_word::EdgeMoves;
+use lab_plan::{EdgeNo, JobNo};
+use legal_steps::{Dining, Drinking};
+use session_layer::{Turned, all_retired, turn};
+use std::alloc::Allocator;
+use std::process::Abort;
+
+/// A call on one of the job's edges.
+#[derive(Clone, Copy)]
+pub(crate) enum Move {
+    Look,
+    // one move of a layer, where it is legal by the word last seen
+    Give,
+    Ask,
+    Soil,
+    Dine,
+    Serve,
+    Want,
+    // the moves that are due there, of which nothing is done
+    Forks,
+    Due,
+    // all that is legal, as a set
+    Legal,
+    // one named move, which has to be legal
+    GiveFork,
+    AskFork,
+    SoilFork,
+    GiveBottles(u32),
+    AskBottles(u32),
+}
+
+/// A call of a job.
+#[derive(Clone, Copy)]
+pub(crate) enum Call {
+    On(EdgeNo, Move),
+    Turn,
+    AllRetired,
+    Table,
+    Drink,
+    Store(PhaseEvent),
+    Command,
+    Glance(JobNo),
+}
+
+/// What a call answers.
+#[derive(Clone, Copy, PartialEq, Eq, Debug)]
+pub(crate) enum Answer {
+    Done,
+    Found(u64),
+    NotLegal,
+    Saw(u64),
+    Moves(EdgeMoves),
+    Acted(u32),
+    Moved,
+    Idle,
+    Stored(PhaseEvent),
+    Yes,
+    No,
+    Value(u32),
+    Legal(u32),
+}
+
+fn of_try(what: Tried) -> Answer {
+    match what {
+        Tried::Done => Answer::Done,
+        Tried::Moved(word) => Answer::Found(word.pack()),
+        Tried::NotLegal => Answer::NotLegal,
+    }
+}
+
+fn of_exchange(what: Stepped) -> Answer {
+    match what {
+        Stepped::Done => Answer::Done,
+        Stepped::Moved(word) => Answer::Found(word.pack()),
+    }
+}
+
+fn of_turn(what: Turned) -> Answer {
+    match what {
+        Turned::Acted(count) => Answer::Acted(count),
+        Turned::Moved => Answer::Moved,
+        Turned::Idle => Answer::Idle,
+    }
+}
+
+fn of_table(what: Option<PhaseEvent>) -> Answer {
+    match what {
+        Some(what) => Answer::Stored(what),
+        None => Answer::NotLegal,
+    }
+}
+
+fn yes_or_no(yes: bool) -> Answer {
+    if yes { Answer::Yes } else { Answer::No }
+}
+
+// Whether the edge is one of the job's.
+fn is_own<A: Allocator>(bench: &Bench<A>, desk: &Desk<A>, edge: EdgeNo) -> bool
+    requires { Owns bench.now desk.now }
+    ensures { IsTrue result → IsOwn desk.now.plan desk.now.job edge }
+{
+    let plan = bench.plan();
+    if edge.0 >= plan.edges() {
+        return false;
+    }
+    let (lower, higher) = plan.ends(edge);
+    lower == desk.job() || higher == desk.job()
+}
+
+// A move of a layer.
+fn layer_move<A: Allocator>(
+    bench: &Bench<A>,
+    desk: &mut Desk<A>,
+    edge: EdgeNo,
+    what: Move,
+) -> Answer
+    requires own { Owns bench.now desk.old }
+    requires edge { IsOwn desk.old.plan desk.old.job edge }
+    ensures { Owns bench.now desk.new }
+{
+    match what {
+        Move::Look => Answer::Saw(look(bench, desk, edge).pack()),
+        Move::Give => of_try(give(bench, desk, edge)),
+        Move::Ask => of_try(ask(bench, desk, edge)),
+        Move::Soil => of_try(soil(bench, desk, edge)),
+        Move::Dine => of_try(dine(bench, desk, edge)),
+        Move::Serve => of_try(serve_bottles(bench, desk, edge)),
+        Move::Want => of_try(want_bottles(bench, desk, edge)),
+        _ => Answer::NotLegal,
+    }
+}
+
+// What is due on the edge.
+fn due<A: Allocator>(bench: &Bench<A>, desk: &Desk<A>, edge: EdgeNo, bottles: bool) -> Answer
+    requires own { Owns bench.now desk.now }
+    requires edge { IsOwn desk.now.plan desk.now.job edge }
+{
+    let forks = fork_moves(bench, desk, edge);
+    if bottles {
+        return Answer::Moves(with_bottles(bench, desk, edge, forks));
+    }
+    Answer::Moves(forks)
+}
+
+// What is legal at a job and on its edge: the moves by the word last seen there, with the first bottle, and the acts.
+pub(crate) const MAY_ASK: u32 = 1;
+
+pub(crate) const MAY_GIVE: u32 = 2;
+
+pub(crate) const MAY_SOIL: u32 = 4;
+
+pub(crate) const MAY_ASK_BOTTLE: u32 = 8;
+
+pub(crate) const MAY_GIVE_BOTTLE: u32 = 16;
+
+pub(crate) const MAY_COMMAND: u32 = 32;
+
+pub(crate) const MAY_THIRST: u32 = 64;
+
+pub(crate) const MAY_HUNGER: u32 = 128;
+
+pub(crate) const MAY_SIT: u32 = 256;
+
+pub(crate) const MAY_LEAVE: u32 = 512;
+
+pub(crate) const MAY_DRINK: u32 = 1024;
+
+pub(crate) const MAY_QUIT: u32 = 2048;
+
+pub(crate) const MAY_RETIRE: u32 = 4096;
+
+pub(crate) const MAY_WITHDRAW: u32 = 8192;
+
+const PHASES: [(PhaseEvent, u32); 8] = [
+    (PhaseEvent::Thirst, MAY_THIRST),
+    (PhaseEvent::Hunger, MAY_HUNGER),
+    (PhaseEvent::Sit, MAY_SIT),
+    (PhaseEvent::Leave, MAY_LEAVE),
+    (PhaseEvent::Drink, MAY_DRINK),
+    (PhaseEvent::Quit, MAY_QUIT),
+    (PhaseEvent::Retire, MAY_RETIRE),
+    (PhaseEvent::Withdraw, MAY_WITHDRAW),
+];
+
+// The members of a list of answers, the first the lowest.
+fn set_of(answers: &[bool]) -> u32 {
+    let mut set = 0u32;
+    for (place, yes) in answers.iter().enumerate() {
+        if *yes && place < 32 {
+            set |= 1 << place;
+        }
+    }
+    set
+}
+
+fn legal_moves<A: Allocator>(bench: &Bench<A>, desk: &Desk<A>, edge: EdgeNo) -> u32
+    requires own { Owns bench.now desk.now }
+    requires edge { IsOwn desk.now.plan desk.now.job edge }
+{
+    set_of(&[
+        may_ask_fork(bench, desk, edge),
+        may_give_fork(bench, desk, edge),
+        may_soil(bench, desk, edge),
+        may_ask_bottles(bench, desk, edge, 1),
+        may_give_bottles(bench, desk, edge, 1),
+    ])
+}
+
+fn legal_acts<A: Allocator>(bench: &Bench<A>, desk: &Desk<A>) -> u32
+    requires { Owns bench.now desk.now }
+{
+    set_of(&[
+        false,
+        false,
+        false,
+        false,
+        false,
+        may_command(bench, desk),
+        may_thirst(bench, desk),
+        may_hunger(bench, desk),
+        may_sit(bench, desk),
+        may_leave(bench, desk),
+        may_drink(bench, desk),
+        may_quit(bench, desk),
+        may_retire(bench, desk),
+        may_withdraw(bench, desk),
+    ])
+}
+
+// All that is legal; the one test for every phase says the same as each test by its name.
+fn legal<A: Allocator>(rt: &impl Abort, bench: &Bench<A>, desk: &Desk<A>, edge: EdgeNo) -> Answer
+    requires own { Owns bench.now desk.now }
+    requires edge { IsOwn desk.now.plan desk.now.job edge }
+{
+    let acts = legal_acts(bench, desk);
+    for (what, bit) in PHASES {
+        assert!(rt; may_phase(bench, desk, what) == (acts & bit != 0));
+    }
+    Answer::Legal(acts | legal_moves(bench, desk, edge))
+}
+
+// A named move, which has to be legal.
+fn named_move<A: Allocator>(
+    rt: &impl Abort,
+    bench: &Bench<A>,
+    desk: &mut Desk<A>,
+    edge: EdgeNo,
+    what: Move,
+) -> Answer
+    requires own { Owns bench.now desk.old }
+    requires edge { IsOwn desk.old.plan desk.old.job edge }
+    ensures { Owns bench.now desk.new }
+{
+    match what {
+        Move::GiveFork => {
+            assert!(rt; may_give_fork(bench, desk, edge));
+            of_exchange(give_fork(bench, desk, edge))
+        }
+        Move::AskFork => {
+            assert!(rt; may_ask_fork(bench, desk, edge));
+            of_exchange(ask_fork(bench, desk, edge))
+        }
+        Move::SoilFork => {
+            assert!(rt; may_soil(bench, desk, edge));
+            of_exchange(desk_calls::soil(bench, desk, edge))
+        }
+        Move::GiveBottles(set) => {
+            assert!(rt; may_give_bottles(bench, desk, edge, set));
+            of_exchange(give_bottles(bench, desk, edge, set))
+        }
+        Move::AskBottles(set) => {
+            assert!(rt; may_ask_bottles(bench, desk, edge, set));
+            of_exchange(ask_bottles(bench, desk, edge, set))
+        }
+        _ => panic!(rt; "no named move"),
+    }
+}
+
+// A call on one edge.
+fn on_edge<A: Allocator>(
+    rt: &impl Abort,
+    bench: &Bench<A>,
+    desk: &mut Desk<A>,
+    edge: EdgeNo,
+    what: Move,
+) -> Answer
+    requires { Owns bench.now desk.old }
+    ensures { Owns bench.now desk.new }
+{
+    assert!(rt; is_own(bench, desk, edge));
+    match what {
+        Move::Forks => due(bench, desk, edge, false),
+        Move::Due => due(bench, desk, edge, true),
+        Move::Legal => legal(rt, bench, desk, edge),
+        Move::GiveFork
+        | Move::AskFork
+        | Move::SoilFork
+        | Move::GiveBottles(_)
+        | Move::AskBottles(_) => named_move(rt, bench, desk, edge, what),
+        _ => layer_move(bench, desk, edge, what),
+    }
+}
+
+// A call on no edge.
+fn by_job<A: Allocator>(rt: &impl Abort, bench: &Bench<A>, desk: &mut Desk<A>, call: Call) -> Answer
+    requires { Owns bench.now desk.old }
+    ensures { Owns bench.now desk.new }
+{
+    match call {
+        Call::Turn => of_turn(turn(bench, desk)),
+        Call::AllRetired => yes_or_no(all_retired(bench, desk)),
+        Call::Table => of_table(table(bench, desk)),
+        Call::Drink => yes_or_no(drink(bench, desk)),
+        Call::Store(what) => {
+            assert!(rt; may_phase(bench, desk, what));
+            store_phase(bench, desk, what);
+            Answer::Done
+        }
+        Call::Command => {
+            assert!(rt; may_command(bench, desk));
+            Answer::Value(command(bench, desk).value)
+        }
+        Call::Glance(other) => {
+            let known = (other.0 as usize) < bench.plan().jobs();
+            assert!(rt; known && other != desk.job());
+            Answer::Saw(glance(bench, desk, other).pack())
+        }
+        Call::On(edge, what) => on_edge(rt, bench, desk, edge, what),
+    }
+}
+
+/// How far a job is: dining, drinking, session and position.
+pub(crate) type Phase = (Dining, Drinking, u32, u32);
+
+/// A desk at the bench that it came from.
+#[derive(Drop)]
+pub(crate) struct Seat<'b, 'p, A: Allocator> {
+    bench: &'b Bench<'p, A>,
+    desk: Desk<A>,
+    ghost own: { Owns bench.now desk },
+}
+
+impl<A: Allocator> Seat<'_, '_, A> {
+    /// Makes the call.
+    pub(crate) fn make(&mut self, rt: &impl Abort, call: Call) -> Answer {
+        by_job(rt, self.bench, &mut self.desk, call)
+    }
+
+    /// How far the job is.
+    pub(crate) fn phase(&self) -> Phase {
+        let phase = self.desk.phase();
+        (phase.dining, phase.drinking, phase.session, phase.position)
+    }
+
+    /// How long the job's session has waited.
+    pub(crate) fn waited(&self) -> u32 {
+        self.desk.waited()
+    }
+
+    /// Whether these are the words that the job saw last on its edges.
+    pub(crate) fn saw(&self, words: &[u64]) -> bool {
+        let own = self.bench.plan().edges_of(self.desk.job());
+        if own.len() != words.len() {
+            return false;
+        }
+        for (edge, word) in own.iter().zip(words) {
+            if !is_own(self.bench, &self.desk, *edge) || self.desk.seen(*edge).pack() != *word {
+                return false;
+            }
+        }
+        true
+    }
+}
+
+/// Each desk at its bench.
+pub(crate) fn seated<'b, 'p, A: Allocator + Copy>(
+    rt: &impl Abort,
+    alloc: A,
+    bench: &'b Bench<'p, A>,
+    mut desks: Vec<Desk<A>, A>,
+) -> Vec<Seat<'b, 'p, A>, A>
+    requires { Each (Owns bench.now) desks.items }
+{
+    let mut seats = Vec::new(alloc);
+    while let Some(desk) = desks.pop() {
+        let pushed = seats.push(Seat { bench, desk }).is_ok();
+        assert!(rt; pushed);
+    }
+    seats.reverse();
+    seats
+}

@@ -1,0 +1,60 @@
+// Tables of calls: who makes which, what it answers, and what its job then knows. They were reckoned by hand.
+use crate::labs::{opened, plan_of};
+use crate::seats::{Answer, Call, Phase, Seat, seated};
+use lab_plan::EdgeNo;
+use std::alloc::Allocator;
+use std::process::Abort;
+
+/// A job that makes a call, the answer, the words that the job saw last on its edges, and how far it is.
+pub(crate) type Row = (usize, Call, Answer, &'static [u64], Phase);
+
+pub(crate) const A: usize = 0;
+
+pub(crate) const B: usize = 1;
+
+pub(crate) const C: usize = 2;
+
+// An edge with one bottle, as it opens.
+pub(crate) const OPEN: u64 = 4294967302;
+
+// The edge of two jobs.
+pub(crate) const AB: EdgeNo = EdgeNo(0);
+
+fn holds<T: Allocator>(rt: &impl Abort, seats: &mut [Seat<T>], row: &Row, number: usize) {
+    let (who, call, answer, words, phase) = *row;
+    assert!(rt; who < seats.len());
+    let seat = &mut seats[who];
+    let made = seat.make(rt, call);
+    assert!(rt; made == answer, "answer {number}");
+    assert!(rt; seat.saw(words), "words {number}");
+    assert!(rt; seat.phase() == phase, "phase {number}");
+}
+
+/// Makes the calls of the rows, from the opening on.
+pub(crate) fn follow<T: Allocator>(rt: &impl Abort, seats: &mut [Seat<T>], rows: &[Row]) {
+    for (number, row) in rows.iter().enumerate() {
+        holds(rt, seats, row, number);
+    }
+}
+
+/// The rows hold, from the opening of the script on, and at the end the sessions have waited so long.
+pub(crate) fn check<T: Allocator + Copy>(
+    rt: &impl Abort,
+    alloc: T,
+    script: &str,
+    rows: &[Row],
+    waited: &[u32],
+) {
+    let plan = plan_of(rt, alloc, script);
+    let (bench, desks) = opened(rt, alloc, &plan);
+    let mut seats = seated(rt, alloc, &bench, desks);
+    follow(rt, seats.as_mut_slice(), rows);
+    have_waited(rt, seats.as_slice(), waited);
+}
+
+fn have_waited<T: Allocator>(rt: &impl Abort, seats: &[Seat<T>], waited: &[u32]) {
+    assert!(rt; seats.len() == waited.len());
+    for (seat, turns) in seats.iter().zip(waited) {
+        assert!(rt; seat.waited() == *turns);
+    }
+}
