@@ -6,3 +6,4 @@ pub mod Replaying
 pub mod Words
 pub mod Tasks
 pub mod Numbers
+pub mod Shared

@@ -36,7 +36,7 @@ end_is plan i entries h = elim h.end [
 ]
 
 -- each entry of a whole log is of a job of the plan
-entries_are : (plan : LabPlan) (i : ℕ) (entries : List Entry) → IsWholeButEnd plan i entries → All (λ entry. entry.job < length plan.jobs) entries
+pub entries_are : (plan : LabPlan) (i : ℕ) (entries : List Entry) → IsWholeButEnd plan i entries → All (λ entry. entry.job < length plan.jobs) entries
 entries_are plan i entries h k d inside =
     let lines : All (IsOfPlan plan) (map line_of entries) =
     All-same (IsOfPlan plan) _ _ h.joined (All-append (IsOfPlan plan) _ _ (parts_are plan i h.finished h.of_plan) (end_is plan i entries h)) in

@@ -78,7 +78,7 @@ module _ (t : TableId) (plan : LabPlan) where
     | inr other ↦ fresh_whole h n m (each_left (λ (d : DeskView). events_by d.job h ≡ d.deeds) (fresh_desks t plan n) (fresh_desk t plan n ∷ []) whole) (omega (arith, less, other))
   ]
 
-  players_fresh : (n : ℕ) → players_of (fresh_desks t plan n) ≡ fresh_players n
+  pub players_fresh : (n : ℕ) → players_of (fresh_desks t plan n) ≡ fresh_players n
   players_fresh zero = refl
   players_fresh (suc n) = map_append player_of (fresh_desks t plan n) (fresh_desk t plan n ∷ []) ∙ ap (λ l. l ++ record { job = n; waited = no_wait } ∷ []) (players_fresh n)
 

@@ -244,7 +244,7 @@ learned_but plan s (x ∷ xs) = at (is_glance x) refl (λ t. learned_but plan t 
   at true is rest = rest s ∙ ap (λ (z : State). learned_all plan z xs) (sym (learned_glance plan s x is))
   at false is rest = rest (learned plan s x)
 
-grouped-append : (plan : LabPlan) (j n k : ℕ) (w v u : Waited) (s : State) (a b : List (List Event)) → AreGrouped plan j n w s a v → AreGrouped plan j k v (learned_all plan s (flat a)) b u → AreGrouped plan j (n + k) w s (a ++ b) u
+pub grouped-append : (plan : LabPlan) (j n k : ℕ) (w v u : Waited) (s : State) (a b : List (List Event)) → AreGrouped plan j n w s a v → AreGrouped plan j k v (learned_all plan s (flat a)) b u → AreGrouped plan j (n + k) w s (a ++ b) u
 grouped-append plan j zero k w v u s a b (none, is) t = subst (λ (z : ℕ × Waited × List (List Event)). AreGrouped plan j z.0 z.1 s (z.2 ++ b) u) (λ i. (zero_more i, is i, sym none i)) (subst (λ (z : List (List Event)). AreGrouped plan j k v (learned_all plan s (flat z)) b u) none t) where
   zero_more : k ≡ zero + k
   zero_more = omega arith

@@ -1,1 +1,5 @@
-pub mod Taking
+pub mod RoundTurns
+pub mod Fresh
+pub mod Ends
+pub mod InRounds
+pub mod ByThreads

@@ -1,2 +1,11 @@
-// A bench opened, driven by turns and closed: what it leaves is the end of one legal history.
+//! A whole run of a plan: a bench is opened, all its desks take turns, and it is closed.
+//!
+//! What a run leaves is the end of one history that is legal from THE opening, in which the events of each job are turns
+//! one after another.
 #![tactic(auto)]
+
+mod driving;
+mod run;
+
+pub use driving::{by_rounds, by_threads};
+pub use run::WholeRun;
