@@ -12,9 +12,11 @@ use std::thread::Threads;
 mod ends;
 mod memory;
 mod replays;
+mod reports;
 mod rounds;
 mod scripts;
 mod texts;
+mod threads;
 
 /// Two jobs, each of which adds 1 on the scale in its one session: nine lines.
 const TWO_ADD: &str = "lab 1\njob a\nsession\nscale add 1\nend\njob b\nsession\nscale add 1\nend\n";
