@@ -10,6 +10,7 @@ use std::process::Abort;
 use std::thread::Threads;
 
 mod ends;
+mod examples;
 mod memory;
 mod replays;
 mod reports;
