@@ -17,16 +17,16 @@ struct Session<'t> {
     commands: Vec<Command<'t>>,
 }
 
-/// The sessions of a script that is good, in its order.
-fn sessions_of(alloc: Global, script: &str) -> Result<Vec<Session<'_>>, AllocError> {
-    let mut sessions = Vec::new(alloc);
-    let mut job = "";
+/// Adds the sessions of a job, from the lines behind its own.
+fn add_sessions<'t>(
+    alloc: Global,
+    sessions: &mut Vec<Session<'t>>,
+    job: &'t str,
+    lines: &'t str,
+) -> Result<(), AllocError> {
     let mut number = 0u32;
-    for line in script.lines() {
-        if let Some(name) = line.strip_prefix("job ") {
-            job = name;
-            number = 0;
-        } else if line.starts_with("session") {
+    for line in lines.lines() {
+        if line.starts_with("session") {
             number = number.saturating_add(1);
             sessions.push(Session {
                 job,
@@ -38,6 +38,17 @@ fn sessions_of(alloc: Global, script: &str) -> Result<Vec<Session<'_>>, AllocErr
             if let Some(session) = sessions.last_mut() {
                 session.commands.push(Command { instrument, verb })?;
             }
+        }
+    }
+    Ok(())
+}
+
+/// The sessions of a script that is good, in its order.
+fn sessions_of(alloc: Global, script: &str) -> Result<Vec<Session<'_>>, AllocError> {
+    let mut sessions = Vec::new(alloc);
+    for part in script.split("\njob ").skip(1) {
+        if let Some((job, lines)) = part.split_once('\n') {
+            add_sessions(alloc, &mut sessions, job, lines)?;
         }
     }
     Ok(sessions)
