@@ -47,7 +47,7 @@ module _ (plan : LabPlan) (desks : List DeskView) (c : ClosedView) (end : IsEnd 
 
 all_in_range : (f : ℕ → Bool) (n start : ℕ) → ((k : ℕ) → k < start + n → f k ≡ true) → list_all f (range_with_len start n) ≡ true
 all_in_range f zero start holds = refl
-all_in_range f (suc n) start holds = λ i. holds start (omega arith) i && all_in_range f n (suc start) (λ k less. holds k (omega (arith, less))) i
+all_in_range f (suc n) start holds = λ i. holds start (omega arith) i && all_in_range f n (start + 1) (λ k less. holds k (omega (arith, less))) i
 
 pub retired_where : (plan : LabPlan) (h : List Event) → AreRetired plan h → retired_after plan (the_opening plan) h ≡ true
 retired_where plan h are = all_in_range (λ j. is_retired ((shown_after plan (the_opening plan) h).drinking j)) (length plan.jobs) 0 (λ j less. ap is_retired (are j (omega (arith, less))))

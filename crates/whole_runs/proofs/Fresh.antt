@@ -1,5 +1,5 @@
 -- The desks of a bench that was just opened.
-use Rattle.std.proofs.Common.{◌≡◌, ℕ, zero, suc, ◌<◌, ◌⊎◌, inl, inr, List, [], ◌∷◌, ◌++◌, length, arith, refl, sym, ap, ◌∙◌, subst}
+use Rattle.std.proofs.Common.{◌≡◌, ℕ, zero, suc, ◌<◌, ◌⊎◌, inl, inr, List, [], ◌∷◌, ◌++◌, length, take, drop, arith, refl, sym, ap, ◌∙◌, subst}
 use Rattle.atomic_table.specs.Seated.{TableId}
 use Rattle.lab_plan.specs.LabPlan.{LabPlan}
 use Rattle.locality.specs.Lists.{Each}
@@ -10,6 +10,7 @@ use Rattle.edge_rule.specs.Company.{jobs_of, Distinct}
 use Rattle.edge_rule.specs.Ending.{Any, HasAll}
 use Rattle.rounds.specs.Rounds.{Player, players_of}
 use Rattle.rounds.proofs.Lists.{jobs_played}
+use Rattle.rounds.proofs.Driven.{all_of, same_length}
 use Rattle.round_laws.specs.FromOpening.{opened, fresh_players}
 use Rattle.round_laws.specs.QuietEnd.{jobs_in}
 use Rattle.round_laws.proofs.Opened.{players_fresh, all_players, players_once}
@@ -72,3 +73,20 @@ fresh_player (suc n) j less = any_before (λ (x : Player). (x.job ≡ j) × (x.w
   cases zero (suc j) less = absurd (omega (arith, less))
   cases (suc n) zero less = inr (omega arith)
   cases (suc n) (suc j) less = elim (cases n j (omega (arith, less))) [ inl is ↦ inl (ap suc is) | inr before ↦ inr (omega (arith, before)) ]
+
+-- ---- after turns
+
+-- desks of the same jobs are all desks
+pub same_desks : (plan : LabPlan) (old new : List DeskView) → jobs_of new ≡ jobs_of old → HasAll plan old → HasAll plan new
+same_desks plan old new same all = record {
+  every = λ j inside. job_found j new (subst (Any (λ (i : ℕ). i ≡ j)) (sym same) (all_of plan old all j inside));
+  once = subst Distinct (sym same) all.once;
+}
+
+take_front : {A : Type 0} (a b : List A) → take (length a) (a ++ b) ≡ a
+take_front [] b = refl
+take_front (x ∷ a) b = ap (λ l. x ∷ l) (take_front a b)
+
+-- a slice that was lent whole, written back
+pub written_back : (old new : List DeskView) (n : ℕ) → n ≡ length old → jobs_of new ≡ jobs_of old → take n (new ++ drop (length new) old) ≡ new
+written_back old new n long same = ap (λ k. take k (new ++ drop (length new) old)) (long ∙ sym (same_length new old same)) ∙ take_front new (drop (length new) old)

@@ -21,7 +21,7 @@ use Rattle.round_laws.specs.FromOpening.{opened, fresh_players, DrivesFromOpenin
 use Rattle.round_laws.proofs.Opened.{players_once}
 use Rattle.whole_runs.specs.Turns.{TakesTurns, TakeTurns}
 use Rattle.whole_runs.specs.Runs.{IsRunByTurns, IsRunInRounds}
-use Rattle.whole_runs.proofs.RoundTurns.{turns_in_rounds}
+use Rattle.whole_runs.proofs.RoundTurns.{taken, turns_in_rounds}
 use Rattle.whole_runs.proofs.Fresh.{each_any, fresh_player}
 use Rattle.whole_runs.proofs.Ends.{shows, not_retired}
 
@@ -49,7 +49,7 @@ module _ (b : BenchView) (desks : List DeskView) (c : ClosedView) (end : IsEnd b
       let found = each_any (λ (d : DeskView). events_by d.job end.history ≡ events_by d.job (first_front desks)) (λ (d : DeskView). d.job ≡ j) desks
       (zip_each (λ (d : DeskView). events_by d.job end.history ≡ d.deeds) (λ (d : DeskView). events_by d.job (first_front desks) ≡ d.deeds) (λ (d : DeskView). events_by d.job end.history ≡ events_by d.job (first_front desks)) (λ d p q. p ∙ sym q) desks end.records whole)
       (all.every j inside) in
-      subst (λ i. events_by i end.history ≡ events_by i (first_front desks)) found.2.1 found.2.0
+      subst (λ i. events_by i end.history ≡ events_by i (first_front desks)) found.2 found.1
 
   pub same_history : end.history ≡ first_front desks
   same_history =
@@ -71,7 +71,7 @@ module _ (plan : LabPlan) (limit : ℕ) (ended : Ended) (n : ℕ) (h : List Even
   pub rounds_are_turns : TakeTurns plan h limit (retired_after plan (the_opening plan) h)
   rounds_are_turns j inside =
       let t = turns_in_rounds plan j (fresh_players (length plan.jobs)) r.players_then n r.idle h (players_once plan) (fresh_player (length plan.jobs) j inside) r.rounds in
-      (n, (r.most, (λ so. full ended refl r.why so, record { waited = t.waited; groups = t.groups; grouped = t.grouped; together = t.together; unbroken = t.unbroken })))
+      (n, r.most, (λ so. full ended refl r.why so), taken plan h j n t.waited t.groups t.grouped t.together t.unbroken)
 
 pub ran_in_rounds : DrivesFromOpening → NeverEndsQuiet → (b : BenchView) (limit : ℕ) (ended : Ended) (n : ℕ) (desks : List DeskView) (c : ClosedView)
     → Drove b limit (opened b) ended n desks → HasAll b.plan desks → IsEnd b.plan desks c → IsRunInRounds b.plan limit c

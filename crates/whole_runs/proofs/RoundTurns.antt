@@ -10,20 +10,32 @@ use Rattle.locality.specs.Lists.{Each}
 use Rattle.locality.specs.Patience.{Waited, waited_in, no_wait}
 use Rattle.locality.proofs.Runs.{learned_all-append, only_mine, none_theirs}
 use Rattle.turns.specs.Turn.{Visit, IsTurnBy}
-use Rattle.turns.specs.Turns.{AreGrouped, Stands, flat, but_glances, turn_groups, waited_next}
+use Rattle.turns.specs.Turns.{AreTurns, AreGrouped, Stands, flat, but_glances, turn_groups, waited_next}
 use Rattle.session_layer.specs.declared.turning.Turned.{Turned}
-use Rattle.session_layer.proofs.Grows.{stands-append, stands_later, stands_more, flat-append, flat_turn, but_turn, but-append, learned_but, grouped-append}
+use Rattle.session_layer.proofs.Grows.{stands-append, stands_later, stands_more, flat-append, flat_turn, but_turn, but-append, learned_but, grouped-append, groups_are_turns}
 use Rattle.edge_rule.specs.Ending.{Any}
 use Rattle.edge_rule.specs.Company.{Distinct}
 use Rattle.rounds.specs.Rounds.{Player, known_in, waited_so_far, player_after, Plays, is_idle, Round, Rounds}
 use Rattle.round_laws.specs.QuietEnd.{jobs_in}
 use Rattle.round_laws.proofs.InRounds.{round_jobs, rounds_jobs}
 use Rattle.round_laws.proofs.OneTurn.{turn_by}
+use Rattle.whole_runs.specs.Turns.{TakesTurns}
 
 -- groups stand in what they are together
 stands_flat : (gs : List (List Event)) → Stands gs (flat gs)
 stands_flat [] = tt
 stands_flat (g ∷ gs) = ([], flat gs, refl, stands_flat gs)
+
+-- turns as groups are turns one after another
+pub taken : (plan : LabPlan) (h : List Event) (j n : ℕ) (waited : Waited) (groups : List (List Event)) → AreGrouped plan j n no_wait (the_opening plan) groups waited → but_glances (events_by j h) ≡ flat groups → Stands groups h → TakesTurns plan h j n
+taken plan h j n waited groups grouped together unbroken = record {
+  waited = waited;
+  turns = subst (λ events. AreTurns plan j n no_wait (the_opening plan) events waited) (sym together) (groups_are_turns plan j n no_wait (the_opening plan) groups waited grouped);
+  groups = groups;
+  grouped = grouped;
+  together = together;
+  unbroken = unbroken;
+}
 
 module _ (plan : LabPlan) (j : ℕ) where
   -- the player is of job j, and has this count

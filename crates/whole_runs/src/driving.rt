@@ -7,7 +7,7 @@ ghost use Rattle.round_laws.specs.FromOpening.{opened};
 ghost use Rattle.whole_runs.specs.Runs.{IsRunByTurns, IsRunInRounds};
 
 use crate::run::WholeRun;
-use edge_rule::{Bench, CloseCause, Desk, OpenError};
+use edge_rule::{Bench, CloseCause, Desk};
 use lab_plan::Plan;
 use legal_steps::laws::the_opening_is_acyclic;
 use legal_steps::log_laws::whole_logs;
@@ -26,10 +26,10 @@ fn open<'p, A: Allocator + Copy>(
     ensures own { IfOk result (λ r. Each (Owns r.0) r.1.items) }
     ensures all { IfOk result (λ r. HasAll r.0.plan r.1.items) }
 {
-    match Bench::open(alloc, plan) {
-        Ok(opened) => Ok(opened),
-        Err(OpenError::NoMemory) => Err(AllocError),
-    }
+    let Ok((bench, desks)) = Bench::open(alloc, plan) else {
+        return Err(AllocError);
+    };
+    Ok((bench, desks))
 }
 
 // The run of a bench whose desks are all there.
@@ -91,9 +91,8 @@ pub fn by_threads<'p, R: Threads + Sync, A: Allocator + Copy + Send + Sync, G: G
     turns_in_history();
     let (bench, desks) = open(alloc, plan)?;
     let (desks, ended) = threads(rt, alloc, &bench, desks, workers, turns, gate);
-    match ended {
-        Ended::AllRetired | Ended::Limit => close(alloc, bench, desks),
-        Ended::NoMemory => Err(AllocError),
-        Ended::Quiet => unreachable!(),
+    if ended == Ended::NoMemory {
+        return Err(AllocError);
     }
+    close(alloc, bench, desks)
 }

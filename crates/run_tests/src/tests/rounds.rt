@@ -1,5 +1,5 @@
 // Scripts by rounds: what stands in the report after how many.
-use super::{AMPLE, TWO_ADD, told, told_at};
+use super::{TWO_ADD, told, told_by};
 use lab_runs::{Outcome, RunFault, Task};
 use script_reader::{ScriptCause, ScriptFault};
 use std::alloc::{AllocError, Global};
@@ -173,15 +173,25 @@ fn line_ends_and_comments(rt: HostRuntime) {
     );
 }
 
+/// The first line goes out whole and the second write fails; a byte a call, those before the failing one.
 #[test]
-fn writer_fails_after_a_line(rt: HostRuntime) {
+fn writer_fails(rt: HostRuntime) {
     let task = Task::Rounds { limit: 9 };
-    let (bytes, answer) = told_at(&rt, rt.alloc(), task, TWO_ADD.as_bytes(), AMPLE, (4096, 1));
+    let text = TWO_ADD.as_bytes();
+    let report = BOTH_ADDED.as_bytes();
+    let (bytes, answer) = told_by(&rt, rt.alloc(), task, text, (4096, 1));
     assert!(rt; answer == Err(RunFault::Write));
     assert!(rt; bytes.as_slice() == b"lab 1\n".as_slice());
+    for calls in 0..report.len() + 1 {
+        let (bytes, answer) = told_by(&rt, rt.alloc(), task, text, (1, calls));
+        assert!(rt; answer == Err(RunFault::Write), "after {calls} calls");
+        assert!(rt; bytes.as_slice() == &report[..calls], "after {calls} calls");
+    }
+    let (bytes, answer) = told_by(&rt, rt.alloc(), task, text, (1, 1000));
+    assert!(rt; answer == Ok(Outcome::Finished) && bytes.as_slice() == report);
 }
 
-/// The last lines of a report of version 2 whose second job has had its meal, or not.
+/// The report of two jobs in version 2 that are retired, with these entries; the second did so many sessions and meals.
 fn patient(alloc: Global, entries: &str, done: u32, meals: u32) -> Result<String, AllocError> {
     let withdrawn = if done == 0 { 1 } else { 0 };
     format!(in alloc;
