@@ -46,7 +46,7 @@ has_one_run one_plan one limit input text text' outcome outcome' a b =
     let same_plan : p ≡ q = one_plan input p q a.by_turns.means b.by_turns.means in
     let moved : RanRounds q limit (fresh_players (length q.jobs)) [] a.ended a.number h = subst (λ (z : LabPlan). RanRounds z limit (fresh_players (length z.jobs)) [] a.ended a.number h) same_plan a.rounds in
     let same = one q limit (fresh_players (length q.jobs)) [] a.ended b.ended a.number b.number h g moved b.rounds in
-    let same_history : h ≡ g = same.2.1 in
+    let same_history : h ≡ g = same.2 in
     let report : report_after p (the_opening p) h ≡ report_after q (the_opening q) g = λ i. report_after (same_plan i) (the_opening (same_plan i)) (same_history i) in
     let end : outcome_of (retired_after p (the_opening p) h) ≡ outcome_of (retired_after q (the_opening q) g) = λ i. outcome_of (retired_after (same_plan i) (the_opening (same_plan i)) (same_history i)) in
     (a.by_turns.reported.report ∙ (report ∙ sym b.by_turns.reported.report), a.by_turns.reported.ends ∙ (end ∙ sym b.by_turns.reported.ends))

@@ -7,9 +7,7 @@ ghost use Rattle.lab_runs.specs.Runs.{outcome_of};
 
 use crate::faults::Outcome;
 use lab_plan::Plan;
-use report::{
-    Failed, Showing, Sink, WriteFault, all_retired, offer, write_report, write_script,
-};
+use report::{Failed, Showing, Sink, WriteFault, all_retired, offer, write_report, write_script};
 use std::alloc::Allocator;
 
 /// Passes on what the sink took.

@@ -15,7 +15,7 @@ returns-in_err-plan-clause-answer g c =
 
 pub returns-in_err-send_report-clause-answer : goal.returns-in_err-send_report-clause-answer
 returns-in_err-send_report-clause-answer g c =
-    let run = c.in_ok-run.run in
+    let run = c.in_ok-run.run' in
     let outcome = outcome_of (all_retired run.plan (shown_in run)) in
     ends_with (RunsByTurns c.args.turns) ScriptRefuses _ _ _ c.from_residual-in_err-send_report.result Write c.from_residual-in_err-send_report.ensures.1 (
       report_of run.plan (shown_in run),
@@ -26,7 +26,7 @@ returns-in_err-send_report-clause-answer g c =
 
 pub returns-clause-answer : goal.returns-clause-answer
 returns-clause-answer g c =
-    let run = c.in_ok-run.run in (
+    let run = c.in_ok-run.run' in (
       report_of run.plan (shown_in run),
       runs_by_turns c.one_report.ensures c.holds_of_every_run.ensures c.args.input.now c.in_ok-plan.plan c.args.turns run c.outcome_of.result c.in_ok-plan.ensures c.outcome_of.ensures c.in_ok-run.ensures,
       c.in_ok-send_report.ensures.0,
