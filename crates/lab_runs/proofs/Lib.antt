@@ -2,3 +2,4 @@ pub mod CountSums
 pub mod RunAnswers
 pub mod Replayed
 pub mod UpgradeStable
+pub mod SharedRuns

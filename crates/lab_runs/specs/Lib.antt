@@ -3,6 +3,7 @@ pub mod Faults
 pub mod Counts
 pub mod Runs
 pub mod Replaying
+pub mod Numbers
 pub mod Words
 pub mod Tasks
-pub mod Numbers
+pub mod Shared

@@ -1,5 +1,5 @@
 // Numbers of the command line: plain digits, however many zeros lead.
-ghost use Rattle.std.specs.Prelude.{◌≡◌, ◌≤◌, true, min};
+ghost use Rattle.std.specs.Prelude.{◌≡◌, ◌≤◌, true, min, IfSome};
 ghost use Rattle.std.specs.List.{list_all};
 ghost use Rattle.lab_plan.specs.Names.{is_digit};
 ghost use Rattle.script_reader.specs.Number.{number_of};
@@ -32,7 +32,8 @@ fn capped_number(word: &[u8]) -> u64
 /// The number that a word spells in plain digits, where it is within these bounds.
 pub(crate) fn number_within(word: &[u8], least: u32, most: u32) -> Option<u32>
     requires { (least ≤ 1000000000) × (most ≤ 1000000000) }
-    ensures { result ≡ number_within least most word.now }
+    ensures number { result ≡ number_within least most word.now }
+    ensures bounds { IfSome result (λ n. (least ≤ n) × (n ≤ most)) }
 {
     if word.is_empty() {
         return None;

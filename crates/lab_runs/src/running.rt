@@ -7,8 +7,8 @@ ghost use Rattle.lab_runs.specs.Runs.{AnswersFor, Replays, ReplayRefuses, Replay
 use crate::counting::counts_line;
 use crate::faults::{Outcome, RunFault};
 use crate::reading::read_input;
-use crate::replaying::{outcome_of, take_steps};
-use crate::sending::{send_report, send_script, send_text};
+use crate::replaying::take_steps;
+use crate::sending::{outcome_of, send_report, send_script, send_text};
 use crate::source::Source;
 use headline::holds_of_every_run;
 use interleaving::World;

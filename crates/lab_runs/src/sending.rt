@@ -1,13 +1,13 @@
-// What a run writes: a text, and then a flush.
-ghost use Rattle.std.specs.Prelude.{[]};
+// What a run writes, a text and then a flush, and how it ends.
+ghost use Rattle.std.specs.Prelude.{◌≡◌, []};
 ghost use Rattle.lab_plan.specs.Upgrade.{script_text};
 ghost use Rattle.report.specs.Taken.{Sends};
-ghost use Rattle.report.specs.Report.{report_of};
-ghost use Rattle.report.specs.Worlds.{shown_by};
+ghost use Rattle.report.specs.Report.{report_of, all_retired};
+ghost use Rattle.lab_runs.specs.Runs.{outcome_of};
 
-use interleaving::World;
+use crate::faults::Outcome;
 use lab_plan::Plan;
-use report::{Failed, Sink, WriteFault, offer, write_script, write_world};
+use report::{Failed, Showing, Sink, WriteFault, all_retired, offer, write_report, write_script};
 use std::alloc::Allocator;
 
 /// Passes on what the sink took.
@@ -30,16 +30,27 @@ pub(crate) fn send_text<W: Sink>(text: &[u8], sink: &mut W) -> Result<(), WriteF
     }
 }
 
-/// Sends the report of a world.
-pub(crate) fn send_report<A: Allocator, W: Sink>(
-    world: &World<'_, A>,
+/// Sends the report of a run.
+pub(crate) fn send_report<S: Showing<P>, P: Allocator, W: Sink>(
+    run: &S,
     sink: &mut W,
 ) -> Result<(), WriteFault>
-    ensures { Sends W.taken W.failures sink.old sink.new (report_of world.now.plan (shown_by world.now)) result }
+    ensures { Sends W.taken W.failures sink.old sink.new (report_of (S.plan run.now) (S.shown run.now)) result }
 {
-    match write_world(world, sink) {
+    match write_report(run, sink) {
         Ok(()) => pass_on(sink),
         Err(fault) => Err(fault),
+    }
+}
+
+/// How a run has ended.
+pub(crate) fn outcome_of<S: Showing<P>, P: Allocator>(run: &S) -> Outcome
+    ensures { result ≡ outcome_of (all_retired (S.plan run.now) (S.shown run.now)) }
+{
+    if all_retired(run) {
+        Outcome::Finished
+    } else {
+        Outcome::Unfinished
     }
 }
 

@@ -2,28 +2,38 @@
 ghost use Rattle.std.specs.Prelude.{◌≡◌, ◌+◌};
 ghost use Rattle.lab_runs.specs.Taken.{ConsumesUpTo};
 ghost use Rattle.lab_runs.specs.Faults.{failed_reads, failed_writes};
+ghost use Rattle.lab_runs.specs.Words.{MayRun};
 ghost use Rattle.lab_runs.specs.Tasks.{TaskAnswers};
 
 use crate::faults::{Outcome, RunFault};
 use crate::running::{run_check, run_replay, run_upgrade};
+use crate::sharing::{run_rounds, run_threads};
 use crate::source::Source;
 use crate::words::Task;
 use report::Sink;
 use std::alloc::Allocator;
+use std::thread::Threads;
+use workers::NoGate;
 
-/// Runs a task over a source and a sink.
-pub fn run_task<A: Allocator + Copy, R: Source, W: Sink>(
+/// Runs a task over a source and a sink. Only a task by threads starts any.
+pub fn run_task<X: Threads + Sync, A: Allocator + Copy + Send + Sync, R: Source, W: Sink>(
     task: Task,
+    rt: &X,
     alloc: A,
     source: &mut R,
     sink: &mut W,
 ) -> Result<Outcome, RunFault>
+    requires { MayRun task }
     ensures answer { TaskAnswers task (R.left source.old) (W.taken sink.old) (W.taken sink.new) result }
     ensures most { ConsumesUpTo (R.left source.old) (R.left source.new) 16777217 }
     ensures reads { R.failures source.new ≡ R.failures source.old + failed_reads result }
     ensures writes { W.failures sink.new ≡ W.failures sink.old + failed_writes result }
 {
     match task {
+        Task::Rounds { limit } => run_rounds(alloc, source, sink, limit),
+        Task::Threads { workers, turns } => {
+            run_threads(rt, alloc, source, sink, workers, turns, &NoGate)
+        }
         Task::Replay => run_replay(alloc, source, sink),
         Task::Check => run_check(alloc, source, sink),
         Task::Upgrade => run_upgrade(alloc, source, sink),

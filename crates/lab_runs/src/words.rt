@@ -1,7 +1,8 @@
 // The words of the command line.
-ghost use Rattle.std.specs.Prelude.{◌≡◌, map};
-ghost use Rattle.lab_runs.specs.Words.{AnswersWords, task_named};
+ghost use Rattle.std.specs.Prelude.{◌≡◌, map, IfOk, IfSome};
+ghost use Rattle.lab_runs.specs.Words.{AnswersWords, MayRun, task_named, rounds_of, threads_of, task_of, asks_for_help};
 
+use crate::numbers::number_within;
 use clap::{Arg, ArgAction, Command};
 use std::alloc::{AllocError, Global};
 use std::convert::AsStr;
@@ -9,6 +10,10 @@ use std::convert::AsStr;
 /// What the words ask for.
 #[derive(Clone, Copy, Debug, PartialEq, Eq, Drop)]
 pub enum Task {
+    /// Run a script on one thread, at most so many rounds.
+    Rounds { limit: u32 },
+    /// Run a script by so many workers, at most so many turns of each job.
+    Threads { workers: u32, turns: u32 },
     /// Replay the steps of a script.
     Replay,
     /// Check a script, and print its counts.
@@ -39,21 +44,30 @@ impl From<AllocError> for NoTask {
     }
 }
 
+/// The most rounds, or turns of a job, that words can ask for.
+const MOST_TURNS: u32 = 1_000_000_000;
+
+/// The most workers.
+const MOST_WORKERS: u32 = 32;
+
 /// What stands below the table of words in the help.
 const AFTER_HELP: &str =
-    "The script comes from standard input, at most 16777216 bytes. What is printed goes to
+    "Without a command it runs as `rounds 10000`. N is a number from 0 to 1000000000, W one from
+1 to 32, in plain digits.
+
+The script comes from standard input, at most 16777216 bytes. What is printed goes to
 standard output, and a fault in one line to standard error.
 
 Statuses:
-  0  replay: every job is retired; check, upgrade, --help: done
+  0  rounds, threads, replay: every job is retired; check, upgrade, --help: done
   1  the script or a step is refused; the fault names its line
   2  the command line is refused
-  3  replay: a job still waits
+  3  rounds, threads, replay: a job still waits
   4  reading or writing failed, or the input is longer than 16777216 bytes
   5  no memory
 
-Example: a script of one job, and a step with which it begins its session
-  printf 'lab 1\\njob a\\nsession\\nscale add 1\\nend\\nsteps\\nthirst a\\n' | labrun replay";
+Example: two jobs take turns on a scale, and each turns its dial on by 1
+  printf 'lab 1\\njob a\\nsession\\nscale add 1\\nend\\njob b\\nsession\\nscale add 1\\nend\\n' | labrun";
 
 fn word<'a>(alloc: Global, name: &'a str, about: &'a str) -> Command<'a> {
     Command::new(alloc, name)
@@ -67,6 +81,16 @@ fn command<'a>(alloc: Global) -> Result<Command<'a>, AllocError> {
         .long("help")
         .action(ArgAction::Help)
         .help("print this help");
+    let rounds = word(
+        alloc,
+        "rounds N",
+        "run a script on one thread, one turn of each job a round, at most N rounds, print the report",
+    );
+    let threads = word(
+        alloc,
+        "threads W N",
+        "run a script by W worker threads, at most N turns of each job, print the report",
+    );
     let replay = word(
         alloc,
         "replay",
@@ -83,8 +107,9 @@ fn command<'a>(alloc: Global) -> Result<Command<'a>, AllocError> {
         .after_help(AFTER_HELP)
         .disable_help_subcommand(true)
         .disable_help_flag(true)
-        .subcommand_required(true)
         .arg(help)?
+        .subcommand(rounds)?
+        .subcommand(threads)?
         .subcommand(replay)?
         .subcommand(check)?
         .subcommand(upgrade)
@@ -96,10 +121,11 @@ fn help(alloc: Global) -> Result<String, AllocError> {
     labrun.render_help()
 }
 
-/// The task that a word names.
+/// The task that one word names.
 #[tactic(auto, unfolding(crate::specs::Words::task_named))]
 fn task_named(word: &[u8]) -> Option<Task>
-    ensures { result ≡ task_named word.now }
+    ensures named { result ≡ task_named word.now }
+    ensures task { IfSome result MayRun }
 {
     if word == b"replay".as_slice() {
         return Some(Task::Replay);
@@ -113,19 +139,73 @@ fn task_named(word: &[u8]) -> Option<Task>
     None
 }
 
-/// The task that the words of a command line ask for, the program's own name first: exactly one more
-/// word, the task's. `--help` as the one word more asks for the help, and for its text alone memory is taken.
-pub fn read_words<S: AsStr>(alloc: Global, words: &[S]) -> Result<Task, NoTask>
-    ensures { AnswersWords (map S.text words.now) result }
+/// The run in rounds that two words ask for.
+#[tactic(auto, unfolding(crate::specs::Words::rounds_of))]
+fn rounds_of(word: &[u8], limit: &[u8]) -> Option<Task>
+    ensures named { result ≡ rounds_of word.now limit.now }
+    ensures task { IfSome result MayRun }
 {
-    let [_, word] = words else {
-        return Err(NoTask::Refused);
-    };
-    let word = word.as_str().as_bytes();
-    if let Some(task) = task_named(word) {
+    if word != b"rounds".as_slice() {
+        return None;
+    }
+    let limit = number_within(limit, 0, MOST_TURNS)?;
+    Some(Task::Rounds { limit })
+}
+
+/// The run by threads that three words ask for.
+#[tactic(auto, unfolding(crate::specs::Words::threads_of))]
+fn threads_of(word: &[u8], workers: &[u8], turns: &[u8]) -> Option<Task>
+    ensures named { result ≡ threads_of word.now workers.now turns.now }
+    ensures task { IfSome result MayRun }
+{
+    if word != b"threads".as_slice() {
+        return None;
+    }
+    let workers = number_within(workers, 1, MOST_WORKERS)?;
+    let turns = number_within(turns, 0, MOST_TURNS)?;
+    Some(Task::Threads { workers, turns })
+}
+
+fn bytes<S: AsStr>(word: &S) -> &[u8]
+    ensures { result.now ≡ S.text word.now }
+{
+    word.as_str().as_bytes()
+}
+
+/// The task that the words of a command line ask for, the program's own name first.
+fn task_of<S: AsStr>(words: &[S]) -> Option<Task>
+    ensures named { result ≡ task_of (map S.text words.now) }
+    ensures task { IfSome result MayRun }
+{
+    match words {
+        [_] => Some(Task::Rounds { limit: 10_000 }),
+        [_, word] => task_named(bytes(word)),
+        [_, word, limit] => rounds_of(bytes(word), bytes(limit)),
+        [_, word, workers, turns] => threads_of(bytes(word), bytes(workers), bytes(turns)),
+        _ => None,
+    }
+}
+
+/// Whether `--help` is the one word behind the program's own name.
+fn asks_for_help<S: AsStr>(words: &[S]) -> bool
+    ensures { result ≡ asks_for_help (map S.text words.now) }
+{
+    match words {
+        [_, word] => bytes(word) == b"--help".as_slice(),
+        _ => false,
+    }
+}
+
+/// The task that the words of a command line ask for, the program's own name first. `--help` as the one
+/// word more asks for the help, and for its text alone memory is taken. All other words are refused.
+pub fn read_words<S: AsStr>(alloc: Global, words: &[S]) -> Result<Task, NoTask>
+    ensures answer { AnswersWords (map S.text words.now) result }
+    ensures task { IfOk result MayRun }
+{
+    if let Some(task) = task_of(words) {
         return Ok(task);
     }
-    if word != b"--help".as_slice() {
+    if !asks_for_help(words) {
         return Err(NoTask::Refused);
     }
     Err(NoTask::Help(help(alloc)?))

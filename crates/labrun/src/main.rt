@@ -1,12 +1,17 @@
 // The program: its words, standard input, output and error, handed to the library that does the work.
 #![tactic(auto)]
 
+ghost use Rattle.std.specs.Prelude.{IfOk};
+ghost use Rattle.lab_runs.specs.Words.{MayRun};
+
 use lab_runs::{FromRead, NoTask, RunFault, Task, end, end_without_task, read_words, run_task};
 use report::ToWrite;
 use std::io::{self, BufWriter};
 use std::process::ExitCode;
 
-fn given_task(rt: &HostRuntime) -> Result<Task, NoTask> {
+fn given_task(rt: &HostRuntime) -> Result<Task, NoTask>
+    ensures { IfOk result MayRun }
+{
     let given = match std::env::args(rt) {
         Ok(given) => given,
         Err(error) if error.kind() == io::ErrorKind::OutOfMemory => return Err(NoTask::NoMemory),
@@ -27,6 +32,6 @@ fn main(rt: HostRuntime) -> ExitCode {
     };
     let mut source = FromRead::new(rt.reader());
     let mut sink = ToWrite::new(output);
-    let answer = run_task(task, alloc, &mut source, &mut sink);
+    let answer = run_task(task, &rt, alloc, &mut source, &mut sink);
     end(&rt, answer)
 }

@@ -1,14 +1,23 @@
 // Whole runs by their bytes: worked scripts, readers and writers that fail, memory that runs out, and printed texts.
+ghost use Rattle.std.specs.Prelude.{◌≡◌, true};
+ghost use Rattle.lab_runs.specs.Words.{MayRun};
+
 use lab_runs::{FromRead, Outcome, RunFault, Task, run_task};
 use report::ToWrite;
-use std::alloc::{AllocError, Allocator, Global};
+use std::alloc::{AllocError, Global};
 use std::io::{self, ErrorKind, Read, Write};
+use std::process::Abort;
+use std::thread::Threads;
 
 mod ends;
+mod examples;
 mod memory;
 mod replays;
+mod reports;
+mod rounds;
 mod scripts;
 mod texts;
+mod threads;
 
 /// Two jobs, each of which adds 1 on the scale in its one session: nine lines.
 const TWO_ADD: &str = "lab 1\njob a\nsession\nscale add 1\nend\njob b\nsession\nscale add 1\nend\n";
@@ -65,32 +74,59 @@ impl Write for &mut Slow {
 /// What a writer has taken, and what the run answers.
 type Told = (Vec<u8>, Result<Outcome, RunFault>);
 
-/// A run over a text that comes whole and a writer that takes all.
-fn told<A: Allocator + Copy>(alloc: A, out: Global, task: Task, text: &[u8]) -> Told {
-    told_by(alloc, out, task, text, (4096, 1_000_000))
+/// At most so many bytes a call, and no more calls than these.
+type Calls = (usize, usize);
+
+/// A reader that gives a text at once, and a writer that takes one.
+const AMPLE: Calls = (4096, 1_000_000);
+
+fn may_run(task: &Task) -> bool
+    ensures { result ≡ true → MayRun task.now }
+{
+    match task {
+        Task::Threads { workers, .. } => 1 <= *workers && *workers <= 32,
+        _ => true,
+    }
 }
 
-/// The same, where the writer takes at most so many bytes a call and no more calls than these.
-fn told_by<A: Allocator + Copy>(
-    alloc: A,
-    out: Global,
+/// A run over a text, by calls of the reader and of the writer.
+fn told_at<R: Threads + Abort + Sync>(
+    rt: &R,
+    alloc: Global,
     task: Task,
     text: &[u8],
-    writer: (usize, usize),
+    reads: Calls,
+    writes: Calls,
 ) -> Told {
     let mut pieces = Pieces {
         rest: text,
-        most: 4096,
-        calls: 1_000_000,
+        most: reads.0,
+        calls: reads.1,
     };
-    let (most, calls) = writer;
     let mut slow = Slow {
-        bytes: Vec::new(out),
-        most,
-        calls,
+        bytes: Vec::new(alloc),
+        most: writes.0,
+        calls: writes.1,
     };
     let mut source = FromRead::new(&mut pieces);
     let mut sink = ToWrite::new(&mut slow);
-    let answer = run_task(task, alloc, &mut source, &mut sink);
+    assert!(rt; may_run(&task));
+    let answer = run_task(task, rt, alloc, &mut source, &mut sink);
     (slow.bytes, answer)
+}
+
+/// A run over a text that comes whole and a writer that takes all.
+fn told<R: Threads + Abort + Sync>(rt: &R, alloc: Global, task: Task, text: &[u8]) -> Told {
+    told_at(rt, alloc, task, text, AMPLE, AMPLE)
+}
+
+/// The same, where the writer takes at most so many bytes a call and no more calls than these.
+fn told_by<R: Threads + Abort + Sync>(
+    rt: &R,
+    alloc: Global,
+    task: Task,
+    text: &[u8],
+    writes: Calls,
+) -> Told {
+    told_at(rt, alloc, task, text, AMPLE, writes)
 }

@@ -1,28 +1,11 @@
 // Readers and writers that give little, take little, or fail.
-use super::{Pieces, Slow, TWO_ADD, told, told_by};
-use lab_runs::{FromRead, Outcome, RunFault, Source, Task, run_replay};
+use super::{AMPLE, Pieces, Slow, TWO_ADD, told, told_at, told_by};
+use lab_runs::{FromRead, Outcome, RunFault, Source, Task, run_rounds};
 use report::ToWrite;
 use std::alloc::Global;
 use std::io::{self, Read};
 use std::process::Abort;
-
-/// What a run reads that gets its text in pieces of at most so many bytes, and is interrupted after these calls.
-fn replay_of(out: Global, text: &[u8], most: usize, calls: usize) -> super::Told {
-    let mut pieces = Pieces {
-        rest: text,
-        most,
-        calls,
-    };
-    let mut slow = Slow {
-        bytes: Vec::new(out),
-        most: 4096,
-        calls: 1_000_000,
-    };
-    let mut source = FromRead::new(&mut pieces);
-    let mut sink = ToWrite::new(&mut slow);
-    let answer = run_replay(out, &mut source, &mut sink);
-    (slow.bytes, answer)
-}
+use std::thread::Threads;
 
 /// The report of two jobs before their first event.
 const REPORT: &[u8] =
@@ -32,12 +15,25 @@ const REPORT: &[u8] =
 const UPGRADED: &[u8] =
     b"lab 2\njob a\nsession\nscale add 1\nend\njob b\nsession\nscale add 1\nend\n";
 
+/// The tasks that read a script and write this report of it: no turn is taken.
+const REPORTING: [Task; 3] = [
+    Task::Replay,
+    Task::Rounds { limit: 0 },
+    Task::Threads {
+        workers: 2,
+        turns: 0,
+    },
+];
+
 #[test]
 fn pieces_of_any_length(rt: HostRuntime) {
-    for most in [1, 2, 7, 80, 5000usize] {
-        let (bytes, answer) = replay_of(rt.alloc(), TWO_ADD.as_bytes(), most, 1000);
-        assert!(rt; answer == Ok(Outcome::Unfinished), "{most} bytes");
-        assert!(rt; bytes.as_slice() == REPORT, "{most} bytes");
+    let text = TWO_ADD.as_bytes();
+    for task in REPORTING {
+        for most in [1, 2, 7, 80, 5000usize] {
+            let (bytes, answer) = told_at(&rt, rt.alloc(), task, text, (most, 1000), AMPLE);
+            assert!(rt; answer == Ok(Outcome::Unfinished), "{most} bytes");
+            assert!(rt; bytes.as_slice() == REPORT, "{most} bytes");
+        }
     }
 }
 
@@ -45,13 +41,16 @@ fn pieces_of_any_length(rt: HostRuntime) {
 #[test]
 fn reader_fails(rt: HostRuntime) {
     let text = TWO_ADD.as_bytes();
-    for calls in 0..text.len() + 1 {
-        let (bytes, answer) = replay_of(rt.alloc(), text, 1, calls);
-        assert!(rt; answer == Err(RunFault::Read), "after {calls} calls");
-        assert!(rt; bytes.is_empty(), "after {calls} calls");
+    for task in REPORTING {
+        for calls in 0..text.len() + 1 {
+            let (bytes, answer) = told_at(&rt, rt.alloc(), task, text, (1, calls), AMPLE);
+            assert!(rt; answer == Err(RunFault::Read), "after {calls} calls");
+            assert!(rt; bytes.is_empty(), "after {calls} calls");
+        }
+        let reads = (1, text.len() + 1);
+        let (bytes, answer) = told_at(&rt, rt.alloc(), task, text, reads, AMPLE);
+        assert!(rt; answer == Ok(Outcome::Unfinished) && bytes.as_slice() == REPORT);
     }
-    let (bytes, answer) = replay_of(rt.alloc(), text, 1, text.len() + 1);
-    assert!(rt; answer == Ok(Outcome::Unfinished) && bytes.as_slice() == REPORT);
 }
 
 /// Gives `#` for ever, and counts what it gave.
@@ -78,7 +77,7 @@ fn reader_without_end(rt: HostRuntime) {
     };
     let mut source = FromRead::new(&mut hashes);
     let mut sink = ToWrite::new(&mut slow);
-    let answer = run_replay(rt.alloc(), &mut source, &mut sink);
+    let answer = run_rounds(rt.alloc(), &mut source, &mut sink, 9);
     assert!(rt; answer == Err(RunFault::TooLong) && slow.bytes.is_empty());
     assert!(rt; hashes.given == 16_777_217);
 }
@@ -87,43 +86,49 @@ fn reader_without_end(rt: HostRuntime) {
 #[test]
 fn writer_fails(rt: HostRuntime) {
     let text = TWO_ADD.as_bytes();
-    let (bytes, answer) = told_by(rt.alloc(), rt.alloc(), Task::Replay, text, (4096, 1));
-    assert!(rt; answer == Err(RunFault::Write));
-    assert!(rt; bytes.as_slice() == b"lab 1\n".as_slice());
+    for task in REPORTING {
+        let (bytes, answer) = told_by(&rt, rt.alloc(), task, text, (4096, 1));
+        assert!(rt; answer == Err(RunFault::Write));
+        assert!(rt; bytes.as_slice() == b"lab 1\n".as_slice());
+    }
 }
 
 /// A byte a call: the whole report, and where the k-th call fails, the flush counted, the bytes before it.
 #[test]
 fn writer_takes_a_byte(rt: HostRuntime) {
     let text = TWO_ADD.as_bytes();
-    for calls in 0..REPORT.len() + 1 {
-        let (bytes, answer) = told_by(rt.alloc(), rt.alloc(), Task::Replay, text, (1, calls));
-        assert!(rt; answer == Err(RunFault::Write), "after {calls} calls");
-        assert!(rt; bytes.as_slice() == &REPORT[..calls], "after {calls} calls");
+    for task in REPORTING {
+        for calls in 0..REPORT.len() + 1 {
+            let (bytes, answer) = told_by(&rt, rt.alloc(), task, text, (1, calls));
+            assert!(rt; answer == Err(RunFault::Write), "after {calls} calls");
+            assert!(rt; bytes.as_slice() == &REPORT[..calls], "after {calls} calls");
+        }
+        let (bytes, answer) = told_by(&rt, rt.alloc(), task, text, (1, 1000));
+        assert!(rt; answer == Ok(Outcome::Unfinished) && bytes.as_slice() == REPORT);
     }
-    let (bytes, answer) = told_by(rt.alloc(), rt.alloc(), Task::Replay, text, (1, 1000));
-    assert!(rt; answer == Ok(Outcome::Unfinished) && bytes.as_slice() == REPORT);
 }
 
 /// A run that writes this text, of so many lines: a write of a line that fails is told, and so is the flush behind them.
-fn flushes(rt: &impl Abort, alloc: Global, task: Task, lines: u8, text: &[u8]) {
+fn flushes<R: Threads + Abort + Sync>(rt: &R, alloc: Global, task: Task, lines: u8, text: &[u8]) {
     let lines = usize::from(lines);
     for calls in 0..lines + 1 {
-        let (bytes, answer) = told_by(alloc, alloc, task, TWO_ADD.as_bytes(), (4096, calls));
+        let (bytes, answer) = told_by(rt, alloc, task, TWO_ADD.as_bytes(), (4096, calls));
         assert!(rt; answer == Err(RunFault::Write), "after {calls} calls");
         assert!(rt;
             (bytes.as_slice() == text) == (calls == lines),
             "after {calls} calls"
         );
     }
-    let (bytes, answer) = told_by(alloc, alloc, task, TWO_ADD.as_bytes(), (4096, lines + 1));
+    let (bytes, answer) = told_by(rt, alloc, task, TWO_ADD.as_bytes(), (4096, lines + 1));
     assert!(rt; answer.is_ok() && bytes.as_slice() == text);
 }
 
 /// Each run goes out a line a call, and then one flush, whose failure is told.
 #[test]
 fn flush_fails(rt: HostRuntime) {
-    flushes(&rt, rt.alloc(), Task::Replay, 5, REPORT);
+    for task in REPORTING {
+        flushes(&rt, rt.alloc(), task, 5, REPORT);
+    }
     flushes(
         &rt,
         rt.alloc(),
@@ -137,8 +142,12 @@ fn flush_fails(rt: HostRuntime) {
 #[test]
 fn writer_takes_nothing(rt: HostRuntime) {
     let text = TWO_ADD.as_bytes();
-    for task in [Task::Replay, Task::Check, Task::Upgrade] {
-        let (bytes, answer) = told_by(rt.alloc(), rt.alloc(), task, text, (0, 1000));
+    for task in REPORTING {
+        let (bytes, answer) = told_by(&rt, rt.alloc(), task, text, (0, 1000));
+        assert!(rt; answer == Err(RunFault::Write) && bytes.is_empty());
+    }
+    for task in [Task::Check, Task::Upgrade] {
+        let (bytes, answer) = told_by(&rt, rt.alloc(), task, text, (0, 1000));
         assert!(rt; answer == Err(RunFault::Write) && bytes.is_empty());
     }
 }
@@ -156,7 +165,7 @@ fn source_reads(rt: HostRuntime) {
     assert!(rt; source.read(&mut buffer) == Ok(3) && &buffer[..3] == b"lam".as_slice());
     assert!(rt; source.read(&mut buffer) == Ok(1) && buffer[0] == b'p');
     assert!(rt; source.read(&mut buffer) == Ok(0) && source.read(&mut buffer).is_err());
-    let (bytes, answer) = told(rt.alloc(), rt.alloc(), Task::Replay, b"lab 2\n");
+    let (bytes, answer) = told(&rt, rt.alloc(), Task::Replay, b"lab 2\n");
     assert!(rt; answer == Ok(Outcome::Finished));
     assert!(rt; bytes.as_slice() == b"lab 2\nfinished\n".as_slice());
 }

@@ -38,13 +38,13 @@ const STALE_MARK_REPORT: &str =
 
 #[test]
 fn empty_input(rt: HostRuntime) {
-    let (bytes, answer) = told(rt.alloc(), rt.alloc(), Task::Replay, b"");
+    let (bytes, answer) = told(&rt, rt.alloc(), Task::Replay, b"");
     assert!(rt; answer == Err(NO_HEADER) && bytes.is_empty());
 }
 
 #[test]
 fn header_alone(rt: HostRuntime) {
-    let (bytes, answer) = told(rt.alloc(), rt.alloc(), Task::Replay, b"lab 1");
+    let (bytes, answer) = told(&rt, rt.alloc(), Task::Replay, b"lab 1");
     assert!(rt; answer == Ok(Outcome::Finished));
     assert!(rt; bytes.as_slice() == b"lab 1\nfinished\n".as_slice());
 }
@@ -52,7 +52,7 @@ fn header_alone(rt: HostRuntime) {
 #[test]
 fn eats_before_drinking(rt: HostRuntime) -> Result<(), Fail> {
     let text = format!(in rt.alloc(); "{TWO_ADD}steps\nthirst a\nhunger a\nlook a b\nsit a\n")?;
-    let (bytes, answer) = told(rt.alloc(), rt.alloc(), Task::Replay, text.as_bytes());
+    let (bytes, answer) = told(&rt, rt.alloc(), Task::Replay, text.as_bytes());
     assert!(rt; answer == Ok(Outcome::Unfinished));
     assert!(rt;
         bytes.as_slice()
@@ -64,7 +64,7 @@ fn eats_before_drinking(rt: HostRuntime) -> Result<(), Fail> {
 #[test]
 fn illegal_step(rt: HostRuntime) -> Result<(), Fail> {
     let text = format!(in rt.alloc(); "{TWO_ADD}steps\nthirst a\nhunger a\nsit a\n")?;
-    let (bytes, answer) = told(rt.alloc(), rt.alloc(), Task::Replay, text.as_bytes());
+    let (bytes, answer) = told(&rt, rt.alloc(), Task::Replay, text.as_bytes());
     assert!(rt; answer == Err(RunFault::Step { line: 13 }) && bytes.is_empty());
     Ok(())
 }
@@ -76,11 +76,11 @@ fn stale_mark(rt: HostRuntime) -> Result<(), Fail> {
     for line in STALE_MARK {
         text.push_str(line)?;
     }
-    let (bytes, answer) = told(rt.alloc(), rt.alloc(), Task::Replay, text.as_bytes());
+    let (bytes, answer) = told(&rt, rt.alloc(), Task::Replay, text.as_bytes());
     assert!(rt; answer == Ok(Outcome::Unfinished));
     assert!(rt; bytes.as_slice() == STALE_MARK_REPORT.as_bytes());
     text.push_str("sit a\n")?;
-    let (bytes, answer) = told(rt.alloc(), rt.alloc(), Task::Replay, text.as_bytes());
+    let (bytes, answer) = told(&rt, rt.alloc(), Task::Replay, text.as_bytes());
     assert!(rt; answer == Err(RunFault::Step { line: 30 }) && bytes.is_empty());
     Ok(())
 }
@@ -97,7 +97,7 @@ fn stale_mark_with_a_step_put_in(rt: HostRuntime) -> Result<(), Fail> {
         for line in &STALE_MARK[place..] {
             text.push_str(line)?;
         }
-        let (bytes, answer) = told(rt.alloc(), rt.alloc(), Task::Replay, text.as_bytes());
+        let (bytes, answer) = told(&rt, rt.alloc(), Task::Replay, text.as_bytes());
         assert!(rt;
             answer == Err(RunFault::Step { line: 14 + place }),
             "place {place}"
@@ -118,7 +118,7 @@ fn stale_mark_goes_on(rt: HostRuntime) -> Result<(), Fail> {
         "givefork a b\nlook b a\nsit b\naskbottles b a scale\ngivebottles a b scale\nlook b a\ndrink b\naskfork a b\n",
     )?;
     text.push_str("soil b a\nleave b\ngivefork b a\nlook a b\nsit a\n")?;
-    let (bytes, answer) = told(rt.alloc(), rt.alloc(), Task::Replay, text.as_bytes());
+    let (bytes, answer) = told(&rt, rt.alloc(), Task::Replay, text.as_bytes());
     assert!(rt; answer == Ok(Outcome::Unfinished));
     assert!(rt;
         bytes.as_slice()

@@ -11,6 +11,14 @@ fn is_told(answer: &Result<Task, NoTask>, want: Option<Task>) -> bool {
     }
 }
 
+fn rounds(limit: u32) -> Option<Task> {
+    Some(Task::Rounds { limit })
+}
+
+fn threads(workers: u32, turns: u32) -> Option<Task> {
+    Some(Task::Threads { workers, turns })
+}
+
 #[test]
 fn words(rt: HostRuntime) {
     let lines = [
@@ -18,13 +26,64 @@ fn words(rt: HostRuntime) {
         (["./labrun", "check"].as_slice(), Some(Task::Check)),
         (["", "upgrade"].as_slice(), Some(Task::Upgrade)),
         ([].as_slice(), None),
-        (["labrun"].as_slice(), None),
+        (["labrun"].as_slice(), rounds(10_000)),
+        (["labrun", "rounds", "0"].as_slice(), rounds(0)),
+        (["labrun", "rounds", "7"].as_slice(), rounds(7)),
+        (["labrun", "rounds", "007"].as_slice(), rounds(7)),
+        (
+            ["", "rounds", "1000000000"].as_slice(),
+            rounds(1_000_000_000),
+        ),
+        (
+            ["labrun", "rounds", "00000000001000000000"].as_slice(),
+            rounds(1_000_000_000),
+        ),
+        (["labrun", "threads", "1", "0"].as_slice(), threads(1, 0)),
+        (
+            ["labrun", "threads", "32", "1000000000"].as_slice(),
+            threads(32, 1_000_000_000),
+        ),
+        (
+            ["labrun", "threads", "0000000000000000000032", "010"].as_slice(),
+            threads(32, 10),
+        ),
+        (["labrun", "rounds"].as_slice(), None),
+        (["labrun", "rounds", ""].as_slice(), None),
+        (["labrun", "rounds", "+7"].as_slice(), None),
+        (["labrun", "rounds", "-0"].as_slice(), None),
+        (["labrun", "rounds", "7 "].as_slice(), None),
+        (["labrun", "rounds", " 7"].as_slice(), None),
+        (["labrun", "rounds", "1_0"].as_slice(), None),
+        (["labrun", "rounds", "0x7"].as_slice(), None),
+        (["labrun", "rounds", "7.0"].as_slice(), None),
+        (["labrun", "rounds", "seven"].as_slice(), None),
+        (["labrun", "rounds", "1000000001"].as_slice(), None),
+        (["labrun", "rounds", "4294967296"].as_slice(), None),
+        (
+            ["labrun", "rounds", "18446744073709551616"].as_slice(),
+            None,
+        ),
+        (
+            ["labrun", "rounds", "99999999999999999999999999"].as_slice(),
+            None,
+        ),
+        (["labrun", "Rounds", "7"].as_slice(), None),
+        (["labrun", "round", "7"].as_slice(), None),
+        (["labrun", "rounds", "7", "7"].as_slice(), None),
+        (["labrun", "rounds=7"].as_slice(), None),
+        (["labrun", "7"].as_slice(), None),
+        (["labrun", "threads"].as_slice(), None),
+        (["labrun", "threads", "2"].as_slice(), None),
+        (["labrun", "threads", "0", "7"].as_slice(), None),
+        (["labrun", "threads", "33", "7"].as_slice(), None),
+        (["labrun", "threads", "2", "1000000001"].as_slice(), None),
+        (["labrun", "threads", "+2", "7"].as_slice(), None),
+        (["labrun", "threads", "2", "-7"].as_slice(), None),
+        (["labrun", "threads", "2", "7", "7"].as_slice(), None),
+        (["labrun", "thread", "2", "7"].as_slice(), None),
         (["labrun", ""].as_slice(), None),
         (["labrun", "repla"].as_slice(), None),
         (["labrun", "Replay"].as_slice(), None),
-        (["labrun", "rounds"].as_slice(), None),
-        (["labrun", "rounds", "7"].as_slice(), None),
-        (["labrun", "threads", "2", "7"].as_slice(), None),
         (["labrun", "replay", "x"].as_slice(), None),
         (["labrun", "replay", "--"].as_slice(), None),
         (["labrun", "--", "replay"].as_slice(), None),
@@ -33,6 +92,8 @@ fn words(rt: HostRuntime) {
         (["labrun", "--hel"].as_slice(), None),
         (["labrun", "--help=x"].as_slice(), None),
         (["labrun", "--help", "replay"].as_slice(), None),
+        (["labrun", "rounds", "--help"].as_slice(), None),
+        (["labrun", "--help", "--help"].as_slice(), None),
         (["labrun", "replay", "--help"].as_slice(), None),
         (["labrun", "--version"].as_slice(), None),
         (["labrun", "help"].as_slice(), None),
@@ -45,29 +106,34 @@ fn words(rt: HostRuntime) {
 
 const HELP: &str = "Runs command scripts on the simulated instruments of a shared laboratory
 
-Usage: labrun <COMMAND>
+Usage: labrun [COMMAND]
 
 Commands:
-  replay   read a script and its steps, take each step where it is legal, print the report
-  check    read a script and print its counts
-  upgrade  read a script of either version and print it in version 2
+  rounds N     run a script on one thread, one turn of each job a round, at most N rounds, print the report
+  threads W N  run a script by W worker threads, at most N turns of each job, print the report
+  replay       read a script and its steps, take each step where it is legal, print the report
+  check        read a script and print its counts
+  upgrade      read a script of either version and print it in version 2
 
 Options:
       --help  print this help
+
+Without a command it runs as `rounds 10000`. N is a number from 0 to 1000000000, W one from
+1 to 32, in plain digits.
 
 The script comes from standard input, at most 16777216 bytes. What is printed goes to
 standard output, and a fault in one line to standard error.
 
 Statuses:
-  0  replay: every job is retired; check, upgrade, --help: done
+  0  rounds, threads, replay: every job is retired; check, upgrade, --help: done
   1  the script or a step is refused; the fault names its line
   2  the command line is refused
-  3  replay: a job still waits
+  3  rounds, threads, replay: a job still waits
   4  reading or writing failed, or the input is longer than 16777216 bytes
   5  no memory
 
-Example: a script of one job, and a step with which it begins its session
-  printf 'lab 1\\njob a\\nsession\\nscale add 1\\nend\\nsteps\\nthirst a\\n' | labrun replay
+Example: two jobs take turns on a scale, and each turns its dial on by 1
+  printf 'lab 1\\njob a\\nsession\\nscale add 1\\nend\\njob b\\nsession\\nscale add 1\\nend\\n' | labrun
 ";
 
 #[test]

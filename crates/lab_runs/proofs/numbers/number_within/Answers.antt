@@ -43,35 +43,35 @@ none_there xs is = lt-leb 1 (length xs) (grind (arith, is))
 some_there : (xs : List ℕ) → (length xs == 0) ≡ false → nat_le 1 (length xs) ≡ true
 some_there xs is = le-leb 1 (length xs) (grind (arith, is))
 
-pub returns-then-is_empty : goal.returns-then-is_empty
+pub returns-then-is_empty-clause-number : goal.returns-then-is_empty-clause-number
 unfolding number_within
-returns-then-is_empty c =
+returns-then-is_empty-clause-number c =
     let word = c.args.word.now in
     no_number _ (number_of word) (first_fails _ _ (first_fails _ (list_all is_digit word) (none_there word (sym c.is_empty.ensures ∙ c.if-is_empty.true))))
 
-pub returns-then-not-are_digits : goal.returns-then-not-are_digits
+pub returns-then-not-are_digits-clause-number : goal.returns-then-not-are_digits-clause-number
 unfolding number_within
-returns-then-not-are_digits c =
+returns-then-not-are_digits-clause-number c =
     let word = c.args.word.now in
     no_number _ (number_of word) (first_fails _ _ (second_fails (nat_le 1 (length word)) _ (sym c.are_digits.ensures ∙ c.if-not-are_digits.true)))
 
-pub returns-then-number-from : goal.returns-then-number-from
+pub returns-then-number-from-clause-number : goal.returns-then-number-from-clause-number
 unfolding number_within
-returns-then-number-from c =
+returns-then-number-from-clause-number c =
     let word = c.args.word.now in
     let small = below c.args.least (number_of word) c.capped_number-number.result c.requires.0 c.capped_number-number.ensures (omega (arith, c.if-number-from.true, c.from.ensures)) in
     no_number _ (number_of word) (second_fails (are_digits word) _ (first_fails _ _ (lt-leb c.args.least (number_of word) small)))
 
-pub returns-then-from-number : goal.returns-then-from-number
+pub returns-then-from-number-clause-number : goal.returns-then-from-number-clause-number
 unfolding number_within
-returns-then-from-number c =
+returns-then-from-number-clause-number c =
     let word = c.args.word.now in
     let large = above c.args.most (number_of word) c.capped_number-number.result c.capped_number-number.ensures (omega (arith, c.if-from-number.true, c.from-2.ensures)) in
     no_number _ (number_of word) (second_fails (are_digits word) _ (second_fails (nat_le c.args.least (number_of word)) _ (lt-leb (number_of word) c.args.most large)))
 
-pub returns : goal.returns
+pub returns-clause-number : goal.returns-clause-number
 unfolding number_within
-returns c =
+returns-clause-number c =
     let word = c.args.word.now in
     let n = c.capped_number-number.result in
     let same = exact c.args.most (number_of word) n c.requires.1 c.capped_number-number.ensures (omega (arith, c.if-from-number.false, c.from-2.ensures)) in
