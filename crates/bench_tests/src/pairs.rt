@@ -1,40 +1,17 @@
 // Desks that meet, that tell each other what they saw, and that threads call at once.
-ghost use Rattle.std.specs.Prelude.{◌≡◌, ◌∷◌, []};
-ghost use Rattle.legal_steps.specs.declared.edge_state.EdgeState.{EdgeState};
-ghost use Rattle.legal_steps.specs.declared.event.Event.TheVariants.{Look};
-ghost use Rattle.legal_steps.specs.State.{IsOwn};
 ghost use Rattle.locality.specs.Lists.{Each};
-ghost use Rattle.edge_rule.specs.DeskView.{Owns, Adds};
+ghost use Rattle.edge_rule.specs.DeskView.{Owns};
 
 use crate::benches::{A, AB, AC, B, BC, C, THREE, TWO, bench_of, both, is_own, plan_of};
 use crate::calls::{Answer, Call, Line, Move, called, do_all};
-use edge_rule::{Bench, Desk, PhaseEvent, heed, look, meet, meet_all, tell, unpacked_edge};
+use edge_rule::{Bench, Desk, PhaseEvent, heed, look_both, meet, meet_all, tell, unpacked_edge};
 use lab_plan::EdgeNo;
 use legal_steps::{EdgeState, End};
 use std::alloc::Allocator;
 use std::process::Abort;
-use std::thread::{Threads, join_mut};
+use std::thread::Threads;
 
-/// Two threads, each with a desk, look at an edge of both.
-fn look_both<R: Threads + Sync, T: Allocator + Send + Sync>(
-    rt: &R,
-    bench: &Bench<T>,
-    a: &mut Desk<T>,
-    b: &mut Desk<T>,
-    edge: EdgeNo,
-)
-    requires own { Owns bench.now a.old × Owns bench.now b.old }
-    requires edge { IsOwn a.old.plan a.old.job edge × IsOwn b.old.plan b.old.job edge }
-    ensures a { (x : EdgeState) × Adds a.old (Look a.old.job edge x ∷ []) a.new }
-    ensures b { (x : EdgeState) × Adds b.old (Look b.old.job edge x ∷ []) b.new }
-{
-    join_mut(
-        rt,
-        &mut || look(bench, a, edge),
-        &mut || look(bench, b, edge),
-    );
-}
-
+/// Two threads, each with a desk, look at the edge of both.
 fn both_look<R: Threads + Sync + Abort, T: Allocator + Send + Sync>(
     rt: &R,
     bench: &Bench<T>,
