@@ -11,10 +11,10 @@ use std::thread::Threads;
 
 mod ends;
 mod examples;
+mod in_rounds;
 mod memory;
 mod replays;
 mod reports;
-mod rounds;
 mod scripts;
 mod texts;
 mod threads;
