@@ -69,31 +69,37 @@ impl Gate for Counting {
 /// How often a job looks for the one that it meets, before it gives up.
 const TRIES: u64 = 20_000_000;
 
-/// Lets jobs of different workers wait for one another: in the first turn 0 and 1, and 2 and 3; in the second 0 and 3; in the third 1 and 2.
-/// So the desks are driven on two threads, and neither 0 nor 2 on the same as 1 or 3.
+/// A job, and a turn before which it waits; the job that it waits for, and the turn which that has to come to.
+pub(crate) type Wait = (u8, u64, u8, u64);
+
+/// Jobs of different workers wait for one another: in the first turn 0 and 1, and 2 and 3; in the second 0 and 3; in the third 1 and 2. So
+/// the desks are driven on two threads, and neither 0 nor 2 on the same as 1 or 3.
+pub(crate) const ALL_MEET: [Wait; 8] = [
+    (0, 1, 1, 1),
+    (1, 1, 0, 1),
+    (2, 1, 3, 1),
+    (3, 1, 2, 1),
+    (0, 2, 3, 2),
+    (3, 2, 0, 2),
+    (1, 3, 2, 3),
+    (2, 3, 1, 3),
+];
+
+/// Job 1 takes three turns before the first of job 0, which comes before its fourth.
+pub(crate) const THREE_FIRST: [Wait; 2] = [(0, 1, 1, 4), (1, 4, 0, 2)];
+
+/// Lets jobs wait for one another before their turns.
 #[derive(Drop)]
 pub(crate) struct Meeting {
+    waits: &'static [Wait],
     turns: [AtomicU64; 4],
     missed: AtomicU64,
 }
 
-fn partner(job: JobNo, turn: u64) -> Option<u8> {
-    match (turn, job.0) {
-        (1, 0) => Some(1),
-        (1, 1) => Some(0),
-        (1, 2) => Some(3),
-        (1, 3) => Some(2),
-        (2, 0) => Some(3),
-        (2, 3) => Some(0),
-        (3, 1) => Some(2),
-        (3, 2) => Some(1),
-        _ => None,
-    }
-}
-
 impl Meeting {
-    pub(crate) fn new() -> Meeting {
+    pub(crate) fn new(waits: &'static [Wait]) -> Meeting {
         Meeting {
+            waits,
             turns: four(),
             missed: AtomicU64::new(0),
         }
@@ -118,8 +124,10 @@ impl Meeting {
 impl Gate for Meeting {
     fn pass(&self, job: JobNo, turn: u64) {
         set(&self.turns, job.0, turn);
-        if let Some(other) = partner(job, turn) {
-            self.wait_for(other, turn);
+        for (who, when, other, until) in self.waits {
+            if *who == job.0 && *when == turn {
+                self.wait_for(*other, *until);
+            }
         }
     }
 }

@@ -1,5 +1,5 @@
 // A job at its bench: the calls of its desk by name, and what each answers.
-ghost use Rattle.std.specs.Prelude.{◌≡◌, ◌⊎◌, ◌<◌, length, IsTrue};
+ghost use Rattle.std.specs.Prelude.{IsTrue};
 ghost use Rattle.locality.specs.Lists.{Each};
 ghost use Rattle.legal_steps.specs.State.{IsOwn};
 ghost use Rattle.edge_rule.specs.DeskView.{Owns};
@@ -57,7 +57,7 @@ pub(crate) enum Call {
 }
 
 /// What a call answers.
-#[derive(Clone, Copy, PartialEq, Eq, Debug)]
+#[derive(Clone, Copy, PartialEq, Eq)]
 pub(crate) enum Answer {
     Done,
     Found(u64),

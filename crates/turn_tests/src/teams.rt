@@ -1,14 +1,12 @@
 // Threads that drive desks: how many, through which gate, and without memory. What is asked holds of every schedule.
-ghost use Rattle.std.specs.Prelude.{◌≡◌};
 ghost use Rattle.locality.specs.Lists.{Each};
 ghost use Rattle.edge_rule.specs.DeskView.{Owns};
-ghost use Rattle.edge_rule.specs.Ending.{HasAll};
 
-use crate::gates::{Counting, Meeting};
+use crate::gates::{ALL_MEET, Counting, Meeting, THREE_FIRST};
 use crate::labs::{FOUR, NOBODY, RING, TWICE, TWO, closed, opened, plan_of, star_script};
 use edge_rule::{Bench, Closed, Desk};
 use instrument_log::InstrumentLog;
-use lab_plan::{InstrumentNo, JobNo, Plan};
+use lab_plan::{EdgeNo, InstrumentNo, JobNo, Plan};
 use linked_list_allocator::LocalHeap;
 use rounds::Ended;
 use std::alloc::{Allocator, Global};
@@ -148,7 +146,7 @@ fn gate_counts_turns(rt: HostRuntime) {
 
 fn meets<R: Threads + Abort + Sync>(rt: &R, alloc: Global, plan: &Plan) {
     let (bench, desks) = opened(rt, alloc, plan);
-    let gate = Meeting::new();
+    let gate = Meeting::new(&ALL_MEET);
     let (desks, ended) = driven(rt, alloc, &bench, desks, 2, 3, &gate);
     assert!(rt; gate.all_met() && ended == Ended::Limit);
     turns_are(rt, desks.as_slice(), 3);
@@ -160,7 +158,25 @@ fn two_workers_meet(rt: HostRuntime) {
     meets(&rt, rt.alloc(), &plan);
 }
 
-/// Threads with so small a heap, and whether they refused; they run with memory.
+/// A job waits at the gate before its turn, and not after it: so a finds what b asked for in its first turn, gives it, and asks for it again.
+fn passes_before<R: Threads + Abort + Sync>(rt: &R, alloc: Global, plan: &Plan) {
+    let (bench, desks) = opened(rt, alloc, plan);
+    let gate = Meeting::new(&THREE_FIRST);
+    let (desks, ended) = driven(rt, alloc, &bench, desks, 2, 4, &gate);
+    assert!(rt; gate.all_met() && ended == Ended::Limit);
+    let left = closed(rt, alloc, bench, desks);
+    assert!(rt; left.plan().jobs() == 2 && left.plan().edges() == 1);
+    assert!(rt; left.edge(EdgeNo(0)).pack() == 4294967317);
+    assert!(rt; left.phase(JobNo(0)).pack() == 261 && left.phase(JobNo(1)).pack() == 265);
+}
+
+#[test]
+fn gate_comes_before_turn(rt: HostRuntime) {
+    let plan = plan_of(&rt, rt.alloc(), TWO);
+    passes_before(&rt, rt.alloc(), &plan);
+}
+
+/// Three turns of each with so small a heap, or none where it is refused; then they run with memory. Whether it was refused.
 fn refuses<R: Threads + Abort + Sync>(
     rt: &R,
     alloc: Global,
@@ -168,12 +184,13 @@ fn refuses<R: Threads + Abort + Sync>(
     heap: &LocalHeap,
 ) -> bool {
     let (bench, desks) = opened(rt, alloc, plan);
-    let (desks, ended) = driven(rt, heap, &bench, desks, 2, 0, &NoGate);
-    turns_are(rt, desks.as_slice(), 0);
+    let (desks, ended) = driven(rt, heap, &bench, desks, 2, 3, &NoGate);
+    let refused = ended == Ended::NoMemory;
+    turns_are(rt, desks.as_slice(), if refused { 0 } else { 3 });
     let desks = until_retired(rt, alloc, &bench, desks, 2);
     let left = closed(rt, alloc, bench, desks);
     ended_all(rt, &left);
-    ended == Ended::NoMemory
+    refused
 }
 
 /// Few desks are sorted without a growth; that of 32 is refused by a heap that is a little larger in each run.
