@@ -83,6 +83,9 @@ def steps(word, name, count):
 
 
 def main():
+    if len(sys.argv) != 2 or sys.argv[1] == "--help":
+        print(__doc__, end="")
+        sys.exit(0 if sys.argv[1:] == ["--help"] else 2)
     folder = sys.argv[1]
     os.makedirs(folder, exist_ok=True)
 

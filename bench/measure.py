@@ -43,6 +43,9 @@ def run(words, path, wanted):
 
 
 def main():
+    if sys.argv[1:] == ["--help"]:
+        print(__doc__, end="")
+        return
     rounds = int(sys.argv[1]) if len(sys.argv) > 1 else 5
     if not os.path.exists(LABRUN):
         sys.exit("labrun isn't built yet: run ./labrun --help once")
