@@ -90,7 +90,7 @@ fn runs_by<R: Threads + Abort + Sync>(rt: &R, alloc: Global, plan: &Plan, worker
 
 fn runs_by_each<R: Threads + Abort + Sync>(rt: &R, alloc: Global, script: &str) {
     let plan = plan_of(rt, alloc, script);
-    for workers in [1, 2, 3, 32] {
+    for workers in [1, 2, 3, 7, 32] {
         runs_by(rt, alloc, &plan, workers);
     }
 }
