@@ -69,7 +69,7 @@ pub(crate) enum Answer {
     NotLegal,
     Saw(u64),
     Moves(EdgeMoves),
-    Nothing,
+    Calm,
     Lost,
     Does(Due),
     Acted(u32),
@@ -109,7 +109,7 @@ fn of_visit(what: Visited) -> Answer {
     match what {
         Visited::Done => Answer::Done,
         Visited::Lost => Answer::Lost,
-        Visited::Calm => Answer::Nothing,
+        Visited::Calm => Answer::Calm,
     }
 }
 
