@@ -12,7 +12,7 @@ use session_layer::Due::{Command, Nothing, Store};
 const DRINK: PhaseEvent = PhaseEvent::Drink;
 
 /// Job a drinks first, then b, which eats after it. The session of b could be given up once it has waited for a turn.
-const PARTS: [Row; 40] = [
+const PARTS: [Row; 42] = [
     (
         A,
         ActDue(0),
@@ -49,6 +49,14 @@ const PARTS: [Row; 40] = [
     (B, Act(0), Acted(1), &[6], (Hungry, Thirsty, 1, 0)),
     (B, ActDue(0), Does(Nothing), &[6], (Hungry, Thirsty, 1, 0)),
     (B, Act(0), Acted(0), &[6], (Hungry, Thirsty, 1, 0)),
+    (
+        B,
+        ActDue(1),
+        Does(Store(Withdraw)),
+        &[6],
+        (Hungry, Thirsty, 1, 0),
+    ),
+    (B, ActDue(0), Does(Nothing), &[6], (Hungry, Thirsty, 1, 0)),
     (B, On(AB, Visit), Done, &[2], (Hungry, Thirsty, 1, 0)),
     (A, Act(0), Acted(1), &[OPEN], (Thinking, Drinks, 1, 0)),
     (
