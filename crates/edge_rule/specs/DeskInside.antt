@@ -14,6 +14,7 @@ use Rattle.edge_rule.specs.Counting.{counts_of}
 use Rattle.locality.specs.History.{IsHistory, events_by}
 use Rattle.one_history.specs.Grow.{hand_in, IsMine, mine}
 use Rattle.edge_rule.specs.DeskView.{DeskView}
+use Rattle.edge_rule.specs.CalmEdges.{AreStill}
 use Rattle.edge_rule.specs.declared.desk.Desk.TheInside.{Inside}
 
 abbrev pub seat_view : Clock → TableSeat LogView View → DeskView
@@ -50,4 +51,5 @@ pub record IsDesk {A : Type 0} (d : Inside A) : Type 0 where
   pub own : seat (mine d.seat.me.0) (hand_in d.seat.me.0).job ≡ kept d
   pub seen : (mine d.seat.me.0).edges ≡ d.seen.items
   pub of_plan : AreOfPlan (hand_in d.seat.me.0).plan d.seen.items
+  pub calm : AreStill (hand_in d.seat.me.0).plan (mine d.seat.me.0) (hand_in d.seat.me.0).job d.calm.items
   pub rests : d.phase.drinking ≢ Reaching

@@ -1,0 +1,32 @@
+//! Notes of calm edges: where nothing was due, nothing is due until the edge's word or the own phase changes.
+ghost use Rattle.std.specs.Prelude.{◌≡◌, ◌<◌, length, IsTrue};
+ghost use Rattle.lab_plan.specs.LabPlan.{edges};
+ghost use Rattle.turns.specs.Due.{IsCalm};
+ghost use Rattle.edge_rule.specs.DeskView.{known};
+ghost use Rattle.edge_rule.specs.CalmEdges.{HasJustLooked};
+
+use crate::desk::Desk;
+use crate::words::number;
+use lab_plan::EdgeNo;
+use std::alloc::Allocator;
+
+impl<A: Allocator> Desk<A> {
+    /// Whether the edge was noted as calm, and neither its word nor the own phase has changed since, but for the count of
+    /// the session's commands. An edge that was never noted may be calm too.
+    pub fn is_calm(&self, edge: EdgeNo) -> bool
+        requires { edge < length (edges self.now.plan) }
+        ensures { IsTrue result → IsCalm self.now.plan (known self.now) self.now.job edge }
+    {
+        self.calm[number(edge)]
+    }
+
+    /// Notes that no move on the edge is legal, right after a look at it.
+    pub fn note_calm(&mut self, edge: EdgeNo)
+        requires edge { edge < length (edges self.old.plan) }
+        requires calm { IsCalm self.old.plan (known self.old) self.old.job edge }
+        requires looked { HasJustLooked self.old edge }
+        ensures { self.new ≡ self.old }
+    {
+        self.calm[number(edge)] = true;
+    }
+}
