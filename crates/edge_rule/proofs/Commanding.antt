@@ -39,6 +39,7 @@ use Rattle.edge_rule.specs.DeskInside.{seat_view, view_of, kept, AreOfPlan, AtRe
 use Rattle.edge_rule.specs.BenchInside.{bench_of, IsBench}
 use Rattle.edge_rule.specs.CalmEdges.{AreStill}
 use Rattle.edge_rule.proofs.StillEdges.{same_at, stay_still}
+use Rattle.std.proofs.lemmas.Bool.{false≢true}
 use Rattle.turns.specs.Due.{but_position}
 use Rattle.locality.specs.Changes.{seat_after}
 use Rattle.locality.proofs.Frame.{learned_seat}
@@ -221,8 +222,8 @@ module _ {A : Type 0} (b : bench_fields.Inside A) (d : Inside A) (is_bench : IsB
       abbrev w : View
       w = d'.seat.me.0
 
-      pub commanded : d'.seat.me.1 ≡ [] → fixed d' ≡ fixed d → kept d' ≡ record (kept d) { phase = record d.phase { drinking = Drinks; position = d.phase.position + 1 } } → d'.seen.items ≡ d.seen.items → d'.calm.items ≡ d.calm.items → IsDesk d'
-      commanded empty same own seen calm =
+      pub commanded : d'.seat.me.1 ≡ [] → fixed d' ≡ fixed d → kept d' ≡ record (kept d) { phase = record d.phase { drinking = Drinks; position = d.phase.position + 1 } } → d'.seen.items ≡ d.seen.items → d'.calm.items ≡ d.calm.items → d'.settled ≡ false → IsDesk d'
+      commanded empty same own seen calm unsettled =
           let here = ok.at_rest.inside in
           let x2 : hand_in w ≡ adding (hand_in v1) (Act (hand_in v1).job ∷ []) = hand_grown v1 w (Act (hand_in v1).job ∷ []) did.hands in
           let job2 : (hand_in w).job ≡ cj = ap (λ (q : Hand). q.job) x2 ∙ ap (λ (q : Hand). q.job) x1 in
@@ -246,6 +247,7 @@ module _ {A : Type 0} (b : bench_fields.Inside A) (d : Inside A) (is_bench : IsB
             calm = subst (λ (q : LabPlan × ℕ × List Bool). AreStill q.0 (mine w) q.1 q.2) (λ r. (sym plan2 r, sym job2 r, sym calm r))
                 (stay_still cp (mine cv) (mine w) cj d.calm.items (λ f. same_at (mine cv) (mine w) cj f (kept d) (kept d') d.seen.items d'.seen.items ok.own own_now ok.seen seen_now
                 (ap (λ l. get_or l f no_edge) seen) (ap (λ (q : Seat). but_position q.phase) own ∙ still_drinks) (ap (λ (q : Seat). get_or q.fork_marks f false) own) (ap (λ (q : Seat). get_or q.bottle_marks f 0) own)) ok.calm);
+            settled = λ is. absurd (false≢true (sym unsettled ∙ is));
             rests = let drinks : d'.phase.drinking ≡ Drinks = ap (λ (q : Seat). q.phase.drinking) own in λ e. (let both : Drinks ≡ Reaching = sym drinks ∙ e in cc);
           }
 

@@ -35,7 +35,9 @@ use Rattle.edge_rule.specs.DeskView.{DeskView, BenchView, Owns, Adds}
 use Rattle.edge_rule.specs.DeskInside.{seat_view, view_of, kept, fixed, AreOfPlan, AtRest, IsDesk}
 use Rattle.edge_rule.specs.BenchInside.{bench_of, IsBench}
 use Rattle.edge_rule.specs.CalmEdges.{IsStill, AreStill}
-use Rattle.edge_rule.proofs.StillEdges.{same_at, stay_still, but_one}
+use Rattle.edge_rule.proofs.StillEdges.{same_at, stay_still, but_one, stays_settled}
+use Rattle.turns.specs.Acts.{IsSettled}
+use Rattle.std.proofs.lemmas.Bool.{false≢true}
 use Rattle.turns.specs.Due.{but_position}
 use Rattle.locality.specs.Changes.{seat_after}
 use Rattle.locality.proofs.Frame.{learned_seat}
@@ -122,8 +124,8 @@ module _ {A : Type 0} (d : Inside A) (ok : IsDesk d) where
 
   -- a desk after a group of events, where its fields follow
   pub desk_grows : (d' : Inside A) (g : List Event) → Grows v g d'.seat.me.0 → d'.seat.me.1 ≡ [] → d'.job ≡ d.job
-      → seat (learned_all p (mine v) g) j ≡ kept d' → (learned_all p (mine v) g).edges ≡ d'.seen.items → AreOfPlan p d'.seen.items → AreStill p (learned_all p (mine v) g) j d'.calm.items → d'.phase.drinking ≢ Reaching → counts_of j ((hand_in v).deeds ++ g) ≡ d'.counts → IsDesk d'
-  desk_grows d' g t empty job own seen of_plan calm rests counts = let x = hand_grown v d'.seat.me.0 g t.hands in let m = mine_grown v d'.seat.me.0 g t in record {
+      → seat (learned_all p (mine v) g) j ≡ kept d' → (learned_all p (mine v) g).edges ≡ d'.seen.items → AreOfPlan p d'.seen.items → AreStill p (learned_all p (mine v) g) j d'.calm.items → (d'.settled ≡ true → IsSettled p (learned_all p (mine v) g) j) → d'.phase.drinking ≢ Reaching → counts_of j ((hand_in v).deeds ++ g) ≡ d'.counts → IsDesk d'
+  desk_grows d' g t empty job own seen of_plan calm settled rests counts = let x = hand_grown v d'.seat.me.0 g t.hands in let m = mine_grown v d'.seat.me.0 g t in record {
     at_rest = rest_grown v d'.seat.me.0 g ok.at_rest t;
     empty = empty;
     job = ap (λ (z : Hand). z.job) x ∙ (ok.job ∙ sym job);
@@ -132,14 +134,19 @@ module _ {A : Type 0} (d : Inside A) (ok : IsDesk d) where
     seen = ap (λ (z : State). z.edges) m ∙ seen;
     of_plan = subst (λ (z : Hand). AreOfPlan z.plan d'.seen.items) (sym x) of_plan;
     calm = subst (λ (z : Hand × State). AreStill z.0.plan z.1 z.0.job d'.calm.items) (λ i. (sym x i, sym m i)) calm;
+    settled = λ is. subst (λ (z : Hand × State). IsSettled z.0.plan z.1 z.0.job) (λ i. (sym x i, sym m i)) (settled is);
     rests = rests;
   }
 
   -- a desk after events that aren't counted
   pub desk_keeps : (d' : Inside A) (g : List Event) → Each (IsUncounted j) g → Grows v g d'.seat.me.0 → d'.seat.me.1 ≡ [] → fixed d' ≡ fixed d
-      → seat (learned_all p (mine v) g) j ≡ kept d' → (learned_all p (mine v) g).edges ≡ d'.seen.items → AreOfPlan p d'.seen.items → AreStill p (learned_all p (mine v) g) j d'.calm.items → d'.phase.drinking ≢ Reaching → IsDesk d'
-  desk_keeps d' g uncounted t empty same own seen of_plan calm rests = desk_grows d' g t empty (ap (λ (z : ℕ × Counts). z.0) same) own seen of_plan calm rests
+      → seat (learned_all p (mine v) g) j ≡ kept d' → (learned_all p (mine v) g).edges ≡ d'.seen.items → AreOfPlan p d'.seen.items → AreStill p (learned_all p (mine v) g) j d'.calm.items → (d'.settled ≡ true → IsSettled p (learned_all p (mine v) g) j) → d'.phase.drinking ≢ Reaching → IsDesk d'
+  desk_keeps d' g uncounted t empty same own seen of_plan calm settled rests = desk_grows d' g t empty (ap (λ (z : ℕ × Counts). z.0) same) own seen of_plan calm settled rests
       (counts_stay j (hand_in v).deeds g uncounted ∙ (ok.counts ∙ sym (ap (λ (z : ℕ × Counts). z.1) same)))
+
+  -- where the desk isn't noted as settled, nothing is claimed
+  pub not_settled : (d' : Inside A) → d'.settled ≡ false → {s : State} → d'.settled ≡ true → IsSettled p s j
+  not_settled d' unsettled is = absurd (false≢true (sym unsettled ∙ is))
 
   -- the notes but that of one edge, where the desk else is as before
   pub noted_but : (t : State) (d' : Inside A) (e : ℕ) → e < length (edges p) → seat t j ≡ kept d' → t.edges ≡ d'.seen.items → d'.phase ≡ d.phase → (fork : Bool) → d'.fork_marks.items ≡ set d.fork_marks.items e fork
@@ -230,8 +237,8 @@ module _ {A : Type 0} (d d' : Inside A) (ok : IsDesk d) (e : ℕ) (x : EdgeState
   -- the desk after a look
   pub look_kept : (fork : Bool) (marks : ℕ) (q : LabPlan) → e < length (edges lp) → q ≡ lp → IsOfBottles (length (bottles q e)) x → Does lv (Look lj e x) d'.seat.me.0 → d'.seat.me.1 ≡ d.seat.me.1 → fixed d' ≡ fixed d → d'.phase ≡ d.phase
       → fork ≡ fork_mark_seen d.phase.dining (end_of q d.job e) x → marks ≡ bottles_at q e (end_of q d.job e) x
-      → d'.fork_marks.items ≡ set d.fork_marks.items e fork → d'.bottle_marks.items ≡ set d.bottle_marks.items e marks → d'.seen.items ≡ set d.seen.items e x → d'.calm.items ≡ set d.calm.items e false → IsDesk d'
-  look_kept fork marks q inside is_p fits t empty job phase is_fork is_marks forks bottle_marks seen calm =
+      → d'.fork_marks.items ≡ set d.fork_marks.items e fork → d'.bottle_marks.items ≡ set d.bottle_marks.items e marks → d'.seen.items ≡ set d.seen.items e x → d'.calm.items ≡ set d.calm.items e false → d'.settled ≡ false → IsDesk d'
+  look_kept fork marks q inside is_p fits t empty job phase is_fork is_marks forks bottle_marks seen calm unsettled =
       let event : Event = Look lj e x in
       let jobs = mine_seats lv in
       let here = ok.at_rest.inside in
@@ -244,11 +251,12 @@ module _ {A : Type 0} (d d' : Inside A) (ok : IsDesk d) (e : ℕ) (x : EdgeState
       desk_keeps d ok d' (event ∷ []) ((refl, refl, refl), tt) t (empty ∙ ok.empty) job own edges_now
       (subst (AreOfPlan lp) (sym seen) (of_plan_set d ok e x inside (subst (λ (z : LabPlan). IsOfBottles (length (bottles z e)) x) is_p fits)))
       (noted_but d ok (learned_all lp (mine lv) (event ∷ [])) d' e inside own edges_now phase fork forks marks bottle_marks x seen calm)
+      (not_settled d ok d' unsettled)
       (subst (λ (z : JobState). z.drinking ≢ Reaching) (sym phase) ok.rests)
 
   -- a look that sees again what a still edge showed
-  pub look_still : e < length (edges lp) → IsStill lp (mine lv) lj e → x ≡ edge (mine lv) e → Does lv (Look lj e x) d'.seat.me.0 → d'.seat.me.1 ≡ d.seat.me.1 → fixed d' ≡ fixed d → kept d' ≡ kept d → d'.seen.items ≡ d.seen.items → d'.calm.items ≡ d.calm.items → IsDesk d'
-  look_still inside still is t empty job same seen calm =
+  pub look_still : e < length (edges lp) → IsStill lp (mine lv) lj e → x ≡ edge (mine lv) e → Does lv (Look lj e x) d'.seat.me.0 → d'.seat.me.1 ≡ d.seat.me.1 → fixed d' ≡ fixed d → kept d' ≡ kept d → d'.seen.items ≡ d.seen.items → d'.calm.items ≡ d.calm.items → d'.settled ≡ d.settled → IsDesk d'
+  look_still inside still is t empty job same seen calm settled =
       let event : Event = Look lj e x in
       let jobs = mine_seats lv in
       let here = ok.at_rest.inside in
@@ -264,6 +272,7 @@ module _ {A : Type 0} (d d' : Inside A) (ok : IsDesk d) (e : ℕ) (x : EdgeState
       (subst (AreOfPlan lp) (sym seen) ok.of_plan)
       (subst (AreStill lp u lj) (sym calm) (stay_still lp (mine lv) u lj d.calm.items (λ f. same_at (mine lv) u lj f (kept d) (kept d') d.seen.items d'.seen.items ok.own own ok.seen edges_now
       (ap (λ l. get_or l f no_edge) seen) (ap (λ (y : Seat). but_position y.phase) same) (ap (λ (y : Seat). get_or y.fork_marks f false) same) (ap (λ (y : Seat). get_or y.bottle_marks f 0) same)) ok.calm))
+      (λ set. stays_settled lp (mine lv) u lj (own ∙ (same ∙ sym ok.own)) (ok.settled (sym settled ∙ set)))
       (subst (λ (z : JobState). z.drinking ≢ Reaching) (sym (ap (λ (y : Seat). y.phase) same)) ok.rests)
 
 -- what a look tells, of the word that was unpacked

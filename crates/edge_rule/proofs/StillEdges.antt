@@ -1,4 +1,4 @@
--- What is noted of calm edges stays true where neither the edge nor its marks change, nor how the job dines and drinks.
+-- What is noted stays true: of a calm edge where neither the edge nor its marks change, nor how the job dines and drinks; of phase acts where the job's seat doesn't.
 use Rattle.std.proofs.Common.{◌≡◌, ◌≢◌, ℕ, zero, suc, ◌<◌, Bool, true, false, List, [], ◌∷◌, length, get_or, set, replicate, refl, sym, ap, ◌∙◌, subst, inl, inr, arith, length-set, get_or-set_same, get_or-set_other}
 use Rattle.std.proofs.lemmas.List.{length-replicate}
 use Rattle.std.proofs.lemmas.Bool.{cases_eq, false≢true}
@@ -8,7 +8,10 @@ use Rattle.legal_steps.specs.declared.phase.JobState.{JobState}
 use Rattle.legal_steps.specs.State.{Seat, State, seat, edge, phase, fork_mark, bottle_marks, no_edge, end_of, bottles_at}
 use Rattle.legal_steps.specs.Legal.{fork_mark_seen}
 use Rattle.turns.specs.Due.{IsCalm, but_position}
+use Rattle.turns.specs.Acts.{IsSettled}
 use Rattle.turns.proofs.Calm.{stays_calm}
+use Rattle.locality.proofs.Reading.{may_same}
+use Rattle.legal_steps.specs.declared.event.Event.TheVariants.{Thirst, Hunger, Sit, Leave, Drink, Reach, Quit, Retire}
 use Rattle.edge_rule.specs.CalmEdges.{IsStill, AreStill}
 
 -- what a note rests on is the same in both states
@@ -33,6 +36,19 @@ same_at s t j e x y l m was is lwas mis edges phases forks bottles = record {
   phase_is = ap (λ (z : Seat). but_position z.phase) is ∙ (phases ∙ sym (ap (λ (z : Seat). but_position z.phase) was));
   fork_is = ap (λ (z : Seat). get_or z.fork_marks e false) is ∙ (forks ∙ sym (ap (λ (z : Seat). get_or z.fork_marks e false) was));
   bottles_are = ap (λ (z : Seat). get_or z.bottle_marks e 0) is ∙ (bottles ∙ sym (ap (λ (z : Seat). get_or z.bottle_marks e 0) was));
+}
+
+-- no phase act is legal where none was and the seat is the same
+pub stays_settled : (plan : LabPlan) (s t : State) (j : ℕ) → seat t j ≡ seat s j → IsSettled plan s j → IsSettled plan t j
+stays_settled plan s t j same none = record {
+  no_quit = λ may. none.no_quit (may_same plan t s (Quit j) same may);
+  no_reach = λ may. none.no_reach (may_same plan t s (Reach j) same may);
+  no_drink = λ may. none.no_drink (may_same plan t s (Drink j) same may);
+  no_leave = λ may. none.no_leave (may_same plan t s (Leave j) same may);
+  no_sit = λ may. none.no_sit (may_same plan t s (Sit j) same may);
+  no_thirst = λ may. none.no_thirst (may_same plan t s (Thirst j) same may);
+  no_hunger = λ may. none.no_hunger (may_same plan t s (Hunger j) same may);
+  no_retire = λ may. none.no_retire (may_same plan t s (Retire j) same may);
 }
 
 -- all notes stay

@@ -1,7 +1,9 @@
-//! Notes of calm edges: where nothing was due, nothing is due until the edge's word or the own phase changes.
+//! What a desk notes of having nothing to do: where nothing was due on an edge, nothing is due there until its word or the
+//! own phase changes, and where no phase act was due, none is due until the own phase or a mark does.
 ghost use Rattle.std.specs.Prelude.{◌≡◌, ◌<◌, length, IsTrue};
 ghost use Rattle.lab_plan.specs.LabPlan.{edges};
 ghost use Rattle.turns.specs.Due.{IsCalm};
+ghost use Rattle.turns.specs.Acts.{IsSettled};
 ghost use Rattle.edge_rule.specs.DeskView.{known};
 ghost use Rattle.edge_rule.specs.CalmEdges.{HasJustLooked};
 
@@ -28,5 +30,21 @@ impl<A: Allocator> Desk<A> {
         ensures { self.new ≡ self.old }
     {
         self.calm[number(edge)] = true;
+    }
+
+    /// Whether it was noted that no phase act is legal but giving the session up, and neither the own phase nor a mark has
+    /// changed since.
+    pub fn is_settled(&self) -> bool
+        ensures { IsTrue result → IsSettled self.now.plan (known self.now) self.now.job }
+    {
+        self.settled
+    }
+
+    /// Notes that no phase act is legal but giving the session up.
+    pub fn note_settled(&mut self)
+        requires { IsSettled self.old.plan (known self.old) self.old.job }
+        ensures { self.new ≡ self.old }
+    {
+        self.settled = true;
     }
 }

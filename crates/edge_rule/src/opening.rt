@@ -85,6 +85,7 @@ fn next_desk<A: Allocator + Copy>(
         bottle_marks,
         seen,
         calm,
+        settled: false,
         clock: Clock {
             turns: 0,
             waited: 0,
