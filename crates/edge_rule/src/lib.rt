@@ -3,6 +3,7 @@
 
 mod bench;
 mod calls;
+mod calm;
 mod clock;
 mod closed;
 mod closing;
