@@ -7,3 +7,6 @@ pub mod OnLast
 pub mod ReadingLoop
 pub mod Parts
 pub mod ReadingText
+pub mod LineReads
+pub mod ReportLeads
+pub mod NoReport

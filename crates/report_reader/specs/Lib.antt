@@ -5,3 +5,4 @@ pub mod State
 pub mod Read
 pub mod Form
 pub mod Reading
+pub mod Laws

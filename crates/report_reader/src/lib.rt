@@ -4,6 +4,7 @@
 mod cutting;
 mod fault;
 mod form;
+pub mod laws;
 mod lines;
 mod number;
 pub mod read;
