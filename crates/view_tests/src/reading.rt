@@ -1,6 +1,7 @@
 // What no clause says: the faults of given texts, by hand, and that good texts are read.
 use lab_plan::Verb;
 use report_reader::ReportCause::{NotWhole, OtherVersion, OutOfPlace, UnknownLine, WrongEnd};
+use report_reader::laws::no_report;
 use report_reader::{EntryLine, JobLine, Report, ReportCause, ReportFault, read_report};
 use std::alloc::Allocator;
 use std::process::Abort;
@@ -156,4 +157,9 @@ fn causes_are_printed(rt: HostRuntime) -> Result<(), Fail> {
     let printed = format!(in rt.alloc(); "{fault}")?;
     assert!(rt; printed.as_str() == "line 7: R4 last line doesn't fit the jobs");
     Ok(())
+}
+
+#[test]
+fn laws_can_be_called(_rt: HostRuntime) {
+    no_report();
 }
