@@ -1,0 +1,17 @@
+// The parts of a text.
+ghost use Rattle.std.specs.Prelude.{◌≡◌, ◌<◌, ◌==◌, length, map, IfOk};
+ghost use Rattle.std.specs.List.{slice_split};
+
+use std::alloc::{AllocError, Allocator};
+
+/// The parts between the places where this byte stands: one at least.
+pub(crate) fn parts<A: Allocator>(
+    alloc: A,
+    text: &[u8],
+    at: u8,
+) -> Result<Vec<&[u8], A>, AllocError>
+    ensures parts { IfOk result (λ parts. map (λ part. part.now) parts.items ≡ slice_split (λ b. b == at) text.now) }
+    ensures some { IfOk result (λ parts. 0 < length parts.items) }
+{
+    text.split(|b| *b == at).collect(alloc)
+}

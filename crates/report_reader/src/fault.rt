@@ -1,0 +1,33 @@
+// Faults of reports.
+use thiserror::Error;
+
+/// Why a line, or the end of the text, is refused. Its text is what a user reads.
+#[derive(Clone, Copy, PartialEq, Eq, Debug, Error)]
+pub enum ReportCause {
+    /// The line has no form of a report's lines.
+    #[error("R1 not a line of a report")]
+    UnknownLine,
+    /// The line doesn't stand where it may: the header first, then instruments with their entries, jobs, and the last line.
+    #[error("R2 line out of place")]
+    OutOfPlace,
+    /// A job line with `withdrawn` in a report of version 1, or one without it in version 2.
+    #[error("R3 job line of another version")]
+    OtherVersion,
+    /// `finished` where a job waits, or `unfinished` where none does.
+    #[error("R4 last line doesn't fit the jobs")]
+    WrongEnd,
+    /// The text ends before its last line, or within a line.
+    #[error("R5 report not whole")]
+    NotWhole,
+    /// A growth was refused.
+    #[error("R6 no memory")]
+    NoMemory,
+}
+
+/// The fault of a text: the number of a line, counted from 1, and why it is refused.
+#[derive(Clone, Copy, PartialEq, Eq, Debug, Error)]
+#[error("line {line}: {cause}")]
+pub struct ReportFault {
+    pub line: usize,
+    pub cause: ReportCause,
+}

@@ -1,0 +1,17 @@
+//! Reading a report: its text is the lines of one value, spelled one after another, or there is no such value.
+#![tactic(auto)]
+
+mod cutting;
+mod fault;
+mod form;
+pub mod laws;
+mod lines;
+mod number;
+pub mod read;
+mod reader;
+pub mod report;
+
+pub use fault::{ReportCause, ReportFault};
+pub use lines::{EntryLine, JobLine};
+pub use read::read_report;
+pub use report::{Log, Report};
