@@ -4,12 +4,12 @@ ghost use Rattle.edge_rule.specs.DeskView.{Owns};
 
 use crate::benches::{A, AB, AC, B, BC, C, THREE, TWO, bench_of, both, is_own, plan_of};
 use crate::calls::{Answer, Call, Line, Move, called, do_all};
-use edge_rule::{Bench, Desk, PhaseEvent, heed, look_both, meet, meet_all, tell, unpacked_edge};
+use edge_rule::{Bench, Desk, PhaseEvent, heed, look, meet, meet_all, tell, unpacked_edge};
 use lab_plan::EdgeNo;
 use legal_steps::{EdgeState, End};
 use std::alloc::Allocator;
 use std::process::Abort;
-use std::thread::Threads;
+use std::thread::{Threads, join_mut};
 
 /// Two threads, each with a desk, look at the edge of both.
 fn both_look<R: Threads + Sync + Abort, T: Allocator + Send + Sync>(
@@ -22,7 +22,7 @@ fn both_look<R: Threads + Sync + Abort, T: Allocator + Send + Sync>(
     ensures { Owns bench.now a.new × Owns bench.now b.new }
 {
     assert!(rt; is_own(bench, a, AB) && is_own(bench, b, AB));
-    look_both(rt, bench, a, b, AB);
+    join_mut(rt, &mut || look(bench, a, AB), &mut || look(bench, b, AB));
 }
 
 fn edge_of<T: Allocator>(

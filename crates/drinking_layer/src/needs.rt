@@ -1,5 +1,6 @@
 //! Which bottles a job needs, gives and asks for on an edge, by the edge as it was seen and the own phase.
 ghost use Rattle.std.specs.Prelude.{◌≡◌, ◌↔◌, ℕ, ◌<◌, ◌≤◌, IsTrue, length};
+ghost use Rattle.std.specs.Int.{bit_at};
 ghost use Rattle.lab_plan.specs.LabPlan.{edges, bottles, sessions, session_names};
 ghost use Rattle.legal_steps.specs.State.{Has, IsOfEdge, IsInSession};
 ghost use Rattle.legal_steps.specs.Legal.{IsJob, instrument_of};
@@ -17,37 +18,39 @@ fn is_in_session(drinking: Drinking) -> bool
         || drinking == Drinking::Reaching
 }
 
-// Whether the session names the instrument.
-#[tactic(auto, using(crate::proofs::Needed::tested_bit))]
-fn names<A: Allocator>(plan: &Plan<A>, job: JobNo, session: u32, instrument: InstrumentNo) -> bool
-    requires is_job { IsJob plan.now job }
-    requires begun { 1 ≤ session }
-    requires is_session { session ≤ length (sessions plan.now job) }
-    requires is_instrument { instrument < 56 }
-    ensures { result ≡ session_names plan.now job session instrument }
+// Whether the instrument is in the set.
+#[tactic(auto, using(crate::proofs::Needed::tested_member))]
+fn is_member(set: u64, instrument: InstrumentNo) -> bool
+    requires { instrument < 56 }
+    ensures { IsTrue result ↔ bit_at set instrument ≡ 1 }
 {
-    plan.needs(job, session) >> instrument.0 & 1 == 1
+    set >> instrument.0 & 1 == 1
 }
 
-// Whether a job in this phase needs the bottle.
+// Whether the instrument of the bottle is in the set.
 #[tactic(auto, using(crate::proofs::Needed::small_instrument))]
-fn needs_bottle<A: Allocator>(
-    plan: &Plan<A>,
-    job: JobNo,
-    phase: JobState,
-    edge: EdgeNo,
-    bottle: u32,
-) -> bool
-    requires is_job { IsJob plan.now job }
-    requires is_session { phase.session ≤ length (sessions plan.now job) }
-    requires begun { IsInSession phase.drinking → 1 ≤ phase.session }
+fn is_bottle_in<A: Allocator>(plan: &Plan<A>, edge: EdgeNo, bottle: u32, instruments: u64) -> bool
     requires is_edge { edge < length (edges plan.now) }
     requires is_bottle { bottle < length (bottles plan.now edge) }
-    ensures { IsTrue result ↔ NeedsIn plan.now job phase (instrument_of plan.now edge bottle) }
+    ensures { IsTrue result ↔ bit_at instruments (instrument_of plan.now edge bottle) ≡ 1 }
 {
     let _ = plan.jobs();
-    let instrument = plan.instrument_of(edge, bottle);
-    is_in_session(phase.drinking) && names(plan, job, phase.session, instrument)
+    is_member(instruments, plan.instrument_of(edge, bottle))
+}
+
+// The bottles of the edge whose instruments are in the set.
+fn bottles_in<A: Allocator>(plan: &Plan<A>, edge: EdgeNo, instruments: u64) -> u32
+    requires { edge < length (edges plan.now) }
+    ensures of_edge { IsOfEdge plan.now edge result }
+    ensures just { (k : ℕ) → k < length (bottles plan.now edge) → Has result k ↔ (bit_at instruments (instrument_of plan.now edge k) ≡ 1) }
+{
+    let mut set = 0u32;
+    for bottle in 0..plan.bottles(edge) {
+        if is_bottle_in(plan, edge, bottle, instruments) {
+            set |= 1 << bottle;
+        }
+    }
+    set
 }
 
 // The bottles of the edge that a job in this phase needs.
@@ -64,13 +67,11 @@ pub(crate) fn needed_bottles<A: Allocator>(
     ensures of_edge { IsOfEdge plan.now edge result }
     ensures just { (k : ℕ) → k < length (bottles plan.now edge) → Has result k ↔ NeedsIn plan.now job phase (instrument_of plan.now edge k) }
 {
-    let mut set = 0u32;
-    for bottle in 0..plan.bottles(edge) {
-        if needs_bottle(plan, job, phase, edge, bottle) {
-            set |= 1 << bottle;
-        }
+    if is_in_session(phase.drinking) {
+        bottles_in(plan, edge, plan.needs(job, phase.session))
+    } else {
+        0
     }
-    set
 }
 
 fn has_instruments(drinking: Drinking) -> bool

@@ -18,7 +18,7 @@ use Rattle.edge_rule.specs.declared.counts.Counts.{Counts}
 use Rattle.edge_rule.specs.Counting.{no_counts}
 use Rattle.edge_rule.specs.ClosedView.{ClosedView, edge_in, phase_in, log_in, counts_in}
 use Rattle.edge_rule.specs.ClosedInside.{view_of, IsClosed}
-use Rattle.edge_rule.proofs.DeskMoves.{got}
+use Rattle.edge_rule.proofs.DeskSteps.{got}
 use Rattle.edge_rule.proofs.Endings.{gets}
 
 module _ {A : Type 0} (c : Inside A) (y : ClosedView) (is : view_of c ≡ y) (ok : IsClosed c) where

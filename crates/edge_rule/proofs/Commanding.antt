@@ -1,5 +1,5 @@
 -- A desk that has reached, and has the log of its instrument in hand.
-use Rattle.std.proofs.Common.{◌≡◌, ℕ, ◌+◌, ◌<◌, List, [], ◌∷◌, ◌++◌, length, get_or, refl, sym, ap, ◌∙◌, subst, inl, inr, arith}
+use Rattle.std.proofs.Common.{◌≡◌, ℕ, ◌+◌, ◌<◌, Bool, false, List, [], ◌∷◌, ◌++◌, length, get_or, refl, sym, ap, ◌∙◌, subst, inl, inr, arith}
 use mathlib.Core.Option.{none}
 use Rattle.atomic_table.specs.Table.{step, rest, Allows}
 use Rattle.atomic_table.specs.declared.shared.Seat.{Seat as TableSeat}
@@ -15,7 +15,7 @@ use Rattle.legal_steps.specs.declared.phase.JobState.{JobState}
 use Rattle.legal_steps.specs.declared.phase.Drinking.TheVariants.{Drinking as Drinks, Reaching}
 use Rattle.legal_steps.specs.declared.event.Event.{Event}
 use Rattle.legal_steps.specs.declared.event.Event.TheVariants.{Reach, Act}
-use Rattle.legal_steps.specs.State.{Seat, State, seat, phase, drinking, log}
+use Rattle.legal_steps.specs.State.{Seat, State, seat, phase, drinking, log, no_edge}
 use Rattle.legal_steps.specs.Legal.{May, IsJob, next_command, next_entry}
 use Rattle.legal_steps.specs.Opening.{the_opening}
 use Rattle.legal_steps.specs.WholeLogs.{ended_sessions}
@@ -37,6 +37,10 @@ use Rattle.edge_rule.specs.Counting.{counts_of}
 use Rattle.edge_rule.proofs.CountsKept.{counts_stay}
 use Rattle.edge_rule.specs.DeskInside.{seat_view, view_of, kept, AreOfPlan, AtRest, IsDesk, fixed}
 use Rattle.edge_rule.specs.BenchInside.{bench_of, IsBench}
+use Rattle.edge_rule.specs.CalmEdges.{AreStill}
+use Rattle.edge_rule.proofs.StillEdges.{same_at, stay_still}
+use Rattle.std.proofs.lemmas.Bool.{false≢true}
+use Rattle.turns.specs.Due.{but_position}
 use Rattle.locality.specs.Changes.{seat_after}
 use Rattle.locality.proofs.Frame.{learned_seat}
 use Rattle.locality.proofs.Runs.{own_known}
@@ -218,8 +222,8 @@ module _ {A : Type 0} (b : bench_fields.Inside A) (d : Inside A) (is_bench : IsB
       abbrev w : View
       w = d'.seat.me.0
 
-      pub commanded : d'.seat.me.1 ≡ [] → fixed d' ≡ fixed d → kept d' ≡ record (kept d) { phase = record d.phase { drinking = Drinks; position = d.phase.position + 1 } } → d'.seen.items ≡ d.seen.items → IsDesk d'
-      commanded empty same own seen =
+      pub commanded : d'.seat.me.1 ≡ [] → fixed d' ≡ fixed d → kept d' ≡ record (kept d) { phase = record d.phase { drinking = Drinks; position = d.phase.position + 1 } } → d'.seen.items ≡ d.seen.items → d'.calm.items ≡ d.calm.items → d'.settled ≡ false → IsDesk d'
+      commanded empty same own seen calm unsettled =
           let here = ok.at_rest.inside in
           let x2 : hand_in w ≡ adding (hand_in v1) (Act (hand_in v1).job ∷ []) = hand_grown v1 w (Act (hand_in v1).job ∷ []) did.hands in
           let job2 : (hand_in w).job ≡ cj = ap (λ (q : Hand). q.job) x2 ∙ ap (λ (q : Hand). q.job) x1 in
@@ -227,15 +231,23 @@ module _ {A : Type 0} (b : bench_fields.Inside A) (d : Inside A) (is_bench : IsB
           let plan2 : (hand_in w).plan ≡ cp = ap (λ (q : Hand). q.plan) x2 ∙ ap (λ (q : Hand). q.plan) x1 in
           let mine2 : mine w ≡ learned_all cp (mine v1) (Act cj ∷ []) = mine_grown v1 w (Act (hand_in v1).job ∷ []) did ∙ (λ r. learned_all (x1 r).plan (mine v1) (Act (x1 r).job ∷ [])) in
           let seats : length (mine v1).seats ≡ length cp.jobs = mine_seats v1 ∙ ap (λ (q : Hand). length q.plan.jobs) x1 in
+          let was : d.phase.drinking ≡ Drinks = sym (ap (λ (z : JobState). z.drinking) (own_is b d is_bench ok owns)) ∙ ready.1 in
+          let still_drinks : but_position (record d.phase { drinking = Drinks; position = d.phase.position + 1 }) ≡ but_position d.phase = λ r. record d.phase { drinking = sym was r; position = 0 } in
+          let own_now : seat (mine w) cj ≡ kept d' = ap (λ (q : State). seat q cj) mine2 ∙ (learned_seat cp (mine v1) (Act cj) (omega arith) ∙ (ap (λ (q : Seat). seat_after cp q (Act cj)) seat1 ∙ sym own)) in
+          let seen_now : (mine w).edges ≡ d'.seen.items = ap (λ (q : State). q.edges) mine2 ∙ (ap (λ (q : State). q.edges) mine1 ∙ (ok.seen ∙ sym seen)) in
           record {
             at_rest = rest_grown v1 w (Act (hand_in v1).job ∷ []) rests1 did;
             empty = empty;
             job = job2 ∙ (ok.job ∙ sym (ap (λ (z : ℕ × Counts). z.0) same));
             counts = (λ r. counts_of (job2 r) (deeds2 r)) ∙ (counts_stay cj ((hand_in cv).deeds ++ Reach cj ∷ []) (Act cj ∷ []) ((refl, refl, refl), tt)
                 ∙ (counts_stay cj (hand_in cv).deeds (Reach cj ∷ []) ((refl, refl, refl), tt) ∙ (ok.counts ∙ sym (ap (λ (z : ℕ × Counts). z.1) same))));
-            own = (λ r. seat (mine2 r) (job2 r)) ∙ (learned_seat cp (mine v1) (Act cj) (omega arith) ∙ (ap (λ (q : Seat). seat_after cp q (Act cj)) seat1 ∙ sym own));
-            seen = ap (λ (q : State). q.edges) mine2 ∙ (ap (λ (q : State). q.edges) mine1 ∙ (ok.seen ∙ sym seen));
+            own = (λ r. seat (mine w) (job2 r)) ∙ own_now;
+            seen = seen_now;
             of_plan = subst (λ (q : LabPlan × List EdgeState). AreOfPlan q.0 q.1) (λ r. (sym plan2 r, sym seen r)) ok.of_plan;
+            calm = subst (λ (q : LabPlan × ℕ × List Bool). AreStill q.0 (mine w) q.1 q.2) (λ r. (sym plan2 r, sym job2 r, sym calm r))
+                (stay_still cp (mine cv) (mine w) cj d.calm.items (λ f. same_at (mine cv) (mine w) cj f (kept d) (kept d') d.seen.items d'.seen.items ok.own own_now ok.seen seen_now
+                (ap (λ l. get_or l f no_edge) seen) (ap (λ (q : Seat). but_position q.phase) own ∙ still_drinks) (ap (λ (q : Seat). get_or q.fork_marks f false) own) (ap (λ (q : Seat). get_or q.bottle_marks f 0) own)) ok.calm);
+            settled = λ is. absurd (false≢true (sym unsettled ∙ is));
             rests = let drinks : d'.phase.drinking ≡ Drinks = ap (λ (q : Seat). q.phase.drinking) own in λ e. (let both : Drinks ≡ Reaching = sym drinks ∙ e in cc);
           }
 

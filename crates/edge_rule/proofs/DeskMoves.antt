@@ -43,13 +43,14 @@ use Rattle.one_history.specs.Grow.{hand_in, mine, seen_state, Grows, Does, tried
 use Rattle.edge_rule.specs.DeskView.{DeskView, Owns, Adds, known, shown}
 use Rattle.edge_rule.specs.DeskInside.{seat_view, view_of, kept, fixed, AreOfPlan, IsDesk}
 use Rattle.edge_rule.specs.BenchInside.{bench_of, IsBench}
+use Rattle.edge_rule.proofs.StillEdges.{none_still}
 use Rattle.locality.proofs.Frame.{own_seat, as_many_seats, learned_seat}
 use Rattle.locality.specs.Changes.{seat_after}
 use Rattle.locality.proofs.Local.{each_move}
 use Rattle.locality.proofs.Few.{few_commands}
 use Rattle.one_history.proofs.Trying.{tries}
 use Rattle.one_history.proofs.Storing.{by_job, told_back, stores}
-use Rattle.edge_rule.proofs.DeskSteps.{led, hand_grown, mine_seats, mine_edges, desk_seat, desk_edges, desk_grows, desk_keeps, of_plan_set, framed, plan_known, seat_adds}
+use Rattle.edge_rule.proofs.DeskSteps.{got, led, hand_grown, mine_seats, mine_edges, desk_seat, desk_edges, desk_grows, desk_keeps, of_plan_set, noted_but, not_settled, framed, plan_known, seat_adds}
 
 -- ---- the state after moves, as lists
 
@@ -144,11 +145,6 @@ moved_edges plan j e m s h =
 
 -- ---- an exchange
 
-pub got : {A : Type 0} (l : List A) (i : ℕ) (a dflt : A) → i < length l → a ≡ get_or l i a → a ≡ get_or l i dflt
-got [] i a dflt h e = absurd (omega arith)
-got (x ∷ l) zero a dflt h e = e
-got (x ∷ l) (suc i) a dflt h e = got l i a dflt (omega arith) e
-
 -- a legal group of moves by what a desk knows, of the values that contracts see
 abbrev pub MayMove : EdgeMoves → ℕ → DeskView → Type 0
 MayMove m e y = IsLegalFrom y.plan (known y) (events_of m y.job e)
@@ -219,8 +215,8 @@ module _ {A : Type 0} (b : bench_fields.Inside A) (d : Inside A) (is_bench : IsB
   -- the desk after moves
   pub moves_kept : (d' : Inside A) (n : ℕ) (x y : EdgeState) (fork : Bool) (marks : ℕ) (old_fork : Bool) (old_marks : ℕ) → n ≡ e → Grows mv (events_of m mj e) d'.seat.me.0 → d'.seat.me.1 ≡ d.seat.me.1 → fixed d' ≡ fixed d → d'.phase ≡ d.phase
       → x ≡ edge (mine mv) e → y ≡ after_moves m x → old_fork ≡ get_or d.fork_marks.items n old_fork → old_marks ≡ get_or d.bottle_marks.items n old_marks → fork ≡ fork_mark_after m old_fork → marks ≡ bottle_marks_after m old_marks
-      → d'.fork_marks.items ≡ set d.fork_marks.items n fork → d'.bottle_marks.items ≡ set d.bottle_marks.items n marks → d'.seen.items ≡ set d.seen.items n y → IsDesk d'
-  moves_kept d' n x y fork marks old_fork old_marks at t empty job phase is_x is_y is_old_fork is_old_marks is_fork is_marks forks_are marks_are seen =
+      → d'.fork_marks.items ≡ set d.fork_marks.items n fork → d'.bottle_marks.items ≡ set d.bottle_marks.items n marks → d'.seen.items ≡ set d.seen.items n y → d'.calm.items ≡ set d.calm.items n false → d'.settled ≡ false → IsDesk d'
+  moves_kept d' n x y fork marks old_fork old_marks at t empty job phase is_x is_y is_old_fork is_old_marks is_fork is_marks forks_are marks_are seen calm unsettled =
       let jobs = mine_seats mv in
       let here = ok.at_rest.inside in
       let wide : length (mine mv).edges ≡ length (edges mp) = mine_edges mv in
@@ -237,9 +233,11 @@ module _ {A : Type 0} (b : bench_fields.Inside A) (d : Inside A) (is_bench : IsB
       let own_now : seat (learned_all mp (mine mv) (events_of m mj e)) mj ≡ kept d' =
       moved_seat mp mj e m (mine mv) (omega arith) ∙ (ap becomes ok.own ∙ (λ i. record { phase = sym phase i; fork_marks = sym forks_now i; bottle_marks = sym marks_now i })) in
       let seen_now : d'.seen.items ≡ set d.seen.items e y = seen ∙ ap (λ k. set d.seen.items k y) at in
-      desk_keeps d ok d' (events_of m mj e) (moves_uncounted mj mp e m) t (empty ∙ ok.empty) job own_now
-      (moved_edges mp mj e m (mine mv) (omega arith) ∙ ((λ i. set (ok.seen i) e (sym y_is i)) ∙ sym seen_now))
+      let edges_now : (learned_all mp (mine mv) (events_of m mj e)).edges ≡ d'.seen.items = moved_edges mp mj e m (mine mv) (omega arith) ∙ ((λ i. set (ok.seen i) e (sym y_is i)) ∙ sym seen_now) in
+      desk_keeps d ok d' (events_of m mj e) (moves_uncounted mj mp e m) t (empty ∙ ok.empty) job own_now edges_now
       (subst (AreOfPlan mp) (sym seen_now) (of_plan_set d ok e y own.is_edge fits))
+      (noted_but d ok (learned_all mp (mine mv) (events_of m mj e)) d' e own.is_edge own_now edges_now phase _ forks_now _ marks_now y seen_now (calm ∙ ap (λ k. set d.calm.items k false) at))
+      (not_settled d ok d' unsettled)
       (subst (λ (z : JobState). z.drinking ≢ Reaching) (sym phase) ok.rests)
 
 -- ---- a phase that is stored
@@ -339,8 +337,8 @@ module _ {A : Type 0} (b : bench_fields.Inside A) (d : Inside A) (is_bench : IsB
 
   -- the desk after it
   pub phase_kept : (what : PhaseEvent) (d' : Inside A) → Does sv (event_of what sj) d'.seat.me.0 → d'.seat.me.1 ≡ d.seat.me.1 → d'.job ≡ d.job → d'.counts ≡ counted what d.counts → d'.phase ≡ phase_after what d.phase
-      → d'.fork_marks.items ≡ (if clears what then replicate (length d.fork_marks.items) false else d.fork_marks.items) → d'.bottle_marks.items ≡ d.bottle_marks.items → d'.seen.items ≡ d.seen.items → IsDesk d'
-  phase_kept what d' t empty job counts phase forks_are marks_are seen =
+      → d'.fork_marks.items ≡ (if clears what then replicate (length d.fork_marks.items) false else d.fork_marks.items) → d'.bottle_marks.items ≡ d.bottle_marks.items → d'.seen.items ≡ d.seen.items → d'.calm.items ≡ replicate (length d.calm.items) false → d'.settled ≡ false → IsDesk d'
+  phase_kept what d' t empty job counts phase forks_are marks_are seen calm unsettled =
       let jobs = mine_seats sv in
       let here = ok.at_rest.inside in
       let by = by_job what sj in
@@ -348,5 +346,7 @@ module _ {A : Type 0} (b : bench_fields.Inside A) (d : Inside A) (is_bench : IsB
       subst (λ i. i < length (mine sv).seats → seat (learned sp (mine sv) (event_of what sj)) i ≡ seat_after sp (seat (mine sv) i) (event_of what sj)) by (learned_seat sp (mine sv) (event_of what sj)) (omega arith)
       ∙ (ap (λ (x : Seat). seat_after sp x (event_of what sj)) ok.own ∙ (seat_stored what sp sj (kept d) ∙ (λ i. record { phase = sym phase i; fork_marks = sym forks_are i; bottle_marks = sym marks_are i }))) in
       desk_grows d ok d' (event_of what sj ∷ []) t (empty ∙ ok.empty) job own_now (learned_phase what sp sj (mine sv) ∙ (ok.seen ∙ sym seen)) (subst (AreOfPlan sp) (sym seen) ok.of_plan)
+      (none_still sp (learned_all sp (mine sv) (event_of what sj ∷ [])) sj (length d.calm.items) d'.calm.items calm ok.calm.wide)
+      (not_settled d ok d' unsettled)
       (subst (λ (z : JobState). z.drinking ≢ Reaching) (sym phase) (still_rests what d.phase ok.rests))
       (counts_grow what sj (hand_in sv).deeds ∙ (ap (counted what) ok.counts ∙ sym counts))

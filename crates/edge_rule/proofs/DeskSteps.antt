@@ -1,5 +1,6 @@
 -- What a call on a desk owes and gives, by what the step told.
-use Rattle.std.proofs.Common.{◌≡◌, ◌≢◌, ℕ, ◌/◌, ◌<◌, ◌≤◌, Bool, List, [], ◌∷◌, ◌++◌, length, get_or, set, refl, sym, ap, ◌∙◌, subst, inl, inr, arith, get_or-set_same, get_or-set_other}
+use Rattle.std.proofs.Common.{◌≡◌, ◌≢◌, ℕ, zero, suc, ◌/◌, ◌<◌, ◌≤◌, Bool, true, false, List, [], ◌∷◌, ◌++◌, length, get_or, set, refl, sym, ap, ◌∙◌, subst, inl, inr, arith, get_or-set_same, get_or-set_other}
+use Rattle.std.proofs.lemmas.List.{set-get_or}
 use Rattle.std.proofs.lemmas.Bool.{cases_eq}
 use mathlib.Core.Option.{none}
 use Rattle.atomic_table.specs.Table.{Me, step, Allows}
@@ -11,7 +12,7 @@ use Rattle.legal_steps.specs.declared.phase.JobState.{JobState}
 use Rattle.legal_steps.specs.declared.event.Event.{Event}
 use Rattle.legal_steps.specs.declared.event.Event.TheVariants.{Look}
 use Rattle.legal_steps.specs.declared.phase.Drinking.TheVariants.{Reaching}
-use Rattle.legal_steps.specs.State.{Seat, State, IsOwn, seat, no_edge, end_of, bottles_at}
+use Rattle.legal_steps.specs.State.{Seat, State, IsOwn, seat, edge, no_edge, end_of, bottles_at}
 use Rattle.legal_steps.specs.Legal.{fork_mark_seen}
 use Rattle.legal_steps.specs.Opening.{the_opening}
 use Rattle.legal_steps.specs.Fitting.{IsSeatOf}
@@ -33,11 +34,21 @@ use Rattle.one_history.specs.Grow.{hand_or, hand_in, rest_hands, adding, IsLed, 
 use Rattle.edge_rule.specs.DeskView.{DeskView, BenchView, Owns, Adds}
 use Rattle.edge_rule.specs.DeskInside.{seat_view, view_of, kept, fixed, AreOfPlan, AtRest, IsDesk}
 use Rattle.edge_rule.specs.BenchInside.{bench_of, IsBench}
+use Rattle.edge_rule.specs.CalmEdges.{IsStill, AreStill}
+use Rattle.edge_rule.proofs.StillEdges.{same_at, stay_still, but_one, stays_settled}
+use Rattle.turns.specs.Acts.{IsSettled}
+use Rattle.std.proofs.lemmas.Bool.{false≢true}
+use Rattle.turns.specs.Due.{but_position}
 use Rattle.locality.specs.Changes.{seat_after}
 use Rattle.locality.proofs.Frame.{learned_seat}
 use Rattle.locality.proofs.Runs.{learned_all-append, learned_all_seats, learned_all_edges, opening_seats, opening_edges, own_known}
 use Rattle.locality.proofs.Histories.{history_fits}
 use Rattle.one_history.proofs.Looking.{looks}
+
+pub got : {A : Type 0} (l : List A) (i : ℕ) (a dflt : A) → i < length l → a ≡ get_or l i a → a ≡ get_or l i dflt
+got [] i a dflt h e = absurd (omega arith)
+got (x ∷ l) zero a dflt h e = e
+got (x ∷ l) (suc i) a dflt h e = got l i a dflt (omega arith) e
 
 -- ---- a view at rest
 
@@ -101,10 +112,20 @@ module _ {A : Type 0} (d : Inside A) (ok : IsDesk d) where
   pub inside_seen : (e n : ℕ) → n ≡ e → e < length (edges p) → n < length d.seen.items
   inside_seen e n is inside = let h = desk_edges in omega arith
 
+  pub inside_calm : (e n : ℕ) → n ≡ e → e < length (edges p) → n < length d.calm.items
+  inside_calm e n is inside = let h = ok.calm.wide in omega arith
+
+  -- the word last seen on an edge, and whether it is noted, as they are read from the fields
+  pub last_seen : (e n : ℕ) (x : EdgeState) → n ≡ e → e < length (edges p) → x ≡ get_or d.seen.items n x → x ≡ edge (mine v) e
+  last_seen e n x at inside is = got d.seen.items e x no_edge (let l = desk_edges in omega arith) (is ∙ ap (λ k. get_or d.seen.items k x) at) ∙ ap (λ (l : List EdgeState). get_or l e no_edge) (sym ok.seen)
+
+  pub noted_still : (e n : ℕ) (noted : Bool) → n ≡ e → e < length (edges p) → noted ≡ get_or d.calm.items n noted → noted ≡ true → IsStill p (mine v) j e
+  noted_still e n noted at inside is true_is = ok.calm.each e (sym (got d.calm.items e noted false (let l = ok.calm.wide in omega arith) (is ∙ ap (λ k. get_or d.calm.items k noted) at)) ∙ true_is)
+
   -- a desk after a group of events, where its fields follow
   pub desk_grows : (d' : Inside A) (g : List Event) → Grows v g d'.seat.me.0 → d'.seat.me.1 ≡ [] → d'.job ≡ d.job
-      → seat (learned_all p (mine v) g) j ≡ kept d' → (learned_all p (mine v) g).edges ≡ d'.seen.items → AreOfPlan p d'.seen.items → d'.phase.drinking ≢ Reaching → counts_of j ((hand_in v).deeds ++ g) ≡ d'.counts → IsDesk d'
-  desk_grows d' g t empty job own seen of_plan rests counts = let x = hand_grown v d'.seat.me.0 g t.hands in let m = mine_grown v d'.seat.me.0 g t in record {
+      → seat (learned_all p (mine v) g) j ≡ kept d' → (learned_all p (mine v) g).edges ≡ d'.seen.items → AreOfPlan p d'.seen.items → AreStill p (learned_all p (mine v) g) j d'.calm.items → (d'.settled ≡ true → IsSettled p (learned_all p (mine v) g) j) → d'.phase.drinking ≢ Reaching → counts_of j ((hand_in v).deeds ++ g) ≡ d'.counts → IsDesk d'
+  desk_grows d' g t empty job own seen of_plan calm settled rests counts = let x = hand_grown v d'.seat.me.0 g t.hands in let m = mine_grown v d'.seat.me.0 g t in record {
     at_rest = rest_grown v d'.seat.me.0 g ok.at_rest t;
     empty = empty;
     job = ap (λ (z : Hand). z.job) x ∙ (ok.job ∙ sym job);
@@ -112,14 +133,30 @@ module _ {A : Type 0} (d : Inside A) (ok : IsDesk d) where
     own = (λ i. seat (m i) (x i).job) ∙ own;
     seen = ap (λ (z : State). z.edges) m ∙ seen;
     of_plan = subst (λ (z : Hand). AreOfPlan z.plan d'.seen.items) (sym x) of_plan;
+    calm = subst (λ (z : Hand × State). AreStill z.0.plan z.1 z.0.job d'.calm.items) (λ i. (sym x i, sym m i)) calm;
+    settled = λ is. subst (λ (z : Hand × State). IsSettled z.0.plan z.1 z.0.job) (λ i. (sym x i, sym m i)) (settled is);
     rests = rests;
   }
 
   -- a desk after events that aren't counted
   pub desk_keeps : (d' : Inside A) (g : List Event) → Each (IsUncounted j) g → Grows v g d'.seat.me.0 → d'.seat.me.1 ≡ [] → fixed d' ≡ fixed d
-      → seat (learned_all p (mine v) g) j ≡ kept d' → (learned_all p (mine v) g).edges ≡ d'.seen.items → AreOfPlan p d'.seen.items → d'.phase.drinking ≢ Reaching → IsDesk d'
-  desk_keeps d' g uncounted t empty same own seen of_plan rests = desk_grows d' g t empty (ap (λ (z : ℕ × Counts). z.0) same) own seen of_plan rests
+      → seat (learned_all p (mine v) g) j ≡ kept d' → (learned_all p (mine v) g).edges ≡ d'.seen.items → AreOfPlan p d'.seen.items → AreStill p (learned_all p (mine v) g) j d'.calm.items → (d'.settled ≡ true → IsSettled p (learned_all p (mine v) g) j) → d'.phase.drinking ≢ Reaching → IsDesk d'
+  desk_keeps d' g uncounted t empty same own seen of_plan calm settled rests = desk_grows d' g t empty (ap (λ (z : ℕ × Counts). z.0) same) own seen of_plan calm settled rests
       (counts_stay j (hand_in v).deeds g uncounted ∙ (ok.counts ∙ sym (ap (λ (z : ℕ × Counts). z.1) same)))
+
+  -- where the desk isn't noted as settled, nothing is claimed
+  pub not_settled : (d' : Inside A) → d'.settled ≡ false → {s : State} → d'.settled ≡ true → IsSettled p s j
+  not_settled d' unsettled is = absurd (false≢true (sym unsettled ∙ is))
+
+  -- the notes but that of one edge, where the desk else is as before
+  pub noted_but : (t : State) (d' : Inside A) (e : ℕ) → e < length (edges p) → seat t j ≡ kept d' → t.edges ≡ d'.seen.items → d'.phase ≡ d.phase → (fork : Bool) → d'.fork_marks.items ≡ set d.fork_marks.items e fork
+      → (marks : ℕ) → d'.bottle_marks.items ≡ set d.bottle_marks.items e marks → (x : EdgeState) → d'.seen.items ≡ set d.seen.items e x → d'.calm.items ≡ set d.calm.items e false → AreStill p t j d'.calm.items
+  noted_but t d' e inside own edges phase fork forks marks bottles x seen calm = subst (AreStill p t j) (sym calm)
+      (but_one p (mine v) t j e d.calm.items inside (λ f other. same_at (mine v) t j f (kept d) (kept d') d.seen.items d'.seen.items ok.own own ok.seen edges
+      (ap (λ l. get_or l f no_edge) seen ∙ get_or-set_other d.seen.items e f x no_edge other)
+      (ap but_position phase)
+      (ap (λ l. get_or l f false) forks ∙ get_or-set_other d.fork_marks.items e f fork false other)
+      (ap (λ l. get_or l f 0) bottles ∙ get_or-set_other d.bottle_marks.items e f marks 0 other)) ok.calm)
 
   -- one edge is seen
   pub of_plan_set : (e : ℕ) (x : EdgeState) → e < length (edges p) → IsOfBottles (length (bottles p e)) x → AreOfPlan p (set d.seen.items e x)
@@ -167,6 +204,9 @@ module _ {A : Type 0} (b : bench_fields.Inside A) (d : Inside A) (is_bench : IsB
       (let inside = own.is_edge in framed (edge_place e) (λ n. n) (looked (step slots (edge_place e) 0 0 none) d.seat.me) (omega arith)
       (looks mine_plan slots d.seat.id d.seat.me.0 d.seat.me.1 (led d.seat.me.0 ok.at_rest.mine) ok.at_rest.inside e own))
 
+  pub seen_fits_plan : (e : ℕ) (x : EdgeState) → e < length (edges mine_plan) → x ≡ edge (mine d.seat.me.0) e → IsOfBottles (length (bottles b.plan.now e)) x
+  seen_fits_plan e x inside is = subst (λ (z : LabPlan × EdgeState). IsOfBottles (length (bottles z.0 e)) z.1) (λ i. (sym plan_known i, (ap (λ (l : List EdgeState). get_or l e no_edge) (sym ok.seen) ∙ sym is) i)) (ok.of_plan e inside)
+
 -- what a call gives: y is what the caller saw before
 pub seat_adds : {k : Clock} (s s' : TableSeat LogView View) (y : DeskView) (g : DeskView → List Event) → seat_view k s ≡ y → Grows s.me.0 (g (seat_view k s)) s'.me.0 → s'.table_id ≡ s.table_id → Adds y (g y) (seat_view k s')
 seat_adds {k} s s' y g f t table = let v : View = s.me.0 in let w : View = s'.me.0 in let x = hand_grown v w (g (seat_view k s)) t.hands in
@@ -184,7 +224,7 @@ seat_adds {k} s s' y g f t table = let v : View = s.me.0 in let w : View = s'.me
 
 -- ---- look
 
-module _ {A : Type 0} (d d' : Inside A) (ok : IsDesk d) (e : ℕ) (x : EdgeState) (fork : Bool) (marks : ℕ) (q : LabPlan) where
+module _ {A : Type 0} (d d' : Inside A) (ok : IsDesk d) (e : ℕ) (x : EdgeState) where
   abbrev lv : View
   lv = d.seat.me.0
 
@@ -195,10 +235,10 @@ module _ {A : Type 0} (d d' : Inside A) (ok : IsDesk d) (e : ℕ) (x : EdgeState
   lj = (hand_in lv).job
 
   -- the desk after a look
-  pub look_kept : e < length (edges lp) → q ≡ lp → IsOfBottles (length (bottles q e)) x → Does lv (Look lj e x) d'.seat.me.0 → d'.seat.me.1 ≡ d.seat.me.1 → fixed d' ≡ fixed d → d'.phase ≡ d.phase
+  pub look_kept : (fork : Bool) (marks : ℕ) (q : LabPlan) → e < length (edges lp) → q ≡ lp → IsOfBottles (length (bottles q e)) x → Does lv (Look lj e x) d'.seat.me.0 → d'.seat.me.1 ≡ d.seat.me.1 → fixed d' ≡ fixed d → d'.phase ≡ d.phase
       → fork ≡ fork_mark_seen d.phase.dining (end_of q d.job e) x → marks ≡ bottles_at q e (end_of q d.job e) x
-      → d'.fork_marks.items ≡ set d.fork_marks.items e fork → d'.bottle_marks.items ≡ set d.bottle_marks.items e marks → d'.seen.items ≡ set d.seen.items e x → IsDesk d'
-  look_kept inside is_p fits t empty job phase is_fork is_marks forks bottle_marks seen =
+      → d'.fork_marks.items ≡ set d.fork_marks.items e fork → d'.bottle_marks.items ≡ set d.bottle_marks.items e marks → d'.seen.items ≡ set d.seen.items e x → d'.calm.items ≡ set d.calm.items e false → d'.settled ≡ false → IsDesk d'
+  look_kept fork marks q inside is_p fits t empty job phase is_fork is_marks forks bottle_marks seen calm unsettled =
       let event : Event = Look lj e x in
       let jobs = mine_seats lv in
       let here = ok.at_rest.inside in
@@ -207,9 +247,33 @@ module _ {A : Type 0} (d d' : Inside A) (ok : IsDesk d) (e : ℕ) (x : EdgeState
       let own : seat (learned_all lp (mine lv) (event ∷ [])) lj ≡ kept d' =
       learned_seat lp (mine lv) event (omega arith) ∙ (ap (λ (y : Seat). seat_after lp y event) ok.own
       ∙ (λ i. record { phase = sym phase i; fork_marks = (ap (set d.fork_marks.items e) (sym fork_is) ∙ sym forks) i; bottle_marks = (ap (set d.bottle_marks.items e) (sym marks_is) ∙ sym bottle_marks) i })) in
-      desk_keeps d ok d' (event ∷ []) ((refl, refl, refl), tt) t (empty ∙ ok.empty) job own (ap (λ (l : List EdgeState). set l e x) ok.seen ∙ sym seen)
+      let edges_now = ap (λ (l : List EdgeState). set l e x) ok.seen ∙ sym seen in
+      desk_keeps d ok d' (event ∷ []) ((refl, refl, refl), tt) t (empty ∙ ok.empty) job own edges_now
       (subst (AreOfPlan lp) (sym seen) (of_plan_set d ok e x inside (subst (λ (z : LabPlan). IsOfBottles (length (bottles z e)) x) is_p fits)))
+      (noted_but d ok (learned_all lp (mine lv) (event ∷ [])) d' e inside own edges_now phase fork forks marks bottle_marks x seen calm)
+      (not_settled d ok d' unsettled)
       (subst (λ (z : JobState). z.drinking ≢ Reaching) (sym phase) ok.rests)
+
+  -- a look that sees again what a still edge showed
+  pub look_still : e < length (edges lp) → IsStill lp (mine lv) lj e → x ≡ edge (mine lv) e → Does lv (Look lj e x) d'.seat.me.0 → d'.seat.me.1 ≡ d.seat.me.1 → fixed d' ≡ fixed d → kept d' ≡ kept d → d'.seen.items ≡ d.seen.items → d'.calm.items ≡ d.calm.items → d'.settled ≡ d.settled → IsDesk d'
+  look_still inside still is t empty job same seen calm settled =
+      let event : Event = Look lj e x in
+      let jobs = mine_seats lv in
+      let here = ok.at_rest.inside in
+      let u : State = learned_all lp (mine lv) (event ∷ []) in
+      let own_is : (seat (mine lv) lj).phase ≡ d.phase = ap (λ (y : Seat). y.phase) ok.own in
+      let fork_is : fork_mark_seen d.phase.dining (end_of lp lj e) x ≡ get_or d.fork_marks.items e false =
+      (λ i. fork_mark_seen (sym own_is i).dining (end_of lp lj e) (is i)) ∙ (sym still.fork ∙ ap (λ (y : Seat). get_or y.fork_marks e false) ok.own) in
+      let marks_are : bottles_at lp e (end_of lp lj e) x ≡ get_or d.bottle_marks.items e 0 = ap (bottles_at lp e (end_of lp lj e)) is ∙ (sym still.bottles ∙ ap (λ (y : Seat). get_or y.bottle_marks e 0) ok.own) in
+      let own : seat u lj ≡ kept d' = learned_seat lp (mine lv) event (omega arith) ∙ (ap (λ (y : Seat). seat_after lp y event) ok.own
+      ∙ ((λ i. record { phase = d.phase; fork_marks = (ap (set d.fork_marks.items e) fork_is ∙ set-get_or d.fork_marks.items e false) i; bottle_marks = (ap (set d.bottle_marks.items e) marks_are ∙ set-get_or d.bottle_marks.items e 0) i }) ∙ sym same)) in
+      let edges_now : u.edges ≡ d'.seen.items = (ap (set (mine lv).edges e) is ∙ set-get_or (mine lv).edges e no_edge) ∙ (ok.seen ∙ sym seen) in
+      desk_keeps d ok d' (event ∷ []) ((refl, refl, refl), tt) t (empty ∙ ok.empty) job own edges_now
+      (subst (AreOfPlan lp) (sym seen) ok.of_plan)
+      (subst (AreStill lp u lj) (sym calm) (stay_still lp (mine lv) u lj d.calm.items (λ f. same_at (mine lv) u lj f (kept d) (kept d') d.seen.items d'.seen.items ok.own own ok.seen edges_now
+      (ap (λ l. get_or l f no_edge) seen) (ap (λ (y : Seat). but_position y.phase) same) (ap (λ (y : Seat). get_or y.fork_marks f false) same) (ap (λ (y : Seat). get_or y.bottle_marks f 0) same)) ok.calm))
+      (λ set. stays_settled lp (mine lv) u lj (own ∙ (same ∙ sym ok.own)) (ok.settled (sym settled ∙ set)))
+      (subst (λ (z : JobState). z.drinking ≢ Reaching) (sym (ap (λ (y : Seat). y.phase) same)) ok.rests)
 
 -- what a look tells, of the word that was unpacked
 module _ {A : Type 0} (b : bench_fields.Inside A) (d : Inside A) (is_bench : IsBench b) (ok : IsDesk d) (owns : Owns (bench_of b) (view_of d)) where

@@ -1,5 +1,6 @@
 pub mod WordFields
 pub mod CountsKept
+pub mod StillEdges
 pub mod DeskSteps
 pub mod DeskMoves
 pub mod Commanding
@@ -12,3 +13,4 @@ pub mod Rosters
 pub mod RoomLemmas
 pub mod OpenedDesks
 pub mod Knowledge
+pub mod LookedEdges

@@ -1,5 +1,5 @@
 -- A bench as it opens, and its desks.
-use Rattle.std.proofs.Common.{◌≡◌, ℕ, zero, suc, ◌+◌, ◌^◌, ◌<◌, ◌≤◌, List, [], ◌∷◌, ◌++◌, length, map, get_or, refl, sym, ap, ◌∙◌, subst, inl, inr, arith, length-append}
+use Rattle.std.proofs.Common.{◌≡◌, ℕ, zero, suc, ◌+◌, ◌^◌, ◌<◌, ◌≤◌, List, [], ◌∷◌, ◌++◌, length, map, get_or, false, replicate, refl, sym, ap, ◌∙◌, subst, inl, inr, arith, length-append}
 use Rattle.std.specs.List.{range_with_len}
 use Rattle.std.proofs.lemmas.Bool.{cases_lt}
 use Rattle.std.proofs.lemmas.List.{ext_get_or, get_or_append_left, get_or-append-add, get_or-replicate}
@@ -22,6 +22,8 @@ use Rattle.one_history.specs.Rule.{hand, phase_place, Spelled}
 use Rattle.one_history.specs.Grow.{hand_in, mine}
 use Rattle.edge_rule.specs.Openings.{opening_edges, AreWritten}
 use Rattle.edge_rule.specs.Counting.{counts_of}
+use Rattle.edge_rule.proofs.StillEdges.{none_still}
+use Rattle.std.proofs.lemmas.Bool.{false≢true}
 use Rattle.edge_rule.specs.DeskInside.{kept, AreOfPlan, AtRest, IsDesk}
 use Rattle.locality.proofs.Runs.{opening_edges as opening_wide}
 
@@ -77,8 +79,8 @@ fresh_view plan j = record { hands = hand plan j [] ∷ []; front = []; told = [
 fresh_rests : (plan : LabPlan) (j : ℕ) → j < length plan.jobs → AtRest (fresh_view plan j)
 fresh_rests plan j job = record { mine = refl; inside = job; none_told = refl; legal = tt; whole = refl }
 
-pub fresh_is_desk : {A : Type 0} (d : Inside A) (plan : LabPlan) (j : ℕ) → d.seat.me ≡ (fresh_view plan j, []) → j < length plan.jobs → d.job ≡ j → d.counts ≡ counts_of j [] → kept d ≡ idle_seat plan → d.seen.items ≡ opening_edges plan (length (edges plan)) → IsDesk d
-fresh_is_desk d plan j me job is_job counts own seen =
+pub fresh_is_desk : {A : Type 0} (d : Inside A) (plan : LabPlan) (j : ℕ) → d.seat.me ≡ (fresh_view plan j, []) → j < length plan.jobs → d.job ≡ j → d.counts ≡ counts_of j [] → kept d ≡ idle_seat plan → d.seen.items ≡ opening_edges plan (length (edges plan)) → d.calm.items ≡ replicate (length (edges plan)) false → d.settled ≡ false → IsDesk d
+fresh_is_desk d plan j me job is_job counts own seen calm unsettled =
     let v : d.seat.me.0 ≡ fresh_view plan j = ap (λ m. m.0) me in
     record {
       at_rest = subst AtRest (sym v) (fresh_rests plan j job);
@@ -89,6 +91,8 @@ fresh_is_desk d plan j me job is_job counts own seen =
       seen = ap (λ (z : View). (mine z).edges) v ∙ (opening_is plan ∙ sym seen);
       of_plan = subst (λ (z : View). AreOfPlan (hand_in z).plan d.seen.items) (sym v)
           (subst (AreOfPlan plan) (sym seen) (λ e l. subst (IsOfBottles (length (bottles plan e))) (sym (edges_at plan (length (edges plan)) e l)) (opening_fits (length (bottles plan e)))));
+      calm = none_still (hand_in d.seat.me.0).plan (mine d.seat.me.0) (hand_in d.seat.me.0).job (length (edges plan)) d.calm.items calm (ap (λ (z : View). length (edges (hand_in z).plan)) (sym v));
+      settled = λ is. absurd (false≢true (sym unsettled ∙ is));
       rests = let idle : d.phase.drinking ≡ Tranquil = ap (λ (x : Seat). x.phase.drinking) own in λ e. (let both : Tranquil ≡ Reaching = sym idle ∙ e in cc);
     }
 

@@ -1,5 +1,5 @@
 -- What is true of the fields of a desk.
-use Rattle.std.specs.Prelude.{◌≡◌, ◌≢◌, ℕ, ◌<◌, List, [], length, slice_index_or}
+use Rattle.std.specs.Prelude.{◌≡◌, ◌≢◌, ℕ, ◌<◌, true, List, [], length, slice_index_or}
 use Rattle.atomic_table.specs.declared.shared.Seat.{Seat as TableSeat}
 use Rattle.lab_plan.specs.LabPlan.{LabPlan, edges, bottles}
 use Rattle.instrument_log.specs.InstrumentLog.{LogView}
@@ -14,6 +14,8 @@ use Rattle.edge_rule.specs.Counting.{counts_of}
 use Rattle.locality.specs.History.{IsHistory, events_by}
 use Rattle.one_history.specs.Grow.{hand_in, IsMine, mine}
 use Rattle.edge_rule.specs.DeskView.{DeskView}
+use Rattle.edge_rule.specs.CalmEdges.{AreStill}
+use Rattle.turns.specs.Acts.{IsSettled}
 use Rattle.edge_rule.specs.declared.desk.Desk.TheInside.{Inside}
 
 abbrev pub seat_view : Clock → TableSeat LogView View → DeskView
@@ -50,4 +52,6 @@ pub record IsDesk {A : Type 0} (d : Inside A) : Type 0 where
   pub own : seat (mine d.seat.me.0) (hand_in d.seat.me.0).job ≡ kept d
   pub seen : (mine d.seat.me.0).edges ≡ d.seen.items
   pub of_plan : AreOfPlan (hand_in d.seat.me.0).plan d.seen.items
+  pub calm : AreStill (hand_in d.seat.me.0).plan (mine d.seat.me.0) (hand_in d.seat.me.0).job d.calm.items
+  pub settled : d.settled ≡ true → IsSettled (hand_in d.seat.me.0).plan (mine d.seat.me.0) (hand_in d.seat.me.0).job
   pub rests : d.phase.drinking ≢ Reaching

@@ -1,5 +1,6 @@
 pub mod Counting
 pub mod DeskView
+pub mod CalmEdges
 pub mod DeskInside
 pub mod BenchInside
 pub mod Filling

@@ -104,5 +104,6 @@ pub fn command<A: Allocator>(bench: &Bench<A>, desk: &mut Desk<A>) -> Entry
         .shared
         .store::<Acts>(&mut desk.seat, place, second);
     desk.phase = acted;
+    desk.settled = false;
     entry
 }

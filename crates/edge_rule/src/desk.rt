@@ -10,7 +10,8 @@ use one_history::board::View;
 use std::alloc::{Allocator, Global};
 use std::marker::Model;
 
-/// One job's seat, with what the job knows: its phase, its marks, and the word last seen on each edge.
+/// One job's seat, with what the job knows: its phase, its marks, the word last seen on each edge, whether the edge was
+/// noted as calm by it, and whether no phase act was due.
 #[derive(Drop)]
 pub struct Desk<A: Allocator = Global> {
     pub(crate) seat: Seat<InstrumentLog<A>, View>,
@@ -19,6 +20,8 @@ pub struct Desk<A: Allocator = Global> {
     pub(crate) fork_marks: Vec<bool, A>,
     pub(crate) bottle_marks: Vec<u32, A>,
     pub(crate) seen: Vec<EdgeWord, A>,
+    pub(crate) calm: Vec<bool, A>,
+    pub(crate) settled: bool,
     pub(crate) clock: Clock,
     pub(crate) counts: Counts,
 }

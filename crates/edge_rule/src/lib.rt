@@ -3,6 +3,7 @@
 
 mod bench;
 mod calls;
+mod calm;
 mod clock;
 mod closed;
 mod closing;
@@ -12,7 +13,6 @@ mod counts;
 mod desk;
 mod meeting;
 mod opening;
-mod pairs;
 mod readers;
 mod refusals;
 mod rooms;
@@ -31,7 +31,6 @@ pub use counts::Counts;
 pub use desk::Desk;
 pub use meeting::{glance, meet};
 pub use one_history::PhaseEvent;
-pub use pairs::look_both;
 pub use readers::unpacked_edge;
 pub use refusals::{CloseCause, CloseRefused, OpenError};
 pub use steps::{exchange, look, store_phase};

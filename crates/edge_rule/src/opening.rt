@@ -68,6 +68,7 @@ fn next_desk<A: Allocator + Copy>(
     let fork_marks = Vec::from_elem(alloc, false, count)?;
     let bottle_marks = Vec::from_elem(alloc, 0u32, count)?;
     let seen = fresh_edges(alloc, plan)?;
+    let calm = Vec::from_elem(alloc, false, count)?;
     let phase = JobState {
         dining: Dining::Thinking,
         drinking: Drinking::Tranquil,
@@ -83,6 +84,8 @@ fn next_desk<A: Allocator + Copy>(
         fork_marks,
         bottle_marks,
         seen,
+        calm,
+        settled: false,
         clock: Clock {
             turns: 0,
             waited: 0,

@@ -1,5 +1,5 @@
 //! Words as they are read and written.
-ghost use Rattle.std.specs.Prelude.{◌≡◌, ◌<◌, ◌≤◌, ◌^◌, length, slice_index_or, bit_xor, bit_and};
+ghost use Rattle.std.specs.Prelude.{◌≡◌, ◌<◌, ◌≤◌, ◌^◌, length, slice_index_or, bit_xor, bit_and, IsTrue, ◌↔◌, true};
 ghost use Rattle.lab_plan.specs.LabPlan.{edges, bottles};
 ghost use Rattle.legal_steps.specs.declared.edge_state.EdgeState.{EdgeState};
 ghost use Rattle.legal_steps.specs.State.{IsOwn, end_of, bottles_at};
@@ -55,6 +55,13 @@ pub(crate) fn state_of(word: EdgeWord) -> EdgeState
         bottles: ((bits >> 4) % 0x1000_0000) as u32,
         bottle_tokens: (bits >> 32) as u32,
     }
+}
+
+// Whether the edge was noted as calm, and the word is the one last seen.
+pub(crate) fn is_seen_again(noted: bool, last: EdgeWord, word: u64) -> bool
+    ensures { IsTrue result ↔ ((noted ≡ true) × (word_of last ≡ word)) }
+{
+    noted && last.pack() == word
 }
 
 // What a look sets: the mark of the fork, and those of the bottles.

@@ -1,7 +1,7 @@
 //! The phase act of a turn.
 ghost use Rattle.std.specs.Prelude.{◌≡◌, ◌∷◌, []};
 ghost use Rattle.edge_rule.specs.DeskView.{Owns, known};
-ghost use Rattle.turns.specs.Acts.{AreActs};
+ghost use Rattle.turns.specs.Acts.{AreActs, IsSettled};
 ghost use Rattle.session_layer.specs.ActsDue.{events_due, MayDue};
 ghost use Rattle.session_layer.specs.Turn.{IsActed};
 
@@ -19,8 +19,8 @@ pub enum Due {
     Nothing,
 }
 
-/// The first phase act that is legal, where a session is given up only when its patience is used up by this count.
-pub fn phase_due<A: Allocator>(bench: &Bench<A>, desk: &Desk<A>, waited: u32) -> Due
+// The first phase act that is legal, as the tests of all of them say.
+fn first_due<A: Allocator>(bench: &Bench<A>, desk: &Desk<A>, waited: u32) -> Due
     requires own { Owns bench.now desk.now }
     ensures first { AreActs desk.now.plan (known desk.now) desk.now.job waited (events_due result desk.now.job) }
     ensures may { MayDue desk.now.plan (known desk.now) result desk.now.job }
@@ -55,7 +55,34 @@ pub fn phase_due<A: Allocator>(bench: &Bench<A>, desk: &Desk<A>, waited: u32) ->
     Due::Nothing
 }
 
-/// Does the phase act that is due, and answers how many it did.
+// What is due where no phase act is legal but giving the session up.
+fn settled_due<A: Allocator>(bench: &Bench<A>, desk: &Desk<A>, waited: u32) -> Due
+    requires own { Owns bench.now desk.now }
+    requires settled { IsSettled desk.now.plan (known desk.now) desk.now.job }
+    ensures first { AreActs desk.now.plan (known desk.now) desk.now.job waited (events_due result desk.now.job) }
+    ensures may { MayDue desk.now.plan (known desk.now) result desk.now.job }
+{
+    if withdraws(bench, desk, waited) {
+        Due::Store(PhaseEvent::Withdraw)
+    } else {
+        Due::Nothing
+    }
+}
+
+/// The first phase act that is legal, where a session is given up only when its patience is used up by this count.
+pub fn phase_due<A: Allocator>(bench: &Bench<A>, desk: &Desk<A>, waited: u32) -> Due
+    requires own { Owns bench.now desk.now }
+    ensures first { AreActs desk.now.plan (known desk.now) desk.now.job waited (events_due result desk.now.job) }
+    ensures may { MayDue desk.now.plan (known desk.now) result desk.now.job }
+{
+    if desk.is_settled() {
+        settled_due(bench, desk, waited)
+    } else {
+        first_due(bench, desk, waited)
+    }
+}
+
+/// Does the phase act that is due, and answers how many it did. Where none is due, the desk notes it.
 pub fn act<A: Allocator>(bench: &Bench<A>, desk: &mut Desk<A>, waited: u32) -> u32
     requires own { Owns bench.now desk.old }
     ensures { IsActed desk.old waited result desk.new }
@@ -69,6 +96,9 @@ pub fn act<A: Allocator>(bench: &Bench<A>, desk: &mut Desk<A>, waited: u32) -> u
             store_phase(bench, desk, what);
             1
         }
-        Due::Nothing => 0,
+        Due::Nothing => {
+            desk.note_settled();
+            0
+        }
     }
 }

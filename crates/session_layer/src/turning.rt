@@ -45,16 +45,21 @@ fn is_nothing(moves: EdgeMoves) -> bool
         && !moves.soil
 }
 
-/// Looks at the edge, and does in one exchange what is due by what it saw.
+/// Looks at the edge, and does in one exchange what is due by what it saw. Where nothing is due, the desk notes it, so that
+/// the next visit costs the look alone while neither the edge nor the own phase changes.
 pub fn visit<A: Allocator>(bench: &Bench<A>, desk: &mut Desk<A>, edge: EdgeNo) -> Visited
     requires own { Owns bench.now desk.old }
     requires edge { IsOwn desk.old.plan desk.old.job edge }
     ensures { IsVisited desk.old edge result desk.new }
 {
     let _ = look(bench, desk, edge);
+    if desk.is_calm(edge) {
+        return Visited::Calm;
+    }
     let forks = fork_moves(bench, desk, edge);
     let moves = with_bottles(bench, desk, edge, forks);
     if is_nothing(moves) {
+        desk.note_calm(edge);
         return Visited::Calm;
     }
     match exchange(bench, desk, edge, moves) {

@@ -15,3 +15,5 @@ mod seats;
 mod tables;
 #[cfg(test)]
 mod teams;
+#[cfg(test)]
+mod visits;

@@ -15,7 +15,7 @@ use edge_rule::{Bench, Desk, PhaseEvent, Stepped, command, glance, look, store_p
 use edge_word::EdgeMoves;
 use lab_plan::{EdgeNo, JobNo};
 use legal_steps::{Dining, Drinking};
-use session_layer::{Turned, all_retired, turn};
+use session_layer::{Due, Turned, Visited, act, all_retired, phase_due, turn, visit};
 use std::alloc::Allocator;
 use std::process::Abort;
 
@@ -30,6 +30,8 @@ pub(crate) enum Move {
     Dine,
     Serve,
     Want,
+    // a look, and one exchange of all that is due by it
+    Visit,
     // the moves that are due there, of which nothing is done
     Forks,
     Due,
@@ -47,6 +49,9 @@ pub(crate) enum Move {
 #[derive(Clone, Copy)]
 pub(crate) enum Call {
     On(EdgeNo, Move),
+    // the phase act of a turn whose session has waited so long, and what it would be
+    Act(u32),
+    ActDue(u32),
     Turn,
     AllRetired,
     Table,
@@ -64,6 +69,9 @@ pub(crate) enum Answer {
     NotLegal,
     Saw(u64),
     Moves(EdgeMoves),
+    Calm,
+    Lost,
+    Does(Due),
     Acted(u32),
     Moved,
     Idle,
@@ -94,6 +102,14 @@ fn of_turn(what: Turned) -> Answer {
         Turned::Acted(count) => Answer::Acted(count),
         Turned::Moved => Answer::Moved,
         Turned::Idle => Answer::Idle,
+    }
+}
+
+fn of_visit(what: Visited) -> Answer {
+    match what {
+        Visited::Done => Answer::Done,
+        Visited::Lost => Answer::Lost,
+        Visited::Calm => Answer::Calm,
     }
 }
 
@@ -140,6 +156,7 @@ fn layer_move<A: Allocator>(
         Move::Dine => of_try(dine(bench, desk, edge)),
         Move::Serve => of_try(serve_bottles(bench, desk, edge)),
         Move::Want => of_try(want_bottles(bench, desk, edge)),
+        Move::Visit => of_visit(visit(bench, desk, edge)),
         _ => Answer::NotLegal,
     }
 }
@@ -321,6 +338,8 @@ fn by_job<A: Allocator>(rt: &impl Abort, bench: &Bench<A>, desk: &mut Desk<A>, c
     ensures { Owns bench.now desk.new }
 {
     match call {
+        Call::Act(waited) => Answer::Acted(act(bench, desk, waited)),
+        Call::ActDue(waited) => Answer::Does(phase_due(bench, desk, waited)),
         Call::Turn => of_turn(turn(bench, desk)),
         Call::AllRetired => yes_or_no(all_retired(bench, desk)),
         Call::Table => of_table(table(bench, desk)),

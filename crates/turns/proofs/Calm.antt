@@ -13,7 +13,7 @@ use Rattle.legal_steps.specs.State.{State, Has, IsDrinking, IsInSession, drinkin
 use Rattle.legal_steps.specs.declared.phase.JobState.{JobState}
 use Rattle.legal_steps.specs.declared.edge_state.EdgeState.{EdgeState}
 use Rattle.legal_steps.specs.Legal.{May, MayGiveBottle, MayAskBottle, IsBottleSet, Needs}
-use Rattle.turns.specs.Due.{after_if, fork_gone, bottles_gone, fork_asked_for, all_asked_for, IsCalm, IsGreatest}
+use Rattle.turns.specs.Due.{after_if, fork_gone, bottles_gone, fork_asked_for, all_asked_for, IsCalm, IsGreatest, but_position}
 use Rattle.turns.specs.Laws.{NothingDueIsCalm, CalmHasNothingDue, OneGroupIsDue, StaysCalm}
 use Rattle.turns.proofs.Sets.{has_none, empty_set, one_or_none}
 use Rattle.turns.proofs.ForkGuards.{both, untrue, GiveAt, AskAt, SoilAt}
@@ -100,7 +100,7 @@ one_group_is_due = λ plan s j e m r p q.
     let so : m.soil ≡ r.soil = same_test m.soil r.soil (May plan (all_asked_for plan s j e r) (Soil j e)) (subst (λ (t : State). (m.soil ≡ true) ↔ May plan t (Soil j e)) four p.forks.soil) q.forks.soil in
     λ i. record { give_fork = gf i; give_bottles = gb i; ask_fork = af i; ask_bottles = ab i; soil = so i }
 
-module _ (plan : LabPlan) (s t : State) (j e : ℕ) (is : edge t e ≡ edge s e) (ph : phase t j ≡ phase s j) where
+module _ (plan : LabPlan) (s t : State) (j e : ℕ) (is : edge t e ≡ edge s e) (ph : but_position (phase t j) ≡ but_position (phase s j)) where
   needs_there : (i : ℕ) → Needs plan s j i → Needs plan t j i
   needs_there i n = record {
     in_session = subst (λ (x : JobState). IsInSession x.drinking) (sym ph) n.in_session;

@@ -12,7 +12,7 @@ use Rattle.legal_steps.proofs.FitsWrites.{edge_other, seat_same}
 use Rattle.edge_word.specs.declared.moves.EdgeMoves.{EdgeMoves}
 use Rattle.edge_word.specs.Moves.{events_of, on}
 use Rattle.locality.specs.History.{learned, learned_all}
-use Rattle.turns.specs.Due.{IsCalm, is_nothing}
+use Rattle.turns.specs.Due.{IsCalm, is_nothing, but_position}
 use Rattle.turns.specs.Acts.{AreActs}
 use Rattle.turns.specs.Turn.{Visit, is_done, is_lost, count, once, visit_events, visits_events, AreVisits, IsTurnBy}
 use Rattle.turns.specs.Laws.{NothingDoneIsIdle, IdleTurnIsCalm}
@@ -99,7 +99,7 @@ module _ (plan : LabPlan) (j : ℕ) where
   calm_all s [] none due distinct e h = absurd h
   calm_all s (v ∷ vs) none due distinct e h = let t : State = learned plan s (look_of j v) in elim h [
     | inl is ↦ subst (λ n. IsCalm plan (learned_all plan t (map (λ (v : Visit). Look j v.edge v.saw) vs)) j n) is
-        (stays_calm plan t (learned_all plan t (map (λ (v : Visit). Look j v.edge v.saw) vs)) j v.edge (looks_edge t vs v.edge distinct.0) (looks_phase t vs) (nothing_due_is_calm plan t j v.edge v.moves due.0 none.0))
+        (stays_calm plan t (learned_all plan t (map (λ (v : Visit). Look j v.edge v.saw) vs)) j v.edge (looks_edge t vs v.edge distinct.0) (ap but_position (looks_phase t vs)) (nothing_due_is_calm plan t j v.edge v.moves due.0 none.0))
     | inr later ↦ calm_all t vs none.1 (subst (λ l. AreVisits plan j (learned_all plan s l) vs) (one_look j v none.0) due.1) distinct.1 e later
   ]
 

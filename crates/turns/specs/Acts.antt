@@ -34,6 +34,17 @@ abbrev pub AreFirst : LabPlan → State → ℕ → ℕ → List Event → List 
 AreFirst plan s j waited [] events = events ≡ []
 AreFirst plan s j waited (x ∷ later) events = (Counts plan s j waited x × (events ≡ whole_act x)) ⊎ (¬ Counts plan s j waited x × AreFirst plan s j waited later events)
 
+-- no phase act of the job is legal, but for giving the session up
+pub record IsSettled (plan : LabPlan) (s : State) (j : ℕ) : Type 0 where
+  pub no_quit : ¬ May plan s (Quit j)
+  pub no_reach : ¬ May plan s (Reach j)
+  pub no_drink : ¬ May plan s (Drink j)
+  pub no_leave : ¬ May plan s (Leave j)
+  pub no_sit : ¬ May plan s (Sit j)
+  pub no_thirst : ¬ May plan s (Thirst j)
+  pub no_hunger : ¬ May plan s (Hunger j)
+  pub no_retire : ¬ May plan s (Retire j)
+
 -- the events of the phase act that is due
 abbrev pub AreActs : LabPlan → State → ℕ → ℕ → List Event → Type 0
 AreActs plan s j waited events = AreFirst plan s j waited (order j) events

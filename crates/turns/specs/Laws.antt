@@ -8,7 +8,7 @@ use Rattle.legal_steps.specs.Run.{IsLegalFrom}
 use Rattle.edge_word.specs.declared.moves.EdgeMoves.{EdgeMoves}
 use Rattle.edge_word.specs.Moves.{events_of}
 use Rattle.locality.specs.History.{learned_all}
-use Rattle.turns.specs.Due.{AreDue, IsCalm, is_nothing, no_moves}
+use Rattle.turns.specs.Due.{AreDue, IsCalm, is_nothing, no_moves, but_position}
 use Rattle.turns.specs.Acts.{AreActs}
 use Rattle.turns.specs.Turn.{Visit, is_done, is_lost, count, once, IsTurnBy, IsIdleTurn}
 
@@ -30,9 +30,9 @@ NothingDueIsCalm = (plan : LabPlan) (s : State) (j e : ℕ) (m : EdgeMoves) → 
 abbrev pub CalmHasNothingDue : Type 0
 CalmHasNothingDue = (plan : LabPlan) (s : State) (j e : ℕ) → IsOwn plan j e → IsCalm plan s j e → AreDue plan s j e no_moves
 
--- calm is a matter of the own phase and of that edge alone
+-- calm is a matter of that edge and of the own phase alone, and of the phase only how the job dines and drinks, in which session
 abbrev pub StaysCalm : Type 0
-StaysCalm = (plan : LabPlan) (s t : State) (j e : ℕ) → edge t e ≡ edge s e → phase t j ≡ phase s j → IsCalm plan s j e → IsCalm plan t j e
+StaysCalm = (plan : LabPlan) (s t : State) (j e : ℕ) → edge t e ≡ edge s e → but_position (phase t j) ≡ but_position (phase s j) → IsCalm plan s j e → IsCalm plan t j e
 
 -- ---- which phase act is due
 

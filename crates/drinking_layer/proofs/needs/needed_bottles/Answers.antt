@@ -1,14 +1,20 @@
-use Rattle.std.proofs.Common.{◌+◌, ℕ, ◌∙◌, sym, subst, arith}
+use Rattle.std.proofs.Common.{length, sym, ◌∙◌}
 use Rattle.std.proofs.lemmas.Bool.{false≢true}
+use Rattle.std.proofs.lemmas.Nat.{pow_pos}
+use Rattle.lab_plan.specs.LabPlan.{bottles}
 use Rattle.legal_steps.specs.Legal.{instrument_of}
-use Rattle.drinking_layer.specs.Local.{NeedsIn}
-use Rattle.turns.proofs.Sets.{Grown, grown_in, grown_out}
+use Rattle.turns.proofs.Sets.{has_none}
+use Rattle.drinking_layer.proofs.Needed.{member_named}
 use Rattle.drinking_layer.proofs.needs.needed_bottles.Goals as goal
-use Rattle.drinking_layer.proofs.needs.needed_bottles.Goals.{then-needs_bottle, else-needs_bottle}
 
-pub loop-bottle-preserved : goal.loop-bottle-preserved
-loop-bottle-preserved g c = let P : ℕ → Type 0 = λ k. NeedsIn c.args.plan.now c.args.job c.args.phase (instrument_of c.args.plan.now c.args.edge k) in let n = c.loop-bottle.bottle in
-    elim c.if-needs_bottle.branch [
-      | then-needs_bottle w ↦ subst (λ z. Grown z (n + 1) P) (sym w.set-is) (grown_in c.loop-bottle.set n P (omega arith) c.loop-bottle.invariant (c.needs_bottle.ensures.0 w.if-needs_bottle.true))
-      | else-needs_bottle w ↦ subst (λ z. Grown z (n + 1) P) (sym w.set-is) (grown_out c.loop-bottle.set n P c.loop-bottle.invariant (λ p. false≢true (sym w.if-needs_bottle.false ∙ c.needs_bottle.ensures.1 p)))
-    ]
+pub returns-then-is_in_session-clause-just : goal.returns-then-is_in_session-clause-just
+returns-then-is_in_session-clause-just g c = λ k inside. let named = member_named _ _ (c.needs.ensures.needs (instrument_of c.args.plan.now c.args.edge k)) in let has = c.bottles_in.ensures.just k inside in (
+  (λ h. record { in_session = c.is_in_session.ensures.0 c.if-is_in_session.true; named = named.0 (has.0 h) }),
+  (λ n. has.1 (named.1 n.named)),
+)
+
+pub returns-else-is_in_session-clause-of_edge : goal.returns-else-is_in_session-clause-of_edge
+returns-else-is_in_session-clause-of_edge g c = pow_pos (length (bottles c.args.plan.now c.args.edge))
+
+pub returns-else-is_in_session-clause-just : goal.returns-else-is_in_session-clause-just
+returns-else-is_in_session-clause-just g c = λ k inside. ((λ h. absurd (has_none k h)), (λ n. absurd (false≢true (sym c.if-is_in_session.false ∙ c.is_in_session.ensures.1 n.in_session))))

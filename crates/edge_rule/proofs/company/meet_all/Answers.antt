@@ -33,4 +33,4 @@ returns g0 c = let is = split_first c.args.desks.now c.split_at_mut-front.result
     (e, (λ i. set (is.1 i) 0 e ++ h.same i), hears (get_or c.split_at_mut-front.result.0.now 0 c.index-front-0.result) back e (seat_adds c.first.inside.seat c.hear.new.me _ (λ _. []) c.first.view_is h.grows h.seat.0) h.starts h.wholes)
 
 pub invariant_of-first : goal.invariant_of-first
-invariant_of-first g0 c = let ok = c.first.invariant in let h = c.hear.ensures in desk_keeps c.first.inside ok _ [] tt h.grows h.seat.1 refl ok.own ok.seen ok.of_plan ok.rests
+invariant_of-first g0 c = let ok = c.first.invariant in let h = c.hear.ensures in desk_keeps c.first.inside ok _ [] tt h.grows h.seat.1 refl ok.own ok.seen ok.of_plan ok.calm ok.settled ok.rests

@@ -23,7 +23,7 @@ load-requires g0 c = let b = c.bench.inside in let d = c.desk.inside in let n = 
 pub invariant_of-desk : goal.invariant_of-desk
 invariant_of-desk g0 c = let ok = c.desk.invariant in let d = c.desk.inside in let n = c.news.inside in let j = c.join_seat.ensures in
     let grown = grows_by_news d.seat.me.0 n.seat.me.0 ok.at_rest.mine c.news.invariant.hands c.join_seat.new.seat.me.0 c.load.new.seat.me.0 (ap (λ m. m.0) j.2) c.load.ensures.2.0 in
-    desk_keeps d ok _ [] tt grown (c.load.ensures.2.1 ∙ (ap (λ m. m.1) j.2 ∙ ok.empty)) refl ok.own ok.seen ok.of_plan ok.rests
+    desk_keeps d ok _ [] tt grown (c.load.ensures.2.1 ∙ (ap (λ m. m.1) j.2 ∙ ok.empty)) refl ok.own ok.seen ok.of_plan ok.calm ok.settled ok.rests
 
 pub returns : goal.returns
 returns g0 c = let ok = c.desk.invariant in let d = c.desk.inside in let n = c.news.inside in let j = c.join_seat.ensures in let w : View = c.load.new.seat.me.0 in

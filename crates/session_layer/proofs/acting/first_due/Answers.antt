@@ -5,7 +5,7 @@ use Rattle.legal_steps.specs.declared.event.Event.TheVariants.{Thirst, Hunger, S
 use Rattle.edge_rule.specs.DeskView.{DeskView, known}
 use Rattle.turns.specs.Acts.{Counts}
 use Rattle.turns.proofs.Firsts.{refused, illegal}
-use Rattle.session_layer.proofs.acting.phase_due.Goals as goal
+use Rattle.session_layer.proofs.acting.first_due.Goals as goal
 
 pub returns-then-may_quit-clause-first : goal.returns-then-may_quit-clause-first
 returns-then-may_quit-clause-first g c = let d : DeskView = c.args.desk.now in let s : State = known d in inl ((c.may_quit.ensures.0 c.if-may_quit.true, tt), refl)

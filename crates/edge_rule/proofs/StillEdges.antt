@@ -1,0 +1,88 @@
+-- What is noted stays true: of a calm edge where neither the edge nor its marks change, nor how the job dines and drinks; of phase acts where the job's seat doesn't.
+use Rattle.std.proofs.Common.{◌≡◌, ◌≢◌, ℕ, zero, suc, ◌<◌, Bool, true, false, List, [], ◌∷◌, length, get_or, set, replicate, refl, sym, ap, ◌∙◌, subst, inl, inr, arith, length-set, get_or-set_same, get_or-set_other}
+use Rattle.std.proofs.lemmas.List.{length-replicate}
+use Rattle.std.proofs.lemmas.Bool.{cases_eq, false≢true}
+use Rattle.lab_plan.specs.LabPlan.{LabPlan, edges}
+use Rattle.legal_steps.specs.declared.edge_state.EdgeState.{EdgeState}
+use Rattle.legal_steps.specs.declared.phase.JobState.{JobState}
+use Rattle.legal_steps.specs.State.{Seat, State, seat, edge, phase, fork_mark, bottle_marks, no_edge, end_of, bottles_at}
+use Rattle.legal_steps.specs.Legal.{fork_mark_seen}
+use Rattle.turns.specs.Due.{IsCalm, but_position}
+use Rattle.turns.specs.Acts.{IsSettled}
+use Rattle.turns.proofs.Calm.{stays_calm}
+use Rattle.locality.proofs.Reading.{may_same}
+use Rattle.legal_steps.specs.declared.event.Event.TheVariants.{Thirst, Hunger, Sit, Leave, Drink, Reach, Quit, Retire}
+use Rattle.edge_rule.specs.CalmEdges.{IsStill, AreStill}
+
+-- what a note rests on is the same in both states
+pub record IsSameAt (s t : State) (j e : ℕ) : Type 0 where
+  pub edge_is : edge t e ≡ edge s e
+  pub phase_is : but_position (phase t j) ≡ but_position (phase s j)
+  pub fork_is : fork_mark t j e ≡ fork_mark s j e
+  pub bottles_are : bottle_marks t j e ≡ bottle_marks s j e
+
+stays_still : (plan : LabPlan) (s t : State) (j e : ℕ) → IsSameAt s t j e → IsStill plan s j e → IsStill plan t j e
+stays_still plan s t j e same still = record {
+  calm = stays_calm plan s t j e same.edge_is same.phase_is still.calm;
+  fork = same.fork_is ∙ (still.fork ∙ (λ i. fork_mark_seen (sym same.phase_is i).dining (end_of plan j e) (sym same.edge_is i)));
+  bottles = same.bottles_are ∙ (still.bottles ∙ (λ i. bottles_at plan e (end_of plan j e) (sym same.edge_is i)));
+}
+
+-- of a seat and edges that are as these
+pub same_at : (s t : State) (j e : ℕ) (x y : Seat) (l m : List EdgeState) → seat s j ≡ x → seat t j ≡ y → s.edges ≡ l → t.edges ≡ m → get_or m e no_edge ≡ get_or l e no_edge → but_position y.phase ≡ but_position x.phase
+    → get_or y.fork_marks e false ≡ get_or x.fork_marks e false → get_or y.bottle_marks e 0 ≡ get_or x.bottle_marks e 0 → IsSameAt s t j e
+same_at s t j e x y l m was is lwas mis edges phases forks bottles = record {
+  edge_is = ap (λ (z : List EdgeState). get_or z e no_edge) mis ∙ (edges ∙ sym (ap (λ (z : List EdgeState). get_or z e no_edge) lwas));
+  phase_is = ap (λ (z : Seat). but_position z.phase) is ∙ (phases ∙ sym (ap (λ (z : Seat). but_position z.phase) was));
+  fork_is = ap (λ (z : Seat). get_or z.fork_marks e false) is ∙ (forks ∙ sym (ap (λ (z : Seat). get_or z.fork_marks e false) was));
+  bottles_are = ap (λ (z : Seat). get_or z.bottle_marks e 0) is ∙ (bottles ∙ sym (ap (λ (z : Seat). get_or z.bottle_marks e 0) was));
+}
+
+-- no phase act is legal where none was and the seat is the same
+pub stays_settled : (plan : LabPlan) (s t : State) (j : ℕ) → seat t j ≡ seat s j → IsSettled plan s j → IsSettled plan t j
+stays_settled plan s t j same none = record {
+  no_quit = λ may. none.no_quit (may_same plan t s (Quit j) same may);
+  no_reach = λ may. none.no_reach (may_same plan t s (Reach j) same may);
+  no_drink = λ may. none.no_drink (may_same plan t s (Drink j) same may);
+  no_leave = λ may. none.no_leave (may_same plan t s (Leave j) same may);
+  no_sit = λ may. none.no_sit (may_same plan t s (Sit j) same may);
+  no_thirst = λ may. none.no_thirst (may_same plan t s (Thirst j) same may);
+  no_hunger = λ may. none.no_hunger (may_same plan t s (Hunger j) same may);
+  no_retire = λ may. none.no_retire (may_same plan t s (Retire j) same may);
+}
+
+-- all notes stay
+pub stay_still : (plan : LabPlan) (s t : State) (j : ℕ) (noted : List Bool) → ((e : ℕ) → IsSameAt s t j e) → AreStill plan s j noted → AreStill plan t j noted
+stay_still plan s t j noted same all = record { wide = all.wide; each = λ e is. stays_still plan s t j e (same e) (all.each e is) }
+
+-- all but one stay, which goes
+pub but_one : (plan : LabPlan) (s t : State) (j e : ℕ) (noted : List Bool) → e < length (edges plan) → ((f : ℕ) → f ≢ e → IsSameAt s t j f) → AreStill plan s j noted → AreStill plan t j (set noted e false)
+but_one plan s t j e noted inside same all = record {
+  wide = length-set noted e false ∙ all.wide;
+  each = λ f is. elim (cases_eq f e) [
+    | inl here ↦ let n = all.wide in absurd (false≢true (sym (get_or-set_same noted e false false (omega arith)) ∙ (ap (λ k. get_or (set noted e false) k false) (sym here) ∙ is)))
+    | inr other ↦ stays_still plan s t j f (same f other) (all.each f (sym (get_or-set_other noted e f false false other) ∙ is))
+  ];
+}
+
+-- one more is noted
+pub one_more : (plan : LabPlan) (s : State) (j e n : ℕ) (noted : List Bool) → n ≡ e → e < length (edges plan) → IsStill plan s j e → AreStill plan s j noted → AreStill plan s j (set noted n true)
+one_more plan s j e n noted at inside still all = record {
+  wide = length-set noted n true ∙ all.wide;
+  each = λ f is. elim (cases_eq f e) [
+    | inl here ↦ subst (IsStill plan s j) (sym here) still
+    | inr other ↦ all.each f (sym (get_or-set_other noted e f true false other) ∙ (ap (λ k. get_or (set noted k true) f false) (sym at) ∙ is))
+  ];
+}
+
+none_noted : (n e : ℕ) → get_or (replicate n false) e false ≡ false
+none_noted zero e = refl
+none_noted (suc n) zero = refl
+none_noted (suc n) (suc e) = none_noted n e
+
+-- where none is noted, nothing is claimed
+pub none_still : (plan : LabPlan) (s : State) (j n : ℕ) (noted : List Bool) → noted ≡ replicate n false → n ≡ length (edges plan) → AreStill plan s j noted
+none_still plan s j n noted is wide = record {
+  wide = ap length is ∙ (length-replicate n false ∙ wide);
+  each = λ e noted_is. absurd (false≢true (sym (ap (λ z. get_or z e false) is ∙ none_noted n e) ∙ noted_is));
+}
