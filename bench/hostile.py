@@ -1,18 +1,20 @@
 #!/usr/bin/env python3
 """The built program on input, output, words and memory that it can't like: each with its status and its one line.
 
-Usage: bench/hostile.py PROGRAM [memory=no]
+Usage: bench/hostile.py PROGRAM [memory=no] [refused=no]
 
 PROGRAM is the built program (crates/labrun/out/labrun). One line goes out for each case; the status is 1 where one isn't as
 it should be. The cases: words that are refused, with a standard input that never ends; every fault of a script; inputs of
 16777216 bytes and of one more; a folder as input; outputs that are full, closed, or taken one byte at a time; as many jobs,
 sessions and commands as there can be, by rounds and by threads; 32 workers and a thousand million turns; and (where memory
-isn't no) less and less memory, down to none: then the whole report, or want of memory, and nothing else.
+isn't no) less and less memory, down to none: then the whole report, or want of memory, and nothing else. Last, where refused isn't no,
+each growth of each kind of run is refused in turn, and each start of a thread, by bench/refuse.c, which needs a C compiler.
 """
 import os
 import resource
 import subprocess
 import sys
+import tempfile
 
 sys.path.insert(0, os.path.dirname(os.path.abspath(__file__)))
 import check_report
@@ -169,6 +171,54 @@ def check_memory(cases, runs=(["rounds", "1000000"], ["threads", "4", "100000"])
         cases.tell("%s with less and less memory (%s)" % (" ".join(words), told), None if "finished" in ends else "never finished")
 
 
+def is_no_memory(got):
+    """Want of memory: its status, its one line, and no output."""
+    out, errors, status = got
+    line = errors == "labrun: no memory\n" or errors.startswith("labrun: line ") and errors.endswith("S12 no memory\n")
+    return status == 5 and not out and line
+
+
+def check_refused(cases):
+    """Each growth is refused in turn: want of memory is told, and nothing else; or, where the program can do without, the whole report, as
+    where a start of a thread is refused, or each of them."""
+    folder = tempfile.mkdtemp(prefix="labrun-refused-")
+    library, told = os.path.join(folder, "refuse.so"), os.path.join(folder, "told")
+    source = os.path.join(os.path.dirname(os.path.abspath(__file__)), "refuse.c")
+    if subprocess.run(["cc", "-shared", "-fPIC", "-O1", "-o", library, source, "-ldl", "-pthread"]).returncode:
+        return cases.tell("growths that are refused", "no library that refuses them")
+    script = make_scripts.make("ring", make_scripts.random.Random(4), jobs=9, sessions=2, commands=3)
+    steps = simulate.text(simulate.PAIR).decode() + "steps\nthirst a\nhunger a\nlook a b\nsit a\n"
+
+    def refused(words, text, growth=0, start=0):
+        """What it answers, and how many growths and starts it asked for."""
+        ways = dict(os.environ, LD_PRELOAD=library, REFUSE_TOLD=told, REFUSE_GROWTH=str(growth), REFUSE_START=str(start))
+        got = cases.run(words, text.encode(), env=ways)
+        with open(told) as numbers:
+            return got, [int(number) for number in numbers.read().split()]
+
+    def is_whole(words, text, got, whole):
+        if words[0] != "threads":
+            return got == whole
+        return not got[1] and not check_report.problems_of(text, got[0].decode(), got[2], int(words[2]))
+
+    for name in ("rounds 40", "threads 1 40", "threads 4 40", "threads 9 40", "threads 32 100000", "check", "upgrade", "replay"):
+        words, text = name.split(), steps if name == "replay" else script
+        whole, (growths, starts) = refused(words, text)
+        wrong = [] if whole[2] in (0, 3) and is_whole(words, text, whole, whole) else ["nothing refused: %r" % (whole,)]
+        none = 0
+        for number in range(1, growths + 1):
+            got = refused(words, text, growth=number)[0]
+            none += is_no_memory(got)
+            if not is_no_memory(got) and not is_whole(words, text, got, whole):
+                wrong.append("growth %d: %r" % (number, got))
+        for number in (*range(1, starts + 1), -1):
+            got = refused(words, text, start=number)[0]
+            if not is_whole(words, text, got, whole):
+                wrong.append("start %d: %r" % (number, got))
+        cases.tell("%s: each of %d growths is refused (%d times want of memory is told), and each of %d starts" % (
+            name, growths, none, starts), "; ".join(wrong)[:600])
+
+
 def main(words):
     if not words or words[0] == "--help":
         print(__doc__, end="")
@@ -181,6 +231,8 @@ def main(words):
     check_sizes(cases)
     if "memory=no" not in words:
         check_memory(cases)
+    if "refused=no" not in words:
+        check_refused(cases)
     print("%d cases, %d problems" % (cases.count, cases.problems))
     return 1 if cases.problems else 0
 

@@ -1,8 +1,8 @@
 #!/usr/bin/env python3
 """Many runs of labrun over generated scripts, each report checked whole.
 
-Usage: bench/stress.py PROGRAM [runs=N] [seed=S] [minutes=M] [keep=FOLDER] [faults=no]
-       bench/stress.py PROGRAM stops [keep=FOLDER]
+Usage: bench/stress.py PROGRAM [runs=N] [seed=S] [minutes=M] [keep=FOLDER] [faults=no] [gates=yes]
+       bench/stress.py PROGRAM stops [keep=FOLDER] [gates=yes]
 
 PROGRAM is the built program (crates/labrun/out/labrun), or whatever takes the same words: bench/simulate.py, a peer of
 bench/peers. It makes N runs (1000 unless said), or as many as M minutes allow. Each script is of one of six shapes and of
@@ -24,6 +24,10 @@ turn and others go on for a whole slice of time (where the system has `taskset`)
 With `stops` a few plans are stopped everywhere: a second session, a ring, a clique, two edges with 28 bottles each, patience,
 and the examples. With each limit from 0 to past the end, `rounds` and `threads` with one worker print what the simulator does;
 with two and three workers and each number of turns from 0 to 20, some times each, every report is checked.
+
+With gates=yes PROGRAM is the program with a gate, which bench/gated/build builds. Nine of ten runs by threads then go through one
+(`threads W N KIND SEED`), which holds workers up before turns that the seed chooses: they yield, are delayed, or wait until
+another job has begun some more turns. The checks are the same.
 
 Nothing may stand on standard error but the line of a fault, and no run may take longer than 120 seconds. At the end it
 prints how many runs there were and how many problems; the script of each problem is kept, with the words and what the
@@ -87,8 +91,8 @@ class Reckoned:
 
 
 class Stress:
-    def __init__(self, program, keep):
-        self.program, self.keep, self.chance = program, keep, random.Random(3)
+    def __init__(self, program, keep, gates=False):
+        self.program, self.keep, self.gates, self.chance = program, keep, gates, random.Random(3)
         self.cores = sorted(os.sched_getaffinity(0)) if shutil.which("taskset") else []
         self.counts = collections.Counter()
         self.problems = self.suspects = 0
@@ -132,6 +136,9 @@ class Stress:
 
     def threads(self, reckoned, workers, turns):
         words = ["threads", str(workers), str(turns)]
+        if self.gates and self.chance.randrange(10):
+            words += [self.chance.choice(("yields", "delays", "pins", "mixed")), str(self.chance.randrange(10**9))]
+            self.counts["threads through a gate"] += 1
         got = self.run(words, reckoned.text)
         self.counts["threads"] += 1
         if not got:
@@ -253,7 +260,7 @@ def main(words):
     most = int(keys["runs"]) if "runs" in keys else 10**9 if "minutes" in keys else 1000
     end = time.monotonic() + 60 * float(keys["minutes"]) if "minutes" in keys else None
     chance = random.Random(int(keys.get("seed", "1")))
-    stress, scripts, begun = Stress(os.path.abspath(words[0]), keys.get("keep")), 0, time.monotonic()
+    stress, scripts, begun = Stress(os.path.abspath(words[0]), keys.get("keep"), keys.get("gates") == "yes"), 0, time.monotonic()
     if stops:
         stop_everywhere(stress)
         most = 0

@@ -44,7 +44,7 @@ impl Read for &mut Pieces<'_> {
     }
 }
 
-/// A writer that takes at most `most` bytes a call, and fails, in a flush too, once `calls` calls are used.
+/// A writer that takes at most `most` bytes a call, and is interrupted, and fails to flush, once `calls` calls are used.
 #[derive(Drop)]
 struct Slow {
     bytes: Vec<u8>,
@@ -55,7 +55,7 @@ struct Slow {
 impl Write for &mut Slow {
     fn write(&mut self, bytes: &[u8]) -> io::Result<usize> {
         if self.calls == 0 {
-            return Err(io::Error::from(AllocError));
+            return Err(io::Error::from(ErrorKind::Interrupted));
         }
         self.calls -= 1;
         let count = bytes.len().min(self.most);

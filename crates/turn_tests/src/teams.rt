@@ -4,10 +4,10 @@ ghost use Rattle.edge_rule.specs.DeskView.{Owns};
 
 use crate::gates::{ALL_MEET, Counting, Meeting, THREE_FIRST};
 use crate::labs::{FOUR, NOBODY, RING, TWICE, TWO, closed, opened, plan_of, star_script};
-use edge_rule::{Bench, Closed, Desk};
+use edge_rule::{Bench, CloseCause, Closed, Desk};
 use instrument_log::InstrumentLog;
 use lab_plan::{EdgeNo, InstrumentNo, JobNo, Plan};
-use linked_list_allocator::LocalHeap;
+use refusing_heap::RefusingHeap;
 use rounds::Ended;
 use std::alloc::{Allocator, Global};
 use std::process::Abort;
@@ -16,15 +16,15 @@ use std::thread::Threads;
 use workers::{Gate, NoGate, threads};
 
 /// Threads on all desks of the bench, which come back in ascending order.
-fn driven<R: Threads + Abort + Sync, S: Allocator, G: Gate>(
+fn driven<R: Threads + Abort + Sync, A: Allocator + Copy + Send + Sync, G: Gate>(
     rt: &R,
-    alloc: S,
-    bench: &Bench,
-    desks: Vec<Desk>,
+    alloc: A,
+    bench: &Bench<A>,
+    desks: Vec<Desk<A>, A>,
     workers: u32,
     turns: u32,
     gate: &G,
-) -> (Vec<Desk>, Ended)
+) -> (Vec<Desk<A>, A>, Ended)
     requires { Each (Owns bench.now) desks.items }
     ensures { Each (Owns bench.now) result.0.items }
 {
@@ -60,9 +60,8 @@ fn until_retired<R: Threads + Abort + Sync>(
     panic!(rt; "jobs that never retire");
 }
 
-/// The log has all its commands, each of which added 1.
+/// Each command of the log added 1.
 fn counts_up<T: Allocator>(rt: &impl Abort, log: &InstrumentLog<T>) {
-    assert!(rt; log.len() == log.room() && log.unfinished() == 0);
     for place in 0..log.len() {
         assert!(rt; log.entry(place).value as usize == place + 1);
     }
@@ -76,7 +75,9 @@ fn ended_all<T: Allocator>(rt: &impl Abort, left: &Closed<T>) {
         assert!(rt; left.retired(job) && left.sessions_done(job) == plan.sessions(job));
     }
     for number in 0..plan.instruments() {
-        counts_up(rt, left.log(InstrumentNo(number as u8)));
+        let log = left.log(InstrumentNo(number as u8));
+        assert!(rt; log.len() == log.room() && log.unfinished() == 0);
+        counts_up(rt, log);
     }
 }
 
@@ -176,37 +177,100 @@ fn gate_comes_before_turn(rt: HostRuntime) {
     passes_before(&rt, rt.alloc(), &plan);
 }
 
-/// Three turns of each with so small a heap, or none where it is refused; then they run with memory. Whether it was refused.
-fn refuses<R: Threads + Abort + Sync>(
-    rt: &R,
-    alloc: Global,
-    plan: &Plan,
-    heap: &LocalHeap,
-) -> bool {
-    let (bench, desks) = opened(rt, alloc, plan);
-    let (desks, ended) = driven(rt, heap, &bench, desks, 2, 3, &NoGate);
-    let refused = ended == Ended::NoMemory;
-    turns_are(rt, desks.as_slice(), if refused { 0 } else { 3 });
-    let desks = until_retired(rt, alloc, &bench, desks, 2);
-    let left = closed(rt, alloc, bench, desks);
-    ended_all(rt, &left);
-    refused
+/// A bench and its desks; where a growth was refused, from a second call.
+fn opened_at_last<'p, A: Allocator + Copy>(
+    rt: &impl Abort,
+    alloc: A,
+    plan: &'p Plan<A>,
+) -> (Bench<'p, A>, Vec<Desk<A>, A>)
+    ensures { Each (Owns result.0) result.1.items }
+{
+    match Bench::open(alloc, plan) {
+        Ok(made) => made,
+        Err(_) => opened(rt, alloc, plan),
+    }
 }
 
-/// Few desks are sorted without a growth; that of 32 is refused by a heap that is a little larger in each run.
-#[test]
-fn refuses_growth(rt: HostRuntime) -> Result<(), Fail> {
-    let script = star_script(rt.alloc())?;
-    let plan = plan_of(&rt, rt.alloc(), &script);
-    let (mut refusals, mut answers) = (0u32, 0u32);
-    for budget in 1..24usize {
-        let heap = LocalHeap::new(rt.alloc(), 1024 * budget)?;
-        if refuses(&rt, rt.alloc(), &plan, &heap) {
-            refusals = refusals.saturating_add(1);
-        } else {
-            answers = answers.saturating_add(1);
+/// Three turns of each desk by two workers. Where a growth was refused no desk has taken any, and a second call takes them.
+fn driven_at_last<R: Threads + Abort + Sync, A: Allocator + Copy + Send + Sync>(
+    rt: &R,
+    alloc: A,
+    bench: &Bench<A>,
+    desks: Vec<Desk<A>, A>,
+) -> Vec<Desk<A>, A>
+    requires { Each (Owns bench.now) desks.items }
+    ensures { Each (Owns bench.now) result.items }
+{
+    let (desks, ended) = driven(rt, alloc, bench, desks, 2, 3, &NoGate);
+    if ended == Ended::Limit {
+        turns_are(rt, desks.as_slice(), 3);
+        return desks;
+    }
+    assert!(rt; ended == Ended::NoMemory);
+    turns_are(rt, desks.as_slice(), 0);
+    let (desks, again) = driven(rt, alloc, bench, desks, 2, 3, &NoGate);
+    assert!(rt; again == Ended::Limit);
+    turns_are(rt, desks.as_slice(), 3);
+    desks
+}
+
+/// What is left of the bench; where a growth was refused, from a second call.
+fn closed_at_last<'p, A: Allocator + Copy>(
+    rt: &impl Abort,
+    alloc: A,
+    bench: Bench<'p, A>,
+    desks: Vec<Desk<A>, A>,
+) -> Closed<'p, A>
+    requires { Each (Owns bench) desks.items }
+{
+    match bench.close(alloc, desks) {
+        Ok(left) => left,
+        Err(refused) => {
+            assert!(rt; refused.cause == CloseCause::NoMemory);
+            closed(rt, alloc, refused.bench, refused.desks)
         }
     }
-    assert!(rt; answers > 1 && refusals > 1);
+}
+
+fn all_count_up<T: Allocator>(rt: &impl Abort, left: &Closed<T>) {
+    let plan = left.plan();
+    for number in 0..plan.instruments() {
+        counts_up(rt, left.log(InstrumentNo(number as u8)));
+    }
+}
+
+/// How many growths were asked for until the plan was read, the bench was open, its desks were driven, and it was closed.
+type Growths = [u64; 4];
+
+/// A run on a heap that refuses this growth.
+fn run_without<R: Threads + Abort + Sync>(
+    rt: &R,
+    alloc: Global,
+    script: &str,
+    refused: u64,
+) -> Growths {
+    let heap = RefusingHeap::new(alloc, refused);
+    let plan = plan_of(rt, &heap, script);
+    let read = heap.growths();
+    let (bench, desks) = opened_at_last(rt, &heap, &plan);
+    let open = heap.growths();
+    let desks = driven_at_last(rt, &heap, &bench, desks);
+    let driven = heap.growths();
+    let left = closed_at_last(rt, &heap, bench, desks);
+    all_count_up(rt, &left);
+    [read, open, driven, heap.growths()]
+}
+
+/// Each growth of an opening, of the workers' call and of a closing is refused in turn, and the refused call is made again. Few desks are
+/// sorted without a growth; here are 32.
+#[test]
+fn growths_of_a_bench_and_its_workers(rt: HostRuntime) -> Result<(), Fail> {
+    let script = star_script(rt.alloc())?;
+    let [read, open, driven, all] = run_without(&rt, rt.alloc(), &script, 0);
+    assert!(rt; read < open && open < driven && driven < all);
+    for number in read..all {
+        let [_, _, _, more] = run_without(&rt, rt.alloc(), &script, number + 1);
+        assert!(rt; more > all, "growth {number}");
+    }
     Ok(())
 }

@@ -242,7 +242,7 @@ fn upgraded_script(rt: HostRuntime) -> Result<(), Fail> {
 }
 
 /// The first job has a second session.
-const SECOND_SESSION: &str =
+pub(super) const SECOND_SESSION: &str =
     "lab 1\njob a\nsession\nscale add 1\nend\nsession\nscale add 1\nend\njob b\nsession\nscale add 1\nend\n";
 
 const ENTRIES: [&str; 3] = [

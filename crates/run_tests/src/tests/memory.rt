@@ -1,34 +1,22 @@
-// Memory that runs out: each growth in turn is the first that is refused, and nothing else is told.
-use super::{AMPLE, Pieces, Slow, Told};
-use lab_runs::{FromRead, RunFault, run_check, run_replay, run_rounds, run_upgrade};
-use linked_list_allocator::LocalHeap;
+// Memory that runs out: each growth of a run is refused in turn, and nothing else is told.
+use super::{AMPLE, Pieces, Slow, TWO_ADD, Told, may_run};
+use lab_runs::{FromRead, Outcome, RunFault, Task, run_task};
+use refusing_heap::RefusingHeap;
 use report::ToWrite;
 use script_reader::ScriptCause;
-use std::alloc::{Allocator, Global};
+use std::alloc::Global;
 use std::process::Abort;
-use std::test::Fail;
+use std::thread::Threads;
 
-const HEAP: usize = 65536;
-
-/// Two jobs on one instrument, and a step.
-const TEXT: &[u8] =
-    b"lab 1\njob a\nsession\nscale add 1\nend\njob b\nsession\nscale add 1\nend\nsteps\nthirst a\n";
-
-/// The script alone.
-const SCRIPT: &[u8] =
-    b"lab 1\njob a\nsession\nscale add 1\nend\njob b\nsession\nscale add 1\nend\n";
-
-/// A run on one thread.
-#[derive(Clone, Copy)]
-enum Alone {
-    Rounds { limit: u32 },
-    Replay,
-    Check,
-    Upgrade,
-}
-
-/// A run that takes its memory from one allocator, over a writer that takes its own from another.
-fn told<A: Allocator + Copy>(alloc: A, out: Global, run: Alone, text: &[u8]) -> Told {
+/// A run on a heap that refuses this growth, over a writer that takes its memory elsewhere; and how many growths it asked for.
+fn told_without<R: Threads + Abort + Sync>(
+    rt: &R,
+    out: Global,
+    task: Task,
+    text: &[u8],
+    refused: u64,
+) -> (Told, u64) {
+    let heap = RefusingHeap::new(out, refused);
     let mut pieces = Pieces {
         rest: text,
         most: AMPLE.0,
@@ -41,78 +29,58 @@ fn told<A: Allocator + Copy>(alloc: A, out: Global, run: Alone, text: &[u8]) -> 
     };
     let mut source = FromRead::new(&mut pieces);
     let mut sink = ToWrite::new(&mut slow);
-    let answer = match run {
-        Alone::Rounds { limit } => run_rounds(alloc, &mut source, &mut sink, limit),
-        Alone::Replay => run_replay(alloc, &mut source, &mut sink),
-        Alone::Check => run_check(alloc, &mut source, &mut sink),
-        Alone::Upgrade => run_upgrade(alloc, &mut source, &mut sink),
-    };
-    (slow.bytes, answer)
+    assert!(rt; may_run(&task));
+    let answer = run_task(task, rt, &heap, &mut source, &mut sink);
+    ((slow.bytes, answer), heap.growths())
 }
 
-/// A run on a heap with so much room.
-fn told_in(out: Global, room: usize, run: Alone, text: &[u8]) -> Result<Told, Fail> {
-    let heap = LocalHeap::new(out, HEAP)?;
-    let ballast = Vec::<u8, &LocalHeap>::with_capacity(&heap, (HEAP - 256).saturating_sub(room))?;
-    let answer = told(&heap, out, run, text);
-    drop(ballast);
-    Ok(answer)
-}
-
-fn is_no_memory(fault: RunFault) -> bool {
-    match fault {
-        RunFault::NoMemory => true,
-        RunFault::Script(fault) => fault.cause == ScriptCause::NoMemory,
+fn is_no_memory(answer: &Result<Outcome, RunFault>) -> bool {
+    match answer {
+        Err(RunFault::NoMemory) => true,
+        Err(RunFault::Script(fault)) => fault.cause == ScriptCause::NoMemory,
         _ => false,
     }
 }
 
-/// How often a run was refused its memory, and how often it was while it read its script.
-#[derive(Clone, Copy)]
-struct Refused {
-    all: u32,
-    script: u32,
-}
-
-/// A run by more and more room: where it isn't refused memory it ends as it does with ample room.
-fn growths(rt: &impl Abort, out: Global, run: Alone, text: &[u8]) -> Result<Refused, Fail> {
-    let (whole, ended) = told(out, out, run, text);
-    assert!(rt; ended.is_ok());
-    let mut refused = Refused { all: 0, script: 0 };
-    for room in 1..500usize {
-        let (bytes, answer) = told_in(out, 64 * room, run, text)?;
-        match answer {
-            Ok(outcome) => assert!(rt;
-                ended == Ok(outcome) && bytes.as_slice() == whole.as_slice()
-            ),
-            Err(fault) => {
-                assert!(rt; is_no_memory(fault) && bytes.is_empty(), "room {room}");
-                refused.all = refused.all.saturating_add(1);
-                if fault != RunFault::NoMemory {
-                    refused.script = refused.script.saturating_add(1);
-                }
-            }
+/// Each growth of a run is refused. How many there are in all, and how many while it reads its script.
+fn growths<R: Threads + Abort + Sync>(rt: &R, out: Global, task: Task, text: &[u8]) -> (u64, u64) {
+    let ((_, whole), all) = told_without(rt, out, task, text, 0);
+    assert!(rt; whole.is_ok());
+    let mut script = 0u64;
+    for number in 0..all {
+        let ((bytes, answer), _) = told_without(rt, out, task, text, number + 1);
+        assert!(rt;
+            is_no_memory(&answer) && bytes.is_empty(),
+            "growth {number}"
+        );
+        if answer != Err(RunFault::NoMemory) {
+            script = script.saturating_add(1);
         }
     }
-    Ok(refused)
+    (all, script)
 }
 
-/// Some growths are refused while the script is read, and some behind it.
+/// Two jobs on one instrument, and a step.
+const STEPS: &str =
+    "lab 1\njob a\nsession\nscale add 1\nend\njob b\nsession\nscale add 1\nend\nsteps\nthirst a\n";
+
+/// Some growths are refused while the script is read, and some behind it, but for an upgrade, which needs no more.
 #[test]
-fn growths_of_a_replay_and_rounds(rt: HostRuntime) -> Result<(), Fail> {
-    for (run, text) in [(Alone::Replay, TEXT), (Alone::Rounds { limit: 9 }, SCRIPT)] {
-        let refused = growths(&rt, rt.alloc(), run, text)?;
-        assert!(rt; refused.all > 10 && refused.all < 499);
-        assert!(rt; refused.script > 0 && refused.script < refused.all);
+fn growths_of_each_run(rt: HostRuntime) {
+    for (task, text) in [
+        (Task::Replay, STEPS),
+        (Task::Check, TWO_ADD),
+        (Task::Upgrade, TWO_ADD),
+        (Task::Rounds { limit: 9 }, TWO_ADD),
+        (by(1), TWO_ADD),
+        (by(2), TWO_ADD),
+        (by(32), TWO_ADD),
+    ] {
+        let (all, script) = growths(&rt, rt.alloc(), task, text.as_bytes());
+        assert!(rt; script > 0 && (script < all || task == Task::Upgrade));
     }
-    Ok(())
 }
 
-#[test]
-fn growths_of_a_check_and_an_upgrade(rt: HostRuntime) -> Result<(), Fail> {
-    for run in [Alone::Check, Alone::Upgrade] {
-        let refused = growths(&rt, rt.alloc(), run, SCRIPT)?;
-        assert!(rt; refused.all > 10 && refused.all < 499);
-    }
-    Ok(())
+fn by(workers: u32) -> Task {
+    Task::Threads { workers, turns: 9 }
 }

@@ -1,4 +1,5 @@
 // Scripts by threads: what must be true of a report on every schedule.
+use super::in_rounds::SECOND_SESSION;
 use super::reports::is_report_of;
 use super::{TWO_ADD, Told, told};
 use lab_runs::{Outcome, Task};
@@ -47,6 +48,19 @@ const CLIQUE: &str =
 const PATIENT: &str =
     "lab 2\njob a\nsession\nx add 1\ny add 1\nx read\nend\nsession\ny add 2\nend\njob b\nsession patience 0\ny set 8\nx set 4\nend\nsession patience 3\nx read\ny read\nend\njob c\nsession patience 2\nx add 3\ny add 3\nend\nsession\ny add 1\nx add 1\nend\n";
 
+/// A job shares 28 instruments with each of two others, which share none: first a few of them are used, and then all.
+fn two_wide_edges(alloc: Global) -> Result<String, AllocError> {
+    let mut left = String::new(alloc);
+    let mut right = String::new(alloc);
+    for number in 0..28u32 {
+        left.push_str(format!(in alloc; "l{number} add 1\n")?.as_str())?;
+        right.push_str(format!(in alloc; "r{number} add 2\n")?.as_str())?;
+    }
+    format!(in alloc;
+        "lab 1\njob left\nsession\nl3 set 7\nl0 add 5\nend\nsession\n{left}end\njob middle\nsession\nl3 read\nr0 add 1\nend\nsession\n{left}{right}end\njob right\nsession\nr0 set 9\nend\nsession\n{right}end\n"
+    )
+}
+
 /// The report is one of a run of the script, and the answer says how it ended.
 fn is_of<R: Threads + Abort + Sync>(
     rt: &R,
@@ -66,7 +80,8 @@ fn is_of<R: Threads + Abort + Sync>(
 /// By each number of turns: by rounds first, where many turns finish each of the scripts, and then by threads.
 #[test]
 fn stops_of_several_jobs(rt: HostRuntime) -> Result<(), Fail> {
-    for script in [RING, CLIQUE, PATIENT] {
+    let wide = two_wide_edges(rt.alloc())?;
+    for script in [SECOND_SESSION, RING, CLIQUE, PATIENT, wide.as_str()] {
         for turns in 0..21u32 {
             is_of(&rt, rt.alloc(), Task::Rounds { limit: turns }, script)?;
             for workers in [2, 3] {

@@ -1,0 +1,57 @@
+//! Memory for tests of which one growth is refused: an allocator over another that counts what it is asked for. Threads may share it.
+#![tactic(auto)]
+
+ghost use Rattle.std.specs.Prelude.{◌≡◌, IfSome};
+
+use std::alloc::{AllocError, Allocator};
+use std::sync::atomic::{AtomicU64, Ordering};
+
+/// An allocator that refuses one growth, by its number, and takes all others from `inner`. Whatever is to be made, and whatever has to
+/// grow, counts as one, from 1 on, on whichever thread. With the number 0 nothing is refused.
+#[derive(Drop)]
+pub struct RefusingHeap<B> {
+    inner: B,
+    refused: u64,
+    growths: AtomicU64,
+}
+
+impl<B> RefusingHeap<B> {
+    pub fn new(inner: B, refused: u64) -> RefusingHeap<B> {
+        RefusingHeap {
+            inner,
+            refused,
+            growths: AtomicU64::new(0),
+        }
+    }
+
+    /// How many growths it was asked for, the refused one counted.
+    pub fn growths(&self) -> u64 {
+        self.growths.load(Ordering::SeqCst)
+    }
+
+    // What gives the next growth, if it isn't the one that is refused.
+    fn next(&self) -> Option<&B>
+        ensures { IfSome result (λ lent. lent.now ≡ self.now.inner) }
+    {
+        let before = self.growths.fetch_add(1, Ordering::SeqCst);
+        if before.wrapping_add(1) == self.refused {
+            return None;
+        }
+        Some(&self.inner)
+    }
+}
+
+unsafe impl<B: Allocator> Allocator for RefusingHeap<B> {
+    ghost dealloc_token = { λ heap ty ptr. B.dealloc_token heap.inner ty ptr };
+
+    fn allocate(&self, size: usize, align: usize) -> Result<*mut u8, AllocError> {
+        match self.next() {
+            Some(lent) => lent.allocate(size, align),
+            None => Err(AllocError),
+        }
+    }
+
+    unsafe fn deallocate(&self, ptr: *mut u8, size: usize, align: usize) {
+        self.inner.deallocate(ptr, size, align);
+    }
+}
