@@ -22,7 +22,12 @@ pub record IsMissing (plan : LabPlan) (s : State) (j e k : ℕ) : Type 0 where
   pub needed : Needs plan s j (instrument_of plan e k)
   pub no_mark : ¬ Has (bottle_marks s j e) k
 
--- a member of the set of bottles that is there, or whose request token is
+-- the bottle is one of the edge, and in the set
+pub record IsMember (plan : LabPlan) (e set k : ℕ) : Type 0 where
+  pub is_bottle : k < length (bottles plan e)
+  pub has : Has set k
+
+-- a bottle is there, or its request token is
 abbrev pub IsBottleThere : LabPlan → State → ℕ → ℕ → ℕ → Type 0
 IsBottleThere plan s j e k = There plan j e (bottle_end (edge s e).bottles k)
 
@@ -50,16 +55,16 @@ Fails plan s (AskBottles j e set) NotOwn = ¬ IsOwn plan j e
 Fails plan s (AskBottles j e set) NotThirsty = drinking s j ≢ Thirsty
 Fails plan s (AskBottles j e set) NoBottle = set ≡ 0
 Fails plan s (AskBottles j e set) NotOfEdge = ¬ IsOfEdge plan e set
-Fails plan s (AskBottles j e set) (NotNeeded k) = Has set k × ¬ Needs plan s j (instrument_of plan e k)
-Fails plan s (AskBottles j e set) (BottleHere k) = Has set k × Here plan j e (bottle_end (edge s e).bottles k)
-Fails plan s (AskBottles j e set) (BottleTokenThere k) = Has set k × IsTokenThere plan s j e k
+Fails plan s (AskBottles j e set) (NotNeeded k) = IsMember plan e set k × ¬ Needs plan s j (instrument_of plan e k)
+Fails plan s (AskBottles j e set) (BottleHere k) = IsMember plan e set k × Here plan j e (bottle_end (edge s e).bottles k)
+Fails plan s (AskBottles j e set) (BottleTokenThere k) = IsMember plan e set k × IsTokenThere plan s j e k
 Fails plan s (GiveBottles j e set) NotOwn = ¬ IsOwn plan j e
 Fails plan s (GiveBottles j e set) NoBottle = set ≡ 0
 Fails plan s (GiveBottles j e set) NotOfEdge = ¬ IsOfEdge plan e set
-Fails plan s (GiveBottles j e set) (BottleThere k) = Has set k × IsBottleThere plan s j e k
-Fails plan s (GiveBottles j e set) (BottleTokenThere k) = Has set k × IsTokenThere plan s j e k
-Fails plan s (GiveBottles j e set) (KeptInSession k) = Has set k × Needs plan s j (instrument_of plan e k) × IsDrinking (phase s j)
-Fails plan s (GiveBottles j e set) (KeptWithFork k) = Has set k × Needs plan s j (instrument_of plan e k) × Here plan j e (fork s e)
+Fails plan s (GiveBottles j e set) (BottleThere k) = IsMember plan e set k × IsBottleThere plan s j e k
+Fails plan s (GiveBottles j e set) (BottleTokenThere k) = IsMember plan e set k × IsTokenThere plan s j e k
+Fails plan s (GiveBottles j e set) (KeptInSession k) = IsMember plan e set k × Needs plan s j (instrument_of plan e k) × IsDrinking (phase s j)
+Fails plan s (GiveBottles j e set) (KeptWithFork k) = IsMember plan e set k × Needs plan s j (instrument_of plan e k) × Here plan j e (fork s e)
 Fails plan s (Thirst j) NotJob = ¬ IsJob plan j
 Fails plan s (Thirst j) NotTranquil = drinking s j ≢ Tranquil
 Fails plan s (Thirst j) Eats = dining s j ≡ Eating

@@ -15,7 +15,7 @@ pub fn has(set: u32, bottle: u32) -> bool
 
 /// The end at which the bottle is, by the set of those at the higher end.
 #[tactic(auto, unfolding(legal_steps::specs::State::bottle_end))]
-pub(crate) fn bottle_end(set: u32, bottle: u32) -> End
+pub fn bottle_end(set: u32, bottle: u32) -> End
     requires { bottle < 32 }
     ensures { result ≡ end_of_bottle set bottle }
 {

@@ -12,6 +12,6 @@ mod meals;
 mod sessions;
 mod why;
 
-pub use bottles::has;
+pub use bottles::{bottle_end, has};
 pub use cause::Cause;
 pub use why::why_not;
