@@ -1,0 +1,5 @@
+pub mod TestedBits
+pub mod Parts
+pub mod BottleNames
+pub mod Within
+pub mod Told

@@ -1,0 +1,13 @@
+// Explanations: why a step of a list isn't legal where its turn comes, how its job and the job's edges are there,
+// and which moves are legal. Each text is a function of a plan, a state and what it tells.
+#![tactic(auto)]
+
+mod bits;
+mod causes;
+mod explanation;
+mod moves;
+mod names;
+mod states;
+mod steps;
+
+pub use explanation::{Explanation, explain};

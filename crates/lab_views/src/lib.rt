@@ -1,0 +1,12 @@
+// What `labview` does, over any source and any sink: a script is read whole, and what is written and answered
+// is settled by its bytes.
+#![tactic(auto)]
+
+mod ending;
+mod running;
+mod sending;
+mod words;
+
+pub use ending::{end, end_without_view};
+pub use running::run_explain;
+pub use words::{View, read_words};

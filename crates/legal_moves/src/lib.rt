@@ -1,0 +1,8 @@
+// What could be done next: the moves of each job that are legal in a world.
+#![tactic(auto)]
+
+mod candidates;
+pub mod laws;
+mod legal;
+
+pub use legal::legal_moves;

@@ -1,0 +1,14 @@
+use Rattle.std.proofs.Common.{ap, ◌∙◌}
+use Rattle.lab_plan.specs.LabPlan.{edges_of}
+use Rattle.legal_steps.specs.Legal.{HasNeededAt}
+use Rattle.interleaving.proofs.OwnEdges.{own_at, at_own_edges}
+use Rattle.refused_steps.proofs.marks.missing_bottle.Goals as goal
+
+pub missing_at-requires-clause-own : goal.missing_at-requires-clause-own
+missing_at-requires-clause-own g c = own_at _ _ _ _ _ (c.edges_of-own.ensures ∙ ap (λ p. edges_of p c.args.job) c.plan.ensures.plan) c.loop-edge-test.true c.edge-item.is
+
+pub returns : goal.returns
+returns g c =
+    let w = c.args.world.now in
+    at_own_edges w.plan c.args.job c.edges_of-own.result.now c.loop-edge.edge-index (HasNeededAt w.plan w.state c.args.job)
+    (c.edges_of-own.ensures ∙ ap (λ p. edges_of p c.args.job) c.plan.ensures.plan) c.loop-edge-test.false c.loop-edge.invariant

@@ -1,0 +1,17 @@
+// Why a step is refused: the part of its guard that fails. Each part of the guard of each of the 17 kinds
+// of event has a cause of its own.
+#![tactic(auto)]
+
+mod asking;
+mod bottle_moves;
+mod bottles;
+mod cause;
+mod forks;
+mod marks;
+mod meals;
+mod sessions;
+mod why;
+
+pub use bottles::{bottle_end, has};
+pub use cause::Cause;
+pub use why::why_not;
