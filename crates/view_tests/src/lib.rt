@@ -1,5 +1,12 @@
-//! Tests of reports that are read, over the public calls of their crates alone.
+//! Tests of what views are made of: reports that are read, why steps are refused, which are legal, and what `labview`
+//! writes; over the public calls of their crates alone.
 #![tactic(auto)]
 
 #[cfg(test)]
 mod reading;
+#[cfg(test)]
+mod stages;
+#[cfg(test)]
+mod telling;
+#[cfg(test)]
+mod views;

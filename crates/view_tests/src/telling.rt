@@ -1,0 +1,65 @@
+// Whole explanations, reckoned by hand.
+use crate::stages::text_at;
+use explaining::explain;
+use script_reader::read_steps;
+use std::alloc::Allocator;
+use std::process::Abort;
+use std::test::Fail;
+
+// At the first stage a's fork is asked for, and so is the scale's bottle.
+const REFUSED: &str =
+    "line 21: `sit a` is not legal: no mark for the fork with b: the fork is here but dirty, and its token is here too; look again after the other has had it
+a: hungry, thirsty, session 1 of 2, commands done: 0
+  fork with b: dirty, here, token here, not marked
+  bottle of scale with b: here, token here, not marked
+  bottle of lamp with b: here, token there, not marked
+legal now, besides looks and glances:
+  givefork a b
+  withdraw b
+  askbottles b a lamp
+";
+
+// At the fourth b eats and drinks, and a is hungry for its next meal.
+const ALL_LEGAL: &str = "legal steps: 19, all
+a: hungry, in no session, session 1 of 2, commands done: 0
+  fork with b: clean, there, token here, not marked
+  bottle of scale with b: there, token here, not marked
+  bottle of lamp with b: there, token here, not marked
+b: eating, drinking, session 1 of 1, commands done: 0
+  fork with a: clean, here, token there, not marked
+  bottle of scale with a: here, token there, marked
+  bottle of lamp with a: here, token there, marked
+legal now, besides looks and glances:
+  thirst a
+  askfork a b
+  reach b
+  soil b a
+";
+
+fn tells<T: Allocator + Copy>(
+    rt: &impl Abort,
+    alloc: T,
+    text: &str,
+    wanted: &str,
+    refused: Option<usize>,
+) -> Result<(), Fail> {
+    let Ok((plan, lines)) = read_steps(alloc, text.as_bytes()) else {
+        panic!(rt; "no steps");
+    };
+    let told = explain(alloc, &plan, &lines)?;
+    assert!(rt; told.refused == refused && told.text.as_slice() == wanted.as_bytes());
+    Ok(())
+}
+
+#[test]
+fn step_that_is_refused(rt: HostRuntime) -> Result<(), Fail> {
+    let mut text = text_at(rt.alloc(), 1)?;
+    text.push_str("sit a\nretire b\n")?;
+    tells(&rt, rt.alloc(), text.as_str(), REFUSED, Some(21))
+}
+
+#[test]
+fn steps_that_are_legal(rt: HostRuntime) -> Result<(), Fail> {
+    let text = text_at(rt.alloc(), 4)?;
+    tells(&rt, rt.alloc(), text.as_str(), ALL_LEGAL, None)
+}

@@ -1,0 +1,131 @@
+// What `labview` writes, by its bytes, and its words.
+use crate::stages::text_at;
+use lab_runs::{FromRead, NoTask, Outcome, RunFault};
+use lab_views::{View, read_words, run_explain};
+use report::ToWrite;
+use script_reader::{ScriptCause, ScriptFault};
+use std::alloc::{AllocError, Global};
+use std::io::{self, Write};
+use std::test::Fail;
+
+// At the first stage the token of the scale's bottle is at a.
+const REFUSED: &str =
+    "line 21: `askbottles b a scale lamp` is not legal: the bottle of scale: its request token is not here
+b: hungry, thirsty, session 1 of 1, commands done: 0
+  fork with a: dirty, there, token there, not marked
+  bottle of scale with a: there, token there, not marked
+  bottle of lamp with a: there, token here, not marked
+legal now, besides looks and glances:
+  givefork a b
+  withdraw b
+  askbottles b a lamp
+";
+
+const NO_JOB: &str = "legal steps: 0, all
+legal now, besides looks and glances:
+";
+
+fn explained(alloc: Global, input: &[u8]) -> (Vec<u8>, Result<Outcome, RunFault>) {
+    let mut bytes = Vec::new(alloc);
+    let mut source = FromRead::new(input);
+    let mut sink = ToWrite::new(&mut bytes);
+    let answer = run_explain(alloc, &mut source, &mut sink);
+    (bytes, answer)
+}
+
+#[test]
+fn explains_by_its_bytes(rt: HostRuntime) -> Result<(), Fail> {
+    let mut text = text_at(rt.alloc(), 1)?;
+    text.push_str("askbottles b a scale lamp\n")?;
+    let bad_step = Err(RunFault::Script(ScriptFault {
+        line: 3,
+        cause: ScriptCause::BadStep,
+    }));
+    let runs = [
+        (text.as_str(), REFUSED, Ok(Outcome::Finished)),
+        ("lab 1", NO_JOB, Ok(Outcome::Finished)),
+        ("lab 1\nsteps\nsit a\n", "", bad_step),
+    ];
+    for (input, wanted, ends) in runs {
+        let (bytes, answer) = explained(rt.alloc(), input.as_bytes());
+        assert!(rt;
+            answer == ends && bytes.as_slice() == wanted.as_bytes(),
+            "{wanted}"
+        );
+    }
+    Ok(())
+}
+
+/// A writer that fails.
+#[derive(Drop)]
+struct Full;
+
+impl Write for Full {
+    fn write(&mut self, _bytes: &[u8]) -> io::Result<usize> {
+        Err(io::Error::from(AllocError))
+    }
+
+    fn flush(&mut self) -> io::Result<()> {
+        Ok(())
+    }
+}
+
+#[test]
+fn writer_fails(rt: HostRuntime) {
+    let mut source = FromRead::new(b"lab 1".as_slice());
+    let mut sink = ToWrite::new(Full);
+    let answer = run_explain(rt.alloc(), &mut source, &mut sink);
+    assert!(rt; answer == Err(RunFault::Write));
+}
+
+const HELP: &str = "Shows and explains the runs of labrun
+
+Usage: labview [COMMAND]
+
+Commands:
+  explain  read a script and its steps, tell why the first that isn't legal is refused, and what is legal there
+
+Options:
+      --help  print this help
+
+The input comes from standard input, at most 16777216 bytes. What is printed goes to
+standard output, and a fault in one line to standard error.
+
+Statuses:
+  0  explain: done, whether the steps are legal or not; --help: done
+  1  the script is refused; the fault names its line
+  2  the command line is refused
+  4  reading or writing failed, or the input is longer than 16777216 bytes
+  5  no memory
+";
+
+#[test]
+fn words(rt: HostRuntime) {
+    let lines = [
+        (["labview", "explain"].as_slice(), true),
+        (["", "explain"].as_slice(), true),
+        ([].as_slice(), false),
+        (["labview"].as_slice(), false),
+        (["labview", ""].as_slice(), false),
+        (["labview", "Explain"].as_slice(), false),
+        (["labview", "explai"].as_slice(), false),
+        (["labview", "explain", "explain"].as_slice(), false),
+        (["labview", "explain", "--help"].as_slice(), false),
+        (["labview", "-h"].as_slice(), false),
+        (["labview", "help"].as_slice(), false),
+        (["labview", "replay"].as_slice(), false),
+        (["explain"].as_slice(), false),
+    ];
+    for (i, (words, wanted)) in lines.into_iter().enumerate() {
+        match read_words(rt.alloc(), words) {
+            Ok(view) => assert!(rt; wanted && view == View::Explain, "line {i}"),
+            Err(NoTask::Refused) => assert!(rt; !wanted, "line {i}"),
+            Err(_) => panic!(rt; "line {i}"),
+        }
+    }
+    let text = match read_words(rt.alloc(), &["labview", "--help"]) {
+        Err(NoTask::Help(text)) => text,
+        _ => String::new(rt.alloc()),
+    };
+    assert!(rt; text.as_str() == HELP, "{text}");
+}
