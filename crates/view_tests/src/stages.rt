@@ -82,95 +82,126 @@ const THIRSTY: JobState = JobState {
     position: 0,
 };
 
-// A stage, an event, and why it isn't legal there; None where it is.
+// An event, and why it isn't legal; None where it is.
 #[derive(Clone, Copy)]
-struct Case(usize, Event, Option<Cause>);
+struct Case(Event, Option<Cause>);
 
-const CASES: [Case; 68] = [
-    Case(0, Event::Thirst(A), None),
-    Case(0, Event::Look(A, AB, OPENED), None),
-    Case(0, Event::Glance(A, B, IDLE), None),
-    Case(0, Event::Thirst(NOBODY), Some(Cause::NotJob)),
-    Case(0, Event::Glance(NOBODY, A, IDLE), Some(Cause::NotJob)),
-    Case(0, Event::Look(A, EdgeNo(1), OPENED), Some(Cause::NotOwn)),
-    Case(0, Event::Soil(NOBODY, AB), Some(Cause::NotOwn)),
-    Case(0, Event::Look(A, AB, CLEAN), Some(Cause::SeesElse)),
-    Case(0, Event::Glance(A, B, THIRSTY), Some(Cause::SeesElse)),
-    Case(0, Event::Glance(A, NOBODY, IDLE), Some(Cause::OtherNotJob)),
-    Case(0, Event::Glance(A, A, IDLE), Some(Cause::Itself)),
-    Case(0, Event::Sit(A), Some(Cause::NotHungry)),
-    Case(0, Event::AskFork(B, AB), Some(Cause::NotHungry)),
-    Case(0, Event::Leave(A), Some(Cause::NotEating)),
-    Case(0, Event::Soil(A, AB), Some(Cause::NotEating)),
-    Case(0, Event::Hunger(A), Some(Cause::NotThirsty)),
-    Case(0, Event::Drink(B), Some(Cause::NotThirsty)),
-    Case(0, Event::Withdraw(B), Some(Cause::NotThirsty)),
-    Case(0, Event::AskBottles(A, AB, 0), Some(Cause::NotThirsty)),
-    Case(0, Event::Reach(A), Some(Cause::NotDrinking)),
-    Case(0, Event::Quit(B), Some(Cause::NotDrinking)),
-    Case(0, Event::Act(A), Some(Cause::NotReaching)),
-    Case(0, Event::Retire(A), Some(Cause::SessionLeft)),
-    Case(0, Event::GiveFork(A, AB), Some(Cause::TokenThere)),
-    Case(0, Event::GiveFork(B, AB), Some(Cause::ForkThere)),
-    Case(0, Event::GiveBottles(A, AB, 0), Some(Cause::NoBottle)),
-    Case(0, Event::GiveBottles(A, AB, 4), Some(Cause::NotOfEdge)),
-    Case(0, Event::GiveBottles(B, AB, 1), Some(Cause::BottleThere(0))),
+// Before the first step: looks, glances, and numbers beyond the plan.
+const SIGHTS: [Case; 10] = [
+    Case(Event::Look(A, AB, OPENED), None),
+    Case(Event::Glance(A, B, IDLE), None),
+    Case(Event::Thirst(NOBODY), Some(Cause::NotJob)),
+    Case(Event::Glance(NOBODY, A, IDLE), Some(Cause::NotJob)),
+    Case(Event::Look(A, EdgeNo(1), OPENED), Some(Cause::NotOwn)),
+    Case(Event::Soil(NOBODY, AB), Some(Cause::NotOwn)),
+    Case(Event::Look(A, AB, CLEAN), Some(Cause::SeesElse)),
+    Case(Event::Glance(A, B, THIRSTY), Some(Cause::SeesElse)),
+    Case(Event::Glance(A, NOBODY, IDLE), Some(Cause::OtherNotJob)),
+    Case(Event::Glance(A, A, IDLE), Some(Cause::Itself)),
+];
+
+// Before the first step: what a job does by itself.
+const JOBS: [Case; 10] = [
+    Case(Event::Thirst(A), None),
+    Case(Event::Sit(A), Some(Cause::NotHungry)),
+    Case(Event::Leave(A), Some(Cause::NotEating)),
+    Case(Event::Hunger(A), Some(Cause::NotThirsty)),
+    Case(Event::Drink(B), Some(Cause::NotThirsty)),
+    Case(Event::Withdraw(B), Some(Cause::NotThirsty)),
+    Case(Event::Reach(A), Some(Cause::NotDrinking)),
+    Case(Event::Quit(B), Some(Cause::NotDrinking)),
+    Case(Event::Act(A), Some(Cause::NotReaching)),
+    Case(Event::Retire(A), Some(Cause::SessionLeft)),
+];
+
+// Before the first step: what it does at its edge.
+const THINGS: [Case; 9] = [
+    Case(Event::AskFork(B, AB), Some(Cause::NotHungry)),
+    Case(Event::Soil(A, AB), Some(Cause::NotEating)),
+    Case(Event::AskBottles(A, AB, 0), Some(Cause::NotThirsty)),
+    Case(Event::GiveFork(A, AB), Some(Cause::TokenThere)),
+    Case(Event::GiveFork(B, AB), Some(Cause::ForkThere)),
+    Case(Event::GiveBottles(A, AB, 0), Some(Cause::NoBottle)),
+    Case(Event::GiveBottles(A, AB, 4), Some(Cause::NotOfEdge)),
+    Case(Event::GiveBottles(B, AB, 1), Some(Cause::BottleThere(0))),
     Case(
-        0,
         Event::GiveBottles(A, AB, 2),
         Some(Cause::BottleTokenThere(1)),
     ),
-    Case(1, Event::GiveFork(A, AB), None),
-    Case(1, Event::Withdraw(B), None),
-    Case(1, Event::AskBottles(B, AB, 2), None),
-    Case(1, Event::Thirst(A), Some(Cause::NotTranquil)),
-    Case(1, Event::Hunger(A), Some(Cause::NotThinking)),
-    Case(1, Event::Retire(A), Some(Cause::NotThinking)),
-    Case(1, Event::Sit(A), Some(Cause::UnmarkedClaimed(AB))),
-    Case(1, Event::Sit(B), Some(Cause::UnmarkedAway(AB))),
-    Case(1, Event::Drink(A), Some(Cause::MissingUnseen(AB, 0))),
-    Case(1, Event::Drink(B), Some(Cause::MissingAway(AB, 0))),
-    Case(1, Event::AskFork(A, AB), Some(Cause::ForkHere)),
-    Case(1, Event::AskFork(B, AB), Some(Cause::TokenThere)),
-    Case(1, Event::AskBottles(B, AB, 0), Some(Cause::NoBottle)),
-    Case(1, Event::AskBottles(B, AB, 4), Some(Cause::NotOfEdge)),
-    Case(1, Event::AskBottles(A, AB, 1), Some(Cause::BottleHere(0))),
-    Case(1, Event::AskBottles(A, AB, 2), Some(Cause::NotNeeded(1))),
+];
+
+// At the first stage: what a job does by itself.
+const JOBS_ASKED: [Case; 9] = [
+    Case(Event::Withdraw(B), None),
+    Case(Event::Thirst(A), Some(Cause::NotTranquil)),
+    Case(Event::Hunger(A), Some(Cause::NotThinking)),
+    Case(Event::Retire(A), Some(Cause::NotThinking)),
+    Case(Event::Sit(A), Some(Cause::UnmarkedClaimed(AB))),
+    Case(Event::Sit(B), Some(Cause::UnmarkedAway(AB))),
+    Case(Event::Drink(A), Some(Cause::MissingUnseen(AB, 0))),
+    Case(Event::Drink(B), Some(Cause::MissingAway(AB, 0))),
+    Case(Event::Withdraw(A), Some(Cause::NoPatience)),
+];
+
+// At the first stage: what it does at its edge.
+const THINGS_ASKED: [Case; 10] = [
+    Case(Event::GiveFork(A, AB), None),
+    Case(Event::AskBottles(B, AB, 2), None),
+    Case(Event::AskFork(A, AB), Some(Cause::ForkHere)),
+    Case(Event::AskFork(B, AB), Some(Cause::TokenThere)),
+    Case(Event::AskBottles(B, AB, 0), Some(Cause::NoBottle)),
+    Case(Event::AskBottles(B, AB, 4), Some(Cause::NotOfEdge)),
+    Case(Event::AskBottles(A, AB, 1), Some(Cause::BottleHere(0))),
+    Case(Event::AskBottles(A, AB, 2), Some(Cause::NotNeeded(1))),
     Case(
-        1,
         Event::AskBottles(B, AB, 3),
         Some(Cause::BottleTokenThere(0)),
     ),
-    Case(
-        1,
-        Event::GiveBottles(A, AB, 1),
-        Some(Cause::KeptWithFork(0)),
-    ),
-    Case(1, Event::Withdraw(A), Some(Cause::NoPatience)),
-    Case(2, Event::Reach(A), None),
-    Case(2, Event::AskFork(A, AB), None),
-    Case(
-        2,
-        Event::GiveBottles(A, AB, 1),
-        Some(Cause::KeptInSession(0)),
-    ),
-    Case(2, Event::GiveFork(B, AB), Some(Cause::ForkClean)),
-    Case(2, Event::Quit(A), Some(Cause::CommandLeft)),
-    Case(2, Event::Sit(B), Some(Cause::UnmarkedUnseen(AB))),
-    Case(3, Event::Soil(B, AB), None),
-    Case(3, Event::Leave(B), Some(Cause::Thirsts)),
-    Case(3, Event::GiveFork(B, AB), Some(Cause::Eats)),
-    Case(3, Event::Reach(A), Some(Cause::NoCommandLeft)),
-    Case(4, Event::Thirst(A), None),
-    Case(4, Event::Leave(B), Some(Cause::UnmarkedClean(AB))),
-    Case(4, Event::Drink(B), Some(Cause::NotThirsty)),
-    Case(5, Event::Leave(B), None),
-    Case(5, Event::Soil(B, AB), Some(Cause::ForkDirty)),
-    Case(6, Event::Thirst(B), Some(Cause::Eats)),
-    Case(6, Event::Retire(B), Some(Cause::NotThinking)),
-    Case(7, Event::Retire(B), None),
-    Case(7, Event::Thirst(B), Some(Cause::NoSessionLeft)),
-    Case(7, Event::Retire(NOBODY), Some(Cause::NotJob)),
+    Case(Event::GiveBottles(A, AB, 1), Some(Cause::KeptWithFork(0))),
+];
+
+// At the second.
+const SECOND: [Case; 6] = [
+    Case(Event::Reach(A), None),
+    Case(Event::AskFork(A, AB), None),
+    Case(Event::GiveBottles(A, AB, 1), Some(Cause::KeptInSession(0))),
+    Case(Event::GiveFork(B, AB), Some(Cause::ForkClean)),
+    Case(Event::Quit(A), Some(Cause::CommandLeft)),
+    Case(Event::Sit(B), Some(Cause::UnmarkedUnseen(AB))),
+];
+
+// At the third.
+const THIRD: [Case; 4] = [
+    Case(Event::Soil(B, AB), None),
+    Case(Event::Leave(B), Some(Cause::Thirsts)),
+    Case(Event::GiveFork(B, AB), Some(Cause::Eats)),
+    Case(Event::Reach(A), Some(Cause::NoCommandLeft)),
+];
+
+// At the fourth.
+const FOURTH: [Case; 3] = [
+    Case(Event::Thirst(A), None),
+    Case(Event::Leave(B), Some(Cause::UnmarkedClean(AB))),
+    Case(Event::Drink(B), Some(Cause::NotThirsty)),
+];
+
+// At the fifth.
+const FIFTH: [Case; 2] = [
+    Case(Event::Leave(B), None),
+    Case(Event::Soil(B, AB), Some(Cause::ForkDirty)),
+];
+
+// At the sixth.
+const SIXTH: [Case; 2] = [
+    Case(Event::Thirst(B), Some(Cause::Eats)),
+    Case(Event::Retire(B), Some(Cause::NotThinking)),
+];
+
+// At the last.
+const LAST: [Case; 3] = [
+    Case(Event::Retire(B), None),
+    Case(Event::Thirst(B), Some(Cause::NoSessionLeft)),
+    Case(Event::Retire(NOBODY), Some(Cause::NotJob)),
 ];
 
 // All moves that are legal at four of the stages.
@@ -197,13 +228,10 @@ const AT_FOURTH: [Step; 4] = [
     Step::Soil(B, AB),
 ];
 
-fn ask_causes<T: Allocator>(rt: &impl Abort, world: &World<T>, stage: usize) {
-    for case in &CASES {
-        let Case(at, event, cause) = *case;
-        assert!(rt;
-            at != stage || why_not(world, &event) == cause,
-            "{stage}: {event:?}"
-        );
+fn ask_causes<T: Allocator>(rt: &impl Abort, world: &World<T>, cases: &[Case]) {
+    for case in cases {
+        let Case(event, cause) = *case;
+        assert!(rt; why_not(world, &event) == cause, "{event:?}");
     }
 }
 
@@ -225,23 +253,48 @@ fn ask_moves<T: Allocator + Copy>(
     Ok(())
 }
 
-fn ask_at<T: Allocator + Copy>(rt: &impl Abort, alloc: T, stage: usize) -> Result<(), Fail> {
+// The causes and the moves at a stage.
+fn ask_at<T: Allocator + Copy>(
+    rt: &impl Abort,
+    alloc: T,
+    stage: usize,
+    cases: &[Case],
+) -> Result<(), Fail> {
     let text = text_at(alloc, stage)?;
     let Ok((plan, lines)) = read_steps(alloc, text.as_bytes()) else {
         panic!(rt; "no steps");
     };
     let mut world = World::opening(alloc, &plan)?;
     assert!(rt; world.replay_steps(&lines).is_ok(), "{stage}");
-    ask_causes(rt, &world, stage);
+    ask_causes(rt, &world, cases);
     ask_moves(rt, alloc, &world, stage)
 }
 
 #[test]
-fn causes_and_moves(rt: HostRuntime) -> Result<(), Fail> {
-    for stage in 0..8 {
-        ask_at(&rt, rt.alloc(), stage)?;
-    }
-    Ok(())
+fn before_the_first_step(rt: HostRuntime) -> Result<(), Fail> {
+    ask_at(&rt, rt.alloc(), 0, &SIGHTS)?;
+    ask_at(&rt, rt.alloc(), 0, &JOBS)?;
+    ask_at(&rt, rt.alloc(), 0, &THINGS)
+}
+
+#[test]
+fn where_all_is_asked_for(rt: HostRuntime) -> Result<(), Fail> {
+    ask_at(&rt, rt.alloc(), 1, &JOBS_ASKED)?;
+    ask_at(&rt, rt.alloc(), 1, &THINGS_ASKED)
+}
+
+#[test]
+fn in_sessions(rt: HostRuntime) -> Result<(), Fail> {
+    ask_at(&rt, rt.alloc(), 2, &SECOND)?;
+    ask_at(&rt, rt.alloc(), 3, &THIRD)?;
+    ask_at(&rt, rt.alloc(), 4, &FOURTH)
+}
+
+#[test]
+fn at_the_end_of_a_meal(rt: HostRuntime) -> Result<(), Fail> {
+    ask_at(&rt, rt.alloc(), 5, &FIFTH)?;
+    ask_at(&rt, rt.alloc(), 6, &SIXTH)?;
+    ask_at(&rt, rt.alloc(), 7, &LAST)
 }
 
 #[test]
