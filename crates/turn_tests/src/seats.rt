@@ -32,6 +32,8 @@ pub(crate) enum Move {
     Want,
     // a look, and one exchange of all that is due by it
     Visit,
+    // whether it is noted as calm
+    Noted,
     // the moves that are due there, of which nothing is done
     Forks,
     Due,
@@ -52,6 +54,8 @@ pub(crate) enum Call {
     // the phase act of a turn whose session has waited so long, and what it would be
     Act(u32),
     ActDue(u32),
+    // whether it is noted that no act of the phase is legal
+    Settled,
     Turn,
     AllRetired,
     Table,
@@ -157,6 +161,7 @@ fn layer_move<A: Allocator>(
         Move::Serve => of_try(serve_bottles(bench, desk, edge)),
         Move::Want => of_try(want_bottles(bench, desk, edge)),
         Move::Visit => of_visit(visit(bench, desk, edge)),
+        Move::Noted => yes_or_no(desk.is_calm(edge)),
         _ => Answer::NotLegal,
     }
 }
@@ -340,6 +345,7 @@ fn by_job<A: Allocator>(rt: &impl Abort, bench: &Bench<A>, desk: &mut Desk<A>, c
     match call {
         Call::Act(waited) => Answer::Acted(act(bench, desk, waited)),
         Call::ActDue(waited) => Answer::Does(phase_due(bench, desk, waited)),
+        Call::Settled => yes_or_no(desk.is_settled()),
         Call::Turn => of_turn(turn(bench, desk)),
         Call::AllRetired => yes_or_no(all_retired(bench, desk)),
         Call::Table => of_table(table(bench, desk)),

@@ -1,8 +1,8 @@
 // The parts of a turn by themselves: a visit of an edge, and the phase act that is due.
 use crate::labs::PATIENCE_1;
-use crate::seats::Answer::{Acted, Calm, Does, Done, Stored};
-use crate::seats::Call::{Act, ActDue, On, Table};
-use crate::seats::Move::Visit;
+use crate::seats::Answer::{Acted, Calm, Does, Done, No, Stored, Yes};
+use crate::seats::Call::{Act, ActDue, On, Settled, Table};
+use crate::seats::Move::{Noted, Visit};
 use crate::tables::{A, AB, B, OPEN, Row, check};
 use edge_rule::PhaseEvent::{self, Hunger, Leave, Quit, Retire, Sit, Thirst, Withdraw};
 use legal_steps::Dining::{Eating, Hungry, Thinking};
@@ -12,7 +12,8 @@ use session_layer::Due::{Command, Nothing, Store};
 const DRINK: PhaseEvent = PhaseEvent::Drink;
 
 /// Job a drinks first, then b, which eats after it. The session of b could be given up once it has waited for a turn.
-const PARTS: [Row; 42] = [
+const PARTS: [Row; 47] = [
+    (A, On(AB, Noted), No, &[OPEN], (Thinking, Tranquil, 0, 0)),
     (
         A,
         ActDue(0),
@@ -21,7 +22,9 @@ const PARTS: [Row; 42] = [
         (Thinking, Tranquil, 0, 0),
     ),
     (A, On(AB, Visit), Calm, &[OPEN], (Thinking, Tranquil, 0, 0)),
+    (A, On(AB, Noted), Yes, &[OPEN], (Thinking, Tranquil, 0, 0)),
     (A, Act(0), Acted(1), &[OPEN], (Thinking, Thirsty, 1, 0)),
+    (A, On(AB, Noted), No, &[OPEN], (Thinking, Thirsty, 1, 0)),
     (
         A,
         ActDue(0),
@@ -49,6 +52,7 @@ const PARTS: [Row; 42] = [
     (B, Act(0), Acted(1), &[6], (Hungry, Thirsty, 1, 0)),
     (B, ActDue(0), Does(Nothing), &[6], (Hungry, Thirsty, 1, 0)),
     (B, Act(0), Acted(0), &[6], (Hungry, Thirsty, 1, 0)),
+    (B, Settled, Yes, &[6], (Hungry, Thirsty, 1, 0)),
     (
         B,
         ActDue(1),
@@ -58,6 +62,7 @@ const PARTS: [Row; 42] = [
     ),
     (B, ActDue(0), Does(Nothing), &[6], (Hungry, Thirsty, 1, 0)),
     (B, On(AB, Visit), Done, &[2], (Hungry, Thirsty, 1, 0)),
+    (B, Settled, No, &[2], (Hungry, Thirsty, 1, 0)),
     (A, Act(0), Acted(1), &[OPEN], (Thinking, Drinks, 1, 0)),
     (
         A,
