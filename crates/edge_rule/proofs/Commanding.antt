@@ -35,6 +35,8 @@ use Rattle.edge_rule.specs.DeskView.{DeskView, Owns, Adds, Commanded, known}
 use Rattle.edge_rule.specs.declared.counts.Counts.{Counts}
 use Rattle.edge_rule.specs.Counting.{counts_of}
 use Rattle.edge_rule.proofs.CountsKept.{counts_stay}
+use Rattle.edge_rule.specs.NeededBottles.{AreNeeded}
+use Rattle.edge_rule.specs.declared.needed.Needed.{Needed}
 use Rattle.edge_rule.specs.DeskInside.{seat_view, view_of, kept, AreOfPlan, AtRest, IsDesk, fixed}
 use Rattle.edge_rule.specs.BenchInside.{bench_of, IsBench}
 use Rattle.edge_rule.specs.CalmEdges.{AreStill}
@@ -238,9 +240,9 @@ module _ {A : Type 0} (b : bench_fields.Inside A) (d : Inside A) (is_bench : IsB
           record {
             at_rest = rest_grown v1 w (Act (hand_in v1).job ∷ []) rests1 did;
             empty = empty;
-            job = job2 ∙ (ok.job ∙ sym (ap (λ (z : ℕ × Counts). z.0) same));
+            job = job2 ∙ (ok.job ∙ sym (ap (λ (z : ℕ × Counts × List Needed). z.0) same));
             counts = (λ r. counts_of (job2 r) (deeds2 r)) ∙ (counts_stay cj ((hand_in cv).deeds ++ Reach cj ∷ []) (Act cj ∷ []) ((refl, refl, refl), tt)
-                ∙ (counts_stay cj (hand_in cv).deeds (Reach cj ∷ []) ((refl, refl, refl), tt) ∙ (ok.counts ∙ sym (ap (λ (z : ℕ × Counts). z.1) same))));
+                ∙ (counts_stay cj (hand_in cv).deeds (Reach cj ∷ []) ((refl, refl, refl), tt) ∙ (ok.counts ∙ sym (ap (λ (z : ℕ × Counts × List Needed). z.1) same))));
             own = (λ r. seat (mine w) (job2 r)) ∙ own_now;
             seen = seen_now;
             of_plan = subst (λ (q : LabPlan × List EdgeState). AreOfPlan q.0 q.1) (λ r. (sym plan2 r, sym seen r)) ok.of_plan;
@@ -248,6 +250,7 @@ module _ {A : Type 0} (b : bench_fields.Inside A) (d : Inside A) (is_bench : IsB
                 (stay_still cp (mine cv) (mine w) cj d.calm.items (λ f. same_at (mine cv) (mine w) cj f (kept d) (kept d') d.seen.items d'.seen.items ok.own own_now ok.seen seen_now
                 (ap (λ l. get_or l f no_edge) seen) (ap (λ (q : Seat). but_position q.phase) own ∙ still_drinks) (ap (λ (q : Seat). get_or q.fork_marks f false) own) (ap (λ (q : Seat). get_or q.bottle_marks f 0) own)) ok.calm);
             settled = λ is. absurd (false≢true (sym unsettled ∙ is));
+            needed = subst (λ (q : LabPlan × ℕ × List Needed). AreNeeded q.0 q.1 q.2) (λ r. (sym plan2 r, sym job2 r, sym (ap (λ (z : ℕ × Counts × List Needed). z.2) same) r)) ok.needed;
             rests = let drinks : d'.phase.drinking ≡ Drinks = ap (λ (q : Seat). q.phase.drinking) own in λ e. (let both : Drinks ≡ Reaching = sym drinks ∙ e in cc);
           }
 

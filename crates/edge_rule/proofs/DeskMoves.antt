@@ -337,8 +337,8 @@ module _ {A : Type 0} (b : bench_fields.Inside A) (d : Inside A) (is_bench : IsB
 
   -- the desk after it
   pub phase_kept : (what : PhaseEvent) (d' : Inside A) → Does sv (event_of what sj) d'.seat.me.0 → d'.seat.me.1 ≡ d.seat.me.1 → d'.job ≡ d.job → d'.counts ≡ counted what d.counts → d'.phase ≡ phase_after what d.phase
-      → d'.fork_marks.items ≡ (if clears what then replicate (length d.fork_marks.items) false else d.fork_marks.items) → d'.bottle_marks.items ≡ d.bottle_marks.items → d'.seen.items ≡ d.seen.items → d'.calm.items ≡ replicate (length d.calm.items) false → d'.settled ≡ false → IsDesk d'
-  phase_kept what d' t empty job counts phase forks_are marks_are seen calm unsettled =
+      → d'.fork_marks.items ≡ (if clears what then replicate (length d.fork_marks.items) false else d.fork_marks.items) → d'.bottle_marks.items ≡ d.bottle_marks.items → d'.seen.items ≡ d.seen.items → d'.calm.items ≡ replicate (length d.calm.items) false → d'.settled ≡ false → d'.needed.items ≡ d.needed.items → IsDesk d'
+  phase_kept what d' t empty job counts phase forks_are marks_are seen calm unsettled needed =
       let jobs = mine_seats sv in
       let here = ok.at_rest.inside in
       let by = by_job what sj in
@@ -349,4 +349,4 @@ module _ {A : Type 0} (b : bench_fields.Inside A) (d : Inside A) (is_bench : IsB
       (none_still sp (learned_all sp (mine sv) (event_of what sj ∷ [])) sj (length d.calm.items) d'.calm.items calm ok.calm.wide)
       (not_settled d ok d' unsettled)
       (subst (λ (z : JobState). z.drinking ≢ Reaching) (sym phase) (still_rests what d.phase ok.rests))
-      (counts_grow what sj (hand_in sv).deeds ∙ (ap (counted what) ok.counts ∙ sym counts))
+      (counts_grow what sj (hand_in sv).deeds ∙ (ap (counted what) ok.counts ∙ sym counts)) needed

@@ -1,6 +1,7 @@
 pub mod WordFields
 pub mod CountsKept
 pub mod StillEdges
+pub mod NotedNeeds
 pub mod DeskSteps
 pub mod DeskMoves
 pub mod Commanding

@@ -8,6 +8,7 @@ use Rattle.legal_steps.specs.State.{seat}
 use Rattle.edge_rule.specs.Counting.{counts_of}
 use Rattle.edge_rule.specs.CalmEdges.{AreStill}
 use Rattle.turns.specs.Acts.{IsSettled}
+use Rattle.edge_rule.specs.NeededBottles.{AreNeeded}
 use Rattle.edge_rule.specs.DeskInside.{kept, AreOfPlan, AtRest, IsDesk}
 use Rattle.edge_rule.specs.declared.desk.Desk.TheInside.{Inside}
 use Rattle.atomic_table.specs.declared.shared.Seat.{Seat}
@@ -135,7 +136,7 @@ row id hands l front back y some f b tables aways distinct = let is : l ≡ get_
     record { table = t.0; tables = t.1; away = a.0; aways = a.1; other = d.0; others = d.1 }
 
 -- a desk whose seat is as before
-pub desk_still : {A : Type 0} (d : Inside A) (s : Seat LogView View) → s.me ≡ d.seat.me → IsDesk d → IsDesk record { seat = s; job = d.job; phase = d.phase; fork_marks = d.fork_marks; bottle_marks = d.bottle_marks; seen = d.seen; calm = d.calm; settled = d.settled; clock = d.clock; counts = d.counts }
+pub desk_still : {A : Type 0} (d : Inside A) (s : Seat LogView View) → s.me ≡ d.seat.me → IsDesk d → IsDesk record { seat = s; job = d.job; phase = d.phase; fork_marks = d.fork_marks; bottle_marks = d.bottle_marks; seen = d.seen; calm = d.calm; settled = d.settled; needed = d.needed; clock = d.clock; counts = d.counts }
 desk_still d s e ok = let v = sym (ap (λ m. m.0) e) in record {
   at_rest = subst AtRest v ok.at_rest;
   empty = ap (λ m. m.1) e ∙ ok.empty;
@@ -146,5 +147,6 @@ desk_still d s e ok = let v = sym (ap (λ m. m.0) e) in record {
   of_plan = subst (λ z. AreOfPlan (hand_in z).plan d.seen.items) v ok.of_plan;
   calm = subst (λ (z : View). AreStill (hand_in z).plan (mine z) (hand_in z).job d.calm.items) v ok.calm;
   settled = λ is. subst (λ (z : View). IsSettled (hand_in z).plan (mine z) (hand_in z).job) v (ok.settled is);
+  needed = subst (λ (z : View). AreNeeded (hand_in z).plan (hand_in z).job d.needed.items) v ok.needed;
   rests = ok.rests;
 }

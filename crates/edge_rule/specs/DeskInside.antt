@@ -15,6 +15,8 @@ use Rattle.locality.specs.History.{IsHistory, events_by}
 use Rattle.one_history.specs.Grow.{hand_in, IsMine, mine}
 use Rattle.edge_rule.specs.DeskView.{DeskView}
 use Rattle.edge_rule.specs.CalmEdges.{AreStill}
+use Rattle.edge_rule.specs.NeededBottles.{AreNeeded}
+use Rattle.edge_rule.specs.declared.needed.Needed.{Needed}
 use Rattle.turns.specs.Acts.{IsSettled}
 use Rattle.edge_rule.specs.declared.desk.Desk.TheInside.{Inside}
 
@@ -29,8 +31,8 @@ abbrev pub kept : {A : Type 0} → Inside A → Seat
 kept d = record { phase = d.phase; fork_marks = d.fork_marks.items; bottle_marks = d.bottle_marks.items }
 
 -- what no step but one of a phase changes
-abbrev pub fixed : {A : Type 0} → Inside A → ℕ × Counts
-fixed d = (d.job, d.counts)
+abbrev pub fixed : {A : Type 0} → Inside A → ℕ × Counts × List Needed
+fixed d = (d.job, d.counts, d.needed.items)
 
 -- the edges have bottles of their own alone
 abbrev pub AreOfPlan : LabPlan → List EdgeState → Type 0
@@ -54,4 +56,5 @@ pub record IsDesk {A : Type 0} (d : Inside A) : Type 0 where
   pub of_plan : AreOfPlan (hand_in d.seat.me.0).plan d.seen.items
   pub calm : AreStill (hand_in d.seat.me.0).plan (mine d.seat.me.0) (hand_in d.seat.me.0).job d.calm.items
   pub settled : d.settled ≡ true → IsSettled (hand_in d.seat.me.0).plan (mine d.seat.me.0) (hand_in d.seat.me.0).job
+  pub needed : AreNeeded (hand_in d.seat.me.0).plan (hand_in d.seat.me.0).job d.needed.items
   pub rests : d.phase.drinking ≢ Reaching

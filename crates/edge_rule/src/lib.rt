@@ -12,6 +12,7 @@ mod company;
 mod counts;
 mod desk;
 mod meeting;
+mod needed;
 mod opening;
 mod readers;
 mod refusals;

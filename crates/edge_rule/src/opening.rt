@@ -11,6 +11,7 @@ use crate::bench::Bench;
 use crate::clock::Clock;
 use crate::counts::NO_COUNTS;
 use crate::desk::Desk;
+use crate::needed::NOTHING_NOTED;
 use crate::refusals::OpenError;
 use crate::rooms::empty_logs;
 use atomic_table::{Seat, Table};
@@ -69,6 +70,7 @@ fn next_desk<A: Allocator + Copy>(
     let bottle_marks = Vec::from_elem(alloc, 0u32, count)?;
     let seen = fresh_edges(alloc, plan)?;
     let calm = Vec::from_elem(alloc, false, count)?;
+    let needed = Vec::from_elem(alloc, NOTHING_NOTED, count)?;
     let phase = JobState {
         dining: Dining::Thinking,
         drinking: Drinking::Tranquil,
@@ -86,6 +88,7 @@ fn next_desk<A: Allocator + Copy>(
         seen,
         calm,
         settled: false,
+        needed,
         clock: Clock {
             turns: 0,
             waited: 0,

@@ -1,12 +1,13 @@
 use Rattle.std.proofs.Common.{◌≡◌, ◌≢◌, ℕ, List, [], ◌∷◌, ◌++◌, length, get_or, set, refl, sym, ap, ◌∙◌, subst, append-nil}
 use Rattle.one_history.specs.declared.board.Hand.{Hand}
-use Rattle.edge_rule.specs.DeskView.{DeskView, Adds}
+use Rattle.edge_rule.specs.DeskView.{BenchView, DeskView, Owns, Adds}
 use Rattle.edge_rule.specs.DeskInside.{seat_view}
 use Rattle.edge_rule.specs.Company.{Met, Hears, Distinct, jobs_of}
 use Rattle.locality.specs.History.{events_by}
 use Rattle.one_history.specs.Grow.{hand_in}
 use Rattle.locality.specs.Lists.{Each, StartsWith}
 use Rattle.edge_rule.proofs.DeskSteps.{seat_adds, desk_keeps}
+use Rattle.locality.proofs.Runs.{each_map}
 use Rattle.edge_rule.proofs.ManyHands.{split_first, some_left, apart_more}
 use Rattle.edge_rule.proofs.company.meet_all.Goals as goal
 
@@ -16,6 +17,14 @@ nobody (d ∷ l) = (tt, nobody l)
 
 hears : (d : DeskView) (l : List DeskView) (e : DeskView) → Adds d [] e → Each (λ (x : DeskView). StartsWith e.front x.front) l → Each (λ (x : DeskView). events_by x.job e.front ≡ x.deeds) l → Hears d l e
 hears d l e a starts wholes = record { table = a.table; clock = a.clock; plan = a.plan; job = a.job; deeds = a.deeds ∙ append-nil d.deeds; more = a.between; front = a.front ∙ append-nil (d.front ++ a.between); legal = a.legal; whole = a.whole; starts = starts; wholes = wholes }
+
+pub hear-requires-clause-own : goal.hear-requires-clause-own
+hear-requires-clause-own g0 c =
+    let back : List DeskView = c.split_at_mut-front.result.1.now in
+    let is = split_first c.args.desks.now c.split_at_mut-front.result.0.now back c.index-front-0.result (some_left (length c.args.desks.now) c.if-is_empty.ensures) c.split_at_mut-front.ensures.front c.split_at_mut-front.ensures.back in
+    let owns = (subst (Each (Owns c.args.bench.now)) is.0 c.requires.own).1 in
+    let table : c.args.bench.now.table ≡ c.bench.inside.table.shared.table_id = sym (ap (λ (b : BenchView). b.table) c.bench.view_is) in
+    each_map (Owns c.args.bench.now) (λ (d : DeskView). d.table ≡ c.bench.inside.table.shared.table_id) (λ d o. o.0 ∙ table) back owns
 
 pub hear-requires-clause-apart : goal.hear-requires-clause-apart
 hear-requires-clause-apart g0 c = let is = split_first c.args.desks.now c.split_at_mut-front.result.0.now c.split_at_mut-front.result.1.now c.index-front-0.result (some_left (length c.args.desks.now) c.if-is_empty.ensures) c.split_at_mut-front.ensures.front c.split_at_mut-front.ensures.back in

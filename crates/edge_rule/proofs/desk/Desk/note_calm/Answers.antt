@@ -26,5 +26,6 @@ invariant_of-self g c =
       calm = one_more (hand_in d.seat.me.0).plan (mine d.seat.me.0) (hand_in d.seat.me.0).job c.args.edge c.number.result d.calm.items c.number.ensures.0
           (of_seat (λ (z : DeskView). c.args.edge < length (edges z.plan)) d _ c.self.view_is c.requires.edge) still ok.calm;
       settled = ok.settled;
+      needed = ok.needed;
       rests = ok.rests;
     }

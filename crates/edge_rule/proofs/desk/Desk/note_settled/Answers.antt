@@ -14,5 +14,6 @@ invariant_of-self g c = let ok = c.self.invariant in record {
   of_plan = ok.of_plan;
   calm = ok.calm;
   settled = λ _. of_seat (λ (z : DeskView). IsSettled z.plan (known z) z.job) c.self.inside _ c.self.view_is c.requires;
+  needed = ok.needed;
   rests = ok.rests;
 }
