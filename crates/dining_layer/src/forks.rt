@@ -42,7 +42,8 @@ fn soils(dining: Dining, here: End, seen: EdgeState) -> bool
     dining == Dining::Eating && seen.fork == here && !seen.dirty
 }
 
-fn due_forks(dining: Dining, here: End, seen: EdgeState) -> EdgeMoves
+/// The fork moves that are due at this end of an edge that was seen so.
+pub fn due_forks(dining: Dining, here: End, seen: EdgeState) -> EdgeMoves
     ensures { result ≡ forks_due dining here seen }
 {
     EdgeMoves {

@@ -1,3 +1,4 @@
 pub mod Needed
 pub mod BottleMoves
+pub mod AddedSets
 pub mod AllAtOnce

@@ -8,6 +8,7 @@ use Rattle.legal_steps.specs.declared.phase.JobState.{JobState}
 use Rattle.legal_steps.specs.declared.edge_state.EdgeState.{EdgeState}
 use Rattle.legal_steps.specs.State.{IsInSession, bottles_at}
 use Rattle.legal_steps.specs.Legal.{is_at}
+use Rattle.edge_word.specs.declared.moves.EdgeMoves.{EdgeMoves}
 use Rattle.edge_word.specs.Moves.{when}
 use Rattle.legal_steps.specs.Legal.{fork_given}
 
@@ -37,6 +38,11 @@ gifts plan e here phase needed x given = without (bit_and (bottles_at plan e her
 
 abbrev pub wishes : LabPlan → ℕ → End → JobState → ℕ → EdgeState → ℕ → ℕ
 wishes plan e here phase needed x sent = if is_thirsty phase.drinking then without (bit_and needed (tokens_at plan e here x)) (bottles_at plan e here (record x { bottles = bit_xor x.bottles sent })) else 0
+
+-- the moves with the bottles that are given and asked for
+abbrev pub with_sets : LabPlan → ℕ → End → JobState → ℕ → EdgeState → EdgeMoves → EdgeMoves
+with_sets plan e here phase needed x m =
+    record m { give_bottles = gifts plan e here phase needed x m.give_fork; ask_bottles = wishes plan e here phase needed x (gifts plan e here phase needed x m.give_fork) }
 
 -- a job in this phase needs the instrument
 pub record NeedsIn (plan : LabPlan) (j : ℕ) (phase : JobState) (i : ℕ) : Type 0 where

@@ -1,5 +1,6 @@
 //! The greatest legal sets of bottles.
-ghost use Rattle.std.specs.Prelude.{◌≡◌};
+ghost use Rattle.std.specs.Prelude.{◌≡◌, ◌<◌, length};
+ghost use Rattle.lab_plan.specs.LabPlan.{edges};
 ghost use Rattle.legal_steps.specs.declared.phase.Drinking.TheVariants.{Thirsty};
 ghost use Rattle.legal_steps.specs.State.{IsOwn, drinking};
 ghost use Rattle.legal_steps.specs.Legal.{MayGiveBottle, MayAskBottle};
@@ -7,30 +8,27 @@ ghost use Rattle.legal_steps.specs.Run.{IsLegalFrom};
 ghost use Rattle.edge_word.specs.Moves.{events_of};
 ghost use Rattle.edge_rule.specs.DeskView.{Owns, known};
 ghost use Rattle.turns.specs.Due.{AreForkMoves, AreDue, WithBottles, IsGreatest};
+ghost use Rattle.drinking_layer.specs.Local.{with_sets as sets_added};
 
 use crate::needs::{gifts, needed_bottles, wishes};
-use dining_layer::at_edge;
+use dining_layer::{AtEdge, at_edge, due_forks};
 use edge_rule::{Bench, Desk};
 use edge_word::EdgeMoves;
-use lab_plan::EdgeNo;
+use lab_plan::{EdgeNo, Plan};
 use std::alloc::Allocator;
 
-/// The same fork moves with the greatest legal sets of bottles.
-pub fn with_bottles<A: Allocator>(
-    bench: &Bench<A>,
-    desk: &Desk<A>,
+// The moves with the bottles that are given and asked for.
+#[tactic(auto, unfolding(crate::specs::Local::with_sets))]
+fn with_sets<A: Allocator>(
+    plan: &Plan<A>,
     edge: EdgeNo,
+    at: AtEdge,
+    needed: u32,
     moves: EdgeMoves,
 ) -> EdgeMoves
-    requires own { Owns bench.now desk.now }
-    requires edge { IsOwn desk.now.plan desk.now.job edge }
-    ensures with { WithBottles desk.now.plan (known desk.now) desk.now.job edge moves result }
-    ensures due { AreForkMoves desk.now.plan (known desk.now) desk.now.job edge moves → AreDue desk.now.plan (known desk.now) desk.now.job edge result }
-    ensures legal { AreForkMoves desk.now.plan (known desk.now) desk.now.job edge moves → IsLegalFrom desk.now.plan (known desk.now) (events_of result desk.now.job edge) }
+    requires { edge < length (edges plan.now) }
+    ensures { result ≡ sets_added plan.now edge at.here at.phase needed at.seen moves }
 {
-    let at = at_edge(bench, desk, edge);
-    let plan = bench.plan();
-    let needed = needed_bottles(plan, at.job, at.phase, edge);
     let given = gifts(
         plan,
         edge,
@@ -46,6 +44,37 @@ pub fn with_bottles<A: Allocator>(
         ask_bottles: asked,
         ..moves
     }
+}
+
+/// The same fork moves with the greatest legal sets of bottles.
+pub fn with_bottles<A: Allocator>(
+    bench: &Bench<A>,
+    desk: &Desk<A>,
+    edge: EdgeNo,
+    moves: EdgeMoves,
+) -> EdgeMoves
+    requires own { Owns bench.now desk.now }
+    requires edge { IsOwn desk.now.plan desk.now.job edge }
+    ensures with { WithBottles desk.now.plan (known desk.now) desk.now.job edge moves result }
+    ensures due { AreForkMoves desk.now.plan (known desk.now) desk.now.job edge moves → AreDue desk.now.plan (known desk.now) desk.now.job edge result }
+    ensures legal { AreForkMoves desk.now.plan (known desk.now) desk.now.job edge moves → IsLegalFrom desk.now.plan (known desk.now) (events_of result desk.now.job edge) }
+{
+    let at = at_edge(bench, desk, edge);
+    let needed = needed_bottles(bench, desk, edge);
+    with_sets(bench.plan(), edge, at, needed, moves)
+}
+
+/// All moves that are due on an edge by the word last seen: every legal fork move, and the greatest legal sets of bottles.
+pub fn due_moves<A: Allocator>(bench: &Bench<A>, desk: &Desk<A>, edge: EdgeNo) -> EdgeMoves
+    requires own { Owns bench.now desk.now }
+    requires edge { IsOwn desk.now.plan desk.now.job edge }
+    ensures due { AreDue desk.now.plan (known desk.now) desk.now.job edge result }
+    ensures legal { IsLegalFrom desk.now.plan (known desk.now) (events_of result desk.now.job edge) }
+{
+    let at = at_edge(bench, desk, edge);
+    let needed = needed_bottles(bench, desk, edge);
+    let forks = due_forks(at.phase.dining, at.here, at.seen);
+    with_sets(bench.plan(), edge, at, needed, forks)
 }
 
 /// All bottles that may be given, by the word last seen.
@@ -72,6 +101,6 @@ pub fn all_wishes<A: Allocator>(bench: &Bench<A>, desk: &Desk<A>, edge: EdgeNo) 
 {
     let at = at_edge(bench, desk, edge);
     let plan = bench.plan();
-    let needed = needed_bottles(plan, at.job, at.phase, edge);
+    let needed = needed_bottles(bench, desk, edge);
     wishes(plan, edge, at.here, at.phase, needed, at.seen, 0)
 }

@@ -18,11 +18,8 @@ fn has_needed_at<A: Allocator>(bench: &Bench<A>, desk: &Desk<A>, edge: EdgeNo) -
     requires edge { edge < length (edges desk.now.plan) }
     ensures { IsTrue result ↔ HasNeededAt desk.now.plan (known desk.now) desk.now.job edge }
 {
-    let phase = desk.phase();
-    let job = desk.job();
-    let plan = bench.plan();
     let marks = desk.bottle_marks(edge);
-    let needed = needed_bottles(plan, job, phase, edge);
+    let needed = needed_bottles(bench, desk, edge);
     needed & marks == needed
 }
 

@@ -6,6 +6,7 @@ mod drinks;
 mod needs;
 mod serving;
 
-pub use bottles::{all_gifts, all_wishes, with_bottles};
+pub use bottles::{all_gifts, all_wishes, due_moves, with_bottles};
 pub use drinks::{drink, may_drink};
+pub use needs::note_needed;
 pub use serving::{serve_bottles, want_bottles};

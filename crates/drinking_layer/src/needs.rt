@@ -1,12 +1,16 @@
 //! Which bottles a job needs, gives and asks for on an edge, by the edge as it was seen and the own phase.
 ghost use Rattle.std.specs.Prelude.{◌≡◌, ◌↔◌, ℕ, ◌<◌, ◌≤◌, IsTrue, length};
 ghost use Rattle.std.specs.Int.{bit_at};
-ghost use Rattle.lab_plan.specs.LabPlan.{edges, bottles, sessions, session_names};
-ghost use Rattle.legal_steps.specs.State.{Has, IsOfEdge, IsInSession};
-ghost use Rattle.legal_steps.specs.Legal.{IsJob, instrument_of};
-ghost use Rattle.drinking_layer.specs.Local.{gifts as gifts_of, wishes as wishes_of, has_instruments as holds_instruments, tokens_at as tokens_of, NeedsIn};
+ghost use Rattle.lab_plan.specs.LabPlan.{edges, bottles};
+ghost use Rattle.legal_steps.specs.State.{Has, IsOfEdge, IsInSession, drinking as drinking_at, session as session_at};
+ghost use Rattle.legal_steps.specs.Legal.{instrument_of};
+ghost use Rattle.edge_rule.specs.DeskView.{Owns, known};
+ghost use Rattle.edge_rule.specs.NeededBottles.{AreNamed};
+ghost use Rattle.drinking_layer.specs.Local.{gifts as gifts_of, wishes as wishes_of, has_instruments as holds_instruments, tokens_at as tokens_of};
+ghost use Rattle.drinking_layer.specs.Bottles.{AreNeededNow};
 
-use lab_plan::{EdgeNo, InstrumentNo, JobNo, Plan};
+use edge_rule::{Bench, Desk};
+use lab_plan::{EdgeNo, InstrumentNo, Plan};
 use legal_steps::{Drinking, EdgeState, End, JobState};
 use std::alloc::Allocator;
 
@@ -53,24 +57,42 @@ fn bottles_in<A: Allocator>(plan: &Plan<A>, edge: EdgeNo, instruments: u64) -> u
     set
 }
 
-// The bottles of the edge that a job in this phase needs.
-pub(crate) fn needed_bottles<A: Allocator>(
-    plan: &Plan<A>,
-    job: JobNo,
-    phase: JobState,
-    edge: EdgeNo,
-) -> u32
-    requires is_job { IsJob plan.now job }
-    requires is_session { phase.session ≤ length (sessions plan.now job) }
-    requires begun { IsInSession phase.drinking → 1 ≤ phase.session }
-    requires is_edge { edge < length (edges plan.now) }
-    ensures of_edge { IsOfEdge plan.now edge result }
-    ensures just { (k : ℕ) → k < length (bottles plan.now edge) → Has result k ↔ NeedsIn plan.now job phase (instrument_of plan.now edge k) }
+// The bottles of the edge that the job's session needs.
+fn named_bottles<A: Allocator>(bench: &Bench<A>, desk: &Desk<A>, edge: EdgeNo) -> u32
+    requires own { Owns bench.now desk.now }
+    requires edge { edge < length (edges desk.now.plan) }
+    requires in_session { IsInSession (drinking_at (known desk.now) desk.now.job) }
+    ensures { AreNamed desk.now.plan desk.now.job (session_at (known desk.now) desk.now.job) edge result }
 {
-    if is_in_session(phase.drinking) {
-        bottles_in(plan, edge, plan.needs(job, phase.session))
-    } else {
-        0
+    let plan = bench.plan();
+    let phase = desk.phase();
+    bottles_in(plan, edge, plan.needs(desk.job(), phase.session))
+}
+
+/// Notes which bottles of the edge the job's session needs, where it is in one, so that they are reckoned once a session.
+pub fn note_needed<A: Allocator>(bench: &Bench<A>, desk: &mut Desk<A>, edge: EdgeNo)
+    requires own { Owns bench.now desk.old }
+    requires edge { edge < length (edges desk.old.plan) }
+    ensures { desk.new ≡ desk.old }
+{
+    if is_in_session(desk.phase().drinking) && desk.needed(edge).is_none() {
+        let bottles = named_bottles(bench, desk, edge);
+        desk.note_needed(edge, bottles);
+    }
+}
+
+// The bottles of the edge that the job needs now.
+pub(crate) fn needed_bottles<A: Allocator>(bench: &Bench<A>, desk: &Desk<A>, edge: EdgeNo) -> u32
+    requires own { Owns bench.now desk.now }
+    requires edge { edge < length (edges desk.now.plan) }
+    ensures { AreNeededNow desk.now edge result }
+{
+    if !is_in_session(desk.phase().drinking) {
+        return 0;
+    }
+    match desk.needed(edge) {
+        Some(bottles) => bottles,
+        None => named_bottles(bench, desk, edge),
     }
 }
 

@@ -8,8 +8,7 @@ ghost use Rattle.turns.specs.Due.{is_nothing as are_none};
 ghost use Rattle.session_layer.specs.Turn.{IsVisited, Took, done_by as done_in, lost_by as lost_in};
 
 use crate::acting::act;
-use dining_layer::fork_moves;
-use drinking_layer::with_bottles;
+use drinking_layer::{due_moves, note_needed};
 use edge_rule::{Bench, Desk, Stepped, exchange, look};
 use edge_word::EdgeMoves;
 use lab_plan::EdgeNo;
@@ -56,8 +55,8 @@ pub fn visit<A: Allocator>(bench: &Bench<A>, desk: &mut Desk<A>, edge: EdgeNo) -
     if desk.is_calm(edge) {
         return Visited::Calm;
     }
-    let forks = fork_moves(bench, desk, edge);
-    let moves = with_bottles(bench, desk, edge, forks);
+    note_needed(bench, desk, edge);
+    let moves = due_moves(bench, desk, edge);
     if is_nothing(moves) {
         desk.note_calm(edge);
         return Visited::Calm;

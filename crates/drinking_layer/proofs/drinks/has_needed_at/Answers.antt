@@ -1,11 +1,8 @@
-use Rattle.std.proofs.Common.{◌≡◌, ◌<◌, ◌↔◌, ℕ, bit_and, nat_eq, true, length, sym, ◌∙◌, subst, arith, eq-eqb}
+use Rattle.std.proofs.Common.{◌≡◌, ◌<◌, ℕ, bit_and, nat_eq, true, length, sym, subst, arith, eq-eqb}
 use Rattle.std.proofs.lemmas.Bool.Decides.{nat_tests}
-use Rattle.lab_plan.specs.LabPlan.{LabPlan, bottles}
-use Rattle.legal_steps.specs.declared.phase.JobState.{JobState}
-use Rattle.legal_steps.specs.State.{Has, IsOfEdge, phase, bottle_marks}
-use Rattle.legal_steps.specs.Legal.{instrument_of}
+use Rattle.lab_plan.specs.LabPlan.{bottles}
+use Rattle.legal_steps.specs.State.{Has, bottle_marks}
 use Rattle.edge_rule.specs.DeskView.{DeskView, known}
-use Rattle.drinking_layer.specs.Local.{NeedsIn}
 use Rattle.turns.proofs.Sets.{subset, member_below}
 use Rattle.drinking_layer.proofs.drinks.has_needed_at.Goals as goal
 
@@ -14,13 +11,10 @@ is_equal a b h = grind (arith, nat_tests)
 
 pub returns : goal.returns
 returns g c = let d : DeskView = c.args.desk.now in let e = c.args.edge in let n = c.needed_bottles-needed.result in let w = c.needed_bottles-needed.ensures in
-    let p : c.plan-plan.result.now ≡ d.plan = c.plan-plan.ensures ∙ sym c.requires.own.1 in
     let m = c.bottle_marks-marks.result in
     let same : m ≡ bottle_marks (known d) d.job e = c.bottle_marks-marks.ensures in
-    let fits : IsOfEdge d.plan e n = subst (λ (z : LabPlan). IsOfEdge z e n) p w.of_edge in
-    let just : (i : ℕ) → i < length (bottles d.plan e) → Has n i ↔ NeedsIn d.plan d.job (phase (known d) d.job) (instrument_of d.plan e i) =
-    subst (λ (z : LabPlan × ℕ × JobState). (i : ℕ) → i < length (bottles z.0 e) → Has n i ↔ NeedsIn z.0 z.1 z.2 (instrument_of z.0 e i)) (λ i. (p i, c.job-job.ensures.job i, c.phase-phase.ensures.phase i)) w.just in
     let s = subset n m in (
-      λ t k l needs. subst (λ z. Has z k) same (s.0 (is_equal (bit_and n m) n t) k ((just k l).1 (record { in_session = needs.in_session; named = needs.named }))),
-      λ all. eq-eqb (bit_and n m) n (s.1 (λ k h. let l = member_below n (length (bottles d.plan e)) k fits h in let needs = (just k l).0 h in subst (λ z. Has z k) (sym same) (all k l (record { in_session = needs.in_session; named = needs.named })))),
+      λ t k l needs. subst (λ z. Has z k) same (s.0 (is_equal (bit_and n m) n t) k ((w.just k l).1 (record { in_session = needs.in_session; named = needs.named }))),
+      λ all. eq-eqb (bit_and n m) n (s.1 (λ k h. let l = member_below n (length (bottles d.plan e)) k w.of_edge h in let needs = (w.just k l).0 h in
+          subst (λ z. Has z k) (sym same) (all k l (record { in_session = needs.in_session; named = needs.named })))),
     )
