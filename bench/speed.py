@@ -3,6 +3,7 @@
 
 Usage: bench/speed.py [rounds=N] [program=PATH] [only=NAME,..]     (from anywhere, after ./labrun was built)
        bench/speed.py growth [rounds=N] [program=PATH]
+       bench/speed.py instructions [program=PATH] [only=NAME,..]    (with valgrind)
 
 Builds the peers of bench/peers with `rustc -O` into a temporary folder, generates workloads, and runs all programs on each
 of them, one after the other, N times over (9 unless said); of all times of a program on a workload the best counts.
@@ -19,6 +20,9 @@ bench/check_report.py once before the measuring.
 With `growth` it measures instead how the time of `rounds` grows, of labrun and of the port, where one thing is doubled again
 and again: the exponent that fits best is told, 1.00 where the time grows as the number of commands does (where instruments are
 doubled, which leaves that number as it is, 0.00 where it doesn't grow).
+
+With `instructions` it counts instead the instructions of all turns of `rounds`, of labrun and of the port, with valgrind's
+callgrind. They are the same at each run, whatever else the machine does.
 
 Printed are ratios of runs, a line a workload, and their geometric means, with the goals; absolute times only at the end,
 as an aside. Where labrun hasn't the words yet, its columns are left out, and the port stands in for it.
@@ -72,6 +76,9 @@ RATIOS = (
     ("port threads 4 / blocking", "port threads 4", "blocking", None),
     ("port threads 4 / condvar", "port threads 4", "condvar", None),
 )
+
+# the function that is one turn
+TURN = {"labrun rounds": "turning::turn", "port rounds": "Desk::turn"}
 
 
 def build(folder):
@@ -223,20 +230,43 @@ def growth(folder, runs, rounds):
     table(["doubled", "run", "values", "nanoseconds a command", "exponent"], rows)
 
 
+def counted(words, function, data):
+    """The instructions of a function of a program, with all that it calls."""
+    words = ["valgrind", "--tool=callgrind", "--callgrind-out-file=/dev/null", "--toggle-collect=*%s*" % function] + words
+    with open(data, "rb") as source:
+        told = subprocess.run(words, stdin=source, capture_output=True).stderr.decode().split()
+    return int(told[told.index("Collected") + 2])
+
+
+def instructions(folder, runs, only):
+    """What the turns of each run by rounds take: labrun's as multiples of the port's, and of each by command."""
+    spent = {}
+    for name, path, text in scripts(folder, only):
+        size = sum(line.startswith("i") for line in text.split("\n"))
+        spent[name] = {run: counted(runs[run][0], TURN[run], path) / size for run in TURN}
+        print("%s: counted" % name, file=sys.stderr, flush=True)
+    each = [own["labrun rounds"] / own["port rounds"] for own in spent.values()]
+    rows = [["labrun rounds / port rounds"] + ["%.2f" % ratio for ratio in each] + ["%.2f" % mean(each)]]
+    for run in TURN:
+        rows.append([run + ", a command"] + ["%.0f" % own[run] for own in spent.values()] + [""])
+    table(["instructions"] + list(spent) + ["mean"], rows)
+
+
 def main(words):
     if words and words[0] == "--help":
         print(__doc__, end="")
         return 0
-    grows = words[:1] == ["growth"]
-    words = words[grows:]
+    kind = words[0] if words[:1] in (["growth"], ["instructions"]) else None
+    words = words[kind is not None:]
     keys = dict(word.split("=") for word in words)
     rounds, labrun = int(keys.get("rounds", "9")), os.path.abspath(keys.get("program", LABRUN))
     only = keys["only"].split(",") if "only" in keys else None
     with tempfile.TemporaryDirectory() as folder:
         peers = build(folder)
         runs = programs(peers, labrun if has_words(labrun) else None)
-        if grows:
-            growth(folder, {name: run for name, run in runs.items() if name.endswith(" rounds")}, rounds)
+        if kind:
+            by_rounds = {name: run for name, run in runs.items() if name.endswith(" rounds")}
+            growth(folder, by_rounds, rounds) if kind == "growth" else instructions(folder, by_rounds, only)
             return 0
         times, clocks, counts = {}, {}, {}
         for name, path, text in scripts(folder, only):

@@ -10,7 +10,7 @@ use desk_calls::{
     may_retire, may_sit, may_soil, may_thirst, may_withdraw,
 };
 use dining_layer::{Tried, ask, dine, fork_moves, give, soil, table};
-use drinking_layer::{drink, serve_bottles, want_bottles, with_bottles};
+use drinking_layer::{drink, due_moves, serve_bottles, want_bottles};
 use edge_rule::{Bench, Desk, PhaseEvent, Stepped, command, glance, look, store_phase};
 use edge_word::EdgeMoves;
 use lab_plan::{EdgeNo, JobNo};
@@ -32,8 +32,9 @@ pub(crate) enum Move {
     Want,
     // a look, and one exchange of all that is due by it
     Visit,
-    // whether it is noted as calm
+    // whether it is noted as calm, and the bottles that are noted as needed
     Noted,
+    Needed,
     // the moves that are due there, of which nothing is done
     Forks,
     Due,
@@ -124,6 +125,13 @@ fn of_table(what: Option<PhaseEvent>) -> Answer {
     }
 }
 
+fn of_needed(noted: Option<u32>) -> Answer {
+    match noted {
+        Some(bottles) => Answer::Saw(bottles as u64),
+        None => Answer::No,
+    }
+}
+
 fn yes_or_no(yes: bool) -> Answer {
     if yes { Answer::Yes } else { Answer::No }
 }
@@ -162,6 +170,7 @@ fn layer_move<A: Allocator>(
         Move::Want => of_try(want_bottles(bench, desk, edge)),
         Move::Visit => of_visit(visit(bench, desk, edge)),
         Move::Noted => yes_or_no(desk.is_calm(edge)),
+        Move::Needed => of_needed(desk.needed(edge)),
         _ => Answer::NotLegal,
     }
 }
@@ -171,11 +180,10 @@ fn due<A: Allocator>(bench: &Bench<A>, desk: &Desk<A>, edge: EdgeNo, bottles: bo
     requires own { Owns bench.now desk.now }
     requires edge { IsOwn desk.now.plan desk.now.job edge }
 {
-    let forks = fork_moves(bench, desk, edge);
     if bottles {
-        return Answer::Moves(with_bottles(bench, desk, edge, forks));
+        return Answer::Moves(due_moves(bench, desk, edge));
     }
-    Answer::Moves(forks)
+    Answer::Moves(fork_moves(bench, desk, edge))
 }
 
 // What is legal at a job and on its edge: the moves by the word last seen there, with the first bottle, and the acts.

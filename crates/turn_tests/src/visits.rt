@@ -1,8 +1,8 @@
 // The parts of a turn by themselves: a visit of an edge, and the phase act that is due.
 use crate::labs::PATIENCE_1;
-use crate::seats::Answer::{Acted, Calm, Does, Done, No, Stored, Yes};
+use crate::seats::Answer::{Acted, Calm, Does, Done, No, Saw, Stored, Yes};
 use crate::seats::Call::{Act, ActDue, On, Settled, Table};
-use crate::seats::Move::{Noted, Visit};
+use crate::seats::Move::{Needed, Noted, Visit};
 use crate::tables::{A, AB, B, OPEN, Row, check};
 use edge_rule::PhaseEvent::{self, Hunger, Leave, Quit, Retire, Sit, Thirst, Withdraw};
 use legal_steps::Dining::{Eating, Hungry, Thinking};
@@ -12,7 +12,7 @@ use session_layer::Due::{Command, Nothing, Store};
 const DRINK: PhaseEvent = PhaseEvent::Drink;
 
 /// Job a drinks first, then b, which eats after it. The session of b could be given up once it has waited for a turn.
-const PARTS: [Row; 47] = [
+const PARTS: [Row; 49] = [
     (A, On(AB, Noted), No, &[OPEN], (Thinking, Tranquil, 0, 0)),
     (
         A,
@@ -47,7 +47,9 @@ const PARTS: [Row; 47] = [
         &[OPEN],
         (Thinking, Thirsty, 1, 0),
     ),
+    (B, On(AB, Needed), No, &[OPEN], (Thinking, Thirsty, 1, 0)),
     (B, On(AB, Visit), Done, &[6], (Thinking, Thirsty, 1, 0)),
+    (B, On(AB, Needed), Saw(1), &[6], (Thinking, Thirsty, 1, 0)),
     (B, On(AB, Visit), Calm, &[6], (Thinking, Thirsty, 1, 0)),
     (B, Act(0), Acted(1), &[6], (Hungry, Thirsty, 1, 0)),
     (B, ActDue(0), Does(Nothing), &[6], (Hungry, Thirsty, 1, 0)),
