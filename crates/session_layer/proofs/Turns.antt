@@ -102,11 +102,6 @@ took d m n d' w done lost acted thirsty r a b is_w is_thirsty is_noted says = re
   says = subst (λ (z : ℕ × ℕ). Says r z.0 z.1) (λ i. (a.done_is i + b.says i, a.lost_is i)) says;
 }
 
-pub one_at_most : (r : Visited) → (done_by r ≤ 1) × (lost_by r ≤ 1)
-one_at_most answers.Done = (omega arith, omega arith)
-one_at_most answers.Lost = (omega arith, omega arith)
-one_at_most answers.Calm = (omega arith, omega arith)
-
 shorter : {X : Type 0} (b : Bool) (x : X) (xs ys : List X) → length xs ≤ length ys → length (cond b (x ∷ xs) xs) ≤ length (x ∷ ys)
 shorter true x xs ys h = omega (arith, h)
 shorter false x xs ys h = omega (arith, h)

@@ -5,7 +5,7 @@ ghost use Rattle.legal_steps.specs.State.{IsOwn, drinking};
 ghost use Rattle.edge_rule.specs.DeskView.{Owns, known};
 ghost use Rattle.locality.specs.Patience.{is_waiting};
 ghost use Rattle.turns.specs.Due.{is_nothing as are_none};
-ghost use Rattle.session_layer.specs.Turn.{IsVisited, Took, done_by as done_in, lost_by as lost_in};
+ghost use Rattle.session_layer.specs.Turn.{IsVisited, Took};
 
 use crate::acting::act;
 use drinking_layer::{due_moves, note_needed};
@@ -67,24 +67,6 @@ pub fn visit<A: Allocator>(bench: &Bench<A>, desk: &mut Desk<A>, edge: EdgeNo) -
     }
 }
 
-fn done_by(visited: Visited) -> u32
-    ensures { result ≡ done_in visited }
-{
-    match visited {
-        Visited::Done => 1,
-        Visited::Lost | Visited::Calm => 0,
-    }
-}
-
-fn lost_by(visited: Visited) -> u32
-    ensures { result ≡ lost_in visited }
-{
-    match visited {
-        Visited::Lost => 1,
-        Visited::Done | Visited::Calm => 0,
-    }
-}
-
 fn is_thirsty<A: Allocator>(desk: &Desk<A>) -> bool
     ensures { result ≡ is_waiting (drinking (known desk.now) desk.now.job) }
 {
@@ -104,9 +86,11 @@ pub fn turn<A: Allocator>(bench: &Bench<A>, desk: &mut Desk<A>) -> Turned
     let mut done = 0u32;
     let mut lost = 0u32;
     for edge in own {
-        let visited = visit(bench, desk, *edge);
-        done += done_by(visited);
-        lost += lost_by(visited);
+        match visit(bench, desk, *edge) {
+            Visited::Done => done += 1,
+            Visited::Lost => lost += 1,
+            Visited::Calm => (),
+        }
     }
     let all = done + act(bench, desk, waited);
     desk.note_turn(thirsty);
