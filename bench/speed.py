@@ -3,7 +3,8 @@
 
 Usage: bench/speed.py [rounds=N] [program=PATH] [only=NAME,..]     (from anywhere, after ./labrun was built)
        bench/speed.py growth [rounds=N] [program=PATH]
-       bench/speed.py instructions [program=PATH] [only=NAME,..]    (with valgrind)
+       bench/speed.py instructions [program=PATH] [only=NAME,..]
+       bench/speed.py instructions growth [program=PATH]            (both with valgrind)
 
 Builds the peers of bench/peers with `rustc -O` into a temporary folder, generates workloads, and runs all programs on each
 of them, one after the other, N times over (9 unless said); of all times of a program on a workload the best counts.
@@ -22,7 +23,7 @@ and again: the exponent that fits best is told, 1.00 where the time grows as the
 doubled, which leaves that number as it is, 0.00 where it doesn't grow).
 
 With `instructions` it counts instead the instructions of all turns of `rounds`, of labrun and of the port, with valgrind's
-callgrind. They are the same at each run, whatever else the machine does.
+callgrind. They are the same at each run, whatever else the machine does. With `instructions growth` it tells how these grow.
 
 Printed are ratios of runs, a line a workload, and their geometric means, with the goals; absolute times only at the end,
 as an aside. Where labrun hasn't the words yet, its columns are left out, and the port stands in for it.
@@ -208,26 +209,26 @@ def exponent(sizes, times):
     return sum((a - x) * (b - y) for a, b in zip(xs, ys)) / sum((a - x) ** 2 for a in xs)
 
 
-def growth(folder, runs, rounds):
-    """For each thing that is doubled, the nanoseconds a command and the exponent."""
+def growth(folder, names, unit, spent_on):
+    """For each thing that is doubled, what a command takes, in this unit, and the exponent."""
     rows = []
     for heading, shape, keys, growing, values in GROWTHS:
-        sizes, times = [], {name: [] for name in runs}
+        sizes, spent = [], {name: [] for name in names}
         for value in values:
             text = make_scripts.make(shape, random.Random(7), **dict(keys, **{growing: value}))
             path = os.path.join(folder, "growth.lab")
             with open(path, "w") as out:
                 out.write(text)
             sizes.append(sum(line.startswith("i") for line in text.split("\n")))
-            found, _ = measure(runs, path, rounds)
-            for name in runs:
-                times[name].append(found[name])
-        for name in runs:
-            each = ["%.0f" % (spent / size * 1e9) for size, spent in zip(sizes, times[name])]
+            found = spent_on(path)
+            for name in names:
+                spent[name].append(found[name])
+        for name in names:
+            each = ["%.0f" % (whole / size) for size, whole in zip(sizes, spent[name])]
             # instruments alone leave the number of commands as it is
-            exact = exponent(values if growing == "instruments" else sizes, times[name])
+            exact = exponent(values if growing == "instruments" else sizes, spent[name])
             rows.append([heading, name, " ".join(str(value) for value in values), " ".join(each), "%.2f" % exact])
-    table(["doubled", "run", "values", "nanoseconds a command", "exponent"], rows)
+    table(["doubled", "run", "values", unit + " a command", "exponent"], rows)
 
 
 def counted(words, function, data):
@@ -256,17 +257,23 @@ def main(words):
     if words and words[0] == "--help":
         print(__doc__, end="")
         return 0
-    kind = words[0] if words[:1] in (["growth"], ["instructions"]) else None
-    words = words[kind is not None:]
+    kinds = [word for word in words if word in ("growth", "instructions")]
+    words = [word for word in words if word not in kinds]
     keys = dict(word.split("=") for word in words)
     rounds, labrun = int(keys.get("rounds", "9")), os.path.abspath(keys.get("program", LABRUN))
     only = keys["only"].split(",") if "only" in keys else None
     with tempfile.TemporaryDirectory() as folder:
         peers = build(folder)
         runs = programs(peers, labrun if has_words(labrun) else None)
-        if kind:
-            by_rounds = {name: run for name, run in runs.items() if name.endswith(" rounds")}
-            growth(folder, by_rounds, rounds) if kind == "growth" else instructions(folder, by_rounds, only)
+        by_rounds = {name: run for name, run in runs.items() if name in TURN}
+        if kinds == ["instructions"]:
+            instructions(folder, by_rounds, only)
+            return 0
+        if kinds == ["growth"]:
+            growth(folder, TURN, "nanoseconds", lambda path: {name: spent * 1e9 for name, spent in measure(by_rounds, path, rounds)[0].items()})
+            return 0
+        if kinds:
+            growth(folder, TURN, "instructions", lambda path: {name: counted(run[0], TURN[name], path) for name, run in by_rounds.items()})
             return 0
         times, clocks, counts = {}, {}, {}
         for name, path, text in scripts(folder, only):
