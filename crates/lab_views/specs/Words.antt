@@ -1,15 +1,15 @@
 -- The words of the command line, the program's own name first.
-use Rattle.std.specs.Prelude.{◌≡◌, ◌⊎◌, ℕ, Bool, false, true, List, [], ◌∷◌, Option, None, Some, Result, Ok, Err, codes, if◌then◌else◌}
+use Rattle.std.specs.Prelude.{◌≡◌, ℕ, false, true, List, [], ◌∷◌, Option, None, Some, Result, Ok, Err, codes, if◌then◌else◌}
 use Rattle.std.specs.Str.{bytes_eq}
 use Rattle.lab_runs.specs.declared.words.NoTask.{NoTask}
 use Rattle.lab_runs.specs.declared.words.NoTask.TheVariants.{Help, Refused, NoMemory}
 use Rattle.lab_runs.specs.Words.{asks_for_help}
 use Rattle.lab_views.specs.declared.words.View.{View}
-use Rattle.lab_views.specs.declared.words.View.TheVariants.{Explain}
+use Rattle.lab_views.specs.declared.words.View.TheVariants.{Explain, Picture}
 
 -- the view that some words ask for
 unfoldable pub view_named : List ℕ → Option View
-view_named word = if bytes_eq word (codes "explain") then Some Explain else None
+view_named word = if bytes_eq word (codes "explain") then Some Explain else (if bytes_eq word (codes "picture") then Some Picture else None)
 
 abbrev pub view_of : List (List ℕ) → Option View
 view_of (name ∷ word ∷ []) = view_named word

@@ -3,7 +3,9 @@ ghost use Rattle.std.specs.Prelude.{◌≡◌};
 ghost use Rattle.std.specs.Process.{exit_status};
 ghost use Rattle.lab_runs.specs.Faults.{status_of};
 ghost use Rattle.lab_runs.specs.Words.{EndsWithoutTask};
+ghost use Rattle.lab_views.specs.Pictures.{status_of_picture};
 
+use crate::picture_fault::{PictureFault, status_of_picture};
 use lab_runs::{NoTask, Outcome, RunFault, status_of};
 use std::process::ExitCode;
 
@@ -15,6 +17,16 @@ pub fn end(rt: &impl Eprint, answer: Result<Outcome, RunFault>) -> ExitCode
         let _ = eprintln!(rt; "labview: {fault}");
     }
     ExitCode::from(status_of(&answer))
+}
+
+/// The status of a picture's answer; a fault is told in one line on standard error.
+pub fn end_picture(rt: &impl Eprint, answer: Result<(), PictureFault>) -> ExitCode
+    ensures { exit_status result ≡ status_of_picture answer }
+{
+    if let Err(fault) = &answer {
+        let _ = eprintln!(rt; "labview: {fault}");
+    }
+    ExitCode::from(status_of_picture(&answer))
 }
 
 /// The status where the words gave no view. Help is printed on standard output, other words are refused

@@ -1,12 +1,16 @@
-// What `labview` does, over any source and any sink: a script is read whole, and what is written and answered
+// What `labview` does, over any source and any sink: a script or a report is read whole, and what is written and answered
 // is settled by its bytes.
 #![tactic(auto)]
 
 mod ending;
+mod picture_fault;
+mod picturing;
 mod running;
 mod sending;
 mod words;
 
-pub use ending::{end, end_without_view};
+pub use ending::{end, end_picture, end_without_view};
+pub use picture_fault::{PictureFault, status_of_picture};
+pub use picturing::run_picture;
 pub use running::run_explain;
 pub use words::{View, read_words};

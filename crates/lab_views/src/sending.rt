@@ -5,7 +5,7 @@ ghost use Rattle.report.specs.Taken.{Sends};
 use report::{Failed, Sink, WriteFault, offer};
 
 /// Passes on what the sink took.
-fn pass_on<W: Sink>(sink: &mut W) -> Result<(), WriteFault>
+pub(crate) fn pass_on<W: Sink>(sink: &mut W) -> Result<(), WriteFault>
     ensures { Sends W.taken W.failures sink.old sink.new [] result }
 {
     match sink.flush() {

@@ -13,6 +13,8 @@ use std::convert::AsStr;
 pub enum View {
     /// Tell why a step of a script isn't legal, and what is.
     Explain,
+    /// Draw a picture of a report.
+    Picture,
 }
 
 /// What stands below the table of words in the help.
@@ -21,8 +23,8 @@ const AFTER_HELP: &str =
 standard output, and a fault in one line to standard error.
 
 Statuses:
-  0  explain: done, whether the steps are legal or not; --help: done
-  1  the script is refused; the fault names its line
+  0  explain: done, whether the steps are legal or not; picture: done; --help: done
+  1  the script or the report is refused; the fault names its line or place
   2  the command line is refused
   4  reading or writing failed, or the input is longer than 16777216 bytes
   5  no memory";
@@ -38,13 +40,17 @@ fn command<'a>(alloc: Global) -> Result<Command<'a>, AllocError> {
             "read a script and its steps, tell why the first that isn't legal is refused, and what is legal there",
         )
         .disable_help_flag(true);
+    let picture = Command::new(alloc, "picture")
+        .about("read a report of labrun, and draw its timeline as SVG")
+        .disable_help_flag(true);
     Command::new(alloc, "labview")
         .about("Shows and explains the runs of labrun")
         .after_help(AFTER_HELP)
         .disable_help_subcommand(true)
         .disable_help_flag(true)
         .arg(help)?
-        .subcommand(explain)
+        .subcommand(explain)?
+        .subcommand(picture)
 }
 
 /// The text of the help.
@@ -60,6 +66,9 @@ fn view_named(word: &[u8]) -> Option<View>
 {
     if word == b"explain".as_slice() {
         return Some(View::Explain);
+    }
+    if word == b"picture".as_slice() {
+        return Some(View::Picture);
     }
     None
 }

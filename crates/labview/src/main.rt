@@ -2,7 +2,7 @@
 #![tactic(auto)]
 
 use lab_runs::{FromRead, NoTask, RunFault};
-use lab_views::{View, end, end_without_view, read_words, run_explain};
+use lab_views::{View, end, end_picture, end_without_view, read_words, run_explain, run_picture};
 use report::ToWrite;
 use std::io::{self, BufWriter};
 use std::process::ExitCode;
@@ -28,8 +28,8 @@ fn main(rt: HostRuntime) -> ExitCode {
     };
     let mut source = FromRead::new(rt.reader());
     let mut sink = ToWrite::new(output);
-    let answer = match view {
-        View::Explain => run_explain(alloc, &mut source, &mut sink),
-    };
-    end(&rt, answer)
+    match view {
+        View::Explain => end(&rt, run_explain(alloc, &mut source, &mut sink)),
+        View::Picture => end_picture(&rt, run_picture(alloc, &mut source, &mut sink)),
+    }
 }

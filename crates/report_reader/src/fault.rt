@@ -5,22 +5,22 @@ use thiserror::Error;
 #[derive(Clone, Copy, PartialEq, Eq, Debug, Error)]
 pub enum ReportCause {
     /// The line has no form of a report's lines.
-    #[error("R1 not a line of a report")]
+    #[error("not a line of a report")]
     UnknownLine,
     /// The line doesn't stand where it may: the header first, then instruments with their entries, jobs, and the last line.
-    #[error("R2 line out of place")]
+    #[error("line out of place")]
     OutOfPlace,
     /// A job line with `withdrawn` in a report of version 1, or one without it in version 2.
-    #[error("R3 job line of another version")]
+    #[error("job line of another version")]
     OtherVersion,
     /// `finished` where a job waits, or `unfinished` where none does.
-    #[error("R4 last line doesn't fit the jobs")]
+    #[error("last line doesn't fit the jobs")]
     WrongEnd,
     /// The text ends before its last line, or within a line.
-    #[error("R5 report not whole")]
+    #[error("report not whole")]
     NotWhole,
     /// A growth was refused.
-    #[error("R6 no memory")]
+    #[error("no memory")]
     NoMemory,
 }
 

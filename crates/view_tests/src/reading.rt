@@ -139,12 +139,12 @@ fn faults_of_reports(rt: HostRuntime) {
 #[test]
 fn causes_are_printed(rt: HostRuntime) -> Result<(), Fail> {
     let texts = [
-        (UnknownLine, "R1 not a line of a report"),
-        (OutOfPlace, "R2 line out of place"),
-        (OtherVersion, "R3 job line of another version"),
-        (WrongEnd, "R4 last line doesn't fit the jobs"),
-        (NotWhole, "R5 report not whole"),
-        (ReportCause::NoMemory, "R6 no memory"),
+        (UnknownLine, "not a line of a report"),
+        (OutOfPlace, "line out of place"),
+        (OtherVersion, "job line of another version"),
+        (WrongEnd, "last line doesn't fit the jobs"),
+        (NotWhole, "report not whole"),
+        (ReportCause::NoMemory, "no memory"),
     ];
     for (cause, text) in texts {
         let printed = format!(in rt.alloc(); "{cause}")?;
@@ -155,7 +155,7 @@ fn causes_are_printed(rt: HostRuntime) -> Result<(), Fail> {
         cause: WrongEnd,
     };
     let printed = format!(in rt.alloc(); "{fault}")?;
-    assert!(rt; printed.as_str() == "line 7: R4 last line doesn't fit the jobs");
+    assert!(rt; printed.as_str() == "line 7: last line doesn't fit the jobs");
     Ok(())
 }
 

@@ -1,0 +1,90 @@
+-- For readers: what is drawn for an input, and why nothing is.
+use Rattle.std.specs.Prelude.{◌≡◌, ℕ, List, [], ◌∷◌, ◌++◌, Option, Result, Ok, Err}
+use Rattle.std.specs.Io.KnownBytes.{Keeps, Appends}
+use Rattle.report.specs.Taken.{AppendsPrefix}
+use Rattle.report_reader.specs.declared.fault.ReportCause.{ReportCause}
+use Rattle.report_reader.specs.declared.fault.ReportCause.TheVariants as causes
+use Rattle.report_reader.specs.declared.fault.ReportFault.{ReportFault}
+use Rattle.report_reader.specs.Report.{ReportText, text_lines, IsTextOf}
+use Rattle.report_reader.specs.Reading.{Refuses}
+use Rattle.timeline.specs.declared.fault.TimelineFault.{TimelineFault}
+use Rattle.timeline.specs.declared.fault.TimelineFault.TheVariants as faults
+use Rattle.timeline.specs.Faults.{IsFaultOf}
+use Rattle.timeline.specs.Timelines.{TimelineView, IsTimeline}
+use Rattle.picture.specs.Picture.{picture_of}
+use Rattle.lab_runs.specs.declared.reading.ReadFault.{ReadFault}
+use Rattle.lab_runs.specs.declared.reading.ReadFault.TheVariants as reading
+use Rattle.lab_runs.specs.Taken.{IsInput, IsTooLong}
+use Rattle.lab_views.specs.declared.picture_fault.PictureFault.{PictureFault}
+use Rattle.lab_views.specs.declared.picture_fault.PictureFault.TheVariants.{Report, Timeline, Read, TooLong, Write, NoMemory}
+
+-- the input is a report's text, and the text is its picture
+pub record Pictures (input text : List ℕ) : Type 0 where
+  pub report : ReportText
+  pub is_text : IsTextOf report input
+  pub timeline : TimelineView
+  pub agrees : IsTimeline report timeline
+  pub drawn : text ≡ picture_of report timeline
+
+-- the input is no report: its parts between line feeds are refused
+pub record IsNoReport (input : List ℕ) (fault : ReportFault) : Type 0 where
+  pub parts : List (List ℕ)
+  pub tail : List ℕ
+  pub lines : text_lines input ≡ parts ++ tail ∷ []
+  pub refused : Refuses parts tail fault
+
+-- the input is a report's text, and the report has this fault
+pub record HasNoTimeline (input : List ℕ) (fault : TimelineFault) : Type 0 where
+  pub report : ReportText
+  pub is_text : IsTextOf report input
+  pub fails : IsFaultOf report fault
+
+-- for an input: Ok means that its picture went out, and a write fault that a prefix of it did; else nothing did
+abbrev pub DrawsFor : List ℕ → Option (List ℕ) → Option (List ℕ) → Result (Unit {0}) PictureFault → Type 0
+DrawsFor input old new (Ok done) = (text : List ℕ) × Pictures input text × Appends old new text
+DrawsFor input old new (Err Write) = (text : List ℕ) × Pictures input text × AppendsPrefix old new text
+DrawsFor input old new (Err (Report fault)) = IsNoReport input fault × Keeps old new
+DrawsFor input old new (Err (Timeline fault)) = HasNoTimeline input fault × Keeps old new
+DrawsFor input old new (Err NoMemory) = Keeps old new
+DrawsFor input old new (Err Read) = ⊥
+DrawsFor input old new (Err TooLong) = ⊥
+
+-- for a source: what it had left was the input, or it was not read, or too long
+abbrev pub PictureAnswers : Option (List ℕ) → Option (List ℕ) → Option (List ℕ) → Result (Unit {0}) PictureFault → Type 0
+PictureAnswers left old new (Err Read) = Keeps old new
+PictureAnswers left old new (Err TooLong) = IsTooLong left × Keeps old new
+PictureAnswers left old new (Err NoMemory) = Keeps old new
+PictureAnswers left old new result = (input : List ℕ) × IsInput left input × DrawsFor input old new result
+
+-- the status that the program ends with
+abbrev pub status_of_picture : Result (Unit {0}) PictureFault → ℕ
+status_of_picture (Ok done) = 0
+status_of_picture (Err (Report fault)) = 1
+status_of_picture (Err (Timeline fault)) = 1
+status_of_picture (Err Read) = 4
+status_of_picture (Err TooLong) = 4
+status_of_picture (Err Write) = 4
+status_of_picture (Err NoMemory) = 5
+
+-- how often a read, and a write or a flush, failed in a run that answers so
+abbrev pub failed_picture_reads : Result (Unit {0}) PictureFault → ℕ
+failed_picture_reads (Err Read) = 1
+failed_picture_reads _ = 0
+
+abbrev pub failed_picture_writes : Result (Unit {0}) PictureFault → ℕ
+failed_picture_writes (Err Write) = 1
+failed_picture_writes _ = 0
+
+-- faults of what stands below, of which want of memory is one fault
+abbrev pub for_report : ReportCause → ReportFault → PictureFault
+for_report causes.NoMemory fault = NoMemory
+for_report _ fault = Report fault
+
+abbrev pub for_timeline : TimelineFault → PictureFault
+for_timeline faults.NoMemory = NoMemory
+for_timeline fault = Timeline fault
+
+abbrev pub for_reading : ReadFault → PictureFault
+for_reading reading.Read = Read
+for_reading reading.TooLong = TooLong
+for_reading reading.NoMemory = NoMemory

@@ -1,0 +1,25 @@
+use Rattle.std.proofs.Common.{ℕ, ◌≡◌, List, ◌++◌, codes, decimal}
+use Rattle.picture.proofs.Adding.{more}
+use Rattle.picture.proofs.tables.add_size.Goals as goal
+
+pub returns-clause-text : goal.returns-clause-text
+returns-clause-text c =
+    let old = c.args.line.now in
+    let p1 : List ℕ = codes "<?xml version=\"1.0\" encoding=\"UTF-8\"?>\n<svg xmlns=\"http://www.w3.org/2000/svg\" version=\"1.1\" width=\"" in
+    let e1 : c.text.new.self ≡ old ++ p1 = c.text.ensures.text in
+    let p2 : List ℕ = decimal c.args.width in
+    let e2 : c.count.new.self ≡ old ++ (p1 ++ p2) = more old c.text.new.self c.count.new.self p1 p2 e1 c.count.ensures.text in
+    let p3 : List ℕ = codes "\" height=\"" in
+    let e3 : c.text-2.new.self ≡ old ++ (p1 ++ p2 ++ p3) = more old c.count.new.self c.text-2.new.self (p1 ++ p2) p3 e2 c.text-2.ensures.text in
+    let p4 : List ℕ = decimal c.args.height in
+    let e4 : c.count-2.new.self ≡ old ++ (p1 ++ p2 ++ p3 ++ p4) = more old c.text-2.new.self c.count-2.new.self (p1 ++ p2 ++ p3) p4 e3 c.count-2.ensures.text in
+    let p5 : List ℕ = codes "\" viewBox=\"0 0 " in
+    let e5 : c.text-3.new.self ≡ old ++ (p1 ++ p2 ++ p3 ++ p4 ++ p5) = more old c.count-2.new.self c.text-3.new.self (p1 ++ p2 ++ p3 ++ p4) p5 e4 c.text-3.ensures.text in
+    let p6 : List ℕ = decimal c.args.width in
+    let e6 : c.count-3.new.self ≡ old ++ (p1 ++ p2 ++ p3 ++ p4 ++ p5 ++ p6) = more old c.text-3.new.self c.count-3.new.self (p1 ++ p2 ++ p3 ++ p4 ++ p5) p6 e5 c.count-3.ensures.text in
+    let p7 : List ℕ = codes " " in
+    let e7 : c.text-4.new.self ≡ old ++ (p1 ++ p2 ++ p3 ++ p4 ++ p5 ++ p6 ++ p7) = more old c.count-3.new.self c.text-4.new.self (p1 ++ p2 ++ p3 ++ p4 ++ p5 ++ p6) p7 e6 c.text-4.ensures.text in
+    let p8 : List ℕ = decimal c.args.height in
+    let e8 : c.count-4.new.self ≡ old ++ (p1 ++ p2 ++ p3 ++ p4 ++ p5 ++ p6 ++ p7 ++ p8) = more old c.text-4.new.self c.count-4.new.self (p1 ++ p2 ++ p3 ++ p4 ++ p5 ++ p6 ++ p7) p8 e7 c.count-4.ensures.text in
+    let p9 : List ℕ = codes "\" font-family=\"monospace\" font-size=\"10\">\n" in
+    more old c.count-4.new.self c.text-5.new.self (p1 ++ p2 ++ p3 ++ p4 ++ p5 ++ p6 ++ p7 ++ p8) p9 e8 c.text-5.ensures.text

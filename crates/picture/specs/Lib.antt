@@ -1,0 +1,4 @@
+pub mod Looks
+pub mod Boxes
+pub mod Tables
+pub mod Picture

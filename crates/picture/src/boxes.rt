@@ -1,0 +1,121 @@
+// What is drawn in the row of an instrument.
+ghost use Rattle.std.specs.Prelude.{◌≡◌, ◌+◌, ◌*◌, ◌-◌, ◌≤◌, ◌++◌, ◌<◌, ◌^◌, length};
+ghost use Rattle.report_reader.specs.Form.{entry_text};
+ghost use Rattle.picture.specs.Boxes.{edges, edges_end, label, box_text, tick, deed, tick_text, entry_line};
+
+use crate::line::Line;
+use crate::looks::add_look;
+use report_reader::EntryLine;
+use timeline::Span;
+
+/// How the edges of a box end.
+fn edges_end(is_open: bool) -> &'static [u8]
+    ensures text { result.now ≡ edges_end is_open }
+    ensures len { length result.now ≤ 1 }
+{
+    if is_open { b"" } else { b"z" }
+}
+
+/// Adds the edges of a box, without the right one where it is open, at most 90 bytes.
+fn add_edges(line: &mut Line, left: usize, right: usize, is_open: bool)
+    requires { length line.old + 90 ≤ 1000 }
+    ensures text { line.new ≡ line.old ++ edges left right is_open }
+    ensures len { length line.new ≤ length line.old + 90 }
+{
+    line.text(b"<path d=\"M");
+    line.count(right);
+    line.text(b" 4H");
+    line.count(left);
+    line.text(b"v58H");
+    line.count(right);
+    line.text(edges_end(is_open));
+}
+
+/// Adds the names of a job and a session, at most 170 bytes.
+fn add_label(line: &mut Line, x: usize, entry: &EntryLine)
+    requires { length line.old + 170 ≤ 1000 }
+    ensures text { line.new ≡ line.old ++ label x (entry_text entry.now) }
+    ensures len { length line.new ≤ length line.old + 170 }
+{
+    line.text(b"<text x=\"");
+    line.count(x);
+    line.text(b"\" y=\"17\" font-weight=\"bold\">");
+    line.name(entry.job);
+    line.text(b"</text><text x=\"");
+    line.count(x);
+    line.text(b"\" y=\"29\">session ");
+    line.number(entry.session);
+    line.text(b"</text>\n");
+}
+
+/// Adds the box of an entry's session, at most 360 bytes.
+#[tactic(auto, unfolding(crate::specs::Boxes::box_text))]
+fn add_box(line: &mut Line, job: usize, span: Span, is_open: bool, entry: &EntryLine)
+    requires { length line.old + 360 ≤ 1000 }
+    ensures text { line.new ≡ line.old ++ box_text job span is_open (entry_text entry.now) }
+    ensures len { length line.new ≤ length line.old + 360 }
+{
+    let left = 100 * span.start as usize;
+    let right = 100 * (span.start as usize + span.width as usize);
+    add_edges(line, left, right, is_open);
+    add_look(line, job);
+    add_label(line, left + 4, entry);
+}
+
+/// Adds the tick of an entry, at most 60 bytes.
+fn add_tick(line: &mut Line, x: usize)
+    requires { length line.old + 60 ≤ 1000 }
+    ensures text { line.new ≡ line.old ++ tick x }
+    ensures len { length line.new ≤ length line.old + 60 }
+{
+    line.text(b"<path d=\"M");
+    line.count(x);
+    line.text(b" 35v27\" stroke=\"#222\"/>");
+}
+
+/// Adds what an entry did and what its dial showed, at most 130 bytes.
+fn add_deed(line: &mut Line, x: usize, entry: &EntryLine)
+    requires { length line.old + 130 ≤ 1000 }
+    ensures text { line.new ≡ line.old ++ deed x (entry_text entry.now) }
+    ensures len { length line.new ≤ length line.old + 130 }
+{
+    line.text(b"<text x=\"");
+    line.count(x);
+    line.text(b"\" y=\"44\">");
+    line.verb(entry.verb);
+    line.text(b"</text><text x=\"");
+    line.count(x);
+    line.text(b"\" y=\"56\">= ");
+    line.number(entry.value);
+    line.text(b"</text>\n");
+}
+
+/// Adds the tick of an entry with what it did, at most 190 bytes.
+#[tactic(auto, unfolding(crate::specs::Boxes::tick_text))]
+fn add_tick_text(line: &mut Line, span: Span, entry: &EntryLine)
+    requires { length line.old + 190 ≤ 1000 }
+    ensures text { line.new ≡ line.old ++ tick_text span (entry_text entry.now) }
+    ensures len { length line.new ≤ length line.old + 190 }
+{
+    let x = 100 * (span.start as usize + entry.place.saturating_sub(1) as usize);
+    add_tick(line, x);
+    add_deed(line, x + 4, entry);
+}
+
+/// An entry: its tick, and the box of its session where it is the first of it.
+pub(crate) fn entry_line(
+    job: usize,
+    span: Span,
+    is_first: bool,
+    is_open: bool,
+    entry: &EntryLine,
+) -> Line
+    ensures { result ≡ entry_line job span is_first is_open (entry_text entry.now) }
+{
+    let mut line = Line::new();
+    if is_first {
+        add_box(&mut line, job, span, is_open, entry);
+    }
+    add_tick_text(&mut line, span, entry);
+    line
+}

@@ -1,0 +1,130 @@
+-- Lists that are read where they lie, and as they are spelled.
+use Rattle.std.proofs.Common.{◌≡◌, ℕ, Bool, true, false, not, cond, ◌+◌, ◌-◌, ◌<◌, ◌≤◌, List, [], ◌∷◌, Option, None, Some, length, map, slice_index_or, arith, refl, sym, ap, ◌∙◌, subst, nat_lt, nat_eq}
+use Rattle.std.specs.List.{position, position_or_len, prefix_len, slice_get}
+use Rattle.std.specs.Option.{option_map, option_eq}
+use Rattle.std.proofs.lemmas.Bool.{false≢true}
+use Rattle.std.proofs.lemmas.Bool.Decides.{nat_tests}
+use Rattle.std.proofs.lemmas.Option.{slice_get-map, slice_get-get_or, slice_get_within}
+use Rattle.std.proofs.lemmas.List.{length-map}
+use borrow.Author.Count.{below_more}
+use Rattle.report_reader.specs.declared.lines.EntryLine.{EntryLine}
+use Rattle.report_reader.specs.declared.lines.JobLine.{JobLine}
+use Rattle.report_reader.specs.Form.{entry_text, job_text}
+use Rattle.report_reader.specs.Line.{EntryText, JobText}
+use Rattle.timeline.specs.declared.fault.EntryCause.{EntryCause}
+use Rattle.timeline.specs.declared.fault.EntryCause.TheVariants as causes
+use Rattle.timeline.specs.Spans.{job_number, is_same_session}
+use Rattle.timeline.specs.Timelines.{EachNext}
+use Rattle.timeline.specs.Faults.{at, entry_cause, is_out_of_order, IsNamedBefore, IsOutOfOrder, IsTwice, FailsAlone, FailsAt}
+
+prefix_mapped : {X Y : Type 0} (p : Y → Bool) (f : X → Y) (xs : List X) → prefix_len p (map f xs) ≡ prefix_len (λ x. p (f x)) xs
+prefix_mapped p f [] = refl
+prefix_mapped p f (x ∷ xs) = ap (λ n. cond (p (f x)) (1 + n) 0) (prefix_mapped p f xs)
+
+-- the first that passes
+pub position_mapped : {X Y : Type 0} (p : Y → Bool) (f : X → Y) (xs : List X) → position (λ x. p (f x)) xs ≡ position p (map f xs)
+position_mapped p f xs =
+    let n = position_or_len (λ x. p (f x)) xs in
+    let m = position_or_len p (map f xs) in
+    let same : m ≡ n = prefix_mapped (λ y. not (p y)) f xs in
+    let long : length (map f xs) ≡ length xs = length-map xs f in
+    ap (λ k. cond (nat_lt k (length xs)) (Some k) None) (sym same) ∙ ap (λ l. cond (nat_lt m l) (Some m) None) (sym long)
+
+-- the element there, where it lies among them
+pub spelled_at : {X Y : Type 0} (f : X → Y) (xs : List X) (k : ℕ) (d : X) → k < length xs → slice_get (map f xs) k ≡ Some (f (slice_index_or xs k d))
+spelled_at f xs k d inside = slice_get-map f xs k ∙ ap (option_map f) (slice_get-get_or xs k d inside)
+
+-- each of the first n with the one right behind it
+abbrev pub NextBelow : (EntryText → EntryText → Type 0) → List EntryText → ℕ → Type 0
+NextBelow R entries n = (k : ℕ) → k < n → (a b : EntryText) → slice_get entries k ≡ Some a → slice_get entries (k + 1) ≡ Some b → R a b
+
+pub all_next : (R : EntryText → EntryText → Type 0) (entries : List EntryText) (n : ℕ) → length entries ≤ n + 1 → NextBelow R entries n → EachNext R entries
+all_next R entries n past below k a b first second =
+    let inside : k + 1 < length entries = slice_get_within entries (k + 1) b second in
+    below k (omega arith) a b first second
+
+pub next_more : {X : Type 0} (R : EntryText → EntryText → Type 0) (f : X → EntryText) (xs : List X) (n : ℕ) (d e : X) → n + 1 < length xs
+    → R (f (slice_index_or xs n d)) (f (slice_index_or xs (n + 1) e)) → NextBelow R (map f xs) n → NextBelow R (map f xs) (n + 1)
+next_more {X} R f xs n d e inside holds below =
+    let P : ℕ → Type 0 = λ k. (a b : EntryText) → slice_get (map f xs) k ≡ Some a → slice_get (map f xs) (k + 1) ≡ Some b → R a b in
+    let here : P n = λ a b first second.
+    let x : X = slice_index_or xs n d in
+    let y : X = slice_index_or xs (n + 1) e in
+    let left : Some (f x) ≡ Some a = sym (spelled_at f xs n d (omega arith)) ∙ first in
+    let right : Some (f y) ≡ Some b = sym (spelled_at f xs (n + 1) e inside) ∙ second in
+    let is_a : f x ≡ a = cc in
+    let is_b : f y ≡ b = cc in
+    subst (λ t. R a t) is_b (subst (λ t. R t (f y)) is_a holds) in
+    below_more P n below here
+
+-- of the causes that an entry has by itself none is about others
+abbrev is_own : EntryCause → Bool
+is_own causes.OutOfOrder = false
+is_own causes.SessionTwice = false
+is_own _ = true
+
+none_of_others : (b1 b2 b3 : Bool) (cause : EntryCause) → (is_own cause ≡ false) → at b1 causes.NoJobLine (at b2 causes.LimitPassed (at b3 causes.NoSuchPlace None)) ≡ Some cause → ⊥
+none_of_others true b2 b3 cause other is = let e : causes.NoJobLine ≡ cause = cc in false≢true (sym other ∙ ap is_own (sym e))
+none_of_others false true b3 cause other is = let e : causes.LimitPassed ≡ cause = cc in false≢true (sym other ∙ ap is_own (sym e))
+none_of_others false false true cause other is = let e : causes.NoSuchPlace ≡ cause = cc in false≢true (sym other ∙ ap is_own (sym e))
+none_of_others false false false cause other is = cc
+
+-- the job line that isn't the first of its name
+pub named_before : (jobs : List JobLine) (n : ℕ) (d : JobLine) (found : Option ℕ) → n < length jobs → found ≡ job_number (map job_text jobs) (slice_index_or jobs n d).name.now
+    → not (option_eq nat_eq found (Some n)) ≡ true → IsNamedBefore (map job_text jobs) n
+named_before jobs n d found inside is test =
+    record {
+      job = job_text (slice_index_or jobs n d);
+      stands = spelled_at job_text jobs n d inside;
+      other = λ same.
+          let equal : found ≡ Some n = is ∙ same in
+          let bad : not (nat_eq n n) ≡ true = subst (λ o. not (option_eq nat_eq o (Some n)) ≡ true) equal test in
+          absurd (grind (arith, nat_tests, bad));
+    }
+
+pub twice_at : (entries : List EntryLine) (place begun : ℕ) (d e f : EntryLine) → place + 1 < length entries → begun < place
+    → is_same_session (entry_text (slice_index_or entries place d)) (entry_text (slice_index_or entries (place + 1) e)) ≡ false
+    → is_same_session (entry_text (slice_index_or entries begun f)) (entry_text (slice_index_or entries (place + 1) e)) ≡ true → IsTwice (map entry_text entries) (place + 1)
+twice_at entries place begun d e f inside before other same =
+    record {
+      first = entry_text (slice_index_or entries begun f);
+      between = entry_text (slice_index_or entries place d);
+      entry = entry_text (slice_index_or entries (place + 1) e);
+      place = place;
+      begun = begun;
+      next = refl;
+      earlier = before;
+      stands_first = spelled_at entry_text entries begun f (omega arith);
+      stands_between = spelled_at entry_text entries place d (omega arith);
+      stands = spelled_at entry_text entries (place + 1) e inside;
+      same = same;
+      other = other;
+    }
+
+pub fails_alone : (jobs : List JobText) (entries : List EntryLine) (k : ℕ) (d : EntryLine) (cause : EntryCause) → k < length entries
+    → entry_cause jobs (entry_text (slice_index_or entries k d)) ≡ Some cause → FailsAlone jobs (map entry_text entries) k cause
+fails_alone jobs entries k d cause inside fails = record {
+  entry = entry_text (slice_index_or entries k d);
+  stands = spelled_at entry_text entries k d inside;
+  fails = fails;
+}
+
+-- by itself an entry has one of three causes
+pub fails_so : (jobs : List JobText) (entries : List EntryText) (k : ℕ) (cause : EntryCause) → FailsAlone jobs entries k cause → FailsAt jobs entries k cause
+fails_so jobs entries k causes.NoJobLine f = f
+fails_so jobs entries k causes.LimitPassed f = f
+fails_so jobs entries k causes.NoSuchPlace f = f
+fails_so jobs entries k causes.OutOfOrder f = absurd (none_of_others _ _ _ causes.OutOfOrder refl f.fails)
+fails_so jobs entries k causes.SessionTwice f = absurd (none_of_others _ _ _ causes.SessionTwice refl f.fails)
+
+pub out_of_order : (entries : List EntryLine) (place : ℕ) (d e : EntryLine) → 0 < place → place < length entries
+    → is_out_of_order (entry_text (slice_index_or entries (place - 1) d)) (entry_text (slice_index_or entries place e)) ≡ true → IsOutOfOrder (map entry_text entries) place
+out_of_order entries place d e some inside fails = record {
+  before = entry_text (slice_index_or entries (place - 1) d);
+  entry = entry_text (slice_index_or entries place e);
+  place = place - 1;
+  next = omega arith;
+  stands_before = spelled_at entry_text entries (place - 1) d (omega arith);
+  stands = spelled_at entry_text entries place e inside;
+  fails = fails;
+}

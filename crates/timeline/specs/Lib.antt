@@ -1,0 +1,3 @@
+pub mod Spans
+pub mod Timelines
+pub mod Faults

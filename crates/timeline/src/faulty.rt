@@ -1,0 +1,155 @@
+// Faults of a report that a look at each log by itself finds.
+ghost use Rattle.std.specs.Prelude.{◌≡◌, ◌+◌, ◌<◌, ◌≤◌, true, length, map, IfSome, IfOk, IfErr};
+ghost use Rattle.report_reader.specs.Form.{entry_text, job_text};
+ghost use Rattle.timeline.specs.Faults.{FailsAt, HasFault, IsFaultOf, IsTwice};
+
+use crate::entries::{entry_cause, is_out_of_order, same_session};
+use crate::fault::{EntryCause, TimelineFault};
+use crate::jobs::job_twice;
+use crate::span::{SLOTS, slot_of};
+use report_reader::{EntryLine, JobLine, Log, Report};
+use std::alloc::{AllocError, Allocator};
+
+/// What is wrong with an entry of a log, counted from 0.
+fn cause_at(jobs: &[JobLine], entries: &[EntryLine], place: usize) -> Option<EntryCause>
+    requires { place < length entries.now }
+    ensures { IfSome result (λ cause. FailsAt (map job_text jobs.now) (map entry_text entries.now) place cause) }
+{
+    let entry = &entries[place];
+    if let Some(cause) = entry_cause(jobs, entry) {
+        return Some(cause);
+    }
+    if place > 0 && is_out_of_order(&entries[place - 1], entry) {
+        return Some(EntryCause::OutOfOrder);
+    }
+    None
+}
+
+/// The first entry of a log that something is wrong with, counted from 0.
+fn log_fault(jobs: &[JobLine], entries: &[EntryLine]) -> Option<(usize, EntryCause)>
+    ensures { IfSome result (λ (place, cause). FailsAt (map job_text jobs.now) (map entry_text entries.now) place cause) }
+{
+    for place in 0..entries.len() {
+        if let Some(cause) = cause_at(jobs, entries, place) {
+            return Some((place, cause));
+        }
+    }
+    None
+}
+
+/// Whether the session of an entry stands before the entry before it, which is of another.
+fn is_twice(entries: &[EntryLine], place: usize) -> bool
+    requires { place + 1 < length entries.now }
+    ensures { result ≡ true → IsTwice (map entry_text entries.now) (place + 1) }
+{
+    let entry = &entries[place + 1];
+    if same_session(&entries[place], entry) {
+        return false;
+    }
+    for begun in 0..place {
+        if same_session(&entries[begun], entry) {
+            return true;
+        }
+    }
+    false
+}
+
+/// Marks a session, and says whether it was marked before.
+fn mark(seen: &mut [bool], slot: Option<usize>) -> bool {
+    let Some(slot) = slot else {
+        return false;
+    };
+    match seen.get_mut(slot) {
+        Some(seen) => {
+            let before = *seen;
+            *seen = true;
+            before
+        }
+        None => false,
+    }
+}
+
+/// The first entry of a log, counted from 0, whose session the log has before it with another between.
+fn twice_in<A: Allocator + Copy>(
+    alloc: A,
+    jobs: &[JobLine],
+    entries: &[EntryLine],
+) -> Result<Option<usize>, AllocError>
+    ensures { IfOk result (λ found. IfSome found (λ place. IsTwice (map entry_text entries.now) place)) }
+{
+    let mut seen = vec![in alloc; false; SLOTS]?;
+    for place in 0..entries.len() {
+        let was_seen = mark(&mut seen, slot_of(jobs, &entries[place]));
+        if was_seen && place > 0 && is_twice(entries, place - 1) {
+            return Ok(Some(place));
+        }
+    }
+    Ok(None)
+}
+
+/// The first entry that something is wrong with.
+fn entry_fault<'a, A: Allocator>(
+    jobs: &[JobLine],
+    logs: &[Log<'a, A>],
+) -> Option<(usize, usize, EntryCause)>
+    ensures { IfSome result (λ (instrument, entry, cause). HasFault (map job_text jobs.now) logs.now instrument entry cause) }
+{
+    for number in 0..logs.len() {
+        if let Some((place, cause)) = log_fault(jobs, logs[number].entries()) {
+            return Some((number + 1, place + 1, cause));
+        }
+    }
+    None
+}
+
+/// The first entry whose session stands in two places of its log.
+fn twice_fault<'a, A: Allocator + Copy>(
+    alloc: A,
+    jobs: &[JobLine],
+    logs: &[Log<'a, A>],
+) -> Result<Option<(usize, usize)>, AllocError>
+    ensures { IfOk result (λ found. IfSome found (λ (instrument, entry). HasFault (map job_text jobs.now) logs.now instrument entry EntryCause.SessionTwice)) }
+{
+    for number in 0..logs.len() {
+        if let Some(place) = twice_in(alloc, jobs, logs[number].entries())? {
+            return Ok(Some((number + 1, place + 1)));
+        }
+    }
+    Ok(None)
+}
+
+/// Looks at the limits, at the job lines, and at each log by itself.
+pub(crate) fn check<A: Allocator>(report: &Report<'_, A>) -> Result<(), TimelineFault>
+    ensures few { IfOk result (λ done. (length report.now.jobs ≤ 32) × (length report.now.logs ≤ 56)) }
+    ensures fault { IfErr result (λ fault. IsFaultOf report.now fault) }
+{
+    if report.jobs().len() > 32 || report.logs().len() > 56 {
+        return Err(TimelineFault::LimitPassed);
+    }
+    if let Some(number) = job_twice(report.jobs()) {
+        return Err(TimelineFault::JobTwice { job: number + 1 });
+    }
+    match entry_fault(report.jobs(), report.logs()) {
+        Some((instrument, entry, cause)) => Err(TimelineFault::Entry {
+            instrument,
+            entry,
+            cause,
+        }),
+        None => Ok(()),
+    }
+}
+
+/// The fault of a report whose logs agree with no columns.
+pub(crate) fn contradiction<A: Allocator + Copy>(alloc: A, report: &Report<'_, A>) -> TimelineFault
+    ensures { IsFaultOf report.now result }
+{
+    match twice_fault(alloc, report.jobs(), report.logs()) {
+        Ok(Some((instrument, entry))) => TimelineFault::Entry {
+            instrument,
+            entry,
+            cause: EntryCause::SessionTwice,
+        },
+        Ok(None) => TimelineFault::Contradiction,
+        Err(_) => TimelineFault::NoMemory,
+    }
+}

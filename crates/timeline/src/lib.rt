@@ -1,0 +1,18 @@
+//! A timeline of a report: each session has columns of its own, the same in every log, and stands right of
+//! each session that any log has before it.
+#![tactic(auto)]
+
+mod agreeing;
+mod entries;
+mod fault;
+mod faulty;
+mod jobs;
+mod placing;
+mod span;
+pub mod timeline;
+
+pub use entries::same_session;
+pub use fault::{EntryCause, TimelineFault};
+pub use jobs::job_number;
+pub use span::{Span, span_of};
+pub use timeline::{Timeline, timeline_of};
