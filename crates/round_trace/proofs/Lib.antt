@@ -6,3 +6,4 @@ pub mod Visiting
 pub mod Alike
 pub mod OneTurn
 pub mod Played
+pub mod StepLaws

@@ -6,9 +6,12 @@
 mod acts;
 mod bottles;
 mod edges;
+pub mod laws;
 mod player;
 mod running;
+mod steps;
 mod trying;
 mod turning;
 
 pub use running::trace;
+pub use steps::step_of;
