@@ -2,7 +2,7 @@
 #![tactic(auto)]
 
 use lab_runs::{FromRead, NoTask, RunFault};
-use lab_views::{View, end, end_without_view, read_words, run_explain};
+use lab_views::{View, end, end_without_view, read_words, run_explain, run_trace};
 use report::ToWrite;
 use std::io::{self, BufWriter};
 use std::process::ExitCode;
@@ -30,6 +30,7 @@ fn main(rt: HostRuntime) -> ExitCode {
     let mut sink = ToWrite::new(output);
     let answer = match view {
         View::Explain => run_explain(alloc, &mut source, &mut sink),
+        View::Trace { limit } => run_trace(alloc, &mut source, &mut sink, limit),
     };
     end(&rt, answer)
 }
