@@ -11,3 +11,4 @@ mod states;
 mod steps;
 
 pub use explanation::{Explanation, explain};
+pub use steps::add_step;

@@ -114,9 +114,9 @@ fn add_glance<A: Allocator, B: Allocator>(
     add_job(out, plan, other)
 }
 
-/// The step, without the end of its line.
+/// Adds the step as it is written in a list of steps, without the end of its line.
 #[tactic(auto, unfolding(crate::specs::StepTexts::step_text))]
-pub(crate) fn add_step<A: Allocator, B: Allocator>(
+pub fn add_step<A: Allocator, B: Allocator>(
     out: &mut Vec<u8, A>,
     plan: &Plan<B>,
     step: &Step,

@@ -17,6 +17,7 @@ mod words;
 
 pub use ending::{end, end_without_task};
 pub use faults::{Outcome, RunFault, status_of};
+pub use numbers::number_within;
 pub use reading::{INPUT_LIMIT, ReadFault, read_input};
 pub use running::{run_check, run_replay, run_upgrade};
 pub use sharing::{run_rounds, run_threads};

@@ -29,8 +29,9 @@ fn capped_number(word: &[u8]) -> u64
     number
 }
 
-/// The number that a word spells in plain digits, where it is within these bounds.
-pub(crate) fn number_within(word: &[u8], least: u32, most: u32) -> Option<u32>
+/// The number that a word of the command line spells in plain digits, where it is within these bounds, both at most
+/// 1000000000; zeros may lead, a sign may not.
+pub fn number_within(word: &[u8], least: u32, most: u32) -> Option<u32>
     requires { (least ≤ 1000000000) × (most ≤ 1000000000) }
     ensures number { result ≡ number_within least most word.now }
     ensures bounds { IfSome result (λ n. (least ≤ n) × (n ≤ most)) }

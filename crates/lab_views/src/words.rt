@@ -1,10 +1,10 @@
 // The words of the command line.
 ghost use Rattle.std.specs.Prelude.{◌≡◌, map};
 ghost use Rattle.lab_runs.specs.Words.{asks_for_help};
-ghost use Rattle.lab_views.specs.Words.{AnswersWords, view_named, view_of};
+ghost use Rattle.lab_views.specs.Words.{AnswersWords, trace_of, view_named, view_of};
 
 use clap::{Arg, ArgAction, Command};
-use lab_runs::NoTask;
+use lab_runs::{NoTask, number_within};
 use std::alloc::{AllocError, Global};
 use std::convert::AsStr;
 
@@ -15,15 +15,21 @@ pub enum View {
     Explain,
     /// Draw a picture of a report.
     Picture,
+    /// Write a script with the steps of its run by rounds, at most so many.
+    Trace { limit: u32 },
 }
 
+/// The most rounds that words can ask for.
+const MOST_ROUNDS: u32 = 1_000_000_000;
+
 /// What stands below the table of words in the help.
-const AFTER_HELP: &str =
-    "The input comes from standard input, at most 16777216 bytes. What is printed goes to
+const AFTER_HELP: &str = "N is a number from 0 to 1000000000, in plain digits.
+
+The input comes from standard input, at most 16777216 bytes. What is printed goes to
 standard output, and a fault in one line to standard error.
 
 Statuses:
-  0  explain: done, whether the steps are legal or not; picture: done; --help: done
+  0  explain: done, whether the steps are legal or not; picture, trace, --help: done
   1  the script or the report is refused; the fault names its line or place
   2  the command line is refused
   4  reading or writing failed, or the input is longer than 16777216 bytes
@@ -43,6 +49,11 @@ fn command<'a>(alloc: Global) -> Result<Command<'a>, AllocError> {
     let picture = Command::new(alloc, "picture")
         .about("read a report of labrun, and draw its timeline as SVG")
         .disable_help_flag(true);
+    let trace = Command::new(alloc, "trace N")
+        .about(
+            "read a script, write it with the steps of its run by at most N rounds, for labrun replay",
+        )
+        .disable_help_flag(true);
     Command::new(alloc, "labview")
         .about("Shows and explains the runs of labrun")
         .after_help(AFTER_HELP)
@@ -50,7 +61,8 @@ fn command<'a>(alloc: Global) -> Result<Command<'a>, AllocError> {
         .disable_help_flag(true)
         .arg(help)?
         .subcommand(explain)?
-        .subcommand(picture)
+        .subcommand(picture)?
+        .subcommand(trace)
 }
 
 /// The text of the help.
@@ -73,6 +85,18 @@ fn view_named(word: &[u8]) -> Option<View>
     None
 }
 
+/// The trace that two words ask for.
+#[tactic(auto, unfolding(crate::specs::Words::trace_of))]
+fn trace_of(word: &[u8], limit: &[u8]) -> Option<View>
+    ensures { result ≡ trace_of word.now limit.now }
+{
+    if word != b"trace".as_slice() {
+        return None;
+    }
+    let limit = number_within(limit, 0, MOST_ROUNDS)?;
+    Some(View::Trace { limit })
+}
+
 fn bytes<S: AsStr>(word: &S) -> &[u8]
     ensures { result.now ≡ S.text word.now }
 {
@@ -85,6 +109,7 @@ fn view_of<S: AsStr>(words: &[S]) -> Option<View>
 {
     match words {
         [_, word] => view_named(bytes(word)),
+        [_, word, limit] => trace_of(bytes(word), bytes(limit)),
         _ => None,
     }
 }

@@ -2,7 +2,9 @@
 #![tactic(auto)]
 
 use lab_runs::{FromRead, NoTask, RunFault};
-use lab_views::{View, end, end_picture, end_without_view, read_words, run_explain, run_picture};
+use lab_views::{
+    View, end, end_picture, end_without_view, read_words, run_explain, run_picture, run_trace,
+};
 use report::ToWrite;
 use std::io::{self, BufWriter};
 use std::process::ExitCode;
@@ -31,5 +33,6 @@ fn main(rt: HostRuntime) -> ExitCode {
     match view {
         View::Explain => end(&rt, run_explain(alloc, &mut source, &mut sink)),
         View::Picture => end_picture(&rt, run_picture(alloc, &mut source, &mut sink)),
+        View::Trace { limit } => end(&rt, run_trace(alloc, &mut source, &mut sink, limit)),
     }
 }

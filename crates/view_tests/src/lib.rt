@@ -9,4 +9,6 @@ mod stages;
 #[cfg(test)]
 mod telling;
 #[cfg(test)]
+mod traces;
+#[cfg(test)]
 mod views;

@@ -84,15 +84,18 @@ Usage: labview [COMMAND]
 
 Commands:
   explain  read a script and its steps, tell why the first that isn't legal is refused, and what is legal there
+  trace N  read a script, write it with the steps of its run by at most N rounds, for labrun replay
 
 Options:
       --help  print this help
+
+N is a number from 0 to 1000000000, in plain digits.
 
 The input comes from standard input, at most 16777216 bytes. What is printed goes to
 standard output, and a fault in one line to standard error.
 
 Statuses:
-  0  explain: done, whether the steps are legal or not; --help: done
+  0  explain: done, whether the steps are legal or not; trace, --help: done
   1  the script is refused; the fault names its line
   2  the command line is refused
   4  reading or writing failed, or the input is longer than 16777216 bytes
@@ -115,6 +118,10 @@ fn words(rt: HostRuntime) {
         (["labview", "help"].as_slice(), false),
         (["labview", "replay"].as_slice(), false),
         (["explain"].as_slice(), false),
+        (["labview", "trace"].as_slice(), false),
+        (["labview", "explain", "7"].as_slice(), false),
+        (["labview", "trace", "+7"].as_slice(), false),
+        (["labview", "trace", "1000000001"].as_slice(), false),
     ];
     for (i, (words, wanted)) in lines.into_iter().enumerate() {
         match read_words(rt.alloc(), words) {
@@ -123,6 +130,8 @@ fn words(rt: HostRuntime) {
             Err(_) => panic!(rt; "line {i}"),
         }
     }
+    let trace = read_words(rt.alloc(), &["labview", "trace", "007"]);
+    assert!(rt; matches!(trace, Ok(View::Trace { limit: 7 })));
     let text = match read_words(rt.alloc(), &["labview", "--help"]) {
         Err(NoTask::Help(text)) => text,
         _ => String::new(rt.alloc()),

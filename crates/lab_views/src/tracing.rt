@@ -1,0 +1,127 @@
+// The run of a script by rounds, as a script with its steps.
+ghost use Rattle.std.specs.Prelude.{◌≡◌, ◌++◌, ◌+◌, OnOk, IfOk};
+ghost use Rattle.std.specs.List.{All};
+ghost use Rattle.std.specs.Io.BufRead.{ends_with_byte};
+ghost use Rattle.legal_steps.specs.Steps.{IsStepOf};
+ghost use Rattle.lab_runs.specs.Taken.{ConsumesUpTo};
+ghost use Rattle.lab_runs.specs.Faults.{failed_reads, failed_writes};
+ghost use Rattle.lab_runs.specs.Runs.{AnswersFor, ScriptRefuses};
+ghost use Rattle.round_trace.specs.StepsOf.{step_of};
+ghost use Rattle.lab_views.specs.Traces.{step_line, step_lines, script_head, trace_text, Traces, TraceAnswers};
+
+use crate::sending::send_text;
+use explaining::add_step;
+use lab_plan::Plan;
+use lab_runs::{Outcome, RunFault, Source, read_input};
+use legal_steps::Event;
+use report::Sink;
+use round_trace::laws::steps_are_of_plan;
+use round_trace::{step_of, trace};
+use script_reader::read_plan;
+use std::alloc::{AllocError, Allocator};
+
+/// Whether the last line has its end.
+fn ends_line(text: &[u8]) -> bool
+    ensures { result ≡ ends_with_byte 10 text.now }
+{
+    match text {
+        [] => false,
+        [.., last] => *last == b'\n',
+    }
+}
+
+/// The script as it was read, with an end for its last line, and the line `steps`.
+#[tactic(auto, unfolding(crate::specs::Traces::script_head))]
+fn add_head<A: Allocator>(out: &mut Vec<u8, A>, input: &[u8]) -> Result<(), AllocError>
+    ensures { OnOk result (out.new.items ≡ out.old.items ++ script_head input.now) }
+{
+    out.extend_from_slice(input)?;
+    if !ends_line(input) {
+        out.extend_from_slice(b"\n")?;
+    }
+    out.extend_from_slice(b"steps\n")
+}
+
+/// The step of an event, on a line of its own.
+#[tactic(auto, unfolding(crate::specs::Traces::step_line))]
+fn add_line<A: Allocator, B: Allocator>(
+    out: &mut Vec<u8, A>,
+    plan: &Plan<B>,
+    event: &Event,
+) -> Result<(), AllocError>
+    requires { IsStepOf plan.now (step_of event.now) }
+    ensures { OnOk result (out.new.items ≡ out.old.items ++ step_line plan.now event.now) }
+{
+    add_step(out, plan, &step_of(event))?;
+    out.extend_from_slice(b"\n")
+}
+
+/// The steps of events, a line each.
+fn add_lines<A: Allocator, B: Allocator>(
+    out: &mut Vec<u8, A>,
+    plan: &Plan<B>,
+    events: &[Event],
+) -> Result<(), AllocError>
+    requires { All (λ event. IsStepOf plan.now (step_of event)) events.now }
+    ensures { OnOk result (out.new.items ≡ out.old.items ++ step_lines plan.now events.now) }
+{
+    for event in events {
+        add_line(out, plan, event)?;
+    }
+    Ok(())
+}
+
+/// The whole text.
+#[tactic(auto, unfolding(crate::specs::Traces::trace_text))]
+fn text_of<A: Allocator, B: Allocator>(
+    alloc: A,
+    plan: &Plan<B>,
+    input: &[u8],
+    events: &[Event],
+) -> Result<Vec<u8, A>, AllocError>
+    requires { All (λ event. IsStepOf plan.now (step_of event)) events.now }
+    ensures { IfOk result (λ text. text.items ≡ trace_text plan.now input.now events.now) }
+{
+    let mut text = Vec::new(alloc);
+    add_head(&mut text, input)?;
+    add_lines(&mut text, plan, events)?;
+    Ok(text)
+}
+
+/// Writes the trace of an input.
+fn trace_input<A: Allocator + Copy, W: Sink>(
+    alloc: A,
+    input: &[u8],
+    sink: &mut W,
+    limit: u32,
+) -> Result<Outcome, RunFault>
+    ensures answer { AnswersFor (Traces limit) ScriptRefuses input.now (W.taken sink.old) (W.taken sink.new) result }
+    ensures reads { failed_reads result ≡ 0 }
+    ensures writes { W.failures sink.new ≡ W.failures sink.old + failed_writes result }
+{
+    steps_are_of_plan();
+    let plan = read_plan(alloc, input)?;
+    let events = trace(alloc, &plan, limit)?;
+    let text = text_of(alloc, &plan, input, &events)?;
+    send_text(&text, sink)?;
+    Ok(Outcome::Finished)
+}
+
+/// Reads a script and writes it again, with the line `steps` and the steps of its run by at most so many rounds behind it.
+///
+/// The input is at most 16777216 bytes, and its last line may lack its end. A long run has more steps than a replay reads:
+/// 1000000 of them, or 16777216 bytes. The outcome is Finished, whether or not all jobs are retired then.
+pub fn run_trace<A: Allocator + Copy, R: Source, W: Sink>(
+    alloc: A,
+    source: &mut R,
+    sink: &mut W,
+    limit: u32,
+) -> Result<Outcome, RunFault>
+    ensures answer { TraceAnswers limit (R.left source.old) (W.taken sink.old) (W.taken sink.new) result }
+    ensures most { ConsumesUpTo (R.left source.old) (R.left source.new) 16777217 }
+    ensures reads { R.failures source.new ≡ R.failures source.old + failed_reads result }
+    ensures writes { W.failures sink.new ≡ W.failures sink.old + failed_writes result }
+{
+    let input = read_input(alloc, source)?;
+    trace_input(alloc, &input, sink, limit)
+}

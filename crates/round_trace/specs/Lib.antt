@@ -1,0 +1,4 @@
+pub mod Doing
+pub mod Players
+pub mod Traces
+pub mod StepsOf

@@ -1,0 +1,135 @@
+// What `labview trace` writes, by its bytes, and that a replay of it has the report of rounds.
+use lab_runs::{FromRead, Outcome, RunFault, run_replay, run_rounds};
+use lab_views::run_trace;
+use report::ToWrite;
+use script_reader::{ScriptCause, ScriptFault};
+use std::alloc::Global;
+use std::test::Fail;
+
+fn traced(alloc: Global, input: &[u8], limit: u32) -> (Vec<u8>, Result<Outcome, RunFault>) {
+    let mut bytes = Vec::new(alloc);
+    let mut source = FromRead::new(input);
+    let mut sink = ToWrite::new(&mut bytes);
+    let answer = run_trace(alloc, &mut source, &mut sink, limit);
+    (bytes, answer)
+}
+
+fn replayed(alloc: Global, input: &[u8]) -> (Vec<u8>, Result<Outcome, RunFault>) {
+    let mut bytes = Vec::new(alloc);
+    let mut source = FromRead::new(input);
+    let mut sink = ToWrite::new(&mut bytes);
+    let answer = run_replay(alloc, &mut source, &mut sink);
+    (bytes, answer)
+}
+
+fn reported(alloc: Global, input: &[u8], limit: u32) -> (Vec<u8>, Result<Outcome, RunFault>) {
+    let mut bytes = Vec::new(alloc);
+    let mut source = FromRead::new(input);
+    let mut sink = ToWrite::new(&mut bytes);
+    let answer = run_rounds(alloc, &mut source, &mut sink, limit);
+    (bytes, answer)
+}
+
+// Two jobs that share a scale. The last line has no end.
+const SHARED: &str = "# a shared scale
+lab 1
+job a
+session
+scale add 1
+end
+job b
+session
+scale add 1
+end";
+
+// Its steps by the definition of turns, a line a turn here: the fork and the bottle start at a, their tokens at b.
+const STEPS: &str = "
+steps
+look a b\nthirst a
+look b a\nthirst b
+look a b\ndrink a
+look b a\naskbottles b a scale\nhunger b
+look a b\nreach a\nact a
+look b a\naskfork b a
+look a b\ngivefork a b\nquit a
+look b a\nsit b
+look a b\ngivebottles a b scale\nretire a
+look b a\nsoil b a\ndrink b
+look a b
+look b a\nreach b\nact b
+look a b
+look b a\nquit b
+look a b
+look b a\nleave b
+look a b
+look b a\nretire b
+";
+
+#[test]
+fn two_jobs_by_hand(rt: HostRuntime) -> Result<(), Fail> {
+    let mut wanted = String::new(rt.alloc());
+    wanted.push_str(SHARED)?;
+    wanted.push_str(STEPS)?;
+    let (text, answer) = traced(rt.alloc(), SHARED.as_bytes(), 1000000000);
+    assert!(rt;
+        answer == Ok(Outcome::Finished) && text.as_slice() == wanted.as_bytes(),
+        "{wanted}"
+    );
+    Ok(())
+}
+
+#[test]
+fn no_rounds_no_steps(rt: HostRuntime) {
+    let (text, answer) = traced(rt.alloc(), b"lab 1\njob a\n", 0);
+    assert!(rt; answer == Ok(Outcome::Finished) && text.as_slice() == b"lab 1\njob a\nsteps\n".as_slice());
+}
+
+#[test]
+fn steps_are_refused(rt: HostRuntime) {
+    let (text, answer) = traced(rt.alloc(), b"lab 1\nsteps\n", 1);
+    let unknown = ScriptFault {
+        line: 2,
+        cause: ScriptCause::UnknownWord,
+    };
+    assert!(rt; answer == Err(RunFault::Script(unknown)) && text.is_empty());
+}
+
+// Three jobs, each of which shares an instrument with each other, and one that gives a session up.
+const TRIANGLE: &str = "lab 2
+job a
+session
+x add 1
+y add 2
+x read
+end
+session patience 1
+x set 5
+end
+job b
+session patience 1
+y add 3
+z add 4
+y read
+end
+session
+z read
+end
+job c
+session patience 0
+z set 7
+x add 1
+end
+session
+x read
+end
+";
+
+#[test]
+fn replays_have_the_report_of_rounds(rt: HostRuntime) {
+    for limit in 0..24 {
+        let (text, _) = traced(rt.alloc(), TRIANGLE.as_bytes(), limit);
+        let replay = replayed(rt.alloc(), text.as_slice());
+        let rounds = reported(rt.alloc(), TRIANGLE.as_bytes(), limit);
+        assert!(rt; replay.1 == rounds.1 && replay.0.as_slice() == rounds.0.as_slice(), "{limit}");
+    }
+}
