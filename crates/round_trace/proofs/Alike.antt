@@ -1,13 +1,13 @@
 -- A turn depends on the own seat before it, and on what it sees: so it is the same by the state and by what its job knows.
-use Rattle.std.proofs.Common.{◌≡◌, ◌↔◌, ℕ, zero, suc, ◌<◌, ◌≤◌, Bool, true, false, not, ◌==◌, if◌then◌else◌, List, [], ◌∷◌, ◌++◌, length, map, get_or, refl, sym, ap, ◌∙◌, subst, inl, inr, arith, length-set}
+use Rattle.std.proofs.Common.{◌≡◌, ◌↔◌, ℕ, suc, ◌<◌, ◌≤◌, Bool, true, false, not, ◌==◌, if◌then◌else◌, List, [], ◌∷◌, length, map, refl, sym, ap, ◌∙◌, subst, inl, inr, arith}
 use Rattle.std.specs.List.{All}
 use Rattle.std.specs.Option.{ForSome}
-use Rattle.lab_plan.specs.LabPlan.{LabPlan, edges, edges_of, bottles, patience}
+use Rattle.lab_plan.specs.LabPlan.{LabPlan, edges, bottles, patience}
 use Rattle.legal_steps.specs.declared.event.Event.{Event}
 use Rattle.legal_steps.specs.declared.event.Event.TheVariants.{Look, AskFork, GiveFork, Soil, AskBottles, GiveBottles, Thirst, Hunger, Sit, Leave, Drink, Reach, Quit, Retire, Withdraw}
 use Rattle.legal_steps.specs.declared.phase.Drinking.TheVariants.{Thirsty}
-use Rattle.legal_steps.specs.State.{State, Seat, IsOwn, edge, seat, session, drinking}
-use Rattle.legal_steps.specs.Legal.{May, after, MayAskBottle, MayGiveBottle}
+use Rattle.legal_steps.specs.State.{State, Seat, IsOwn, seat, drinking}
+use Rattle.legal_steps.specs.Legal.{May, MayAskBottle, MayGiveBottle}
 use Rattle.legal_steps.proofs.FitsWrites.{edge_same}
 use Rattle.edge_word.specs.declared.moves.EdgeMoves.{EdgeMoves}
 use Rattle.edge_word.specs.Moves.{events_of}
@@ -15,11 +15,11 @@ use Rattle.locality.specs.History.{actor, learned, learned_all}
 use Rattle.locality.specs.Lists.{Each}
 use Rattle.locality.specs.Changes.{seat_after}
 use Rattle.locality.proofs.Frame.{learned_seats, learned_edges, learned_seat}
-use Rattle.locality.proofs.Runs.{learned_all-append, learned_all_seats, learned_all_edges, each-append}
+use Rattle.locality.proofs.Runs.{each-append}
 use Rattle.locality.proofs.Reading.{reads_alike}
 use Rattle.locality.proofs.Local.{Alike, IsLocal, give_fork_local, ask_fork_local, soil_local, give_bottles_local, ask_bottles_local, each_move}
-use Rattle.turns.specs.Due.{after_if, AreDue, AreForkMoves, AreBottleMoves, IsGreatest, fork_gone, bottles_gone, fork_asked_for, all_asked_for}
-use Rattle.turns.specs.Acts.{AreActs, AreFirst, Counts, order}
+use Rattle.turns.specs.Due.{after_if, AreDue, fork_gone, bottles_gone, fork_asked_for, all_asked_for}
+use Rattle.turns.specs.Acts.{AreFirst, Counts, order}
 use Rattle.turns.specs.Turn.{Visit, visit_events, visits_events, AreVisits, IsTurnBy}
 use Rattle.turns.proofs.OwnEdges.{own_edges}
 use Rattle.round_trace.proofs.Sets.{give_one, one_given, ask_one, one_asked}

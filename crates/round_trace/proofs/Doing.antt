@@ -1,10 +1,10 @@
 -- Events one after another.
-use Rattle.std.proofs.Common.{◌≡◌, ◌↔◌, ℕ, Bool, true, false, List, [], ◌∷◌, ◌++◌, refl, sym, ap, ◌∙◌, subst, append_assoc, append-nil}
+use Rattle.std.proofs.Common.{◌≡◌, Bool, true, false, List, [], ◌++◌, refl, sym, ap, ◌∙◌, subst, append_assoc, append-nil}
 use Rattle.lab_plan.specs.LabPlan.{LabPlan}
 use Rattle.legal_steps.specs.declared.event.Event.{Event}
 use Rattle.legal_steps.specs.State.{State}
-use Rattle.legal_steps.specs.Legal.{May, after}
-use Rattle.legal_steps.specs.Run.{IsLegalFrom, after_all, Runs}
+use Rattle.legal_steps.specs.Legal.{May}
+use Rattle.legal_steps.specs.Run.{IsLegalFrom, after_all}
 use Rattle.interleaving.specs.World.{WorldView}
 use Rattle.edge_word.specs.Moves.{on}
 use Rattle.locality.proofs.Runs.{after_all-append, legal-append}

@@ -1,18 +1,18 @@
 -- A turn by the state is a turn by what its job knows.
-use Rattle.std.proofs.Common.{◌≡◌, ◌≢◌, ℕ, zero, suc, ◌+◌, ◌<◌, Bool, true, false, List, [], ◌∷◌, ◌++◌, length, refl, sym, ap, ◌∙◌, subst, arith}
-use Rattle.lab_plan.specs.LabPlan.{LabPlan, edges, edges_of}
+use Rattle.std.proofs.Common.{◌≡◌, ℕ, zero, suc, ◌+◌, ◌<◌, List, [], ◌∷◌, ◌++◌, length, refl, sym, ap, ◌∙◌, subst, arith}
+use Rattle.lab_plan.specs.LabPlan.{LabPlan, edges_of}
 use Rattle.legal_steps.specs.declared.event.Event.{Event}
 use Rattle.legal_steps.specs.State.{State, Seat, seat, phase, session, drinking}
 use Rattle.legal_steps.specs.Legal.{IsJob, after}
 use Rattle.legal_steps.specs.Opening.{the_opening}
 use Rattle.legal_steps.specs.Run.{IsLegalFrom, after_all}
 use Rattle.interleaving.specs.World.{WorldView}
-use Rattle.locality.specs.History.{events_by, learned_all, known_by, IsHistory, state_after}
+use Rattle.locality.specs.History.{events_by, learned_all, IsHistory, state_after}
 use Rattle.locality.specs.Patience.{is_waiting, waited_in}
 use Rattle.locality.proofs.Frame.{as_many_edges}
 use Rattle.locality.proofs.Runs.{after_all-append, legal-append, all_seats, learned_all_seats, learned_all_edges, opening_seats, opening_edges, own_known}
 use Rattle.turns.specs.Acts.{AreActs}
-use Rattle.turns.specs.Turn.{Visit, is_done, count, once, visits_events, IsTurnBy}
+use Rattle.turns.specs.Turn.{is_done, count, once, visits_events, IsTurnBy}
 use Rattle.session_layer.specs.declared.turning.Turned.{Turned}
 use Rattle.session_layer.specs.declared.turning.Turned.TheVariants as answers
 use Rattle.session_layer.specs.Turn.{Says}

@@ -1,12 +1,11 @@
 -- The steps of legal events.
-use Rattle.std.proofs.Common.{◌≡◌, ℕ, zero, suc, ◌<◌, List, [], ◌∷◌, length, map, get_or, refl, sym, ap, ◌∙◌, subst, arith}
+use Rattle.std.proofs.Common.{◌≡◌, zero, suc, List, [], ◌∷◌, map, refl, sym, ap, ◌∙◌, arith}
 use Rattle.std.specs.List.{All}
 use Rattle.lab_plan.specs.LabPlan.{LabPlan}
 use Rattle.legal_steps.specs.declared.event.Event.{Event}
 use Rattle.legal_steps.specs.declared.event.Event.TheVariants.{Look, AskFork, GiveFork, Soil, AskBottles, GiveBottles, Thirst, Hunger, Sit, Leave, Drink, Reach, Act, Quit, Retire, Glance, Withdraw}
 use Rattle.legal_steps.specs.State.{State}
 use Rattle.legal_steps.specs.Legal.{May, after}
-use Rattle.legal_steps.specs.Run.{IsLegalFrom}
 use Rattle.legal_steps.specs.Steps.{event_of, events_of, IsStepOf}
 use Rattle.legal_steps.proofs.FitsLaw.{own_is_job}
 use Rattle.round_trace.specs.StepsOf.{step_of, StepsGiveEvents, StepsAreOfPlan}

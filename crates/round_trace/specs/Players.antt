@@ -1,5 +1,5 @@
 -- Players of rounds, as the code has them.
-use Rattle.std.specs.Prelude.{◌≡◌, ℕ, ◌<◌, Bool, ◌&&◌, if◌then◌else◌, List, length, map}
+use Rattle.std.specs.Prelude.{◌≡◌, ◌<◌, Bool, ◌&&◌, if◌then◌else◌, List, length, map}
 use Rattle.lab_plan.specs.LabPlan.{LabPlan}
 use Rattle.legal_steps.specs.declared.event.Event.{Event}
 use Rattle.legal_steps.specs.declared.phase.JobState.{JobState}

@@ -1,5 +1,5 @@
 -- For readers: the steps of events, as they are written in a list: a look or a glance without what it saw.
-use Rattle.std.specs.Prelude.{◌≡◌, ℕ, List, map}
+use Rattle.std.specs.Prelude.{◌≡◌, List, map}
 use Rattle.std.specs.List.{All}
 use Rattle.lab_plan.specs.LabPlan.{LabPlan}
 use Rattle.legal_steps.specs.declared.event.Event.{Event}

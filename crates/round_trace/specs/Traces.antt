@@ -1,5 +1,5 @@
 -- For readers: the run of a plan by rounds, as a list of events.
-use Rattle.std.specs.Prelude.{◌≢◌, ℕ, Bool, true, false, List, [], length, if◌then◌else◌}
+use Rattle.std.specs.Prelude.{◌≢◌, ℕ, Bool, List, [], length, if◌then◌else◌}
 use Rattle.lab_plan.specs.LabPlan.{LabPlan}
 use Rattle.legal_steps.specs.declared.event.Event.{Event}
 use Rattle.rounds.specs.declared.ended.Ended.{Ended}

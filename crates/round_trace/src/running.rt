@@ -63,7 +63,7 @@ fn play<A: Allocator>(
 /// The events of the plan's run by rounds: in each round one turn of each job, in their order, until all are retired, or
 /// so many rounds were done. Each look is among them, so a round has as many as there are ends of edges, at least.
 ///
-/// Memory is taken for the world, and 24 bytes or so an event.
+/// Memory is taken for the world, and in proportion to the events.
 pub fn trace<A: Allocator + Copy>(
     alloc: A,
     plan: &Plan<A>,

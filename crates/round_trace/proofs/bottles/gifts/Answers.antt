@@ -1,8 +1,6 @@
-use Rattle.std.proofs.Common.{◌≡◌, ◌+◌, ◌<◌, ◌^◌, ℕ, length, ◌∙◌, sym, ap, subst, arith}
+use Rattle.std.proofs.Common.{◌+◌, ◌<◌, ℕ, length, ◌∙◌, sym, ap, subst, arith}
 use Rattle.std.proofs.lemmas.Bool.{false≢true}
-use Rattle.legal_steps.specs.declared.phase.Drinking.TheVariants.{Thirsty}
 use Rattle.lab_plan.specs.LabPlan.{LabPlan, bottles}
-use Rattle.legal_steps.specs.State.{drinking}
 use Rattle.legal_steps.specs.Legal.{MayGiveBottle}
 use Rattle.turns.proofs.Sets.{Grown, grown_in, grown_out}
 use Rattle.round_trace.proofs.Sets.{gives, given}

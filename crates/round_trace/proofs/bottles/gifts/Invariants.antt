@@ -1,4 +1,4 @@
-use Rattle.std.proofs.Common.{◌≡◌, ◌<◌, ◌^◌, ◌↔◌, ℕ}
+use Rattle.std.proofs.Common.{◌<◌, ◌^◌, ◌↔◌, ℕ}
 use Rattle.legal_steps.specs.State.{Has}
 use Rattle.legal_steps.specs.Legal.{MayGiveBottle}
 use Rattle.round_trace.proofs.bottles.gifts.Given as goal

@@ -1,10 +1,10 @@
-use Rattle.std.proofs.Common.{◌≡◌, ◌+◌, ◌∷◌, [], ◌++◌, ℕ, List, take, length, sym, ap, ◌∙◌, subst}
-use Rattle.std.proofs.lemmas.List.{take_more, take_all}
+use Rattle.std.proofs.Common.{◌≡◌, ◌+◌, ◌∷◌, [], ◌++◌, ℕ, List, take, sym, ap, ◌∙◌, subst}
+use Rattle.std.proofs.lemmas.List.{take_more}
 use Rattle.lab_plan.specs.LabPlan.{LabPlan, edges_of}
 use Rattle.legal_steps.specs.State.{IsOwn}
 use Rattle.turns.proofs.OwnEdges.{own_at}
 use Rattle.round_trace.specs.Doing.{VisitsEdges}
-use Rattle.round_trace.proofs.Visiting.{visits_none, visits_both}
+use Rattle.round_trace.proofs.Visiting.{visits_both}
 use Rattle.round_trace.proofs.edges.visit_all.Goals as goal
 
 pub visit-requires : goal.visit-requires

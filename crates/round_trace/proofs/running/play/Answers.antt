@@ -1,7 +1,6 @@
-use Rattle.std.proofs.Common.{◌≡◌, ◌↔◌, ◌<◌, ◌≤◌, Bool, true, false, ℕ, sym, ap, ◌∙◌, subst, refl, arith}
+use Rattle.std.proofs.Common.{◌≡◌, ◌↔◌, ◌≤◌, true, sym, ◌∙◌, subst, refl, arith}
 use Rattle.std.proofs.lemmas.Bool.{false≢true}
 use Rattle.lab_plan.specs.LabPlan.{LabPlan}
-use Rattle.legal_steps.specs.declared.event.Event.{Event}
 use Rattle.locality.specs.History.{IsHistory}
 use Rattle.rounds.specs.Rounds.{Round, AreRetired}
 use Rattle.round_trace.specs.Players.{players_of, AreJobs}
