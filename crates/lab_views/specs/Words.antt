@@ -1,5 +1,5 @@
 -- The words of the command line, the program's own name first.
-use Rattle.std.specs.Prelude.{◌≡◌, ◌⊎◌, ℕ, Bool, false, true, List, [], ◌∷◌, Option, None, Some, Result, Ok, Err, codes, if◌then◌else◌}
+use Rattle.std.specs.Prelude.{◌≡◌, ℕ, false, true, List, [], ◌∷◌, Option, None, Some, Result, Ok, Err, codes, if◌then◌else◌}
 use Rattle.std.specs.Str.{bytes_eq}
 use Rattle.lab_runs.specs.declared.words.NoTask.{NoTask}
 use Rattle.lab_runs.specs.declared.words.NoTask.TheVariants.{Help, Refused, NoMemory}

@@ -1,4 +1,3 @@
-use Rattle.std.proofs.Common.{refl, sym, subst}
 use Rattle.std.proofs.KnownBytes.{Keeps-refl}
 use Rattle.lab_runs.specs.declared.faults.RunFault.TheVariants.{Script, Write}
 use Rattle.lab_runs.specs.declared.faults.Outcome.TheVariants.{Finished}
