@@ -1,7 +1,6 @@
-use Rattle.std.proofs.Common.{List, sym, subst}
+use Rattle.std.proofs.Common.{sym, subst}
 use Rattle.std.specs.List.{All}
 use Rattle.std.proofs.KnownBytes.{Keeps-refl}
-use Rattle.legal_steps.specs.declared.event.Event.{Event}
 use Rattle.legal_steps.specs.Opening.{the_opening}
 use Rattle.legal_steps.specs.Steps.{IsStepOf}
 use Rattle.round_trace.specs.StepsOf.{step_of}
