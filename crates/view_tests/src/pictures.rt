@@ -81,8 +81,8 @@ const PICTURE: &str = "<?xml version=\"1.0\" encoding=\"UTF-8\"?>
 </g>
 <g transform=\"translate(160 100)\"><path d=\"M-150 66H300\" stroke=\"#ccc\"/><text x=\"-150\" y=\"38\" font-size=\"13\">lamp</text>
 </g>
-<g transform=\"translate(10 190)\"><path d=\"M0 0h24v12H0z\" fill=\"#e69f00\" fill-opacity=\"0.5\" stroke=\"#222\"/><text x=\"34\" y=\"10\">a</text><text x=\"150\" y=\"10\">1 of 1 sessions</text><text x=\"460\" y=\"10\">1 meals</text><text x=\"590\" y=\"10\">retired</text></g>
-<g transform=\"translate(10 210)\"><path d=\"M0 0h24v12H0z\" fill=\"#56b4e9\" fill-opacity=\"0.5\" stroke=\"#222\"/><text x=\"34\" y=\"10\">b</text><text x=\"150\" y=\"10\">0 of 1 sessions</text><text x=\"460\" y=\"10\">2 meals</text><text x=\"590\" y=\"10\">waiting</text></g>
+<g transform=\"translate(10 190)\"><path d=\"M0 0h24v12H0z\" fill=\"#e69f00\" fill-opacity=\"0.5\" stroke=\"#222\"/><text x=\"34\" y=\"10\">a</text><text x=\"150\" y=\"10\">sessions 1 of 1</text><text x=\"460\" y=\"10\">meals 1</text><text x=\"590\" y=\"10\">retired</text></g>
+<g transform=\"translate(10 210)\"><path d=\"M0 0h24v12H0z\" fill=\"#56b4e9\" fill-opacity=\"0.5\" stroke=\"#222\"/><text x=\"34\" y=\"10\">b</text><text x=\"150\" y=\"10\">sessions 0 of 1</text><text x=\"460\" y=\"10\">meals 2</text><text x=\"590\" y=\"10\">waiting</text></g>
 <text x=\"10\" y=\"260\" font-size=\"13\">unfinished</text>
 </svg>
 ";
