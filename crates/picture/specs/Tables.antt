@@ -20,7 +20,8 @@ size_text w h =
 -- what is read aloud
 abbrev pub words_text : ℕ → ℕ → ℕ → List ℕ
 words_text instruments jobs columns =
-    codes "<title>Timeline of a laboratory run</title>\n<desc>Instruments, a row each: " ++ decimal instruments ++ codes ". Jobs, a line each in the table below: "
+    codes "<title>Timeline of a laboratory run</title>\n<desc>Instruments, a row each: " ++ decimal instruments
+    ++ codes ". Jobs, a line each in the table below: "
     ++ decimal jobs ++ codes ". Columns: " ++ decimal columns
     ++ codes ". A box is a session on an instrument, and a tick is a command; a session has the same columns on each of its instruments.</desc>\n"
 
@@ -49,7 +50,8 @@ abbrev pub sessions_text : JobText → List ℕ
 sessions_text job = codes "<text x=\"150\" y=\"10\">sessions " ++ decimal job.done ++ codes " of " ++ decimal job.sessions ++ codes "</text>"
 
 abbrev pub meals_text : JobText → List ℕ
-meals_text job = codes "<text x=\"460\" y=\"10\">meals " ++ decimal job.meals ++ codes "</text><text x=\"590\" y=\"10\">" ++ state_word job.is_retired ++ codes "</text></g>\n"
+meals_text job = codes "<text x=\"460\" y=\"10\">meals " ++ decimal job.meals ++ codes "</text><text x=\"590\" y=\"10\">" ++ state_word job.is_retired
+    ++ codes "</text></g>\n"
 
 unfoldable pub job_line : ℕ → ℕ → JobText → List ℕ
 job_line instruments number job = legend instruments number job ++ sessions_text job ++ withdrawn_text job.withdrawn ++ meals_text job
@@ -57,4 +59,5 @@ job_line instruments number job = legend instruments number job ++ sessions_text
 -- the last line, and the end
 abbrev pub end_text : ℕ → ℕ → Bool → List ℕ
 end_text instruments jobs is_finished =
-    codes "<text x=\"10\" y=\"" ++ decimal (80 + 70 * instruments + 20 * jobs) ++ codes "\" font-size=\"13\">" ++ last_word is_finished ++ codes "</text>\n</svg>\n"
+    codes "<text x=\"10\" y=\"" ++ decimal (80 + 70 * instruments + 20 * jobs) ++ codes "\" font-size=\"13\">" ++ last_word is_finished
+    ++ codes "</text>\n</svg>\n"

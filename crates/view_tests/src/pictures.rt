@@ -134,15 +134,15 @@ fn faults_of_reports(rt: HostRuntime) -> Result<(), Fail> {
             "the logs contradict each other: no order of the sessions agrees with all of them",
         ),
     ];
-    for (text, wanted) in texts {
+    for (i, (text, wanted)) in texts.into_iter().enumerate() {
         let (bytes, answer) = drawn(rt.alloc(), text.as_bytes());
         assert!(rt;
             bytes.is_empty() && status_of_picture(&answer) == 1,
-            "{wanted}"
+            "line {i}"
         );
         if let Err(fault) = answer {
             let printed = format!(in rt.alloc(); "{fault}")?;
-            assert!(rt; printed.as_str() == wanted, "{wanted}");
+            assert!(rt; printed.as_str() == wanted, "line {i}");
         }
     }
     Ok(())
