@@ -9,11 +9,13 @@ use Rattle.report_reader.specs.Reading.{Refuses, Answers}
 use Rattle.lab_views.specs.Pictures.{IsNoReport, DrawsFor, for_report}
 
 no_report : (input : List ℕ) (fault : ReportFault) → ¬ (fault.cause ≡ NoMemory)
-    → (fault.cause ≡ NoMemory) ⊎ ((parts : List (List ℕ)) × (tail : List ℕ) × (text_lines input ≡ parts ++ tail ∷ []) × Refuses parts tail fault) → IsNoReport input fault
+    → (fault.cause ≡ NoMemory) ⊎ ((parts : List (List ℕ)) × (tail : List ℕ) × (text_lines input ≡ parts ++ tail ∷ []) × Refuses parts tail fault)
+    → IsNoReport input fault
 no_report input fault not (inl is) = absurd (not is)
 no_report input fault not (inr r) = record { parts = r.0; tail = r.1; lines = r.2; refused = r.3 }
 
-pub refused_for : (input : List ℕ) (old : Option (List ℕ)) (fault : ReportFault) (cause : ReportCause) → fault.cause ≡ cause → Answers input (Err fault) → DrawsFor input old old (Err (for_report cause fault))
+pub refused_for : (input : List ℕ) (old : Option (List ℕ)) (fault : ReportFault) (cause : ReportCause) → fault.cause ≡ cause → Answers input (Err fault)
+    → DrawsFor input old old (Err (for_report cause fault))
 refused_for input old fault UnknownLine is a = (no_report input fault (λ e. let bad : UnknownLine ≡ NoMemory = sym is ∙ e in cc) a, Keeps-refl old)
 refused_for input old fault OutOfPlace is a = (no_report input fault (λ e. let bad : OutOfPlace ≡ NoMemory = sym is ∙ e in cc) a, Keeps-refl old)
 refused_for input old fault OtherVersion is a = (no_report input fault (λ e. let bad : OtherVersion ≡ NoMemory = sym is ∙ e in cc) a, Keeps-refl old)

@@ -13,7 +13,8 @@ use Rattle.picture.specs.Boxes.{in_columns}
 use Rattle.picture.specs.Tables.{row_text}
 use Rattle.picture.specs.Picture.{no_entry, no_log, entry_of, is_first, is_open, entry_at, entries_text, log_at}
 
-pub nth_spelled : (entries : List EntryLine) (k : ℕ) (d : EntryLine) → k < length entries → slice_index_or (map entry_text entries) k no_entry ≡ entry_text (slice_index_or entries k d)
+pub nth_spelled : (entries : List EntryLine) (k : ℕ) (d : EntryLine) → k < length entries → slice_index_or (map entry_text entries) k no_entry ≡ entry_text
+    (slice_index_or entries k d)
 nth_spelled entries k d inside = get_or-map entry_text entries k d no_entry inside
 
 -- an entry without a job line is not drawn
@@ -27,7 +28,8 @@ nothing_drawn jobs spans entries k d inside none =
     ap (λ o. in_columns o (span_of jobs spans e) (is_first texts k) (is_open texts k) e) missing
 
 -- the log with a number
-pub the_log : (logs others : List LogText) (i : ℕ) (log : LogText) → logs ≡ others → i < length logs → log ≡ slice_index_or logs i log → log ≡ slice_index_or others i no_log
+pub the_log : (logs others : List LogText) (i : ℕ) (log : LogText) → logs ≡ others → i < length logs → log ≡ slice_index_or logs i log
+    → log ≡ slice_index_or others i no_log
 the_log logs others i log same inside is =
     sym (get_or_from_slice_get logs i log no_log (slice_get_read logs (length logs) i log refl inside is)) ∙ ap (λ l. slice_index_or l i no_log) same
 

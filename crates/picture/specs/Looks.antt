@@ -15,7 +15,8 @@ colour n =
 -- the edges of each eight jobs have a look of their own
 unfoldable pub dashes : ℕ → List ℕ
 dashes n =
-    if n == 0 then [] else (if n == 1 then codes " stroke-dasharray=\"7 3\"" else (if n == 2 then codes " stroke-dasharray=\"2 2\"" else codes " stroke-dasharray=\"10 3 2 3\""))
+    if n == 0 then [] else (if n == 1 then codes " stroke-dasharray=\"7 3\"" else
+    (if n == 2 then codes " stroke-dasharray=\"2 2\"" else codes " stroke-dasharray=\"10 3 2 3\""))
 
 -- the look of the job with this number
 abbrev pub look : ℕ → List ℕ

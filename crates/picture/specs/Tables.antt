@@ -20,7 +20,8 @@ size_text w h =
 -- what is read aloud
 abbrev pub words_text : ℕ → ℕ → ℕ → List ℕ
 words_text instruments jobs columns =
-    codes "<title>Timeline of a laboratory run</title>\n<desc>Instruments, a row each: " ++ decimal instruments ++ codes ". Jobs, a line each in the table below: "
+    codes "<title>Timeline of a laboratory run</title>\n<desc>Instruments, a row each: " ++ decimal instruments
+    ++ codes ". Jobs, a line each in the table below: "
     ++ decimal jobs ++ codes ". Columns: " ++ decimal columns
     ++ codes ". A box is a session on an instrument, and a tick is a command; a session has the same columns on each of its instruments.</desc>\n"
 
@@ -37,7 +38,7 @@ row_text number name columns =
 -- how many sessions were withdrawn
 abbrev pub withdrawn_text : Option ℕ → List ℕ
 withdrawn_text None = []
-withdrawn_text (Some withdrawn) = codes "<text x=\"340\" y=\"10\">" ++ decimal withdrawn ++ codes " withdrawn</text>"
+withdrawn_text (Some withdrawn) = codes "<text x=\"340\" y=\"10\">withdrawn " ++ decimal withdrawn ++ codes "</text>"
 
 -- a job by its look, and what it did
 abbrev pub legend : ℕ → ℕ → JobText → List ℕ
@@ -46,10 +47,11 @@ legend instruments number job =
     ++ codes "<text x=\"34\" y=\"10\">" ++ name_text job.name ++ codes "</text>"
 
 abbrev pub sessions_text : JobText → List ℕ
-sessions_text job = codes "<text x=\"150\" y=\"10\">" ++ decimal job.done ++ codes " of " ++ decimal job.sessions ++ codes " sessions</text>"
+sessions_text job = codes "<text x=\"150\" y=\"10\">sessions " ++ decimal job.done ++ codes " of " ++ decimal job.sessions ++ codes "</text>"
 
 abbrev pub meals_text : JobText → List ℕ
-meals_text job = codes "<text x=\"460\" y=\"10\">" ++ decimal job.meals ++ codes " meals</text><text x=\"590\" y=\"10\">" ++ state_word job.is_retired ++ codes "</text></g>\n"
+meals_text job = codes "<text x=\"460\" y=\"10\">meals " ++ decimal job.meals ++ codes "</text><text x=\"590\" y=\"10\">" ++ state_word job.is_retired
+    ++ codes "</text></g>\n"
 
 unfoldable pub job_line : ℕ → ℕ → JobText → List ℕ
 job_line instruments number job = legend instruments number job ++ sessions_text job ++ withdrawn_text job.withdrawn ++ meals_text job
@@ -57,4 +59,5 @@ job_line instruments number job = legend instruments number job ++ sessions_text
 -- the last line, and the end
 abbrev pub end_text : ℕ → ℕ → Bool → List ℕ
 end_text instruments jobs is_finished =
-    codes "<text x=\"10\" y=\"" ++ decimal (80 + 70 * instruments + 20 * jobs) ++ codes "\" font-size=\"13\">" ++ last_word is_finished ++ codes "</text>\n</svg>\n"
+    codes "<text x=\"10\" y=\"" ++ decimal (80 + 70 * instruments + 20 * jobs) ++ codes "\" font-size=\"13\">" ++ last_word is_finished
+    ++ codes "</text>\n</svg>\n"

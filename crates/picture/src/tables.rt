@@ -99,11 +99,11 @@ fn add_sessions(line: &mut Line, job: &JobLine)
     ensures text { line.new ≡ line.old ++ sessions_text (job_text job.now) }
     ensures len { length line.new ≤ length line.old + 80 }
 {
-    line.text(b"<text x=\"150\" y=\"10\">");
+    line.text(b"<text x=\"150\" y=\"10\">sessions ");
     line.number(job.done);
     line.text(b" of ");
     line.number(job.sessions);
-    line.text(b" sessions</text>");
+    line.text(b"</text>");
 }
 
 /// Adds how many sessions were withdrawn, where it is told, at most 60 bytes.
@@ -113,9 +113,9 @@ fn add_withdrawn(line: &mut Line, withdrawn: Option<u32>)
     ensures len { length line.new ≤ length line.old + 60 }
 {
     if let Some(withdrawn) = withdrawn {
-        line.text(b"<text x=\"340\" y=\"10\">");
+        line.text(b"<text x=\"340\" y=\"10\">withdrawn ");
         line.number(withdrawn);
-        line.text(b" withdrawn</text>");
+        line.text(b"</text>");
     }
 }
 
@@ -132,9 +132,9 @@ fn add_meals(line: &mut Line, job: &JobLine)
     ensures text { line.new ≡ line.old ++ meals_text (job_text job.now) }
     ensures len { length line.new ≤ length line.old + 100 }
 {
-    line.text(b"<text x=\"460\" y=\"10\">");
+    line.text(b"<text x=\"460\" y=\"10\">meals ");
     line.number(job.meals);
-    line.text(b" meals</text><text x=\"590\" y=\"10\">");
+    line.text(b"</text><text x=\"590\" y=\"10\">");
     line.text(state_word(job.is_retired));
     line.text(b"</text></g>\n");
 }

@@ -1,5 +1,6 @@
 -- Lists that are read where they lie, and as they are spelled.
-use Rattle.std.proofs.Common.{◌≡◌, ℕ, Bool, true, false, not, cond, ◌+◌, ◌-◌, ◌<◌, ◌≤◌, List, [], ◌∷◌, Option, None, Some, length, map, slice_index_or, arith, refl, sym, ap, ◌∙◌, subst, nat_lt, nat_eq}
+use Rattle.std.proofs.Common.{◌≡◌, ℕ, Bool, true, false, not, cond, ◌+◌, ◌-◌, ◌<◌, ◌≤◌, List, [], ◌∷◌}
+use Rattle.std.proofs.Common.{Option, None, Some, length, map, slice_index_or, arith, refl, sym, ap, ◌∙◌, subst, nat_lt, nat_eq}
 use Rattle.std.specs.List.{position, position_or_len, prefix_len, slice_get}
 use Rattle.std.specs.Option.{option_map, option_eq}
 use Rattle.std.proofs.lemmas.Bool.{false≢true}
@@ -63,14 +64,16 @@ is_own causes.OutOfOrder = false
 is_own causes.SessionTwice = false
 is_own _ = true
 
-none_of_others : (b1 b2 b3 : Bool) (cause : EntryCause) → (is_own cause ≡ false) → at b1 causes.NoJobLine (at b2 causes.LimitPassed (at b3 causes.NoSuchPlace None)) ≡ Some cause → ⊥
+none_of_others : (b1 b2 b3 : Bool) (cause : EntryCause)
+    → (is_own cause ≡ false) → at b1 causes.NoJobLine (at b2 causes.LimitPassed (at b3 causes.NoSuchPlace None)) ≡ Some cause → ⊥
 none_of_others true b2 b3 cause other is = let e : causes.NoJobLine ≡ cause = cc in false≢true (sym other ∙ ap is_own (sym e))
 none_of_others false true b3 cause other is = let e : causes.LimitPassed ≡ cause = cc in false≢true (sym other ∙ ap is_own (sym e))
 none_of_others false false true cause other is = let e : causes.NoSuchPlace ≡ cause = cc in false≢true (sym other ∙ ap is_own (sym e))
 none_of_others false false false cause other is = cc
 
 -- the job line that isn't the first of its name
-pub named_before : (jobs : List JobLine) (n : ℕ) (d : JobLine) (found : Option ℕ) → n < length jobs → found ≡ job_number (map job_text jobs) (slice_index_or jobs n d).name.now
+pub named_before : (jobs : List JobLine) (n : ℕ) (d : JobLine) (found : Option ℕ) → n < length jobs
+    → found ≡ job_number (map job_text jobs) (slice_index_or jobs n d).name.now
     → not (option_eq nat_eq found (Some n)) ≡ true → IsNamedBefore (map job_text jobs) n
 named_before jobs n d found inside is test =
     record {
@@ -84,7 +87,8 @@ named_before jobs n d found inside is test =
 
 pub twice_at : (entries : List EntryLine) (place begun : ℕ) (d e f : EntryLine) → place + 1 < length entries → begun < place
     → is_same_session (entry_text (slice_index_or entries place d)) (entry_text (slice_index_or entries (place + 1) e)) ≡ false
-    → is_same_session (entry_text (slice_index_or entries begun f)) (entry_text (slice_index_or entries (place + 1) e)) ≡ true → IsTwice (map entry_text entries) (place + 1)
+    → is_same_session (entry_text (slice_index_or entries begun f)) (entry_text (slice_index_or entries (place + 1) e)) ≡ true
+    → IsTwice (map entry_text entries) (place + 1)
 twice_at entries place begun d e f inside before other same =
     record {
       first = entry_text (slice_index_or entries begun f);
@@ -118,7 +122,8 @@ fails_so jobs entries k causes.OutOfOrder f = absurd (none_of_others _ _ _ cause
 fails_so jobs entries k causes.SessionTwice f = absurd (none_of_others _ _ _ causes.SessionTwice refl f.fails)
 
 pub out_of_order : (entries : List EntryLine) (place : ℕ) (d e : EntryLine) → 0 < place → place < length entries
-    → is_out_of_order (entry_text (slice_index_or entries (place - 1) d)) (entry_text (slice_index_or entries place e)) ≡ true → IsOutOfOrder (map entry_text entries) place
+    → is_out_of_order (entry_text (slice_index_or entries (place - 1) d)) (entry_text (slice_index_or entries place e)) ≡ true
+    → IsOutOfOrder (map entry_text entries) place
 out_of_order entries place d e some inside fails = record {
   before = entry_text (slice_index_or entries (place - 1) d);
   entry = entry_text (slice_index_or entries place e);

@@ -13,7 +13,8 @@ job_number jobs name = position (λ (job : JobText). bytes_eq job.name name) job
 -- where the columns of an entry's session are kept: each of at most 32 jobs has 1000 sessions
 unfoldable pub slot_of : List JobText → EntryText → Option ℕ
 slot_of jobs entry =
-    option_and_then (λ j. if nat_lt j 32 && nat_le 1 entry.session && nat_le entry.session 1000 then Some (1000 * j + (entry.session - 1)) else None) (job_number jobs entry.job)
+    option_and_then (λ j. if nat_lt j 32 && nat_le 1 entry.session && nat_le entry.session 1000 then Some (1000 * j + (entry.session - 1)) else None)
+    (job_number jobs entry.job)
 
 -- the columns of an entry's session, where it has some
 unfoldable pub span_of : List JobText → List Span → EntryText → Option Span

@@ -1,7 +1,9 @@
-//! Tests of what views are made of: reports that are read, why steps are refused, which are legal, and what `labview`
+//! Tests of what views are made of: reports that are read and drawn, why steps are refused, which are legal, and what `labview`
 //! writes; over the public calls of their crates alone.
 #![tactic(auto)]
 
+#[cfg(test)]
+mod pictures;
 #[cfg(test)]
 mod reading;
 #[cfg(test)]

@@ -84,6 +84,7 @@ Usage: labview [COMMAND]
 
 Commands:
   explain  read a script and its steps, tell why the first that isn't legal is refused, and what is legal there
+  picture  read a report of labrun, and draw its timeline as SVG
   trace N  read a script, write it with the steps of its run by at most N rounds, for labrun replay
 
 Options:
@@ -95,8 +96,8 @@ The input comes from standard input, at most 16777216 bytes. What is printed goe
 standard output, and a fault in one line to standard error.
 
 Statuses:
-  0  explain: done, whether the steps are legal or not; trace, --help: done
-  1  the script is refused; the fault names its line
+  0  explain: done, whether the steps are legal or not; picture, trace, --help: done
+  1  the script or the report is refused; the fault names its line or place
   2  the command line is refused
   4  reading or writing failed, or the input is longer than 16777216 bytes
   5  no memory
@@ -105,33 +106,37 @@ Statuses:
 #[test]
 fn words(rt: HostRuntime) {
     let lines = [
-        (["labview", "explain"].as_slice(), true),
-        (["", "explain"].as_slice(), true),
-        ([].as_slice(), false),
-        (["labview"].as_slice(), false),
-        (["labview", ""].as_slice(), false),
-        (["labview", "Explain"].as_slice(), false),
-        (["labview", "explai"].as_slice(), false),
-        (["labview", "explain", "explain"].as_slice(), false),
-        (["labview", "explain", "--help"].as_slice(), false),
-        (["labview", "-h"].as_slice(), false),
-        (["labview", "help"].as_slice(), false),
-        (["labview", "replay"].as_slice(), false),
-        (["explain"].as_slice(), false),
-        (["labview", "trace"].as_slice(), false),
-        (["labview", "explain", "7"].as_slice(), false),
-        (["labview", "trace", "+7"].as_slice(), false),
-        (["labview", "trace", "1000000001"].as_slice(), false),
+        (["labview", "explain"].as_slice(), Some(View::Explain)),
+        (["", "explain"].as_slice(), Some(View::Explain)),
+        (["labview", "picture"].as_slice(), Some(View::Picture)),
+        ([].as_slice(), None),
+        (["labview"].as_slice(), None),
+        (["labview", ""].as_slice(), None),
+        (["labview", "Explain"].as_slice(), None),
+        (["labview", "explai"].as_slice(), None),
+        (["labview", "explain", "explain"].as_slice(), None),
+        (["labview", "explain", "--help"].as_slice(), None),
+        (["labview", "-h"].as_slice(), None),
+        (["labview", "help"].as_slice(), None),
+        (["labview", "replay"].as_slice(), None),
+        (["explain"].as_slice(), None),
+        (["labview", "picture", "1"].as_slice(), None),
+        (["labview", "trace"].as_slice(), None),
+        (["labview", "explain", "7"].as_slice(), None),
+        (
+            ["labview", "trace", "007"].as_slice(),
+            Some(View::Trace { limit: 7 }),
+        ),
+        (["labview", "trace", "+7"].as_slice(), None),
+        (["labview", "trace", "1000000001"].as_slice(), None),
     ];
     for (i, (words, wanted)) in lines.into_iter().enumerate() {
         match read_words(rt.alloc(), words) {
-            Ok(view) => assert!(rt; wanted && view == View::Explain, "line {i}"),
-            Err(NoTask::Refused) => assert!(rt; !wanted, "line {i}"),
+            Ok(view) => assert!(rt; wanted == Some(view), "line {i}"),
+            Err(NoTask::Refused) => assert!(rt; wanted.is_none(), "line {i}"),
             Err(_) => panic!(rt; "line {i}"),
         }
     }
-    let trace = read_words(rt.alloc(), &["labview", "trace", "007"]);
-    assert!(rt; matches!(trace, Ok(View::Trace { limit: 7 })));
     let text = match read_words(rt.alloc(), &["labview", "--help"]) {
         Err(NoTask::Help(text)) => text,
         _ => String::new(rt.alloc()),

@@ -6,4 +6,5 @@ use Rattle.lab_views.proofs.picturing.draw_input.Goals as goal
 pub returns-in-Err-clause-answer : goal.returns-in-Err-clause-answer
 returns-in-Err-clause-answer g c =
     let old = g.W.Sink.taken c.args.sink.now in
-    subst (λ f. DrawsFor c.args.input.now old old (Err f)) (sym c.for_report.ensures) (refused_for c.args.input.now old c.in-Err.fault c.in-Err.fault.cause refl c.in-Err.ensures)
+    subst (λ f. DrawsFor c.args.input.now old old
+    (Err f)) (sym c.for_report.ensures) (refused_for c.args.input.now old c.in-Err.fault c.in-Err.fault.cause refl c.in-Err.ensures)

@@ -8,6 +8,7 @@ returns-clause-text c =
     let p1 : List ℕ = codes "<path d=\"M" in
     let e1 : c.text.new.self ≡ old ++ p1 = c.text.ensures.text in
     let p2 : List ℕ = decimal c.args.x in
-    let e2 : c.count.new.self ≡ old ++ (p1 ++ p2) = more old c.text.new.self c.count.new.self p1 p2 e1 c.count.ensures.text in
+    let q2 = p1 ++ p2 in
+    let e2 : c.count.new.self ≡ old ++ q2 = more old c.text.new.self c.count.new.self p1 p2 e1 c.count.ensures.text in
     let p3 : List ℕ = codes " 35v27\" stroke=\"#222\"/>" in
-    more old c.count.new.self c.text-2.new.self (p1 ++ p2) p3 e2 c.text-2.ensures.text
+    more old c.count.new.self c.text-2.new.self q2 p3 e2 c.text-2.ensures.text

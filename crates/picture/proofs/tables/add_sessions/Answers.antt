@@ -5,13 +5,16 @@ use Rattle.picture.proofs.tables.add_sessions.Goals as goal
 pub returns-clause-text : goal.returns-clause-text
 returns-clause-text c =
     let old = c.args.line.now in
-    let p1 : List ℕ = codes "<text x=\"150\" y=\"10\">" in
+    let p1 : List ℕ = codes "<text x=\"150\" y=\"10\">sessions " in
     let e1 : c.text.new.self ≡ old ++ p1 = c.text.ensures.text in
     let p2 : List ℕ = decimal c.args.job.now.done in
-    let e2 : c.number.new.self ≡ old ++ (p1 ++ p2) = more old c.text.new.self c.number.new.self p1 p2 e1 c.number.ensures.text in
+    let q2 = p1 ++ p2 in
+    let e2 : c.number.new.self ≡ old ++ q2 = more old c.text.new.self c.number.new.self p1 p2 e1 c.number.ensures.text in
     let p3 : List ℕ = codes " of " in
-    let e3 : c.text-2.new.self ≡ old ++ (p1 ++ p2 ++ p3) = more old c.number.new.self c.text-2.new.self (p1 ++ p2) p3 e2 c.text-2.ensures.text in
+    let q3 = q2 ++ p3 in
+    let e3 : c.text-2.new.self ≡ old ++ q3 = more old c.number.new.self c.text-2.new.self q2 p3 e2 c.text-2.ensures.text in
     let p4 : List ℕ = decimal c.args.job.now.sessions in
-    let e4 : c.number-2.new.self ≡ old ++ (p1 ++ p2 ++ p3 ++ p4) = more old c.text-2.new.self c.number-2.new.self (p1 ++ p2 ++ p3) p4 e3 c.number-2.ensures.text in
-    let p5 : List ℕ = codes " sessions</text>" in
-    more old c.number-2.new.self c.text-3.new.self (p1 ++ p2 ++ p3 ++ p4) p5 e4 c.text-3.ensures.text
+    let q4 = q3 ++ p4 in
+    let e4 : c.number-2.new.self ≡ old ++ q4 = more old c.text-2.new.self c.number-2.new.self q3 p4 e3 c.number-2.ensures.text in
+    let p5 : List ℕ = codes "</text>" in
+    more old c.number-2.new.self c.text-3.new.self q4 p5 e4 c.text-3.ensures.text

@@ -15,7 +15,8 @@ returns-in_err-offer g c =
     let line = c.as_bytes.ensures ∙ c.entry_at-line.ensures in
     let all = ap (λ m. flat_map text (range_with_len 0 m)) (sym (length-map c.args.entries.now entry_text)) in
     writes_err _ _ _ _ _ _ c.from_residual.ensures.0
-    (prefix_same _ _ _ _ all (each_stops text (range_with_len 0 n) k 0 k _ _ _ (number_inside n k below) (number_at n k below) c.loop-place.invariant.0 (prefix_same _ _ _ _ line c.in_err-offer.ensures.0)))
+    (prefix_same _ _ _ _ all (each_stops text (range_with_len 0 n) k 0 k _ _ _ (number_inside n k below) (number_at n k below) c.loop-place.invariant.0
+    (prefix_same _ _ _ _ line c.in_err-offer.ensures.0)))
     (c.in_err-offer.ensures.1 ∙ ap (λ m. m + 1) c.loop-place.invariant.1)
 
 pub loop-place-preserved : goal.loop-place-preserved
@@ -25,7 +26,8 @@ loop-place-preserved g c =
     let k = c.loop-place.place in
     let below : k < n = omega arith in
     let line = c.as_bytes.ensures ∙ c.entry_at-line.ensures in (
-      each_goes text (range_with_len 0 n) k 0 k _ _ _ (number_inside n k below) (number_at n k below) c.loop-place.invariant.0 (appends_same _ _ _ _ line c.in_ok-offer.ensures.0),
+      each_goes text (range_with_len 0 n) k 0 k _ _ _ (number_inside n k below) (number_at n k below) c.loop-place.invariant.0
+          (appends_same _ _ _ _ line c.in_ok-offer.ensures.0),
       c.in_ok-offer.ensures.1 ∙ c.loop-place.invariant.1,
     )
 

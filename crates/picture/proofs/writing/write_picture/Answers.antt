@@ -22,10 +22,12 @@ returns-in_err-offer g c =
     let table = flat_map (job_at report) (range_with_len 0 jobs) in
     let last = end_text instruments jobs report.is_finished in
     let head : c.as_bytes.result.now ≡ first =
-    c.as_bytes.ensures ∙ c.head_line-head.ensures ∙ ap (λ n. head_text n (length c.jobs-jobs.result.now) c.columns.result) logs_are ∙ ap (λ n. head_text instruments n c.columns.result) jobs_are
+    c.as_bytes.ensures ∙ c.head_line-head.ensures ∙ ap (λ n. head_text n (length c.jobs-jobs.result.now) c.columns.result) logs_are
+    ∙ ap (λ n. head_text instruments n c.columns.result) jobs_are
     ∙ ap (λ k. head_text instruments jobs k) c.columns.ensures in
     writes_err _ _ _ _ _ _ c.from_residual.ensures.0
-    (in_first _ _ (first ++ rows ++ table) last (in_first _ _ (first ++ rows) table (in_first _ _ first rows (prefix_same _ _ _ _ head c.in_err-offer.ensures.0)))) c.in_err-offer.ensures.1
+    (in_first _ _ (first ++ rows ++ table) last (in_first _ _ (first ++ rows) table (in_first _ _ first rows
+    (prefix_same _ _ _ _ head c.in_err-offer.ensures.0)))) c.in_err-offer.ensures.1
 
 pub returns-in_err-write_logs : goal.returns-in_err-write_logs
 unfolding picture_of
@@ -41,10 +43,12 @@ returns-in_err-write_logs g c =
     let table = flat_map (job_at report) (range_with_len 0 jobs) in
     let last = end_text instruments jobs report.is_finished in
     let head : c.as_bytes.result.now ≡ first =
-    c.as_bytes.ensures ∙ c.head_line-head.ensures ∙ ap (λ n. head_text n (length c.jobs-jobs.result.now) c.columns.result) logs_are ∙ ap (λ n. head_text instruments n c.columns.result) jobs_are
+    c.as_bytes.ensures ∙ c.head_line-head.ensures ∙ ap (λ n. head_text n (length c.jobs-jobs.result.now) c.columns.result) logs_are
+    ∙ ap (λ n. head_text instruments n c.columns.result) jobs_are
     ∙ ap (λ k. head_text instruments jobs k) c.columns.ensures in
     writes_err _ _ _ _ _ _ c.from_residual-in_err-write_logs.ensures.0
-    (in_first _ _ (first ++ rows ++ table) last (in_first _ _ (first ++ rows) table (in_second _ _ _ first rows (appends_same _ _ _ _ head c.in_ok-offer.ensures.0) c.in_err-write_logs.ensures.0)))
+    (in_first _ _ (first ++ rows ++ table) last (in_first _ _ (first ++ rows) table (in_second _ _ _ first rows
+    (appends_same _ _ _ _ head c.in_ok-offer.ensures.0) c.in_err-write_logs.ensures.0)))
     (c.in_err-write_logs.ensures.1 ∙ ap (λ n. n + 1) c.in_ok-offer.ensures.1)
 
 pub returns-in_err-write_jobs : goal.returns-in_err-write_jobs
@@ -61,7 +65,8 @@ returns-in_err-write_jobs g c =
     let table = flat_map (job_at report) (range_with_len 0 jobs) in
     let last = end_text instruments jobs report.is_finished in
     let head : c.as_bytes.result.now ≡ first =
-    c.as_bytes.ensures ∙ c.head_line-head.ensures ∙ ap (λ n. head_text n (length c.jobs-jobs.result.now) c.columns.result) logs_are ∙ ap (λ n. head_text instruments n c.columns.result) jobs_are
+    c.as_bytes.ensures ∙ c.head_line-head.ensures ∙ ap (λ n. head_text n (length c.jobs-jobs.result.now) c.columns.result) logs_are
+    ∙ ap (λ n. head_text instruments n c.columns.result) jobs_are
     ∙ ap (λ k. head_text instruments jobs k) c.columns.ensures in
     writes_err _ _ _ _ _ _ c.from_residual-in_err-write_jobs.ensures.0
     (in_first _ _ (first ++ rows ++ table) last (in_second _ _ _ (first ++ rows) table
@@ -82,12 +87,15 @@ returns g c =
     let table = flat_map (job_at report) (range_with_len 0 jobs) in
     let last = end_text instruments jobs report.is_finished in
     let head : c.as_bytes.result.now ≡ first =
-    c.as_bytes.ensures ∙ c.head_line-head.ensures ∙ ap (λ n. head_text n (length c.jobs-jobs.result.now) c.columns.result) logs_are ∙ ap (λ n. head_text instruments n c.columns.result) jobs_are
+    c.as_bytes.ensures ∙ c.head_line-head.ensures ∙ ap (λ n. head_text n (length c.jobs-jobs.result.now) c.columns.result) logs_are
+    ∙ ap (λ n. head_text instruments n c.columns.result) jobs_are
     ∙ ap (λ k. head_text instruments jobs k) c.columns.ensures in
     let end : c.as_bytes-2.result.now ≡ last =
-    c.as_bytes-2.ensures ∙ c.end_line-end.ensures ∙ ap (λ n. end_text n (length c.jobs-jobs.result.now) c.is_finished.result) logs_are ∙ ap (λ n. end_text instruments n c.is_finished.result) jobs_are
+    c.as_bytes-2.ensures ∙ c.end_line-end.ensures ∙ ap (λ n. end_text n (length c.jobs-jobs.result.now) c.is_finished.result) logs_are
+    ∙ ap (λ n. end_text instruments n c.is_finished.result) jobs_are
     ∙ ap (λ b. end_text instruments jobs b) c.is_finished.ensures in
     writes_after _ _ _ _ _ _ (first ++ rows ++ table) last _
-    (Appends-trans _ _ _ (first ++ rows) table (Appends-trans _ _ _ first rows (appends_same _ _ _ _ head c.in_ok-offer.ensures.0) c.in_ok-write_logs.ensures.0) c.in_ok-write_jobs.ensures.0)
+    (Appends-trans _ _ _ (first ++ rows) table
+    (Appends-trans _ _ _ first rows (appends_same _ _ _ _ head c.in_ok-offer.ensures.0) c.in_ok-write_logs.ensures.0) c.in_ok-write_jobs.ensures.0)
     (c.in_ok-write_jobs.ensures.1 ∙ c.in_ok-write_logs.ensures.1 ∙ c.in_ok-offer.ensures.1)
     (writes_same _ _ _ _ _ _ _ end c.offer-2.ensures)

@@ -21,6 +21,7 @@ loop-log-preserved g c =
       follows = subst (EachNext (IsNextOf jobs view.spans)) c.entries-entries.ensures (c.all_follow.ensures follow);
     } in
     let P : ℕ → Type 0 = λ k. (d : LogText) → Agrees jobs view (slice_index_or logs k d).entries in
-    let here : P n = λ d. subst (λ (l : LogText). Agrees jobs view l.entries) (sym (get_or_from_slice_get logs n log d (slice_get_read logs (length logs) n log refl c.loop-log-test.true c.log-item.is))) agrees in
+    let here : P n = λ d. subst (λ (l : LogText). Agrees jobs view l.entries) (sym (get_or_from_slice_get logs n log d (slice_get_read logs
+    (length logs) n log refl c.loop-log-test.true c.log-item.is))) agrees in
     let more : (k : ℕ) → k < n + 1 → P k = below_more P n (λ k below d. c.loop-log.invariant k d below) here in
     λ k d below. more k below d

@@ -6,4 +6,8 @@ use Rattle.timeline.specs.Timelines.{Agrees}
 use Rattle.timeline.proofs.agreeing.all_agree.Given as goal
 
 abbrev pub invariant-loop-log : goal.invariant-loop-log
-invariant-loop-log g l = (k : ℕ) (d : LogText) → k < l.log-index → Agrees (map job_text l.jobs) (record { spans = l.spans; columns = l.columns }) (slice_index_or l.logs k d).entries
+invariant-loop-log g l = (k : ℕ) (d : LogText) → k < l.log-index → Agrees (map job_text l.jobs) (record {
+  spans = l.spans;
+  columns =
+      l.columns;
+}) (slice_index_or l.logs k d).entries

@@ -8,7 +8,8 @@ use Rattle.timeline.proofs.agreeing.all_follow.Goals as goal
 pub loop-place-preserved : goal.loop-place-preserved
 loop-place-preserved c =
     let holds : c.is_next.result ≡ true = search (rules, tests) in
-    next_more (IsNextOf (map job_text c.args.jobs.now) c.args.spans.now) entry_text c.args.entries.now c.loop-place.place _ _ (omega arith) (c.is_next.ensures holds) c.loop-place.invariant
+    next_more (IsNextOf (map job_text c.args.jobs.now) c.args.spans.now) entry_text c.args.entries.now c.loop-place.place _ _ (omega arith)
+    (c.is_next.ensures holds) c.loop-place.invariant
 
 pub returns : goal.returns
 returns c _ =

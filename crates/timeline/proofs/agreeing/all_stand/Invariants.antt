@@ -6,4 +6,8 @@ use Rattle.timeline.specs.Timelines.{Stands}
 use Rattle.timeline.proofs.agreeing.all_stand.Given as goal
 
 abbrev pub invariant-loop-entry : goal.invariant-loop-entry
-invariant-loop-entry l = (k : ℕ) (d : EntryLine) → k < l.entry-index → Stands (map job_text l.jobs) (record { spans = l.spans; columns = l.columns }) (entry_text (slice_index_or l.entries k d))
+invariant-loop-entry l = (k : ℕ) (d : EntryLine) → k < l.entry-index → Stands (map job_text l.jobs) (record {
+  spans = l.spans;
+  columns =
+      l.columns;
+}) (entry_text (slice_index_or l.entries k d))

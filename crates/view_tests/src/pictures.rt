@@ -1,0 +1,149 @@
+// The columns of sessions, by hand, the picture by its bytes, and the faults of reports that have no timeline.
+use lab_runs::FromRead;
+use lab_views::{PictureFault, run_picture, status_of_picture};
+use report::ToWrite;
+use report_reader::read_report;
+use std::alloc::Global;
+use std::test::Fail;
+use timeline::{Span, span_of, timeline_of};
+
+// b stands right of a by the scale, and c right of b by the lamp; b has three columns by the lamp.
+const THREE: &str = "lab 1
+instrument scale 3
+a 1 1/2 add 1 = 1
+a 1 2/2 read = 1
+b 1 1/1 read = 1
+instrument lamp 4
+b 1 1/3 set 1 = 1
+b 1 2/3 set 2 = 2
+b 1 3/3 set 3 = 3
+c 1 1/1 read = 3
+instrument oven 2
+d 1 1/1 read = 0
+a 2 1/1 read = 0
+job a sessions 2 of 2 meals 1 retired
+job b sessions 1 of 1 meals 1 retired
+job c sessions 1 of 1 meals 1 retired
+job d sessions 1 of 1 meals 1 retired
+finished
+";
+
+#[test]
+fn sessions_have_columns(rt: HostRuntime) {
+    let Ok(report) = read_report(rt.alloc(), THREE.as_bytes()) else {
+        panic!(rt; "no report");
+    };
+    let Ok(timeline) = timeline_of(rt.alloc(), &report) else {
+        panic!(rt; "no timeline");
+    };
+    assert!(rt; timeline.columns() == 6);
+    // instrument, entry, start, width
+    let wanted = [
+        (0usize, 0usize, 0, 2),
+        (0, 1, 0, 2),
+        (0, 2, 2, 3),
+        (1, 0, 2, 3),
+        (1, 3, 5, 1),
+        (2, 0, 0, 1),
+        (2, 1, 1, 1),
+    ];
+    for (instrument, place, start, width) in wanted {
+        let logs = report.logs();
+        assert!(rt; instrument < logs.len());
+        let entries = logs[instrument].entries();
+        assert!(rt; place < entries.len());
+        let span = span_of(report.jobs(), timeline.spans(), &entries[place]);
+        assert!(rt; span == Some(Span { start, width }), "{instrument} {place}");
+    }
+}
+
+const REPORT: &str = "lab 1
+instrument scale 2
+a 1 1/1 add 1 = 1
+b 1 1/2 read = 1
+instrument lamp 0
+job a sessions 1 of 1 meals 1 retired
+job b sessions 0 of 1 meals 2 waiting
+unfinished
+";
+
+// The session of b is open at its right.
+const PICTURE: &str = "<?xml version=\"1.0\" encoding=\"UTF-8\"?>
+<svg xmlns=\"http://www.w3.org/2000/svg\" version=\"1.1\" width=\"700\" height=\"290\" viewBox=\"0 0 700 290\" font-family=\"monospace\" font-size=\"10\">
+<title>Timeline of a laboratory run</title>
+<desc>Instruments, a row each: 2. Jobs, a line each in the table below: 2. Columns: 3. A box is a session on an instrument, and a tick is a command; a session has the same columns on each of its instruments.</desc>
+<rect width=\"100%\" height=\"100%\" fill=\"#fff\"/>
+<g transform=\"translate(160 30)\"><path d=\"M-150 66H300\" stroke=\"#ccc\"/><text x=\"-150\" y=\"38\" font-size=\"13\">scale</text>
+<path d=\"M100 4H0v58H100z\" fill=\"#e69f00\" fill-opacity=\"0.5\" stroke=\"#222\"/><text x=\"4\" y=\"17\" font-weight=\"bold\">a</text><text x=\"4\" y=\"29\">session 1</text>
+<path d=\"M0 35v27\" stroke=\"#222\"/><text x=\"4\" y=\"44\">add 1</text><text x=\"4\" y=\"56\">= 1</text>
+<path d=\"M300 4H100v58H300\" fill=\"#56b4e9\" fill-opacity=\"0.5\" stroke=\"#222\"/><text x=\"104\" y=\"17\" font-weight=\"bold\">b</text><text x=\"104\" y=\"29\">session 1</text>
+<path d=\"M100 35v27\" stroke=\"#222\"/><text x=\"104\" y=\"44\">read</text><text x=\"104\" y=\"56\">= 1</text>
+</g>
+<g transform=\"translate(160 100)\"><path d=\"M-150 66H300\" stroke=\"#ccc\"/><text x=\"-150\" y=\"38\" font-size=\"13\">lamp</text>
+</g>
+<g transform=\"translate(10 190)\"><path d=\"M0 0h24v12H0z\" fill=\"#e69f00\" fill-opacity=\"0.5\" stroke=\"#222\"/><text x=\"34\" y=\"10\">a</text><text x=\"150\" y=\"10\">sessions 1 of 1</text><text x=\"460\" y=\"10\">meals 1</text><text x=\"590\" y=\"10\">retired</text></g>
+<g transform=\"translate(10 210)\"><path d=\"M0 0h24v12H0z\" fill=\"#56b4e9\" fill-opacity=\"0.5\" stroke=\"#222\"/><text x=\"34\" y=\"10\">b</text><text x=\"150\" y=\"10\">sessions 0 of 1</text><text x=\"460\" y=\"10\">meals 2</text><text x=\"590\" y=\"10\">waiting</text></g>
+<text x=\"10\" y=\"260\" font-size=\"13\">unfinished</text>
+</svg>
+";
+
+fn drawn(alloc: Global, input: &[u8]) -> (Vec<u8>, Result<(), PictureFault>) {
+    let mut bytes = Vec::new(alloc);
+    let mut source = FromRead::new(input);
+    let mut sink = ToWrite::new(&mut bytes);
+    let answer = run_picture(alloc, &mut source, &mut sink);
+    (bytes, answer)
+}
+
+#[test]
+fn draws_by_its_bytes(rt: HostRuntime) {
+    let (bytes, answer) = drawn(rt.alloc(), REPORT.as_bytes());
+    assert!(rt; answer == Ok(()) && bytes.as_slice() == PICTURE.as_bytes());
+}
+
+#[test]
+fn faults_of_reports(rt: HostRuntime) -> Result<(), Fail> {
+    let texts = [
+        ("lab 1\n", "line 2: report not whole"),
+        (
+            "lab 1\ninstrument x 1\na 1 1/1 read = 0\nfinished\n",
+            "instrument 1, entry 1: its job has no job line",
+        ),
+        (
+            "lab 1\njob a sessions 0 of 0 meals 0 retired\njob a sessions 0 of 0 meals 0 retired\nfinished\n",
+            "job line 2: a job of this name stands before it",
+        ),
+        (
+            "lab 1\ninstrument x 1\na 1001 1/1 read = 0\njob a sessions 0 of 0 meals 0 retired\nfinished\n",
+            "instrument 1, entry 1: more sessions or commands than a lab has",
+        ),
+        (
+            "lab 1\ninstrument x 1\na 1 2/1 read = 0\njob a sessions 0 of 0 meals 0 retired\nfinished\n",
+            "instrument 1, entry 1: no such session or place",
+        ),
+        (
+            "lab 1\ninstrument x 2\na 1 1/2 read = 0\na 1 1/2 read = 0\njob a sessions 0 of 0 meals 0 retired\nfinished\n",
+            "instrument 1, entry 2: it doesn't follow the entry before it",
+        ),
+        (
+            "lab 1\ninstrument x 3\na 1 1/2 read = 0\na 2 1/1 read = 0\na 1 2/2 read = 0\njob a sessions 0 of 0 meals 0 retired\nfinished\n",
+            "instrument 1, entry 3: its session stands in two places of the log",
+        ),
+        (
+            "lab 1\ninstrument x 2\na 1 1/1 read = 0\na 2 1/1 read = 0\ninstrument y 2\na 2 1/1 read = 0\na 1 1/1 read = 0\njob a sessions 0 of 0 meals 0 retired\nfinished\n",
+            "the logs contradict each other: no order of the sessions agrees with all of them",
+        ),
+    ];
+    for (i, (text, wanted)) in texts.into_iter().enumerate() {
+        let (bytes, answer) = drawn(rt.alloc(), text.as_bytes());
+        assert!(rt;
+            bytes.is_empty() && status_of_picture(&answer) == 1,
+            "line {i}"
+        );
+        if let Err(fault) = answer {
+            let printed = format!(in rt.alloc(); "{fault}")?;
+            assert!(rt; printed.as_str() == wanted, "line {i}");
+        }
+    }
+    Ok(())
+}
