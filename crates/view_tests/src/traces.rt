@@ -81,7 +81,9 @@ fn two_jobs_by_hand(rt: HostRuntime) -> Result<(), Fail> {
 #[test]
 fn no_rounds_no_steps(rt: HostRuntime) {
     let (text, answer) = traced(rt.alloc(), b"lab 1\njob a\n", 0);
-    assert!(rt; answer == Ok(Outcome::Finished) && text.as_slice() == b"lab 1\njob a\nsteps\n".as_slice());
+    assert!(rt;
+        answer == Ok(Outcome::Finished) && text.as_slice() == b"lab 1\njob a\nsteps\n".as_slice()
+    );
 }
 
 #[test]
@@ -130,6 +132,9 @@ fn replays_have_the_report_of_rounds(rt: HostRuntime) {
         let (text, _) = traced(rt.alloc(), TRIANGLE.as_bytes(), limit);
         let replay = replayed(rt.alloc(), text.as_slice());
         let rounds = reported(rt.alloc(), TRIANGLE.as_bytes(), limit);
-        assert!(rt; replay.1 == rounds.1 && replay.0.as_slice() == rounds.0.as_slice(), "{limit}");
+        assert!(rt;
+            replay.1 == rounds.1 && replay.0.as_slice() == rounds.0.as_slice(),
+            "{limit}"
+        );
     }
 }
