@@ -13,7 +13,8 @@ use Rattle.round_trace.specs.Traces.{IsRunByRounds}
 use Rattle.lab_runs.specs.declared.faults.Outcome.TheVariants.{Finished}
 use Rattle.lab_views.specs.Traces.{trace_text, Traces, TracesTheRun}
 
-pub traced : (limit : ℕ) (input : List ℕ) (plan : LabPlan) (seen events : List Event) (sent text : List ℕ) → seen ≡ events → sent ≡ text → ScriptMeans input plan → IsRunByRounds plan limit events → text ≡ trace_text plan input seen → Traces limit input sent Finished
+pub traced : (limit : ℕ) (input : List ℕ) (plan : LabPlan) (seen events : List Event) (sent text : List ℕ) → seen ≡ events → sent ≡ text →
+    ScriptMeans input plan → IsRunByRounds plan limit events → text ≡ trace_text plan input seen → Traces limit input sent Finished
 traced limit input plan seen events sent text same whole means run written = record {
   plan = plan;
   means = means;
@@ -27,7 +28,8 @@ pub traces_the_run : HasOnePlan → OneRun → StepsGiveEvents → TracesTheRun
 traces_the_run one_plan one gives limit input text report outcome ended t r =
     let p : LabPlan = r.by_turns.plan in let q : LabPlan = t.plan in let h : List Event = r.by_turns.history in
     let same_plan : p ≡ q = one_plan input p q r.by_turns.means t.means in
-    let moved : RanRounds q limit (fresh_players (length q.jobs)) [] r.ended r.number h = subst (λ (z : LabPlan). RanRounds z limit (fresh_players (length z.jobs)) [] r.ended r.number h) same_plan r.rounds in
+    let moved : RanRounds q limit (fresh_players (length q.jobs)) [] r.ended r.number h = subst (λ (z : LabPlan). RanRounds z limit (fresh_players
+    (length z.jobs)) [] r.ended r.number h) same_plan r.rounds in
     let same : h ≡ t.history = (one q limit (fresh_players (length q.jobs)) [] r.ended t.run.ended r.number t.run.number h t.history moved t.run.rounds).2 in
     record {
       report_is = r.by_turns.reported.report ∙ (λ i. report_after (same_plan i) (the_opening (same_plan i)) (same i));

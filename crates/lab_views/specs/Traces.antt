@@ -52,4 +52,5 @@ pub record ShowsRun (plan : LabPlan) (history : List Event) (report : List ℕ) 
   pub replayed : events_of plan (the_opening plan) (map step_of history) ≡ history
 
 abbrev pub TracesTheRun : Type 0
-TracesTheRun = (limit : ℕ) (input text report : List ℕ) (outcome ended : Outcome) (t : Traces limit input text outcome) → RunsInRounds limit input report ended → ShowsRun t.plan t.history report
+TracesTheRun = (limit : ℕ) (input text report : List ℕ) (outcome ended : Outcome) (t : Traces limit input text outcome) →
+    RunsInRounds limit input report ended → ShowsRun t.plan t.history report

@@ -58,7 +58,8 @@ module _ (plan : LabPlan) (j e : ℕ) where
     may_give_alike p q b k inside may = give_one plan q j e k own inside ((give_bottles_local plan j e _ p q b).0 (one_given plan p j e k own inside may))
 
     -- one bottle may be asked for by a thirsty job
-    may_ask_alike : (p q : State) → Alike j e p q → (k : ℕ) → k < length (bottles plan e) → (drinking p j ≡ Thirsty) × MayAskBottle plan p j e k → (drinking q j ≡ Thirsty) × MayAskBottle plan q j e k
+    may_ask_alike : (p q : State) → Alike j e p q → (k : ℕ) → k < length (bottles plan e) → (drinking p j ≡ Thirsty) × MayAskBottle plan p j e k →
+        (drinking q j ≡ Thirsty) × MayAskBottle plan q j e k
     may_ask_alike p q b k inside may = ask_one plan q j e k own inside ((ask_bottles_local plan j e _ p q b).0 (one_asked plan p j e k own inside may))
 
     pub due_alike : AreDue plan s j e m → AreDue plan t j e m
@@ -78,12 +79,17 @@ module _ (plan : LabPlan) (j e : ℕ) where
         };
         ask_bottles = let g = d.bottles.ask_bottles in record {
           of_edge = g.of_edge;
-          just = λ k inside. (λ has. asks s t a (a_three) k inside ((g.just k inside).0 has), λ may. (g.just k inside).1 (asks t s (turned_round j e s t a) (turned_round j e _ _ a_three) k inside may));
+          just = λ k inside. (
+            λ has. asks s t a (a_three) k inside ((g.just k inside).0 has),
+            λ may. (g.just k inside).1 (asks t s (turned_round j e s t a)
+                (turned_round j e _ _ a_three) k inside may),
+          );
         };
       };
     } where
       asks : (p q : State) → Alike j e p q → Alike j e (fork_asked_for plan p j e m) (fork_asked_for plan q j e m) → (k : ℕ) → k < length (bottles plan e)
-          → (drinking p j ≡ Thirsty) × MayAskBottle plan (fork_asked_for plan p j e m) j e k → (drinking q j ≡ Thirsty) × MayAskBottle plan (fork_asked_for plan q j e m) j e k
+          → (drinking p j ≡ Thirsty) × MayAskBottle plan (fork_asked_for plan p j e m) j e k →
+          (drinking q j ≡ Thirsty) × MayAskBottle plan (fork_asked_for plan q j e m) j e k
       asks p q b c k inside both =
           let r = may_ask_alike _ _ c k inside (drinks_still plan j e p m ∙ both.0, both.1) in (sym (drinks_still plan j e q m) ∙ r.0, r.1)
 
@@ -129,7 +135,8 @@ module _ (plan : LabPlan) (j : ℕ) where
   by_visits (v ∷ visits) = each-append IsBy (visit_events j v) (visits_events j visits) (by_visit v) (by_visits visits)
 
   -- after a look both know the same of its edge
-  seen_alike : (s t : State) (v : Visit) → IsOwn plan j v.edge → SameSeat s t → Alike j v.edge (learned plan s (Look j v.edge v.saw)) (learned plan t (Look j v.edge v.saw))
+  seen_alike : (s t : State) (v : Visit) → IsOwn plan j v.edge → SameSeat s t → Alike j v.edge (learned plan s (Look j v.edge v.saw)) (learned plan t
+      (Look j v.edge v.saw))
   seen_alike s t v own a =
       let look : Event = Look j v.edge v.saw in
       let b = same_learned s t look refl a in
@@ -151,7 +158,8 @@ module _ (plan : LabPlan) (j : ℕ) where
   visits_alike s t [] own a due = tt
   visits_alike s t (v ∷ visits) own a due = (
     due_alike plan j v.edge own.0 (learned plan s (Look j v.edge v.saw)) (learned plan t (Look j v.edge v.saw)) v.moves (seen_alike s t v own.0 a) due.0,
-    visits_alike (learned_all plan s (visit_events j v)) (learned_all plan t (visit_events j v)) visits own.1 (same_all s t (visit_events j v) (by_visit v) a) due.1,
+    visits_alike (learned_all plan s (visit_events j v)) (learned_all plan t (visit_events j v)) visits own.1 (same_all s t (visit_events j v)
+        (by_visit v) a) due.1,
   )
 
   each_all : (visits : List Visit) → All (IsOwn plan j) (map (λ (v : Visit). v.edge) visits) → AreOwn visits
@@ -190,14 +198,16 @@ module _ (plan : LabPlan) (j : ℕ) where
     ),
   )
 
-  first_alike : (s t : State) (waited : ℕ) (list acts : List Event) → Leads s t waited list → Leads t s waited list → AreFirst plan s j waited list acts → AreFirst plan t j waited list acts
+  first_alike : (s t : State) (waited : ℕ) (list acts : List Event) → Leads s t waited list → Leads t s waited list → AreFirst plan s j waited list acts →
+      AreFirst plan t j waited list acts
   first_alike s t waited [] acts on back first = first
   first_alike s t waited (x ∷ list) acts on back (inl here) = inl (on.0 here.0, here.1)
   first_alike s t waited (x ∷ list) acts on back (inr other) = inr ((λ c. other.0 (back.0 c)), first_alike s t waited list acts on.1 back.1 other.1)
 
   -- ---- the turn
 
-  pub turn_alike : (s t : State) (waited : ℕ) (visits : List Visit) (acts events : List Event) → SameSeat s t → IsTurnBy plan j waited s visits acts events → IsTurnBy plan j waited t visits acts events
+  pub turn_alike : (s t : State) (waited : ℕ) (visits : List Visit) (acts events : List Event) → SameSeat s t →
+      IsTurnBy plan j waited s visits acts events → IsTurnBy plan j waited t visits acts events
   turn_alike s t waited visits acts events a turn =
       let own : AreOwn visits = each_all visits (subst (All (IsOwn plan j)) (sym turn.edges) (own_edges plan j)) in
       let b = same_all s t (visits_events j visits) (by_visits visits) a in

@@ -12,7 +12,8 @@ use Rattle.turns.specs.Due.{after_if}
 use Rattle.round_trace.specs.Doing.{Tries, Does}
 
 module _ (plan : LabPlan) where
-  on_legal : (b : Bool) (x : Event) (rest : List Event) (s : State) → (b ≡ true → May plan s x) → IsLegalFrom plan (after_if plan b x s) rest → IsLegalFrom plan s (on b x rest)
+  on_legal : (b : Bool) (x : Event) (rest : List Event) (s : State) → (b ≡ true → May plan s x) → IsLegalFrom plan (after_if plan b x s) rest →
+      IsLegalFrom plan s (on b x rest)
   on_legal false x rest s may legal = legal
   on_legal true x rest s may legal = (may refl, legal)
 
@@ -28,7 +29,8 @@ pub does_none : (w : WorldView) (l : List Event) → Does w l [] w l
 does_none w l = record { run = record { legal = tt; leads = refl }; same_plan = refl; added = sym (append-nil l) }
 
 -- one event, or none, before others
-pub first_then : (old mid new : WorldView) (before between later : List Event) (x : Event) (done : Bool) (rest : List Event) → Tries old before x done mid between → Does mid between rest new later → Does old before (on done x rest) new later
+pub first_then : (old mid new : WorldView) (before between later : List Event) (x : Event) (done : Bool) (rest : List Event) →
+    Tries old before x done mid between → Does mid between rest new later → Does old before (on done x rest) new later
 first_then old mid new before between later x done rest t d =
     let plan : LabPlan = old.plan in
     let there : State = after_if plan done x old.state in
@@ -37,11 +39,13 @@ first_then old mid new before between later x done rest t d =
     record {
       run = record { legal = on_legal plan done x rest old.state t.legal.0 legal; leads = leads ∙ sym (on_after plan done x rest old.state) };
       same_plan = d.same_plan ∙ t.same_plan;
-      added = d.added ∙ (ap (λ (l : List Event). l ++ rest) t.added ∙ (append_assoc before (on done x []) rest ∙ ap (λ (l : List Event). before ++ l) (on_first done x rest)));
+      added = d.added ∙ (ap (λ (l : List Event). l ++ rest) t.added ∙ (append_assoc before (on done x []) rest ∙
+          ap (λ (l : List Event). before ++ l) (on_first done x rest)));
     }
 
 -- some events before others
-pub does_both : (old mid new : WorldView) (before between later : List Event) (xs ys : List Event) → Does old before xs mid between → Does mid between ys new later → Does old before (xs ++ ys) new later
+pub does_both : (old mid new : WorldView) (before between later : List Event) (xs ys : List Event) → Does old before xs mid between →
+    Does mid between ys new later → Does old before (xs ++ ys) new later
 does_both old mid new before between later xs ys a b =
     let plan : LabPlan = old.plan in
     let there : State = after_all plan old.state xs in

@@ -38,4 +38,5 @@ module _ (plan : LabPlan) where
 
   pub learned_all_legal : (s : State) (events : List Event) → IsLegalFrom plan s events → learned_all plan s events ≡ after_all plan s events
   learned_all_legal s [] legal = refl
-  learned_all_legal s (x ∷ events) legal = ap (λ (z : State). learned_all plan z events) (learned_legal s x legal.0) ∙ learned_all_legal (after plan s x) events legal.1
+  learned_all_legal s (x ∷ events) legal = ap (λ (z : State). learned_all plan z events) (learned_legal s x legal.0) ∙
+      learned_all_legal (after plan s x) events legal.1

@@ -31,7 +31,8 @@ pub stands_on : (old new : WorldView) (before later events : List Event) → Sta
 stands_on old new before later events at d =
     let from : IsLegalFrom old.plan (state_after old.plan before) events = subst (λ (z : State). IsLegalFrom old.plan z events) at.led d.run.legal in
     let legal : IsHistory old.plan (before ++ events) = legal-append old.plan (the_opening old.plan) before events at.legal from in
-    let led : new.state ≡ state_after old.plan (before ++ events) = d.run.leads ∙ (ap (λ (z : State). after_all old.plan z events) at.led ∙ sym (after_all-append old.plan (the_opening old.plan) before events)) in
+    let led : new.state ≡ state_after old.plan (before ++ events) = d.run.leads ∙ (ap (λ (z : State). after_all old.plan z events) at.led ∙
+    sym (after_all-append old.plan (the_opening old.plan) before events)) in
     record {
       legal = subst (λ (z : LabPlan × List Event). IsHistory z.0 z.1) (λ i. (sym d.same_plan i, sym d.added i)) legal;
       led = led ∙ (λ i. state_after (sym d.same_plan i) (sym d.added i));
@@ -65,7 +66,8 @@ module _ (w0 w1 w2 : WorldView) (l0 l1 l2 : List Event) (x : Player) (waited : �
 
   by_state : IsTurnBy plan j waited w0.state v.visits a.acts events
   by_state =
-      let learns : w1.state ≡ learned_all plan w0.state (visits_events j v.visits) = v.does.run.leads ∙ sym (learned_all_legal plan w0.state (visits_events j v.visits) v.does.run.legal) in
+      let learns : w1.state ≡ learned_all plan w0.state (visits_events j v.visits) = v.does.run.leads ∙
+      sym (learned_all_legal plan w0.state (visits_events j v.visits) v.does.run.legal) in
       record {
         edges = v.edges;
         due = v.due;
@@ -76,7 +78,8 @@ module _ (w0 w1 w2 : WorldView) (l0 l1 l2 : List Event) (x : Player) (waited : �
   same : SameSeat plan j w0.state known
   same =
       let led : State = state_after plan l0 in
-      let seats_s : length w0.state.seats ≡ length plan.jobs = ap (λ (z : State). length z.seats) at.led ∙ (all_seats plan (the_opening plan) l0 ∙ opening_seats plan) in
+      let seats_s : length w0.state.seats ≡ length plan.jobs = ap (λ (z : State). length z.seats) at.led ∙ (all_seats plan (the_opening plan) l0 ∙
+      opening_seats plan) in
       let seats_t : length known.seats ≡ length plan.jobs = learned_all_seats plan (the_opening plan) (events_by j l0) ∙ opening_seats plan in
       record {
         job_s = subst (λ n. j < n) (sym seats_s) job;
@@ -91,7 +94,8 @@ module _ (w0 w1 w2 : WorldView) (l0 l1 l2 : List Event) (x : Player) (waited : �
   same_then = ap (λ (z : State). seat z j) (turned_does.run.leads ∙ sym (learned_all_legal plan w0.state events turned_does.run.legal))
       ∙ (same_all plan j w0.state known events (turn_by plan j waited w0.state v.visits a.acts events by_state) same).own
 
-  pub turned : waited ≡ waited_in (waits x) (session w0.state j) → (x' : rounds.Player) → x' ≡ record { job = j; waited = waited_then (waits x) (is_waiting (drinking w0.state j)) (phase w2.state j) }
+  pub turned : waited ≡ waited_in (waits x) (session w0.state j) → (x' : rounds.Player) →
+      x' ≡ record { job = j; waited = waited_then (waits x) (is_waiting (drinking w0.state j)) (phase w2.state j) }
       → (r : Turned) × Plays plan (player_of x) l0 r l2 x'
   turned waited_is x' counted =
       let so_far : waited ≡ waited_in (waits x) (session known j) = waited_is ∙ ap (λ (y : Seat). waited_in (waits x) y.phase.session) same.own in
@@ -102,7 +106,8 @@ module _ (w0 w1 w2 : WorldView) (l0 l1 l2 : List Event) (x : Player) (waited : �
           acts = a.acts;
           events = events;
           after = turned_does.added;
-          turn = subst (λ n. IsTurnBy plan j n known v.visits a.acts events) so_far (turn_alike plan j w0.state known waited v.visits a.acts events same by_state);
+          turn = subst (λ n. IsTurnBy plan j n known v.visits a.acts events) so_far
+              (turn_alike plan j w0.state known waited v.visits a.acts events same by_state);
           none_lost = v.none_lost;
           says = r.1;
           counted = counted ∙ (λ i. record { job = j; waited = waited_then (waits x) (is_waiting (same.own i).phase.drinking) (same_then i).phase });

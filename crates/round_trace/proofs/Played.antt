@@ -46,7 +46,8 @@ each_get P [] k d inside each = absurd (omega arith)
 each_get P (x ∷ l) zero d inside each = each.0
 each_get P (x ∷ l) (suc k) d inside each = each_get P l k d (omega arith) each.1
 
-module _ (plan : LabPlan) (now first : List Player) (k : ℕ) (d : Player) (inside : k < length now) (many : length now ≡ length first) (behind : drop k (players_of now) ≡ drop k (players_of first)) where
+module _ (plan : LabPlan) (now first : List Player) (k : ℕ) (d : Player) (inside : k < length now) (many : length now ≡ length first) (behind : drop k
+    (players_of now) ≡ drop k (players_of first)) where
   abbrev firsts : List rounds.Player
   firsts = players_of first
 
@@ -57,7 +58,8 @@ module _ (plan : LabPlan) (now first : List Player) (k : ℕ) (d : Player) (insi
   in_first = let n = length_players first in omega (arith, n, many, inside)
 
   pub job_at : AreJobs plan firsts → IsJob plan (get_or now k d).job
-  job_at jobs = subst (λ (x : rounds.Player). x.job < length plan.jobs) (sym same_player) (each_get (λ (x : rounds.Player). x.job < length plan.jobs) firsts k no_player in_first jobs)
+  job_at jobs = subst (λ (x : rounds.Player). x.job < length plan.jobs) (sym same_player) (each_get (λ
+      (x : rounds.Player). x.job < length plan.jobs) firsts k no_player in_first jobs)
 
   module _ (y : Player) where
     pub behind_then : drop (k + 1) (players_of (set now k y)) ≡ drop (k + 1) firsts
@@ -66,21 +68,32 @@ module _ (plan : LabPlan) (now first : List Player) (k : ℕ) (d : Player) (insi
     taken : take (k + 1) (players_of (set now k y)) ≡ take k (players_of now) ++ player_of y ∷ []
     taken =
         let new : List rounds.Player = set (players_of now) k (player_of y) in
-        let n : length new ≡ length (players_of now) = ap length (sym (players_set now k y)) ∙ (length_players (set now k y) ∙ (length-set now k y ∙ sym (length_players now))) in
+        let n : length new ≡ length (players_of now) = ap length (sym (players_set now k y)) ∙ (length_players (set now k y) ∙ (length-set now k y ∙
+        sym (length_players now))) in
         let m = length_players now in
-        ap (take (k + 1)) (players_set now k y) ∙ (take_snoc new k no_player (omega (arith, n, m, inside)) ∙ (λ i. take_set (players_of now) k (player_of y) i ++ get_set (players_of now) k (player_of y) no_player (omega (arith, m, inside)) i ∷ []))
+        ap (take (k + 1)) (players_set now k y) ∙ (take_snoc new k no_player (omega (arith, n, m, inside)) ∙
+        (λ i. take_set (players_of now) k (player_of y) i ++ get_set (players_of now) k (player_of y) no_player (omega (arith, m, inside)) i ∷ []))
 
-    pub one_more : (h m g : List Event) (r : Turned) (idle : Bool) → Round plan (take k firsts) idle h m (take k (players_of now)) → Plays plan (player_of (get_or now k d)) m r g (player_of y)
+    pub one_more : (h m g : List Event) (r : Turned) (idle : Bool) → Round plan (take k firsts) idle h m (take k (players_of now)) →
+        Plays plan (player_of (get_or now k d)) m r g (player_of y)
         → (all : Bool) × Round plan (take (k + 1) firsts) all h g (take (k + 1) (players_of (set now k y)))
     one_more h m g r idle round plays =
-        let more = round-snoc plan (take k firsts) (get_or firsts k no_player) h m g r idle (take k (players_of now)) (player_of y) round (subst (λ (x : rounds.Player). Plays plan x m r g (player_of y)) same_player plays) in
-        ((idle && is_idle r), subst (λ (z : List rounds.Player × List rounds.Player). Round plan z.0 (idle && is_idle r) h g z.1) (λ i. (sym (take_snoc firsts k no_player in_first) i, sym taken i)) more)
+        let more = round-snoc plan (take k firsts) (get_or firsts k no_player) h m g r idle (take k (players_of now)) (player_of y) round (subst (λ
+        (x : rounds.Player). Plays plan x m r g (player_of y)) same_player plays) in (
+          (idle && is_idle r),
+          subst (λ (z : List rounds.Player × List rounds.Player). Round plan z.0 (idle && is_idle r) h g z.1) (λ i. (
+            sym
+                (take_snoc firsts k no_player in_first) i,
+            sym taken i,
+          )) more,
+        )
 
 -- ---- all jobs
 
 fresh_jobs : (n top : ℕ) → n ≤ top → Each (λ (x : rounds.Player). x.job < top) (fresh_players n)
 fresh_jobs zero top most = tt
-fresh_jobs (suc n) top most = each-append (λ (x : rounds.Player). x.job < top) (fresh_players n) (record { job = n; waited = no_wait } ∷ []) (fresh_jobs n top (omega arith)) (omega arith, tt)
+fresh_jobs (suc n) top most = each-append (λ (x : rounds.Player). x.job < top) (fresh_players n) (record { job = n; waited = no_wait } ∷ [])
+    (fresh_jobs n top (omega arith)) (omega arith, tt)
 
 to_jobs : (top : ℕ) (players : List rounds.Player) → Each (λ (x : rounds.Player). x.job < top) players → Each (λ (j : ℕ). j < top) (jobs_in players)
 to_jobs top [] each = tt
@@ -96,21 +109,41 @@ module _ (plan : LabPlan) where
 
   module _ (players : List rounds.Player) (n : ℕ) (idle : Bool) (h : List Event) (rounds_were : Rounds plan all n idle [] h players) where
     pub are_jobs : AreJobs plan players
-    are_jobs = of_jobs (length plan.jobs) players (subst (Each (λ (j : ℕ). j < length plan.jobs)) (sym (rounds_jobs plan all players n idle [] h rounds_were)) (to_jobs (length plan.jobs) all (fresh_jobs (length plan.jobs) (length plan.jobs) (omega arith))))
+    are_jobs = of_jobs (length plan.jobs) players (subst (Each (λ (j : ℕ). j < length plan.jobs)) (sym
+        (rounds_jobs plan all players n idle [] h rounds_were)) (to_jobs (length plan.jobs) all (fresh_jobs (length plan.jobs) (length plan.jobs)
+        (omega arith))))
 
     pub not_over : IsHistory plan h → ¬ AreRetired plan h → ¬ IsOver plan idle h
     not_over legal other (inl retired) = other retired
-    not_over legal other (inr quiet) = other (no_quiet_end plan all players n h (all_players plan) (players_once plan) legal (subst (λ b. Rounds plan all n b [] h players) quiet.0 rounds_were) quiet.1)
+    not_over legal other (inr quiet) = other (no_quiet_end plan all players n h (all_players plan) (players_once plan) legal (subst
+        (λ b. Rounds plan all n b [] h players) quiet.0 rounds_were) quiet.1)
 
-    pub round_more : (players' : List rounds.Player) (idle' : Bool) (g : List Event) → IsHistory plan h → ¬ AreRetired plan h → Round plan players idle' h g players' → Rounds plan all (n + 1) idle' [] g players'
-    round_more players' idle' g legal other round = subst (λ m. Rounds plan all m idle' [] g players') (sym (add-one n)) (h, idle, players, rounds_were, not_over legal other, round)
+    pub round_more : (players' : List rounds.Player) (idle' : Bool) (g : List Event) → IsHistory plan h → ¬ AreRetired plan h →
+        Round plan players idle' h g players' → Rounds plan all (n + 1) idle' [] g players'
+    round_more players' idle' g legal other round = subst (λ m. Rounds plan all m idle' [] g players') (sym (add-one n))
+        (h, idle, players, rounds_were, not_over legal other, round)
 
-    pub ran : (limit : ℕ) (retired : Bool) → IsHistory plan h → n ≤ limit → (retired ≡ true) ↔ AreRetired plan h → (retired ≡ false → n ≡ limit) → (m : ℕ) × RanRounds plan limit all [] (why_ended retired) m h
-    ran limit true legal most test end = (n, record { idle = idle; players_then = players; legal = legal; rounds = rounds_were; most = most; why = test.0 refl })
-    ran limit false legal most test end = (n, record { idle = idle; players_then = players; legal = legal; rounds = rounds_were; most = most; why = (not_over legal (λ r. absurd (cannot (test.1 r))), end refl) }) where
+    pub ran : (limit : ℕ) (retired : Bool) → IsHistory plan h → n ≤ limit → (retired ≡ true) ↔ AreRetired plan h → (retired ≡ false → n ≡ limit) →
+        (m : ℕ) × RanRounds plan limit all [] (why_ended retired) m h
+    ran limit true legal most test end =
+        (n, record { idle = idle; players_then = players; legal = legal; rounds = rounds_were; most = most; why = test.0 refl })
+    ran limit false legal most test end = (
+      n,
+      record {
+        idle = idle;
+        players_then = players;
+        legal = legal;
+        rounds = rounds_were;
+        most = most;
+        why =
+            (not_over legal (λ r. absurd (cannot (test.1 r))), end refl);
+      },
+    ) where
       cannot : false ≡ true → ⊥
       cannot is = cc
 
 -- the test of a world is that of its history
-pub retired_in : (plan : LabPlan) (w : WorldView) (h : List Event) (b : Bool) → StandsAt w h → w.plan ≡ plan → (b ≡ true) ↔ ((j : ℕ) → j < length w.plan.jobs → drinking w.state j ≡ Retired) → (b ≡ true) ↔ AreRetired plan h
-retired_in plan w h b at same test = subst (λ (z : LabPlan × State). (b ≡ true) ↔ ((j : ℕ) → j < length z.0.jobs → drinking z.1 j ≡ Retired)) (λ i. (same i, (at.led ∙ ap (λ (p : LabPlan). state_after p h) same) i)) test
+pub retired_in : (plan : LabPlan) (w : WorldView) (h : List Event) (b : Bool) → StandsAt w h → w.plan ≡ plan → (b ≡ true) ↔ ((j : ℕ) →
+    j < length w.plan.jobs → drinking w.state j ≡ Retired) → (b ≡ true) ↔ AreRetired plan h
+retired_in plan w h b at same test = subst (λ (z : LabPlan × State). (b ≡ true) ↔ ((j : ℕ) → j < length z.0.jobs →
+    drinking z.1 j ≡ Retired)) (λ i. (same i, (at.led ∙ ap (λ (p : LabPlan). state_after p h) same) i)) test

@@ -74,8 +74,13 @@ module _ (plan : LabPlan) (s : State) (j e set : ℕ) (own : IsOwn plan j e) whe
   may_give g some = (own, record { not_empty = some; of_edge = g.of_edge }, member_may (MayGiveBottle plan s j e) g)
 
   may_ask : IsGreatest plan e set asked_for → set ≢ 0 → May plan s (AskBottles j e set)
-  may_ask g some =
-      (own, thirsts (drinking s j) (λ other. some (empty_set (length (bottles plan e)) set g.of_edge (λ k inside has. other (member_may asked_for g k has).0))), record { not_empty = some; of_edge = g.of_edge }, λ k has. (member_may asked_for g k has).1)
+  may_ask g some = (
+    own,
+    thirsts (drinking s j) (λ other. some (empty_set (length (bottles plan e)) set g.of_edge (λ k inside has. other
+        (member_may asked_for g k has).0))),
+    record { not_empty = some; of_edge = g.of_edge },
+    λ k has. (member_may asked_for g k has).1,
+  )
 
   decided : (done : Bool) (M : Type 0) → (done ≡ true) ↔ M → (set ≢ 0 → M) → (M → set ≢ 0) → done ≡ not (set == 0)
   decided done M test some none = elim (cases_eq set 0) [

@@ -53,7 +53,8 @@ pub steps_give_events : StepsGiveEvents
 steps_give_events plan s [] legal = refl
 steps_give_events plan s (x ∷ events) legal =
     let here = same_event plan s x legal.0 in
-    (λ i. here i ∷ events_of plan (after plan s (here i)) (map step_of events)) ∙ ap (λ (l : List Event). x ∷ l) (steps_give_events plan (after plan s x) events legal.1)
+    (λ i. here i ∷ events_of plan (after plan s (here i)) (map step_of events)) ∙ ap (λ (l : List Event). x ∷ l) (steps_give_events plan
+    (after plan s x) events legal.1)
 
 all_cons : (P : Event → Type 0) (x : Event) (xs : List Event) → P x → All P xs → All P (x ∷ xs)
 all_cons P x xs here all zero d inside = here
@@ -61,4 +62,5 @@ all_cons P x xs here all (suc k) d inside = all k d (omega (arith, inside))
 
 pub steps_are_of_plan : StepsAreOfPlan
 steps_are_of_plan plan s [] legal = λ k d inside. absurd (omega (arith, inside))
-steps_are_of_plan plan s (x ∷ events) legal = all_cons (λ event. IsStepOf plan (step_of event)) x events (of_plan plan s x legal.0) (steps_are_of_plan plan (after plan s x) events legal.1)
+steps_are_of_plan plan s (x ∷ events) legal = all_cons (λ event. IsStepOf plan (step_of event)) x events (of_plan plan s x legal.0) (steps_are_of_plan plan
+    (after plan s x) events legal.1)

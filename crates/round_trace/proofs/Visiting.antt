@@ -24,10 +24,12 @@ record At (plan : LabPlan) (s : State) (w : WorldView) : Type 0 where
   plan_is : w.plan ≡ plan
   state_is : w.state ≡ s
 
-at_next : (plan : LabPlan) (s : State) (w w' : WorldView) (l l' : List Event) (x : Event) (done : Bool) → At plan s w → Tries w l x done w' l' → At plan (after_if plan done x s) w'
+at_next : (plan : LabPlan) (s : State) (w w' : WorldView) (l l' : List Event) (x : Event) (done : Bool) → At plan s w → Tries w l x done w' l' →
+    At plan (after_if plan done x s) w'
 at_next plan s w w' l l' x done a t = record { plan_is = t.same_plan ∙ a.plan_is; state_is = t.leads ∙ (λ i. after_if (a.plan_is i) done x (a.state_is i)) }
 
-at_legal : (plan : LabPlan) (s : State) (w w' : WorldView) (l l' : List Event) (x : Event) (done : Bool) → At plan s w → Tries w l x done w' l' → (done ≡ true) ↔ May plan s x
+at_legal : (plan : LabPlan) (s : State) (w w' : WorldView) (l l' : List Event) (x : Event) (done : Bool) → At plan s w → Tries w l x done w' l' →
+    (done ≡ true) ↔ May plan s x
 at_legal plan s w w' l l' x done a t = subst (λ (z : LabPlan × State). (done ≡ true) ↔ May z.0 z.1 x) (λ i. (a.plan_is i, a.state_is i)) t.legal
 
 -- moves on an edge leave the own phase
@@ -51,11 +53,19 @@ module _ (plan : LabPlan) (j e : ℕ) where
 
   pub drinks_still : (s : State) (m : EdgeMoves) → drinking (fork_asked_for plan s j e m) j ≡ drinking s j
   drinks_still s m = ap (λ (x : JobState). x.drinking)
-      (ask_fork_stays m.ask_fork (bottles_gone plan s j e m) ∙ (give_bottles_stays (not (m.give_bottles == 0)) m.give_bottles (fork_gone plan s j e m) ∙ give_fork_stays m.give_fork s))
+      (ask_fork_stays m.ask_fork (bottles_gone plan s j e m) ∙ (give_bottles_stays (not (m.give_bottles == 0)) m.give_bottles (fork_gone plan s j e m) ∙
+      give_fork_stays m.give_fork s))
 
 -- the same set for what is said otherwise
 greatest_as : (plan : LabPlan) (e n : ℕ) (P Q : ℕ → Type 0) → ((k : ℕ) → P k ↔ Q k) → IsGreatest plan e n P → IsGreatest plan e n Q
-greatest_as plan e n P Q same g = record { of_edge = g.of_edge; just = λ k inside. (λ has. (same k).0 ((g.just k inside).0 has), λ q. (g.just k inside).1 ((same k).1 q)) }
+greatest_as plan e n P Q same g = record {
+  of_edge = g.of_edge;
+  just = λ k inside. (
+    λ has. (same k).0 ((g.just k inside).0 has),
+    λ q. (g.just k inside).1
+        ((same k).1 q),
+  );
+}
 
 none_of : (b : Bool) → (if b && false then 1 else 0) + 0 ≡ 0
 none_of true = refl
@@ -70,8 +80,10 @@ module _ (j e : ℕ) where
   gifts w = MayGiveBottle w.plan w.state j e
 
   module _ (w0 w1 w2 w3 w4 w5 w6 : WorldView) (l0 l1 l2 l3 l4 l5 l6 : List Event) (looks gave asked soiled : Bool) (given wanted : ℕ) (own : IsOwn w0.plan j e)
-      (t1 : Tries w0 l0 (Look j e (edge w0.state e)) looks w1 l1) (t2 : Tries w1 l1 (GiveFork j e) gave w2 l2) (t3 : MovesAll (gifts w2) (λ set. GiveBottles j e set) e w2 l2 given w3 l3)
-      (t4 : Tries w3 l3 (AskFork j e) asked w4 l4) (t5 : MovesAll (wishes w4) (λ set. AskBottles j e set) e w4 l4 wanted w5 l5) (t6 : Tries w5 l5 (Soil j e) soiled w6 l6) where
+      (t1 : Tries w0 l0 (Look j e (edge w0.state e)) looks w1 l1) (t2 : Tries w1 l1 (GiveFork j e) gave w2 l2) (t3 : MovesAll (gifts w2)
+      (λ set. GiveBottles j e set) e w2 l2 given w3 l3)
+      (t4 : Tries w3 l3 (AskFork j e) asked w4 l4) (t5 : MovesAll (wishes w4) (λ set. AskBottles j e set) e w4 l4 wanted w5 l5) (t6 : Tries w5 l5
+      (Soil j e) soiled w6 l6) where
     abbrev saw : EdgeState
     saw = edge w0.state e
 
@@ -111,8 +123,17 @@ module _ (j e : ℕ) where
           bottles = record {
             give_bottles = subst (λ (z : LabPlan × State). IsGreatest z.0 e given (MayGiveBottle z.0 z.1 j e)) (λ i. (a2.plan_is i, a2.state_is i)) t3.greatest;
             ask_bottles = greatest_as p e wanted
-                (λ k. (drinking (fork_asked_for p s j e moves) j ≡ Thirsty) × MayAskBottle p (fork_asked_for p s j e moves) j e k) (λ k. (drinking s j ≡ Thirsty) × MayAskBottle p (fork_asked_for p s j e moves) j e k)
-                (λ k. (λ q. (sym (drinks_still p j e s moves) ∙ q.0, q.1), λ q. (drinks_still p j e s moves ∙ q.0, q.1))) (subst (λ (z : LabPlan × State). IsGreatest z.0 e wanted (λ k. (drinking z.1 j ≡ Thirsty) × MayAskBottle z.0 z.1 j e k)) (λ i. (a4.plan_is i, a4.state_is i)) t5.greatest);
+                (λ k. (drinking (fork_asked_for p s j e moves) j ≡ Thirsty) × MayAskBottle p (fork_asked_for p s j e moves) j e k) (λ k.
+                (drinking s j ≡ Thirsty) × MayAskBottle p (fork_asked_for p s j e moves) j e k)
+                (λ k. (
+                  λ q. (sym (drinks_still p j e s moves) ∙ q.0, q.1),
+                  λ q. (
+                    drinks_still p j e s moves ∙
+                        q.0,
+                    q.1,
+                  ),
+                )) (subst (λ (z : LabPlan × State). IsGreatest z.0 e wanted (λ k. (drinking z.1 j ≡ Thirsty) × MayAskBottle z.0 z.1 j e k))
+                (λ i. (a4.plan_is i, a4.state_is i)) t5.greatest);
           };
         }
 
@@ -122,7 +143,8 @@ module _ (j e : ℕ) where
       edges = refl;
       due = (subst (λ (z : State). AreDue w0.plan z j e moves) (sym (looked w0.plan w0.state j e saw refl)) due, tt);
       none_lost = none_of (not (is_nothing moves));
-      does = subst (λ (l : List Event). Does w0 l0 l w6 l6) ((λ i. on (looked_is i) (Look j e saw) (events_of moves j e)) ∙ sym (append-nil (Look j e saw ∷ events_of moves j e))) does;
+      does = subst (λ (l : List Event). Does w0 l0 l w6 l6) ((λ i. on (looked_is i) (Look j e saw) (events_of moves j e)) ∙
+          sym (append-nil (Look j e saw ∷ events_of moves j e))) does;
     }
 
 -- ---- one edge more
@@ -137,9 +159,11 @@ lost_append (v ∷ vs) us a b = let later = lost_append vs us (omega arith) b in
 
 events_append : (j : ℕ) (vs us : List Visit) → visits_events j (vs ++ us) ≡ visits_events j vs ++ visits_events j us
 events_append j [] us = refl
-events_append j (v ∷ vs) us = ap (λ (l : List Event). visit_events j v ++ l) (events_append j vs us) ∙ sym (append_assoc (visit_events j v) (visits_events j vs) (visits_events j us))
+events_append j (v ∷ vs) us = ap (λ (l : List Event). visit_events j v ++ l) (events_append j vs us) ∙
+    sym (append_assoc (visit_events j v) (visits_events j vs) (visits_events j us))
 
-visits_append : (plan : LabPlan) (j : ℕ) (s : State) (vs us : List Visit) → AreVisits plan j s vs → AreVisits plan j (learned_all plan s (visits_events j vs)) us → AreVisits plan j s (vs ++ us)
+visits_append : (plan : LabPlan) (j : ℕ) (s : State) (vs us : List Visit) → AreVisits plan j s vs →
+    AreVisits plan j (learned_all plan s (visits_events j vs)) us → AreVisits plan j s (vs ++ us)
 visits_append plan j s [] us a b = b
 visits_append plan j s (v ∷ vs) us a b = (
   a.0,
@@ -150,13 +174,17 @@ visits_append plan j s (v ∷ vs) us a b = (
 pub visits_none : (j : ℕ) (w : WorldView) (l : List Event) → VisitsEdges w l j [] w l
 visits_none j w l = record { visits = []; edges = refl; due = tt; none_lost = refl; does = does_none w l }
 
-pub visits_both : (j : ℕ) (old mid new : WorldView) (before between later : List Event) (es fs : List ℕ) → VisitsEdges old before j es mid between → VisitsEdges mid between j fs new later → VisitsEdges old before j (es ++ fs) new later
+pub visits_both : (j : ℕ) (old mid new : WorldView) (before between later : List Event) (es fs : List ℕ) → VisitsEdges old before j es mid between →
+    VisitsEdges mid between j fs new later → VisitsEdges old before j (es ++ fs) new later
 visits_both j old mid new before between later es fs a b =
-    let learns : mid.state ≡ learned_all old.plan old.state (visits_events j a.visits) = a.does.run.leads ∙ sym (learned_all_legal old.plan old.state (visits_events j a.visits) a.does.run.legal) in
+    let learns : mid.state ≡ learned_all old.plan old.state (visits_events j a.visits) = a.does.run.leads ∙
+    sym (learned_all_legal old.plan old.state (visits_events j a.visits) a.does.run.legal) in
     record {
       visits = a.visits ++ b.visits;
       edges = edges_append a.visits b.visits ∙ (λ i. a.edges i ++ b.edges i);
-      due = visits_append old.plan j old.state a.visits b.visits a.due (subst (λ (z : LabPlan × State). AreVisits z.0 j z.1 b.visits) (λ i. (a.does.same_plan i, learns i)) b.due);
+      due = visits_append old.plan j old.state a.visits b.visits a.due (subst (λ (z : LabPlan × State). AreVisits z.0 j z.1 b.visits) (λ i.
+          (a.does.same_plan i, learns i)) b.due);
       none_lost = lost_append a.visits b.visits a.none_lost b.none_lost;
-      does = subst (λ (l : List Event). Does old before l new later) (sym (events_append j a.visits b.visits)) (does_both old mid new before between later (visits_events j a.visits) (visits_events j b.visits) a.does b.does);
+      does = subst (λ (l : List Event). Does old before l new later) (sym (events_append j a.visits b.visits)) (does_both old mid new before between later
+          (visits_events j a.visits) (visits_events j b.visits) a.does b.does);
     }

@@ -17,7 +17,8 @@ pub record Tries (old : WorldView) (before : List Event) (event : Event) (done :
   pub added : after ≡ before ++ on done event []
 
 -- all bottles of which P holds were moved together, where there are some
-pub record MovesAll (P : ℕ → Type 0) (event : ℕ → Event) (e : ℕ) (old : WorldView) (before : List Event) (set : ℕ) (new : WorldView) (after : List Event) : Type 0 where
+pub record MovesAll (P : ℕ → Type 0) (event : ℕ → Event) (e : ℕ) (old : WorldView) (before : List Event) (set : ℕ) (new : WorldView)
+    (after : List Event) : Type 0 where
   pub greatest : IsGreatest old.plan e set P
   pub tries : Tries old before (event set) (not (set == 0)) new after
 

@@ -14,12 +14,14 @@ use Rattle.lab_views.proofs.tracing.trace_input.Goals as goal
 
 pub returns-in_err-plan-clause-answer : goal.returns-in_err-plan-clause-answer
 returns-in_err-plan-clause-answer g c =
-    ends_with (Traces c.args.limit) ScriptRefuses _ _ _ c.from_residual.result (Script c.in_err-plan.field-0.0) c.from_residual.ensures.1 (c.in_err-plan.ensures, Keeps-refl _)
+    ends_with (Traces c.args.limit) ScriptRefuses _ _ _ c.from_residual.result (Script c.in_err-plan.field-0.0) c.from_residual.ensures.1
+    (c.in_err-plan.ensures, Keeps-refl _)
 
 pub text_of-requires : goal.text_of-requires
 text_of-requires g c =
     let plan = c.in_ok-plan.plan in
-    subst (All (λ event. IsStepOf plan (step_of event))) (sym c.deref.ensures.value) (c.steps_are_of_plan.ensures plan (the_opening plan) c.in_ok-events.events.items c.in_ok-events.ensures.rounds.legal)
+    subst (All (λ event. IsStepOf plan (step_of event))) (sym c.deref.ensures.value) (c.steps_are_of_plan.ensures plan
+    (the_opening plan) c.in_ok-events.events.items c.in_ok-events.ensures.rounds.legal)
 
 pub returns-clause-answer : goal.returns-clause-answer
 returns-clause-answer g c = (

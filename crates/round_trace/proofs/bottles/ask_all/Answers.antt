@@ -10,5 +10,6 @@ returns g c =
     let t = c.in_ok-_moved.ensures in
     record {
       greatest = c.wishes-set.ensures;
-      tries = subst (λ (b : Bool). Tries w c.args.events.now.items (AskBottles c.args.job c.args.edge set) b c.attempt.new.world c.attempt.new.events.items) (wanted w.plan w.state c.args.job c.args.edge set c.requires c.wishes-set.ensures _ t.legal) t;
+      tries = subst (λ (b : Bool). Tries w c.args.events.now.items (AskBottles c.args.job c.args.edge set) b c.attempt.new.world c.attempt.new.events.items)
+          (wanted w.plan w.state c.args.job c.args.edge set c.requires c.wishes-set.ensures _ t.legal) t;
     }

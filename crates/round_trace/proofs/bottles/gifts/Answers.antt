@@ -11,11 +11,14 @@ pub loop-bottle-preserved : goal.loop-bottle-preserved
 loop-bottle-preserved g c =
     let w = c.args.world.now in let n = c.loop-bottle.bottle in
     let P : ℕ → Type 0 = λ k. MayGiveBottle w.plan w.state c.args.job c.args.edge k in
-    let same = ap (λ (p : LabPlan). length (bottles p c.args.edge)) c.plan.ensures.plan in let end = c.bottles-bottle-end.ensures in let small : n < length (bottles w.plan c.args.edge) = omega (arith, same, end) in
+    let same = ap (λ (p : LabPlan). length (bottles p c.args.edge)) c.plan.ensures.plan in let end = c.bottles-bottle-end.ensures in
+    let small : n < length (bottles w.plan c.args.edge) = omega (arith, same, end) in
     let few : n < 32 = omega arith in
     elim c.if-enabled.branch [
       | then-enabled b ↦ subst (λ z. Grown z (n + 1) P) (sym b.set-is)
-          (grown_in c.loop-bottle.set n P few c.loop-bottle.invariant (gives w.plan w.state c.args.job c.args.edge n c.requires small few (c.enabled.ensures.0 b.if-enabled.true)))
+          (grown_in c.loop-bottle.set n P few c.loop-bottle.invariant (gives w.plan w.state c.args.job c.args.edge n c.requires small few
+          (c.enabled.ensures.0 b.if-enabled.true)))
       | else-enabled b ↦ subst (λ z. Grown z (n + 1) P) (sym b.set-is)
-          (grown_out c.loop-bottle.set n P c.loop-bottle.invariant (λ p. false≢true (sym b.if-enabled.false ∙ c.enabled.ensures.1 (given w.plan w.state c.args.job c.args.edge n c.requires small few p))))
+          (grown_out c.loop-bottle.set n P c.loop-bottle.invariant (λ p. false≢true (sym b.if-enabled.false ∙
+          c.enabled.ensures.1 (given w.plan w.state c.args.job c.args.edge n c.requires small few p))))
     ]

@@ -10,5 +10,7 @@ returns g c =
     let t = c.in_ok-_moved.ensures in
     record {
       greatest = c.gifts-set.ensures;
-      tries = subst (λ (b : Bool). Tries w c.args.events.now.items (GiveBottles c.args.job c.args.edge set) b c.attempt.new.world c.attempt.new.events.items) (gave w.plan w.state c.args.job c.args.edge set c.requires c.gifts-set.ensures _ t.legal) t;
+      tries = subst (λ (b : Bool). Tries w c.args.events.now.items
+          (GiveBottles c.args.job c.args.edge set) b c.attempt.new.world c.attempt.new.events.items)
+          (gave w.plan w.state c.args.job c.args.edge set c.requires c.gifts-set.ensures _ t.legal) t;
     }

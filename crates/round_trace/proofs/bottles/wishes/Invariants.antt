@@ -5,4 +5,5 @@ use Rattle.legal_steps.specs.Legal.{MayAskBottle}
 use Rattle.round_trace.proofs.bottles.wishes.Given as goal
 
 abbrev pub invariant-loop-bottle : goal.invariant-loop-bottle
-invariant-loop-bottle g l = (l.set < 2 ^ l.bottle) × ((k : ℕ) → k < l.bottle → Has l.set k ↔ ((drinking l.world.state l.job ≡ Thirsty) × MayAskBottle l.world.plan l.world.state l.job l.edge k))
+invariant-loop-bottle g l = (l.set < 2 ^ l.bottle) × ((k : ℕ) → k < l.bottle → Has l.set k ↔
+    ((drinking l.world.state l.job ≡ Thirsty) × MayAskBottle l.world.plan l.world.state l.job l.edge k))

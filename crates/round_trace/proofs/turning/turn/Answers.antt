@@ -8,7 +8,8 @@ use Rattle.round_trace.proofs.turning.turn.Goals as goal
 pub returns-clause-plays : goal.returns-clause-plays
 returns-clause-plays g c =
     let x = c.args.player.now in
-    turned c.args.world.now c.visit_all.new.world c.act.new.world c.args.events.now.items c.visit_all.new.events.items c.act.new.events.items x c.waited_in-waited.result
+    turned c.args.world.now c.visit_all.new.world c.act.new.world c.args.events.now.items c.visit_all.new.events.items c.act.new.events.items x
+    c.waited_in-waited.result
     c.requires.job c.requires.stands c.in_ok-visit_all.ensures c.in_ok-act.ensures
     (c.waited_in-waited.ensures ∙ ap (λ (p : JobState). waited_in (waits x) p.session) c.job-before.ensures) _
     (c.note.ensures ∙ (λ i. record { job = x.job; waited = waited_then (waits x) (is_waiting (c.job-before.ensures i).drinking) (c.job.ensures i) }))
@@ -16,5 +17,6 @@ returns-clause-plays g c =
 pub returns-clause-stands : goal.returns-clause-stands
 returns-clause-stands g c =
     stands_on c.args.world.now c.act.new.world c.args.events.now.items c.act.new.events.items _ c.requires.stands
-    (turned_does c.args.world.now c.visit_all.new.world c.act.new.world c.args.events.now.items c.visit_all.new.events.items c.act.new.events.items c.args.player.now c.waited_in-waited.result
+    (turned_does c.args.world.now c.visit_all.new.world c.act.new.world c.args.events.now.items c.visit_all.new.events.items c.act.new.events.items
+    c.args.player.now c.waited_in-waited.result
     c.requires.job c.requires.stands c.in_ok-visit_all.ensures c.in_ok-act.ensures)
