@@ -1,0 +1,46 @@
+// Memory that runs out: each growth of a view is refused in turn, and nothing else is told.
+use lab_runs::{FromRead, status_of};
+use lab_views::{View, run_explain, run_picture, run_trace, status_of_picture};
+use refusing_heap::RefusingHeap;
+use report::ToWrite;
+use std::alloc::Global;
+
+/// A view on a heap that refuses this growth, over a writer that takes its memory elsewhere: how many bytes it wrote,
+/// its status, and how many growths it asked for.
+fn told_without(out: Global, view: View, text: &[u8], refused: u64) -> (usize, u8, u64) {
+    let heap = RefusingHeap::new(out, refused);
+    let mut bytes = Vec::new(out);
+    let mut source = FromRead::new(text);
+    let mut sink = ToWrite::new(&mut bytes);
+    let status = match view {
+        View::Explain => status_of(&run_explain(&heap, &mut source, &mut sink)),
+        View::Picture => status_of_picture(&run_picture(&heap, &mut source, &mut sink)),
+        View::Trace { limit } => status_of(&run_trace(&heap, &mut source, &mut sink, limit)),
+    };
+    (bytes.len(), status, heap.growths())
+}
+
+/// Two jobs on one instrument.
+const SCRIPT: &str = "lab 1\njob a\nsession\nscale add 1\nend\njob b\nsession\nscale add 1\nend\n";
+
+const STEPS: &str =
+    "lab 1\njob a\nsession\nscale add 1\nend\njob b\nsession\nscale add 1\nend\nsteps\nthirst a\nsit b\n";
+
+const REPORT: &str =
+    "lab 1\ninstrument scale 1\na 1 1/1 add 1 = 1\njob a sessions 1 of 1 meals 0 retired\nfinished\n";
+
+#[test]
+fn growths_of_each_view(rt: HostRuntime) {
+    for (view, text) in [
+        (View::Explain, STEPS),
+        (View::Picture, REPORT),
+        (View::Trace { limit: 20 }, SCRIPT),
+    ] {
+        let (written, status, all) = told_without(rt.alloc(), view, text.as_bytes(), 0);
+        assert!(rt; written > 0 && status == 0 && all > 0);
+        for number in 0..all {
+            let (written, status, _) = told_without(rt.alloc(), view, text.as_bytes(), number + 1);
+            assert!(rt; written == 0 && status == 5, "growth {number}");
+        }
+    }
+}
