@@ -29,5 +29,6 @@ pub walked_met : (fresh : List Bool) (jobs : List ℕ) (at : ℕ) → ((job : �
     (job : ℕ) → job < length (set fresh at false) → IsOut (set fresh at false) job → Contains (jobs ++ at ∷ []) job
 walked_met fresh jobs at met job l n = elim (cases_eq job at) [
   | inl q ↦ subst (λ z. Contains (jobs ++ at ∷ []) z) (sym q) (Contains-last jobs at)
-  | inr q ↦ Contains-append_left jobs (at ∷ []) job (met job (omega (arith, l, length-set fresh at false)) (sym (get_or-set_other fresh at job false false q) ∙ n))
+  | inr q ↦ Contains-append_left jobs (at ∷ []) job
+      (met job (omega (arith, l, length-set fresh at false)) (sym (get_or-set_other fresh at job false false q) ∙ n))
 ]

@@ -8,11 +8,14 @@ use Rattle.cycles.proofs.Turning.{LeadsBackTo-join}
 use Rattle.cycles.proofs.Pairs.{IsAmong-below}
 
 -- a sink is on no cycle
-sink_on_no_cycle : (pairs : List (ℕ × ℕ)) (left : List Bool) (job : ℕ) → NoCycleBeginsOut pairs left → IsSink pairs left job → (jobs : List ℕ) → ¬ IsCycleOf (IsAmong pairs) (job ∷ jobs)
+sink_on_no_cycle : (pairs : List (ℕ × ℕ)) (left : List Bool) (job : ℕ) → NoCycleBeginsOut pairs left
+    → IsSink pairs left job → (jobs : List ℕ) → ¬ IsCycleOf (IsAmong pairs) (job ∷ jobs)
 sink_on_no_cycle pairs left job out sink [] c = out job [] (sink job c) c
-sink_on_no_cycle pairs left job out sink (next ∷ rest) c = out next (rest ++ job ∷ []) (sink next c.0) (LeadsBackTo-join (IsAmong pairs) next next rest job [] c.1 c.0)
+sink_on_no_cycle pairs left job out sink (next ∷ rest) c =
+    out next (rest ++ job ∷ []) (sink next c.0) (LeadsBackTo-join (IsAmong pairs) next next rest job [] c.1 c.0)
 
-pub taken_out : (pairs : List (ℕ × ℕ)) (left : List Bool) (job : ℕ) → NoCycleBeginsOut pairs left → IsSink pairs left job → NoCycleBeginsOut pairs (set left job false)
+pub taken_out : (pairs : List (ℕ × ℕ)) (left : List Bool) (job : ℕ) → NoCycleBeginsOut pairs left
+    → IsSink pairs left job → NoCycleBeginsOut pairs (set left job false)
 taken_out pairs left job out sink x jobs o c = elim (cases_eq x job) [
   | inl q ↦ sink_on_no_cycle pairs left job out sink jobs (subst (λ y. IsCycleOf (IsAmong pairs) (y ∷ jobs)) q c)
   | inr q ↦ out x jobs (sym (get_or-set_other left job x false false q) ∙ o) c

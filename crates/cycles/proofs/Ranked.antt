@@ -35,7 +35,8 @@ still_out left taken job l o = elim (cases_eq job taken) [
   | inr q ↦ get_or-set_other left taken job false false q ∙ o
 ]
 
-pub takes_out : (n : ℕ) (pairs : List (ℕ × ℕ)) (left : List Bool) (order : List ℕ) (taken : ℕ) → taken < length left → IsSinkLeft pairs left taken → RanksOut n pairs left order →
+pub takes_out : (n : ℕ) (pairs : List (ℕ × ℕ)) (left : List Bool) (order : List ℕ) (taken : ℕ)
+    → taken < length left → IsSinkLeft pairs left taken → RanksOut n pairs left order →
     RanksOut n pairs (set left taken false) (taken ∷ order)
 takes_out n pairs left order taken l s m = record {
   len = length-set left taken false ∙ m.len;
@@ -90,7 +91,8 @@ in_range : (left : List Bool) (job : ℕ) → IsLeft left job → job < length l
 in_range left job t = elim (cases_lt job (length left)) [ inl l ↦ l | inr l ↦ let o = get_or-eq_default left false {n = job} (omega (arith, l)) in absurd (cc) ]
 
 -- where none leads on in a circle, none can be left
-pub ranks_every : (n : ℕ) (pairs : List (ℕ × ℕ)) (left : List Bool) (order : List ℕ) → HasNoCycle (IsAmong pairs) → EachLeadsOn pairs left → RanksOut n pairs left order → IsRanking n pairs order
+pub ranks_every : (n : ℕ) (pairs : List (ℕ × ℕ)) (left : List Bool) (order : List ℕ)
+    → HasNoCycle (IsAmong pairs) → EachLeadsOn pairs left → RanksOut n pairs left order → IsRanking n pairs order
 ranks_every n pairs left order a each m = record {
   ranked = m.ranked;
   every = λ job b. elim (cases_Bool (get_or left job false)) [

@@ -6,11 +6,13 @@ use Rattle.std.proofs.Math.Seq.{drop-cons}
 use Rattle.std.specs.List.{All}
 use Rattle.cycles.specs.Cycles.{LeadsBackTo, IsCycleOf, BeginsWithSmallest}
 
-pub LeadsBackTo-join : (R : ℕ → ℕ → Type 0) (first job : ℕ) (jobs : List ℕ) (met : ℕ) (rest : List ℕ) → LeadsBackTo R met job jobs → LeadsBackTo R first met rest → LeadsBackTo R first job (jobs ++ met ∷ rest)
+pub LeadsBackTo-join : (R : ℕ → ℕ → Type 0) (first job : ℕ) (jobs : List ℕ) (met : ℕ) (rest : List ℕ)
+    → LeadsBackTo R met job jobs → LeadsBackTo R first met rest → LeadsBackTo R first job (jobs ++ met ∷ rest)
 LeadsBackTo-join R first job [] met rest a b = (a, b)
 LeadsBackTo-join R first job (next ∷ jobs) met rest a b = (a.0, LeadsBackTo-join R first next jobs met rest a.1 b)
 
-LeadsBackTo-split : (R : ℕ → ℕ → Type 0) (first job : ℕ) (jobs : List ℕ) (met : ℕ) (rest : List ℕ) → LeadsBackTo R first job (jobs ++ met ∷ rest) → LeadsBackTo R met job jobs × LeadsBackTo R first met rest
+LeadsBackTo-split : (R : ℕ → ℕ → Type 0) (first job : ℕ) (jobs : List ℕ) (met : ℕ) (rest : List ℕ)
+    → LeadsBackTo R first job (jobs ++ met ∷ rest) → LeadsBackTo R met job jobs × LeadsBackTo R first met rest
 LeadsBackTo-split R first job [] met rest c = (c.0, c.1)
 LeadsBackTo-split R first job (next ∷ jobs) met rest c = let h = LeadsBackTo-split R first next jobs met rest c.1 in ((c.0, h.0), h.1)
 
@@ -30,4 +32,5 @@ pub rotated_smallest : (jobs : List ℕ) (k : ℕ) → k < length jobs → All (
 rotated_smallest jobs k l a =
     let P : ℕ → Type 0 = λ job. get_or jobs k 0 ≤ job in
     subst (λ js. BeginsWithSmallest (js ++ take k jobs)) (sym (drop-cons jobs k 0 l))
-    (begins (get_or jobs k 0) (drop (suc k) jobs ++ take k jobs) (All-append P (drop (suc k) jobs) (take k jobs) (All-drop P (suc k) jobs a) (All-take P k jobs a)))
+    (begins (get_or jobs k 0) (drop (suc k) jobs ++ take k jobs)
+    (All-append P (drop (suc k) jobs) (take k jobs) (All-drop P (suc k) jobs a) (All-take P k jobs a)))

@@ -66,15 +66,21 @@ module _ (plan : LabPlan) (j e : ℕ) where
     λ g. λ i. is_hungry (g.1 i) && not (at_not here x.fork g.2 i) && here_at here x.token g.3 i,
   )
 
-  ask_test : (x : EdgeState) (ph : JobState) (b : Bool) → gives_fork ph.dining here x ≡ b → IsOwn plan j e → (asks_fork ph.dining here x ≡ true) ↔ AskAt plan j e (when b fork_given x) ph
-  ask_test x ph true is own = let a = gives_says ph.dining here x is in let test : asks_fork ph.dining here x ≡ is_hungry ph.dining = ap (λ (b : Bool). if b then is_hungry ph.dining else wants_fork ph.dining here x) is in (
-    λ h. (own, hungers ph.dining (sym test ∙ h), opposite_at here x.fork a.1, at_here here x.token a.3),
-    λ g. test ∙ ap is_hungry g.1,
-  )
-  ask_test x ph false is own = let test : asks_fork ph.dining here x ≡ wants_fork ph.dining here x = ap (λ (b : Bool). if b then is_hungry ph.dining else wants_fork ph.dining here x) is in let w = want_test x ph own in (
-    λ h. w.0 (sym test ∙ h),
-    λ g. test ∙ w.1 g,
-  )
+  ask_test : (x : EdgeState) (ph : JobState) (b : Bool) → gives_fork ph.dining here x ≡ b
+      → IsOwn plan j e → (asks_fork ph.dining here x ≡ true) ↔ AskAt plan j e (when b fork_given x) ph
+  ask_test x ph true is own =
+      let a = gives_says ph.dining here x is in
+      let test : asks_fork ph.dining here x ≡ is_hungry ph.dining = ap (λ (b : Bool). if b then is_hungry ph.dining else wants_fork ph.dining here x) is in (
+        λ h. (own, hungers ph.dining (sym test ∙ h), opposite_at here x.fork a.1, at_here here x.token a.3),
+        λ g. test ∙ ap is_hungry g.1,
+      )
+  ask_test x ph false is own =
+      let test : asks_fork ph.dining here x ≡ wants_fork ph.dining here x =
+      ap (λ (b : Bool). if b then is_hungry ph.dining else wants_fork ph.dining here x) is in
+      let w = want_test x ph own in (
+        λ h. w.0 (sym test ∙ h),
+        λ g. test ∙ w.1 g,
+      )
 
   -- soiling is as legal after the moves before it
   soil_later : (x : EdgeState) (ph : JobState) (b : Bool) → gives_fork ph.dining here x ≡ b → SoilAt plan j e x ph ↔ SoilAt plan j e (when b fork_given x) ph
@@ -89,9 +95,15 @@ module _ (plan : LabPlan) (j e : ℕ) where
     ph = phase s j
 
     -- the tests say which fork moves are due
-    pub tests_due : IsOwn plan j e → m.give_fork ≡ gives_fork ph.dining here x → m.ask_fork ≡ asks_fork ph.dining here x → m.soil ≡ soils ph.dining here x → AreForkMoves plan s j e m
-    tests_due own g a t = let gt = give_test x ph own in let at = ask_test x ph m.give_fork (sym g) own in let st = soil_test x ph own in let sl = soil_later x ph m.give_fork (sym g) in record {
-      give_fork = (λ h. gt.0 (sym g ∙ h), λ h. g ∙ gt.1 h);
-      ask_fork = (λ h. (ask_at plan j e s m he hj).1 (at.0 (sym a ∙ h)), λ h. a ∙ at.1 ((ask_at plan j e s m he hj).0 h));
-      soil = (λ h. (soil_at plan j e s m he hj).1 (sl.0 (st.0 (sym t ∙ h))), λ h. t ∙ st.1 (sl.1 ((soil_at plan j e s m he hj).0 h)));
-    }
+    pub tests_due : IsOwn plan j e → m.give_fork ≡ gives_fork ph.dining here x
+        → m.ask_fork ≡ asks_fork ph.dining here x → m.soil ≡ soils ph.dining here x → AreForkMoves plan s j e m
+    tests_due own g a t =
+        let gt = give_test x ph own in
+        let at = ask_test x ph m.give_fork (sym g) own in
+        let st = soil_test x ph own in
+        let sl = soil_later x ph m.give_fork (sym g) in
+        record {
+          give_fork = (λ h. gt.0 (sym g ∙ h), λ h. g ∙ gt.1 h);
+          ask_fork = (λ h. (ask_at plan j e s m he hj).1 (at.0 (sym a ∙ h)), λ h. a ∙ at.1 ((ask_at plan j e s m he hj).0 h));
+          soil = (λ h. (soil_at plan j e s m he hj).1 (sl.0 (st.0 (sym t ∙ h))), λ h. t ∙ st.1 (sl.1 ((soil_at plan j e s m he hj).0 h)));
+        }

@@ -12,7 +12,8 @@ use Rattle.dining_layer.specs.declared.answers.Tried.TheVariants.{Done, Moved, N
 use Rattle.dining_layer.specs.Tries.{TriedTo, TriesFirst, tried_as}
 
 -- an exchange of one move
-pub one_move : (d : DeskView) (m : EdgeMoves) (e : ℕ) (event : Event) (r : Stepped) (d' : DeskView) → events_of m d.job e ≡ event ∷ [] → May d.plan (known d) event → SteppedTo d m e r d' → TriedTo d event e (tried_as r) d'
+pub one_move : (d : DeskView) (m : EdgeMoves) (e : ℕ) (event : Event) (r : Stepped) (d' : DeskView)
+    → events_of m d.job e ≡ event ∷ [] → May d.plan (known d) event → SteppedTo d m e r d' → TriedTo d event e (tried_as r) d'
 one_move d m e event stepped.Done d' is may t = (may, subst (λ g. Adds d g d') is t)
 one_move d m e event (stepped.Moved x) d' is may t = (may, t.0, t.1, t.2)
 

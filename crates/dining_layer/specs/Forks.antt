@@ -34,4 +34,10 @@ abbrev pub soils : Dining → End → EdgeState → Bool
 soils dining here x = is_eating dining && is_at here x.fork && not x.dirty
 
 abbrev pub forks_due : Dining → End → EdgeState → EdgeMoves
-forks_due dining here x = record { give_fork = gives_fork dining here x; give_bottles = 0; ask_fork = asks_fork dining here x; ask_bottles = 0; soil = soils dining here x }
+forks_due dining here x = record {
+  give_fork = gives_fork dining here x;
+  give_bottles = 0;
+  ask_fork = asks_fork dining here x;
+  ask_bottles = 0;
+  soil = soils dining here x;
+}

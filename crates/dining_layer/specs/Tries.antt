@@ -40,4 +40,5 @@ pub record Dined (d : DeskView) (e : ℕ) (r : Tried) (d' : DeskView) : Type 0 w
 abbrev pub StoresFirst : DeskView → List PhaseEvent → Option PhaseEvent → DeskView → Type 0
 StoresFirst d [] r d' = (r ≡ None) × (d' ≡ d)
 StoresFirst d (what ∷ later) r d' =
-    (May d.plan (known d) (event_of what d.job) × (r ≡ Some what) × Adds d (event_of what d.job ∷ []) d') ⊎ (¬ May d.plan (known d) (event_of what d.job) × StoresFirst d later r d')
+    (May d.plan (known d) (event_of what d.job) × (r ≡ Some what) × Adds d (event_of what d.job ∷ []) d')
+    ⊎ (¬ May d.plan (known d) (event_of what d.job) × StoresFirst d later r d')

@@ -18,7 +18,8 @@ module _ (d : DeskView) (e : ℕ) (k : IsKnown d.plan (known d) d.job) (own : Is
   seat_there = let h = k.is_job in let z = k.seats_there in omega arith
 
   -- with the bottles that the job needs now they are the greatest sets
-  pub sets_with : (n : ℕ) (m r : EdgeMoves) → AreNeededNow d e n → r ≡ with_sets d.plan e (end_of d.plan d.job e) (phase (known d) d.job) n (edge (known d) e) m → WithBottles d.plan (known d) d.job e m r
+  pub sets_with : (n : ℕ) (m r : EdgeMoves) → AreNeededNow d e n
+      → r ≡ with_sets d.plan e (end_of d.plan d.job e) (phase (known d) d.job) n (edge (known d) e) m → WithBottles d.plan (known d) d.job e m r
   sets_with n m r needed is =
       let f = k.edges_fit e own.is_edge in
       let made : EdgeMoves = with_sets d.plan e (end_of d.plan d.job e) (phase (known d) d.job) n (edge (known d) e) m in

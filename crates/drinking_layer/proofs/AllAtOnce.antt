@@ -30,21 +30,35 @@ waits Retired h = absurd (false≢true h)
 module _ (plan : LabPlan) (s : State) (j e set : ℕ) where
   -- a set that isn't empty may be given
   pub may_give_all : IsOwn plan j e → IsGreatest plan e set (MayGiveBottle plan s j e) → set ≢ 0 → May plan s (GiveBottles j e set)
-  may_give_all own g some = (own, record { not_empty = some; of_edge = g.of_edge }, λ k member. (g.just k (member_below set (length (bottles plan e)) k g.of_edge member)).0 member)
+  may_give_all own g some =
+      (own, record { not_empty = some; of_edge = g.of_edge }, λ k member. (g.just k (member_below set (length (bottles plan e)) k g.of_edge member)).0 member)
 
   -- where it is empty, none may be
   pub none_to_give : IsGreatest plan e set (MayGiveBottle plan s j e) → set ≡ 0 → (other : ℕ) → ¬ May plan s (GiveBottles j e other)
-  none_to_give g none other may = may.1.not_empty (empty_set (length (bottles plan e)) other may.1.of_edge (λ k l member. has_none k (subst (λ z. Has z k) none ((g.just k l).1 (may.2 k member)))))
+  none_to_give g none other may =
+      may.1.not_empty (empty_set (length (bottles plan e)) other may.1.of_edge
+      (λ k l member. has_none k (subst (λ z. Has z k) none ((g.just k l).1 (may.2 k member)))))
 
-  thirsts : (b : Bool) → is_waiting (drinking s j) ≡ b → IsGreatest plan e set (λ k. (drinking s j ≡ Thirsty) × MayAskBottle plan s j e k) → set ≢ 0 → drinking s j ≡ Thirsty
+  thirsts : (b : Bool) → is_waiting (drinking s j) ≡ b
+      → IsGreatest plan e set (λ k. (drinking s j ≡ Thirsty) × MayAskBottle plan s j e k) → set ≢ 0 → drinking s j ≡ Thirsty
   thirsts true is g some = waits (drinking s j) is
-  thirsts false is g some = absurd (some (empty_set (length (bottles plan e)) set g.of_edge (λ k l member. false≢true (sym is ∙ ap is_waiting ((g.just k l).0 member).0))))
+  thirsts false is g some =
+      absurd (some (empty_set (length (bottles plan e)) set g.of_edge (λ k l member. false≢true (sym is ∙ ap is_waiting ((g.just k l).0 member).0))))
 
-  pub may_ask_all : IsOwn plan j e → IsGreatest plan e set (λ k. (drinking s j ≡ Thirsty) × MayAskBottle plan s j e k) → set ≢ 0 → May plan s (AskBottles j e set)
-  may_ask_all own g some = (own, thirsts (is_waiting (drinking s j)) refl g some, record { not_empty = some; of_edge = g.of_edge }, λ k member. ((g.just k (member_below set (length (bottles plan e)) k g.of_edge member)).0 member).1)
+  pub may_ask_all : IsOwn plan j e → IsGreatest plan e set (λ k. (drinking s j ≡ Thirsty) × MayAskBottle plan s j e k)
+      → set ≢ 0 → May plan s (AskBottles j e set)
+  may_ask_all own g some = (
+    own,
+    thirsts (is_waiting (drinking s j)) refl g some,
+    record { not_empty = some; of_edge = g.of_edge },
+    λ k member. ((g.just k (member_below set (length (bottles plan e)) k g.of_edge member)).0 member).1,
+  )
 
-  pub none_to_ask : IsGreatest plan e set (λ k. (drinking s j ≡ Thirsty) × MayAskBottle plan s j e k) → set ≡ 0 → (other : ℕ) → ¬ May plan s (AskBottles j e other)
-  none_to_ask g none other may = may.2.not_empty (empty_set (length (bottles plan e)) other may.2.of_edge (λ k l member. has_none k (subst (λ z. Has z k) none ((g.just k l).1 (may.1, may.3 k member)))))
+  pub none_to_ask : IsGreatest plan e set (λ k. (drinking s j ≡ Thirsty) × MayAskBottle plan s j e k)
+      → set ≡ 0 → (other : ℕ) → ¬ May plan s (AskBottles j e other)
+  none_to_ask g none other may =
+      may.2.not_empty (empty_set (length (bottles plan e)) other may.2.of_edge
+      (λ k l member. has_none k (subst (λ z. Has z k) none ((g.just k l).1 (may.1, may.3 k member)))))
 
 -- no exchange that was tried answers that nothing was legal
 tried_legal : (r : Stepped) → tried_as r ≢ NotLegal
@@ -75,7 +89,12 @@ module _ (d : DeskView) (e set : ℕ) where
       }
 
       pub serves_none : set ≡ 0 → Served d e NotLegal d
-      serves_none none = record { set = set; greatest = g; tries = (none_to_give d.plan (known d) d.job e set g none set, refl); none = λ h. none_to_give d.plan (known d) d.job e set g none }
+      serves_none none = record {
+        set = set;
+        greatest = g;
+        tries = (none_to_give d.plan (known d) d.job e set g none set, refl);
+        none = λ h. none_to_give d.plan (known d) d.job e set g none;
+      }
 
     module _ (g : IsGreatest d.plan e set (λ k. (drinking (known d) d.job ≡ Thirsty) × MayAskBottle d.plan (known d) d.job e k)) where
       pub wants : (r : Stepped) (d' : DeskView) → set ≢ 0 → SteppedTo d ask_all e r d' → Wanted d e (tried_as r) d'
@@ -87,4 +106,9 @@ module _ (d : DeskView) (e set : ℕ) where
       }
 
       pub wants_none : set ≡ 0 → Wanted d e NotLegal d
-      wants_none none = record { set = set; greatest = g; tries = (none_to_ask d.plan (known d) d.job e set g none set, refl); none = λ h. none_to_ask d.plan (known d) d.job e set g none }
+      wants_none none = record {
+        set = set;
+        greatest = g;
+        tries = (none_to_ask d.plan (known d) d.job e set g none set, refl);
+        none = λ h. none_to_ask d.plan (known d) d.job e set g none;
+      }

@@ -63,7 +63,8 @@ module _ (plan : LabPlan) (s : State) (j e : ℕ) (he : e < length s.edges) (hj 
   needs_in : (t : State) (i : ℕ) → phase t j ≡ ph → Needs plan t j i ↔ NeedsIn plan j ph i
   needs_in t i is = (
     λ n. subst (λ (q : JobState). NeedsIn plan j q i) is (record { in_session = n.in_session; named = n.named }),
-    λ n. let m : NeedsIn plan j (phase t j) i = subst (λ (q : JobState). NeedsIn plan j q i) (sym is) n in record { in_session = m.in_session; named = m.named },
+    λ n. let m : NeedsIn plan j (phase t j) i = subst (λ (q : JobState). NeedsIn plan j q i) (sym is) n in
+        record { in_session = m.in_session; named = m.named },
   )
 
   module _ (needed : ℕ) (fits : IsOfEdge plan e needed) (own_bottles : IsOfEdge plan e x.bottles) (own_tokens : IsOfEdge plan e x.bottle_tokens)
@@ -76,21 +77,32 @@ module _ (plan : LabPlan) (s : State) (j e : ℕ) (he : e < length s.edges) (hj 
       three = stage_three plan s j e m he hj
 
       -- the bottles that are kept
-      is_kept : (k : ℕ) → k < length (bottles plan e) → Has (kept here ph needed x m.give_fork) k ↔ (NeedsIn plan j ph (instrument_of plan e k) × (IsDrinking ph ⊎ ((edge_one m x).fork ≡ here)))
+      is_kept : (k : ℕ) → k < length (bottles plan e) → Has (kept here ph needed x m.give_fork) k
+          ↔ (NeedsIn plan j ph (instrument_of plan e k) × (IsDrinking ph ⊎ ((edge_one m x).fork ≡ here)))
       is_kept k l = at (has_instruments ph.drinking || is_at here (edge_one m x).fork) refl where
-        at : (b : Bool) → (has_instruments ph.drinking || is_at here (edge_one m x).fork) ≡ b → Has (if has_instruments ph.drinking || is_at here (edge_one m x).fork then needed else 0) k ↔ (NeedsIn plan j ph (instrument_of plan e k) × (IsDrinking ph ⊎ ((edge_one m x).fork ≡ here)))
-        at true is = let same : needed ≡ (if has_instruments ph.drinking || is_at here (edge_one m x).fork then needed else 0) = λ i. if sym is i then needed else 0 in let n = just k l in (
-          λ h. (n.0 (subst (λ z. Has z k) (sym same) h), elim (either _ _ is) [ inl d ↦ inl (drinks ph d) | inr f ↦ inr (at_here here (edge_one m x).fork f) ]),
-          λ q. subst (λ z. Has z k) same (n.1 q.0),
-        )
-        at false is = let same : 0 ≡ (if has_instruments ph.drinking || is_at here (edge_one m x).fork then needed else 0) = λ i. if sym is i then needed else 0 in let f = neither _ _ is in (
-          λ h. absurd (has_none k (subst (λ z. Has z k) (sym same) h)),
-          λ q. elim q.1 [ inl d ↦ absurd (drinks_not ph f.0 d) | inr at_fork ↦ absurd (false≢true (sym f.1 ∙ here_at here (edge_one m x).fork at_fork)) ],
-        )
+        at : (b : Bool) → (has_instruments ph.drinking || is_at here (edge_one m x).fork) ≡ b
+            → Has (if has_instruments ph.drinking || is_at here (edge_one m x).fork then needed else 0) k
+            ↔ (NeedsIn plan j ph (instrument_of plan e k) × (IsDrinking ph ⊎ ((edge_one m x).fork ≡ here)))
+        at true is =
+            let same : needed ≡ (if has_instruments ph.drinking || is_at here (edge_one m x).fork then needed else 0) = λ i. if sym is i then needed else 0 in
+            let n = just k l in (
+              λ h. (
+                n.0 (subst (λ z. Has z k) (sym same) h),
+                elim (either _ _ is) [ inl d ↦ inl (drinks ph d) | inr f ↦ inr (at_here here (edge_one m x).fork f) ],
+              ),
+              λ q. subst (λ z. Has z k) same (n.1 q.0),
+            )
+        at false is =
+            let same : 0 ≡ (if has_instruments ph.drinking || is_at here (edge_one m x).fork then needed else 0) = λ i. if sym is i then needed else 0 in
+            let f = neither _ _ is in (
+              λ h. absurd (has_none k (subst (λ z. Has z k) (sym same) h)),
+              λ q. elim q.1 [ inl d ↦ absurd (drinks_not ph f.0 d) | inr at_fork ↦ absurd (false≢true (sym f.1 ∙ here_at here (edge_one m x).fork at_fork)) ],
+            )
 
       -- a bottle that may be given
       abbrev GiveAt : ℕ → Type 0
-      GiveAt k = (bottle_end x.bottles k ≡ here) × (bottle_end x.bottle_tokens k ≡ here) × ¬ (NeedsIn plan j ph (instrument_of plan e k) × (IsDrinking ph ⊎ ((edge_one m x).fork ≡ here)))
+      GiveAt k = (bottle_end x.bottles k ≡ here) × (bottle_end x.bottle_tokens k ≡ here)
+          × ¬ (NeedsIn plan j ph (instrument_of plan e k) × (IsDrinking ph ⊎ ((edge_one m x).fork ≡ here)))
 
       bottles_one : ((edge_one m x).bottles ≡ x.bottles) × ((edge_one m x).bottle_tokens ≡ x.bottle_tokens)
       bottles_one = at m.give_fork where
@@ -115,11 +127,18 @@ module _ (plan : LabPlan) (s : State) (j e : ℕ) (he : e < length s.edges) (hj 
             },
           )
 
-      pub gifts_greatest : m.give_bottles ≡ gifts plan e here ph needed x m.give_fork → IsGreatest plan e m.give_bottles (MayGiveBottle plan (fork_gone plan s j e m) j e)
+      pub gifts_greatest : m.give_bottles ≡ gifts plan e here ph needed x m.give_fork
+          → IsGreatest plan e m.give_bottles (MayGiveBottle plan (fork_gone plan s j e m) j e)
       gifts_greatest is = subst (λ z. IsGreatest plan e z (MayGiveBottle plan (fork_gone plan s j e m) j e)) (sym is) (record {
-        of_edge = without_fits (length (bottles plan e)) _ _ (and_lt (length (bottles plan e)) _ _ (at_end_fits plan e here x own_bottles) (at_end_fits plan e here (record x { bottles = x.bottle_tokens }) own_tokens));
-        just = λ k l. let w = has_without (bit_and (bottles_at plan e here x) (tokens_at plan e here x)) (kept here ph needed x m.give_fork) k in let a = has_and (bottles_at plan e here x) (tokens_at plan e here x) k in
-            let p = at_end plan e here x k l in let t = at_end plan e here (record x { bottles = x.bottle_tokens }) k l in let q = is_kept k l in let g = give_at k in (
+        of_edge =
+            without_fits (length (bottles plan e)) _ _ (and_lt (length (bottles plan e)) _ _
+            (at_end_fits plan e here x own_bottles) (at_end_fits plan e here (record x { bottles = x.bottle_tokens }) own_tokens));
+        just = λ k l. let w = has_without (bit_and (bottles_at plan e here x) (tokens_at plan e here x)) (kept here ph needed x m.give_fork) k in
+            let a = has_and (bottles_at plan e here x) (tokens_at plan e here x) k in
+            let p = at_end plan e here x k l in
+            let t = at_end plan e here (record x { bottles = x.bottle_tokens }) k l in
+            let q = is_kept k l in
+            let g = give_at k in (
               λ h. let b = w.0 h in let c = a.0 b.0 in g.1 (p.0 c.0, t.0 c.1, λ z. b.1 (q.1 z)),
               λ h. let b = g.0 h in w.1 (a.1 (p.1 b.0, t.1 b.1), λ z. b.2 (q.0 z)),
             );
@@ -127,7 +146,8 @@ module _ (plan : LabPlan) (s : State) (j e : ℕ) (he : e < length s.edges) (hj 
 
       bottles_three : ((edge_three m x).bottles ≡ bit_xor x.bottles m.give_bottles) × ((edge_three m x).bottle_tokens ≡ x.bottle_tokens)
       bottles_three = at m.ask_fork where
-        at : (b : Bool) → ((when b fork_asked (edge_two m x)).bottles ≡ bit_xor x.bottles m.give_bottles) × ((when b fork_asked (edge_two m x)).bottle_tokens ≡ x.bottle_tokens)
+        at : (b : Bool) → ((when b fork_asked (edge_two m x)).bottles ≡ bit_xor x.bottles m.give_bottles)
+            × ((when b fork_asked (edge_two m x)).bottle_tokens ≡ x.bottle_tokens)
         at true = (ap (λ z. bit_xor z m.give_bottles) bottles_one.0, bottles_one.1)
         at false = (ap (λ z. bit_xor z m.give_bottles) bottles_one.0, bottles_one.1)
 
@@ -146,24 +166,32 @@ module _ (plan : LabPlan) (s : State) (j e : ℕ) (he : e < length s.edges) (hj 
             },
           )
 
-      pub wishes_greatest : m.ask_bottles ≡ wishes plan e here ph needed x m.give_bottles → IsGreatest plan e m.ask_bottles (λ k. (drinking s j ≡ Thirsty) × MayAskBottle plan (fork_asked_for plan s j e m) j e k)
-      wishes_greatest is = subst (λ z. IsGreatest plan e z (λ k. (drinking s j ≡ Thirsty) × MayAskBottle plan (fork_asked_for plan s j e m) j e k)) (sym is) (at (is_thirsty ph.drinking) refl) where
-        wanted : ℕ
-        wanted = without (bit_and needed (tokens_at plan e here x)) (bottles_at plan e here (record x { bottles = bit_xor x.bottles m.give_bottles }))
+      pub wishes_greatest : m.ask_bottles ≡ wishes plan e here ph needed x m.give_bottles
+          → IsGreatest plan e m.ask_bottles (λ k. (drinking s j ≡ Thirsty) × MayAskBottle plan (fork_asked_for plan s j e m) j e k)
+      wishes_greatest is = subst (λ z. IsGreatest plan e z (λ k. (drinking s j ≡ Thirsty) × MayAskBottle plan (fork_asked_for plan s j e m) j e k))
+          (sym is) (at (is_thirsty ph.drinking) refl) where
+            wanted : ℕ
+            wanted = without (bit_and needed (tokens_at plan e here x)) (bottles_at plan e here (record x { bottles = bit_xor x.bottles m.give_bottles }))
 
-        P : ℕ → Type 0
-        P = λ k. (drinking s j ≡ Thirsty) × MayAskBottle plan (fork_asked_for plan s j e m) j e k
+            P : ℕ → Type 0
+            P = λ k. (drinking s j ≡ Thirsty) × MayAskBottle plan (fork_asked_for plan s j e m) j e k
 
-        at : (b : Bool) → is_thirsty ph.drinking ≡ b → IsGreatest plan e (if is_thirsty ph.drinking then wanted else 0) P
-        at true thirsty = subst (λ b. IsGreatest plan e (if b then wanted else 0) P) (sym thirsty) (record {
-          of_edge = without_fits (length (bottles plan e)) _ _ (and_lt (length (bottles plan e)) _ _ fits (at_end_fits plan e here (record x { bottles = x.bottle_tokens }) own_tokens));
-          just = λ k l. let w = has_without (bit_and needed (tokens_at plan e here x)) (bottles_at plan e here (record x { bottles = bit_xor x.bottles m.give_bottles })) k in let a = has_and needed (tokens_at plan e here x) k in
-              let p = at_end plan e here (record x { bottles = bit_xor x.bottles m.give_bottles }) k l in let t = at_end plan e here (record x { bottles = x.bottle_tokens }) k l in let q = just k l in let g = ask_at k in (
-                λ h. let b = w.0 h in let c = a.0 b.0 in (thirsts ph.drinking thirsty, g.1 (q.0 c.0, (λ z. b.1 (p.1 z)), t.0 c.1)),
-                λ h. let b = g.0 h.1 in w.1 (a.1 (q.1 b.0, t.1 b.2), λ z. b.1 (p.0 z)),
-              );
-        })
-        at false other = subst (λ b. IsGreatest plan e (if b then wanted else 0) P) (sym other) (record {
-          of_edge = pow_pos (length (bottles plan e));
-          just = λ k l. (λ h. absurd (has_none k h), λ h. absurd (false≢true (sym other ∙ ap is_thirsty h.0)));
-        })
+            at : (b : Bool) → is_thirsty ph.drinking ≡ b → IsGreatest plan e (if is_thirsty ph.drinking then wanted else 0) P
+            at true thirsty = subst (λ b. IsGreatest plan e (if b then wanted else 0) P) (sym thirsty) (record {
+              of_edge = without_fits (length (bottles plan e)) _ _
+                  (and_lt (length (bottles plan e)) _ _ fits (at_end_fits plan e here (record x { bottles = x.bottle_tokens }) own_tokens));
+              just = λ k l. let w = has_without (bit_and needed (tokens_at plan e here x))
+                  (bottles_at plan e here (record x { bottles = bit_xor x.bottles m.give_bottles })) k in
+                  let a = has_and needed (tokens_at plan e here x) k in
+                  let p = at_end plan e here (record x { bottles = bit_xor x.bottles m.give_bottles }) k l in
+                  let t = at_end plan e here (record x { bottles = x.bottle_tokens }) k l in
+                  let q = just k l in
+                  let g = ask_at k in (
+                    λ h. let b = w.0 h in let c = a.0 b.0 in (thirsts ph.drinking thirsty, g.1 (q.0 c.0, (λ z. b.1 (p.1 z)), t.0 c.1)),
+                    λ h. let b = g.0 h.1 in w.1 (a.1 (q.1 b.0, t.1 b.2), λ z. b.1 (p.0 z)),
+                  );
+            })
+            at false other = subst (λ b. IsGreatest plan e (if b then wanted else 0) P) (sym other) (record {
+              of_edge = pow_pos (length (bottles plan e));
+              just = λ k l. (λ h. absurd (has_none k h), λ h. absurd (false≢true (sym other ∙ ap is_thirsty h.0)));
+            })

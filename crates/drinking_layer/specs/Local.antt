@@ -37,12 +37,16 @@ abbrev pub gifts : LabPlan → ℕ → End → JobState → ℕ → EdgeState �
 gifts plan e here phase needed x given = without (bit_and (bottles_at plan e here x) (tokens_at plan e here x)) (kept here phase needed x given)
 
 abbrev pub wishes : LabPlan → ℕ → End → JobState → ℕ → EdgeState → ℕ → ℕ
-wishes plan e here phase needed x sent = if is_thirsty phase.drinking then without (bit_and needed (tokens_at plan e here x)) (bottles_at plan e here (record x { bottles = bit_xor x.bottles sent })) else 0
+wishes plan e here phase needed x sent = if is_thirsty phase.drinking
+    then without (bit_and needed (tokens_at plan e here x)) (bottles_at plan e here (record x { bottles = bit_xor x.bottles sent })) else 0
 
 -- the moves with the bottles that are given and asked for
 abbrev pub with_sets : LabPlan → ℕ → End → JobState → ℕ → EdgeState → EdgeMoves → EdgeMoves
 with_sets plan e here phase needed x m =
-    record m { give_bottles = gifts plan e here phase needed x m.give_fork; ask_bottles = wishes plan e here phase needed x (gifts plan e here phase needed x m.give_fork) }
+    record m {
+      give_bottles = gifts plan e here phase needed x m.give_fork;
+      ask_bottles = wishes plan e here phase needed x (gifts plan e here phase needed x m.give_fork);
+    }
 
 -- a job in this phase needs the instrument
 pub record NeedsIn (plan : LabPlan) (j : ℕ) (phase : JobState) (i : ℕ) : Type 0 where

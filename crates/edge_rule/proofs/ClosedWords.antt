@@ -36,14 +36,17 @@ module _ {A : Type 0} (c : Inside A) (y : ClosedView) (is : view_of c ≡ y) (ok
   pub edge_word_there : (e n : ℕ) → n ≡ e → e < length (edges y.plan) → 8 * n < slots_len c.left.words
   edge_word_there e n at inside = let l = edge_inside e inside in let wide = ok.words.wide in let long = c.left.words.ok.0 in omega arith
 
-  pub edge_spelled : (e n w : ℕ) → n ≡ e → e < length (edges y.plan) → get_elem? (slots_items c.left.words) (8 * n) ≡ some w → (x : EdgeState) × (w ≡ word_of x) × IsOfBottles (length (bottles c.plan.now e)) x
+  pub edge_spelled : (e n w : ℕ) → n ≡ e → e < length (edges y.plan) → get_elem? (slots_items c.left.words) (8 * n) ≡ some w
+      → (x : EdgeState) × (w ≡ word_of x) × IsOfBottles (length (bottles c.plan.now e)) x
   edge_spelled e n w at inside read = let spelled = ok.words.edges_fit e (edge_inside e inside) in
       (spelled.0, sym (gets (slots_items c.left.words) (8 * n) w 0 read) ∙ (ap (λ k. get_or (slots_items c.left.words) (8 * k) 0) at ∙ spelled.1), spelled.2)
 
-  pub edge_read : (e n w : ℕ) (x : EdgeState) → n ≡ e → e < length (edges y.plan) → get_elem? (slots_items c.left.words) (8 * n) ≡ some w → word_of x ≡ w → IsOfBottles (length (bottles c.plan.now e)) x → x ≡ edge_in y e
+  pub edge_read : (e n w : ℕ) (x : EdgeState) → n ≡ e → e < length (edges y.plan) → get_elem? (slots_items c.left.words) (8 * n) ≡ some w
+      → word_of x ≡ w → IsOfBottles (length (bottles c.plan.now e)) x → x ≡ edge_in y e
   edge_read e n w x at inside read spells fits =
       let few = IsOfBottles-28 (length (bottles c.plan.now e)) x (ok.is_plan.few_bottles e (edge_inside e inside)) fits in
-      sym (state_of-word_of x few.bottles_fit) ∙ ap state_of (spells ∙ (sym (gets (slots_items c.left.words) (8 * n) w 0 read) ∙ (ap (λ k. get_or (slots_items c.left.words) (8 * k) 0) at ∙ ap (λ (z : ClosedView). get_or z.words (edge_place e) 0) is)))
+      sym (state_of-word_of x few.bottles_fit) ∙ ap state_of (spells ∙ (sym (gets (slots_items c.left.words) (8 * n) w 0 read)
+      ∙ (ap (λ k. get_or (slots_items c.left.words) (8 * k) 0) at ∙ ap (λ (z : ClosedView). get_or z.words (edge_place e) 0) is)))
 
   pub edge_fits_there : (e : ℕ) (x : EdgeState) → IsOfBottles (length (bottles c.plan.now e)) x → IsOfBottles (length (bottles y.plan e)) x
   edge_fits_there e x fits = subst (λ (z : LabPlan). IsOfBottles (length (bottles z e)) x) plan_is fits
@@ -51,27 +54,37 @@ module _ {A : Type 0} (c : Inside A) (y : ClosedView) (is : view_of c ≡ y) (ok
   pub phase_word_there : (j n : ℕ) → n ≡ phase_place c.plan.now j → j < length y.plan.jobs → n < slots_len c.left.words
   phase_word_there j n at inside = let l = job_inside j inside in let wide = ok.words.wide in let long = c.left.words.ok.0 in omega arith
 
-  pub phase_spelled : (j n w : ℕ) → n ≡ phase_place c.plan.now j → j < length y.plan.jobs → get_elem? (slots_items c.left.words) n ≡ some w → (x : JobState) × (w ≡ phase_word_of x) × FitsPhaseWord x
+  pub phase_spelled : (j n w : ℕ) → n ≡ phase_place c.plan.now j → j < length y.plan.jobs
+      → get_elem? (slots_items c.left.words) n ≡ some w → (x : JobState) × (w ≡ phase_word_of x) × FitsPhaseWord x
   phase_spelled j n w at inside read = let spelled = ok.words.phases_fit j (job_inside j inside) in
       (spelled.0, sym (gets (slots_items c.left.words) n w 0 read) ∙ (ap (λ k. get_or (slots_items c.left.words) k 0) at ∙ spelled.1), spelled.2)
 
-  pub phase_read : (j n w : ℕ) (x : JobState) → n ≡ phase_place c.plan.now j → get_elem? (slots_items c.left.words) n ≡ some w → phase_word_of x ≡ w → FitsPhaseWord x → x ≡ phase_in y j
+  pub phase_read : (j n w : ℕ) (x : JobState) → n ≡ phase_place c.plan.now j
+      → get_elem? (slots_items c.left.words) n ≡ some w → phase_word_of x ≡ w → FitsPhaseWord x → x ≡ phase_in y j
   phase_read j n w x at read spells fits =
-      sym (phase_of-phase_word_of x fits) ∙ ap phase_of (spells ∙ (sym (gets (slots_items c.left.words) n w 0 read) ∙ (ap (λ k. get_or (slots_items c.left.words) k 0) at ∙ ap (λ (z : ClosedView). get_or z.words (phase_place z.plan j) 0) is)))
+      sym (phase_of-phase_word_of x fits) ∙ ap phase_of (spells ∙ (sym (gets (slots_items c.left.words) n w 0 read)
+      ∙ (ap (λ k. get_or (slots_items c.left.words) k 0) at ∙ ap (λ (z : ClosedView). get_or z.words (phase_place z.plan j) 0) is)))
 
   -- ---- the logs and the counts
 
   pub log_there : (i n : ℕ) → n ≡ i → i < length y.plan.instruments → (n < slots_len c.left.slots) × IsTrue (get_or (slots_filled c.left.slots) n false)
-  log_there i n at inside = let l : i < length c.plan.now.instruments = subst (λ (z : LabPlan). i < length z.instruments) (sym plan_is) inside in let deep = ok.logs_there in let long = c.left.slots.ok.0 in
+  log_there i n at inside =
+      let l : i < length c.plan.now.instruments = subst (λ (z : LabPlan). i < length z.instruments) (sym plan_is) inside in
+      let deep = ok.logs_there in
+      let long = c.left.slots.ok.0 in
       let there : n < slots_len c.left.slots = omega arith in (there, ok.full.1 n (omega arith) there)
 
   pub log_read : (i n : ℕ) (x : LogView) → n ≡ i → i < length y.plan.instruments → x ≡ get_or (slots_items c.left.slots) n x → x ≡ log_in y i
-  log_read i n x at inside read = let l : i < length c.plan.now.instruments = subst (λ (z : LabPlan). i < length z.instruments) (sym plan_is) inside in let deep = ok.logs_there in
-      got (slots_items c.left.slots) n x (empty_log 0) (omega arith) read ∙ (ap (λ k. get_or (slots_items c.left.slots) k (empty_log 0)) at ∙ ap (λ (z : ClosedView). get_or z.logs i (empty_log 0)) is)
+  log_read i n x at inside read =
+      let l : i < length c.plan.now.instruments = subst (λ (z : LabPlan). i < length z.instruments) (sym plan_is) inside in
+      let deep = ok.logs_there in
+      got (slots_items c.left.slots) n x (empty_log 0) (omega arith) read
+      ∙ (ap (λ k. get_or (slots_items c.left.slots) k (empty_log 0)) at ∙ ap (λ (z : ClosedView). get_or z.logs i (empty_log 0)) is)
 
   pub counts_inside : (j n : ℕ) → n ≡ j → j < length y.plan.jobs → n < length c.counts.items
   counts_inside j n at inside = let l = job_inside j inside in let all = ok.counts_there in omega arith
 
   pub counts_read : (j n : ℕ) (x : Counts) → n ≡ j → j < length y.plan.jobs → x ≡ get_or c.counts.items n x → x ≡ counts_in y j
   counts_read j n x at inside read =
-      got c.counts.items n x no_counts (counts_inside j n at inside) read ∙ (ap (λ k. get_or c.counts.items k no_counts) at ∙ ap (λ (z : ClosedView). get_or z.counts j no_counts) is)
+      got c.counts.items n x no_counts (counts_inside j n at inside) read
+      ∙ (ap (λ k. get_or c.counts.items k no_counts) at ∙ ap (λ (z : ClosedView). get_or z.counts j no_counts) is)

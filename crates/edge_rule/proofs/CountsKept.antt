@@ -58,7 +58,8 @@ module _ (j : ℕ) where
   no_withdraw (x ∷ g) e = (e.0.2, no_withdraw g e.1)
 
   pub counts_stay : (deeds g : List Event) → Each (IsUncounted j) g → counts_of j (deeds ++ g) ≡ counts_of j deeds
-  counts_stay deeds g e = same_counts _ _ (stays (is_sit j) deeds g (no_sit g e)) (stays (is_quit j) deeds g (no_quit g e)) (stays (is_withdraw j) deeds g (no_withdraw g e))
+  counts_stay deeds g e =
+      same_counts _ _ (stays (is_sit j) deeds g (no_sit g e)) (stays (is_quit j) deeds g (no_quit g e)) (stays (is_withdraw j) deeds g (no_withdraw g e))
 
   pub moves_uncounted : (plan : LabPlan) (e : ℕ) (m : EdgeMoves) → Each (IsUncounted j) (events_of m j e)
   moves_uncounted plan e m = each_move plan j e (IsUncounted j) m (refl, refl, refl) (refl, refl, refl) (refl, refl, refl) (refl, refl, refl) (refl, refl, refl)
@@ -69,17 +70,23 @@ none_more : (p : Event → Bool) (xs : List Event) (x : Event) → p x ≡ false
 none_more p xs x absent = stays p xs (x ∷ []) (absent, tt)
 
 one_more : (p : Event → Bool) (xs : List Event) (x : Event) → p x ≡ true → count_by p (xs ++ x ∷ []) ≡ count_by p xs + 1
-one_more p xs x there = let one : count_by p (x ∷ []) ≡ 1 = count_first p x [] ∙ ((λ i. cond (there i) 1 0 + count_by p []) ∙ omega arith) in omega (arith, count_joined p xs (x ∷ []))
+one_more p xs x there =
+    let one : count_by p (x ∷ []) ≡ 1 = count_first p x [] ∙ ((λ i. cond (there i) 1 0 + count_by p []) ∙ omega arith) in
+    omega (arith, count_joined p xs (x ∷ []))
 
 pub counts_grow : (what : PhaseEvent) (j : ℕ) (xs : List Event) → counts_of j (xs ++ event_of what j ∷ []) ≡ counted what (counts_of j xs)
 counts_grow phase_events.Thirst j xs = counts_stay j xs _ ((refl, refl, refl), tt)
 counts_grow phase_events.Hunger j xs = counts_stay j xs _ ((refl, refl, refl), tt)
-counts_grow phase_events.Sit j xs = same_counts _ _ (one_more (is_sit j) xs (Sit j) (eq-eqb j j refl)) (none_more (is_quit j) xs (Sit j) refl) (none_more (is_withdraw j) xs (Sit j) refl)
+counts_grow phase_events.Sit j xs =
+    same_counts _ _ (one_more (is_sit j) xs (Sit j) (eq-eqb j j refl)) (none_more (is_quit j) xs (Sit j) refl) (none_more (is_withdraw j) xs (Sit j) refl)
 counts_grow phase_events.Leave j xs = counts_stay j xs _ ((refl, refl, refl), tt)
 counts_grow phase_events.Drink j xs = counts_stay j xs _ ((refl, refl, refl), tt)
-counts_grow phase_events.Quit j xs = same_counts _ _ (none_more (is_sit j) xs (Quit j) refl) (one_more (is_quit j) xs (Quit j) (eq-eqb j j refl)) (none_more (is_withdraw j) xs (Quit j) refl)
+counts_grow phase_events.Quit j xs =
+    same_counts _ _ (none_more (is_sit j) xs (Quit j) refl) (one_more (is_quit j) xs (Quit j) (eq-eqb j j refl)) (none_more (is_withdraw j) xs (Quit j) refl)
 counts_grow phase_events.Retire j xs = counts_stay j xs _ ((refl, refl, refl), tt)
-counts_grow phase_events.Withdraw j xs = same_counts _ _ (none_more (is_sit j) xs (Withdraw j) refl) (none_more (is_quit j) xs (Withdraw j) refl) (one_more (is_withdraw j) xs (Withdraw j) (eq-eqb j j refl))
+counts_grow phase_events.Withdraw j xs =
+    same_counts _ _ (none_more (is_sit j) xs (Withdraw j) refl) (none_more (is_quit j) xs (Withdraw j) refl)
+    (one_more (is_withdraw j) xs (Withdraw j) (eq-eqb j j refl))
 
 -- ---- the record of a job, and the whole history
 
@@ -96,7 +103,8 @@ not_withdraw j (Withdraw k) h = h
 not_withdraw j _ h = refl
 
 module _ (p q : Event → Bool) (within : (x : Event) → q x ≡ false → p x ≡ false) where
-  step_by : (x : Event) (xs : List Event) (b : Bool) → q x ≡ b → count_by p (filter q xs) ≡ count_by p xs → count_by p (cond b (x ∷ filter q xs) (filter q xs)) ≡ count_by p (x ∷ xs)
+  step_by : (x : Event) (xs : List Event) (b : Bool) → q x ≡ b → count_by p (filter q xs) ≡ count_by p xs
+      → count_by p (cond b (x ∷ filter q xs) (filter q xs)) ≡ count_by p (x ∷ xs)
   step_by x xs true is h = count_first p x (filter q xs) ∙ (ap (λ n. cond (p x) 1 0 + n) h ∙ sym (count_first p x xs))
   step_by x xs false is h = h ∙ sym (count_first p x xs ∙ (ap (λ b. cond b 1 0 + count_by p xs) (within x is) ∙ zero-add (count_by p xs)))
 
@@ -105,7 +113,8 @@ module _ (p q : Event → Bool) (within : (x : Event) → q x ≡ false → p x 
   filtered (x ∷ xs) = step_by x xs (q x) refl (filtered xs)
 
 pub counts_whole : (j : ℕ) (h : List Event) → counts_of j (events_by j h) ≡ counts_of j h
-counts_whole j h = same_counts _ _ (filtered (is_sit j) (is_by j) (not_sit j) h) (filtered (is_quit j) (is_by j) (not_quit j) h) (filtered (is_withdraw j) (is_by j) (not_withdraw j) h)
+counts_whole j h = same_counts _ _ (filtered (is_sit j) (is_by j) (not_sit j) h)
+    (filtered (is_quit j) (is_by j) (not_quit j) h) (filtered (is_withdraw j) (is_by j) (not_withdraw j) h)
 
 pub few_in : (plan : LabPlan) (j : ℕ) (h : List Event) → IsPlan plan → IsHistory plan h → AreFew (counts_of j h)
 few_in plan j h is_plan legal =

@@ -76,7 +76,8 @@ learned_moves : (plan : LabPlan) (j e : ℕ) (s : State) (g : List Event) → Ea
 learned_moves plan j e s [] m = refl
 learned_moves plan j e s (x ∷ g) m = ap (λ t. learned_all plan t g) (m.0.learns s) ∙ learned_moves plan j e (after plan s x) g m.1
 
-edges_moved : (plan : LabPlan) (j e : ℕ) (s : State) (g : List Event) → e < length s.edges → Each (Moves plan j e) g → (after_all plan s g).edges ≡ set s.edges e (edge (after_all plan s g) e)
+edges_moved : (plan : LabPlan) (j e : ℕ) (s : State) (g : List Event) → e < length s.edges
+    → Each (Moves plan j e) g → (after_all plan s g).edges ≡ set s.edges e (edge (after_all plan s g) e)
 edges_moved plan j e s [] h m = sym (set-get_or s.edges e no_edge)
 edges_moved plan j e s (x ∷ g) h m =
     let n = m.0.as_many s in
@@ -87,12 +88,14 @@ abbrev pub seat_all : LabPlan → Seat → List Event → Seat
 seat_all plan x [] = x
 seat_all plan x (event ∷ events) = seat_all plan (seat_after plan x event) events
 
-seat_moved : (plan : LabPlan) (j e : ℕ) (s : State) (g : List Event) → j < length s.seats → Each (Moves plan j e) g → seat (after_all plan s g) j ≡ seat_all plan (seat s j) g
+seat_moved : (plan : LabPlan) (j e : ℕ) (s : State) (g : List Event) → j < length s.seats
+    → Each (Moves plan j e) g → seat (after_all plan s g) j ≡ seat_all plan (seat s j) g
 seat_moved plan j e s [] h m = refl
 seat_moved plan j e s (x ∷ g) h m =
     let n = as_many_seats plan s x in
     seat_moved plan j e (after plan s x) g (omega arith) m.1
-    ∙ ap (λ (y : Seat). seat_all plan y g) (subst (λ i. i < length s.seats → seat (after plan s x) i ≡ seat_after plan (seat s i) x) m.0.by (own_seat plan s x) h)
+    ∙ ap (λ (y : Seat). seat_all plan y g)
+    (subst (λ i. i < length s.seats → seat (after plan s x) i ≡ seat_after plan (seat s i) x) m.0.by (own_seat plan s x) h)
 
 -- ---- the marks after moves
 
@@ -109,11 +112,14 @@ module _ (plan : LabPlan) (j e : ℕ) where
       ≡ seat_all plan (record x { bottle_marks = set x.bottle_marks e (bit_xor (get_or x.bottle_marks e 0) (bit_and (get_or x.bottle_marks e 0) given)) }) rest
   give_bottles x given rest = elim (cases_eq given 0) [
     | inl nought ↦ rw nought (ap (λ (l : List ℕ). seat_all plan (record x { bottle_marks = l }) rest)
-        (sym (set-get_or x.bottle_marks e 0) ∙ ap (set x.bottle_marks e) (sym (xor_zero_r (get_or x.bottle_marks e 0)) ∙ ap (bit_xor (get_or x.bottle_marks e 0)) (sym (and_zero_r (get_or x.bottle_marks e 0))))))
+        (sym (set-get_or x.bottle_marks e 0) ∙ ap (set x.bottle_marks e) (sym (xor_zero_r (get_or x.bottle_marks e 0))
+        ∙ ap (bit_xor (get_or x.bottle_marks e 0)) (sym (and_zero_r (get_or x.bottle_marks e 0))))))
     | inr some ↦ let f : (given == 0) ≡ false = grind (arith, nat_tests) in rw f refl
   ]
 
-  forks : (x : Seat) (soil given : Bool) (l : List Event) → seat_all plan x (on given (GiveFork j e) (on soil (Soil j e) [])) ≡ record x { fork_marks = set x.fork_marks e (if soil then true else if given then false else get_or x.fork_marks e false) }
+  forks : (x : Seat) (soil given : Bool) (l : List Event) → seat_all plan x (on given (GiveFork j e) (on soil (Soil j e) [])) ≡ record x {
+    fork_marks = set x.fork_marks e (if soil then true else if given then false else get_or x.fork_marks e false);
+  }
   forks x false false l = λ i. record x { fork_marks = sym (set-get_or x.fork_marks e false) i }
   forks x false true l = refl
   forks x true false l = refl
@@ -121,24 +127,42 @@ module _ (plan : LabPlan) (j e : ℕ) where
 
   -- the group on the seat
   pub marks_moved : (m : EdgeMoves) (x : Seat) → seat_all plan x (events_of m j e)
-      ≡ record { phase = x.phase; fork_marks = set x.fork_marks e (fork_mark_after m (get_or x.fork_marks e false)); bottle_marks = set x.bottle_marks e (bottle_marks_after m (get_or x.bottle_marks e 0)) }
+      ≡ record {
+        phase = x.phase;
+        fork_marks = set x.fork_marks e (fork_mark_after m (get_or x.fork_marks e false));
+        bottle_marks = set x.bottle_marks e (bottle_marks_after m (get_or x.bottle_marks e 0));
+      }
   marks_moved m x = given_first m.give_fork where
-    later : (y : Seat) → seat_all plan y (on (not (m.give_bottles == 0)) (GiveBottles j e m.give_bottles) (on m.ask_fork (AskFork j e) (on (not (m.ask_bottles == 0)) (AskBottles j e m.ask_bottles) (on m.soil (Soil j e) []))))
+    later : (y : Seat) → seat_all plan y (on (not (m.give_bottles == 0)) (GiveBottles j e m.give_bottles)
+        (on m.ask_fork (AskFork j e) (on (not (m.ask_bottles == 0)) (AskBottles j e m.ask_bottles) (on m.soil (Soil j e) []))))
         ≡ seat_all plan (record y { bottle_marks = set y.bottle_marks e (bottle_marks_after m (get_or y.bottle_marks e 0)) }) (on m.soil (Soil j e) [])
     later y = give_bottles y m.give_bottles _ ∙ (skip_ask _ m.ask_fork _ ∙ skip_tokens _ m.ask_bottles (not (m.ask_bottles == 0)) _)
 
-    given_first : (b : Bool) → seat_all plan x (on b (GiveFork j e) (on (not (m.give_bottles == 0)) (GiveBottles j e m.give_bottles) (on m.ask_fork (AskFork j e) (on (not (m.ask_bottles == 0)) (AskBottles j e m.ask_bottles) (on m.soil (Soil j e) [])))))
-        ≡ record { phase = x.phase; fork_marks = set x.fork_marks e (if m.soil then true else if b then false else get_or x.fork_marks e false); bottle_marks = set x.bottle_marks e (bottle_marks_after m (get_or x.bottle_marks e 0)) }
+    given_first : (b : Bool)
+        → seat_all plan x (on b (GiveFork j e) (on (not (m.give_bottles == 0)) (GiveBottles j e m.give_bottles)
+        (on m.ask_fork (AskFork j e) (on (not (m.ask_bottles == 0)) (AskBottles j e m.ask_bottles) (on m.soil (Soil j e) [])))))
+        ≡ record {
+          phase = x.phase;
+          fork_marks = set x.fork_marks e (if m.soil then true else if b then false else get_or x.fork_marks e false);
+          bottle_marks = set x.bottle_marks e (bottle_marks_after m (get_or x.bottle_marks e 0));
+        }
     given_first false = later x ∙ forks (record x { bottle_marks = set x.bottle_marks e (bottle_marks_after m (get_or x.bottle_marks e 0)) }) m.soil false []
-    given_first true = later (record x { fork_marks = set x.fork_marks e false }) ∙ forks (record x { bottle_marks = set x.bottle_marks e (bottle_marks_after m (get_or x.bottle_marks e 0)) }) m.soil true []
+    given_first true = later (record x { fork_marks = set x.fork_marks e false })
+        ∙ forks (record x { bottle_marks = set x.bottle_marks e (bottle_marks_after m (get_or x.bottle_marks e 0)) }) m.soil true []
 
 -- what a job knows after moves
 pub moved_seat : (plan : LabPlan) (j e : ℕ) (m : EdgeMoves) (s : State) → j < length s.seats
     → seat (learned_all plan s (events_of m j e)) j
-    ≡ record { phase = (seat s j).phase; fork_marks = set (seat s j).fork_marks e (fork_mark_after m (get_or (seat s j).fork_marks e false)); bottle_marks = set (seat s j).bottle_marks e (bottle_marks_after m (get_or (seat s j).bottle_marks e 0)) }
-moved_seat plan j e m s h = ap (λ t. seat t j) (learned_moves plan j e s (events_of m j e) (each_moves plan j e m)) ∙ (seat_moved plan j e s (events_of m j e) h (each_moves plan j e m) ∙ marks_moved plan j e m (seat s j))
+    ≡ record {
+      phase = (seat s j).phase;
+      fork_marks = set (seat s j).fork_marks e (fork_mark_after m (get_or (seat s j).fork_marks e false));
+      bottle_marks = set (seat s j).bottle_marks e (bottle_marks_after m (get_or (seat s j).bottle_marks e 0));
+    }
+moved_seat plan j e m s h = ap (λ t. seat t j) (learned_moves plan j e s (events_of m j e) (each_moves plan j e m))
+    ∙ (seat_moved plan j e s (events_of m j e) h (each_moves plan j e m) ∙ marks_moved plan j e m (seat s j))
 
-pub moved_edges : (plan : LabPlan) (j e : ℕ) (m : EdgeMoves) (s : State) → e < length s.edges → (learned_all plan s (events_of m j e)).edges ≡ set s.edges e (after_moves m (edge s e))
+pub moved_edges : (plan : LabPlan) (j e : ℕ) (m : EdgeMoves) (s : State) → e < length s.edges
+    → (learned_all plan s (events_of m j e)).edges ≡ set s.edges e (after_moves m (edge s e))
 moved_edges plan j e m s h =
     ap (λ (t : State). t.edges) (learned_moves plan j e s (events_of m j e) (each_moves plan j e m))
     ∙ (edges_moved plan j e s (events_of m j e) h (each_moves plan j e m) ∙ ap (set s.edges e) (moves_lead m (edge s e) plan s j e h refl))
@@ -149,7 +173,8 @@ moved_edges plan j e m s h =
 abbrev pub MayMove : EdgeMoves → ℕ → DeskView → Type 0
 MayMove m e y = IsLegalFrom y.plan (known y) (events_of m y.job e)
 
-module _ {A : Type 0} (b : bench_fields.Inside A) (d : Inside A) (is_bench : IsBench b) (ok : IsDesk d) (owns : Owns (bench_of b) (view_of d)) (e : ℕ) (m : EdgeMoves)
+module _ {A : Type 0} (b : bench_fields.Inside A) (d : Inside A) (is_bench : IsBench b)
+    (ok : IsDesk d) (owns : Owns (bench_of b) (view_of d)) (e : ℕ) (m : EdgeMoves)
     (own : IsOwn (hand_in d.seat.me.0).plan (hand_in d.seat.me.0).job e) (may : MayMove m e (view_of d)) where
   abbrev mv : View
   mv = d.seat.me.0
@@ -161,7 +186,8 @@ module _ {A : Type 0} (b : bench_fields.Inside A) (d : Inside A) (is_bench : IsB
   mj = (hand_in mv).job
 
   few : length (bottles mp e) ≤ 28
-  few = subst (λ (z : LabPlan). length (bottles z e) ≤ 28) (sym owns.1) (is_bench.is_plan.few_bottles e (subst (λ (z : LabPlan). e < length (edges z)) owns.1 own.is_edge))
+  few = subst (λ (z : LabPlan). length (bottles z e) ≤ 28) (sym owns.1)
+      (is_bench.is_plan.few_bottles e (subst (λ (z : LabPlan). e < length (edges z)) owns.1 own.is_edge))
 
   sets : AreOfBottles (length (bottles mp e)) m
   sets = legal_moves_are_of_the_edge mp (mine mv) mj e m may
@@ -179,15 +205,21 @@ module _ {A : Type 0} (b : bench_fields.Inside A) (d : Inside A) (is_bench : IsB
 
   abbrev pub Expects : ℕ → ℕ → ℕ → Type 0
   Expects n old new = (d.seat.table_id ≡ b.table.shared.table_id) × (n < b.table.shared.table_id.words)
-      × Allows (Kept b.table.shared.key) b.table.shared.table_id.slots d.seat.id d.seat.me n (λ k. either (eqb k old) new k) (tried (step b.table.shared.table_id.slots n old new none) d.seat.me)
+      × Allows (Kept b.table.shared.key) b.table.shared.table_id.slots d.seat.id d.seat.me n
+      (λ k. either (eqb k old) new k) (tried (step b.table.shared.table_id.slots n old new none) d.seat.me)
 
-  pub try_requires : (n old new : ℕ) (x y : EdgeState) → n ≡ edge_place e → x ≡ edge (mine mv) e → y ≡ after_moves m x → old ≡ word_of x → new ≡ word_of y → Expects n old new
+  pub try_requires : (n old new : ℕ) (x y : EdgeState) → n ≡ edge_place e → x ≡ edge (mine mv) e
+      → y ≡ after_moves m x → old ≡ word_of x → new ≡ word_of y → Expects n old new
   try_requires n old new x y at is_x is_y is_old is_new = subst (λ z. Expects z old new) (sym at)
-      (let inside = own.is_edge in framed b d is_bench ok owns (edge_place e) (λ k. either (eqb k old) new k) (tried (step b.table.shared.table_id.slots (edge_place e) old new none) d.seat.me) (omega arith)
-      (tries mp b.table.shared.table_id.slots d.seat.id mv d.seat.me.1 (led mv ok.at_rest.mine) ok.at_rest.inside e m old new own may seen_fits (is_old ∙ ap word_of is_x) (is_new ∙ ap word_of (is_y ∙ ap (after_moves m) is_x))))
+      (let inside = own.is_edge in
+      framed b d is_bench ok owns (edge_place e) (λ k. either (eqb k old) new k)
+      (tried (step b.table.shared.table_id.slots (edge_place e) old new none) d.seat.me) (omega arith)
+      (tries mp b.table.shared.table_id.slots d.seat.id mv d.seat.me.1 (led mv ok.at_rest.mine) ok.at_rest.inside e m old new own may seen_fits
+      (is_old ∙ ap word_of is_x) (is_new ∙ ap word_of (is_y ∙ ap (after_moves m) is_x))))
 
   -- another word was found
-  pub missed : (s' : TableSeat LogView View) (y : DeskView) (n k old new : ℕ) (x seen : EdgeState) → view_of d ≡ y → n ≡ edge_place e → tried (step b.table.shared.table_id.slots n old new none) d.seat.me k s'.me → s'.table_id ≡ d.seat.table_id
+  pub missed : (s' : TableSeat LogView View) (y : DeskView) (n k old new : ℕ) (x seen : EdgeState) → view_of d ≡ y
+      → n ≡ edge_place e → tried (step b.table.shared.table_id.slots n old new none) d.seat.me k s'.me → s'.table_id ≡ d.seat.table_id
       → k ≢ old → word_of x ≡ k → IsOfBottles (length (bottles b.plan.now e)) x → seen ≡ edge (mine mv) e → old ≡ word_of seen
       → Adds y [] (seat_view d.clock s') × (x ≡ edge (shown (seat_view d.clock s')) e) × (x ≢ edge (known y) e)
   missed s' y n k old new x seen view at t table miss word fits is_seen is_old =
@@ -195,14 +227,18 @@ module _ {A : Type 0} (b : bench_fields.Inside A) (d : Inside A) (is_bench : IsB
       let here : n / 8 ≡ e = omega arith in
       let there : EdgeState = edge (seen_state mv s'.me.0) e in
       let is : k ≡ word_of there = subst (λ z. k ≡ word_of (edge (seen_state mv s'.me.0) z)) here found.1 in
-      let fits_there : IsOfBottles (length (bottles mp e)) there = subst (λ z. IsOfBottles (length (bottles mp z)) (edge (seen_state mv s'.me.0) z)) here found.2 in
-      let same : x ≡ there = no_two_edges x there (IsOfBottles-28 _ x few (subst (λ (z : LabPlan). IsOfBottles (length (bottles z e)) x) (plan_known b d is_bench ok owns) fits)) (IsOfBottles-28 _ there few fits_there) (word ∙ is) in (
+      let fits_there : IsOfBottles (length (bottles mp e)) there =
+      subst (λ z. IsOfBottles (length (bottles mp z)) (edge (seen_state mv s'.me.0) z)) here found.2 in
+      let same : x ≡ there =
+      no_two_edges x there (IsOfBottles-28 _ x few (subst (λ (z : LabPlan). IsOfBottles (length (bottles z e)) x) (plan_known b d is_bench ok owns) fits))
+      (IsOfBottles-28 _ there few fits_there) (word ∙ is) in (
         seat_adds d.seat s' y (λ _. []) view found.0 table,
         same ∙ (λ i. edge (state_after (sym (hand_grown mv s'.me.0 [] found.0.hands) i).plan s'.me.0.front) e),
         λ q. miss (sym word ∙ (ap word_of (q ∙ ((λ i. edge (known (sym view i)) e) ∙ sym is_seen)) ∙ sym is_old)),
       )
 
-  pub told_moves : (s' : TableSeat LogView View) (n k old new : ℕ) (x y : EdgeState) → n ≡ edge_place e → tried (step b.table.shared.table_id.slots n old new none) d.seat.me k s'.me → k ≡ old
+  pub told_moves : (s' : TableSeat LogView View) (n k old new : ℕ) (x y : EdgeState) → n ≡ edge_place e
+      → tried (step b.table.shared.table_id.slots n old new none) d.seat.me k s'.me → k ≡ old
       → x ≡ edge (mine mv) e → y ≡ after_moves m x → old ≡ word_of x → new ≡ word_of y → Grows mv (events_of m mj e) s'.me.0
   told_moves s' n k old new x y at t hit is_x is_y is_old is_new =
       let here : n / 8 ≡ e = omega arith in
@@ -213,30 +249,46 @@ module _ {A : Type 0} (b : bench_fields.Inside A) (d : Inside A) (is_bench : IsB
       subst (λ (z : EdgeMoves × ℕ). Grows mv (events_of z.0 mj z.1) s'.me.0) (λ i. (back i, here i)) (t.0 hit)
 
   -- the desk after moves
-  pub moves_kept : (d' : Inside A) (n : ℕ) (x y : EdgeState) (fork : Bool) (marks : ℕ) (old_fork : Bool) (old_marks : ℕ) → n ≡ e → Grows mv (events_of m mj e) d'.seat.me.0 → d'.seat.me.1 ≡ d.seat.me.1 → fixed d' ≡ fixed d → d'.phase ≡ d.phase
-      → x ≡ edge (mine mv) e → y ≡ after_moves m x → old_fork ≡ get_or d.fork_marks.items n old_fork → old_marks ≡ get_or d.bottle_marks.items n old_marks → fork ≡ fork_mark_after m old_fork → marks ≡ bottle_marks_after m old_marks
-      → d'.fork_marks.items ≡ set d.fork_marks.items n fork → d'.bottle_marks.items ≡ set d.bottle_marks.items n marks → d'.seen.items ≡ set d.seen.items n y → d'.calm.items ≡ set d.calm.items n false → d'.settled ≡ false → IsDesk d'
-  moves_kept d' n x y fork marks old_fork old_marks at t empty job phase is_x is_y is_old_fork is_old_marks is_fork is_marks forks_are marks_are seen calm unsettled =
+  pub moves_kept : (d' : Inside A) (n : ℕ) (x y : EdgeState) (fork : Bool) (marks : ℕ) (old_fork : Bool) (old_marks : ℕ)
+      → n ≡ e → Grows mv (events_of m mj e) d'.seat.me.0 → d'.seat.me.1 ≡ d.seat.me.1 → fixed d' ≡ fixed d → d'.phase ≡ d.phase
+      → x ≡ edge (mine mv) e → y ≡ after_moves m x → old_fork ≡ get_or d.fork_marks.items n old_fork
+      → old_marks ≡ get_or d.bottle_marks.items n old_marks → fork ≡ fork_mark_after m old_fork → marks ≡ bottle_marks_after m old_marks
+      → d'.fork_marks.items ≡ set d.fork_marks.items n fork → d'.bottle_marks.items ≡ set d.bottle_marks.items n marks
+      → d'.seen.items ≡ set d.seen.items n y → d'.calm.items ≡ set d.calm.items n false → d'.settled ≡ false → IsDesk d'
+  moves_kept d' n x y fork marks old_fork old_marks at t empty job phase is_x is_y
+      is_old_fork is_old_marks is_fork is_marks forks_are marks_are seen calm unsettled =
       let jobs = mine_seats mv in
       let here = ok.at_rest.inside in
       let wide : length (mine mv).edges ≡ length (edges mp) = mine_edges mv in
       let inside = own.is_edge in
       let f = (desk_seat d ok).fork_marks_there in
       let g = (desk_seat d ok).bottle_marks_there in
-      let fork_was : old_fork ≡ get_or d.fork_marks.items e false = got d.fork_marks.items e old_fork false (omega arith) (is_old_fork ∙ ap (λ k. get_or d.fork_marks.items k old_fork) at) in
-      let marks_were : old_marks ≡ get_or d.bottle_marks.items e 0 = got d.bottle_marks.items e old_marks 0 (omega arith) (is_old_marks ∙ ap (λ k. get_or d.bottle_marks.items k old_marks) at) in
+      let fork_was : old_fork ≡ get_or d.fork_marks.items e false =
+      got d.fork_marks.items e old_fork false (omega arith) (is_old_fork ∙ ap (λ k. get_or d.fork_marks.items k old_fork) at) in
+      let marks_were : old_marks ≡ get_or d.bottle_marks.items e 0 =
+      got d.bottle_marks.items e old_marks 0 (omega arith) (is_old_marks ∙ ap (λ k. get_or d.bottle_marks.items k old_marks) at) in
       let y_is : y ≡ after_moves m (edge (mine mv) e) = is_y ∙ ap (after_moves m) is_x in
-      let fits : IsOfBottles (length (bottles mp e)) y = subst (IsOfBottles (length (bottles mp e))) (sym y_is) (stays_of_its_bottles (length (bottles mp e)) m (edge (mine mv) e) sets seen_fits) in
-      let becomes : Seat → Seat = λ z. record { phase = z.phase; fork_marks = set z.fork_marks e (fork_mark_after m (get_or z.fork_marks e false)); bottle_marks = set z.bottle_marks e (bottle_marks_after m (get_or z.bottle_marks e 0)) } in
-      let forks_now : d'.fork_marks.items ≡ set d.fork_marks.items e (fork_mark_after m (get_or d.fork_marks.items e false)) = forks_are ∙ (λ i. set d.fork_marks.items (at i) ((is_fork ∙ ap (fork_mark_after m) fork_was) i)) in
-      let marks_now : d'.bottle_marks.items ≡ set d.bottle_marks.items e (bottle_marks_after m (get_or d.bottle_marks.items e 0)) = marks_are ∙ (λ i. set d.bottle_marks.items (at i) ((is_marks ∙ ap (bottle_marks_after m) marks_were) i)) in
+      let fits : IsOfBottles (length (bottles mp e)) y =
+      subst (IsOfBottles (length (bottles mp e))) (sym y_is) (stays_of_its_bottles (length (bottles mp e)) m (edge (mine mv) e) sets seen_fits) in
+      let becomes : Seat → Seat = λ z. record {
+        phase = z.phase;
+        fork_marks = set z.fork_marks e (fork_mark_after m (get_or z.fork_marks e false));
+        bottle_marks = set z.bottle_marks e (bottle_marks_after m (get_or z.bottle_marks e 0));
+      } in
+      let forks_now : d'.fork_marks.items ≡ set d.fork_marks.items e (fork_mark_after m (get_or d.fork_marks.items e false)) =
+      forks_are ∙ (λ i. set d.fork_marks.items (at i) ((is_fork ∙ ap (fork_mark_after m) fork_was) i)) in
+      let marks_now : d'.bottle_marks.items ≡ set d.bottle_marks.items e (bottle_marks_after m (get_or d.bottle_marks.items e 0)) =
+      marks_are ∙ (λ i. set d.bottle_marks.items (at i) ((is_marks ∙ ap (bottle_marks_after m) marks_were) i)) in
       let own_now : seat (learned_all mp (mine mv) (events_of m mj e)) mj ≡ kept d' =
-      moved_seat mp mj e m (mine mv) (omega arith) ∙ (ap becomes ok.own ∙ (λ i. record { phase = sym phase i; fork_marks = sym forks_now i; bottle_marks = sym marks_now i })) in
+      moved_seat mp mj e m (mine mv) (omega arith)
+      ∙ (ap becomes ok.own ∙ (λ i. record { phase = sym phase i; fork_marks = sym forks_now i; bottle_marks = sym marks_now i })) in
       let seen_now : d'.seen.items ≡ set d.seen.items e y = seen ∙ ap (λ k. set d.seen.items k y) at in
-      let edges_now : (learned_all mp (mine mv) (events_of m mj e)).edges ≡ d'.seen.items = moved_edges mp mj e m (mine mv) (omega arith) ∙ ((λ i. set (ok.seen i) e (sym y_is i)) ∙ sym seen_now) in
+      let edges_now : (learned_all mp (mine mv) (events_of m mj e)).edges ≡ d'.seen.items =
+      moved_edges mp mj e m (mine mv) (omega arith) ∙ ((λ i. set (ok.seen i) e (sym y_is i)) ∙ sym seen_now) in
       desk_keeps d ok d' (events_of m mj e) (moves_uncounted mj mp e m) t (empty ∙ ok.empty) job own_now edges_now
       (subst (AreOfPlan mp) (sym seen_now) (of_plan_set d ok e y own.is_edge fits))
-      (noted_but d ok (learned_all mp (mine mv) (events_of m mj e)) d' e own.is_edge own_now edges_now phase _ forks_now _ marks_now y seen_now (calm ∙ ap (λ k. set d.calm.items k false) at))
+      (noted_but d ok (learned_all mp (mine mv) (events_of m mj e)) d' e own.is_edge own_now edges_now phase _ forks_now _ marks_now y seen_now (calm
+      ∙ ap (λ k. set d.calm.items k false) at))
       (not_settled d ok d' unsettled)
       (subst (λ (z : JobState). z.drinking ≢ Reaching) (sym phase) ok.rests)
 
@@ -256,7 +308,11 @@ learned_phase phase_events.Retire plan j s = refl
 learned_phase phase_events.Withdraw plan j s = refl
 
 -- the seat after a phase was stored
-seat_stored : (what : PhaseEvent) (plan : LabPlan) (j : ℕ) (x : Seat) → seat_after plan x (event_of what j) ≡ record { phase = phase_after what x.phase; fork_marks = if clears what then replicate (length x.fork_marks) false else x.fork_marks; bottle_marks = x.bottle_marks }
+seat_stored : (what : PhaseEvent) (plan : LabPlan) (j : ℕ) (x : Seat) → seat_after plan x (event_of what j) ≡ record {
+  phase = phase_after what x.phase;
+  fork_marks = if clears what then replicate (length x.fork_marks) false else x.fork_marks;
+  bottle_marks = x.bottle_marks;
+}
 seat_stored phase_events.Thirst plan j x = refl
 seat_stored phase_events.Hunger plan j x = refl
 seat_stored phase_events.Sit plan j x = refl
@@ -297,11 +353,17 @@ module _ {A : Type 0} (b : bench_fields.Inside A) (d : Inside A) (is_bench : IsB
   sj = (hand_in sv).job
 
   pub desk_session : d.phase.session ≤ 1000
-  desk_session = let x = (desk_seat d ok).session_there in let few = is_bench.is_plan.draft.few_sessions sj in let same : length (sessions sp sj) ≡ length (sessions b.table.shared.key sj) = ap (λ (z : LabPlan). length (sessions z sj)) owns.1 in omega arith
+  desk_session =
+      let x = (desk_seat d ok).session_there in
+      let few = is_bench.is_plan.draft.few_sessions sj in
+      let same : length (sessions sp sj) ≡ length (sessions b.table.shared.key sj) = ap (λ (z : LabPlan). length (sessions z sj)) owns.1 in
+      omega arith
 
   pub desk_position : d.phase.position ≤ 100000
   desk_position = let x = (desk_seat d ok).position_there in let few = few_commands b.table.shared.key sj d.phase.session is_bench.is_plan in
-      let same : length (commands sp sj d.phase.session) ≡ length (commands b.table.shared.key sj d.phase.session) = ap (λ (z : LabPlan). length (commands z sj d.phase.session)) owns.1 in omega arith
+      let same : length (commands sp sj d.phase.session) ≡ length (commands b.table.shared.key sj d.phase.session) =
+      ap (λ (z : LabPlan). length (commands z sj d.phase.session)) owns.1 in
+      omega arith
 
   pub few_counts : AreFew d.counts
   few_counts = subst AreFew (sym (counts_whole sj sv.front) ∙ (ap (counts_of sj) ok.at_rest.whole ∙ ok.counts))
@@ -315,37 +377,49 @@ module _ {A : Type 0} (b : bench_fields.Inside A) (d : Inside A) (is_bench : IsB
 
   abbrev pub Stored : ℕ → ℕ → Type 0
   Stored i n = (d.seat.table_id ≡ b.table.shared.table_id) × (i < b.table.shared.table_id.words)
-      × Allows (Kept b.table.shared.key) b.table.shared.table_id.slots d.seat.id d.seat.me i (λ _. n) (λ _. stored (step b.table.shared.table_id.slots i n 0 none) d.seat.me n)
+      × Allows (Kept b.table.shared.key) b.table.shared.table_id.slots d.seat.id d.seat.me i
+      (λ _. n) (λ _. stored (step b.table.shared.table_id.slots i n 0 none) d.seat.me n)
 
-  pub store_requires : (what : PhaseEvent) (i n : ℕ) (y : JobState) → MayStore what (view_of d) → i ≡ phase_place b.plan.now d.job → y ≡ phase_after what d.phase → n ≡ phase_word_of y → Stored i n
+  pub store_requires : (what : PhaseEvent) (i n : ℕ) (y : JobState) → MayStore what (view_of d)
+      → i ≡ phase_place b.plan.now d.job → y ≡ phase_after what d.phase → n ≡ phase_word_of y → Stored i n
   store_requires what i n y may is_i is_y is_n =
       let here = ok.at_rest.inside in
       subst (λ z. Stored z n) (sym (place_known i is_i))
-      (framed b d is_bench ok owns (phase_place sp sj) (λ _. n) (λ _. stored (step b.table.shared.table_id.slots (phase_place sp sj) n 0 none) d.seat.me n) (omega arith)
-      (stores sp b.table.shared.table_id.slots d.seat.id sv d.seat.me.1 (led sv ok.at_rest.mine) ok.at_rest.inside what n may (subst (λ (z : JobState). z.drinking ≢ Reaching) (sym own_is) ok.rests)
+      (framed b d is_bench ok owns (phase_place sp sj) (λ _. n)
+      (λ _. stored (step b.table.shared.table_id.slots (phase_place sp sj) n 0 none) d.seat.me n) (omega arith)
+      (stores sp b.table.shared.table_id.slots d.seat.id sv d.seat.me.1 (led sv ok.at_rest.mine) ok.at_rest.inside what n may
+      (subst (λ (z : JobState). z.drinking ≢ Reaching) (sym own_is) ok.rests)
       (is_n ∙ (ap phase_word_of is_y ∙ ap (λ (z : JobState). phase_word_of (phase_after what z)) (sym own_is)))))
 
   -- which event it was
-  pub told_phase : (what : PhaseEvent) (w : View) (n : ℕ) (y : JobState) → MayStore what (view_of d) → y ≡ phase_after what d.phase → y.session ≤ 1001 → n ≡ phase_word_of y
+  pub told_phase : (what : PhaseEvent) (w : View) (n : ℕ) (y : JobState) → MayStore what (view_of d)
+      → y ≡ phase_after what d.phase → y.session ≤ 1001 → n ≡ phase_word_of y
       → Does sv (phase_event sj (own_phase sv) (phase_of n)) w → Does sv (event_of what sj) w
   told_phase what w n y may is_y few is_n t =
       let short : y.position ≤ d.phase.position = subst (λ (z : JobState). z.position ≤ d.phase.position) (sym is_y) (short_position what d.phase) in
       let p = desk_position in
       let fits : FitsPhaseWord y = record { session_fits = omega arith; position_fits = omega arith } in
-      let becomes : phase_of n ≡ phase_after what (own_phase sv) = ap phase_of is_n ∙ (phase_of-phase_word_of y fits ∙ (is_y ∙ ap (phase_after what) (sym own_is))) in
+      let becomes : phase_of n ≡ phase_after what (own_phase sv) =
+      ap phase_of is_n ∙ (phase_of-phase_word_of y fits ∙ (is_y ∙ ap (phase_after what) (sym own_is))) in
       subst (λ z. Does sv z w) (ap (phase_event sj (own_phase sv)) becomes ∙ told_back what sp sj (mine sv) may) t
 
   -- the desk after it
-  pub phase_kept : (what : PhaseEvent) (d' : Inside A) → Does sv (event_of what sj) d'.seat.me.0 → d'.seat.me.1 ≡ d.seat.me.1 → d'.job ≡ d.job → d'.counts ≡ counted what d.counts → d'.phase ≡ phase_after what d.phase
-      → d'.fork_marks.items ≡ (if clears what then replicate (length d.fork_marks.items) false else d.fork_marks.items) → d'.bottle_marks.items ≡ d.bottle_marks.items → d'.seen.items ≡ d.seen.items → d'.calm.items ≡ replicate (length d.calm.items) false → d'.settled ≡ false → d'.needed.items ≡ d.needed.items → IsDesk d'
+  pub phase_kept : (what : PhaseEvent) (d' : Inside A) → Does sv (event_of what sj) d'.seat.me.0
+      → d'.seat.me.1 ≡ d.seat.me.1 → d'.job ≡ d.job → d'.counts ≡ counted what d.counts → d'.phase ≡ phase_after what d.phase
+      → d'.fork_marks.items ≡ (if clears what then replicate (length d.fork_marks.items) false else d.fork_marks.items)
+      → d'.bottle_marks.items ≡ d.bottle_marks.items → d'.seen.items ≡ d.seen.items
+      → d'.calm.items ≡ replicate (length d.calm.items) false → d'.settled ≡ false → d'.needed.items ≡ d.needed.items → IsDesk d'
   phase_kept what d' t empty job counts phase forks_are marks_are seen calm unsettled needed =
       let jobs = mine_seats sv in
       let here = ok.at_rest.inside in
       let by = by_job what sj in
       let own_now : seat (learned_all sp (mine sv) (event_of what sj ∷ [])) sj ≡ kept d' =
-      subst (λ i. i < length (mine sv).seats → seat (learned sp (mine sv) (event_of what sj)) i ≡ seat_after sp (seat (mine sv) i) (event_of what sj)) by (learned_seat sp (mine sv) (event_of what sj)) (omega arith)
-      ∙ (ap (λ (x : Seat). seat_after sp x (event_of what sj)) ok.own ∙ (seat_stored what sp sj (kept d) ∙ (λ i. record { phase = sym phase i; fork_marks = sym forks_are i; bottle_marks = sym marks_are i }))) in
-      desk_grows d ok d' (event_of what sj ∷ []) t (empty ∙ ok.empty) job own_now (learned_phase what sp sj (mine sv) ∙ (ok.seen ∙ sym seen)) (subst (AreOfPlan sp) (sym seen) ok.of_plan)
+      subst (λ i. i < length (mine sv).seats → seat (learned sp (mine sv) (event_of what sj)) i ≡ seat_after sp (seat (mine sv) i) (event_of what sj)) by
+      (learned_seat sp (mine sv) (event_of what sj)) (omega arith)
+      ∙ (ap (λ (x : Seat). seat_after sp x (event_of what sj)) ok.own
+      ∙ (seat_stored what sp sj (kept d) ∙ (λ i. record { phase = sym phase i; fork_marks = sym forks_are i; bottle_marks = sym marks_are i }))) in
+      desk_grows d ok d' (event_of what sj ∷ []) t (empty ∙ ok.empty) job own_now
+      (learned_phase what sp sj (mine sv) ∙ (ok.seen ∙ sym seen)) (subst (AreOfPlan sp) (sym seen) ok.of_plan)
       (none_still sp (learned_all sp (mine sv) (event_of what sj ∷ [])) sj (length d.calm.items) d'.calm.items calm ok.calm.wide)
       (not_settled d ok d' unsettled)
       (subst (λ (z : JobState). z.drinking ≢ Reaching) (sym phase) (still_rests what d.phase ok.rests))

@@ -69,7 +69,8 @@ mine_edges v = learned_all_edges (hand_in v).plan (the_opening (hand_in v).plan)
 
 -- what a job knows after a group of its events
 pub mine_grown : (v w : View) (g : List Event) → Grows v g w → mine w ≡ learned_all (hand_in v).plan (mine v) g
-mine_grown v w g t = ap (λ (x : Hand). known_by x.plan x.deeds) (hand_grown v w g t.hands) ∙ learned_all-append (hand_in v).plan (the_opening (hand_in v).plan) (hand_in v).deeds g
+mine_grown v w g t = ap (λ (x : Hand). known_by x.plan x.deeds) (hand_grown v w g t.hands)
+    ∙ learned_all-append (hand_in v).plan (the_opening (hand_in v).plan) (hand_in v).deeds g
 
 pub rest_grown : (v w : View) (g : List Event) → AtRest v → Grows v g w → AtRest w
 rest_grown v w g ok t = let x = hand_grown v w g t.hands in record {
@@ -85,7 +86,8 @@ pub mine_fits : (v : View) → AtRest v → IsSeatOf (hand_in v).plan (hand_in v
 mine_fits v ok =
     let p : LabPlan = (hand_in v).plan in
     let j : ℕ = (hand_in v).job in
-    subst (IsSeatOf p j) (own_known p j v.front ok.inside ∙ ap (λ (l : List Event). seat (known_by p l) j) ok.whole) ((history_fits p v.front ok.legal).seats_fit j ok.inside)
+    subst (IsSeatOf p j) (own_known p j v.front ok.inside ∙ ap (λ (l : List Event). seat (known_by p l) j) ok.whole)
+    ((history_fits p v.front ok.legal).seats_fit j ok.inside)
 
 -- ---- a desk
 
@@ -119,41 +121,54 @@ module _ {A : Type 0} (d : Inside A) (ok : IsDesk d) where
 
   -- the word last seen on an edge, and whether it is noted, as they are read from the fields
   pub last_seen : (e n : ℕ) (x : EdgeState) → n ≡ e → e < length (edges p) → x ≡ get_or d.seen.items n x → x ≡ edge (mine v) e
-  last_seen e n x at inside is = got d.seen.items e x no_edge (let l = desk_edges in omega arith) (is ∙ ap (λ k. get_or d.seen.items k x) at) ∙ ap (λ (l : List EdgeState). get_or l e no_edge) (sym ok.seen)
+  last_seen e n x at inside is = got d.seen.items e x no_edge (let l = desk_edges in omega arith) (is ∙ ap (λ k. get_or d.seen.items k x) at)
+      ∙ ap (λ (l : List EdgeState). get_or l e no_edge) (sym ok.seen)
 
   pub noted_still : (e n : ℕ) (noted : Bool) → n ≡ e → e < length (edges p) → noted ≡ get_or d.calm.items n noted → noted ≡ true → IsStill p (mine v) j e
-  noted_still e n noted at inside is true_is = ok.calm.each e (sym (got d.calm.items e noted false (let l = ok.calm.wide in omega arith) (is ∙ ap (λ k. get_or d.calm.items k noted) at)) ∙ true_is)
+  noted_still e n noted at inside is true_is =
+      ok.calm.each e (sym (got d.calm.items e noted false (let l = ok.calm.wide in omega arith) (is ∙ ap (λ k. get_or d.calm.items k noted) at)) ∙ true_is)
 
   -- a desk after a group of events, where its fields follow
   pub desk_grows : (d' : Inside A) (g : List Event) → Grows v g d'.seat.me.0 → d'.seat.me.1 ≡ [] → d'.job ≡ d.job
-      → seat (learned_all p (mine v) g) j ≡ kept d' → (learned_all p (mine v) g).edges ≡ d'.seen.items → AreOfPlan p d'.seen.items → AreStill p (learned_all p (mine v) g) j d'.calm.items → (d'.settled ≡ true → IsSettled p (learned_all p (mine v) g) j) → d'.phase.drinking ≢ Reaching → counts_of j ((hand_in v).deeds ++ g) ≡ d'.counts → d'.needed.items ≡ d.needed.items → IsDesk d'
-  desk_grows d' g t empty job own seen of_plan calm settled rests counts needed = let x = hand_grown v d'.seat.me.0 g t.hands in let m = mine_grown v d'.seat.me.0 g t in record {
-    at_rest = rest_grown v d'.seat.me.0 g ok.at_rest t;
-    empty = empty;
-    job = ap (λ (z : Hand). z.job) x ∙ (ok.job ∙ sym job);
-    counts = ap (λ (z : Hand). counts_of z.job z.deeds) x ∙ counts;
-    own = (λ i. seat (m i) (x i).job) ∙ own;
-    seen = ap (λ (z : State). z.edges) m ∙ seen;
-    of_plan = subst (λ (z : Hand). AreOfPlan z.plan d'.seen.items) (sym x) of_plan;
-    calm = subst (λ (z : Hand × State). AreStill z.0.plan z.1 z.0.job d'.calm.items) (λ i. (sym x i, sym m i)) calm;
-    settled = λ is. subst (λ (z : Hand × State). IsSettled z.0.plan z.1 z.0.job) (λ i. (sym x i, sym m i)) (settled is);
-    needed = subst (λ (z : Hand × List Needed). AreNeeded z.0.plan z.0.job z.1) (λ i. (sym x i, sym needed i)) ok.needed;
-    rests = rests;
-  }
+      → seat (learned_all p (mine v) g) j ≡ kept d' → (learned_all p (mine v) g).edges ≡ d'.seen.items → AreOfPlan p d'.seen.items
+      → AreStill p (learned_all p (mine v) g) j d'.calm.items → (d'.settled ≡ true → IsSettled p (learned_all p (mine v) g) j)
+      → d'.phase.drinking ≢ Reaching → counts_of j ((hand_in v).deeds ++ g) ≡ d'.counts → d'.needed.items ≡ d.needed.items → IsDesk d'
+  desk_grows d' g t empty job own seen of_plan calm settled rests counts needed =
+      let x = hand_grown v d'.seat.me.0 g t.hands in
+      let m = mine_grown v d'.seat.me.0 g t in
+      record {
+        at_rest = rest_grown v d'.seat.me.0 g ok.at_rest t;
+        empty = empty;
+        job = ap (λ (z : Hand). z.job) x ∙ (ok.job ∙ sym job);
+        counts = ap (λ (z : Hand). counts_of z.job z.deeds) x ∙ counts;
+        own = (λ i. seat (m i) (x i).job) ∙ own;
+        seen = ap (λ (z : State). z.edges) m ∙ seen;
+        of_plan = subst (λ (z : Hand). AreOfPlan z.plan d'.seen.items) (sym x) of_plan;
+        calm = subst (λ (z : Hand × State). AreStill z.0.plan z.1 z.0.job d'.calm.items) (λ i. (sym x i, sym m i)) calm;
+        settled = λ is. subst (λ (z : Hand × State). IsSettled z.0.plan z.1 z.0.job) (λ i. (sym x i, sym m i)) (settled is);
+        needed = subst (λ (z : Hand × List Needed). AreNeeded z.0.plan z.0.job z.1) (λ i. (sym x i, sym needed i)) ok.needed;
+        rests = rests;
+      }
 
   -- a desk after events that aren't counted
   pub desk_keeps : (d' : Inside A) (g : List Event) → Each (IsUncounted j) g → Grows v g d'.seat.me.0 → d'.seat.me.1 ≡ [] → fixed d' ≡ fixed d
-      → seat (learned_all p (mine v) g) j ≡ kept d' → (learned_all p (mine v) g).edges ≡ d'.seen.items → AreOfPlan p d'.seen.items → AreStill p (learned_all p (mine v) g) j d'.calm.items → (d'.settled ≡ true → IsSettled p (learned_all p (mine v) g) j) → d'.phase.drinking ≢ Reaching → IsDesk d'
-  desk_keeps d' g uncounted t empty same own seen of_plan calm settled rests = desk_grows d' g t empty (ap (λ (z : ℕ × Counts × List Needed). z.0) same) own seen of_plan calm settled rests
-      (counts_stay j (hand_in v).deeds g uncounted ∙ (ok.counts ∙ sym (ap (λ (z : ℕ × Counts × List Needed). z.1) same))) (ap (λ (z : ℕ × Counts × List Needed). z.2) same)
+      → seat (learned_all p (mine v) g) j ≡ kept d' → (learned_all p (mine v) g).edges ≡ d'.seen.items → AreOfPlan p d'.seen.items
+      → AreStill p (learned_all p (mine v) g) j d'.calm.items
+      → (d'.settled ≡ true → IsSettled p (learned_all p (mine v) g) j) → d'.phase.drinking ≢ Reaching → IsDesk d'
+  desk_keeps d' g uncounted t empty same own seen of_plan calm settled rests =
+      desk_grows d' g t empty (ap (λ (z : ℕ × Counts × List Needed). z.0) same) own seen of_plan calm settled rests
+      (counts_stay j (hand_in v).deeds g uncounted ∙ (ok.counts ∙ sym (ap (λ (z : ℕ × Counts × List Needed). z.1) same)))
+      (ap (λ (z : ℕ × Counts × List Needed). z.2) same)
 
   -- where the desk isn't noted as settled, nothing is claimed
   pub not_settled : (d' : Inside A) → d'.settled ≡ false → {s : State} → d'.settled ≡ true → IsSettled p s j
   not_settled d' unsettled is = absurd (false≢true (sym unsettled ∙ is))
 
   -- the notes but that of one edge, where the desk else is as before
-  pub noted_but : (t : State) (d' : Inside A) (e : ℕ) → e < length (edges p) → seat t j ≡ kept d' → t.edges ≡ d'.seen.items → d'.phase ≡ d.phase → (fork : Bool) → d'.fork_marks.items ≡ set d.fork_marks.items e fork
-      → (marks : ℕ) → d'.bottle_marks.items ≡ set d.bottle_marks.items e marks → (x : EdgeState) → d'.seen.items ≡ set d.seen.items e x → d'.calm.items ≡ set d.calm.items e false → AreStill p t j d'.calm.items
+  pub noted_but : (t : State) (d' : Inside A) (e : ℕ) → e < length (edges p) → seat t j ≡ kept d'
+      → t.edges ≡ d'.seen.items → d'.phase ≡ d.phase → (fork : Bool) → d'.fork_marks.items ≡ set d.fork_marks.items e fork
+      → (marks : ℕ) → d'.bottle_marks.items ≡ set d.bottle_marks.items e marks → (x : EdgeState)
+      → d'.seen.items ≡ set d.seen.items e x → d'.calm.items ≡ set d.calm.items e false → AreStill p t j d'.calm.items
   noted_but t d' e inside own edges phase fork forks marks bottles x seen calm = subst (AreStill p t j) (sym calm)
       (but_one p (mine v) t j e d.calm.items inside (λ f other. same_at (mine v) t j f (kept d) (kept d') d.seen.items d'.seen.items ok.own own ok.seen edges
       (ap (λ l. get_or l f no_edge) seen ∙ get_or-set_other d.seen.items e f x no_edge other)
@@ -164,14 +179,16 @@ module _ {A : Type 0} (d : Inside A) (ok : IsDesk d) where
   -- one edge is seen
   pub of_plan_set : (e : ℕ) (x : EdgeState) → e < length (edges p) → IsOfBottles (length (bottles p e)) x → AreOfPlan p (set d.seen.items e x)
   of_plan_set e x inside fit f l = let n = desk_edges in elim (cases_eq f e) [
-    | inl is ↦ subst (λ (z : ℕ). IsOfBottles (length (bottles p z)) (get_or (set d.seen.items e x) z no_edge)) (sym is) (subst (IsOfBottles (length (bottles p e))) (sym (get_or-set_same d.seen.items e x no_edge (omega arith))) fit)
+    | inl is ↦ subst (λ (z : ℕ). IsOfBottles (length (bottles p z)) (get_or (set d.seen.items e x) z no_edge)) (sym is)
+        (subst (IsOfBottles (length (bottles p e))) (sym (get_or-set_same d.seen.items e x no_edge (omega arith))) fit)
     | inr ne ↦ subst (IsOfBottles (length (bottles p f))) (sym (get_or-set_other d.seen.items e f x no_edge ne)) (ok.of_plan f l)
   ]
 
 -- ---- a bench and a desk
 
 -- a fact of the values that contracts see, as one of the fields
-pub owned : {A : Type 0} (b : bench_fields.Inside A) (d : Inside A) (x : BenchView) (y : DeskView) → bench_of b ≡ x → view_of d ≡ y → Owns x y → Owns (bench_of b) (view_of d)
+pub owned : {A : Type 0} (b : bench_fields.Inside A) (d : Inside A) (x : BenchView) (y : DeskView)
+    → bench_of b ≡ x → view_of d ≡ y → Owns x y → Owns (bench_of b) (view_of d)
 owned b d x y e f o = subst (λ (z : BenchView × DeskView). Owns z.0 z.1) (λ i. (sym e i, sym f i)) o
 
 -- a fact of the value that contracts see, as one of the seat
@@ -192,7 +209,8 @@ module _ {A : Type 0} (b : bench_fields.Inside A) (d : Inside A) (is_bench : IsB
   Framed i f then = (d.seat.table_id ≡ b.table.shared.table_id) × (i < b.table.shared.table_id.words) × Allows (Kept key) slots d.seat.id d.seat.me i f then
 
   -- a step by the plan of the hand is one by the key of the table
-  pub framed : (i : ℕ) (f : ℕ → ℕ) (then : ℕ → Me LogView View → Type 0) → i < word_count mine_plan → Allows (Kept mine_plan) slots d.seat.id d.seat.me i f then → Framed i f then
+  pub framed : (i : ℕ) (f : ℕ → ℕ) (then : ℕ → Me LogView View → Type 0) → i < word_count mine_plan
+      → Allows (Kept mine_plan) slots d.seat.id d.seat.me i f then → Framed i f then
   framed i f then l allows = (
     owns.0,
     (let words = is_bench.words in let l' : i < word_count key = subst (λ (z : LabPlan). i < word_count z) owns.1 l in omega arith),
@@ -208,10 +226,13 @@ module _ {A : Type 0} (b : bench_fields.Inside A) (d : Inside A) (is_bench : IsB
       (looks mine_plan slots d.seat.id d.seat.me.0 d.seat.me.1 (led d.seat.me.0 ok.at_rest.mine) ok.at_rest.inside e own))
 
   pub seen_fits_plan : (e : ℕ) (x : EdgeState) → e < length (edges mine_plan) → x ≡ edge (mine d.seat.me.0) e → IsOfBottles (length (bottles b.plan.now e)) x
-  seen_fits_plan e x inside is = subst (λ (z : LabPlan × EdgeState). IsOfBottles (length (bottles z.0 e)) z.1) (λ i. (sym plan_known i, (ap (λ (l : List EdgeState). get_or l e no_edge) (sym ok.seen) ∙ sym is) i)) (ok.of_plan e inside)
+  seen_fits_plan e x inside is =
+      subst (λ (z : LabPlan × EdgeState). IsOfBottles (length (bottles z.0 e)) z.1)
+      (λ i. (sym plan_known i, (ap (λ (l : List EdgeState). get_or l e no_edge) (sym ok.seen) ∙ sym is) i)) (ok.of_plan e inside)
 
 -- what a call gives: y is what the caller saw before
-pub seat_adds : {k : Clock} (s s' : TableSeat LogView View) (y : DeskView) (g : DeskView → List Event) → seat_view k s ≡ y → Grows s.me.0 (g (seat_view k s)) s'.me.0 → s'.table_id ≡ s.table_id → Adds y (g y) (seat_view k s')
+pub seat_adds : {k : Clock} (s s' : TableSeat LogView View) (y : DeskView) (g : DeskView → List Event)
+    → seat_view k s ≡ y → Grows s.me.0 (g (seat_view k s)) s'.me.0 → s'.table_id ≡ s.table_id → Adds y (g y) (seat_view k s')
 seat_adds {k} s s' y g f t table = let v : View = s.me.0 in let w : View = s'.me.0 in let x = hand_grown v w (g (seat_view k s)) t.hands in
     let all : Adds (seat_view k s) (g (seat_view k s)) (seat_view k s') = record {
       table = table;
@@ -238,18 +259,25 @@ module _ {A : Type 0} (d d' : Inside A) (ok : IsDesk d) (e : ℕ) (x : EdgeState
   lj = (hand_in lv).job
 
   -- the desk after a look
-  pub look_kept : (fork : Bool) (marks : ℕ) (q : LabPlan) → e < length (edges lp) → q ≡ lp → IsOfBottles (length (bottles q e)) x → Does lv (Look lj e x) d'.seat.me.0 → d'.seat.me.1 ≡ d.seat.me.1 → fixed d' ≡ fixed d → d'.phase ≡ d.phase
+  pub look_kept : (fork : Bool) (marks : ℕ) (q : LabPlan) → e < length (edges lp) → q ≡ lp → IsOfBottles (length (bottles q e)) x
+      → Does lv (Look lj e x) d'.seat.me.0 → d'.seat.me.1 ≡ d.seat.me.1 → fixed d' ≡ fixed d → d'.phase ≡ d.phase
       → fork ≡ fork_mark_seen d.phase.dining (end_of q d.job e) x → marks ≡ bottles_at q e (end_of q d.job e) x
-      → d'.fork_marks.items ≡ set d.fork_marks.items e fork → d'.bottle_marks.items ≡ set d.bottle_marks.items e marks → d'.seen.items ≡ set d.seen.items e x → d'.calm.items ≡ set d.calm.items e false → d'.settled ≡ false → IsDesk d'
+      → d'.fork_marks.items ≡ set d.fork_marks.items e fork → d'.bottle_marks.items ≡ set d.bottle_marks.items e marks
+      → d'.seen.items ≡ set d.seen.items e x → d'.calm.items ≡ set d.calm.items e false → d'.settled ≡ false → IsDesk d'
   look_kept fork marks q inside is_p fits t empty job phase is_fork is_marks forks bottle_marks seen calm unsettled =
       let event : Event = Look lj e x in
       let jobs = mine_seats lv in
       let here = ok.at_rest.inside in
-      let fork_is : fork ≡ fork_mark_seen d.phase.dining (end_of lp lj e) x = is_fork ∙ (λ i. fork_mark_seen d.phase.dining (end_of (is_p i) (sym ok.job i) e) x) in
+      let fork_is : fork ≡ fork_mark_seen d.phase.dining (end_of lp lj e) x =
+      is_fork ∙ (λ i. fork_mark_seen d.phase.dining (end_of (is_p i) (sym ok.job i) e) x) in
       let marks_is : marks ≡ bottles_at lp e (end_of lp lj e) x = is_marks ∙ (λ i. bottles_at (is_p i) e (end_of (is_p i) (sym ok.job i) e) x) in
       let own : seat (learned_all lp (mine lv) (event ∷ [])) lj ≡ kept d' =
       learned_seat lp (mine lv) event (omega arith) ∙ (ap (λ (y : Seat). seat_after lp y event) ok.own
-      ∙ (λ i. record { phase = sym phase i; fork_marks = (ap (set d.fork_marks.items e) (sym fork_is) ∙ sym forks) i; bottle_marks = (ap (set d.bottle_marks.items e) (sym marks_is) ∙ sym bottle_marks) i })) in
+      ∙ (λ i. record {
+        phase = sym phase i;
+        fork_marks = (ap (set d.fork_marks.items e) (sym fork_is) ∙ sym forks) i;
+        bottle_marks = (ap (set d.bottle_marks.items e) (sym marks_is) ∙ sym bottle_marks) i;
+      })) in
       let edges_now = ap (λ (l : List EdgeState). set l e x) ok.seen ∙ sym seen in
       desk_keeps d ok d' (event ∷ []) ((refl, refl, refl), tt) t (empty ∙ ok.empty) job own edges_now
       (subst (AreOfPlan lp) (sym seen) (of_plan_set d ok e x inside (subst (λ (z : LabPlan). IsOfBottles (length (bottles z e)) x) is_p fits)))
@@ -258,7 +286,8 @@ module _ {A : Type 0} (d d' : Inside A) (ok : IsDesk d) (e : ℕ) (x : EdgeState
       (subst (λ (z : JobState). z.drinking ≢ Reaching) (sym phase) ok.rests)
 
   -- a look that sees again what a still edge showed
-  pub look_still : e < length (edges lp) → IsStill lp (mine lv) lj e → x ≡ edge (mine lv) e → Does lv (Look lj e x) d'.seat.me.0 → d'.seat.me.1 ≡ d.seat.me.1 → fixed d' ≡ fixed d → kept d' ≡ kept d → d'.seen.items ≡ d.seen.items → d'.calm.items ≡ d.calm.items → d'.settled ≡ d.settled → IsDesk d'
+  pub look_still : e < length (edges lp) → IsStill lp (mine lv) lj e → x ≡ edge (mine lv) e → Does lv (Look lj e x) d'.seat.me.0 → d'.seat.me.1 ≡ d.seat.me.1
+      → fixed d' ≡ fixed d → kept d' ≡ kept d → d'.seen.items ≡ d.seen.items → d'.calm.items ≡ d.calm.items → d'.settled ≡ d.settled → IsDesk d'
   look_still inside still is t empty job same seen calm settled =
       let event : Event = Look lj e x in
       let jobs = mine_seats lv in
@@ -267,25 +296,37 @@ module _ {A : Type 0} (d d' : Inside A) (ok : IsDesk d) (e : ℕ) (x : EdgeState
       let own_is : (seat (mine lv) lj).phase ≡ d.phase = ap (λ (y : Seat). y.phase) ok.own in
       let fork_is : fork_mark_seen d.phase.dining (end_of lp lj e) x ≡ get_or d.fork_marks.items e false =
       (λ i. fork_mark_seen (sym own_is i).dining (end_of lp lj e) (is i)) ∙ (sym still.fork ∙ ap (λ (y : Seat). get_or y.fork_marks e false) ok.own) in
-      let marks_are : bottles_at lp e (end_of lp lj e) x ≡ get_or d.bottle_marks.items e 0 = ap (bottles_at lp e (end_of lp lj e)) is ∙ (sym still.bottles ∙ ap (λ (y : Seat). get_or y.bottle_marks e 0) ok.own) in
+      let marks_are : bottles_at lp e (end_of lp lj e) x ≡ get_or d.bottle_marks.items e 0 =
+      ap (bottles_at lp e (end_of lp lj e)) is ∙ (sym still.bottles ∙ ap (λ (y : Seat). get_or y.bottle_marks e 0) ok.own) in
       let own : seat u lj ≡ kept d' = learned_seat lp (mine lv) event (omega arith) ∙ (ap (λ (y : Seat). seat_after lp y event) ok.own
-      ∙ ((λ i. record { phase = d.phase; fork_marks = (ap (set d.fork_marks.items e) fork_is ∙ set-get_or d.fork_marks.items e false) i; bottle_marks = (ap (set d.bottle_marks.items e) marks_are ∙ set-get_or d.bottle_marks.items e 0) i }) ∙ sym same)) in
+      ∙ ((λ i. record {
+        phase = d.phase;
+        fork_marks = (ap (set d.fork_marks.items e) fork_is ∙ set-get_or d.fork_marks.items e false) i;
+        bottle_marks = (ap (set d.bottle_marks.items e) marks_are ∙ set-get_or d.bottle_marks.items e 0) i;
+      }) ∙ sym same)) in
       let edges_now : u.edges ≡ d'.seen.items = (ap (set (mine lv).edges e) is ∙ set-get_or (mine lv).edges e no_edge) ∙ (ok.seen ∙ sym seen) in
       desk_keeps d ok d' (event ∷ []) ((refl, refl, refl), tt) t (empty ∙ ok.empty) job own edges_now
       (subst (AreOfPlan lp) (sym seen) ok.of_plan)
-      (subst (AreStill lp u lj) (sym calm) (stay_still lp (mine lv) u lj d.calm.items (λ f. same_at (mine lv) u lj f (kept d) (kept d') d.seen.items d'.seen.items ok.own own ok.seen edges_now
-      (ap (λ l. get_or l f no_edge) seen) (ap (λ (y : Seat). but_position y.phase) same) (ap (λ (y : Seat). get_or y.fork_marks f false) same) (ap (λ (y : Seat). get_or y.bottle_marks f 0) same)) ok.calm))
+      (subst (AreStill lp u lj) (sym calm)
+      (stay_still lp (mine lv) u lj d.calm.items (λ f. same_at (mine lv) u lj f (kept d) (kept d') d.seen.items d'.seen.items ok.own own ok.seen edges_now
+      (ap (λ l. get_or l f no_edge) seen) (ap (λ (y : Seat). but_position y.phase) same)
+      (ap (λ (y : Seat). get_or y.fork_marks f false) same) (ap (λ (y : Seat). get_or y.bottle_marks f 0) same)) ok.calm))
       (λ set. stays_settled lp (mine lv) u lj (own ∙ (same ∙ sym ok.own)) (ok.settled (sym settled ∙ set)))
       (subst (λ (z : JobState). z.drinking ≢ Reaching) (sym (ap (λ (y : Seat). y.phase) same)) ok.rests)
 
 -- what a look tells, of the word that was unpacked
 module _ {A : Type 0} (b : bench_fields.Inside A) (d : Inside A) (is_bench : IsBench b) (ok : IsDesk d) (owns : Owns (bench_of b) (view_of d)) where
-  pub look_told : (s' : TableSeat LogView View) (e n m : ℕ) (x : EdgeState) → n ≡ edge_place e → IsOwn (hand_in d.seat.me.0).plan (hand_in d.seat.me.0).job e → word_of x ≡ m → IsOfBottles (length (bottles b.plan.now e)) x
-      → looked (step b.table.shared.table_id.slots n 0 0 none) d.seat.me m s'.me → Does d.seat.me.0 (Look (hand_in d.seat.me.0).job e x) s'.me.0 × (s'.me.1 ≡ d.seat.me.1)
+  pub look_told : (s' : TableSeat LogView View) (e n m : ℕ) (x : EdgeState) → n ≡ edge_place e
+      → IsOwn (hand_in d.seat.me.0).plan (hand_in d.seat.me.0).job e → word_of x ≡ m → IsOfBottles (length (bottles b.plan.now e)) x
+      → looked (step b.table.shared.table_id.slots n 0 0 none) d.seat.me m s'.me
+      → Does d.seat.me.0 (Look (hand_in d.seat.me.0).job e x) s'.me.0 × (s'.me.1 ≡ d.seat.me.1)
   look_told s' e n m x is own word fits t =
       let p : LabPlan = (hand_in d.seat.me.0).plan in
       let at : n / 8 ≡ e = omega arith in
       let plan = plan_known b d is_bench ok owns in
-      let few : length (bottles p e) ≤ 28 = subst (λ (z : LabPlan). length (bottles z e) ≤ 28) (sym owns.1) (is_bench.is_plan.few_bottles e (subst (λ (z : LabPlan). e < length (edges z)) owns.1 own.is_edge)) in
-      let same : t.0 ≡ x = no_two_edges t.0 x (IsOfBottles-28 _ t.0 few (subst (λ z. IsOfBottles (length (bottles p z)) t.0) at t.2)) (IsOfBottles-28 _ x few (subst (λ (z : LabPlan). IsOfBottles (length (bottles z e)) x) plan fits)) (sym t.1 ∙ sym word) in
+      let few : length (bottles p e) ≤ 28 =
+      subst (λ (z : LabPlan). length (bottles z e) ≤ 28) (sym owns.1)
+      (is_bench.is_plan.few_bottles e (subst (λ (z : LabPlan). e < length (edges z)) owns.1 own.is_edge)) in
+      let same : t.0 ≡ x = no_two_edges t.0 x (IsOfBottles-28 _ t.0 few (subst (λ z. IsOfBottles (length (bottles p z)) t.0) at t.2))
+      (IsOfBottles-28 _ x few (subst (λ (z : LabPlan). IsOfBottles (length (bottles z e)) x) plan fits)) (sym t.1 ∙ sym word) in
       (subst (λ (z : ℕ × EdgeState). Does d.seat.me.0 (Look (hand_in d.seat.me.0).job z.0 z.1) s'.me.0) (λ i. (at i, same i)) t.3, t.4)

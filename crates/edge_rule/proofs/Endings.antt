@@ -48,7 +48,11 @@ module _ {A : Type 0} (P : A → Type 0) where
   each_right (x ∷ a) b e = each_right a b e.1
 
 pub glued_more : (done : List DeskView) {A : Type 0} (d : Inside A) → IsDesk d → glued (gathered done) d.seat.me.0 ≡ gathered (view_of d ∷ done)
-glued_more done d ok = λ i. record { hands = hands_of done ++ ok.at_rest.mine i; front = []; told = fronts_of done ++ d.seat.me.0.front ∷ ok.at_rest.none_told i }
+glued_more done d ok = λ i. record {
+  hands = hands_of done ++ ok.at_rest.mine i;
+  front = [];
+  told = fronts_of done ++ d.seat.me.0.front ∷ ok.at_rest.none_told i;
+}
 
 pub rests_now : {A : Type 0} (d : Inside A) → IsDesk d → Rests (view_of d)
 rests_now d ok = subst (λ (x : Seat). x.phase.drinking ≢ Reaching) (sym ok.own) ok.rests
@@ -68,11 +72,13 @@ module _ (p : LabPlan) where
   all_fronts P (d ∷ desks) e = ((each_right P (fronts_of desks) (d.front ∷ []) e).0, all_fronts P desks (each_left P (fronts_of desks) (d.front ∷ []) e))
 
   -- no job with a desk at rest reaches
-  none_reaches : (h : List Event) (desks : List DeskView) (j : ℕ) → j < length p.jobs → Any (λ (d : DeskView). d.job ≡ j) desks → Each (λ (d : DeskView). d.plan ≡ p) desks → Each (λ (d : DeskView). events_by d.job h ≡ d.deeds) desks → Each Rests desks
+  none_reaches : (h : List Event) (desks : List DeskView) (j : ℕ) → j < length p.jobs → Any (λ (d : DeskView). d.job ≡ j) desks
+      → Each (λ (d : DeskView). d.plan ≡ p) desks → Each (λ (d : DeskView). events_by d.job h ≡ d.deeds) desks → Each Rests desks
       → drinking (state_after p h) j ≢ Reaching
   none_reaches h [] j job a plans records rests is = absurd a
   none_reaches h (d ∷ desks) j job (inl e) plans records rests is =
-      let same : seat (state_after p h) j ≡ seat (known d) d.job = own_known p j h job ∙ (λ i. seat (known_by (sym plans.0 i) (((λ k. events_by (sym e k) h) ∙ records.0) i)) (sym e i)) in
+      let same : seat (state_after p h) j ≡ seat (known d) d.job =
+      own_known p j h job ∙ (λ i. seat (known_by (sym plans.0 i) (((λ k. events_by (sym e k) h) ∙ records.0) i)) (sym e i)) in
       rests.0 (sym (ap (λ (x : Seat). x.phase.drinking) same) ∙ is)
   none_reaches h (d ∷ desks) j job (inr a) plans records rests is = none_reaches h desks j job a plans.1 records.1 rests.1 is
 
@@ -101,7 +107,8 @@ module _ (p : LabPlan) where
   all_by_jobs s (event ∷ h) legal = (by_a_job s event legal.0, all_by_jobs (after p s event) h legal.1)
 
   -- the counts of a job are those of its desk's record
-  counted_at : (h : List Event) (counts : List Counts) (desks : List DeskView) (j : ℕ) → Any (λ (d : DeskView). d.job ≡ j) desks → Each (λ (d : DeskView). events_by d.job h ≡ d.deeds) desks → AreCounted counts desks → get_or counts j no_counts ≡ counts_of j h
+  counted_at : (h : List Event) (counts : List Counts) (desks : List DeskView) (j : ℕ) → Any (λ (d : DeskView). d.job ≡ j) desks
+      → Each (λ (d : DeskView). events_by d.job h ≡ d.deeds) desks → AreCounted counts desks → get_or counts j no_counts ≡ counts_of j h
   counted_at h counts [] j a records counted = absurd a
   counted_at h counts (d ∷ desks) j (inl e) records counted =
       subst (λ (k : ℕ). get_or counts k no_counts ≡ counts_of k h) e (counted.0 ∙ (ap (counts_of d.job) (sym records.0) ∙ counts_whole d.job h))
@@ -126,7 +133,8 @@ module _ (p : LabPlan) where
   pub logs_fit : (id : ℕ) (v : View) (words : List ℕ) (logs : List LogView) → Final (Seen (Kept p) id v) words logs → length logs ≡ length p.instruments
   logs_fit id v words logs f = sym f.3 ∙ f.1.0.homes.deep
 
-  pub ends : (id : ℕ) (desks : List DeskView) (c : ClosedView) → c.plan ≡ p → Each (λ (d : DeskView). d.plan ≡ p) desks → HasAll p desks → Each Rests desks → AreCounted c.counts desks → Final (Seen (Kept p) id (gathered desks)) c.words c.logs → IsEnd p desks c
+  pub ends : (id : ℕ) (desks : List DeskView) (c : ClosedView) → c.plan ≡ p → Each (λ (d : DeskView). d.plan ≡ p) desks → HasAll p desks
+      → Each Rests desks → AreCounted c.counts desks → Final (Seen (Kept p) id (gathered desks)) c.words c.logs → IsEnd p desks c
   ends id desks c same plans all rests counted f =
       let k = f.1.0 in
       let h : List Event = k.history in
@@ -134,7 +142,8 @@ module _ (p : LabPlan) where
       let fit = history_fits p h k.legal in
       let fits = k.seats id (gathered desks) f.1.1 in
       let spelled : Spelled p w c.words = subst (λ ws. Spelled p w ws) f.2 k.words in
-      let records = all_hands (λ (x : Hand). events_by x.job h ≡ x.deeds) desks (each_map (Held p h k.owner id) (λ (x : Hand). events_by x.job h ≡ x.deeds) (λ x t. t.1) (hands_of desks) fits.hands) in
+      let records = all_hands (λ (x : Hand). events_by x.job h ≡ x.deeds) desks
+      (each_map (Held p h k.owner id) (λ (x : Hand). events_by x.job h ≡ x.deeds) (λ x t. t.1) (hands_of desks) fits.hands) in
       record {
         is_plan = k.is_plan;
         plan = same;
@@ -143,8 +152,10 @@ module _ (p : LabPlan) where
         records = records;
         nobody_else = all_by_jobs (the_opening p) h k.legal;
         fronts = all_fronts (StartsWith h) desks fits.told;
-        edges = λ e l. ap state_of (spelled.edge_words e l) ∙ state_of-word_of (edge w e) (IsOfBottles-28 (length (bottles p e)) (edge w e) (k.is_plan.few_bottles e l) (edges_fit w e fit l)).bottles_fit;
-        phases = λ j l. (λ i. phase_of (get_or c.words (phase_place (same i) j) 0)) ∙ (ap phase_of (spelled.phase_words j l) ∙ phase_of-phase_word_of (phase w j) (phase_fits p w j k.is_plan fit l));
+        edges = λ e l. ap state_of (spelled.edge_words e l)
+            ∙ state_of-word_of (edge w e) (IsOfBottles-28 (length (bottles p e)) (edge w e) (k.is_plan.few_bottles e l) (edges_fit w e fit l)).bottles_fit;
+        phases = λ j l. (λ i. phase_of (get_or c.words (phase_place (same i) j) 0))
+            ∙ (ap phase_of (spelled.phase_words j l) ∙ phase_of-phase_word_of (phase w j) (phase_fits p w j k.is_plan fit l));
         logs = λ i l. gets c.logs i (log_view p w i) (empty_log 0) (elim (k.homes.slots i l) [
           | inl q ↦ f.4 i (log_view p w i) q
           | inr q ↦ absurd (none_reaches h desks q.1.0 q.1.1.job (all.every q.1.0 q.1.1.job) plans records rests q.1.1.reaching)
@@ -160,24 +171,34 @@ module _ (counts : List Counts) (x : DeskView) where
 
   others_counted : (desks : List DeskView) → Each (λ (k : ℕ). k ≢ x.job) (jobs_of desks) → AreCounted counts desks → AreCounted new_counts desks
   others_counted [] other counted = tt
-  others_counted (d ∷ desks) other counted = (get_or-set_other counts x.job d.job (counts_of x.job x.deeds) no_counts other.0 ∙ counted.0, others_counted desks other.1 counted.1)
+  others_counted (d ∷ desks) other counted =
+      (get_or-set_other counts x.job d.job (counts_of x.job x.deeds) no_counts other.0 ∙ counted.0, others_counted desks other.1 counted.1)
 
   not_x : (desks : List DeskView) (i j : ℕ) → i < length desks → x ≡ get_or desks i x → Each (λ (k : ℕ). k ≢ j) (jobs_of desks) → x.job ≢ j
   not_x [] i j inside is other = absurd (omega arith)
   not_x (d ∷ desks) zero j inside is other = λ e. other.0 (sym (ap (λ (z : DeskView). z.job) is) ∙ e)
   not_x (d ∷ desks) (suc i) j inside is other = not_x desks i j (omega arith) is other.1
 
-  counted_upto : (desks : List DeskView) (i : ℕ) → x.job < length counts → i < length desks → x ≡ get_or desks i x → Distinct (jobs_of desks) → AreCounted counts (take i desks) → AreCounted new_counts (take (suc i) desks)
+  counted_upto : (desks : List DeskView) (i : ℕ) → x.job < length counts → i < length desks → x ≡ get_or desks i x
+      → Distinct (jobs_of desks) → AreCounted counts (take i desks) → AreCounted new_counts (take (suc i) desks)
   counted_upto [] i few inside is apart counted = absurd (omega arith)
-  counted_upto (d ∷ desks) zero few inside is apart counted = (subst (λ (z : DeskView). get_or new_counts z.job no_counts ≡ counts_of z.job z.deeds) is (get_or-set_same counts x.job (counts_of x.job x.deeds) no_counts few), tt)
+  counted_upto (d ∷ desks) zero few inside is apart counted = (
+    subst (λ (z : DeskView). get_or new_counts z.job no_counts ≡ counts_of z.job z.deeds) is
+        (get_or-set_same counts x.job (counts_of x.job x.deeds) no_counts few),
+    tt,
+  )
   counted_upto (d ∷ desks) (suc i) few inside is apart counted =
-      let x_not_d = not_x desks i d.job (omega arith) is apart.0 in
-      (get_or-set_other counts x.job d.job (counts_of x.job x.deeds) no_counts (λ e. x_not_d (sym e)) ∙ counted.0, counted_upto desks i few (omega arith) is apart.1 counted.1)
+      let x_not_d = not_x desks i d.job (omega arith) is apart.0 in (
+        get_or-set_other counts x.job d.job (counts_of x.job x.deeds) no_counts (λ e. x_not_d (sym e)) ∙ counted.0,
+        counted_upto desks i few (omega arith) is apart.1 counted.1,
+      )
 
-pub counted_more : (counts : List Counts) (place : ℕ) (these : Counts) (x : DeskView) (desks : List DeskView) (i : ℕ) → place ≡ x.job → these ≡ counts_of x.job x.deeds → x.job < length counts → i < length desks → x ≡ get_or desks i x → Distinct (jobs_of desks)
+pub counted_more : (counts : List Counts) (place : ℕ) (these : Counts) (x : DeskView) (desks : List DeskView) (i : ℕ) → place ≡ x.job
+    → these ≡ counts_of x.job x.deeds → x.job < length counts → i < length desks → x ≡ get_or desks i x → Distinct (jobs_of desks)
     → AreCounted counts (take i desks) → AreCounted (set counts place these) (take (i + 1) desks)
 counted_more counts place these x desks i at is few inside item apart counted =
-    subst (λ (z : List Counts × ℕ). AreCounted z.0 (take z.1 desks)) (λ r. (set counts (sym at r) (sym is r), sym (add-one i) r)) (counted_upto counts x desks i few inside item apart counted)
+    subst (λ (z : List Counts × ℕ). AreCounted z.0 (take z.1 desks))
+    (λ r. (set counts (sym at r) (sym is r), sym (add-one i) r)) (counted_upto counts x desks i few inside item apart counted)
 
 pub each_at : (P : DeskView → Type 0) (desks : List DeskView) (i : ℕ) (x : DeskView) → i < length desks → x ≡ get_or desks i x → Each P desks → P x
 each_at P [] i x inside is e = absurd (omega arith)

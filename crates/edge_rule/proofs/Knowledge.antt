@@ -20,7 +20,8 @@ module _ {A : Type 0} (d : Inside A) (y : DeskView) (is : view_of d ≡ y) (ok :
     seats_there = mine_seats d.seat.me.0;
     edges_there = mine_edges d.seat.me.0;
     seat_fits = mine_fits d.seat.me.0 ok.at_rest;
-    edges_fit = λ e l. subst (λ (z : List EdgeState). IsOfBottles (length (bottles (hand_in d.seat.me.0).plan e)) (get_or z e no_edge)) (sym ok.seen) (ok.of_plan e l);
+    edges_fit =
+        λ e l. subst (λ (z : List EdgeState). IsOfBottles (length (bottles (hand_in d.seat.me.0).plan e)) (get_or z e no_edge)) (sym ok.seen) (ok.of_plan e l);
     rests = subst (λ (z : Seat). z.phase.drinking ≢ Reaching) (sym ok.own) ok.rests;
   })
 
@@ -37,10 +38,13 @@ module _ {A : Type 0} (d : Inside A) (y : DeskView) (is : view_of d ≡ y) (ok :
   known_phase = ap (λ (x : Seat). x.phase) (sym ok.own) ∙ ap (λ (z : DeskView). phase (known z) z.job) is
 
   pub known_mark : (e n : ℕ) → n ≡ e → get_or d.fork_marks.items n false ≡ fork_mark (known y) y.job e
-  known_mark e n at = ap (λ k. get_or d.fork_marks.items k false) at ∙ (ap (λ (x : Seat). get_or x.fork_marks e false) (sym ok.own) ∙ ap (λ (z : DeskView). fork_mark (known z) z.job e) is)
+  known_mark e n at = ap (λ k. get_or d.fork_marks.items k false) at
+      ∙ (ap (λ (x : Seat). get_or x.fork_marks e false) (sym ok.own) ∙ ap (λ (z : DeskView). fork_mark (known z) z.job e) is)
 
   pub known_bottles : (e n : ℕ) → n ≡ e → get_or d.bottle_marks.items n 0 ≡ bottle_marks (known y) y.job e
-  known_bottles e n at = ap (λ k. get_or d.bottle_marks.items k 0) at ∙ (ap (λ (x : Seat). get_or x.bottle_marks e 0) (sym ok.own) ∙ ap (λ (z : DeskView). bottle_marks (known z) z.job e) is)
+  known_bottles e n at = ap (λ k. get_or d.bottle_marks.items k 0) at
+      ∙ (ap (λ (x : Seat). get_or x.bottle_marks e 0) (sym ok.own) ∙ ap (λ (z : DeskView). bottle_marks (known z) z.job e) is)
 
   pub known_edge : (e n : ℕ) → n ≡ e → get_or d.seen.items n no_edge ≡ edge (known y) e
-  known_edge e n at = ap (λ k. get_or d.seen.items k no_edge) at ∙ (ap (λ (x : List EdgeState). get_or x e no_edge) (sym ok.seen) ∙ ap (λ (z : DeskView). edge (known z) e) is)
+  known_edge e n at = ap (λ k. get_or d.seen.items k no_edge) at
+      ∙ (ap (λ (x : List EdgeState). get_or x e no_edge) (sym ok.seen) ∙ ap (λ (z : DeskView). edge (known z) e) is)

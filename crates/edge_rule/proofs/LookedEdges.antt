@@ -16,7 +16,8 @@ use Rattle.edge_rule.specs.DeskView.{DeskView, known}
 use Rattle.edge_rule.specs.Knowing.{IsKnown}
 use Rattle.edge_rule.specs.CalmEdges.{IsStill, HasJustLooked}
 
-module _ (y : DeskView) (e : ℕ) (fits : IsKnown y.plan (known y) y.job) (inside : e < length (edges y.plan)) (calm : IsCalm y.plan (known y) y.job e) (looked : HasJustLooked y e) where
+module _ (y : DeskView) (e : ℕ) (fits : IsKnown y.plan (known y) y.job) (inside : e < length (edges y.plan))
+    (calm : IsCalm y.plan (known y) y.job e) (looked : HasJustLooked y e) where
   abbrev was : State
   was = known_by y.plan looked.before.deeds
 
@@ -27,19 +28,29 @@ module _ (y : DeskView) (e : ℕ) (fits : IsKnown y.plan (known y) y.job) (insid
   last = Look y.job e looked.seen
 
   after_look : known y ≡ learned y.plan was last
-  after_look = ap (learned_all y.plan (the_opening y.plan)) (looked.look.deeds ∙ (λ i. looked.before.deeds ++ Look (sym looked.look.job i) e looked.seen ∷ [])) ∙ learned_all-append y.plan (the_opening y.plan) looked.before.deeds (last ∷ [])
+  after_look = ap (learned_all y.plan (the_opening y.plan)) (looked.look.deeds ∙ (λ i. looked.before.deeds ++ Look (sym looked.look.job i) e looked.seen ∷ []))
+      ∙ learned_all-append y.plan (the_opening y.plan) looked.before.deeds (last ∷ [])
 
   seat_now : seat (known y) y.job ≡ seat_after y.plan x last
-  seat_now = ap (λ (z : State). seat z y.job) after_look ∙ learned_seat y.plan was last (let n = learned_all_seats y.plan (the_opening y.plan) looked.before.deeds ∙ opening_seats y.plan in let l = fits.is_job in omega arith)
+  seat_now = ap (λ (z : State). seat z y.job) after_look ∙ learned_seat y.plan was last
+      (let n = learned_all_seats y.plan (the_opening y.plan) looked.before.deeds ∙ opening_seats y.plan in let l = fits.is_job in omega arith)
 
   edge_now : edge (known y) e ≡ looked.seen
-  edge_now = ap (λ (z : State). edge z e) after_look ∙ get_or-set_same was.edges e looked.seen no_edge (let n = learned_all_edges y.plan (the_opening y.plan) looked.before.deeds ∙ opening_edges y.plan in omega arith)
+  edge_now = ap (λ (z : State). edge z e) after_look ∙ get_or-set_same was.edges e looked.seen no_edge
+      (let n = learned_all_edges y.plan (the_opening y.plan) looked.before.deeds ∙ opening_edges y.plan in omega arith)
 
   forks_there : e < length x.fork_marks
-  forks_there = let n : length (seat (known y) y.job).fork_marks ≡ length x.fork_marks = ap (λ (z : Seat). length z.fork_marks) seat_now ∙ length-set x.fork_marks e _ in let m = fits.seat_fits.fork_marks_there in omega arith
+  forks_there =
+      let n : length (seat (known y) y.job).fork_marks ≡ length x.fork_marks = ap (λ (z : Seat). length z.fork_marks) seat_now ∙ length-set x.fork_marks e _ in
+      let m = fits.seat_fits.fork_marks_there in
+      omega arith
 
   bottles_there : e < length x.bottle_marks
-  bottles_there = let n : length (seat (known y) y.job).bottle_marks ≡ length x.bottle_marks = ap (λ (z : Seat). length z.bottle_marks) seat_now ∙ length-set x.bottle_marks e _ in let m = fits.seat_fits.bottle_marks_there in omega arith
+  bottles_there =
+      let n : length (seat (known y) y.job).bottle_marks ≡ length x.bottle_marks =
+      ap (λ (z : Seat). length z.bottle_marks) seat_now ∙ length-set x.bottle_marks e _ in
+      let m = fits.seat_fits.bottle_marks_there in
+      omega arith
 
   -- an edge that is calm then is still
   pub looked_still : IsStill y.plan (known y) y.job e
@@ -47,5 +58,6 @@ module _ (y : DeskView) (e : ℕ) (fits : IsKnown y.plan (known y) y.job) (insid
     calm = calm;
     fork = ap (λ (z : Seat). get_or z.fork_marks e false) seat_now ∙ (get_or-set_same x.fork_marks e _ false forks_there
         ∙ (λ i. fork_mark_seen (sym seat_now i).phase.dining (end_of y.plan y.job e) (sym edge_now i)));
-    bottles = ap (λ (z : Seat). get_or z.bottle_marks e 0) seat_now ∙ (get_or-set_same x.bottle_marks e _ 0 bottles_there ∙ (λ i. bottles_at y.plan e (end_of y.plan y.job e) (sym edge_now i)));
+    bottles = ap (λ (z : Seat). get_or z.bottle_marks e 0) seat_now
+        ∙ (get_or-set_same x.bottle_marks e _ 0 bottles_there ∙ (λ i. bottles_at y.plan e (end_of y.plan y.job e) (sym edge_now i)));
   }

@@ -45,14 +45,16 @@ each_end P (x ∷ a) b e = each_end P a b e.1
 
 module _ (p : LabPlan) where
   -- the last hand goes to a seat of its own
-  pub backs : (id : ℕ) (v : View) (x : Hand) (l : List Hand) (y : Hand) → v.hands ≡ x ∷ (l ++ y ∷ []) → Each (λ (z : Hand). z.job ≢ y.job) (x ∷ l) → Splits (Kept p) id v (backed_left v) (backed_right v)
+  pub backs : (id : ℕ) (v : View) (x : Hand) (l : List Hand) (y : Hand) → v.hands ≡ x ∷ (l ++ y ∷ [])
+      → Each (λ (z : Hand). z.job ≢ y.job) (x ∷ l) → Splits (Kept p) id v (backed_left v) (backed_right v)
   backs id v x l y is apart = moves_hand p id v (backed_left v) (backed_right v) y (λ h f t. (f, t)) (λ h f t. ((h, refl), tt))
       (λ P e. subst (Each P) (sym (ap but_last is ∙ but_last_snoc x l y)) (each_begin P (x ∷ l) (y ∷ []) (subst (Each P) is e)))
       (λ P e. (each_end P (x ∷ l) (y ∷ []) (subst (Each P) is e)).0)
       (ap last_hand is ∙ last_snoc x l y)
       (subst (Each (λ (z : Hand). z.job ≢ y.job)) (sym (ap but_last is ∙ but_last_snoc x l y)) apart)
 
-  pub notices : (slots id : ℕ) (v : View) (c : List (ℕ × LogView)) → IsLed v → Allows (Kept p) slots id (v, c) 0 (λ n. n) (noticed (step slots 0 0 0 none) (v, c))
+  pub notices : (slots id : ℕ) (v : View) (c : List (ℕ × LogView)) → IsLed v
+      → Allows (Kept p) slots id (v, c) 0 (λ n. n) (noticed (step slots 0 0 0 none) (v, c))
   notices slots id v c led s k _ at _ = (
     grown p v k.history [],
     keeps,
@@ -105,18 +107,28 @@ module _ (v o : View) (led : IsLed v) (theirs : IsMine o) where
     whole_there = (each_end (λ (y : Hand). events_by y.job w.front ≡ y.deeds) (rest_hands v.hands) (hand_in o ∷ []) beside_all).0
 
     pub as_it_was : o.told ≡ [] → taken_back (lent_left o) (backed_right w) ≡ o
-    as_it_was none_told = λ i. record { hands = ((ap last_hand hands_then ∙ last_snoc (adding (hand_in v) []) (rest_hands v.hands) (hand_in o)) ∙ sym theirs) i; front = o.front; told = sym none_told i }
+    as_it_was none_told = λ i. record {
+      hands = ((ap last_hand hands_then ∙ last_snoc (adding (hand_in v) []) (rest_hands v.hands) (hand_in o)) ∙ sym theirs) i;
+      front = o.front;
+      told = sym none_told i;
+    }
 
 -- a list that was split behind its first
-pub split_first : {A : Type 0} (l front back : List A) (y : A) → 0 < length l → front ≡ take 1 l → back ≡ drop 1 l → (l ≡ get_or front 0 y ∷ back) × (front ≡ get_or front 0 y ∷ [])
+pub split_first : {A : Type 0} (l front back : List A) (y : A) → 0 < length l → front ≡ take 1 l
+    → back ≡ drop 1 l → (l ≡ get_or front 0 y ∷ back) × (front ≡ get_or front 0 y ∷ [])
 split_first [] front back y long f b = absurd (omega arith)
-split_first (x ∷ l) front back y long f b = let g : front ≡ x ∷ [] = f in let h : back ≡ l = b in let same : get_or front 0 y ≡ x = ap (λ z. get_or z 0 y) g in (λ i. sym same i ∷ sym h i, g ∙ ap (λ z. z ∷ []) (sym same))
+split_first (x ∷ l) front back y long f b =
+    let g : front ≡ x ∷ [] = f in
+    let h : back ≡ l = b in
+    let same : get_or front 0 y ≡ x = ap (λ z. get_or z 0 y) g in
+    (λ i. sym same i ∷ sym h i, g ∙ ap (λ z. z ∷ []) (sym same))
 
 pub some_left : (n : ℕ) → false ≡ (n == 0) → 0 < n
 some_left zero e = absurd (cc)
 some_left (suc n) e = omega arith
 
-pub apart_more : (hands : List Hand) (h : Hand) (back : List DeskView) → Each (λ (d : DeskView). Each (λ (y : Hand). y.job ≢ d.job) hands) back → Each (λ (k : ℕ). k ≢ h.job) (jobs_of back) → Each (λ (d : DeskView). Each (λ (y : Hand). y.job ≢ d.job) (hands ++ h ∷ [])) back
+pub apart_more : (hands : List Hand) (h : Hand) (back : List DeskView) → Each (λ (d : DeskView). Each (λ (y : Hand). y.job ≢ d.job) hands) back
+    → Each (λ (k : ℕ). k ≢ h.job) (jobs_of back) → Each (λ (d : DeskView). Each (λ (y : Hand). y.job ≢ d.job) (hands ++ h ∷ [])) back
 apart_more hands h [] a e = tt
 apart_more hands h (d ∷ back) a e = (each-append (λ (y : Hand). y.job ≢ d.job) hands (h ∷ []) a.0 ((λ q. e.0 (sym q)), tt), apart_more hands h back a.1 e.1)
 
@@ -129,14 +141,31 @@ pub record Row (id : TableId) (hands : List Hand) (x : DeskView) (back : List De
   pub other : Each (λ (k : ℕ). k ≢ x.job) (jobs_of back)
   pub others : Distinct (jobs_of back)
 
-pub row : (id : TableId) (hands : List Hand) (l front back : List DeskView) (y : DeskView) → false ≡ (length l == 0) → front ≡ take 1 l → back ≡ drop 1 l → Each (λ (d : DeskView). d.table ≡ id) l
+pub row : (id : TableId) (hands : List Hand) (l front back : List DeskView) (y : DeskView)
+    → false ≡ (length l == 0) → front ≡ take 1 l → back ≡ drop 1 l → Each (λ (d : DeskView). d.table ≡ id) l
     → Each (λ (d : DeskView). Each (λ (y : Hand). y.job ≢ d.job) hands) l → Distinct (jobs_of l) → Row id hands (get_or front 0 y) back
-row id hands l front back y some f b tables aways distinct = let is : l ≡ get_or front 0 y ∷ back = (split_first l front back y (some_left (length l) some) f b).0 in
-    let t = subst (Each (λ (d : DeskView). d.table ≡ id)) is tables in let a = subst (Each (λ (d : DeskView). Each (λ (y : Hand). y.job ≢ d.job) hands)) is aways in let d = subst (λ (z : List DeskView). Distinct (jobs_of z)) is distinct in
+row id hands l front back y some f b tables aways distinct =
+    let is : l ≡ get_or front 0 y ∷ back = (split_first l front back y (some_left (length l) some) f b).0 in
+    let t = subst (Each (λ (d : DeskView). d.table ≡ id)) is tables in
+    let a = subst (Each (λ (d : DeskView). Each (λ (y : Hand). y.job ≢ d.job) hands)) is aways in
+    let d = subst (λ (z : List DeskView). Distinct (jobs_of z)) is distinct in
     record { table = t.0; tables = t.1; away = a.0; aways = a.1; other = d.0; others = d.1 }
 
 -- a desk whose seat is as before
-pub desk_still : {A : Type 0} (d : Inside A) (s : Seat LogView View) → s.me ≡ d.seat.me → IsDesk d → IsDesk record { seat = s; job = d.job; phase = d.phase; fork_marks = d.fork_marks; bottle_marks = d.bottle_marks; seen = d.seen; calm = d.calm; settled = d.settled; needed = d.needed; clock = d.clock; counts = d.counts }
+pub desk_still : {A : Type 0} (d : Inside A) (s : Seat LogView View) → s.me ≡ d.seat.me → IsDesk d
+    → IsDesk record {
+      seat = s;
+      job = d.job;
+      phase = d.phase;
+      fork_marks = d.fork_marks;
+      bottle_marks = d.bottle_marks;
+      seen = d.seen;
+      calm = d.calm;
+      settled = d.settled;
+      needed = d.needed;
+      clock = d.clock;
+      counts = d.counts;
+    }
 desk_still d s e ok = let v = sym (ap (λ m. m.0) e) in record {
   at_rest = subst AtRest v ok.at_rest;
   empty = ap (λ m. m.1) e ∙ ok.empty;

@@ -19,16 +19,19 @@ none_needed plan j n noted is wide = record {
 }
 
 -- one more is noted
-pub one_more : (plan : LabPlan) (j e n : ℕ) (x : Needed) (noted : List Needed) → n ≡ e → e < length (edges plan) → AreNamed plan j x.session e x.bottles → AreNeeded plan j noted → AreNeeded plan j (set noted n x)
+pub one_more : (plan : LabPlan) (j e n : ℕ) (x : Needed) (noted : List Needed) → n ≡ e → e < length (edges plan)
+    → AreNamed plan j x.session e x.bottles → AreNeeded plan j noted → AreNeeded plan j (set noted n x)
 one_more plan j e n x noted at inside named all = record {
   wide = length-set noted n x ∙ all.wide;
   each = λ f some. elim (cases_eq f e) [
     | inl here ↦
         let wide = all.wide in
-        let is : get_or (set noted n x) f nothing_noted ≡ x = ap (λ k. get_or (set noted n x) k nothing_noted) (here ∙ sym at) ∙ get_or-set_same noted n x nothing_noted (omega (arith, wide)) in
+        let is : get_or (set noted n x) f nothing_noted ≡ x =
+        ap (λ k. get_or (set noted n x) k nothing_noted) (here ∙ sym at) ∙ get_or-set_same noted n x nothing_noted (omega (arith, wide)) in
         subst (λ (y : ℕ × Needed). AreNamed plan j y.1.session y.0 y.1.bottles) (λ i. (sym here i, sym is i)) named
     | inr other ↦
-        let is : get_or (set noted n x) f nothing_noted ≡ get_or noted f nothing_noted = ap (λ k. get_or (set noted k x) f nothing_noted) at ∙ get_or-set_other noted e f x nothing_noted other in
+        let is : get_or (set noted n x) f nothing_noted ≡ get_or noted f nothing_noted =
+        ap (λ k. get_or (set noted k x) f nothing_noted) at ∙ get_or-set_other noted e f x nothing_noted other in
         subst (λ (y : Needed). AreNamed plan j y.session f y.bottles) (sym is) (all.each f (λ none. some (ap (λ (y : Needed). y.session) is ∙ none)))
   ];
 }

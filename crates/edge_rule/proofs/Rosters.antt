@@ -26,7 +26,9 @@ times_not j k xs other = times_first j k xs ∙ (ap (λ b. cond b 1 0 + times j 
 
 pub none_there : (j : ℕ) (desks : List DeskView) → times j (jobs_of desks) ≡ 0 → Any (λ (d : DeskView). d.job ≡ j) desks → ⊥
 none_there j [] nought a = a
-none_there j (d ∷ desks) nought (inl is) = let here : times j (jobs_of desks) + 1 ≡ 0 = sym (times_here j d.job (jobs_of desks) is) ∙ nought in absurd (omega (arith, here))
+none_there j (d ∷ desks) nought (inl is) =
+    let here : times j (jobs_of desks) + 1 ≡ 0 = sym (times_here j d.job (jobs_of desks) is) ∙ nought in
+    absurd (omega (arith, here))
 none_there j (d ∷ desks) nought (inr a) = elim (cases_eq d.job j) [
   | inl is ↦ let here : times j (jobs_of desks) + 1 ≡ 0 = sym (times_here j d.job (jobs_of desks) is) ∙ nought in absurd (omega (arith, here))
   | inr other ↦ none_there j desks (sym (times_not j d.job (jobs_of desks) other) ∙ nought) a
@@ -86,27 +88,37 @@ jobs_count (d ∷ desks) = ap suc (jobs_count desks)
 job_at : (desks : List DeskView) (i : ℕ) (x : DeskView) → i < length desks → x ≡ get_or desks i x → get_or (jobs_of desks) i 0 ≡ x.job
 job_at desks i x inside is = get_or-map (λ (d : DeskView). d.job) desks i x 0 inside ∙ ap (λ (d : DeskView). d.job) (sym is)
 
-pub one_counted : (desks : List DeskView) (i : ℕ) (x : DeskView) (j n : ℕ) → i < length desks → x ≡ get_or desks i x → n ≡ times j (take i (jobs_of desks)) → x.job ≡ j → n + 1 ≡ times j (take (i + 1) (jobs_of desks))
+pub one_counted : (desks : List DeskView) (i : ℕ) (x : DeskView) (j n : ℕ) → i < length desks → x ≡ get_or desks i x
+    → n ≡ times j (take i (jobs_of desks)) → x.job ≡ j → n + 1 ≡ times j (take (i + 1) (jobs_of desks))
 one_counted desks i x j n inside is so_far here =
     let long : length (jobs_of desks) ≡ length desks = jobs_count desks in
-    ap (λ z. z + 1) so_far ∙ sym (count_by_more_yes (λ k. k == j) (jobs_of desks) i 0 (omega arith) (eq-eqb (get_or (jobs_of desks) i 0) j (job_at desks i x inside is ∙ here)))
+    ap (λ z. z + 1) so_far
+    ∙ sym (count_by_more_yes (λ k. k == j) (jobs_of desks) i 0 (omega arith) (eq-eqb (get_or (jobs_of desks) i 0) j (job_at desks i x inside is ∙ here)))
 
-pub none_counted : (desks : List DeskView) (i : ℕ) (x : DeskView) (j n : ℕ) → i < length desks → x ≡ get_or desks i x → n ≡ times j (take i (jobs_of desks)) → x.job ≢ j → n ≡ times j (take (i + 1) (jobs_of desks))
+pub none_counted : (desks : List DeskView) (i : ℕ) (x : DeskView) (j n : ℕ) → i < length desks → x ≡ get_or desks i x
+    → n ≡ times j (take i (jobs_of desks)) → x.job ≢ j → n ≡ times j (take (i + 1) (jobs_of desks))
 none_counted desks i x j n inside is so_far other =
     let long : length (jobs_of desks) ≡ length desks = jobs_count desks in
-    so_far ∙ sym (count_by_more_no (λ k. k == j) (jobs_of desks) i 0 (omega arith) (ne_eqb (get_or (jobs_of desks) i 0) j (λ e. other (sym (job_at desks i x inside is) ∙ e))))
+    so_far ∙ sym (count_by_more_no (λ k. k == j) (jobs_of desks) i 0 (omega arith)
+    (ne_eqb (get_or (jobs_of desks) i 0) j (λ e. other (sym (job_at desks i x inside is) ∙ e))))
 
 pub few_counted : (desks : List DeskView) (i j : ℕ) → i < length desks → times j (take i (jobs_of desks)) ≤ i
-few_counted desks i j inside = let short = count_by-le-length (λ k. k == j) (take i (jobs_of desks)) in let long = length-take i (jobs_of desks) in omega (arith, short, long)
+few_counted desks i j inside =
+    let short = count_by-le-length (λ k. k == j) (take i (jobs_of desks)) in
+    let long = length-take i (jobs_of desks) in
+    omega (arith, short, long)
 
 pub all_counted : (desks : List DeskView) (n i j : ℕ) → length desks ≤ i → n ≡ times j (take i (jobs_of desks)) → n ≡ times j (jobs_of desks)
-all_counted desks n i j past is = let long : length (jobs_of desks) ≡ length desks = jobs_count desks in is ∙ ap (times j) (take_all i (jobs_of desks) (omega arith))
+all_counted desks n i j past is =
+    let long : length (jobs_of desks) ≡ length desks = jobs_count desks in
+    is ∙ ap (times j) (take_all i (jobs_of desks) (omega arith))
 
 -- the jobs of the first desks stand there at most once
 abbrev pub AreSeldomSoFar : List DeskView → ℕ → Type 0
 AreSeldomSoFar desks n = (i : ℕ) → i < n → times (get_or (jobs_of desks) i 0) (jobs_of desks) ≤ 1
 
-pub seldom_more : (desks : List DeskView) (n : ℕ) (x : DeskView) → n < length desks → x ≡ get_or desks n x → AreSeldomSoFar desks n → times x.job (jobs_of desks) ≤ 1 → AreSeldomSoFar desks (n + 1)
+pub seldom_more : (desks : List DeskView) (n : ℕ) (x : DeskView) → n < length desks → x ≡ get_or desks n x
+    → AreSeldomSoFar desks n → times x.job (jobs_of desks) ≤ 1 → AreSeldomSoFar desks (n + 1)
 seldom_more desks n x inside is so_far once i below = elim (cases_eq i n) [
   | inl here ↦ subst (λ z. times z (jobs_of desks) ≤ 1) (sym (ap (λ k. get_or (jobs_of desks) k 0) here ∙ job_at desks n x inside is)) once
   | inr other ↦ so_far i (omega arith)

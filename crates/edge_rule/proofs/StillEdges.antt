@@ -1,4 +1,5 @@
--- What is noted stays true: of a calm edge where neither the edge nor its marks change, nor how the job dines and drinks; of phase acts where the job's seat doesn't.
+-- What is noted stays true: of a calm edge where neither the edge nor its marks change, nor how the job dines and drinks; of phase acts where the job's seat
+-- doesn't.
 use Rattle.std.proofs.Common.{◌≡◌, ◌≢◌, ℕ, zero, suc, ◌<◌, Bool, true, false, List, [], ◌∷◌, length, get_or, set, replicate, refl, sym, ap, ◌∙◌, subst, inl, inr, arith, length-set, get_or-set_same, get_or-set_other}
 use Rattle.std.proofs.lemmas.List.{length-replicate}
 use Rattle.std.proofs.lemmas.Bool.{cases_eq, false≢true}
@@ -29,7 +30,8 @@ stays_still plan s t j e same still = record {
 }
 
 -- of a seat and edges that are as these
-pub same_at : (s t : State) (j e : ℕ) (x y : Seat) (l m : List EdgeState) → seat s j ≡ x → seat t j ≡ y → s.edges ≡ l → t.edges ≡ m → get_or m e no_edge ≡ get_or l e no_edge → but_position y.phase ≡ but_position x.phase
+pub same_at : (s t : State) (j e : ℕ) (x y : Seat) (l m : List EdgeState) → seat s j ≡ x → seat t j ≡ y
+    → s.edges ≡ l → t.edges ≡ m → get_or m e no_edge ≡ get_or l e no_edge → but_position y.phase ≡ but_position x.phase
     → get_or y.fork_marks e false ≡ get_or x.fork_marks e false → get_or y.bottle_marks e 0 ≡ get_or x.bottle_marks e 0 → IsSameAt s t j e
 same_at s t j e x y l m was is lwas mis edges phases forks bottles = record {
   edge_is = ap (λ (z : List EdgeState). get_or z e no_edge) mis ∙ (edges ∙ sym (ap (λ (z : List EdgeState). get_or z e no_edge) lwas));
@@ -56,17 +58,20 @@ pub stay_still : (plan : LabPlan) (s t : State) (j : ℕ) (noted : List Bool) �
 stay_still plan s t j noted same all = record { wide = all.wide; each = λ e is. stays_still plan s t j e (same e) (all.each e is) }
 
 -- all but one stay, which goes
-pub but_one : (plan : LabPlan) (s t : State) (j e : ℕ) (noted : List Bool) → e < length (edges plan) → ((f : ℕ) → f ≢ e → IsSameAt s t j f) → AreStill plan s j noted → AreStill plan t j (set noted e false)
+pub but_one : (plan : LabPlan) (s t : State) (j e : ℕ) (noted : List Bool) → e < length (edges plan)
+    → ((f : ℕ) → f ≢ e → IsSameAt s t j f) → AreStill plan s j noted → AreStill plan t j (set noted e false)
 but_one plan s t j e noted inside same all = record {
   wide = length-set noted e false ∙ all.wide;
   each = λ f is. elim (cases_eq f e) [
-    | inl here ↦ let n = all.wide in absurd (false≢true (sym (get_or-set_same noted e false false (omega arith)) ∙ (ap (λ k. get_or (set noted e false) k false) (sym here) ∙ is)))
+    | inl here ↦ let n = all.wide in
+        absurd (false≢true (sym (get_or-set_same noted e false false (omega arith)) ∙ (ap (λ k. get_or (set noted e false) k false) (sym here) ∙ is)))
     | inr other ↦ stays_still plan s t j f (same f other) (all.each f (sym (get_or-set_other noted e f false false other) ∙ is))
   ];
 }
 
 -- one more is noted
-pub one_more : (plan : LabPlan) (s : State) (j e n : ℕ) (noted : List Bool) → n ≡ e → e < length (edges plan) → IsStill plan s j e → AreStill plan s j noted → AreStill plan s j (set noted n true)
+pub one_more : (plan : LabPlan) (s : State) (j e n : ℕ) (noted : List Bool) → n ≡ e → e < length (edges plan)
+    → IsStill plan s j e → AreStill plan s j noted → AreStill plan s j (set noted n true)
 one_more plan s j e n noted at inside still all = record {
   wide = length-set noted n true ∙ all.wide;
   each = λ f is. elim (cases_eq f e) [

@@ -41,4 +41,15 @@ module _ (v n : View) (mine : IsMine v) (none : n.hands ≡ []) where
     starts_news = (each_end (StartsWith w.front) v.told (n.front ∷ n.told) t.told).0
 
 pub heard : (d : DeskView) (news : List Event) (e : DeskView) → Adds d [] e → StartsWith e.front news → Heard d news e
-heard d news e a starts = record { table = a.table; clock = a.clock; plan = a.plan; job = a.job; deeds = a.deeds ∙ append-nil d.deeds; more = a.between; front = a.front ∙ append-nil (d.front ++ a.between); starts = starts; legal = a.legal; whole = a.whole }
+heard d news e a starts = record {
+  table = a.table;
+  clock = a.clock;
+  plan = a.plan;
+  job = a.job;
+  deeds = a.deeds ∙ append-nil d.deeds;
+  more = a.between;
+  front = a.front ∙ append-nil (d.front ++ a.between);
+  starts = starts;
+  legal = a.legal;
+  whole = a.whole;
+}

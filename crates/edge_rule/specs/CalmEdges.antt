@@ -8,7 +8,8 @@ use Rattle.legal_steps.specs.Legal.{fork_mark_seen}
 use Rattle.turns.specs.Due.{IsCalm}
 use Rattle.edge_rule.specs.DeskView.{DeskView, Adds}
 
--- No move on the edge is legal, and the marks are those that a look at the word last seen sets. So a look that sees it again changes nothing, and nothing is due
+-- No move on the edge is legal, and the marks are those that a look at the word last seen sets. So a look that sees it again changes nothing, and nothing is
+-- due
 pub record IsStill (plan : LabPlan) (s : State) (j e : ℕ) : Type 0 where
   pub calm : IsCalm plan s j e
   pub fork : fork_mark s j e ≡ fork_mark_seen (dining s j) (end_of plan j e) (edge s e)

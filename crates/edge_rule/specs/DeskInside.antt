@@ -21,7 +21,14 @@ use Rattle.turns.specs.Acts.{IsSettled}
 use Rattle.edge_rule.specs.declared.desk.Desk.TheInside.{Inside}
 
 abbrev pub seat_view : Clock → TableSeat LogView View → DeskView
-seat_view k s = record { table = s.table_id; plan = (hand_in s.me.0).plan; job = (hand_in s.me.0).job; front = s.me.0.front; deeds = (hand_in s.me.0).deeds; clock = k }
+seat_view k s = record {
+  table = s.table_id;
+  plan = (hand_in s.me.0).plan;
+  job = (hand_in s.me.0).job;
+  front = s.me.0.front;
+  deeds = (hand_in s.me.0).deeds;
+  clock = k;
+}
 
 abbrev pub view_of : {A : Type 0} → Inside A → DeskView
 view_of d = seat_view d.clock d.seat

@@ -16,4 +16,5 @@ nothing_noted = record { session = 0; bottles = 0 }
 -- what is noted of an edge is so, whichever session it was
 pub record AreNeeded (plan : LabPlan) (j : ℕ) (noted : List Needed) : Type 0 where
   pub wide : length noted ≡ length (edges plan)
-  pub each : (e : ℕ) → (slice_index_or noted e nothing_noted).session ≢ 0 → AreNamed plan j (slice_index_or noted e nothing_noted).session e (slice_index_or noted e nothing_noted).bottles
+  pub each : (e : ℕ) → (slice_index_or noted e nothing_noted).session ≢ 0
+      → AreNamed plan j (slice_index_or noted e nothing_noted).session e (slice_index_or noted e nothing_noted).bottles

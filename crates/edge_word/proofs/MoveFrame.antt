@@ -14,7 +14,14 @@ use Rattle.edge_word.proofs.MoveLemmas.{after_if, after_group, fork_left, bottle
 -- ---- one write after another
 
 unchanged : (j e : ℕ) (s : State) → ChangesOnly j e s s
-unchanged j e s = record { as_many_edges = refl; other_edges = λ i other. refl; as_many_seats = refl; other_seats = λ i other. refl; own_phase = refl; logs = refl }
+unchanged j e s = record {
+  as_many_edges = refl;
+  other_edges = λ i other. refl;
+  as_many_seats = refl;
+  other_seats = λ i other. refl;
+  own_phase = refl;
+  logs = refl;
+}
 
 ChangesOnly-trans : (j e : ℕ) (s t u : State) → ChangesOnly j e s t → ChangesOnly j e t u → ChangesOnly j e s u
 ChangesOnly-trans j e s t u a b = record {
@@ -46,7 +53,8 @@ marks_written s j e x inside same = record {
   logs = refl;
 }
 
-both_written : (s : State) (j e : ℕ) (x : EdgeState) (y : Seat) → j < length s.seats → y.phase ≡ (seat s j).phase → ChangesOnly j e s (with_seat (with_edge s e x) j y)
+both_written : (s : State) (j e : ℕ) (x : EdgeState) (y : Seat) → j < length s.seats
+    → y.phase ≡ (seat s j).phase → ChangesOnly j e s (with_seat (with_edge s e x) j y)
 both_written s j e x y inside same = ChangesOnly-trans j e s (with_edge s e x) _ (edge_written s j e x) (marks_written (with_edge s e x) j e y inside same)
 
 -- ---- each event of a group, or none
@@ -73,7 +81,8 @@ soil_only plan s j e true h = both_written s j e _ _ h refl
 
 -- ---- the group
 
-all_only : (plan : LabPlan) (s : State) (j e : ℕ) (m : EdgeMoves) → j < length s.seats → ChangesOnly j e s (after_if plan m.soil (Soil j e) (bottles_wanted plan s j e m))
+all_only : (plan : LabPlan) (s : State) (j e : ℕ) (m : EdgeMoves) → j < length s.seats
+    → ChangesOnly j e s (after_if plan m.soil (Soil j e) (bottles_wanted plan s j e m))
 all_only plan s j e m h =
     let t1 = fork_left plan s j e m in let t2 = bottles_left plan s j e m in let t3 = fork_wanted plan s j e m in let t4 = bottles_wanted plan s j e m in
     let a = give_fork_only plan s j e m.give_fork h in

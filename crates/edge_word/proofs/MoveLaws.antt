@@ -51,7 +51,13 @@ soil_back false false true clean = refl
 -- the moves of a group, all at once
 pub at_once : (given asked soil : Bool) (set tokens : ℕ) (x : EdgeState)
     → after_moves (record { give_fork = given; give_bottles = set; ask_fork = asked; ask_bottles = tokens; soil = soil }) x
-    ≡ record { fork = end_moved given x.fork; dirty = dirty_after given soil x.dirty; token = end_moved asked x.token; bottles = bit_xor x.bottles set; bottle_tokens = bit_xor x.bottle_tokens tokens }
+    ≡ record {
+      fork = end_moved given x.fork;
+      dirty = dirty_after given soil x.dirty;
+      token = end_moved asked x.token;
+      bottles = bit_xor x.bottles set;
+      bottle_tokens = bit_xor x.bottle_tokens tokens;
+    }
 at_once false false false set tokens x = refl
 at_once false false true set tokens x = refl
 at_once false true false set tokens x = refl
@@ -65,13 +71,22 @@ at_once true true true set tokens x = refl
 moves_between-after : (m : EdgeMoves) (x : EdgeState) → (m.soil ≡ true → x.dirty ≡ false) → moves_between x (after_moves m x) ≡ m
 moves_between-after m x clean =
     ap (moves_between x) (at_once m.give_fork m.ask_fork m.soil m.give_bottles m.ask_bottles x)
-    ∙ rw (end_back m.give_fork x.fork, xor_back x.bottles m.give_bottles, end_back m.ask_fork x.token, xor_back x.bottle_tokens m.ask_bottles, soil_back m.give_fork m.soil x.dirty clean) refl
+    ∙ rw (
+      end_back m.give_fork x.fork,
+      xor_back x.bottles m.give_bottles,
+      end_back m.ask_fork x.token,
+      xor_back x.bottle_tokens m.ask_bottles,
+      soil_back m.give_fork m.soil x.dirty clean,
+    ) refl
 
 -- ---- the sets stay within the edge
 
 pub stays_of_its_bottles : StaysOfItsBottles
 stays_of_its_bottles = λ n m x sets h. rw (at_once m.give_fork m.ask_fork m.soil m.give_bottles m.ask_bottles x)
-    (record { bottles_fit = xor_lt n x.bottles m.give_bottles h.bottles_fit sets.give_fits; tokens_fit = xor_lt n x.bottle_tokens m.ask_bottles h.tokens_fit sets.ask_fits })
+    (record {
+      bottles_fit = xor_lt n x.bottles m.give_bottles h.bottles_fit sets.give_fits;
+      tokens_fit = xor_lt n x.bottle_tokens m.ask_bottles h.tokens_fit sets.ask_fits;
+    })
 
 inside_if : (set n : ℕ) → (not (set == 0) ≡ true → set < 2 ^ n) → set < 2 ^ n
 inside_if set n h = elim (cases_eq set 0) [ inl none ↦ rw none (pow_pos n) | inr some ↦ let f : (set == 0) ≡ false = grind (arith, nat_tests) in h (rw f refl) ]
@@ -80,7 +95,10 @@ pub legal_moves_are_of_the_edge : LegalMovesAreOfTheEdge
 legal_moves_are_of_the_edge = λ plan s j e m legal.
     let are = each_legal plan s j e m legal in
     let n = length (bottles plan e) in
-    record { give_fits = inside_if m.give_bottles n (λ some. (are.give_bottles some).1.of_edge); ask_fits = inside_if m.ask_bottles n (λ some. (are.ask_bottles some).2.of_edge) }
+    record {
+      give_fits = inside_if m.give_bottles n (λ some. (are.give_bottles some).1.of_edge);
+      ask_fits = inside_if m.ask_bottles n (λ some. (are.ask_bottles some).2.of_edge);
+    }
 
 -- ---- a legal group soils only a clean fork
 
@@ -89,18 +107,21 @@ turned Lower h = cc
 turned Higher h = cc
 
 -- the job has the fork here in the end, so it gave none
-clean_before : (given asked : Bool) (set tokens : ℕ) (x y : EdgeState) (here : End) → y ≡ bottles_asked tokens (when asked fork_asked (bottles_given set (when given fork_given x)))
+clean_before : (given asked : Bool) (set tokens : ℕ) (x y : EdgeState) (here : End)
+    → y ≡ bottles_asked tokens (when asked fork_asked (bottles_given set (when given fork_given x)))
     → (given ≡ true → x.fork ≡ here) → y.fork ≡ here → y.dirty ≡ false → x.dirty ≡ false
 clean_before false false set tokens x y here e had has clean = sym (ap (λ (z : EdgeState). z.dirty) e) ∙ clean
 clean_before false true set tokens x y here e had has clean = sym (ap (λ (z : EdgeState). z.dirty) e) ∙ clean
 clean_before true false set tokens x y here e had has clean = absurd (turned x.fork (sym (ap (λ (z : EdgeState). z.fork) e) ∙ (has ∙ sym (had refl))))
 clean_before true true set tokens x y here e had has clean = absurd (turned x.fork (sym (ap (λ (z : EdgeState). z.fork) e) ∙ (has ∙ sym (had refl))))
 
-soils_clean : (plan : LabPlan) (s : State) (j e : ℕ) (m : EdgeMoves) → e < length s.edges → IsLegalFrom plan s (events_of m j e) → m.soil ≡ true → (edge s e).dirty ≡ false
+soils_clean : (plan : LabPlan) (s : State) (j e : ℕ) (m : EdgeMoves) → e < length s.edges
+    → IsLegalFrom plan s (events_of m j e) → m.soil ≡ true → (edge s e).dirty ≡ false
 soils_clean plan s j e m h legal soil =
     let are = each_legal plan s j e m legal in
     let last = are.soil soil in
-    clean_before m.give_fork m.ask_fork m.give_bottles m.ask_bottles (edge s e) _ (end_of plan j e) (all_but_soil plan s j e m h).changed (λ g. (are.give_fork g).2) last.2 last.3
+    clean_before m.give_fork m.ask_fork m.give_bottles m.ask_bottles (edge s e) _ (end_of plan j e)
+    (all_but_soil plan s j e m h).changed (λ g. (are.give_fork g).2) last.2 last.3
 
 -- ---- the moves are read back from the two words
 
@@ -109,4 +130,5 @@ read_back = λ plan s j e m h few fit legal.
     let n = length (bottles plan e) in
     let x = edge s e in
     let after = IsOfBottles-28 n (after_moves m x) few (stays_of_its_bottles n m x (legal_moves_are_of_the_edge plan s j e m legal) fit) in
-    rw (state_of-word_of x (IsOfBottles-28 n x few fit).bottles_fit, state_of-word_of (after_moves m x) after.bottles_fit) (moves_between-after m x (soils_clean plan s j e m h legal))
+    rw (state_of-word_of x (IsOfBottles-28 n x few fit).bottles_fit, state_of-word_of (after_moves m x) after.bottles_fit)
+    (moves_between-after m x (soils_clean plan s j e m h legal))

@@ -18,11 +18,13 @@ abbrev pub after_if : LabPlan → Bool → Event → State → State
 after_if plan false event s = s
 after_if plan true event s = after plan s event
 
-after_on : (plan : LabPlan) (s : State) (b : Bool) (event : Event) (rest : List Event) → after_all plan s (on b event rest) ≡ after_all plan (after_if plan b event s) rest
+after_on : (plan : LabPlan) (s : State) (b : Bool) (event : Event) (rest : List Event)
+    → after_all plan s (on b event rest) ≡ after_all plan (after_if plan b event s) rest
 after_on plan s false event rest = refl
 after_on plan s true event rest = refl
 
-legal_on : (plan : LabPlan) (s : State) (b : Bool) (event : Event) (rest : List Event) → IsLegalFrom plan s (on b event rest) → (b ≡ true → May plan s event) × IsLegalFrom plan (after_if plan b event s) rest
+legal_on : (plan : LabPlan) (s : State) (b : Bool) (event : Event) (rest : List Event)
+    → IsLegalFrom plan s (on b event rest) → (b ≡ true → May plan s event) × IsLegalFrom plan (after_if plan b event s) rest
 legal_on plan s false event rest h = ((λ e. absurd (false≢true e)), h)
 legal_on plan s true event rest h = ((λ e. h.0), h.1)
 
@@ -39,13 +41,15 @@ soil_if : (plan : LabPlan) (s : State) (j e : ℕ) (b : Bool) → e < length s.e
 soil_if plan s j e false h = record { changed = refl; as_many = refl }
 soil_if plan s j e true h = Soil-changes plan s j e h
 
-give_bottles_if : (plan : LabPlan) (s : State) (j e set : ℕ) → e < length s.edges → Changes s (after_if plan (not (set == 0)) (GiveBottles j e set) s) e (bottles_given set)
+give_bottles_if : (plan : LabPlan) (s : State) (j e set : ℕ) → e < length s.edges
+    → Changes s (after_if plan (not (set == 0)) (GiveBottles j e set) s) e (bottles_given set)
 give_bottles_if plan s j e set h = elim (cases_eq set 0) [
   | inl none ↦ rw none (record { changed = rw (xor_zero_r (edge s e).bottles) refl; as_many = refl })
   | inr some ↦ let f : (set == 0) ≡ false = grind (arith, nat_tests) in rw f (GiveBottles-changes plan s j e set h)
 ]
 
-ask_bottles_if : (plan : LabPlan) (s : State) (j e set : ℕ) → e < length s.edges → Changes s (after_if plan (not (set == 0)) (AskBottles j e set) s) e (bottles_asked set)
+ask_bottles_if : (plan : LabPlan) (s : State) (j e set : ℕ) → e < length s.edges
+    → Changes s (after_if plan (not (set == 0)) (AskBottles j e set) s) e (bottles_asked set)
 ask_bottles_if plan s j e set h = elim (cases_eq set 0) [
   | inl none ↦ rw none (record { changed = rw (xor_zero_r (edge s e).bottle_tokens) refl; as_many = refl })
   | inr some ↦ let f : (set == 0) ≡ false = grind (arith, nat_tests) in rw f (AskBottles-changes plan s j e set h)
@@ -66,19 +70,22 @@ bottles_wanted plan s j e m = after_if plan (not (m.ask_bottles == 0)) (AskBottl
 
 -- the edge before the last event of a group
 pub all_but_soil : (plan : LabPlan) (s : State) (j e : ℕ) (m : EdgeMoves) → e < length s.edges
-    → Changes s (bottles_wanted plan s j e m) e (λ x. bottles_asked m.ask_bottles (when m.ask_fork fork_asked (bottles_given m.give_bottles (when m.give_fork fork_given x))))
+    → Changes s (bottles_wanted plan s j e m) e
+    (λ x. bottles_asked m.ask_bottles (when m.ask_fork fork_asked (bottles_given m.give_bottles (when m.give_fork fork_given x))))
 all_but_soil plan s j e m h =
     let a = give_fork_if plan s j e m.give_fork h in
     let b = give_bottles_if plan (fork_left plan s j e m) j e m.give_bottles (omega (arith, a.as_many)) in
     let c = ask_fork_if plan (bottles_left plan s j e m) j e m.ask_fork (omega (arith, a.as_many, b.as_many)) in
     let d = ask_bottles_if plan (fork_wanted plan s j e m) j e m.ask_bottles (omega (arith, a.as_many, b.as_many, c.as_many)) in
     record {
-      changed = d.changed ∙ ap (bottles_asked m.ask_bottles) (c.changed ∙ ap (when m.ask_fork fork_asked) (b.changed ∙ ap (bottles_given m.give_bottles) a.changed));
+      changed = d.changed ∙ ap (bottles_asked m.ask_bottles) (c.changed
+          ∙ ap (when m.ask_fork fork_asked) (b.changed ∙ ap (bottles_given m.give_bottles) a.changed));
       as_many = d.as_many ∙ (c.as_many ∙ (b.as_many ∙ a.as_many));
     }
 
 -- the state after a group
-pub after_group : (plan : LabPlan) (s : State) (j e : ℕ) (m : EdgeMoves) → after_all plan s (events_of m j e) ≡ after_if plan m.soil (Soil j e) (bottles_wanted plan s j e m)
+pub after_group : (plan : LabPlan) (s : State) (j e : ℕ) (m : EdgeMoves)
+    → after_all plan s (events_of m j e) ≡ after_if plan m.soil (Soil j e) (bottles_wanted plan s j e m)
 after_group plan s j e m =
     after_on plan s m.give_fork (GiveFork j e) _
     ∙ (after_on plan (fork_left plan s j e m) (not (m.give_bottles == 0)) (GiveBottles j e m.give_bottles) _
@@ -87,7 +94,8 @@ after_group plan s j e m =
     ∙ after_on plan (bottles_wanted plan s j e m) m.soil (Soil j e) [])))
 
 -- its events lead to the edge that `after_moves` says
-pub after_all-moves : (plan : LabPlan) (s : State) (j e : ℕ) (m : EdgeMoves) → e < length s.edges → edge (after_all plan s (events_of m j e)) e ≡ after_moves m (edge s e)
+pub after_all-moves : (plan : LabPlan) (s : State) (j e : ℕ) (m : EdgeMoves)
+    → e < length s.edges → edge (after_all plan s (events_of m j e)) e ≡ after_moves m (edge s e)
 after_all-moves plan s j e m h =
     let b = all_but_soil plan s j e m h in
     let last = soil_if plan (bottles_wanted plan s j e m) j e m.soil (omega (arith, b.as_many)) in

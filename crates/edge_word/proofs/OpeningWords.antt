@@ -35,7 +35,8 @@ computed-word_of : (n : ℕ) → n ≤ 28 → computed n ≡ word_of (opening_ed
 unfolding word_of_fields
 computed-word_of n few = let most : 2 ^ n ≤ 2 ^ 28 = pow-le-pow_right (lit< tt) few in let some : 0 < 2 ^ n = pow_pos n in omega (arith, most, some)
 
-pub opening_word : (n : ℕ) → n ≤ 28 → IsEdgeWord ((1 * 2 ^ n % 2 ^ 64 - 1) * 2 ^ 32 % 2 ^ 64 + 6) × (state_of ((1 * 2 ^ n % 2 ^ 64 - 1) * 2 ^ 32 % 2 ^ 64 + 6) ≡ opening_edge n)
+pub opening_word : (n : ℕ) → n ≤ 28
+    → IsEdgeWord ((1 * 2 ^ n % 2 ^ 64 - 1) * 2 ^ 32 % 2 ^ 64 + 6) × (state_of ((1 * 2 ^ n % 2 ^ 64 - 1) * 2 ^ 32 % 2 ^ 64 + 6) ≡ opening_edge n)
 opening_word n few =
     let most : 2 ^ n ≤ 2 ^ 28 = pow-le-pow_right (lit< tt) few in
     let some : 0 < 2 ^ n = pow_pos n in

@@ -16,13 +16,15 @@ Spells-word_of : (n : ℕ) (x : EdgeState) → n ≤ 28 → IsOfBottles n x → 
 Spells-word_of n x few h =
     let fit = IsOfBottles-28 n x few h in
     let w = word_of x in
-    let e = word_fields (end_bit x.fork) (flag_bit x.dirty) (end_bit x.token) x.bottles x.bottle_tokens (end_bit-lt x.fork) (flag_bit-lt x.dirty) (end_bit-lt x.token) fit.bottles_fit in
+    let e = word_fields (end_bit x.fork) (flag_bit x.dirty) (end_bit x.token) x.bottles x.bottle_tokens
+    (end_bit-lt x.fork) (flag_bit-lt x.dirty) (end_bit-lt x.token) fit.bottles_fit in
     record {
       fork = ap (λ n. n % 2) (omega arith) ∙ e.0;
       dirty = e.1;
       token = e.2;
       zero = e.3;
-      bottles = λ k inside. rw (← shr-shr w 4 k) (ap (λ n. bit_at n k) (sym (shr_split (w / 2 ^ 4) 28)) ∙ (bit_at_cat_low (w / 2 ^ 4 / 2 ^ 28) 28 (w / 2 ^ 4 % 2 ^ 28) k inside ∙ ap (λ n. bit_at n k) e.4));
+      bottles = λ k inside. rw (← shr-shr w 4 k) (ap (λ n. bit_at n k) (sym (shr_split (w / 2 ^ 4) 28))
+          ∙ (bit_at_cat_low (w / 2 ^ 4 / 2 ^ 28) 28 (w / 2 ^ 4 % 2 ^ 28) k inside ∙ ap (λ n. bit_at n k) e.4));
       bottle_tokens = λ k inside. rw (← shr-shr w 32 k) (ap (λ n. bit_at n k) e.5);
       top = λ i above. bit_at_above w 60 i (IsEdgeWord-word_of x fit).top_bits above;
       no_other_bottle = λ k past. (bit_at_above x.bottles n k h.bottles_fit past, bit_at_above x.bottle_tokens n k h.tokens_fit past);

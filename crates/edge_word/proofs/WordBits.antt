@@ -16,10 +16,12 @@ use Rattle.edge_word.specs.declared.edge.Flips.{Flips}
 
 -- two words differ where their fields do
 pub word_xor : (f d t b k f' d' t' b' k' : ℕ) → f < 2 → d < 2 → t < 2 → b < 2 ^ 28 → f' < 2 → d' < 2 → t' < 2 → b' < 2 ^ 28
-    → bit_xor (word_of_fields f d t b k) (word_of_fields f' d' t' b' k') ≡ word_of_fields (bit_xor f f') (bit_xor d d') (bit_xor t t') (bit_xor b b') (bit_xor k k')
+    → bit_xor (word_of_fields f d t b k) (word_of_fields f' d' t' b' k')
+    ≡ word_of_fields (bit_xor f f') (bit_xor d d') (bit_xor t t') (bit_xor b b') (bit_xor k k')
 unfolding word_of_fields
 word_xor f d t b k f' d' t' b' k' p q r s p' q' r' s' =
-    let steps : (f d t b k : ℕ) → k * 2 ^ 32 + b * 2 ^ 4 + t * 4 + d * 2 + f ≡ (k * 2 ^ 28 + b) * 2 ^ 4 + (t * 2 ^ 2 + (d * 2 ^ 1 + f)) = λ f d t b k. omega arith in
+    let steps : (f d t b k : ℕ) → k * 2 ^ 32 + b * 2 ^ 4 + t * 4 + d * 2 + f ≡ (k * 2 ^ 28 + b) * 2 ^ 4 + (t * 2 ^ 2 + (d * 2 ^ 1 + f)) =
+    λ f d t b k. omega arith in
     rw (
       steps f d t b k,
       steps f' d' t' b' k',
@@ -45,12 +47,16 @@ flag_turned-bit true true = refl
 -- the word of the edge after the change
 pub word_of-flipped : (x : EdgeState) (m : Flips) → x.bottles < 2 ^ 28 → m.bottles < 2 ^ 28 → bit_xor (word_of x) (mask m) ≡ word_of (flipped m x)
 word_of-flipped x m h g =
-    word_xor (end_bit x.fork) (flag_bit x.dirty) (end_bit x.token) x.bottles x.bottle_tokens (flag_bit m.fork) (flag_bit m.dirty) (flag_bit m.token) m.bottles m.bottle_tokens
+    word_xor (end_bit x.fork) (flag_bit x.dirty) (end_bit x.token) x.bottles x.bottle_tokens
+    (flag_bit m.fork) (flag_bit m.dirty) (flag_bit m.token) m.bottles m.bottle_tokens
     (end_bit-lt x.fork) (flag_bit-lt x.dirty) (end_bit-lt x.token) h (flag_bit-lt m.fork) (flag_bit-lt m.dirty) (flag_bit-lt m.token) g
     ∙ rw (end_moved-bit m.fork x.fork, flag_turned-bit m.dirty x.dirty, end_moved-bit m.token x.token) refl
 
 pub IsOfBottles-flipped : (n : ℕ) (x : EdgeState) (m : Flips) → IsOfBottles n x → m.bottles < 2 ^ n → m.bottle_tokens < 2 ^ n → IsOfBottles n (flipped m x)
-IsOfBottles-flipped n x m h p q = record { bottles_fit = xor_lt n x.bottles m.bottles h.bottles_fit p; tokens_fit = xor_lt n x.bottle_tokens m.bottle_tokens h.tokens_fit q }
+IsOfBottles-flipped n x m h p q = record {
+  bottles_fit = xor_lt n x.bottles m.bottles h.bottles_fit p;
+  tokens_fit = xor_lt n x.bottle_tokens m.bottle_tokens h.tokens_fit q;
+}
 
 -- the state of an edge word has no bottle from 28 on
 pub IsOfBottles-state_of : (w : ℕ) → IsEdgeWord w → IsOfBottles 28 (state_of w)
@@ -62,11 +68,13 @@ pub word_behind : (w : ℕ) (x : EdgeState) → IsEdgeWord w → state_of w ≡ 
 word_behind w x h e = sym (word_of-state_of w h) ∙ ap word_of e
 
 -- a word that is changed spells the changed state
-pub state_of-flipped : (w n : ℕ) (x : EdgeState) (m : Flips) → IsEdgeWord w → state_of w ≡ x → m.bottles < 2 ^ 28 → m.bottle_tokens < 2 ^ 28 → n ≡ mask m → IsEdgeWord (bit_xor w n) × (state_of (bit_xor w n) ≡ flipped m x)
+pub state_of-flipped : (w n : ℕ) (x : EdgeState) (m : Flips) → IsEdgeWord w → state_of w ≡ x → m.bottles < 2 ^ 28
+    → m.bottle_tokens < 2 ^ 28 → n ≡ mask m → IsEdgeWord (bit_xor w n) × (state_of (bit_xor w n) ≡ flipped m x)
 state_of-flipped w n x m h e p q k =
     let fits : IsOfBottles 28 x = subst (IsOfBottles 28) e (IsOfBottles-state_of w h) in
     let after = IsOfBottles-flipped 28 x m fits p q in
-    let same : bit_xor w n ≡ word_of (flipped m x) = ap (bit_xor w) k ∙ (ap (λ a. bit_xor a (mask m)) (word_behind w x h e) ∙ word_of-flipped x m fits.bottles_fit p) in
+    let same : bit_xor w n ≡ word_of (flipped m x) =
+    ap (bit_xor w) k ∙ (ap (λ a. bit_xor a (mask m)) (word_behind w x h e) ∙ word_of-flipped x m fits.bottles_fit p) in
     (rw same (IsEdgeWord-word_of (flipped m x) after), rw same (state_of-word_of (flipped m x) after.bottles_fit))
 
 -- ---- the test of a word
@@ -82,15 +90,18 @@ pub IsEdgeWord-tested : (w n : ℕ) → n ≤ 28 → stray_bits w n ≡ 0 → Is
 unfolding state_of
 IsEdgeWord-tested w n few e =
     let tokens = below (w / 2 ^ 32) n (omega arith) in
-    let most : 2 ^ n ≤ 2 ^ 28 = pow-le-pow_right (lit< tt) few in
-    (record { bit_three = omega arith; top_bits = omega (arith, tokens, most) }, record { bottles_fit = below (w / 2 ^ 4 % 2 ^ 28) n (omega arith); tokens_fit = tokens })
+    let most : 2 ^ n ≤ 2 ^ 28 = pow-le-pow_right (lit< tt) few in (
+      record { bit_three = omega arith; top_bits = omega (arith, tokens, most) },
+      record { bottles_fit = below (w / 2 ^ 4 % 2 ^ 28) n (omega arith); tokens_fit = tokens },
+    )
 
 -- a word of n bottles passes the test
 pub tested : (x : EdgeState) (w n : ℕ) → n ≤ 28 → IsOfBottles n x → word_of x ≡ w → stray_bits w n ≡ 0
 tested x w n few h same =
     let most : 2 ^ n ≤ 2 ^ 28 = pow-le-pow_right (lit< tt) few in
     let b : x.bottles < 2 ^ 28 = omega (arith, h.bottles_fit) in
-    let e = word_fields (end_bit x.fork) (flag_bit x.dirty) (end_bit x.token) x.bottles x.bottle_tokens (end_bit-lt x.fork) (flag_bit-lt x.dirty) (end_bit-lt x.token) b in
+    let e = word_fields (end_bit x.fork) (flag_bit x.dirty) (end_bit x.token) x.bottles x.bottle_tokens
+    (end_bit-lt x.fork) (flag_bit-lt x.dirty) (end_bit-lt x.token) b in
     let y : w / 2 ^ 4 % 2 ^ 28 / 2 ^ n ≡ 0 = rw (← same, e.4) (above x.bottles n h.bottles_fit) in
     let z : w / 2 ^ 32 / 2 ^ n ≡ 0 = rw (← same, e.5) (above x.bottle_tokens n h.tokens_fit) in
     let v : w / 8 % 2 ≡ 0 = rw (← same) e.3 in

@@ -27,14 +27,17 @@ flag_bit-lt false = omega arith
 flag_bit-lt true = omega arith
 
 -- the fields of a word
-pub word_fields : (f d t b k : ℕ) → f < 2 → d < 2 → t < 2 → b < 2 ^ 28 → (word_of_fields f d t b k % 2 ≡ f) × (word_of_fields f d t b k / 2 % 2 ≡ d) × (word_of_fields f d t b k / 4 % 2 ≡ t) × (word_of_fields f d t b k / 8 % 2 ≡ 0) × (word_of_fields f d t b k / 2 ^ 4 % 2 ^ 28 ≡ b) × (word_of_fields f d t b k / 2 ^ 32 ≡ k)
+pub word_fields : (f d t b k : ℕ) → f < 2 → d < 2 → t < 2 → b < 2 ^ 28 → (word_of_fields f d t b k % 2 ≡ f)
+    × (word_of_fields f d t b k / 2 % 2 ≡ d) × (word_of_fields f d t b k / 4 % 2 ≡ t) × (word_of_fields f d t b k / 8 % 2 ≡ 0)
+    × (word_of_fields f d t b k / 2 ^ 4 % 2 ^ 28 ≡ b) × (word_of_fields f d t b k / 2 ^ 32 ≡ k)
 unfolding word_of_fields
 word_fields f d t b k p q r s = (omega arith, omega arith, omega arith, omega arith, omega arith, omega arith)
 
 pub state_of-word_of : (x : EdgeState) → x.bottles < 2 ^ 28 → state_of (word_of x) ≡ x
 unfolding state_of
 state_of-word_of x h =
-    let e = word_fields (end_bit x.fork) (flag_bit x.dirty) (end_bit x.token) x.bottles x.bottle_tokens (end_bit-lt x.fork) (flag_bit-lt x.dirty) (end_bit-lt x.token) h in
+    let e = word_fields (end_bit x.fork) (flag_bit x.dirty) (end_bit x.token) x.bottles x.bottle_tokens
+    (end_bit-lt x.fork) (flag_bit-lt x.dirty) (end_bit-lt x.token) h in
     rw (e.0, e.1, e.2, e.4, e.5, end_at-end_bit x.fork, flag_at-flag_bit x.dirty, end_at-end_bit x.token) refl
 
 -- the word of a state is an edge word, and no other state has it

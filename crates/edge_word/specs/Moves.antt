@@ -45,7 +45,8 @@ when true f x = f x
 
 -- the edge after the moves
 abbrev pub after_moves : EdgeMoves → EdgeState → EdgeState
-after_moves m x = when m.soil fork_soiled (bottles_asked m.ask_bottles (when m.ask_fork fork_asked (bottles_given m.give_bottles (when m.give_fork fork_given x))))
+after_moves m x =
+    when m.soil fork_soiled (bottles_asked m.ask_bottles (when m.ask_fork fork_asked (bottles_given m.give_bottles (when m.give_fork fork_given x))))
 
 -- the sets name bottles of an edge that has n
 pub record AreOfBottles (n : ℕ) (m : EdgeMoves) : Type 0 where

@@ -14,4 +14,5 @@ flag_bit-flag_at b h = grind (arith, nat_tests)
 
 pub word_of-state_of : (w : ℕ) → IsEdgeWord w → word_of (state_of w) ≡ w
 unfolding word_of_fields state_of
-word_of-state_of w h = rw (end_bit-end_at (w % 2) (omega arith), flag_bit-flag_at (w / 2 % 2) (omega arith), end_bit-end_at (w / 4 % 2) (omega arith)) (omega (arith, h.bit_three, h.top_bits))
+word_of-state_of w h = rw (end_bit-end_at (w % 2) (omega arith), flag_bit-flag_at (w / 2 % 2) (omega arith), end_bit-end_at (w / 4 % 2) (omega arith))
+    (omega (arith, h.bit_three, h.top_bits))

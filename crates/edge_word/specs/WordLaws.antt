@@ -45,7 +45,8 @@ StaysOfItsBottles = (n : ℕ) (m : EdgeMoves) (x : EdgeState) → AreOfBottles n
 
 -- a legal group of moves names bottles of its edge alone
 abbrev pub LegalMovesAreOfTheEdge : Type 0
-LegalMovesAreOfTheEdge = (plan : LabPlan) (s : State) (j e : ℕ) (m : EdgeMoves) → IsLegalFrom plan s (events_of m j e) → AreOfBottles (length (bottles plan e)) m
+LegalMovesAreOfTheEdge = (plan : LabPlan) (s : State) (j e : ℕ) (m : EdgeMoves)
+    → IsLegalFrom plan s (events_of m j e) → AreOfBottles (length (bottles plan e)) m
 
 -- a legal group of moves is read back from the words before and after it
 abbrev pub MovesAreReadBack : Type 0

@@ -19,7 +19,14 @@ verb_of-byte Read = refl
 
 -- entries with the same fields are the same
 entry_same : (x y : Entry) → x.job ≡ y.job → x.session ≡ y.session → x.place ≡ y.place → x.length ≡ y.length → x.verb ≡ y.verb → x.value ≡ y.value → x ≡ y
-entry_same x y job session place length verb value = λ i. record { job = job i; session = session i; place = place i; length = length i; verb = verb i; value = value i }
+entry_same x y job session place length verb value = λ i. record {
+  job = job i;
+  session = session i;
+  place = place i;
+  length = length i;
+  verb = verb i;
+  value = value i;
+}
 
 -- the entry that the bytes of an entry spell is that entry
 pub entry_of-entry_bytes : (entry : Entry) → IsWithinLimits entry → entry_of (entry_bytes entry) ≡ entry

@@ -12,7 +12,8 @@ use Rattle.instrument_log.proofs.EntryLemmas.{entry_of-entry_bytes}
 use Rattle.instrument_log.proofs.WholeLemmas.{IsWholeButEnd-empty, IsWholeButEnd-push}
 use Rattle.instrument_log.proofs.PartLemmas.{dial-push, open_entry-push, HasDialValues-push, unfinished_of-push-le}
 
-pub IsLog-push : (log : LogView) (entry : Entry) → IsLog log → MayAppend log entry → IsWithinLimits entry → entry.value ≡ turned entry.verb (dial log.entries) → IsLog (with_entry log entry)
+pub IsLog-push : (log : LogView) (entry : Entry) → IsLog log → MayAppend log entry → IsWithinLimits entry
+    → entry.value ≡ turned entry.verb (dial log.entries) → IsLog (with_entry log entry)
 IsLog-push log entry kept may within value = record {
   whole_but_end = IsWholeButEnd-push log.entries entry kept.whole_but_end may.follows within.place_to;
   on_dial = HasDialValues-push log.entries entry kept.on_dial value;
@@ -20,10 +21,12 @@ IsLog-push log entry kept may within value = record {
   fits_room = omega (arith, length-append log.entries (entry ∷ []), may.has_room);
 }
 
-pub entries_of-push : (packed : List (List ℕ)) (entry : Entry) → IsWithinLimits entry → entries_of (packed ++ entry_bytes entry ∷ []) ≡ entries_of packed ++ entry ∷ []
+pub entries_of-push : (packed : List (List ℕ)) (entry : Entry) → IsWithinLimits entry
+    → entries_of (packed ++ entry_bytes entry ∷ []) ≡ entries_of packed ++ entry ∷ []
 entries_of-push packed entry within = map_push entry_of packed (entry_bytes entry) ∙ ap (λ x. entries_of packed ++ x ∷ []) (entry_of-entry_bytes entry within)
 
-pub IsKept-push : (packed : List (List ℕ)) (room : ℕ) (open_last : Option Entry) (value : ℕ) (entry : Entry) → IsKept packed room open_last value → MayAppend (record { entries = entries_of packed; room = room }) entry → IsWithinLimits entry → entry.value ≡ turned entry.verb (dial (entries_of packed))
+pub IsKept-push : (packed : List (List ℕ)) (room : ℕ) (open_last : Option Entry) (value : ℕ) (entry : Entry) → IsKept packed room open_last value
+    → MayAppend (record { entries = entries_of packed; room = room }) entry → IsWithinLimits entry → entry.value ≡ turned entry.verb (dial (entries_of packed))
     → IsKept (packed ++ entry_bytes entry ∷ []) room (if_open entry) entry.value
 IsKept-push packed room open_last value entry kept may within dialled =
     let entries = entries_of packed in
@@ -32,7 +35,13 @@ IsKept-push packed room open_last value entry kept may within dialled =
       is_log = subst (λ xs. IsLog (record { entries = xs; room = room })) longer (IsLog-push _ entry kept.is_log may within dialled);
       packed_is = ap (λ xs. xs ++ entry_bytes entry ∷ []) kept.packed_is ∙ sym (map_push entry_bytes entries entry) ∙ ap (map entry_bytes) longer;
       open_is = sym (open_entry-push entries entry) ∙ ap open_entry longer;
-      counted = omega (arith, length-append packed (entry_bytes entry ∷ []), ap unfinished_of longer, unfinished_of-push-le entries entry (length packed) may.follows kept.counted);
+      counted =
+          omega (
+            arith,
+            length-append packed (entry_bytes entry ∷ []),
+            ap unfinished_of longer,
+            unfinished_of-push-le entries entry (length packed) may.follows kept.counted,
+          );
       value_is = dialled ∙ sym (dial-push entries entry) ∙ ap dial longer;
       value_to = within.value_to;
     }
@@ -40,7 +49,12 @@ IsKept-push packed room open_last value entry kept may within dialled =
 pub IsKept-empty : (room : ℕ) → IsKept [] room None 0
 unfolding open_entry dial
 IsKept-empty room = record {
-  is_log = record { whole_but_end = IsWholeButEnd-empty; on_dial = λ k entry got. cc; within_limits = λ k d inside. absurd (omega arith); fits_room = omega arith };
+  is_log = record {
+    whole_but_end = IsWholeButEnd-empty;
+    on_dial = λ k entry got. cc;
+    within_limits = λ k d inside. absurd (omega arith);
+    fits_room = omega arith;
+  };
   packed_is = refl;
   open_is = refl;
   counted = omega arith;

@@ -25,32 +25,37 @@ pub unfinished_of-push : (entries : List Entry) (entry : Entry) → unfinished_o
 unfinished_of-push entries entry = ap (λ o. option_map_or (λ last. last.place) o 0) (open_entry-push entries entry)
 
 -- an entry of a longer list is one of the shorter, or the new one
-pub slice_get-push : (xs : List Entry) (x : Entry) (k : ℕ) (y : Entry) → slice_get (xs ++ x ∷ []) k ≡ Some y → ((k < length xs) × (slice_get xs k ≡ Some y)) ⊎ ((k ≡ length xs) × (x ≡ y))
+pub slice_get-push : (xs : List Entry) (x : Entry) (k : ℕ) (y : Entry) → slice_get (xs ++ x ∷ []) k ≡ Some y
+    → ((k < length xs) × (slice_get xs k ≡ Some y)) ⊎ ((k ≡ length xs) × (x ≡ y))
 slice_get-push [] x zero y e = inr (refl, cc)
 slice_get-push [] x (suc k) y e = cc
 slice_get-push (z ∷ xs) x zero y e = inl (omega arith, e)
 slice_get-push (z ∷ xs) x (suc k) y e = elim (slice_get-push xs x k y e) [ inl w ↦ inl (omega arith, w.1) | inr w ↦ inr (omega arith, w.1) ]
 
 -- what is so of each entry and those before it, and of one more entry, is so of the longer list
-each-push : (P : List Entry → Entry → Type 0) (xs : List Entry) (x : Entry) → ((k : ℕ) (y : Entry) → slice_get xs k ≡ Some y → P (take k xs) y) → P xs x → (k : ℕ) (y : Entry) → slice_get (xs ++ x ∷ []) k ≡ Some y → P (take k (xs ++ x ∷ [])) y
+each-push : (P : List Entry → Entry → Type 0) (xs : List Entry) (x : Entry) → ((k : ℕ) (y : Entry) → slice_get xs k ≡ Some y → P (take k xs) y)
+    → P xs x → (k : ℕ) (y : Entry) → slice_get (xs ++ x ∷ []) k ≡ Some y → P (take k (xs ++ x ∷ [])) y
 each-push P xs x before here k y e = elim (slice_get-push xs x k y e) [
   | inl w ↦ subst (λ t. P t y) (sym (take-append-le k xs (x ∷ []) (omega arith))) (before k y w.1)
   | inr w ↦ subst (λ n. P (take n (xs ++ x ∷ [])) y) (sym w.0) (subst (λ t. P t y) (sym (take-append_seam xs (x ∷ []))) (subst (λ z. P xs z) w.1 here))
 ]
 
-pub HasDialValues-push : (entries : List Entry) (entry : Entry) → HasDialValues entries → entry.value ≡ turned entry.verb (dial entries) → HasDialValues (entries ++ entry ∷ [])
+pub HasDialValues-push : (entries : List Entry) (entry : Entry) → HasDialValues entries
+    → entry.value ≡ turned entry.verb (dial entries) → HasDialValues (entries ++ entry ∷ [])
 HasDialValues-push entries entry before here = each-push (λ xs x. x.value ≡ turned x.verb (dial xs)) entries entry before here
 
 if_open-place : (entry : Entry) (b : Bool) → option_map_or (λ last. last.place) (if b then Some entry else None) 0 ≤ entry.place
 if_open-place entry true = omega arith
 if_open-place entry false = omega arith
 
-follows-place : (o : Option Entry) (entry : Entry) (n : ℕ) → MatchOption o (entry.place ≡ 1) (λ before. IsNextPlace before entry) → option_map_or (λ last. last.place) o 0 ≤ n → entry.place ≤ n + 1
+follows-place : (o : Option Entry) (entry : Entry) (n : ℕ) → MatchOption o (entry.place ≡ 1) (λ before. IsNextPlace before entry)
+    → option_map_or (λ last. last.place) o 0 ≤ n → entry.place ≤ n + 1
 follows-place None entry n first few = omega arith
 follows-place (Some before) entry n next few = omega arith
 
 -- an unfinished part has no more entries than the log
-pub unfinished_of-push-le : (entries : List Entry) (entry : Entry) (n : ℕ) → Follows entries entry → unfinished_of entries ≤ n → unfinished_of (entries ++ entry ∷ []) ≤ n + 1
+pub unfinished_of-push-le : (entries : List Entry) (entry : Entry) (n : ℕ) → Follows entries entry
+    → unfinished_of entries ≤ n → unfinished_of (entries ++ entry ∷ []) ≤ n + 1
 unfinished_of-push-le entries entry n follows few =
     let new = unfinished_of-push entries entry in
     let placed = if_open-place entry (nat_lt entry.place entry.length) in

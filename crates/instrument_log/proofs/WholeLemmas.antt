@@ -46,13 +46,16 @@ IsPartUpTo-first entry first = record {
 }
 
 -- the part that the entry is of, with the rest of the log before it
-IsPartUpTo-follows : (o : Option Entry) (entry : Entry) (rest : List Entry) → MatchOption o (entry.place ≡ 1) (λ before. IsNextPlace before entry) → MatchOption o (rest ≡ []) (λ last. IsPartUpTo last rest) → IsPartUpTo entry (rest ++ entry ∷ [])
+IsPartUpTo-follows : (o : Option Entry) (entry : Entry) (rest : List Entry) → MatchOption o (entry.place ≡ 1) (λ before. IsNextPlace before entry)
+    → MatchOption o (rest ≡ []) (λ last. IsPartUpTo last rest) → IsPartUpTo entry (rest ++ entry ∷ [])
 IsPartUpTo-follows None entry rest first none = subst (λ xs. IsPartUpTo entry (xs ++ entry ∷ [])) (sym none) (IsPartUpTo-first entry first)
 IsPartUpTo-follows (Some before) entry rest next part = IsPartUpTo-push before entry rest next part
 
 -- the last part is unfinished, or finished now
-IsWholeButEnd-ending : (entries : List Entry) (entry : Entry) (parts : List (List Entry)) (rest : List Entry) → entries ≡ flat_map (λ part. part) parts ++ rest → All IsPart parts → IsPartUpTo entry (rest ++ entry ∷ []) → entry.place ≤ entry.length
-    → (b : Bool) → nat_lt entry.place entry.length ≡ b → open_entry (entries ++ entry ∷ []) ≡ (if b then Some entry else None) → IsWholeButEnd (entries ++ entry ∷ [])
+IsWholeButEnd-ending : (entries : List Entry) (entry : Entry) (parts : List (List Entry)) (rest : List Entry)
+    → entries ≡ flat_map (λ part. part) parts ++ rest → All IsPart parts → IsPartUpTo entry (rest ++ entry ∷ []) → entry.place ≤ entry.length
+    → (b : Bool) → nat_lt entry.place entry.length ≡ b
+    → open_entry (entries ++ entry ∷ []) ≡ (if b then Some entry else None) → IsWholeButEnd (entries ++ entry ∷ [])
 IsWholeButEnd-ending entries entry parts rest joined whole part within true open_now is = record {
   parts = parts;
   rest = rest ++ entry ∷ [];
@@ -66,12 +69,21 @@ IsWholeButEnd-ending entries entry parts rest joined whole part within false clo
   joined =
       let end = append_assoc (flat_map (λ xs. xs) parts) rest (entry ∷ []) in
       let added = flat_map-append (λ (xs : List Entry). xs) parts ((rest ++ entry ∷ []) ∷ []) in
-      ap (λ xs. xs ++ entry ∷ []) joined ∙ end ∙ ap (λ xs. flat_map (λ ys. ys) parts ++ xs) (sym (append-nil (rest ++ entry ∷ []))) ∙ sym added ∙ sym (append-nil _);
-  whole = All-push IsPart parts (rest ++ entry ∷ []) whole (record { last = entry; not_empty = omega (arith, length-append rest (entry ∷ []), part.up_to); ends = omega (arith, ltb-false entry.place entry.length closed); up_to_last = part });
+      ap (λ xs. xs ++ entry ∷ []) joined ∙ end
+      ∙ ap (λ xs. flat_map (λ ys. ys) parts ++ xs) (sym (append-nil (rest ++ entry ∷ []))) ∙ sym added ∙ sym (append-nil _);
+  whole =
+      All-push IsPart parts (rest ++ entry ∷ [])
+      whole (record {
+        last = entry;
+        not_empty = omega (arith, length-append rest (entry ∷ []), part.up_to);
+        ends = omega (arith, ltb-false entry.place entry.length closed);
+        up_to_last = part;
+      });
   ending = rw is refl;
 }
 
-pub IsWholeButEnd-push : (entries : List Entry) (entry : Entry) → IsWholeButEnd entries → Follows entries entry → entry.place ≤ entry.length → IsWholeButEnd (entries ++ entry ∷ [])
+pub IsWholeButEnd-push : (entries : List Entry) (entry : Entry) → IsWholeButEnd entries
+    → Follows entries entry → entry.place ≤ entry.length → IsWholeButEnd (entries ++ entry ∷ [])
 IsWholeButEnd-push entries entry log follows within =
     let part = IsPartUpTo-follows (open_entry entries) entry log.rest follows log.ending in
     IsWholeButEnd-ending entries entry log.parts log.rest log.joined log.whole part within _ refl (open_entry-push entries entry)

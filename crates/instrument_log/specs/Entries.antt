@@ -29,7 +29,8 @@ field bytes number = bytes_low_first 0 bytes number
 
 -- byte 0 the job, 1 to 2 the session, 3 to 5 the place, 6 to 8 the length, 9 the verb, 10 to 12 its number, 13 to 15 the value
 unfoldable pub entry_bytes : Entry → List ℕ
-entry_bytes entry = field 1 entry.job ++ field 2 entry.session ++ field 3 entry.place ++ field 3 entry.length ++ field 1 (verb_code entry.verb) ++ field 3 (verb_number entry.verb) ++ field 3 entry.value
+entry_bytes entry = field 1 entry.job ++ field 2 entry.session ++ field 3 entry.place ++ field 3 entry.length
+    ++ field 1 (verb_code entry.verb) ++ field 3 (verb_number entry.verb) ++ field 3 entry.value
 
 -- the verb of a code and a number
 abbrev pub verb_of : ℕ → ℕ → Verb

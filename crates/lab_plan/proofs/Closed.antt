@@ -35,10 +35,13 @@ full plan closed bare j s low high = elim (closed j s low high) [
       let job : j ≡ length plan.jobs - 1 = omega (arith, last.0) in
       let session : s - 1 ≡ length (sessions plan j) - 1 = omega (arith, last.1) in
       let some : 0 < length (sessions plan j) = omega (arith, low, high) in
-      let at : (n : ℕ) (m : ℕ) → (nat_lt 0 (length (sessions plan n)) && (length (get_or (sessions plan n) m no_session).commands == 0)) ≡ false → 0 < length (sessions plan n) → 0 < length (get_or (sessions plan n) m no_session).commands
+      let at : (n : ℕ) (m : ℕ) → (nat_lt 0 (length (sessions plan n)) && (length (get_or (sessions plan n) m no_session).commands == 0)) ≡ false
+      → 0 < length (sessions plan n) → 0 < length (get_or (sessions plan n) m no_session).commands
       = λ n m e begun. grind (arith, nat_tests, e, begun) in
       let bare_at : (nat_lt 0 (length (sessions plan j)) && (length (get_or (sessions plan j) (length (sessions plan j) - 1) no_session).commands == 0)) ≡ false
-      = subst (λ n. (nat_lt 0 (length (sessions plan n)) && (length (get_or (sessions plan n) (length (sessions plan n) - 1) no_session).commands == 0)) ≡ false) (sym job) bare in
+      =
+      subst (λ n. (nat_lt 0 (length (sessions plan n)) && (length (get_or (sessions plan n) (length (sessions plan n) - 1) no_session).commands == 0))
+      ≡ false) (sym job) bare in
       subst (λ m. 0 < length (get_or (sessions plan j) m no_session).commands) (sym session) (at j (length (sessions plan j) - 1) bare_at some)
 ]
 
@@ -60,19 +63,22 @@ closed_with_job name plan closed bare j s low high = elim (cases_lt j (length pl
     nothing : (j : ℕ) → length plan.jobs ≤ j → length (sessions (with_job name plan) j) ≡ 0
     nothing j outside = elim (cases_eq (length plan.jobs) j) [
       | inl is ↦ ap (λ (job : JobPlan). length job.sessions) (get_or_push plan.jobs (record { name = name; sessions = [] }) no_job j is)
-      | inr other ↦ ap (λ (job : JobPlan). length job.sessions) (get_or_past (with_job name plan).jobs j no_job (omega (arith, other, outside, length_push plan.jobs (record { name = name; sessions = [] }))))
+      | inr other ↦ ap (λ (job : JobPlan). length job.sessions)
+          (get_or_past (with_job name plan).jobs j no_job (omega (arith, other, outside, length_push plan.jobs (record { name = name; sessions = [] }))))
     ]
 
 pub closed_with_session : (patience : Option ℕ) (plan : LabPlan) → AreClosed plan → is_bare plan ≡ false → AreClosed (with_session patience plan)
 closed_with_session patience plan closed bare j s low high = elim (cases_eq (j + 1) (length plan.jobs)) [
   | inl last ↦
       let same : job_at (with_session patience plan) j ≡ and_session patience (job_at plan j) = on_last_at (and_session patience) plan.jobs j no_job last in
-      let many : length (sessions (with_session patience plan) j) ≡ length (sessions plan j) + 1 = ap (λ (job : JobPlan). length job.sessions) same ∙ length_push (sessions plan j) _ in
+      let many : length (sessions (with_session patience plan) j) ≡ length (sessions plan j) + 1 =
+      ap (λ (job : JobPlan). length job.sessions) same ∙ length_push (sessions plan j) _ in
       elim (cases_lt (length (sessions plan j)) s) [
         | inl new ↦ inr (omega (arith, last, same_length (and_session patience) plan.jobs), omega (arith, new, high, many))
         | inr old ↦
             let kept : get_or (sessions (with_session patience plan) j) (s - 1) no_session ≡ get_or (sessions plan j) (s - 1) no_session
-            = ap (λ (job : JobPlan). get_or job.sessions (s - 1) no_session) same ∙ get_or_append_left (sessions plan j) _ no_session (s - 1) (omega (arith, low, old)) in
+            = ap (λ (job : JobPlan). get_or job.sessions (s - 1) no_session) same
+            ∙ get_or_append_left (sessions plan j) _ no_session (s - 1) (omega (arith, low, old)) in
             inl (subst (λ (session : SessionPlan). 0 < length session.commands) (sym kept) (full plan closed bare j s low old))
       ]
   | inr other ↦
@@ -85,22 +91,36 @@ pub closed_with_command : (name : List ℕ) (verb : Verb) (plan : LabPlan) → A
 closed_with_command name verb plan closed j s low high =
     elim (cases_eq (j + 1) (length plan.jobs)) [
       | inl last ↦
-          let same : job_at (with_command name verb plan) j ≡ in_last_session (instrument_number name plan) verb (job_at plan j) = on_last_at (in_last_session (instrument_number name plan) verb) plan.jobs j no_job last in
-          let there : s ≤ length (sessions plan j) = omega (arith, high, ap (λ (job : JobPlan). length job.sessions) same, same_length (and_command (instrument_number name plan) verb) (sessions plan j)) in
+          let same : job_at (with_command name verb plan) j ≡ in_last_session (instrument_number name plan) verb (job_at plan j) =
+          on_last_at (in_last_session (instrument_number name plan) verb) plan.jobs j no_job last in
+          let there : s ≤ length (sessions plan j) =
+          omega (
+            arith,
+            high,
+            ap (λ (job : JobPlan). length job.sessions) same,
+            same_length (and_command (instrument_number name plan) verb) (sessions plan j),
+          ) in
           elim (cases_eq (s - 1 + 1) (length (sessions plan j))) [
             | inl ending ↦
-                let grown : get_or (sessions (with_command name verb plan) j) (s - 1) no_session ≡ and_command (instrument_number name plan) verb (get_or (sessions plan j) (s - 1) no_session)
-                = ap (λ (job : JobPlan). get_or job.sessions (s - 1) no_session) same ∙ on_last_at (and_command (instrument_number name plan) verb) (sessions plan j) (s - 1) no_session ending in
-                inl (subst (λ (session : SessionPlan). 0 < length session.commands) (sym grown) (omega (arith, length_push (commands plan j s) (instrument_number name plan, verb))))
+                let grown : get_or (sessions (with_command name verb plan) j) (s - 1) no_session
+                ≡ and_command (instrument_number name plan) verb (get_or (sessions plan j) (s - 1) no_session)
+                = ap (λ (job : JobPlan). get_or job.sessions (s - 1) no_session) same
+                ∙ on_last_at (and_command (instrument_number name plan) verb) (sessions plan j) (s - 1) no_session ending in
+                inl (subst (λ (session : SessionPlan). 0 < length session.commands) (sym grown)
+                (omega (arith, length_push (commands plan j s) (instrument_number name plan, verb))))
             | inr before ↦
                 let kept : get_or (sessions (with_command name verb plan) j) (s - 1) no_session ≡ get_or (sessions plan j) (s - 1) no_session
-                = ap (λ (job : JobPlan). get_or job.sessions (s - 1) no_session) same ∙ on_last_other (and_command (instrument_number name plan) verb) (sessions plan j) (s - 1) no_session before in
-                let some : 0 < length (commands plan j s) = elim (closed j s low there) [ inl some ↦ some | inr is ↦ absurd (before (omega (arith, low, is.1))) ] in
+                = ap (λ (job : JobPlan). get_or job.sessions (s - 1) no_session) same
+                ∙ on_last_other (and_command (instrument_number name plan) verb) (sessions plan j) (s - 1) no_session before in
+                let some : 0 < length (commands plan j s) =
+                elim (closed j s low there) [ inl some ↦ some | inr is ↦ absurd (before (omega (arith, low, is.1))) ] in
                 inl (subst (λ (session : SessionPlan). 0 < length session.commands) (sym kept) some)
           ]
       | inr other ↦
-          let same : job_at (with_command name verb plan) j ≡ job_at plan j = on_last_other (in_last_session (instrument_number name plan) verb) plan.jobs j no_job other in
-          let some : 0 < length (commands plan j s) = elim (closed j s low (subst (λ (job : JobPlan). s ≤ length job.sessions) same high)) [ inl some ↦ some | inr is ↦ absurd (other is.0) ] in
+          let same : job_at (with_command name verb plan) j ≡ job_at plan j =
+          on_last_other (in_last_session (instrument_number name plan) verb) plan.jobs j no_job other in
+          let some : 0 < length (commands plan j s) =
+          elim (closed j s low (subst (λ (job : JobPlan). s ≤ length job.sessions) same high)) [ inl some ↦ some | inr is ↦ absurd (other is.0) ] in
           inl (subst (λ (job : JobPlan). 0 < length (get_or job.sessions (s - 1) no_session).commands) (sym same) some)
     ]
 

@@ -24,14 +24,18 @@ unfolding edges common
 crowded_is plan sets naming =
     let p : ℕ × ℕ → Bool = λ pair. list_any (both_name plan pair) (instrument_numbers plan) in
     let q : ℕ × ℕ → Bool = λ pair. nat_lt 28 (length (filter (both_name plan pair) (instrument_numbers plan))) in
-    let more : (pair : ℕ × ℕ) → q pair ≡ true → p pair ≡ true = λ pair h. let b = ltb-true 28 (length (filter (both_name plan pair) (instrument_numbers plan))) h in some_kept (both_name plan pair) (instrument_numbers plan) (omega (arith, b)) in
-    let same : are_crowded sets (length plan.instruments) ≡ q = λ t pair. nat_lt 28 (length (filter (both_is plan sets naming pair t) (instrument_numbers plan))) in
+    let more : (pair : ℕ × ℕ) → q pair ≡ true → p pair ≡ true =
+    λ pair h. let b = ltb-true 28 (length (filter (both_name plan pair) (instrument_numbers plan))) h in
+    some_kept (both_name plan pair) (instrument_numbers plan) (omega (arith, b)) in
+    let same : are_crowded sets (length plan.instruments) ≡ q =
+    λ t pair. nat_lt 28 (length (filter (both_is plan sets naming pair t) (instrument_numbers plan))) in
     ap (λ r. list_any r (rows (length plan.jobs) (length plan.jobs))) same ∙ sym (any-filter_same q p true more (pairs (length plan.jobs)))
 
 pub meeting_is : (plan : LabPlan) (sets : List ℕ) → AreNaming plan.jobs sets → meeting sets (length plan.instruments) (length plan.jobs) ≡ edges plan
 unfolding edges
 meeting_is plan sets naming = λ t. filter (λ pair. list_any (both_is plan sets naming pair t) (instrument_numbers plan)) (pairs (length plan.jobs))
 
-pub bottles_are : (plan : LabPlan) (sets : List ℕ) → AreNaming plan.jobs sets → (λ (pair : ℕ × ℕ). filter (both_hold sets pair) (range_with_len 0 (length plan.instruments))) ≡ common plan
+pub bottles_are : (plan : LabPlan) (sets : List ℕ) → AreNaming plan.jobs sets
+    → (λ (pair : ℕ × ℕ). filter (both_hold sets pair) (range_with_len 0 (length plan.instruments))) ≡ common plan
 unfolding common
 bottles_are plan sets naming = λ t pair. filter (both_is plan sets naming pair t) (instrument_numbers plan)

@@ -34,7 +34,8 @@ everywhere_push P d [] x h past new (suc k) = past
 everywhere_push P d (y ∷ xs) x h past new zero = h 0
 everywhere_push P d (y ∷ xs) x h past new (suc k) = everywhere_push P d xs x (λ n. h (suc n)) past new k
 
-everywhere_last : {X : Type 0} (P : X → Type 0) (d : X) (change : X → X) (xs : List X) → Everywhere P d xs → P (change (get_or xs (length xs - 1) d)) → Everywhere P d (on_last change xs)
+everywhere_last : {X : Type 0} (P : X → Type 0) (d : X) (change : X → X) (xs : List X)
+    → Everywhere P d xs → P (change (get_or xs (length xs - 1) d)) → Everywhere P d (on_last change xs)
 everywhere_last P d change [] h new k = h k
 everywhere_last P d change (x ∷ []) h new zero = new
 everywhere_last P d change (x ∷ []) h new (suc k) = h (suc k)
@@ -43,11 +44,13 @@ everywhere_last P d change (x ∷ y ∷ xs) h new (suc k) =
     let less : length (x ∷ y ∷ xs) - 1 ≡ suc (length (y ∷ xs) - 1) = omega arith in
     everywhere_last P d change (y ∷ xs) (λ n. h (suc n)) (subst (λ n. P (change (get_or (x ∷ y ∷ xs) n d))) less new) k
 
-everywhere_kept : {X : Type 0} (P : X → Type 0) (d : X) (change : X → X) (xs : List X) → Everywhere P d xs → ((x : X) → P x → P (change x)) → Everywhere P d (on_last change xs)
+everywhere_kept : {X : Type 0} (P : X → Type 0) (d : X) (change : X → X) (xs : List X)
+    → Everywhere P d xs → ((x : X) → P x → P (change x)) → Everywhere P d (on_last change xs)
 everywhere_kept P d change xs h keeps = everywhere_last P d change xs h (keeps _ (h (length xs - 1)))
 
 -- what the change leaves alone
-same_at : {X Y : Type 0} (f : X → Y) (change : X → X) → ((x : X) → f (change x) ≡ f x) → (xs : List X) (k : ℕ) (d : X) → f (get_or (on_last change xs) k d) ≡ f (get_or xs k d)
+same_at : {X Y : Type 0} (f : X → Y) (change : X → X) → ((x : X) → f (change x) ≡ f x)
+    → (xs : List X) (k : ℕ) (d : X) → f (get_or (on_last change xs) k d) ≡ f (get_or xs k d)
 same_at f change same [] k d = refl
 same_at f change same (x ∷ []) zero d = same x
 same_at f change same (x ∷ []) (suc k) d = refl
@@ -59,10 +62,12 @@ same_length change [] = refl
 same_length change (x ∷ []) = refl
 same_length change (x ∷ y ∷ xs) = ap suc (same_length change (y ∷ xs))
 
-all_kept : {X Y : Type 0} (f : X → Y) (P : Y → Type 0) (change : X → X) → ((x : X) → f (change x) ≡ f x) → (xs : List X) → All (λ x. P (f x)) xs → All (λ x. P (f x)) (on_last change xs)
+all_kept : {X Y : Type 0} (f : X → Y) (P : Y → Type 0) (change : X → X) → ((x : X) → f (change x) ≡ f x)
+    → (xs : List X) → All (λ x. P (f x)) xs → All (λ x. P (f x)) (on_last change xs)
 all_kept f P change same xs h k d inside = subst P (sym (same_at f change same xs k d)) (h k d (omega (arith, inside, same_length change xs)))
 
-pairs_kept : {X Y : Type 0} (f : X → Y) (R : Y → Y → Type 0) (change : X → X) → ((x : X) → f (change x) ≡ f x) → (xs : List X) → AllPairs (λ a b. R (f a) (f b)) xs → AllPairs (λ a b. R (f a) (f b)) (on_last change xs)
+pairs_kept : {X Y : Type 0} (f : X → Y) (R : Y → Y → Type 0) (change : X → X) → ((x : X) → f (change x) ≡ f x)
+    → (xs : List X) → AllPairs (λ a b. R (f a) (f b)) xs → AllPairs (λ a b. R (f a) (f b)) (on_last change xs)
 pairs_kept f R change same xs h i j d below inside =
     subst (λ a. R a (f (get_or (on_last change xs) j d))) (sym (same_at f change same xs i d))
     (subst (λ b. R (f (get_or xs i d)) b) (sym (same_at f change same xs j d)) (h i j d below (omega (arith, inside, same_length change xs))))
@@ -86,13 +91,17 @@ OfJob P job = Everywhere P no_session job.sessions
 each_with_job : (P : SessionPlan → Type 0) (name : List ℕ) (plan : LabPlan) → P no_session → EachSession P plan → EachSession P (with_job name plan)
 each_with_job P name plan none h = everywhere_push (OfJob P) no_job plan.jobs (record { name = name; sessions = [] }) h (λ k. none) (λ k. none)
 
-each_with_session : (P : SessionPlan → Type 0) (patience : Option ℕ) (plan : LabPlan) → P no_session → P (record { patience = patience; commands = [] }) → EachSession P plan → EachSession P (with_session patience plan)
+each_with_session : (P : SessionPlan → Type 0) (patience : Option ℕ) (plan : LabPlan) → P no_session
+    → P (record { patience = patience; commands = [] }) → EachSession P plan → EachSession P (with_session patience plan)
 each_with_session P patience plan none new h =
-    everywhere_kept (OfJob P) no_job (and_session patience) plan.jobs h (λ job each. everywhere_push P no_session job.sessions (record { patience = patience; commands = [] }) each none new)
+    everywhere_kept (OfJob P) no_job (and_session patience) plan.jobs h
+    (λ job each. everywhere_push P no_session job.sessions (record { patience = patience; commands = [] }) each none new)
 
-each_with_command : (P : SessionPlan → Type 0) (name : List ℕ) (verb : Verb) (plan : LabPlan) → ((s : SessionPlan) → P s → P (and_command (instrument_number name plan) verb s)) → EachSession P plan → EachSession P (with_command name verb plan)
+each_with_command : (P : SessionPlan → Type 0) (name : List ℕ) (verb : Verb) (plan : LabPlan)
+    → ((s : SessionPlan) → P s → P (and_command (instrument_number name plan) verb s)) → EachSession P plan → EachSession P (with_command name verb plan)
 each_with_command P name verb plan keeps h =
-    everywhere_kept (OfJob P) no_job (in_last_session (instrument_number name plan) verb) plan.jobs h (λ job each. everywhere_kept P no_session (and_command (instrument_number name plan) verb) job.sessions each keeps)
+    everywhere_kept (OfJob P) no_job (in_last_session (instrument_number name plan) verb) plan.jobs h
+    (λ job each. everywhere_kept P no_session (and_command (instrument_number name plan) verb) job.sessions each keeps)
 
 -- sessions are counted from 1
 each : (P : SessionPlan → Type 0) (plan : LabPlan) → ((j s : ℕ) → P (session_at plan j s)) → EachSession P plan
@@ -118,7 +127,8 @@ firsts_push (x ∷ ns) n =
     (λ is.
     let keeps : (m : ℕ) → q m ≡ true → p m ≡ true = λ m e. grind (arith, nat_tests, is, e) in
     let inside : p n ≡ true = keeps n (grind (arith, nat_tests)) in
-    missed x n (filter p) (firsts ns) (list_any q (firsts ns)) (list_any q (filter p (firsts ns))) is (any-filter_same q p true keeps (firsts ns)) (left p (firsts ns) n inside))
+    missed x n (filter p) (firsts ns) (list_any q (firsts ns)) (list_any q (filter p (firsts ns))) is
+    (any-filter_same q p true keeps (firsts ns)) (left p (firsts ns) n inside))
     (cases_Bool (x == n))
   where
     found : (x n : ℕ) (f : List ℕ → List ℕ) (ns : List ℕ) (a b : Bool) → (x == n) ≡ true → f (ns ++ n ∷ []) ≡ f ns
@@ -172,7 +182,8 @@ IsPatient version session = ForSome session.patience (λ n. (version ≡ 2) × (
 abbrev bare_job : List ℕ → JobPlan
 bare_job name = record { name = name; sessions = [] }
 
-pub draft_with_job : (name : List ℕ) (plan : LabPlan) → IsDraft plan → IsName name → is_job name plan ≡ false → length plan.jobs < 32 → IsDraft (with_job name plan)
+pub draft_with_job : (name : List ℕ) (plan : LabPlan) → IsDraft plan → IsName name
+    → is_job name plan ≡ false → length plan.jobs < 32 → IsDraft (with_job name plan)
 draft_with_job name plan draft good new few = record {
   version = draft.version;
   few_jobs = omega (arith, length_push plan.jobs (bare_job name), few);
@@ -180,29 +191,35 @@ draft_with_job name plan draft good new few = record {
   few_sessions = everywhere_push (λ (j : JobPlan). length j.sessions ≤ 1000) no_job plan.jobs (bare_job name) draft.few_sessions (omega arith) (omega arith);
   few_commands = omega (arith, ap length (all_commands_with_job name plan), draft.few_commands);
   job_names = All-push (λ (j : JobPlan). IsName j.name) plan.jobs (bare_job name) draft.job_names good;
-  jobs_distinct = all_pairs_push (λ (a : JobPlan) (b : JobPlan). a.name ≢ b.name) plan.jobs (bare_job name) draft.jobs_distinct (λ k d inside. differ name _ (none_at (λ (j : JobPlan). bytes_eq name j.name) plan.jobs new k d inside));
+  jobs_distinct = all_pairs_push (λ (a : JobPlan) (b : JobPlan). a.name ≢ b.name) plan.jobs (bare_job name) draft.jobs_distinct
+      (λ k d inside. differ name _ (none_at (λ (j : JobPlan). bytes_eq name j.name) plan.jobs new k d inside));
   instrument_names = draft.instrument_names;
   instruments_distinct = draft.instruments_distinct;
-  named = λ j s. each_with_job (NamesBelow (length plan.instruments)) name plan (λ k d inside. absurd (omega (arith, inside))) (each (NamesBelow (length plan.instruments)) plan draft.named) j (s - 1);
+  named = λ j s. each_with_job (NamesBelow (length plan.instruments)) name plan
+      (λ k d inside. absurd (omega (arith, inside))) (each (NamesBelow (length plan.instruments)) plan draft.named) j (s - 1);
   in_order = ap (λ all. firsts (map (λ command. command.0) all)) (all_commands_with_job name plan) ∙ draft.in_order;
   fit = λ j s. each_with_job FitsAll name plan (λ k d inside. absurd (omega (arith, inside))) (each FitsAll plan draft.fit) j (s - 1);
   patient = λ j s. each_with_job (IsPatient plan.version) name plan (λ n e. cc) (each (IsPatient plan.version) plan draft.patient) j (s - 1);
 }
 
-pub draft_with_session : (patience : Option ℕ) (plan : LabPlan) → IsDraft plan → 0 < length plan.jobs → length (last_job plan).sessions < 1000 → ForSome patience (λ n. (plan.version ≡ 2) × (n ≤ 999999)) → IsDraft (with_session patience plan)
+pub draft_with_session : (patience : Option ℕ) (plan : LabPlan) → IsDraft plan → 0 < length plan.jobs
+    → length (last_job plan).sessions < 1000 → ForSome patience (λ n. (plan.version ≡ 2) × (n ≤ 999999)) → IsDraft (with_session patience plan)
 draft_with_session patience plan draft some few patient = record {
   version = draft.version;
   few_jobs = omega (arith, same_length (and_session patience) plan.jobs, draft.few_jobs);
   few_instruments = draft.few_instruments;
-  few_sessions = everywhere_last (λ (j : JobPlan). length j.sessions ≤ 1000) no_job (and_session patience) plan.jobs draft.few_sessions (omega (arith, few, length_push (last_job plan).sessions (record { patience = patience; commands = [] })));
+  few_sessions = everywhere_last (λ (j : JobPlan). length j.sessions ≤ 1000) no_job (and_session patience) plan.jobs draft.few_sessions
+      (omega (arith, few, length_push (last_job plan).sessions (record { patience = patience; commands = [] })));
   few_commands = omega (arith, ap length (all_commands_with_session patience plan some), draft.few_commands);
   job_names = all_kept (λ (j : JobPlan). j.name) IsName (and_session patience) (λ j. refl) plan.jobs draft.job_names;
   jobs_distinct = pairs_kept (λ (j : JobPlan). j.name) (λ a b. a ≢ b) (and_session patience) (λ j. refl) plan.jobs draft.jobs_distinct;
   instrument_names = draft.instrument_names;
   instruments_distinct = draft.instruments_distinct;
-  named = λ j s. each_with_session (NamesBelow (length plan.instruments)) patience plan (λ k d inside. absurd (omega (arith, inside))) (λ k d inside. absurd (omega (arith, inside))) (each (NamesBelow (length plan.instruments)) plan draft.named) j (s - 1);
+  named = λ j s. each_with_session (NamesBelow (length plan.instruments)) patience plan (λ k d inside. absurd (omega (arith, inside)))
+      (λ k d inside. absurd (omega (arith, inside))) (each (NamesBelow (length plan.instruments)) plan draft.named) j (s - 1);
   in_order = ap (λ all. firsts (map (λ command. command.0) all)) (all_commands_with_session patience plan some) ∙ draft.in_order;
-  fit = λ j s. each_with_session FitsAll patience plan (λ k d inside. absurd (omega (arith, inside))) (λ k d inside. absurd (omega (arith, inside))) (each FitsAll plan draft.fit) j (s - 1);
+  fit = λ j s. each_with_session FitsAll patience plan (λ k d inside. absurd (omega (arith, inside)))
+      (λ k d inside. absurd (omega (arith, inside))) (each FitsAll plan draft.fit) j (s - 1);
   patient = λ j s. each_with_session (IsPatient plan.version) patience plan (λ n e. cc) patient (each (IsPatient plan.version) plan draft.patient) j (s - 1);
 }
 
@@ -215,7 +232,8 @@ names_kept name all good h = ⊎_elim (λ is. rw is h) (λ is. rw is (All-push I
 
 distinct_kept : (name : List ℕ) (all : List (List ℕ)) → AllPairs (λ a b. a ≢ b) all → AllPairs (λ a b. a ≢ b) (and_name name all)
 distinct_kept name all h =
-    ⊎_elim (λ is. rw is h) (λ is. rw is (all_pairs_push (λ a b. a ≢ b) all name h (λ k d inside. differ name _ (none_at (bytes_eq name) all is k d inside)))) (cases_Bool (list_any (bytes_eq name) all))
+    ⊎_elim (λ is. rw is h) (λ is. rw is (all_pairs_push (λ a b. a ≢ b) all name h (λ k d inside. differ name _ (none_at (bytes_eq name) all is k d inside))))
+    (cases_Bool (list_any (bytes_eq name) all))
 
 -- the number of a name is one of the plan's, once the name is there
 number_old : (name : List ℕ) (plan : LabPlan) → is_instrument name plan ≡ true → instrument_number name plan < length plan.instruments
@@ -227,15 +245,18 @@ number_new name plan is =
     let most : instrument_number name plan ≤ length plan.instruments = prefix_len-le-length _ plan.instruments in
     grind (arith, nat_tests, test, most)
 
-number_there : (name : List ℕ) (verb : Verb) (plan : LabPlan) → (instrument_number name plan < length (with_command name verb plan).instruments) × (length plan.instruments ≤ length (with_command name verb plan).instruments)
+number_there : (name : List ℕ) (verb : Verb) (plan : LabPlan) → (instrument_number name plan < length (with_command name verb plan).instruments)
+    × (length plan.instruments ≤ length (with_command name verb plan).instruments)
 number_there name verb plan =
     ⊎_elim
     (λ is. rw is (number_old name plan is, omega arith))
     (λ is. rw is (omega (arith, number_new name plan is, length_push plan.instruments name), omega (arith, length_push plan.instruments name)))
     (cases_Bool (is_instrument name plan))
 
-in_order_with_command : (name : List ℕ) (verb : Verb) (plan : LabPlan) → has_session plan ≡ true → firsts (map (λ (command : ℕ × Verb). command.0) (all_commands plan)) ≡ range_with_len 0 (length plan.instruments)
-    → firsts (map (λ (command : ℕ × Verb). command.0) (all_commands (with_command name verb plan))) ≡ range_with_len 0 (length (with_command name verb plan).instruments)
+in_order_with_command : (name : List ℕ) (verb : Verb) (plan : LabPlan) → has_session plan ≡ true
+    → firsts (map (λ (command : ℕ × Verb). command.0) (all_commands plan)) ≡ range_with_len 0 (length plan.instruments)
+    → firsts (map (λ (command : ℕ × Verb). command.0) (all_commands (with_command name verb plan)))
+    ≡ range_with_len 0 (length (with_command name verb plan).instruments)
 in_order_with_command name verb plan some h =
     let i = instrument_number name plan in
     let n = length plan.instruments in
@@ -253,7 +274,8 @@ in_order_with_command name verb plan some h =
     rw (is, none_range 0 n i (omega (arith, new)), more) (ap (λ m. range_with_len 0 n ++ m ∷ []) (sym next) ∙ sym (range_push 0 n)))
     (cases_Bool (is_instrument name plan))
 
-pub draft_with_command : (name : List ℕ) (verb : Verb) (plan : LabPlan) → IsDraft plan → has_session plan ≡ true → IsName name → Fits verb → is_past_limit name plan ≡ false → IsDraft (with_command name verb plan)
+pub draft_with_command : (name : List ℕ) (verb : Verb) (plan : LabPlan) → IsDraft plan → has_session plan ≡ true
+    → IsName name → Fits verb → is_past_limit name plan ≡ false → IsDraft (with_command name verb plan)
 draft_with_command name verb plan draft some good fits within =
     let i = instrument_number name plan in
     let m = length (with_command name verb plan).instruments in
@@ -261,7 +283,8 @@ draft_with_command name verb plan draft some good fits within =
       version = draft.version;
       few_jobs = omega (arith, same_length (in_last_session i verb) plan.jobs, draft.few_jobs);
       few_instruments = (room name verb plan draft.few_instruments within).1;
-      few_sessions = everywhere_kept (λ (j : JobPlan). length j.sessions ≤ 1000) no_job (in_last_session i verb) plan.jobs draft.few_sessions (λ j h. omega (arith, h, same_length (and_command i verb) j.sessions));
+      few_sessions = everywhere_kept (λ (j : JobPlan). length j.sessions ≤ 1000) no_job
+          (in_last_session i verb) plan.jobs draft.few_sessions (λ j h. omega (arith, h, same_length (and_command i verb) j.sessions));
       few_commands = omega (arith, commands_with_command name verb plan some, (room name verb plan draft.few_instruments within).0);
       job_names = all_kept (λ (j : JobPlan). j.name) IsName (in_last_session i verb) (λ j. refl) plan.jobs draft.job_names;
       jobs_distinct = pairs_kept (λ (j : JobPlan). j.name) (λ a b. a ≢ b) (in_last_session i verb) (λ j. refl) plan.jobs draft.jobs_distinct;
@@ -271,6 +294,7 @@ draft_with_command name verb plan draft some good fits within =
           (λ session h. All-push (λ (command : ℕ × Verb). command.0 < m) session.commands (i, verb) h (number_there name verb plan).0)
           (each (NamesBelow m) plan (λ a b k d inside. omega (arith, draft.named a b k d inside, (number_there name verb plan).1))) j (s - 1);
       in_order = in_order_with_command name verb plan some draft.in_order;
-      fit = λ j s. each_with_command FitsAll name verb plan (λ session h. All-push (λ (command : ℕ × Verb). Fits command.1) session.commands (i, verb) h fits) (each FitsAll plan draft.fit) j (s - 1);
+      fit = λ j s. each_with_command FitsAll name verb plan
+          (λ session h. All-push (λ (command : ℕ × Verb). Fits command.1) session.commands (i, verb) h fits) (each FitsAll plan draft.fit) j (s - 1);
       patient = λ j s. each_with_command (IsPatient plan.version) name verb plan (λ session h. h) (each (IsPatient plan.version) plan draft.patient) j (s - 1);
     }

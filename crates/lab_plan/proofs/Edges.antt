@@ -16,7 +16,8 @@ row : (low a n jobs : ℕ) → low < a → a + n ≤ jobs → AllByRecursion (Is
 row low a zero jobs l b = tt
 row low a (suc n) jobs l b = ((l, omega arith), row low (a + 1) n jobs (omega arith) (omega arith))
 
-rows : (a n jobs : ℕ) → a + n ≤ jobs → AllByRecursion (IsPair jobs) (flat_map (λ low. map (λ high. (low, high)) (range_with_len (low + 1) (jobs - (low + 1)))) (range_with_len a n))
+rows : (a n jobs : ℕ) → a + n ≤ jobs
+    → AllByRecursion (IsPair jobs) (flat_map (λ low. map (λ high. (low, high)) (range_with_len (low + 1) (jobs - (low + 1)))) (range_with_len a n))
 rows a zero jobs b = tt
 rows a (suc n) jobs b = joined (IsPair jobs) _ _ (row a (a + 1) (jobs - (a + 1)) jobs (omega arith) (omega arith)) (rows (a + 1) n jobs (omega arith))
 

@@ -13,7 +13,8 @@ use Rattle.lab_plan.specs.LabPlan.{SessionPlan, JobPlan, LabPlan, no_session, no
 use Rattle.lab_plan.specs.Building.{on_last, and_command, in_last_session, and_session, with_session, with_command, with_job, has_session, last_job, instrument_number, is_instrument, is_past_limit, IsPlace}
 use Rattle.lab_plan.proofs.OnLast.{has_job}
 
-flat_map-on_last : {X Y : Type 0} (f : X → List Y) (change : X → X) (more : List Y) (xs : List X) (d : X) → 0 < length xs → f (change (get_or xs (length xs - 1) d)) ≡ f (get_or xs (length xs - 1) d) ++ more
+flat_map-on_last : {X Y : Type 0} (f : X → List Y) (change : X → X) (more : List Y) (xs : List X) (d : X)
+    → 0 < length xs → f (change (get_or xs (length xs - 1) d)) ≡ f (get_or xs (length xs - 1) d) ++ more
     → flat_map f (on_last change xs) ≡ flat_map f xs ++ more
 flat_map-on_last f change more [] d some h = absurd (omega arith)
 flat_map-on_last f change more (x ∷ []) d some h = append-nil (f (change x)) ∙ h ∙ ap (λ l. l ++ more) (sym (append-nil (f x)))
@@ -24,7 +25,8 @@ flat_map-on_last f change more (x ∷ y ∷ xs) d some h =
 
 pub all_commands_with_job : (name : List ℕ) (plan : LabPlan) → all_commands (with_job name plan) ≡ all_commands plan
 all_commands_with_job name plan =
-    flat_map-append (λ (job : JobPlan). flat_map (λ (session : SessionPlan). session.commands) job.sessions) plan.jobs (record { name = name; sessions = [] } ∷ []) ∙ append-nil (all_commands plan)
+    flat_map-append (λ (job : JobPlan). flat_map (λ (session : SessionPlan). session.commands) job.sessions) plan.jobs
+    (record { name = name; sessions = [] } ∷ []) ∙ append-nil (all_commands plan)
 
 pub all_commands_with_session : (patience : Option ℕ) (plan : LabPlan) → 0 < length plan.jobs → all_commands (with_session patience plan) ≡ all_commands plan
 all_commands_with_session patience plan some =
@@ -41,8 +43,10 @@ all_commands_with_command name verb plan some =
     flat_map-on_last f (in_last_session i verb) ((i, verb) ∷ []) plan.jobs no_job (has_job plan some)
     (flat_map-on_last (λ (session : SessionPlan). session.commands) (and_command i verb) ((i, verb) ∷ []) (last_job plan).sessions no_session begun refl)
 
-pub commands_with_command : (name : List ℕ) (verb : Verb) (plan : LabPlan) → has_session plan ≡ true → length (all_commands (with_command name verb plan)) ≡ length (all_commands plan) + 1
-commands_with_command name verb plan some = ap length (all_commands_with_command name verb plan some) ∙ length_push (all_commands plan) (instrument_number name plan, verb)
+pub commands_with_command : (name : List ℕ) (verb : Verb) (plan : LabPlan) → has_session plan ≡ true
+    → length (all_commands (with_command name verb plan)) ≡ length (all_commands plan) + 1
+commands_with_command name verb plan some = ap length (all_commands_with_command name verb plan some)
+    ∙ length_push (all_commands plan) (instrument_number name plan, verb)
 
 -- the place of what is looked for
 test_next : (a b : ℕ) → nat_lt a b ≡ nat_lt (1 + a) (suc b)
@@ -56,7 +60,9 @@ any_is p (x ∷ xs) =
     (λ is. rw is (any_is p xs ∙ test_next (position_or_len p xs) (length xs)))
     (cases_Bool (p x))
 
-pub placed : {X : Type 0} (p : X → Bool) (xs : List X) → MatchOption (position p xs) ((list_any p xs ≡ false) × (position_or_len p xs ≡ length xs)) (λ i. (list_any p xs ≡ true) × (i ≡ position_or_len p xs) × (i < length xs))
+pub placed : {X : Type 0} (p : X → Bool) (xs : List X)
+    → MatchOption (position p xs) ((list_any p xs ≡ false) × (position_or_len p xs ≡ length xs))
+    (λ i. (list_any p xs ≡ true) × (i ≡ position_or_len p xs) × (i < length xs))
 placed p xs = elim (cases_lt (position_or_len p xs) (length xs)) [
   | inl below ↦ let t : nat_lt (position_or_len p xs) (length xs) ≡ true = (Decides-ltb _ _).1 below in rw t (any_is p xs ∙ t, refl, below)
   | inr above ↦
@@ -83,7 +89,8 @@ room name verb plan few fits = (commands, instruments)
         (cases_Bool (is_instrument name plan))
 
 -- a name with no place is new
-pub is_new : (name : List ℕ) (plan : LabPlan) (place : Option ℕ) (none : Bool) → IsPlace name plan place → is_some place ≡ not none → none ≡ not (is_instrument name plan)
+pub is_new : (name : List ℕ) (plan : LabPlan) (place : Option ℕ) (none : Bool)
+    → IsPlace name plan place → is_some place ≡ not none → none ≡ not (is_instrument name plan)
 is_new name plan None true h e = rw h.0 refl
 is_new name plan None false h e = cc
 is_new name plan (Some i) true h e = cc

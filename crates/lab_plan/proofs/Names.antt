@@ -11,7 +11,8 @@ use Rattle.lab_plan.proofs.Alike.{read_alike}
 take_other : {X : Type 0} (xs : List X) (k j : ℕ) (d : X) → (j ≡ k → ⊥) → slice_index_or (take k xs) j d ≡ slice_index_or (take (k + 1) xs) j d
 take_other xs k j d other = elim (cases_lt j k) [
   | inl h ↦ get_or-take k xs j d h ∙ sym (get_or-take (k + 1) xs j d (omega arith))
-  | inr h ↦ get_or_past (take k xs) j d (omega (arith, length-take k xs)) ∙ sym (get_or_past (take (k + 1) xs) j d (omega (arith, length-take (k + 1) xs, other)))
+  | inr h ↦ get_or_past (take k xs) j d (omega (arith, length-take k xs))
+      ∙ sym (get_or_past (take (k + 1) xs) j d (omega (arith, length-take (k + 1) xs, other)))
 ]
 
 -- the sets of the jobs before k are done, and then that of k

@@ -5,7 +5,8 @@ use Rattle.lab_plan.specs.declared.verb.Verb.{Verb}
 use Rattle.lab_plan.specs.LabPlan.{SessionPlan, JobPlan, LabPlan}
 use Rattle.lab_plan.specs.Building.{on_last, and_command, in_last_session, has_session}
 
-pub on_last-write : {X : Type 0} (change : X → X) (xs : List X) (d : X) → 0 < length xs → set xs (length xs - 1) (change (get_or xs (length xs - 1) d)) ≡ on_last change xs
+pub on_last-write : {X : Type 0} (change : X → X) (xs : List X) (d : X) → 0 < length xs
+    → set xs (length xs - 1) (change (get_or xs (length xs - 1) d)) ≡ on_last change xs
 on_last-write change [] d inside = absurd (omega arith)
 on_last-write change (x ∷ []) d inside = refl
 on_last-write change (x ∷ y ∷ xs) d inside =
@@ -18,7 +19,8 @@ written : {X : Type 0} (change : X → X) (xs : List X) (x : X) (done : Bool) �
 written change xs x true inside is = ap (λ z. set xs (length xs - 1) (change z)) is ∙ on_last-write change xs x inside
 written change xs x false inside is = ap (λ z. set xs (length xs - 1) z) is ∙ set-get_or xs (length xs - 1) x
 
-pub on_last-item : {X : Type 0} (change : X → X) (xs : List X) (n : ℕ) (x y : X) (done : Bool) → n ≡ length xs → 0 < length xs → x ≡ get_or xs (n - 1) x → y ≡ (if done then change x else x)
+pub on_last-item : {X : Type 0} (change : X → X) (xs : List X) (n : ℕ) (x y : X) (done : Bool)
+    → n ≡ length xs → 0 < length xs → x ≡ get_or xs (n - 1) x → y ≡ (if done then change x else x)
     → set xs (n - 1) y ≡ (if done then on_last change xs else xs)
 on_last-item change xs n x y done e inside is changed =
     rw e (ap (λ z. set xs (length xs - 1) z) changed ∙ written change xs x done inside (is ∙ ap (λ k. get_or xs (k - 1) x) e))
@@ -28,7 +30,8 @@ if_made make true a b = refl
 if_made make false a b = refl
 
 pub last_session_changed : (name : List ℕ) (xs : List SessionPlan) (job : JobPlan) (i : ℕ) (verb : Verb) (n : ℕ) (x y : SessionPlan) (done : Bool)
-    → (let j : JobPlan = record { name = name; sessions = xs } in j ≡ job) → 0 < length job.sessions → n ≡ length xs → x ≡ get_or xs (n - 1) x → y ≡ (if done then and_command i verb x else x)
+    → (let j : JobPlan = record { name = name; sessions = xs } in j ≡ job) → 0 < length job.sessions
+    → n ≡ length xs → x ≡ get_or xs (n - 1) x → y ≡ (if done then and_command i verb x else x)
     → (let j : JobPlan = record { name = name; sessions = set xs (n - 1) y } in j ≡ (if done then in_last_session i verb job else job))
 last_session_changed name xs job i verb n x y done is some len item changed =
     let make : List SessionPlan → JobPlan = λ sessions. record { name = name; sessions = sessions } in
@@ -37,9 +40,12 @@ last_session_changed name xs job i verb n x y done is some len item changed =
     ∙ if_made make done (on_last (and_command i verb) xs) xs
     ∙ ap (λ (j : JobPlan). if done then in_last_session i verb j else j) is
 
-pub last_job_changed : (version : ℕ) (xs : List JobPlan) (instruments : List (List ℕ)) (plan : LabPlan) (change : JobPlan → JobPlan) (n : ℕ) (x y : JobPlan) (done : Bool)
-    → (let p : LabPlan = record { version = version; jobs = xs; instruments = instruments } in p ≡ plan) → 0 < length plan.jobs → n ≡ length xs → x ≡ get_or xs (n - 1) x → y ≡ (if done then change x else x)
-    → (let p : LabPlan = record { version = version; jobs = set xs (n - 1) y; instruments = instruments } in p ≡ (if done then record plan { jobs = on_last change plan.jobs } else plan))
+pub last_job_changed : (version : ℕ) (xs : List JobPlan) (instruments : List (List ℕ))
+    (plan : LabPlan) (change : JobPlan → JobPlan) (n : ℕ) (x y : JobPlan) (done : Bool)
+    → (let p : LabPlan = record { version = version; jobs = xs; instruments = instruments } in p ≡ plan)
+    → 0 < length plan.jobs → n ≡ length xs → x ≡ get_or xs (n - 1) x → y ≡ (if done then change x else x)
+    → (let p : LabPlan = record { version = version; jobs = set xs (n - 1) y; instruments = instruments } in
+    p ≡ (if done then record plan { jobs = on_last change plan.jobs } else plan))
 last_job_changed version xs instruments plan change n x y done is some len item changed =
     let make : List JobPlan → LabPlan = λ jobs. record { version = version; jobs = jobs; instruments = instruments } in
     let there : length xs ≡ length plan.jobs = ap (λ (p : LabPlan). length p.jobs) is in

@@ -23,10 +23,12 @@ pub row_none : (low : ℕ) → row low (low + 1) ≡ []
 row_none low = let e : low + 1 - (low + 1) ≡ 0 = omega arith in ap (λ m. map (λ high. (low, high)) (range_with_len (low + 1) m)) e
 
 pub rows_more : (jobs n : ℕ) → rows jobs (n + 1) ≡ rows jobs n ++ row n jobs
-rows_more jobs n = ap (flat_map (λ low. row low jobs)) (range_more n) ∙ flat_map-append (λ low. row low jobs) (range_with_len 0 n) (n ∷ []) ∙ ap (λ ps. rows jobs n ++ ps) (append-nil (row n jobs))
+rows_more jobs n = ap (flat_map (λ low. row low jobs)) (range_more n)
+    ∙ flat_map-append (λ low. row low jobs) (range_with_len 0 n) (n ∷ []) ∙ ap (λ ps. rows jobs n ++ ps) (append-nil (row n jobs))
 
 pub any_row_more : (p : ℕ × ℕ → Bool) (low k : ℕ) → low < k → list_any p (row low (k + 1)) ≡ (list_any p (row low k) || p (low, k))
-any_row_more p low k below = ap (list_any p) (row_more low k below) ∙ list_any-append p (row low k) ((low, k) ∷ []) ∙ ap (λ b. list_any p (row low k) || b) (or-false (p (low, k)))
+any_row_more p low k below = ap (list_any p) (row_more low k below)
+    ∙ list_any-append p (row low k) ((low, k) ∷ []) ∙ ap (λ b. list_any p (row low k) || b) (or-false (p (low, k)))
 
 pub any_rows_more : (p : ℕ × ℕ → Bool) (jobs n : ℕ) → list_any p (rows jobs (n + 1)) ≡ (list_any p (rows jobs n) || list_any p (row n jobs))
 any_rows_more p jobs n = ap (list_any p) (rows_more jobs n) ∙ list_any-append p (rows jobs n) (row n jobs)
@@ -66,7 +68,8 @@ pub kept_row_yes : (p : ℕ × ℕ → Bool) (low k : ℕ) → low < k → true 
 kept_row_yes p low k below h = kept_row_more p low k below ∙ ap (λ b. filter p (row low k) ++ cond b ((low, k) ∷ []) []) (sym h)
 
 pub kept_row_no : (p : ℕ × ℕ → Bool) (low k : ℕ) → low < k → false ≡ p (low, k) → filter p (row low (k + 1)) ≡ filter p (row low k)
-kept_row_no p low k below h = kept_row_more p low k below ∙ ap (λ b. filter p (row low k) ++ cond b ((low, k) ∷ []) []) (sym h) ∙ append-nil (filter p (row low k))
+kept_row_no p low k below h = kept_row_more p low k below
+    ∙ ap (λ b. filter p (row low k) ++ cond b ((low, k) ∷ []) []) (sym h) ∙ append-nil (filter p (row low k))
 
 pub kept_rows_more : (p : ℕ × ℕ → Bool) (jobs n : ℕ) → filter p (rows jobs (n + 1)) ≡ filter p (rows jobs n) ++ filter p (row n jobs)
 kept_rows_more p jobs n = ap (filter p) (rows_more jobs n) ∙ filter-append p (rows jobs n) (row n jobs)

@@ -12,7 +12,8 @@ use Rattle.lab_plan.specs.SessionTables.{place_in}
 abbrev pub AreParts : List (ℕ × Verb) → ℕ → List ℕ → Type 0
 AreParts commands k parts = (i : ℕ) → i < 56 → slice_index_or parts i 0 ≡ count_on i (take k commands)
 
-pub parts_more : (commands : List (ℕ × Verb)) (parts : List ℕ) (k n new : ℕ) → k < length commands → (slice_index_or commands k (0, Read)).0 ≡ n → n < 56 → length parts ≡ 56
+pub parts_more : (commands : List (ℕ × Verb)) (parts : List ℕ) (k n new : ℕ)
+    → k < length commands → (slice_index_or commands k (0, Read)).0 ≡ n → n < 56 → length parts ≡ 56
     → AreParts commands k parts → new ≡ slice_index_or parts n 0 + 1 → AreParts commands (k + 1) (slice_set parts n new)
 parts_more commands parts k n new within is below long before one i i_below = elim (cases_eq n i) [
   | inl h ↦
@@ -31,7 +32,8 @@ parts_more commands parts k n new within is below long before one i i_below = el
 abbrev pub ArePlaces : List (ℕ × Verb) → ℕ → List ℕ → Type 0
 ArePlaces commands k places = (m : ℕ) → m < k → slice_index_or places m 0 ≡ place_in commands m
 
-pub places_more : (commands : List (ℕ × Verb)) (parts places : List ℕ) (k n new : ℕ) → (slice_index_or commands k (0, Read)).0 ≡ n → n < 56 → AreParts commands k parts
+pub places_more : (commands : List (ℕ × Verb)) (parts places : List ℕ) (k n new : ℕ)
+    → (slice_index_or commands k (0, Read)).0 ≡ n → n < 56 → AreParts commands k parts
     → new ≡ slice_index_or parts n 0 + 1 → length places ≡ k → ArePlaces commands k places → ArePlaces commands (k + 1) (places ++ new ∷ [])
 places_more commands parts places k n new is below parts_are one long before m within = elim (cases_eq k m) [
   | inl h ↦

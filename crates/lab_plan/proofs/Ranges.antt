@@ -24,14 +24,16 @@ pub kept_no : (p : ℕ → Bool) (n : ℕ) → false ≡ p n → filter p (range
 kept_no p n h = kept_more p n ∙ ap (λ b. filter p (range_with_len 0 n) ++ cond b (n ∷ []) []) (sym h) ∙ append-nil (filter p (range_with_len 0 n))
 
 pub count_more : (p : ℕ → Bool) (n : ℕ) → length (filter p (range_with_len 0 (n + 1))) ≡ length (filter p (range_with_len 0 n)) + cond (p n) 1 0
-count_more p n = ap length (kept_more p n) ∙ length-append (filter p (range_with_len 0 n)) (cond (p n) (n ∷ []) []) ∙ ap (λ k. length (filter p (range_with_len 0 n)) + k) (one (p n))
+count_more p n = ap length (kept_more p n) ∙ length-append (filter p (range_with_len 0 n)) (cond (p n) (n ∷ []) [])
+    ∙ ap (λ k. length (filter p (range_with_len 0 n)) + k) (one (p n))
   where
     one : (b : Bool) → length (cond b (n ∷ []) []) ≡ cond b 1 0
     one true = refl
     one false = refl
 
 pub any_more : (p : ℕ → Bool) (n : ℕ) → list_any p (range_with_len 0 (n + 1)) ≡ (list_any p (range_with_len 0 n) || p n)
-any_more p n = ap (list_any p) (range_more n) ∙ list_any-append p (range_with_len 0 n) (n ∷ []) ∙ ap (λ b. list_any p (range_with_len 0 n) || b) (or-false (p n))
+any_more p n = ap (list_any p) (range_more n) ∙ list_any-append p (range_with_len 0 n) (n ∷ [])
+    ∙ ap (λ b. list_any p (range_with_len 0 n) || b) (or-false (p n))
 
 pub any_found : (p : ℕ → Bool) (n k : ℕ) → k < n → p k ≡ true → true ≡ list_any p (range_with_len 0 n)
 any_found p n k within is =

@@ -23,7 +23,8 @@ edges_at_is plan found j is = ap (λ ps. edges_at ps j) is
 pub bottle_lists : (plan : LabPlan) (lists : List (List ℕ)) → lists ≡ map (common plan) (edges plan) → length lists ≡ length (edges plan)
 bottle_lists plan lists is = ap length is ∙ length-map (edges plan) (common plan)
 
-pub bottles_at : (plan : LabPlan) (lists : List (List ℕ)) (e : ℕ) (d : List ℕ) → lists ≡ map (common plan) (edges plan) → e < length (edges plan) → slice_index_or lists e d ≡ bottles plan e
+pub bottles_at : (plan : LabPlan) (lists : List (List ℕ)) (e : ℕ) (d : List ℕ)
+    → lists ≡ map (common plan) (edges plan) → e < length (edges plan) → slice_index_or lists e d ≡ bottles plan e
 bottles_at plan lists e d is within = ap (λ ls. slice_index_or ls e d) is ∙ get_or-map (common plan) (edges plan) e (0, 0) d within
 
 pub few_bottles : (plan : LabPlan) (e : ℕ) → IsPlan plan → e < length (edges plan) → length (bottles plan e) ≤ 28
@@ -47,14 +48,17 @@ some_bottles plan e within =
 pub job_tables_of : (plan : LabPlan) (tables : List (List SessionTable)) → AreJobTables plan.jobs tables → length tables ≡ length plan.jobs
 job_tables_of plan tables are = are.0
 
-pub session_tables_of : (plan : LabPlan) (tables : List (List SessionTable)) (j : ℕ) → AreJobTables plan.jobs tables → j < length plan.jobs → length (slice_index_or tables j []) ≡ length (sessions plan j)
+pub session_tables_of : (plan : LabPlan) (tables : List (List SessionTable)) (j : ℕ) → AreJobTables plan.jobs tables
+    → j < length plan.jobs → length (slice_index_or tables j []) ≡ length (sessions plan j)
 session_tables_of plan tables j are within = (are.1 j within).0
 
-pub table_of : (plan : LabPlan) (tables : List (List SessionTable)) (j s : ℕ) → AreJobTables plan.jobs tables → j < length plan.jobs → 1 ≤ s → s ≤ length (sessions plan j)
+pub table_of : (plan : LabPlan) (tables : List (List SessionTable)) (j s : ℕ)
+    → AreJobTables plan.jobs tables → j < length plan.jobs → 1 ≤ s → s ≤ length (sessions plan j)
     → IsTable (commands plan j s) (slice_index_or (slice_index_or tables j []) (s - 1) no_table)
 table_of plan tables j s are within begun is_session = (are.1 j within).1 (s - 1) (omega (arith, begun, is_session))
 
-pub needs_bit : (plan : LabPlan) (j s i : ℕ) (table : SessionTable) → IsTable (commands plan j s) table → bit_at table.needs i ≡ cond (session_names plan j s i) 1 0
+pub needs_bit : (plan : LabPlan) (j s i : ℕ) (table : SessionTable)
+    → IsTable (commands plan j s) table → bit_at table.needs i ≡ cond (session_names plan j s i) 1 0
 unfolding holds
 needs_bit plan j s i table is = elim (bit_cases table.needs i) [
   | inl h ↦ h ∙ ap (λ b. cond b 1 0) (ap (λ n. nat_eq n 1) (sym h) ∙ is.needs i)
@@ -73,24 +77,28 @@ below_from_bits n k none =
     ]) in
     subst (λ m. m < 2 ^ k) (sym same) low
 
-pub needs_below : (plan : LabPlan) (j s : ℕ) (table : SessionTable) → IsPlan plan → IsTable (commands plan j s) table → table.needs < 2 ^ length plan.instruments
+pub needs_below : (plan : LabPlan) (j s : ℕ) (table : SessionTable) → IsPlan plan
+    → IsTable (commands plan j s) table → table.needs < 2 ^ length plan.instruments
 needs_below plan j s table plan_is is = below_from_bits table.needs (length plan.instruments) (λ i past.
     needs_bit plan j s i table is ∙ elim (cases_Bool (session_names plan j s i)) [
       | inl h ↦ let below = session-instrument plan j s i plan_is.draft.named h in absurd (omega (arith, below, past))
       | inr h ↦ ap (λ b. cond b 1 0) h
     ])
 
-pub part_is : (plan : LabPlan) (j s i : ℕ) (table : SessionTable) → IsTable (commands plan j s) table → i < 56 → slice_index_or table.parts i 0 ≡ part plan j s i
+pub part_is : (plan : LabPlan) (j s i : ℕ) (table : SessionTable)
+    → IsTable (commands plan j s) table → i < 56 → slice_index_or table.parts i 0 ≡ part plan j s i
 part_is plan j s i table is below = is.parts i below
 
 pub few_instruments : (plan : LabPlan) → IsPlan plan → length plan.instruments ≤ 56
 few_instruments plan plan_is = plan_is.draft.few_instruments
 
-pub place_is : (plan : LabPlan) (j s k : ℕ) (table : SessionTable) → IsTable (commands plan j s) table → k < length (commands plan j s) → slice_index_or table.places k 0 ≡ place_at plan j s k
+pub place_is : (plan : LabPlan) (j s k : ℕ) (table : SessionTable) → IsTable (commands plan j s) table
+    → k < length (commands plan j s) → slice_index_or table.places k 0 ≡ place_at plan j s k
 place_is plan j s k table is within = is.places k within
 
 -- the instrument of a command
-pub numbered : (plan : LabPlan) (j s k : ℕ) (command : ℕ × Verb) → IsPlan plan → k < length (commands plan j s) → command ≡ slice_index_or (commands plan j s) k command → command.0 < 56
+pub numbered : (plan : LabPlan) (j s k : ℕ) (command : ℕ × Verb) → IsPlan plan
+    → k < length (commands plan j s) → command ≡ slice_index_or (commands plan j s) k command → command.0 < 56
 numbered plan j s k command plan_is within read =
     let below = plan_is.draft.named j s k command within in
     omega (arith, plan_is.draft.few_instruments, below, ap (λ (c : ℕ × Verb). c.0) read)

@@ -28,5 +28,6 @@ related_more R no_x no_y xs ys k y within one before =
           ],
     )
 
-pub related_all : {X Y : Type 0} (R : X → Y → Type 0) (no_x : X) (no_y : Y) (xs : List X) (ys : List Y) (k : ℕ) → length xs ≤ k → Related R no_x no_y (take k xs) ys → Related R no_x no_y xs ys
+pub related_all : {X Y : Type 0} (R : X → Y → Type 0) (no_x : X) (no_y : Y) (xs : List X) (ys : List Y) (k : ℕ)
+    → length xs ≤ k → Related R no_x no_y (take k xs) ys → Related R no_x no_y xs ys
 related_all R no_x no_y xs ys k long all = subst (λ zs. Related R no_x no_y zs ys) (take_all k xs long) all

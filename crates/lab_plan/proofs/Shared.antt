@@ -38,11 +38,17 @@ in_map f x (y ∷ ys) h = elim h [ inl is ↦ inl (ap f is) | inr later ↦ inr 
 
 in_flat : {X Y : Type 0} (f : X → List Y) (x : X) (y : Y) (xs : List X) → In x xs → In y (f x) → In y (flat_map f xs)
 in_flat f x y [] h g = absurd h
-in_flat f x y (z ∷ xs) h g = elim h [ inl is ↦ in_left y (f z) (flat_map f xs) (subst (λ w. In y (f w)) (sym is) g) | inr later ↦ in_right y (f z) (flat_map f xs) (in_flat f x y xs later g) ]
+in_flat f x y (z ∷ xs) h g = elim h [
+  | inl is ↦ in_left y (f z) (flat_map f xs) (subst (λ w. In y (f w)) (sym is) g)
+  | inr later ↦ in_right y (f z) (flat_map f xs) (in_flat f x y xs later g)
+]
 
 in_range : (a n k : ℕ) → a ≤ k → k < a + n → In k (range_with_len a n)
 in_range a zero k low high = absurd (omega (arith, low, high))
-in_range a (suc n) k low high = elim (cases_eq a k) [ inl is ↦ inl is | inr other ↦ inr (in_range (a + 1) n k (omega (arith, low, other)) (omega (arith, high))) ]
+in_range a (suc n) k low high = elim (cases_eq a k) [
+  | inl is ↦ inl is
+  | inr other ↦ inr (in_range (a + 1) n k (omega (arith, low, other)) (omega (arith, high)))
+]
 
 in_filter : {X : Type 0} (p : X → Bool) (x : X) (xs : List X) → In x xs → p x ≡ true → In x (filter p xs)
 in_filter p x [] h t = absurd h
@@ -67,12 +73,22 @@ shared plan a b i below job inside na nb =
     let both : both_name plan (a, b) i ≡ true = rw (na, nb) refl in
     let number : In i (instrument_numbers plan) = in_range 0 (length plan.instruments) i (omega arith) (omega (arith, inside)) in
     let pair : In (a, b) (pairs (length plan.jobs)) =
-    in_flat (λ low. map (λ high. (low, high)) (range_with_len (low + 1) (length plan.jobs - (low + 1)))) a (a, b) (range_with_len 0 (length plan.jobs)) (in_range 0 (length plan.jobs) a (omega arith) (omega (arith, below, job)))
-    (in_map (λ high. (a, high)) b (range_with_len (a + 1) (length plan.jobs - (a + 1))) (in_range (a + 1) (length plan.jobs - (a + 1)) b (omega (arith, below)) (omega (arith, below, job)))) in
-    let edge = at_place (a, b) (edges plan) (in_filter (λ p. list_any (both_name plan p) (instrument_numbers plan)) (a, b) (pairs (length plan.jobs)) pair (any_from_in (both_name plan (a, b)) i (instrument_numbers plan) number both)) in
+    in_flat (λ low. map (λ high. (low, high)) (range_with_len (low + 1) (length plan.jobs - (low + 1)))) a (a, b)
+    (range_with_len 0 (length plan.jobs)) (in_range 0 (length plan.jobs) a (omega arith) (omega (arith, below, job)))
+    (in_map (λ high. (a, high)) b (range_with_len (a + 1) (length plan.jobs - (a + 1)))
+    (in_range (a + 1) (length plan.jobs - (a + 1)) b (omega (arith, below)) (omega (arith, below, job)))) in
+    let edge =
+    at_place (a, b) (edges plan) (in_filter (λ p. list_any (both_name plan p) (instrument_numbers plan)) (a, b)
+    (pairs (length plan.jobs)) pair (any_from_in (both_name plan (a, b)) i (instrument_numbers plan) number both)) in
     let is : ends plan edge.0 ≡ (a, b) = edge.2 (0, 0) in
-    let place = at_place i (common plan (a, b)) (in_filter (both_name plan (a, b)) i (instrument_numbers plan) number both) in
-    (edge.0, edge.1, is, place.0, subst (λ p. place.0 < length (common plan p)) (sym is) place.1, subst (λ p. slice_index_or (common plan p) place.0 0 ≡ i) (sym is) (place.2 0))
+    let place = at_place i (common plan (a, b)) (in_filter (both_name plan (a, b)) i (instrument_numbers plan) number both) in (
+      edge.0,
+      edge.1,
+      is,
+      place.0,
+      subst (λ p. place.0 < length (common plan p)) (sym is) place.1,
+      subst (λ p. slice_index_or (common plan p) place.0 0 ≡ i) (sym is) (place.2 0),
+    )
 
 any_place : {X : Type 0} (p : X → Bool) (xs : List X) (d : X) → list_any p xs ≡ true → (k : ℕ) × (k < length xs) × (p (slice_index_or xs k d) ≡ true)
 any_place p [] d h = absurd (false≢true h)
@@ -84,14 +100,17 @@ any_place p (y ∷ ys) d h = elim (cases_Bool (p y)) [
 -- what a session names, its job names
 session-names : (plan : LabPlan) (j s i : ℕ) → session_names plan j s i ≡ true → names plan j i ≡ true
 session-names plan j s i h = elim (cases_lt (s - 1) (length (sessions plan j))) [
-  | inl inside ↦ any_from_in (λ session. list_any (λ command. command.0 == i) session.commands) (session_at plan j s) (sessions plan j) (in_place (sessions plan j) (s - 1) no_session inside) h
-  | inr out ↦ absurd (false≢true (sym (ap (λ session. list_any (λ command. command.0 == i) session.commands) (get_or_past (sessions plan j) (s - 1) no_session out)) ∙ h))
+  | inl inside ↦ any_from_in (λ session. list_any (λ command. command.0 == i) session.commands)
+      (session_at plan j s) (sessions plan j) (in_place (sessions plan j) (s - 1) no_session inside) h
+  | inr out ↦ absurd (false≢true
+      (sym (ap (λ session. list_any (λ command. command.0 == i) session.commands) (get_or_past (sessions plan j) (s - 1) no_session out)) ∙ h))
 ]
 
 names-job : (plan : LabPlan) (j i : ℕ) → names plan j i ≡ true → j < length plan.jobs
 names-job plan j i h = elim (cases_lt j (length plan.jobs)) [
   | inl inside ↦ inside
-  | inr out ↦ absurd (false≢true (sym (ap (λ job. list_any (λ session. list_any (λ command. command.0 == i) session.commands) job.sessions) (get_or_past plan.jobs j no_job out)) ∙ h))
+  | inr out ↦ absurd (false≢true
+      (sym (ap (λ job. list_any (λ session. list_any (λ command. command.0 == i) session.commands) job.sessions) (get_or_past plan.jobs j no_job out)) ∙ h))
 ]
 
 pub session-instrument : (plan : LabPlan) (j s i : ℕ) → IsNamed plan → session_names plan j s i ≡ true → i < length plan.instruments

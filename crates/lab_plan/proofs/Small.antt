@@ -26,6 +26,7 @@ small plan draft j d in_jobs s e in_sessions =
     let all = piece (λ x. flat_map (λ y. y.commands) x.sessions) plan.jobs j d in_jobs in
     record {
       numbered = λ k c within. let few = draft.few_instruments in
-          let below = subst (λ cs. All (λ command. command.0 < length plan.instruments) cs) same (draft.named j (s + 1)) k c within in omega (arith, below, few);
+          let below = subst (λ cs. All (λ command. command.0 < length plan.instruments) cs) same (draft.named j (s + 1)) k c within in
+          omega (arith, below, few);
       few = omega (arith, one, all, draft.few_commands);
     }

@@ -40,7 +40,8 @@ is_instrument name plan = list_any (bytes_eq name) plan.instruments
 
 -- the place of a name among the instruments, or that it has none
 abbrev pub IsPlace : List ℕ → LabPlan → Option ℕ → Type 0
-IsPlace name plan place = MatchOption place ((is_instrument name plan ≡ false) × (instrument_number name plan ≡ length plan.instruments)) (λ i. (is_instrument name plan ≡ true) × (i ≡ instrument_number name plan) × (i < length plan.instruments))
+IsPlace name plan place = MatchOption place ((is_instrument name plan ≡ false) × (instrument_number name plan ≡ length plan.instruments))
+    (λ i. (is_instrument name plan ≡ true) × (i ≡ instrument_number name plan) × (i < length plan.instruments))
 
 -- one more command of the last session of the last job
 abbrev pub and_command : ℕ → Verb → SessionPlan → SessionPlan
@@ -73,7 +74,8 @@ is_bare plan = has_session plan && (length (last_session plan).commands == 0)
 
 -- every session has a command, but for the last session of the last job
 abbrev pub AreClosed : LabPlan → Type 0
-AreClosed plan = (j s : ℕ) → 1 ≤ s → s ≤ length (sessions plan j) → (0 < length (commands plan j s)) ⊎ ((j + 1 ≡ length plan.jobs) × (s ≡ length (sessions plan j)))
+AreClosed plan = (j s : ℕ) → 1 ≤ s → s ≤ length (sessions plan j)
+    → (0 < length (commands plan j s)) ⊎ ((j + 1 ≡ length plan.jobs) × (s ≡ length (sessions plan j)))
 
 abbrev pub is_job : List ℕ → LabPlan → Bool
 is_job name plan = list_any (λ job. bytes_eq name job.name) plan.jobs

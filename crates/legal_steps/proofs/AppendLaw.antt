@@ -32,26 +32,30 @@ use Rattle.legal_steps.proofs.AppendParts.{last_cases, parts_closed, follows_nex
 pub room_enough : (plan : LabPlan) (s : State) (ended : List (ℕ × ℕ)) (i : ℕ) → IsLogged plan s ended → length (log s i) ≤ room_of plan i
 room_enough plan s ended i h = omega (arith, h.books_kept.roomy i, shares_fit plan i (books s).stages (stages_fit plan s h.fits))
 
-room_to_act : (plan : LabPlan) (s : State) (ended : List (ℕ × ℕ)) (j : ℕ) → IsPlan plan → IsLogged plan s ended → Can plan (books s) (Act j) → length (log s (next_command plan s j).0) < room_of plan (next_command plan s j).0
+room_to_act : (plan : LabPlan) (s : State) (ended : List (ℕ × ℕ)) (j : ℕ) → IsPlan plan → IsLogged plan s ended
+    → Can plan (books s) (Act j) → length (log s (next_command plan s j).0) < room_of plan (next_command plan s j).0
 room_to_act plan s ended j is_plan h can =
     let i : ℕ = (next_command plan s j).0 in
     let s' : State = after plan s (Act j) in
     let enough = room_enough plan s' (ended ++ []) i (logged_after plan s ended (Act j) is_plan can h) in
     let same : log s' i ≡ log s i ++ entry_of plan (books s) j ∷ [] =
-    ap (λ (b : Books). b.logs i) (books_after plan s (Act j) is_plan.draft.named h.fits can) ∙ put-same (λ k. log s k) i (log s i ++ entry_of plan (books s) j ∷ []) in
+    ap (λ (b : Books). b.logs i) (books_after plan s (Act j) is_plan.draft.named h.fits can)
+    ∙ put-same (λ k. log s k) i (log s i ++ entry_of plan (books s) j ∷ []) in
     omega (arith, enough, ap length same, length-append (log s i) (entry_of plan (books s) j ∷ []))
 
 -- ---- the entry follows
 
 -- of a session's commands on an instrument, more are done after the next one
-more_to_do : (all : List (ℕ × Verb)) (k : ℕ) → k < length all → count_on (slice_index_or all k (0, Read)).0 (take k all) < count_on (slice_index_or all k (0, Read)).0 all
+more_to_do : (all : List (ℕ × Verb)) (k : ℕ) → k < length all
+    → count_on (slice_index_or all k (0, Read)).0 (take k all) < count_on (slice_index_or all k (0, Read)).0 all
 more_to_do all k inside =
     let i : ℕ = (slice_index_or all k (0, Read)).0 in
     let one : Bool → ℕ = λ b. cond b 1 0 in
     omega (arith, count_on-more i all k inside, ap one (eq-eqb i i refl), count_on-take i (k + 1) all)
 
 follows_so_far : (plan : LabPlan) (b : Books) (ended : List (ℕ × ℕ)) (j : ℕ) → (b.stages j).position < length (commands plan j (b.stages j).session) →
-    map line_of (b.logs (next_of plan b j).0) ≡ parts_of plan (next_of plan b j).0 ended ++ part_so_far plan (next_of plan b j).0 j (b.stages j) → Follows (b.logs (next_of plan b j).0) (entry_of plan b j)
+    map line_of (b.logs (next_of plan b j).0) ≡ parts_of plan (next_of plan b j).0 ended ++ part_so_far plan (next_of plan b j).0 j (b.stages j)
+    → Follows (b.logs (next_of plan b j).0) (entry_of plan b j)
 follows_so_far plan b ended j left joined =
     let x : Stage = b.stages j in
     let i : ℕ = (next_of plan b j).0 in
@@ -62,20 +66,23 @@ follows_so_far plan b ended j left joined =
     let whole : total ≡ count_on i all = length-commands_on i all in
     elim (last_cases done) [
       | inl none ↦
-          let closed : map line_of (b.logs i) ≡ parts_of plan i ended = joined ∙ ap (λ own. parts_of plan i ended ++ lines_of j x.session total own) none ∙ append-nil (parts_of plan i ended) in
+          let closed : map line_of (b.logs i) ≡ parts_of plan i ended =
+          joined ∙ ap (λ own. parts_of plan i ended ++ lines_of j x.session total own) none ∙ append-nil (parts_of plan i ended) in
           follows_first (b.logs i) (entry_of plan b j) (subst IsClosed (sym closed) (parts_closed plan i ended)) (omega (arith, counted, ap length none))
       | inr more ↦
           let front : List Line = lines_of j x.session total more.front in
           let line : Line = line_at j x.session total (length more.front + 1) more.last in
           let size : length done ≡ length more.front + 1 = ap length more.is ∙ length-append more.front (more.last ∷ []) in
           follows_next (b.logs i) (parts_of plan i ended ++ front) line (entry_of plan b j)
-          (joined ∙ ap (λ lines. parts_of plan i ended ++ lines) (ap (lines_of j x.session total) more.is ∙ lines_of-push j x.session total more.front more.last)
+          (joined ∙ ap (λ lines. parts_of plan i ended ++ lines) (ap (lines_of j x.session total) more.is
+          ∙ lines_of-push j x.session total more.front more.last)
           ∙ sym (append_assoc (parts_of plan i ended) front (line ∷ [])))
           (omega (arith, size, counted, whole, more_to_do all x.position left))
           refl refl (omega (arith, size, counted)) (sym whole)
     ]
 
-follows_kept : (plan : LabPlan) (s : State) (ended : List (ℕ × ℕ)) (j : ℕ) → IsPlan plan → IsLogged plan s ended → Can plan (books s) (Act j) → Follows (log s (next_command plan s j).0) (entry_of plan (books s) j)
+follows_kept : (plan : LabPlan) (s : State) (ended : List (ℕ × ℕ)) (j : ℕ) → IsPlan plan → IsLogged plan s ended
+    → Can plan (books s) (Act j) → Follows (log s (next_command plan s j).0) (entry_of plan (books s) j)
 follows_kept plan s ended j is_plan h can =
     let b : Books = books s in
     let i : ℕ = (next_of plan b j).0 in
@@ -93,7 +100,8 @@ entry_is : (plan : LabPlan) (s : State) (j : ℕ) → entry_of plan (books s) j 
 unfolding next_entry
 entry_is plan s j = refl
 
-pub act_appends_logged : (plan : LabPlan) (s : State) (ended : List (ℕ × ℕ)) (j : ℕ) → IsPlan plan → IsLogged plan s ended → IsJob plan j → drinking s j ≡ Reaching →
+pub act_appends_logged : (plan : LabPlan) (s : State) (ended : List (ℕ × ℕ)) (j : ℕ)
+    → IsPlan plan → IsLogged plan s ended → IsJob plan j → drinking s j ≡ Reaching →
     MayAppend (record { entries = log s (next_command plan s j).0; room = room_of plan (next_command plan s j).0 }) (next_entry plan s j)
 act_appends_logged plan s ended j is_plan h job reaching = record {
   follows = subst (Follows (log s (next_command plan s j).0)) (entry_is plan s j) (follows_kept plan s ended j is_plan h (job, reaching));
@@ -108,7 +116,8 @@ next_value plan s j = refl
 -- ---- limits
 
 -- a session has no more commands than the plan
-session_commands_few : (plan : LabPlan) (j n : ℕ) → j < length plan.jobs → 1 ≤ n → n ≤ length (sessions plan j) → length (commands plan j n) ≤ length (all_commands plan)
+session_commands_few : (plan : LabPlan) (j n : ℕ) → j < length plan.jobs → 1 ≤ n
+    → n ≤ length (sessions plan j) → length (commands plan j n) ≤ length (all_commands plan)
 session_commands_few plan j n job first there =
     let of_job : JobPlan → List (ℕ × Verb) = λ x. flat_map (λ y. y.commands) x.sessions in
     let of_session : SessionPlan → List (ℕ × Verb) = λ y. y.commands in
@@ -120,7 +129,8 @@ session_commands_few plan j n job first there =
       get_or-le-sum_by (λ y. length (of_session y)) (sessions plan j) (n - 1) no_session (omega (arith, first, there)),
     )
 
-pub within_limits_logged : (plan : LabPlan) (s : State) (ended : List (ℕ × ℕ)) (j : ℕ) → IsPlan plan → IsLogged plan s ended → IsJob plan j → drinking s j ≡ Reaching → IsWithinLimits (next_entry plan s j)
+pub within_limits_logged : (plan : LabPlan) (s : State) (ended : List (ℕ × ℕ)) (j : ℕ) → IsPlan plan
+    → IsLogged plan s ended → IsJob plan j → drinking s j ≡ Reaching → IsWithinLimits (next_entry plan s j)
 within_limits_logged plan s ended j is_plan h job reaching =
     let b : Books = books s in
     let i : ℕ = (next_of plan b j).0 in

@@ -80,7 +80,8 @@ last_entry : (entries : List Entry) (front : List Line) (line : Line) → map li
 last_entry entries front line e = elim (last_cases entries) [
   | inl none ↦ absurd (not_empty front line (sym (ap (map line_of) none) ∙ e))
   | inr more ↦
-      let both = same_from_push (map line_of more.front) front (line_of more.last) line (sym (map_push line_of more.front more.last) ∙ sym (ap (map line_of) more.is) ∙ e) in
+      let both = same_from_push (map line_of more.front) front (line_of more.last) line (sym (map_push line_of more.front more.last)
+      ∙ sym (ap (map line_of) more.is) ∙ e) in
       record { front = more.front; last = more.last; is = more.is; says = both.1 }
 ]
 
@@ -108,7 +109,8 @@ pub follows_next : (entries : List Entry) (front : List Line) (line : Line) (ent
 follows_next entries front line entry e more job session place total =
     let l = last_entry entries front line e in
     let before : l.last.place < l.last.length = omega (arith, more, ap (λ (x : Line). x.2) l.says, ap (λ (x : Line). x.3) l.says) in
-    let open_is : open_entry entries ≡ Some l.last = ap open_entry l.is ∙ open_entry-push l.front l.last ∙ ap (λ b. if b then Some l.last else None) (lt-ltb l.last.place l.last.length before) in
+    let open_is : open_entry entries ≡ Some l.last =
+    ap open_entry l.is ∙ open_entry-push l.front l.last ∙ ap (λ b. if b then Some l.last else None) (lt-ltb l.last.place l.last.length before) in
     let next : IsNextPlace l.last entry = record {
       same_job = job ∙ sym (ap (λ (x : Line). x.0) l.says);
       same_session = session ∙ sym (ap (λ (x : Line). x.1) l.says);

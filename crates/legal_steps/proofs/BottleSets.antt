@@ -37,7 +37,8 @@ has_cleared marks set k h = elim (bit_cases marks k) [
 ]
 
 -- what a look marks is here
-pub has_bottles_at : (plan : LabPlan) (e k : ℕ) (here : End) (x : EdgeState) → k < length (bottles plan e) → Has (bottles_at plan e here x) k → bottle_end x.bottles k ≡ here
+pub has_bottles_at : (plan : LabPlan) (e k : ℕ) (here : End) (x : EdgeState)
+    → k < length (bottles plan e) → Has (bottles_at plan e here x) k → bottle_end x.bottles k ≡ here
 unfolding Has bottles_at bottle_end
 has_bottles_at plan e k Higher x inside h = rw h refl
 has_bottles_at plan e k Lower x inside h = elim (bit_cases x.bottles k) [

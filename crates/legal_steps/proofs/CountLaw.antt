@@ -45,7 +45,8 @@ nothing : (x : JobState) (n : ℕ) → HasDone x n → HasDone x (n + 0)
 nothing x n h = subst (HasDone x) (sym (add-zero n)) h
 
 -- the event's own job
-done_own : (plan : LabPlan) (s : State) (event : Event) (n : ℕ) → May plan s event → HasDone (phase s (actor event)) n → HasDone (phased event (phase s (actor event))) (n + does (actor event) event)
+done_own : (plan : LabPlan) (s : State) (event : Event) (n : ℕ) → May plan s event
+    → HasDone (phase s (actor event)) n → HasDone (phased event (phase s (actor event))) (n + does (actor event) event)
 done_own plan s (Look j e seen) n may h = nothing _ n h
 done_own plan s (AskFork j e) n may h = nothing _ n h
 done_own plan s (GiveFork j e) n may h = nothing _ n h
@@ -80,14 +81,17 @@ does_none j (Quit k) other = ap (λ b. cond b 1 0 + 0) (ne_eqb k j (λ e. other 
 does_none j (Withdraw k) other = ap (λ b. 0 + cond b 1 0) (ne_eqb k j (λ e. other (sym e)))
 does_none j _ other = refl
 
-done_after : (plan : LabPlan) (s : State) (event : Event) (j n : ℕ) → Fits plan s → May plan s event → HasDone (phase s j) n → HasDone (phase (after plan s event) j) (n + does j event)
+done_after : (plan : LabPlan) (s : State) (event : Event) (j n : ℕ) → Fits plan s → May plan s event
+    → HasDone (phase s j) n → HasDone (phase (after plan s event) j) (n + does j event)
 done_after plan s event j n fit may h =
     subst (λ (x : JobState). HasDone x (n + does j event)) (sym (phases_after plan s event fit may j))
-    (put-cases (λ k (x : JobState). HasDone (phase s k) n → HasDone x (n + does k event)) (λ k. phase s k) (actor event) (phased event (phase s (actor event))) j
+    (put-cases (λ k (x : JobState). HasDone (phase s k) n → HasDone x (n + does k event))
+    (λ k. phase s k) (actor event) (phased event (phase s (actor event))) j
     (λ here. done_own plan s event n may)
     (λ other before. subst (HasDone (phase s j)) (omega (arith, does_none j event other)) before) h)
 
-done_from : (plan : LabPlan) (s : State) (events : List Event) (j n : ℕ) → Fits plan s → IsLegalFrom plan s events → HasDone (phase s j) n → HasDone (phase (after_all plan s events) j) (n + (sessions_done_of j events + withdrawn_of j events))
+done_from : (plan : LabPlan) (s : State) (events : List Event) (j n : ℕ) → Fits plan s → IsLegalFrom plan s events
+    → HasDone (phase s j) n → HasDone (phase (after_all plan s events) j) (n + (sessions_done_of j events + withdrawn_of j events))
 done_from plan s [] j n fit legal h = nothing (phase s j) n h
 done_from plan s (event ∷ events) j n fit legal h =
     let quits = sum_by-cons (λ e. cond (is_quit j e) 1 0) event events in
@@ -95,11 +99,13 @@ done_from plan s (event ∷ events) j n fit legal h =
     subst (HasDone (phase (after_all plan (after plan s event) events) j)) (omega (arith, quits, withdraws))
     (done_from plan (after plan s event) events j (n + does j event) (fits_after plan s event fit legal.0) legal.1 (done_after plan s event j n fit legal.0 h))
 
-pub sessions_counted : (plan : LabPlan) (opening : State) (events : List Event) (j : ℕ) → IsOpening plan opening → IsLegalFrom plan opening events → HasDone (phase (after_all plan opening events) j) (sessions_done_of j events + withdrawn_of j events)
+pub sessions_counted : (plan : LabPlan) (opening : State) (events : List Event) (j : ℕ) → IsOpening plan opening
+    → IsLegalFrom plan opening events → HasDone (phase (after_all plan opening events) j) (sessions_done_of j events + withdrawn_of j events)
 sessions_counted plan opening events j opens legal =
     subst (HasDone (phase (after_all plan opening events) j)) (omega arith)
     (done_from plan opening events j 0 (fits_opening plan opening opens) legal
-    (subst (λ (x : JobState). HasDone x 0) (sym (opening_phase plan opening j opens)) (record { inside = λ still. absurd (not_tranquil still); outside = λ _. refl })))
+    (subst (λ (x : JobState). HasDone x 0) (sym (opening_phase plan opening j opens))
+    (record { inside = λ still. absurd (not_tranquil still); outside = λ _. refl })))
 
 -- ---- bounds
 
@@ -131,8 +137,12 @@ fits_all plan s [] fit legal = fit
 fits_all plan s (event ∷ events) fit legal = fits_all plan (after plan s event) events (fits_after plan s event fit legal.0) legal.1
 
 -- and so at most 1000
-pub begun_few : (plan : LabPlan) (opening : State) (events : List Event) (j : ℕ) → IsPlan plan → IsOpening plan opening → IsLegalFrom plan opening events → session (after_all plan opening events) j ≤ 1000
-begun_few plan opening events j is_plan opens legal = sessions_few plan (after_all plan opening events) j is_plan (fits_all plan opening events (fits_opening plan opening opens) legal)
+pub begun_few : (plan : LabPlan) (opening : State) (events : List Event) (j : ℕ) → IsPlan plan
+    → IsOpening plan opening → IsLegalFrom plan opening events → session (after_all plan opening events) j ≤ 1000
+begun_few plan opening events j is_plan opens legal =
+    sessions_few plan (after_all plan opening events) j is_plan (fits_all plan opening events (fits_opening plan opening opens) legal)
 
-pub done_few : (plan : LabPlan) (opening : State) (events : List Event) (j : ℕ) → IsPlan plan → IsOpening plan opening → IsLegalFrom plan opening events → sessions_done_of j events + withdrawn_of j events ≤ 1000
-done_few plan opening events j is_plan opens legal = omega (arith, done_bounded plan opening events j opens legal, begun_few plan opening events j is_plan opens legal)
+pub done_few : (plan : LabPlan) (opening : State) (events : List Event) (j : ℕ) → IsPlan plan
+    → IsOpening plan opening → IsLegalFrom plan opening events → sessions_done_of j events + withdrawn_of j events ≤ 1000
+done_few plan opening events j is_plan opens legal =
+    omega (arith, done_bounded plan opening events j opens legal, begun_few plan opening events j is_plan opens legal)

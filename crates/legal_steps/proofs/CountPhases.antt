@@ -60,7 +60,8 @@ unchanged before now j same k = elim (cases_eq k j) [
   | inr other ↦ same k ∙ sym (put-other before j (before j) k other)
 ]
 
-pub phases_after : (plan : LabPlan) (s : State) (event : Event) → Fits plan s → May plan s event → (k : ℕ) → phase (after plan s event) k ≡ put (λ n. phase s n) (actor event) (phased event (phase s (actor event))) k
+pub phases_after : (plan : LabPlan) (s : State) (event : Event) → Fits plan s → May plan s event → (k : ℕ)
+    → phase (after plan s event) k ≡ put (λ n. phase s n) (actor event) (phased event (phase s (actor event))) k
 phases_after plan s (Look j e seen) fit may = unchanged (phases s) (phases (after plan s (Look j e seen))) j (read-same phase_in s j _ refl)
 phases_after plan s (AskFork j e) fit may = unchanged (phases s) (phases (after plan s (AskFork j e))) j (λ k. refl)
 phases_after plan s (GiveFork j e) fit may = unchanged (phases s) (phases (after plan s (GiveFork j e))) j (read-same phase_in s j _ refl)

@@ -45,16 +45,20 @@ pub fits_after : (plan : LabPlan) (s : State) (event : Event) → Fits plan s �
 fits_after plan s (Look j e seen) h may =
     let job = own_is_job plan j e may.0 in
     let here = subst (λ (y : EdgeState). IsOfEdge plan e y.bottles) (sym may.1) (h.bottles_fit e may.0.is_edge) in
-    fits_with_seat plan s j _ job (seat_fits_bottle_marks plan j e _ _ may.0.is_edge (bottles_at_fit plan e (end_of plan j e) seen here) (seat_fits_fork_mark plan j e _ _ (h.seats_fit j job))) h
+    fits_with_seat plan s j _
+    job (seat_fits_bottle_marks plan j e _ _ may.0.is_edge (bottles_at_fit plan e (end_of plan j e) seen here)
+    (seat_fits_fork_mark plan j e _ _ (h.seats_fit j job))) h
 fits_after plan s (AskFork j e) h may = let own = may.0.is_edge in fits_with_edge plan s e _ own (h.bottles_fit e own) (h.tokens_fit e own) h
 fits_after plan s (GiveFork j e) h may =
     let own = may.0.is_edge in
     let job = own_is_job plan j e may.0 in
-    fits_with_seat plan _ j _ job (seat_fits_fork_mark plan j e _ _ (h.seats_fit j job)) (fits_with_edge plan s e _ own (h.bottles_fit e own) (h.tokens_fit e own) h)
+    fits_with_seat plan _ j _ job (seat_fits_fork_mark plan j e _ _ (h.seats_fit j job))
+    (fits_with_edge plan s e _ own (h.bottles_fit e own) (h.tokens_fit e own) h)
 fits_after plan s (Soil j e) h may =
     let own = may.0.is_edge in
     let job = own_is_job plan j e may.0 in
-    fits_with_seat plan _ j _ job (seat_fits_fork_mark plan j e _ _ (h.seats_fit j job)) (fits_with_edge plan s e _ own (h.bottles_fit e own) (h.tokens_fit e own) h)
+    fits_with_seat plan _ j _ job (seat_fits_fork_mark plan j e _ _ (h.seats_fit j job))
+    (fits_with_edge plan s e _ own (h.bottles_fit e own) (h.tokens_fit e own) h)
 fits_after plan s (AskBottles j e set) h may =
     let own = may.0.is_edge in
     fits_with_edge plan s e _ own (h.bottles_fit e own) (flipped_fit plan e _ set (h.tokens_fit e own) may.2.of_edge) h
@@ -65,15 +69,28 @@ fits_after plan s (GiveBottles j e set) h may =
     fits_with_seat plan _ j _ job (seat_fits_bottle_marks plan j e _ _ own (left_fit plan e _ set (old.bottle_marks_fit e own)) old)
     (fits_with_edge plan s e _ own (flipped_fit plan e _ set (h.bottles_fit e own) may.1.of_edge) (h.tokens_fit e own) h)
 fits_after plan s (Thirst j) h may = fits_with_phase plan s j _ may.0 (omega (arith, may.3)) (λ _. omega arith) (omega arith) (λ e. absurd (cc)) h
-fits_after plan s (Hunger j) h may = let old = h.seats_fit j may.0 in fits_with_phase plan s j _ may.0 old.session_there old.begun old.position_there old.command_left h
+fits_after plan s (Hunger j) h may =
+    let old = h.seats_fit j may.0 in
+    fits_with_phase plan s j _ may.0 old.session_there old.begun old.position_there old.command_left h
 fits_after plan s (Sit j) h may = fits_with_seat plan s j _ may.0 (seat_fits_turned plan j _ _ (h.seats_fit j may.0)) h
 fits_after plan s (Leave j) h may = fits_with_seat plan s j _ may.0 (seat_fits_turned plan j _ _ (h.seats_fit j may.0)) h
-fits_after plan s (Drink j) h may = let old = h.seats_fit j may.0 in fits_with_phase plan s j _ may.0 old.session_there (λ _. old.begun (inl may.1)) old.position_there (λ e. absurd (cc)) h
-fits_after plan s (Reach j) h may = let old = h.seats_fit j may.0 in fits_with_phase plan s j _ may.0 old.session_there (λ _. old.begun (inr (inl may.1))) old.position_there (λ _. may.2) h
+fits_after plan s (Drink j) h may =
+    let old = h.seats_fit j may.0 in
+    fits_with_phase plan s j _ may.0 old.session_there (λ _. old.begun (inl may.1)) old.position_there (λ e. absurd (cc)) h
+fits_after plan s (Reach j) h may =
+    let old = h.seats_fit j may.0 in
+    fits_with_phase plan s j _ may.0 old.session_there (λ _. old.begun (inr (inl may.1))) old.position_there (λ _. may.2) h
 fits_after plan s (Act j) h may =
     let old = h.seats_fit j may.0 in
-    fits_with_log plan _ _ _ (fits_with_phase plan s j _ may.0 old.session_there (λ _. old.begun (inr (inr may.1))) (omega (arith, old.command_left may.1)) (λ e. absurd (cc)) h)
-fits_after plan s (Quit j) h may = let old = h.seats_fit j may.0 in fits_with_phase plan s j _ may.0 old.session_there (λ t. absurd (not_tranquil t)) (omega arith) (λ e. absurd (cc)) h
-fits_after plan s (Retire j) h may = let old = h.seats_fit j may.0 in fits_with_phase plan s j _ may.0 old.session_there (λ t. absurd (not_retired t)) old.position_there (λ e. absurd (cc)) h
+    fits_with_log plan _ _ _
+    (fits_with_phase plan s j _ may.0 old.session_there (λ _. old.begun (inr (inr may.1))) (omega (arith, old.command_left may.1)) (λ e. absurd (cc)) h)
+fits_after plan s (Quit j) h may =
+    let old = h.seats_fit j may.0 in
+    fits_with_phase plan s j _ may.0 old.session_there (λ t. absurd (not_tranquil t)) (omega arith) (λ e. absurd (cc)) h
+fits_after plan s (Retire j) h may =
+    let old = h.seats_fit j may.0 in
+    fits_with_phase plan s j _ may.0 old.session_there (λ t. absurd (not_retired t)) old.position_there (λ e. absurd (cc)) h
 fits_after plan s (Glance j other seen) h may = h
-fits_after plan s (Withdraw j) h may = let old = h.seats_fit j may.0 in fits_with_phase plan s j _ may.0 old.session_there (λ t. absurd (not_tranquil t)) (omega arith) (λ e. absurd (cc)) h
+fits_after plan s (Withdraw j) h may =
+    let old = h.seats_fit j may.0 in
+    fits_with_phase plan s j _ may.0 old.session_there (λ t. absurd (not_tranquil t)) (omega arith) (λ e. absurd (cc)) h

@@ -21,7 +21,8 @@ pub seat_other : (s : State) (j : ℕ) (x : Seat) (k : ℕ) → k ≢ j → seat
 seat_other s j x k other = get_or-set_other s.seats j k x _ other
 
 -- each seat is the new one or as before
-pub seat_cases : (s : State) (j : ℕ) (x : Seat) → j < length s.seats → (k : ℕ) → ((k ≡ j) × (seat (with_seat s j x) k ≡ x)) ⊎ ((k ≢ j) × (seat (with_seat s j x) k ≡ seat s k))
+pub seat_cases : (s : State) (j : ℕ) (x : Seat) → j < length s.seats → (k : ℕ)
+    → ((k ≡ j) × (seat (with_seat s j x) k ≡ x)) ⊎ ((k ≢ j) × (seat (with_seat s j x) k ≡ seat s k))
 seat_cases s j x inside k = elim (cases_eq k j) [
   | inl same ↦ inl (same, subst (λ n. seat (with_seat s j x) n ≡ x) (sym same) (seat_same s j x inside))
   | inr other ↦ inr (other, seat_other s j x k other)
@@ -34,7 +35,8 @@ pub edge_other : (s : State) (e : ℕ) (x : EdgeState) (k : ℕ) → k ≢ e →
 edge_other s e x k other = get_or-set_other s.edges e k x _ other
 
 -- each edge is the new one or as before
-pub edge_cases : (s : State) (e : ℕ) (x : EdgeState) → e < length s.edges → (k : ℕ) → ((k ≡ e) × (edge (with_edge s e x) k ≡ x)) ⊎ ((k ≢ e) × (edge (with_edge s e x) k ≡ edge s k))
+pub edge_cases : (s : State) (e : ℕ) (x : EdgeState) → e < length s.edges → (k : ℕ)
+    → ((k ≡ e) × (edge (with_edge s e x) k ≡ x)) ⊎ ((k ≢ e) × (edge (with_edge s e x) k ≡ edge s k))
 edge_cases s e x inside k = elim (cases_eq k e) [
   | inl same ↦ inl (same, subst (λ n. edge (with_edge s e x) n ≡ x) (sym same) (edge_same s e x inside))
   | inr other ↦ inr (other, edge_other s e x k other)
@@ -53,7 +55,8 @@ seat_fits_fork_mark plan j e x mark h = record {
   command_left = h.command_left;
 }
 
-pub seat_fits_bottle_marks : (plan : LabPlan) (j e : ℕ) (x : Seat) (marks : ℕ) → e < length (edges plan) → IsOfEdge plan e marks → IsSeatOf plan j x → IsSeatOf plan j (with_bottle_marks x e marks)
+pub seat_fits_bottle_marks : (plan : LabPlan) (j e : ℕ) (x : Seat) (marks : ℕ) → e < length (edges plan)
+    → IsOfEdge plan e marks → IsSeatOf plan j x → IsSeatOf plan j (with_bottle_marks x e marks)
 seat_fits_bottle_marks plan j e x marks inside fit h = record {
   fork_marks_there = h.fork_marks_there;
   bottle_marks_there = simp length-set h.bottle_marks_there;
@@ -82,7 +85,8 @@ seat_fits_turned plan j x dining h = record {
 
 -- ---- a state fits its plan after a write
 
-pub fits_with_edge : (plan : LabPlan) (s : State) (e : ℕ) (x : EdgeState) → e < length (edges plan) → IsOfEdge plan e x.bottles → IsOfEdge plan e x.bottle_tokens → Fits plan s → Fits plan (with_edge s e x)
+pub fits_with_edge : (plan : LabPlan) (s : State) (e : ℕ) (x : EdgeState) → e < length (edges plan)
+    → IsOfEdge plan e x.bottles → IsOfEdge plan e x.bottle_tokens → Fits plan s → Fits plan (with_edge s e x)
 fits_with_edge plan s e x is_edge b t h =
     let inside : e < length s.edges = omega (arith, is_edge, h.edges_there) in
     record {

@@ -12,7 +12,9 @@ pub one_at_end : (plan : LabPlan) (j k e : ℕ) → IsOwn plan j e → IsOwn pla
 one_at_end plan j k e own other same = let pair = ends_are_pair plan e own.is_edge in grind (arith, own.at_end, other.at_end, pair)
 
 pub at_own : (plan : LabPlan) (j e : ℕ) → IsOwn plan j e → job_at_end plan e (end_of plan j e) ≡ j
-at_own plan j e own = let pair = ends_are_pair plan e own.is_edge in elim (cases_eq (ends plan e).0 j) [ inl same ↦ grind (arith, same, own.at_end, pair) | inr other ↦ grind (arith, other, own.at_end, pair) ]
+at_own plan j e own =
+    let pair = ends_are_pair plan e own.is_edge in
+    elim (cases_eq (ends plan e).0 j) [ inl same ↦ grind (arith, same, own.at_end, pair) | inr other ↦ grind (arith, other, own.at_end, pair) ]
 
 pub own_at : (plan : LabPlan) (e : ℕ) (x : End) → e < length (edges plan) → IsOwn plan (job_at_end plan e x) e
 own_at plan e Lower h = record { is_edge = h; at_end = inl refl }

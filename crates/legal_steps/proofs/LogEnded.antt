@@ -88,26 +88,35 @@ pub record HasEnded (plan : LabPlan) (b : Books) (ended : List (ℕ × ℕ)) : T
   pub ascending : IsAscending ended
   pub past : All (IsPast b) ended
 
-ended_quit : (plan : LabPlan) (b : Books) (ended : List (ℕ × ℕ)) (j : ℕ) → AreStages plan b → Can plan b (Quit j) → HasEnded plan b ended → HasEnded plan (booked plan b (Quit j)) (ended ++ (j, (b.stages j).session) ∷ [])
+ended_quit : (plan : LabPlan) (b : Books) (ended : List (ℕ × ℕ)) (j : ℕ) → AreStages plan b → Can plan b (Quit j)
+    → HasEnded plan b ended → HasEnded plan (booked plan b (Quit j)) (ended ++ (j, (b.stages j).session) ∷ [])
 ended_quit plan b ended j fit can h =
     let own : ℕ × ℕ = (j, (b.stages j).session) in
     let r : Books = booked plan b (Quit j) in
-    let earlier : All (λ other. IsBefore other own) ended = All-weaker (IsPast b) (λ other. IsBefore other own) (past_before b j (ap is_in_session can.1)) ended h.past in
+    let earlier : All (λ other. IsBefore other own) ended =
+    All-weaker (IsPast b) (λ other. IsBefore other own) (past_before b j (ap is_in_session can.1)) ended h.past in
     let still : All (IsPast r) ended = All-weaker (IsPast b) (IsPast r) (λ other. IsPast-after plan b (Quit j) other can) ended h.past in
     let new : IsPast r own = subst (IsPastAt own) (sym (put-same b.stages j _)) (record { began = omega arith; before = λ e. absurd (true≢false (sym e)) }) in
-    let in_plan : IsSessionOf plan own = record { job_there = can.0; from_one = (fit j can.0).begun (ap is_in_session can.1); session_there = (fit j can.0).session_there } in
+    let in_plan : IsSessionOf plan own =
+    record { job_there = can.0; from_one = (fit j can.0).begun (ap is_in_session can.1); session_there = (fit j can.0).session_there } in
     record {
       of_plan = All-push (IsSessionOf plan) ended own h.of_plan in_plan;
       ascending = all_pairs_push IsBefore ended own h.ascending earlier;
       past = All-push (IsPast r) ended own still new;
     }
 
-ended_other : (plan : LabPlan) (b : Books) (ended : List (ℕ × ℕ)) (event : Event) → Can plan b event → HasEnded plan b ended → HasEnded plan (booked plan b event) (ended ++ [])
+ended_other : (plan : LabPlan) (b : Books) (ended : List (ℕ × ℕ)) (event : Event)
+    → Can plan b event → HasEnded plan b ended → HasEnded plan (booked plan b event) (ended ++ [])
 ended_other plan b ended event can h =
     let r : Books = booked plan b event in
     subst (HasEnded plan r) (sym (append-nil ended))
-    (record { of_plan = h.of_plan; ascending = h.ascending; past = All-weaker (IsPast b) (IsPast r) (λ other. IsPast-after plan b event other can) ended h.past })
+    (record {
+      of_plan = h.of_plan;
+      ascending = h.ascending;
+      past = All-weaker (IsPast b) (IsPast r) (λ other. IsPast-after plan b event other can) ended h.past;
+    })
 
-pub HasEnded-after : (plan : LabPlan) (b : Books) (ended : List (ℕ × ℕ)) (event : Event) → AreStages plan b → Can plan b event → HasEnded plan b ended → HasEnded plan (booked plan b event) (ended ++ ended_on b event)
+pub HasEnded-after : (plan : LabPlan) (b : Books) (ended : List (ℕ × ℕ)) (event : Event) → AreStages plan b
+    → Can plan b event → HasEnded plan b ended → HasEnded plan (booked plan b event) (ended ++ ended_on b event)
 HasEnded-after plan b ended (Quit j) fit can h = ended_quit plan b ended j fit can h
 HasEnded-after plan b ended event fit can h = ended_other plan b ended event can h

@@ -44,7 +44,8 @@ IsKept-same plan b c ended i holders parts log kept = elim kept [
 ]
 
 -- sessions with the same parts on the instrument
-IsKept-parts : (plan : LabPlan) (b : Books) (ended others : List (ℕ × ℕ)) (i : ℕ) → parts_of plan i ended ≡ parts_of plan i others → IsKept plan b ended i → IsKept plan b others i
+IsKept-parts : (plan : LabPlan) (b : Books) (ended others : List (ℕ × ℕ)) (i : ℕ)
+    → parts_of plan i ended ≡ parts_of plan i others → IsKept plan b ended i → IsKept plan b others i
 IsKept-parts plan b ended others i same kept = elim kept [
   | inl a ↦ inl (a.0, a.1, a.2 ∙ ap (λ lines. lines ++ part_so_far plan i a.0 (b.stages a.0)) same)
   | inr a ↦ inr (a.0, a.1 ∙ same)
@@ -56,7 +57,8 @@ IsKept-move : (plan : LabPlan) (b : Books) (ended : List (ℕ × ℕ)) (i j : �
 IsKept-move plan b ended i j x holder part =
     IsKept-same plan b (with_stage b j x) ended i
     (λ k. put-cases (λ n y. holds_at plan n y i ≡ holds plan b n i) b.stages j x k (λ here. holder) (λ other. refl))
-    (λ k. put-cases (λ n y. holds plan b n i ≡ true → part_so_far plan i n y ≡ part_so_far plan i n (b.stages n)) b.stages j x k (λ here. part) (λ other h. refl))
+    (λ k. put-cases (λ n y. holds plan b n i ≡ true → part_so_far plan i n y ≡ part_so_far plan i n (b.stages n)) b.stages j x k
+    (λ here. part) (λ other h. refl))
     refl
 
 -- a job that doesn't drink holds nothing
@@ -94,14 +96,16 @@ kept_drink plan b ended i j one fresh can kept =
 -- ---- Act: one more line
 
 -- a reaching job holds its next command's instrument
-pub holds_next : (plan : LabPlan) (b : Books) (j : ℕ) → (b.stages j).position < length (commands plan j (b.stages j).session) → Can plan b (Act j) → holds plan b j (next_of plan b j).0 ≡ true
+pub holds_next : (plan : LabPlan) (b : Books) (j : ℕ) → (b.stages j).position < length (commands plan j (b.stages j).session)
+    → Can plan b (Act j) → holds plan b j (next_of plan b j).0 ≡ true
 holds_next plan b j left can = and_from _ _ (ap is_drinking can.1) (names-next (commands plan j (b.stages j).session) (b.stages j).position (0, Read) left)
 
 -- the part so far with one more command done
 part_so_far-more : (plan : LabPlan) (i j : ℕ) (x : Stage) (command : ℕ × Verb) → command ≡ slice_index_or (commands plan j x.session) x.position (0, Read) →
     x.position < length (commands plan j x.session) →
     part_so_far plan i j (record x { drinking = Drinks; position = x.position + 1 })
-    ≡ lines_of j x.session (length (commands_on i (commands plan j x.session))) (commands_on i (take x.position (commands plan j x.session)) ++ cond (command.0 == i) (command ∷ []) [])
+    ≡ lines_of j x.session (length (commands_on i (commands plan j x.session)))
+    (commands_on i (take x.position (commands plan j x.session)) ++ cond (command.0 == i) (command ∷ []) [])
 part_so_far-more plan i j x command is left =
     let all : List (ℕ × Verb) = commands plan j x.session in
     ap (lines_of j x.session (length (commands_on i all)))
@@ -132,7 +136,8 @@ acted plan b j left =
     ∙ lines_of-push j x.session total done next
     ∙ ap (λ line. lines_of j x.session total done ++ line ∷ []) (sym (line_of_entry plan b j))
 
-kept_act_here : (plan : LabPlan) (b : Books) (ended : List (ℕ × ℕ)) (j : ℕ) → HasOneHolder plan b → (b.stages j).position < length (commands plan j (b.stages j).session) →
+kept_act_here : (plan : LabPlan) (b : Books) (ended : List (ℕ × ℕ)) (j : ℕ)
+    → HasOneHolder plan b → (b.stages j).position < length (commands plan j (b.stages j).session) →
     Can plan b (Act j) → IsKept plan b ended (next_of plan b j).0 → IsKept plan (booked plan b (Act j)) ended (next_of plan b j).0
 kept_act_here plan b ended j one left can kept =
     let i : ℕ = (next_of plan b j).0 in
@@ -168,7 +173,8 @@ kept_act_else plan b ended i j left can other kept =
     IsKept-same plan (with_stage b j x) (booked plan b (Act j)) ended i (λ k. refl) (λ k h. refl) (put-other b.logs next.0 _ i other)
     (IsKept-move plan b ended i j x holder (λ h. same) kept)
 
-kept_act : (plan : LabPlan) (b : Books) (ended : List (ℕ × ℕ)) (i j : ℕ) → HasOneHolder plan b → (b.stages j).position < length (commands plan j (b.stages j).session) →
+kept_act : (plan : LabPlan) (b : Books) (ended : List (ℕ × ℕ)) (i j : ℕ) → HasOneHolder plan b
+    → (b.stages j).position < length (commands plan j (b.stages j).session) →
     Can plan b (Act j) → IsKept plan b ended i → IsKept plan (booked plan b (Act j)) ended i
 kept_act plan b ended i j one left can kept = elim (cases_eq i (next_of plan b j).0) [
   | inl here ↦ subst (IsKept plan (booked plan b (Act j)) ended) (sym here) (kept_act_here plan b ended j one left can (subst (IsKept plan b ended) here kept))
@@ -178,7 +184,8 @@ kept_act plan b ended i j one left can kept = elim (cases_eq i (next_of plan b j
 -- ---- Quit: the part so far is whole
 
 -- of a session whose commands are all done
-part_so_far-all : (plan : LabPlan) (i j : ℕ) (x : Stage) → length (commands plan j x.session) ≤ x.position → part_so_far plan i j x ≡ part_of plan i (j, x.session)
+part_so_far-all : (plan : LabPlan) (i j : ℕ) (x : Stage) → length (commands plan j x.session) ≤ x.position
+    → part_so_far plan i j x ≡ part_of plan i (j, x.session)
 part_so_far-all plan i j x all_done =
     let all : List (ℕ × Verb) = commands plan j x.session in
     ap (λ done. lines_of j x.session (length (commands_on i all)) (commands_on i done)) (take_all x.position all all_done)
@@ -208,7 +215,8 @@ kept_quit plan b ended i j one can kept =
           ]
       | inr nameless ↦
           let same : parts_of plan i ended ≡ parts_of plan i (ended ++ own ∷ []) =
-          sym (parts_of-push plan i ended own ∙ ap (λ lines. parts_of plan i ended ++ lines) (part_of-none plan i own nameless) ∙ append-nil (parts_of plan i ended)) in
+          sym (parts_of-push plan i ended own ∙ ap (λ lines. parts_of plan i ended ++ lines) (part_of-none plan i own nameless)
+          ∙ append-nil (parts_of plan i ended)) in
           IsKept-parts plan c ended (ended ++ own ∷ []) i same (IsKept-idle plan b ended i j x (and_right _ _ nameless) refl kept)
     ]
 
@@ -223,7 +231,8 @@ IsNotQuit _ = Unit {0}
 abbrev pub HasLeft : LabPlan → Books → Type 0
 HasLeft plan b = (j : ℕ) → j < length plan.jobs → (b.stages j).drinking ≡ Reaching → (b.stages j).position < length (commands plan j (b.stages j).session)
 
-kept_calm : (plan : LabPlan) (b : Books) (ended : List (ℕ × ℕ)) (i : ℕ) (event : Event) → HasOneHolder plan b → HasOneHolder plan (booked plan b event) → IsFresh b → HasLeft plan b →
+kept_calm : (plan : LabPlan) (b : Books) (ended : List (ℕ × ℕ)) (i : ℕ) (event : Event)
+    → HasOneHolder plan b → HasOneHolder plan (booked plan b event) → IsFresh b → HasLeft plan b →
     Can plan b event → IsNotQuit event → IsKept plan b ended i → IsKept plan (booked plan b event) ended i
 kept_calm plan b ended i (Thirst j) one next fresh left can calm kept =
     IsKept-idle plan b ended i j _ (not_drinking plan j i (b.stages j) Tranquil can.1 refl) refl kept
@@ -238,8 +247,10 @@ kept_calm plan b ended i (Withdraw j) one next fresh left can calm kept =
     IsKept-idle plan b ended i j _ (not_drinking plan j i (b.stages j) Thirsty can.1 refl) refl kept
 kept_calm plan b ended i _ one next fresh left can calm kept = kept
 
-pub IsKept-after : (plan : LabPlan) (b : Books) (ended : List (ℕ × ℕ)) (i : ℕ) (event : Event) → HasOneHolder plan b → HasOneHolder plan (booked plan b event) → IsFresh b → HasLeft plan b →
+pub IsKept-after : (plan : LabPlan) (b : Books) (ended : List (ℕ × ℕ)) (i : ℕ) (event : Event)
+    → HasOneHolder plan b → HasOneHolder plan (booked plan b event) → IsFresh b → HasLeft plan b →
     Can plan b event → IsKept plan b ended i → IsKept plan (booked plan b event) (ended ++ ended_on b event) i
 IsKept-after plan b ended i (Quit j) one next fresh left can kept = kept_quit plan b ended i j one can kept
 IsKept-after plan b ended i event one next fresh left can kept =
-    IsKept-parts plan (booked plan b event) ended (ended ++ []) i (ap (parts_of plan i) (sym (append-nil ended))) (kept_calm plan b ended i event one next fresh left can tt kept)
+    IsKept-parts plan (booked plan b event) ended (ended ++ []) i (ap (parts_of plan i) (sym (append-nil ended)))
+    (kept_calm plan b ended i event one next fresh left can tt kept)

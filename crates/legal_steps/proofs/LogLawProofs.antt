@@ -32,14 +32,16 @@ held_by_jobs plan s fit j i holder =
           let here = stages_fit plan s fit j job in
           record { job_there = job; from_one = here.begun (drinking_inside (phase s j).drinking drinks); session_there = here.session_there }
       | inr past ↦
-          let idle : is_drinking (phase s j).drinking ≡ false = ap (λ (x : Seat). is_drinking x.phase.drinking) (get_or_past s.seats j no_seat (omega (arith, past, fit.seats_there))) in
+          let idle : is_drinking (phase s j).drinking ≡ false =
+          ap (λ (x : Seat). is_drinking x.phase.drinking) (get_or_past s.seats j no_seat (omega (arith, past, fit.seats_there))) in
           absurd (true≢false (sym drinks ∙ idle))
     ]
 
 pub has_whole_logs : HasWholeLogs
 has_whole_logs plan opening events n is_plan opens legal i =
     let h = logged_always plan opening events n is_plan opens legal in
-    whole_from plan (books (after_all plan opening (take n events))) (ended_sessions plan opening (take n events)) i (held_by_jobs plan (after_all plan opening (take n events)) h.fits) h.books_kept.ended_so (h.books_kept.kept i)
+    whole_from plan (books (after_all plan opening (take n events))) (ended_sessions plan opening (take n events)) i
+    (held_by_jobs plan (after_all plan opening (take n events)) h.fits) h.books_kept.ended_so (h.books_kept.kept i)
 
 pub has_values_of_dials : HasValuesOfDials
 has_values_of_dials plan opening events n is_plan opens legal = (logged_always plan opening events n is_plan opens legal).books_kept.dialled
@@ -51,7 +53,8 @@ ends_in_order plan opening events n is_plan opens legal =
 
 pub has_ended_sessions : HasEndedSessions
 has_ended_sessions plan opening events n is_plan opens legal i =
-    begins_with_parts plan (books (after_all plan opening (take n events))) (ended_sessions plan opening (take n events)) i ((logged_always plan opening events n is_plan opens legal).books_kept.kept i)
+    begins_with_parts plan (books (after_all plan opening (take n events))) (ended_sessions plan opening (take n events)) i
+    ((logged_always plan opening events n is_plan opens legal).books_kept.kept i)
 
 pub has_nothing_else : HasNothingElse
 has_nothing_else plan opening events n is_plan opens legal i free =
@@ -64,7 +67,8 @@ has_nothing_else plan opening events n is_plan opens legal i free =
 
 pub fits_its_room : FitsItsRoom
 fits_its_room plan opening events n is_plan opens legal i =
-    room_enough plan (after_all plan opening (take n events)) (ended_sessions plan opening (take n events)) i (logged_always plan opening events n is_plan opens legal)
+    room_enough plan (after_all plan opening (take n events)) (ended_sessions plan opening (take n events)) i
+    (logged_always plan opening events n is_plan opens legal)
 
 pub takes_next_entry : TakesNextEntry
 takes_next_entry plan opening events n is_plan opens legal j job reaching =

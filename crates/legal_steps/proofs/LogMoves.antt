@@ -87,7 +87,8 @@ read-same f s j x same k = elim (cases_eq k j) [
 ]
 
 -- a seat that is replaced
-pub read-put : {X : Type 0} (f : Seat → X) (s : State) (j : ℕ) (x : Seat) → j < length s.seats → (k : ℕ) → f (seat (with_seat s j x) k) ≡ put (λ n. f (seat s n)) j (f x) k
+pub read-put : {X : Type 0} (f : Seat → X) (s : State) (j : ℕ) (x : Seat) → j < length s.seats
+    → (k : ℕ) → f (seat (with_seat s j x) k) ≡ put (λ n. f (seat s n)) j (f x) k
 read-put f s j x inside k = elim (cases_eq k j) [
   | inl here ↦ subst (λ n. f (seat (with_seat s j x) n) ≡ put (λ m. f (seat s m)) j (f x) n) (sym here)
       (ap f (get_or-set_same s.seats j x _ inside) ∙ sym (put-same (λ m. f (seat s m)) j (f x)))
@@ -99,7 +100,8 @@ abbrev stage_in : Seat → Stage
 stage_in x = stage_of x.phase
 
 -- a log that is replaced
-log-put : (logs : List (List Entry)) (i : ℕ) (entries : List Entry) → i < length logs → (k : ℕ) → slice_index_or (slice_set logs i entries) k [] ≡ put (λ n. slice_index_or logs n []) i entries k
+log-put : (logs : List (List Entry)) (i : ℕ) (entries : List Entry) → i < length logs → (k : ℕ)
+    → slice_index_or (slice_set logs i entries) k [] ≡ put (λ n. slice_index_or logs n []) i entries k
 log-put logs i entries inside k = elim (cases_eq k i) [
   | inl here ↦ subst (λ n. slice_index_or (slice_set logs i entries) n [] ≡ put (λ m. slice_index_or logs m []) i entries n) (sym here)
       (get_or-set_same logs i entries _ inside ∙ sym (put-same (λ m. slice_index_or logs m []) i entries))
@@ -121,15 +123,18 @@ next-inside plan s j named fit can =
     let here : P (next_command plan s j) = All-get_or P (commands plan j x.session) x.position _ left (named j x.session) in
     omega (arith, here, fit.logs_there)
 
-act_booked : (plan : LabPlan) (s : State) (j : ℕ) → IsNamed plan → Fits plan s → Can plan (books s) (Act j) → books (after plan s (Act j)) ≡ booked plan (books s) (Act j)
+act_booked : (plan : LabPlan) (s : State) (j : ℕ) → IsNamed plan → Fits plan s
+    → Can plan (books s) (Act j) → books (after plan s (Act j)) ≡ booked plan (books s) (Act j)
 unfolding next_entry
 act_booked plan s j named fit can = λ n. record {
-  stages = λ k. read-put stage_in s j (record (seat s j) { phase = record (phase s j) { drinking = Drinks; position = (phase s j).position + 1 } }) (omega (arith, can.0, fit.seats_there)) k n;
+  stages = λ k. read-put stage_in s j (record (seat s j) { phase = record (phase s j) { drinking = Drinks; position = (phase s j).position + 1 } })
+      (omega (arith, can.0, fit.seats_there)) k n;
   logs = λ i. log-put s.logs (next_command plan s j).0 (log s (next_command plan s j).0 ++ next_entry plan s j ∷ []) (next-inside plan s j named fit can) i n;
 }
 
 -- the books after a legal event
-pub books_after : (plan : LabPlan) (s : State) (event : Event) → IsNamed plan → Fits plan s → May plan s event → books (after plan s event) ≡ booked plan (books s) event
+pub books_after : (plan : LabPlan) (s : State) (event : Event) → IsNamed plan → Fits plan s
+    → May plan s event → books (after plan s event) ≡ booked plan (books s) event
 books_after plan s (Look j e seen) named fit may = with_seat-same s j _ refl
 books_after plan s (AskFork j e) named fit may = refl
 books_after plan s (GiveFork j e) named fit may = with_seat-same s j _ refl

@@ -53,13 +53,16 @@ turned-small (Add number) value fit small = omega arith
 turned-small Read value fit small = small
 
 -- the next command's number fits the dial
-pub verb-fits : (plan : LabPlan) (b : Books) (j : ℕ) → AllFit plan → (b.stages j).position < length (commands plan j (b.stages j).session) → FitsDial (next_of plan b j).1
+pub verb-fits : (plan : LabPlan) (b : Books) (j : ℕ) → AllFit plan
+    → (b.stages j).position < length (commands plan j (b.stages j).session) → FitsDial (next_of plan b j).1
 verb-fits plan b j fit left =
     let P : ℕ × Verb → Type 0 = λ command. FitsDial command.1 in
     All-get_or P (commands plan j (b.stages j).session) (b.stages j).position _ left (fit j (b.stages j).session)
 
-pub value-small : (plan : LabPlan) (b : Books) (j : ℕ) → AllFit plan → (b.stages j).position < length (commands plan j (b.stages j).session) → AreSmall b → (entry_of plan b j).value ≤ 999999
-value-small plan b j fit left small = turned-small (next_of plan b j).1 (dial (b.logs (next_of plan b j).0)) (verb-fits plan b j fit left) (small (next_of plan b j).0)
+pub value-small : (plan : LabPlan) (b : Books) (j : ℕ) → AllFit plan
+    → (b.stages j).position < length (commands plan j (b.stages j).session) → AreSmall b → (entry_of plan b j).value ≤ 999999
+value-small plan b j fit left small =
+    turned-small (next_of plan b j).1 (dial (b.logs (next_of plan b j).0)) (verb-fits plan b j fit left) (small (next_of plan b j).0)
 
 AreSmall-after : (plan : LabPlan) (b : Books) (event : Event) → AllFit plan → HasLeft plan b → Can plan b event → AreSmall b → AreSmall (booked plan b event)
 AreSmall-after plan b (Act j) fit left can h i =
@@ -77,7 +80,8 @@ pub record AreKept (plan : LabPlan) (b : Books) (ended : List (ℕ × ℕ)) : Ty
   pub small : AreSmall b
   pub roomy : IsRoomy plan b
 
-AreKept-after : (plan : LabPlan) (b : Books) (ended : List (ℕ × ℕ)) (event : Event) → AllFit plan → HasOneHolder plan b → HasOneHolder plan (booked plan b event) → HasLeft plan b → AreStages plan b →
+AreKept-after : (plan : LabPlan) (b : Books) (ended : List (ℕ × ℕ)) (event : Event) → AllFit plan
+    → HasOneHolder plan b → HasOneHolder plan (booked plan b event) → HasLeft plan b → AreStages plan b →
     Can plan b event → AreKept plan b ended → AreKept plan (booked plan b event) (ended ++ ended_on b event)
 AreKept-after plan b ended event verbs one next left fit can h = record {
   fresh = IsFresh-after plan b event h.fresh;
@@ -113,13 +117,15 @@ has_left plan s fit j job reaching = (fit.seats_fit j job).command_left reaching
 pub one_holder : (plan : LabPlan) (s : State) → IsPlan plan → IsServed plan s → HasOneHolder plan (books s)
 one_holder plan s is_plan served = one_holder_from plan s (exclusive plan s is_plan served)
 
-pub logged_after : (plan : LabPlan) (s : State) (ended : List (ℕ × ℕ)) (event : Event) → IsPlan plan → May plan s event → IsLogged plan s ended → IsLogged plan (after plan s event) (ended ++ ended_by s event)
+pub logged_after : (plan : LabPlan) (s : State) (ended : List (ℕ × ℕ)) (event : Event) → IsPlan plan
+    → May plan s event → IsLogged plan s ended → IsLogged plan (after plan s event) (ended ++ ended_by s event)
 logged_after plan s ended event is_plan may h =
     let s' : State = after plan s event in
     let same : books s' ≡ booked plan (books s) event = books_after plan s event is_plan.draft.named h.fits may in
     let served' : IsServed plan s' = served_after plan s event h.fits h.served may in
     let one' : HasOneHolder plan (booked plan (books s) event) = subst (HasOneHolder plan) same (one_holder plan s' is_plan served') in
-    let kept' = AreKept-after plan (books s) ended event is_plan.draft.fit (one_holder plan s is_plan h.served) one' (has_left plan s h.fits) (stages_fit plan s h.fits) (can_from plan s event may) h.books_kept in
+    let kept' = AreKept-after plan (books s) ended event is_plan.draft.fit (one_holder plan s is_plan h.served) one'
+    (has_left plan s h.fits) (stages_fit plan s h.fits) (can_from plan s event may) h.books_kept in
     record {
       fits = fits_after plan s event h.fits may;
       served = served';
@@ -127,7 +133,8 @@ logged_after plan s ended event is_plan may h =
           (subst (λ b. AreKept plan b (ended ++ ended_on (books s) event)) (sym same) kept');
     }
 
-pub logged_run : (plan : LabPlan) (s : State) (ended : List (ℕ × ℕ)) (events : List Event) → IsPlan plan → IsLegalFrom plan s events → IsLogged plan s ended → IsLogged plan (after_all plan s events) (ended ++ ended_sessions plan s events)
+pub logged_run : (plan : LabPlan) (s : State) (ended : List (ℕ × ℕ)) (events : List Event) → IsPlan plan → IsLegalFrom plan s events
+    → IsLogged plan s ended → IsLogged plan (after_all plan s events) (ended ++ ended_sessions plan s events)
 logged_run plan s ended [] is_plan legal h = subst (IsLogged plan s) (sym (append-nil ended)) h
 logged_run plan s ended (event ∷ events) is_plan legal h =
     let s' : State = after plan s event in
@@ -169,7 +176,11 @@ opening_logged plan s h =
       served = served_opening plan s h;
       books_kept = record {
         fresh = λ j _. ap (λ (x : Stage). x.position) (opening_stage plan s j h);
-        ended_so = record { of_plan = All-nil (IsSessionOf plan); ascending = λ i j d below inside. absurd (omega (arith, inside)); past = All-nil (IsPast (books s)) };
+        ended_so = record {
+          of_plan = All-nil (IsSessionOf plan);
+          ascending = λ i j d below inside. absurd (omega (arith, inside));
+          past = All-nil (IsPast (books s));
+        };
         kept = λ i. inr ((λ j. ap (λ (x : Stage). holds_at plan j x i) (opening_stage plan s j h)), ap (map line_of) (opening_log plan s i h));
         dialled = λ i. subst HasDialValues (sym (opening_log plan s i h)) no_value;
         small = λ i. subst (λ entries. dial entries ≤ 999999) (sym (opening_log plan s i h)) no_turn;
@@ -178,5 +189,6 @@ opening_logged plan s h =
     }
 
 -- after a legal list of events from an opening state
-pub logged : (plan : LabPlan) (opening : State) (events : List Event) → IsPlan plan → IsOpening plan opening → IsLegalFrom plan opening events → IsLogged plan (after_all plan opening events) (ended_sessions plan opening events)
+pub logged : (plan : LabPlan) (opening : State) (events : List Event) → IsPlan plan → IsOpening plan opening
+    → IsLegalFrom plan opening events → IsLogged plan (after_all plan opening events) (ended_sessions plan opening events)
 logged plan opening events is_plan opens legal = logged_run plan opening [] events is_plan legal (opening_logged plan opening opens)

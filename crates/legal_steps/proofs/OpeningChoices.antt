@@ -21,12 +21,14 @@ abbrev lower_choice : EndChoice
 lower_choice = record { fork = Lower; bottles = 0 }
 
 -- each edge is as it is chosen
-pub opening_edge : (plan : LabPlan) (choices : List EndChoice) (e : ℕ) (d : EndChoice) → e < length choices → edge (opening_of plan choices) e ≡ chosen_edge plan e (slice_index_or choices e d)
+pub opening_edge : (plan : LabPlan) (choices : List EndChoice) (e : ℕ) (d : EndChoice)
+    → e < length choices → edge (opening_of plan choices) e ≡ chosen_edge plan e (slice_index_or choices e d)
 opening_edge plan choices e d inside =
     let chosen : ℕ × EndChoice → EdgeState = λ numbered. chosen_edge plan numbered.0 numbered.1 in
     let there : e < length (enumerate_from 0 choices) = omega (arith, inside, length-enumerate_from 0 choices) in
     let number : 0 + e ≡ e = omega arith in
-    get_or-map chosen (enumerate_from 0 choices) e (0, d) no_edge there ∙ (ap chosen (get_or-enumerate_from 0 choices e (0, d) inside) ∙ ap (λ n. chosen_edge plan n (slice_index_or choices e d)) number)
+    get_or-map chosen (enumerate_from 0 choices) e (0, d) no_edge there
+    ∙ (ap chosen (get_or-enumerate_from 0 choices e (0, d) inside) ∙ ap (λ n. chosen_edge plan n (slice_index_or choices e d)) number)
 
 has_all : (plan : LabPlan) (e k : ℕ) → k < length (bottles plan e) → Has (all_bottles plan e) k
 unfolding Has
@@ -34,22 +36,26 @@ has_all plan e k small = bit_at_ones (length (bottles plan e)) k small
 
 -- every bottle's token is opposite to it
 pub tokens_opposite : (plan : LabPlan) (e k b : ℕ) → k < length (bottles plan e) → bottle_end (bit_xor (all_bottles plan e) b) k ≡ opposite (bottle_end b k)
-tokens_opposite plan e k b small = ap (λ n. bottle_end n k) (xor_comm (all_bottles plan e) b) ∙ bottle_end_flips b (all_bottles plan e) k (has_all plan e k small)
+tokens_opposite plan e k b small = ap (λ n. bottle_end n k) (xor_comm (all_bottles plan e) b)
+    ∙ bottle_end_flips b (all_bottles plan e) k (has_all plan e k small)
 
 pub opening_of_choices : (plan : LabPlan) (choices : List EndChoice) → AreChoices plan choices → IsOpening plan (opening_of plan choices)
 opening_of_choices plan choices h =
     let s = opening_of plan choices in
     let choice : ℕ → EndChoice = λ e. slice_index_or choices e lower_choice in
-    let is : (e : ℕ) → e < length (edges plan) → edge s e ≡ chosen_edge plan e (choice e) = λ e here. opening_edge plan choices e lower_choice (omega (arith, here, h.one_each)) in
+    let is : (e : ℕ) → e < length (edges plan) → edge s e ≡ chosen_edge plan e (choice e) =
+    λ e here. opening_edge plan choices e lower_choice (omega (arith, here, h.one_each)) in
     let fit : (e : ℕ) → e < length (edges plan) → IsOfEdge plan e (choice e).bottles = λ e here. h.of_edge e lower_choice here in
     record {
       edges_there = length-map (enumerate_from 0 choices) _ ∙ (length-enumerate_from 0 choices ∙ h.one_each);
       dirty = λ e here. ap (λ (y : EdgeState). y.dirty) (is e here);
       token_opposite = λ e here. ap (λ (y : EdgeState). y.token) (is e here) ∙ ap (λ (y : EdgeState). opposite y.fork) (sym (is e here));
       bottles_fit = λ e here. subst (λ (y : EdgeState). IsOfEdge plan e y.bottles) (sym (is e here)) (fit e here);
-      tokens_fit = λ e here. subst (λ (y : EdgeState). IsOfEdge plan e y.bottle_tokens) (sym (is e here)) (xor_lt (length (bottles plan e)) (all_bottles plan e) (choice e).bottles (omega (arith, fit e here)) (fit e here));
+      tokens_fit = λ e here. subst (λ (y : EdgeState). IsOfEdge plan e y.bottle_tokens) (sym (is e here))
+          (xor_lt (length (bottles plan e)) (all_bottles plan e) (choice e).bottles (omega (arith, fit e here)) (fit e here));
       bottle_tokens_opposite = λ e k here small.
-          ap (λ (y : EdgeState). bottle_end y.bottle_tokens k) (is e here) ∙ (tokens_opposite plan e k (choice e).bottles small ∙ ap (λ (y : EdgeState). opposite (bottle_end y.bottles k)) (sym (is e here)));
+          ap (λ (y : EdgeState). bottle_end y.bottle_tokens k) (is e here)
+          ∙ (tokens_opposite plan e k (choice e).bottles small ∙ ap (λ (y : EdgeState). opposite (bottle_end y.bottles k)) (sym (is e here)));
       idle = refl;
       logs_empty = refl;
     }
@@ -59,7 +65,8 @@ opening_of_choices plan choices h =
 pub the_choices : (plan : LabPlan) → AreChoices plan (replicate (length (edges plan)) lower_choice)
 the_choices plan = record {
   one_each = length-replicate _ _;
-  of_edge = λ e d here. subst (λ (choice : EndChoice). IsOfEdge plan e choice.bottles) (sym (get_or-replicate (length (edges plan)) e lower_choice d here)) (pow_pos (length (bottles plan e)));
+  of_edge = λ e d here. subst (λ (choice : EndChoice). IsOfEdge plan e choice.bottles)
+      (sym (get_or-replicate (length (edges plan)) e lower_choice d here)) (pow_pos (length (bottles plan e)));
 }
 
 pub the_opening_opens : (plan : LabPlan) → IsOpening plan (the_opening plan)

@@ -31,13 +31,16 @@ same_bit a b k same = elim (bit_cases a k) [
 abbrev choice_of : EdgeState → EndChoice
 choice_of x = record { fork = x.fork; bottles = x.bottles }
 
-tokens_are : (plan : LabPlan) (s : State) (e : ℕ) → IsOpening plan s → e < length (edges plan) → (edge s e).bottle_tokens ≡ bit_xor (all_bottles plan e) (edge s e).bottles
+tokens_are : (plan : LabPlan) (s : State) (e : ℕ) → IsOpening plan s → e < length (edges plan)
+    → (edge s e).bottle_tokens ≡ bit_xor (all_bottles plan e) (edge s e).bottles
 tokens_are plan s e h here =
     let n = length (bottles plan e) in
     let x = edge s e in
     let fit : IsOfEdge plan e x.bottles = h.bottles_fit e here in
-    same_from_bits_below n x.bottle_tokens (bit_xor (all_bottles plan e) x.bottles) (h.tokens_fit e here) (xor_lt n (all_bottles plan e) x.bottles (omega (arith, fit)) fit)
-    (λ k small. same_bit x.bottle_tokens (bit_xor (all_bottles plan e) x.bottles) k (h.bottle_tokens_opposite e k here small ∙ sym (tokens_opposite plan e k x.bottles small)))
+    same_from_bits_below n x.bottle_tokens (bit_xor (all_bottles plan e) x.bottles)
+    (h.tokens_fit e here) (xor_lt n (all_bottles plan e) x.bottles (omega (arith, fit)) fit)
+    (λ k small. same_bit x.bottle_tokens (bit_xor (all_bottles plan e) x.bottles) k (h.bottle_tokens_opposite e k here small
+    ∙ sym (tokens_opposite plan e k x.bottles small)))
 
 edge_is_chosen : (plan : LabPlan) (s : State) (e : ℕ) → IsOpening plan s → e < length (edges plan) → edge s e ≡ chosen_edge plan e (choice_of (edge s e))
 edge_is_chosen plan s e h here =
@@ -52,14 +55,16 @@ opening_is_chosen plan s h =
     let many : length choices ≡ length (edges plan) = length-map s.edges choice_of ∙ h.edges_there in
     let at : (e : ℕ) (d : EndChoice) → e < length (edges plan) → slice_index_or choices e d ≡ choice_of (edge s e) =
     λ e d here. get_or-map choice_of s.edges e no_edge d (omega (arith, here, h.edges_there)) in
-    let fit : AreChoices plan choices = record { one_each = many; of_edge = λ e d here. subst (λ (c : EndChoice). IsOfEdge plan e c.bottles) (sym (at e d here)) (h.bottles_fit e here) } in
+    let fit : AreChoices plan choices =
+    record { one_each = many; of_edge = λ e d here. subst (λ (c : EndChoice). IsOfEdge plan e c.bottles) (sym (at e d here)) (h.bottles_fit e here) } in
     let opened = opening_of plan choices in
     let same_edge : (e : ℕ) → e < length s.edges → edge s e ≡ edge opened e =
     λ e inside.
     let here : e < length (edges plan) = omega (arith, inside, h.edges_there) in
     let d = choice_of (edge s e) in
     edge_is_chosen plan s e h here ∙ (ap (chosen_edge plan e) (sym (at e d here)) ∙ sym (opening_edge plan choices e d (omega (arith, here, many)))) in
-    let same_edges : s.edges ≡ opened.edges = ext_get_or no_edge s.edges opened.edges (h.edges_there ∙ sym (opening_of_choices plan choices fit).edges_there) same_edge in (
+    let same_edges : s.edges ≡ opened.edges =
+    ext_get_or no_edge s.edges opened.edges (h.edges_there ∙ sym (opening_of_choices plan choices fit).edges_there) same_edge in (
       choices,
       fit,
       ap (λ (xs : List EdgeState). record s { edges = xs }) same_edges

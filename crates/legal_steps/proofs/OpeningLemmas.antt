@@ -43,15 +43,20 @@ fits_opening plan s h = record {
 
 pub served_opening : (plan : LabPlan) (s : State) → IsOpening plan s → IsServed plan s
 served_opening plan s h = record {
-  marked = λ j e k own small set. absurd (no_marks (length (edges plan)) e k (subst (λ (y : Seat). Has (slice_index_or y.bottle_marks e 0) k) (opening_seat plan s j h (own_is_job plan j e own)) set));
-  drinks = λ j e k own small now named. absurd (tranquil_has_none (subst (λ (y : Seat). IsDrinking y.phase) (opening_seat plan s j h (own_is_job plan j e own)) now));
+  marked =
+      λ j e k own small set. absurd (no_marks (length (edges plan)) e k
+      (subst (λ (y : Seat). Has (slice_index_or y.bottle_marks e 0) k) (opening_seat plan s j h (own_is_job plan j e own)) set));
+  drinks =
+      λ j e k own small now named. absurd
+      (tranquil_has_none (subst (λ (y : Seat). IsDrinking y.phase) (opening_seat plan s j h (own_is_job plan j e own)) now));
 }
 
 pub has_forks_opening : (plan : LabPlan) (s : State) → IsOpening plan s → HasForks plan s
 has_forks_opening plan s h =
     let bare : (j e : ℕ) → IsOwn plan j e → slice_index_or (seat s j).fork_marks e false ≡ false =
     λ j e own. ap (λ (y : Seat). slice_index_or y.fork_marks e false) (opening_seat plan s j h (own_is_job plan j e own)) ∙ all_false (length (edges plan)) e in
-    let thinks : (j e : ℕ) → IsOwn plan j e → (seat s j).phase.dining ≡ Thinking = λ j e own. ap (λ (y : Seat). y.phase.dining) (opening_seat plan s j h (own_is_job plan j e own)) in
+    let thinks : (j e : ℕ) → IsOwn plan j e → (seat s j).phase.dining ≡ Thinking =
+    λ j e own. ap (λ (y : Seat). y.phase.dining) (opening_seat plan s j h (own_is_job plan j e own)) in
     record {
       marked = λ j e own set. absurd (false≢true (sym (bare j e own) ∙ set));
       eating = λ j e own eats. absurd (thinking_eats_not (sym (thinks j e own) ∙ eats));

@@ -32,7 +32,8 @@ pub length-lines_of : (j session total : ℕ) (own : List (ℕ × Verb)) → len
 length-lines_of j session total own = length-map (enumerate_from 1 own) _ ∙ length-enumerate_from 1 own
 
 -- the lines of a beginning are the beginning of the lines
-pub lines_of-append : (j session total : ℕ) (own more : List (ℕ × Verb)) → (rest : List Line) × (lines_of j session total (own ++ more) ≡ lines_of j session total own ++ rest)
+pub lines_of-append : (j session total : ℕ) (own more : List (ℕ × Verb))
+    → (rest : List Line) × (lines_of j session total (own ++ more) ≡ lines_of j session total own ++ rest)
 lines_of-append j session total own [] = ([], ap (lines_of j session total) (append-nil own) ∙ sym (append-nil (lines_of j session total own)))
 lines_of-append j session total own (command ∷ more) =
     let all = lines_of-append j session total (own ++ command ∷ []) more in
@@ -76,7 +77,8 @@ commands_on-split i k all = ap (commands_on i) (sym (take-append-drop k all)) �
 
 -- ---- parts one after another
 
-pub parts_of-push : (plan : LabPlan) (i : ℕ) (owners : List (ℕ × ℕ)) (own : ℕ × ℕ) → parts_of plan i (owners ++ own ∷ []) ≡ parts_of plan i owners ++ part_of plan i own
+pub parts_of-push : (plan : LabPlan) (i : ℕ) (owners : List (ℕ × ℕ)) (own : ℕ × ℕ)
+    → parts_of plan i (owners ++ own ∷ []) ≡ parts_of plan i owners ++ part_of plan i own
 parts_of-push plan i owners own =
     flat_map-append (part_of plan i) owners (own ∷ []) ∙ ap (λ lines. parts_of plan i owners ++ lines) (append-nil (part_of plan i own))
 

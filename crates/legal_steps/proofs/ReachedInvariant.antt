@@ -42,7 +42,9 @@ truthful plan s h = record {
   bottle_here = h.served.marked;
 }
 
-pub acyclic_after_all : (plan : LabPlan) (s : State) (events : List Event) → IsSound plan s → IsAcyclic plan s → IsLegalFrom plan s events → IsAcyclic plan (after_all plan s events)
+pub acyclic_after_all : (plan : LabPlan) (s : State) (events : List Event) → IsSound plan s
+    → IsAcyclic plan s → IsLegalFrom plan s events → IsAcyclic plan (after_all plan s events)
 acyclic_after_all plan s [] sound h legal = h
 acyclic_after_all plan s (event ∷ events) sound h legal =
-    acyclic_after_all plan (after plan s event) events (sound_after plan s event sound legal.0) (acyclic_after plan s event sound.fits sound.forks h legal.0) legal.1
+    acyclic_after_all plan (after plan s event) events (sound_after plan s event sound legal.0)
+    (acyclic_after plan s event sound.fits sound.forks h legal.0) legal.1

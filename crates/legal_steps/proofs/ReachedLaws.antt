@@ -16,8 +16,10 @@ use Rattle.legal_steps.proofs.ReachedInvariant.{IsSound, sound_opening, sound_af
 use Rattle.legal_steps.proofs.OpeningChosen.{opening_is_chosen}
 use Rattle.legal_steps.proofs.OpeningChoices.{opening_of_choices, the_opening_opens, the_opening_acyclic}
 
-sound_always : (plan : LabPlan) (opening : State) (events : List Event) (n : ℕ) → IsOpening plan opening → IsLegalFrom plan opening events → IsSound plan (after_all plan opening (take n events))
-sound_always plan opening events n opens legal = sound_after_all plan opening (take n events) (sound_opening plan opening opens) (legal_take plan opening events n legal)
+sound_always : (plan : LabPlan) (opening : State) (events : List Event) (n : ℕ) → IsOpening plan opening
+    → IsLegalFrom plan opening events → IsSound plan (after_all plan opening (take n events))
+sound_always plan opening events n opens legal =
+    sound_after_all plan opening (take n events) (sound_opening plan opening opens) (legal_take plan opening events n legal)
 
 pub stays_within_plan : StaysWithinPlan
 stays_within_plan plan opening events n is_plan opens legal = (sound_always plan opening events n opens legal).fits
@@ -30,7 +32,8 @@ has_one_holder plan opening events n is_plan opens legal = exclusive plan _ is_p
 
 -- the two jobs of an edge are two
 at_one : (plan : LabPlan) (e : ℕ) (x : End) → e < length (edges plan)
-    → (((ends plan e).0 ≡ job_at_end plan e x) × ¬ ((ends plan e).1 ≡ job_at_end plan e x)) ⊎ (¬ ((ends plan e).0 ≡ job_at_end plan e x) × ((ends plan e).1 ≡ job_at_end plan e x))
+    → (((ends plan e).0 ≡ job_at_end plan e x) × ¬ ((ends plan e).1 ≡ job_at_end plan e x))
+    ⊎ (¬ ((ends plan e).0 ≡ job_at_end plan e x) × ((ends plan e).1 ≡ job_at_end plan e x))
 at_one plan e Lower here = let pair = ends_are_pair plan e here in inl (refl, λ same. omega (arith, pair, same))
 at_one plan e Higher here = let pair = ends_are_pair plan e here in inr (λ same. omega (arith, pair, same), refl)
 
@@ -44,7 +47,8 @@ pub has_one_place : HasOnePlace
 has_one_place plan opening events n is_plan opens legal e thing own = stands_at_one plan (after_all plan opening (take n events)) e thing own
 
 pub stays_acyclic : StaysAcyclic
-stays_acyclic plan opening events n is_plan opens acyclic legal = acyclic_after_all plan opening (take n events) (sound_opening plan opening opens) acyclic (legal_take plan opening events n legal)
+stays_acyclic plan opening events n is_plan opens acyclic legal =
+    acyclic_after_all plan opening (take n events) (sound_opening plan opening opens) acyclic (legal_take plan opening events n legal)
 
 pub the_opening_is_acyclic : TheOpeningIsAcyclic
 the_opening_is_acyclic plan = (the_opening_opens plan, the_opening_acyclic plan)

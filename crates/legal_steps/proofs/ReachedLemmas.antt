@@ -15,7 +15,14 @@ use Rattle.legal_steps.proofs.ExclusionLaw.{exclusive}
 use Rattle.legal_steps.proofs.ReachedInvariant.{IsSound, sound_opening, sound_after_all, truthful, acyclic_after_all}
 
 pub reached_opening : (plan : LabPlan) (s : State) → IsPlan plan → IsOpening plan s → IsAcyclic plan s → IsReached plan s
-reached_opening plan s is_plan opens acyclic = record { is_plan = is_plan; opening = s; is_opening = opens; acyclic = acyclic; events = []; run = record { legal = tt; leads = refl } }
+reached_opening plan s is_plan opens acyclic = record {
+  is_plan = is_plan;
+  opening = s;
+  is_opening = opens;
+  acyclic = acyclic;
+  events = [];
+  run = record { legal = tt; leads = refl };
+}
 
 pub reached_legal : (plan : LabPlan) (s : State) (event : Event) (s' : State) → IsReached plan s → IsLegal plan s event s' → IsReached plan s'
 reached_legal plan s event s' h step = record {
@@ -31,7 +38,8 @@ pub reached_step : (plan : LabPlan) (s : State) (event : Event) → IsReached pl
 reached_step plan s event h may = reached_legal plan s event (after plan s event) h (record { may = may; leads = refl })
 
 pub reached_sound : (plan : LabPlan) (s : State) → IsReached plan s → IsSound plan s
-reached_sound plan s h = subst (IsSound plan) (sym h.run.leads) (sound_after_all plan h.opening h.events (sound_opening plan h.opening h.is_opening) h.run.legal)
+reached_sound plan s h =
+    subst (IsSound plan) (sym h.run.leads) (sound_after_all plan h.opening h.events (sound_opening plan h.opening h.is_opening) h.run.legal)
 
 pub reached_fits : (plan : LabPlan) (s : State) → IsReached plan s → Fits plan s
 reached_fits plan s h = (reached_sound plan s h).fits
@@ -43,4 +51,5 @@ pub reached_exclusive : (plan : LabPlan) (s : State) → IsReached plan s → Is
 reached_exclusive plan s h = exclusive plan s h.is_plan (reached_sound plan s h).served
 
 pub reached_acyclic : (plan : LabPlan) (s : State) → IsReached plan s → IsAcyclic plan s
-reached_acyclic plan s h = subst (IsAcyclic plan) (sym h.run.leads) (acyclic_after_all plan h.opening h.events (sound_opening plan h.opening h.is_opening) h.acyclic h.run.legal)
+reached_acyclic plan s h =
+    subst (IsAcyclic plan) (sym h.run.leads) (acyclic_after_all plan h.opening h.events (sound_opening plan h.opening h.is_opening) h.acyclic h.run.legal)

@@ -47,7 +47,8 @@ count_on-append i xs ys = sum_by-append (λ (command : ℕ × Verb). cond (comma
 pub count_on-take : (i n : ℕ) (xs : List (ℕ × Verb)) → count_on i (take n xs) ≤ count_on i xs
 count_on-take i n xs = sum_by-take-le (λ (command : ℕ × Verb). cond (command.0 == i) 1 0) xs n
 
-pub count_on-more : (i : ℕ) (all : List (ℕ × Verb)) (k : ℕ) → k < length all → count_on i (take (k + 1) all) ≡ count_on i (take k all) + cond ((slice_index_or all k (0, Read)).0 == i) 1 0
+pub count_on-more : (i : ℕ) (all : List (ℕ × Verb)) (k : ℕ) → k < length all
+    → count_on i (take (k + 1) all) ≡ count_on i (take k all) + cond ((slice_index_or all k (0, Read)).0 == i) 1 0
 count_on-more i all k inside = sum_by_more (λ (command : ℕ × Verb). cond (command.0 == i) 1 0) all k (0, Read) inside
 
 -- how many commands on the instrument are in a job's first n sessions
@@ -69,7 +70,8 @@ pub first_on-le : (plan : LabPlan) (i j n : ℕ) → first_on plan i j n ≤ cou
 first_on-le plan i j n =
     let f : SessionPlan → List (ℕ × Verb) = λ x. x.commands in
     let all : List SessionPlan = sessions plan j in
-    let split = ap (λ xs. count_on i (flat_map f xs)) (sym (take-append-drop n all)) ∙ ap (count_on i) (flat_map-append f (take n all) (drop n all)) ∙ count_on-append i (flat_map f (take n all)) (flat_map f (drop n all)) in
+    let split = ap (λ xs. count_on i (flat_map f xs)) (sym (take-append-drop n all))
+    ∙ ap (count_on i) (flat_map-append f (take n all) (drop n all)) ∙ count_on-append i (flat_map f (take n all)) (flat_map f (drop n all)) in
     omega (arith, split)
 
 -- how many commands on the instrument a job at this stage may have done: all of its earlier sessions', and those of its own up to its position
@@ -79,11 +81,14 @@ share plan i j x =
     then first_on plan i j (x.session - 1) + count_on i (take x.position (commands plan j x.session))
     else first_on plan i j x.session
 
-pub share-in : (plan : LabPlan) (i j : ℕ) (x : Stage) → is_in_session x.drinking ≡ true → share plan i j x ≡ first_on plan i j (x.session - 1) + count_on i (take x.position (commands plan j x.session))
-share-in plan i j x inside = ap (λ b. if b then first_on plan i j (x.session - 1) + count_on i (take x.position (commands plan j x.session)) else first_on plan i j x.session) inside
+pub share-in : (plan : LabPlan) (i j : ℕ) (x : Stage) → is_in_session x.drinking ≡ true
+    → share plan i j x ≡ first_on plan i j (x.session - 1) + count_on i (take x.position (commands plan j x.session))
+share-in plan i j x inside =
+    ap (λ b. if b then first_on plan i j (x.session - 1) + count_on i (take x.position (commands plan j x.session)) else first_on plan i j x.session) inside
 
 pub share-out : (plan : LabPlan) (i j : ℕ) (x : Stage) → is_in_session x.drinking ≡ false → share plan i j x ≡ first_on plan i j x.session
-share-out plan i j x outside = ap (λ b. if b then first_on plan i j (x.session - 1) + count_on i (take x.position (commands plan j x.session)) else first_on plan i j x.session) outside
+share-out plan i j x outside =
+    ap (λ b. if b then first_on plan i j (x.session - 1) + count_on i (take x.position (commands plan j x.session)) else first_on plan i j x.session) outside
 
 -- what is done in a session is part of it
 pub share-le-first : (plan : LabPlan) (i j : ℕ) (x : Stage) → IsStageOf plan j x → share plan i j x ≤ first_on plan i j x.session
@@ -92,7 +97,8 @@ share-le-first plan i j x fit = elim (cases_Bool (is_in_session x.drinking)) [
       let one : 1 ≤ x.session = fit.begun inside in
       let back : x.session - 1 + 1 ≡ x.session = omega (arith, one) in
       let more : first_on plan i j x.session ≡ first_on plan i j (x.session - 1) + part plan j x.session i =
-      subst (λ n. first_on plan i j n ≡ first_on plan i j (x.session - 1) + part plan j n i) back (first_on-more plan i j (x.session - 1) (omega (arith, one, fit.session_there))) in
+      subst (λ n. first_on plan i j n ≡ first_on plan i j (x.session - 1) + part plan j n i) back
+      (first_on-more plan i j (x.session - 1) (omega (arith, one, fit.session_there))) in
       omega (arith, more, share-in plan i j x inside, count_on-take i x.position (commands plan j x.session))
   | inr outside ↦ omega (arith, share-out plan i j x outside)
 ]
@@ -105,7 +111,8 @@ count_on-flat_map i f (x ∷ xs) =
     count_on-append i (f x) (flat_map f xs) ∙ ap (λ n. count_on i (f x) + n) (count_on-flat_map i f xs) ∙ sym (sum_by-cons (λ y. count_on i (f y)) x xs)
 
 -- the room of a log is the sum of all jobs' commands on its instrument
-pub room_is_sum : (plan : LabPlan) (i : ℕ) → room_of plan i ≡ sum_to (λ j. count_on i (flat_map (λ session. session.commands) (sessions plan j))) (length plan.jobs)
+pub room_is_sum : (plan : LabPlan) (i : ℕ)
+    → room_of plan i ≡ sum_to (λ j. count_on i (flat_map (λ session. session.commands) (sessions plan j))) (length plan.jobs)
 room_is_sum plan i =
     let f : JobPlan → List (ℕ × Verb) = λ job. flat_map (λ session. session.commands) job.sessions in
     count_on-flat_map i f plan.jobs
@@ -113,7 +120,8 @@ room_is_sum plan i =
     ∙ sum_to_by (λ job. count_on i (f job)) plan.jobs no_job (length plan.jobs) (omega arith)
 
 -- all that jobs at fitting stages have done fits the room
-pub shares_fit : (plan : LabPlan) (i : ℕ) (stages : ℕ → Stage) → ((j : ℕ) → j < length plan.jobs → IsStageOf plan j (stages j)) → sum_to (λ j. share plan i j (stages j)) (length plan.jobs) ≤ room_of plan i
+pub shares_fit : (plan : LabPlan) (i : ℕ) (stages : ℕ → Stage) → ((j : ℕ) → j < length plan.jobs → IsStageOf plan j (stages j))
+    → sum_to (λ j. share plan i j (stages j)) (length plan.jobs) ≤ room_of plan i
 shares_fit plan i stages fit =
     let total : ℕ → ℕ = λ j. count_on i (flat_map (λ session. session.commands) (sessions plan j)) in
     omega (

@@ -68,7 +68,8 @@ part_split plan i j x =
     let split = lines_of-append j x.session total (done_on plan i j x) (left_on plan i j x) in
     (split.0, ap (lines_of j x.session total) (commands_on-split i x.position all) ∙ split.1)
 
-part_begun : (plan : LabPlan) (i j : ℕ) (x : Stage) → 0 < length (done_on plan i j x) → length (done_on plan i j x) < length (commands_on i (commands plan j x.session)) →
+part_begun : (plan : LabPlan) (i j : ℕ) (x : Stage) → 0 < length (done_on plan i j x)
+    → length (done_on plan i j x) < length (commands_on i (commands plan j x.session)) →
     IsBegun (part_so_far plan i j x) (part_of plan i (j, x.session))
 part_begun plan i j x some more =
     let all : List (ℕ × Verb) = commands plan j x.session in
@@ -82,11 +83,13 @@ part_begun plan i j x some more =
       beginning = sym (ap (take (length so_far)) split.1 ∙ take_at so_far split.0 (length so_far) refl);
     }
 
-part_whole : (plan : LabPlan) (i j : ℕ) (x : Stage) → length (commands_on i (commands plan j x.session)) ≤ length (done_on plan i j x) → part_so_far plan i j x ≡ part_of plan i (j, x.session)
+part_whole : (plan : LabPlan) (i j : ℕ) (x : Stage) → length (commands_on i (commands plan j x.session)) ≤ length (done_on plan i j x)
+    → part_so_far plan i j x ≡ part_of plan i (j, x.session)
 part_whole plan i j x all_done =
     let all : List (ℕ × Verb) = commands plan j x.session in
     let split = commands_on-split i x.position all in
-    let none : left_on plan i j x ≡ [] = nil_from_length (left_on plan i j x) (omega (arith, all_done, ap length split, length-append (done_on plan i j x) (left_on plan i j x))) in
+    let none : left_on plan i j x ≡ [] =
+    nil_from_length (left_on plan i j x) (omega (arith, all_done, ap length split, length-append (done_on plan i j x) (left_on plan i j x))) in
     ap (lines_of j x.session (length (commands_on i all)))
     (sym (split ∙ ap (λ rest. done_on plan i j x ++ rest) none ∙ append-nil (done_on plan i j x)))
 
@@ -100,7 +103,8 @@ drinking_inside Reaching h = refl
 drinking_inside Retired h = h
 
 -- no part is unfinished
-whole_ends : (plan : LabPlan) (i : ℕ) (entries : List Entry) (owners : List (ℕ × ℕ)) → map line_of entries ≡ parts_of plan i owners → All (IsSessionOf plan) owners → All (λ own. names_here plan i own ≡ true) owners → IsAscending owners → IsWholeButEnd plan i entries
+whole_ends : (plan : LabPlan) (i : ℕ) (entries : List Entry) (owners : List (ℕ × ℕ)) → map line_of entries ≡ parts_of plan i owners
+    → All (IsSessionOf plan) owners → All (λ own. names_here plan i own ≡ true) owners → IsAscending owners → IsWholeButEnd plan i entries
 whole_ends plan i entries owners joined of_plan named ascending = record {
   finished = owners;
   unfinished = [];
@@ -113,19 +117,22 @@ whole_ends plan i entries owners joined of_plan named ascending = record {
 
 whole_held : (plan : LabPlan) (b : Books) (owners : List (ℕ × ℕ)) (i j : ℕ) → IsSessionOf plan (j, (b.stages j).session) → holds plan b j i ≡ true →
     map line_of (b.logs i) ≡ parts_of plan i owners ++ part_so_far plan i j (b.stages j) →
-    All (IsSessionOf plan) owners → All (λ own. names_here plan i own ≡ true) owners → IsAscending owners → All (IsPast b) owners → IsWholeButEnd plan i (b.logs i)
+    All (IsSessionOf plan) owners → All (λ own. names_here plan i own ≡ true) owners
+    → IsAscending owners → All (IsPast b) owners → IsWholeButEnd plan i (b.logs i)
 whole_held plan b owners i j in_plan holder joined of_plan named ascending past =
     let x : Stage = b.stages j in
     let own : ℕ × ℕ = (j, x.session) in
     let done : List (ℕ × Verb) = done_on plan i j x in
     let total : ℕ = length (commands_on i (commands plan j x.session)) in
     let parts = and_parts _ _ holder in
-    let earlier : All (λ other. IsBefore other own) owners = All-weaker (IsPast b) (λ other. IsBefore other own) (past_before b j (drinking_inside x.drinking parts.0)) owners past in
+    let earlier : All (λ other. IsBefore other own) owners =
+    All-weaker (IsPast b) (λ other. IsBefore other own) (past_before b j (drinking_inside x.drinking parts.0)) owners past in
     elim (cases_lt (length done) total) [
       | inl more ↦ elim (cases_eq (length done) 0) [
         | inl none ↦
             let empty : part_so_far plan i j x ≡ [] = nil_from_length (part_so_far plan i j x) (length-lines_of j x.session total done ∙ none) in
-            whole_ends plan i (b.logs i) owners (joined ∙ ap (λ lines. parts_of plan i owners ++ lines) empty ∙ append-nil (parts_of plan i owners)) of_plan named ascending
+            whole_ends plan i (b.logs i) owners
+            (joined ∙ ap (λ lines. parts_of plan i owners ++ lines) empty ∙ append-nil (parts_of plan i owners)) of_plan named ascending
         | inr some ↦ record {
           finished = owners;
           unfinished = part_so_far plan i j x;
@@ -148,7 +155,8 @@ whole_held plan b owners i j in_plan holder joined of_plan named ascending past 
 abbrev pub IsHeldByJobs : LabPlan → Books → Type 0
 IsHeldByJobs plan b = (j i : ℕ) → holds plan b j i ≡ true → IsSessionOf plan (j, (b.stages j).session)
 
-pub whole_from : (plan : LabPlan) (b : Books) (ended : List (ℕ × ℕ)) (i : ℕ) → IsHeldByJobs plan b → HasEnded plan b ended → IsKept plan b ended i → IsWholeButEnd plan i (b.logs i)
+pub whole_from : (plan : LabPlan) (b : Books) (ended : List (ℕ × ℕ)) (i : ℕ) → IsHeldByJobs plan b
+    → HasEnded plan b ended → IsKept plan b ended i → IsWholeButEnd plan i (b.logs i)
 whole_from plan b ended i jobs so kept =
     let owners : List (ℕ × ℕ) = naming plan i ended in
     let of_plan : All (IsSessionOf plan) owners = All-filter (names_here plan i) (IsSessionOf plan) ended so.of_plan in
@@ -156,7 +164,8 @@ whole_from plan b ended i jobs so kept =
     let ascending : IsAscending owners = AllPairs-filter IsBefore (names_here plan i) ended so.ascending in
     let past : All (IsPast b) owners = All-filter (names_here plan i) (IsPast b) ended so.past in
     elim kept [
-      | inl a ↦ whole_held plan b owners i a.0 (jobs a.0 i a.1) a.1 (a.2 ∙ ap (λ lines. lines ++ part_so_far plan i a.0 (b.stages a.0)) (naming-parts plan i ended)) of_plan named ascending past
+      | inl a ↦ whole_held plan b owners i a.0 (jobs a.0 i a.1) a.1
+          (a.2 ∙ ap (λ lines. lines ++ part_so_far plan i a.0 (b.stages a.0)) (naming-parts plan i ended)) of_plan named ascending past
       | inr a ↦ whole_ends plan i (b.logs i) owners (a.1 ∙ naming-parts plan i ended) of_plan named ascending
     ]
 

@@ -14,7 +14,8 @@ use Rattle.legal_steps.specs.Things.{Thing, IsThingOf, StandsAtOne}
 
 -- P holds of the state after each beginning of every list that is legal from any opening state of any plan
 abbrev pub Always : (LabPlan → State → Type 0) → Type 0
-Always P = (plan : LabPlan) (opening : State) (events : List Event) (n : ℕ) → IsPlan plan → IsOpening plan opening → IsLegalFrom plan opening events → P plan (after_all plan opening (take n events))
+Always P = (plan : LabPlan) (opening : State) (events : List Event) (n : ℕ) → IsPlan plan
+    → IsOpening plan opening → IsLegalFrom plan opening events → P plan (after_all plan opening (take n events))
 
 -- all numbers of the state are the plan's
 abbrev pub StaysWithinPlan : Type 0
@@ -34,7 +35,8 @@ HasOnePlace = Always (λ plan s. (e : ℕ) (thing : Thing) → IsThingOf plan e 
 
 -- precedence has no cycle, where it has none in the opening state
 abbrev pub StaysAcyclic : Type 0
-StaysAcyclic = (plan : LabPlan) (opening : State) (events : List Event) (n : ℕ) → IsPlan plan → IsOpening plan opening → IsAcyclic plan opening → IsLegalFrom plan opening events → IsAcyclic plan (after_all plan opening (take n events))
+StaysAcyclic = (plan : LabPlan) (opening : State) (events : List Event) (n : ℕ) → IsPlan plan → IsOpening plan opening
+    → IsAcyclic plan opening → IsLegalFrom plan opening events → IsAcyclic plan (after_all plan opening (take n events))
 
 -- THE opening is an opening state whose precedence has no cycle
 abbrev pub TheOpeningIsAcyclic : Type 0

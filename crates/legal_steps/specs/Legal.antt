@@ -209,7 +209,8 @@ after plan s (Leave j) = with_seat s j (turned_to (seat s j) Thinking)
 after plan s (Drink j) = with_phase s j (record (phase s j) { drinking = Drinks })
 after plan s (Reach j) = with_phase s j (record (phase s j) { drinking = Reaching })
 -- the entry of the next command goes to the end of its log; one more command is done
-after plan s (Act j) = with_phase (with_entry s (next_command plan s j).0 (next_entry plan s j)) j (record (phase s j) { drinking = Drinks; position = position s j + 1 })
+after plan s (Act j) =
+    with_phase (with_entry s (next_command plan s j).0 (next_entry plan s j)) j (record (phase s j) { drinking = Drinks; position = position s j + 1 })
 after plan s (Quit j) = with_phase s j (record (phase s j) { drinking = Tranquil; position = 0 })
 after plan s (Retire j) = with_phase s j (record (phase s j) { drinking = Retired })
 -- nothing changes

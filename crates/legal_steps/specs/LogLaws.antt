@@ -27,7 +27,8 @@ HasValuesOfDials = Always (λ plan s. (i : ℕ) → HasDialValues (log s i))
 
 -- P holds of each beginning of every list that is legal from any opening state of any plan, from that opening on
 abbrev pub AlwaysAlong : (LabPlan → State → List Event → Type 0) → Type 0
-AlwaysAlong P = (plan : LabPlan) (opening : State) (events : List Event) (n : ℕ) → IsPlan plan → IsOpening plan opening → IsLegalFrom plan opening events → P plan opening (take n events)
+AlwaysAlong P = (plan : LabPlan) (opening : State) (events : List Event) (n : ℕ) → IsPlan plan
+    → IsOpening plan opening → IsLegalFrom plan opening events → P plan opening (take n events)
 
 -- the sessions that ended are the plan's, those of each job in ascending order
 abbrev pub EndsInOrder : Type 0

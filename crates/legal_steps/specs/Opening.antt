@@ -18,7 +18,8 @@ pub record IsOpening (plan : LabPlan) (s : State) : Type 0 where
   pub token_opposite : (e : ℕ) → e < length (edges plan) → (edge s e).token ≡ opposite (edge s e).fork
   pub bottles_fit : (e : ℕ) → e < length (edges plan) → IsOfEdge plan e (edge s e).bottles
   pub tokens_fit : (e : ℕ) → e < length (edges plan) → IsOfEdge plan e (edge s e).bottle_tokens
-  pub bottle_tokens_opposite : (e k : ℕ) → e < length (edges plan) → k < length (bottles plan e) → bottle_end (edge s e).bottle_tokens k ≡ opposite (bottle_end (edge s e).bottles k)
+  pub bottle_tokens_opposite : (e k : ℕ) → e < length (edges plan) → k < length (bottles plan e)
+      → bottle_end (edge s e).bottle_tokens k ≡ opposite (bottle_end (edge s e).bottles k)
   pub idle : s.seats ≡ replicate (length plan.jobs) (idle_seat plan)
   pub logs_empty : s.logs ≡ replicate (length plan.instruments) []
 

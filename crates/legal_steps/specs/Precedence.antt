@@ -19,7 +19,8 @@ IsUsed plan s e = (dining s (fork_holder plan s e) ≡ Eating) ⊎ (is_dirty s e
 -- job a precedes job b on an edge: the holder of a clean fork precedes, and of a used fork the other
 pub record PrecedesOn (plan : LabPlan) (s : State) (e a b : ℕ) : Type 0 where
   pub is_edge : e < length (edges plan)
-  pub order : (IsUsed plan s e × (a ≡ fork_waiter plan s e) × (b ≡ fork_holder plan s e)) ⊎ (¬ IsUsed plan s e × (a ≡ fork_holder plan s e) × (b ≡ fork_waiter plan s e))
+  pub order : (IsUsed plan s e × (a ≡ fork_waiter plan s e) × (b ≡ fork_holder plan s e))
+      ⊎ (¬ IsUsed plan s e × (a ≡ fork_holder plan s e) × (b ≡ fork_waiter plan s e))
 
 abbrev pub Precedes : LabPlan → State → ℕ → ℕ → Type 0
 Precedes plan s a b = (e : ℕ) × PrecedesOn plan s e a b

@@ -63,7 +63,8 @@ pub record IsWholeButEnd (plan : LabPlan) (i : ℕ) (entries : List Entry) : Typ
   pub of_plan : All (IsSessionOf plan) finished
   pub not_empty : All (λ own. 0 < length (part_of plan i own)) finished
   pub ascending : IsAscending finished
-  pub end : (unfinished ≡ []) ⊎ ((own : ℕ × ℕ) × IsSessionOf plan own × IsBegun unfinished (part_of plan i own) × All (λ earlier. IsBefore earlier own) finished)
+  pub end : (unfinished ≡ [])
+      ⊎ ((own : ℕ × ℕ) × IsSessionOf plan own × IsBegun unfinished (part_of plan i own) × All (λ earlier. IsBefore earlier own) finished)
 
 -- the sessions that ended by Quit in a list of events from s, in the order of their ends
 abbrev pub ended_by : State → Event → List (ℕ × ℕ)

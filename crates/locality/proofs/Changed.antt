@@ -27,11 +27,18 @@ module _ (plan : LabPlan) (s : State) where
   -- ---- edges
 
   pub edge_here : (event : Event) (e : ℕ) → e < length s.edges → changed_edge event ≡ Some e → edge (after plan s event) e ≡ edge_after (edge s e) event
-  edge_here (AskFork j f) e inside is = subst (λ k. k < length s.edges → edge (after plan s (AskFork j f)) k ≡ fork_asked (edge s k)) (same_number f e is) (λ h. edge_same s f _ h) inside
-  edge_here (GiveFork j f) e inside is = subst (λ k. k < length s.edges → edge (after plan s (GiveFork j f)) k ≡ fork_given (edge s k)) (same_number f e is) (λ h. edge_same s f _ h) inside
-  edge_here (Soil j f) e inside is = subst (λ k. k < length s.edges → edge (after plan s (Soil j f)) k ≡ fork_soiled (edge s k)) (same_number f e is) (λ h. edge_same s f _ h) inside
-  edge_here (AskBottles j f set) e inside is = subst (λ k. k < length s.edges → edge (after plan s (AskBottles j f set)) k ≡ bottles_asked set (edge s k)) (same_number f e is) (λ h. edge_same s f _ h) inside
-  edge_here (GiveBottles j f set) e inside is = subst (λ k. k < length s.edges → edge (after plan s (GiveBottles j f set)) k ≡ bottles_given set (edge s k)) (same_number f e is) (λ h. edge_same s f _ h) inside
+  edge_here (AskFork j f) e inside is =
+      subst (λ k. k < length s.edges → edge (after plan s (AskFork j f)) k ≡ fork_asked (edge s k)) (same_number f e is) (λ h. edge_same s f _ h) inside
+  edge_here (GiveFork j f) e inside is =
+      subst (λ k. k < length s.edges → edge (after plan s (GiveFork j f)) k ≡ fork_given (edge s k)) (same_number f e is) (λ h. edge_same s f _ h) inside
+  edge_here (Soil j f) e inside is =
+      subst (λ k. k < length s.edges → edge (after plan s (Soil j f)) k ≡ fork_soiled (edge s k)) (same_number f e is) (λ h. edge_same s f _ h) inside
+  edge_here (AskBottles j f set) e inside is =
+      subst (λ k. k < length s.edges → edge (after plan s (AskBottles j f set)) k ≡ bottles_asked set (edge s k))
+      (same_number f e is) (λ h. edge_same s f _ h) inside
+  edge_here (GiveBottles j f set) e inside is =
+      subst (λ k. k < length s.edges → edge (after plan s (GiveBottles j f set)) k ≡ bottles_given set (edge s k))
+      (same_number f e is) (λ h. edge_same s f _ h) inside
   edge_here _ e inside is = refl
 
   apart : (f e : ℕ) → Some f ≢ Some e → e ≢ f
@@ -47,8 +54,11 @@ module _ (plan : LabPlan) (s : State) where
 
   -- ---- logs
 
-  pub log_here : (event : Event) (i : ℕ) → i < length s.logs → written_log plan s event ≡ Some i → log (after plan s event) i ≡ log s i ++ next_entry plan s (actor event) ∷ []
-  log_here (Act j) i inside is = subst (λ k. k < length s.logs → log (after plan s (Act j)) k ≡ log s k ++ next_entry plan s j ∷ []) (same_number (next_command plan s j).0 i is) (λ h. get_or-set_same s.logs (next_command plan s j).0 _ [] h) inside
+  pub log_here : (event : Event) (i : ℕ) → i < length s.logs → written_log plan s event ≡ Some i
+      → log (after plan s event) i ≡ log s i ++ next_entry plan s (actor event) ∷ []
+  log_here (Act j) i inside is =
+      subst (λ k. k < length s.logs → log (after plan s (Act j)) k ≡ log s k ++ next_entry plan s j ∷ [])
+      (same_number (next_command plan s j).0 i is) (λ h. get_or-set_same s.logs (next_command plan s j).0 _ [] h) inside
   log_here _ i inside is = absurd (cc)
 
   pub log_others : (event : Event) (i : ℕ) → written_log plan s event ≢ Some i → log (after plan s event) i ≡ log s i

@@ -15,11 +15,13 @@ use Rattle.locality.specs.Laws.{HasOneEntryEach}
 use Rattle.locality.proofs.Changed.{as_many_logs, log_here}
 
 module _ (plan : LabPlan) (i : ℕ) where
-  one_more : (s : State) (event : Event) → i < length s.logs → length (log (after plan s event) i) ≡ length (log s i) + (if is_act_on plan i s event then 1 else 0)
+  one_more : (s : State) (event : Event) → i < length s.logs
+      → length (log (after plan s event) i) ≡ length (log s i) + (if is_act_on plan i s event then 1 else 0)
   one_more s (Act j) inside = elim (cases_eq (next_command plan s j).0 i) [
     | inl is ↦
         let yes : ((next_command plan s j).0 == i) ≡ true = eq-eqb (next_command plan s j).0 i is in
-        let grown : length (log (after plan s (Act j)) i) ≡ length (log s i ++ next_entry plan s j ∷ []) = ap (λ (l : List Entry). length l) (log_here plan s (Act j) i inside (ap Some is)) in
+        let grown : length (log (after plan s (Act j)) i) ≡ length (log s i ++ next_entry plan s j ∷ []) =
+        ap (λ (l : List Entry). length l) (log_here plan s (Act j) i inside (ap Some is)) in
         let one : length (log s i ++ next_entry plan s j ∷ []) ≡ length (log s i) + 1 = length-append (log s i) (next_entry plan s j ∷ []) in
         (grown ∙ one) ∙ ap (λ (b : Bool). length (log s i) + (if b then 1 else 0)) (sym yes)
     | inr ne ↦

@@ -59,11 +59,13 @@ phase_fits plan s j is fit job =
 
 -- ---- a log refuses no entry that it may append
 
-not_next : (last : Option Entry) (entry : Entry) → MatchOption last (entry.place ≡ 1) (λ before. IsNextPlace before entry) → MatchOption last ⊥ (λ before. ¬ IsNextPlace before entry) → ⊥
+not_next : (last : Option Entry) (entry : Entry) → MatchOption last (entry.place ≡ 1) (λ before. IsNextPlace before entry)
+    → MatchOption last ⊥ (λ before. ¬ IsNextPlace before entry) → ⊥
 not_next None entry h r = r
 not_next (Some before) entry h r = r h
 
-not_first : (last : Option Entry) (entry : Entry) → MatchOption last (entry.place ≡ 1) (λ before. IsNextPlace before entry) → MatchOption last (entry.place ≢ 1) (λ before. ⊥) → ⊥
+not_first : (last : Option Entry) (entry : Entry) → MatchOption last (entry.place ≡ 1) (λ before. IsNextPlace before entry)
+    → MatchOption last (entry.place ≢ 1) (λ before. ⊥) → ⊥
 not_first None entry h r = r h
 not_first (Some before) entry h r = r
 

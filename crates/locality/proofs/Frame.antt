@@ -52,7 +52,8 @@ as_many_edges plan s (Withdraw j) = refl
 -- ---- the own seat
 
 -- an event of a job leaves its seat as its seat and the event say
-pub own_seat : (plan : LabPlan) (s : State) (event : Event) → actor event < length s.seats → seat (after plan s event) (actor event) ≡ seat_after plan (seat s (actor event)) event
+pub own_seat : (plan : LabPlan) (s : State) (event : Event) → actor event < length s.seats
+    → seat (after plan s event) (actor event) ≡ seat_after plan (seat s (actor event)) event
 own_seat plan s (Look j e seen) h = seat_same s j _ h
 own_seat plan s (AskFork j e) h = refl
 own_seat plan s (GiveFork j e) h = seat_same (with_edge s e (fork_given (edge s e))) j _ h
@@ -131,7 +132,8 @@ learned_edges plan s (Retire j) = refl
 learned_edges plan s (Glance j other seen) = refl
 learned_edges plan s (Withdraw j) = refl
 
-pub learned_seat : (plan : LabPlan) (s : State) (event : Event) → actor event < length s.seats → seat (learned plan s event) (actor event) ≡ seat_after plan (seat s (actor event)) event
+pub learned_seat : (plan : LabPlan) (s : State) (event : Event) → actor event < length s.seats
+    → seat (learned plan s event) (actor event) ≡ seat_after plan (seat s (actor event)) event
 learned_seat plan s (Look j e seen) h = own_seat plan (with_edge s e seen) (Look j e seen) h
 learned_seat plan s (AskFork j e) h = own_seat plan s (AskFork j e) h
 learned_seat plan s (GiveFork j e) h = own_seat plan s (GiveFork j e) h

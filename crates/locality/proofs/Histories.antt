@@ -23,7 +23,8 @@ pub history_fits : (plan : LabPlan) (h : List Event) → IsHistory plan h → Fi
 history_fits plan h legal = (sound_history plan h legal).fits
 
 -- the state after one more event
-pub fits_more : (plan : LabPlan) (h : List Event) (event : Event) → IsHistory plan h → May plan (state_after plan h) event → Fits plan (after plan (state_after plan h) event)
+pub fits_more : (plan : LabPlan) (h : List Event) (event : Event) → IsHistory plan h
+    → May plan (state_after plan h) event → Fits plan (after plan (state_after plan h) event)
 fits_more plan h event legal may = (sound_after plan (state_after plan h) event (sound_history plan h legal) may).fits
 
 pub history_exclusive : (plan : LabPlan) (h : List Event) → IsPlan plan → IsHistory plan h → IsExclusive plan (state_after plan h)

@@ -23,12 +23,14 @@ use Rattle.locality.proofs.Runs.{after_all-append, legal-begins, legal-goes_on}
 use Rattle.locality.proofs.Histories.{history_fits, history_exclusive, reaching_still}
 
 -- the instrument of a command that is left is one of the plan's, and the session names it
-pub next_inside : (plan : LabPlan) (s : State) (j : ℕ) → IsPlan plan → position s j < length (commands plan j (session s j)) → (next_command plan s j).0 < length plan.instruments
+pub next_inside : (plan : LabPlan) (s : State) (j : ℕ) → IsPlan plan
+    → position s j < length (commands plan j (session s j)) → (next_command plan s j).0 < length plan.instruments
 next_inside plan s j is left =
     let P : ℕ × Verb → Type 0 = λ command. command.0 < length plan.instruments in
     All-get_or P (commands plan j (session s j)) (position s j) _ left (is.draft.named j (session s j))
 
-pub next_named : (plan : LabPlan) (s : State) (j : ℕ) → position s j < length (commands plan j (session s j)) → session_names plan j (session s j) (next_command plan s j).0 ≡ true
+pub next_named : (plan : LabPlan) (s : State) (j : ℕ) → position s j < length (commands plan j (session s j))
+    → session_names plan j (session s j) (next_command plan s j).0 ≡ true
 next_named plan s j left = names-next (commands plan j (session s j)) (position s j) (0, Read) left
 
 -- a job that may reach holds the instrument of its next command
@@ -39,17 +41,22 @@ pub reaching_left : (plan : LabPlan) (s : State) (j i : ℕ) → Fits plan s →
 reaching_left plan s j i fit r = (fit.seats_fit j r.job).command_left r.reaching
 
 pub reaching_holds : (plan : LabPlan) (s : State) (j i : ℕ) → Fits plan s → IsReachingFor plan s j i → Holds plan s j i
-reaching_holds plan s j i fit r = record { drinks = inr r.reaching; named = subst (λ k. session_names plan j (session s j) k ≡ true) r.next (next_named plan s j (reaching_left plan s j i fit r)) }
+reaching_holds plan s j i fit r = record {
+  drinks = inr r.reaching;
+  named = subst (λ k. session_names plan j (session s j) k ≡ true) r.next (next_named plan s j (reaching_left plan s j i fit r));
+}
 
 -- no one reaches for the instrument of a job that is ready to
-pub none_reaches : (plan : LabPlan) (s : State) (j k : ℕ) → Fits plan s → IsExclusive plan s → May plan s (Reach j) → IsReachingFor plan s k (next_command plan s j).0 → ⊥
+pub none_reaches : (plan : LabPlan) (s : State) (j k : ℕ) → Fits plan s → IsExclusive plan s
+    → May plan s (Reach j) → IsReachingFor plan s k (next_command plan s j).0 → ⊥
 none_reaches plan s j k fit one may r =
     let same : k ≡ j = one k j (next_command plan s j).0 (reaching_holds plan s k (next_command plan s j).0 fit r) (ready_holds plan s j may) in
     let both : Drinks ≡ Reaching = sym may.1 ∙ (ap (drinking s) (sym same) ∙ r.reaching) in
     cc
 
 -- while a job reaches for an instrument, no other's event changes its log
-log_else : (plan : LabPlan) (s : State) (j i : ℕ) (event : Event) → Fits plan s → IsExclusive plan s → IsReachingFor plan s j i → actor event ≢ j → May plan s event → log (after plan s event) i ≡ log s i
+log_else : (plan : LabPlan) (s : State) (j i : ℕ) (event : Event) → Fits plan s → IsExclusive plan s
+    → IsReachingFor plan s j i → actor event ≢ j → May plan s event → log (after plan s event) i ≡ log s i
 log_else plan s j i (Act k) fit one r ne may = elim (cases_eq i (next_command plan s k).0) [
   | inl is ↦ absurd (ne (one k j i (reaching_holds plan s k i fit (record { job = may.0; reaching = may.1; next = sym is })) (reaching_holds plan s j i fit r)))
   | inr other ↦ get_or-set_other s.logs (next_command plan s k).0 i _ [] other
@@ -74,12 +81,14 @@ log_else plan s j i (Withdraw k) fit one r ne may = refl
 -- a list without events of j begins with an event of another
 pub not_mine : (j : ℕ) (x : Event) (l : List Event) → events_by j (x ∷ l) ≡ [] → (actor x ≢ j) × (events_by j l ≡ [])
 not_mine j x l e = elim (cases_eq (actor x) j) [
-  | inl is ↦ absurd (let e' : x ∷ events_by j l ≡ [] = sym (ap (λ (c : Bool). if c then x ∷ events_by j l else events_by j l) (eq-eqb (actor x) j is)) ∙ e in cc)
+  | inl is ↦ absurd
+      (let e' : x ∷ events_by j l ≡ [] = sym (ap (λ (c : Bool). if c then x ∷ events_by j l else events_by j l) (eq-eqb (actor x) j is)) ∙ e in cc)
   | inr ne ↦ (ne, sym (ap (λ (c : Bool). if c then x ∷ events_by j l else events_by j l) (ne_eqb (actor x) j ne)) ∙ e)
 ]
 
 -- what stays while j reaches for i and does nothing
-pub log_kept : (plan : LabPlan) → IsPlan plan → (j i : ℕ) (h more : List Event) → IsHistory plan (h ++ more) → events_by j more ≡ [] → IsReachingFor plan (state_after plan h) j i
+pub log_kept : (plan : LabPlan) → IsPlan plan → (j i : ℕ) (h more : List Event)
+    → IsHistory plan (h ++ more) → events_by j more ≡ [] → IsReachingFor plan (state_after plan h) j i
     → (log (state_after plan (h ++ more)) i ≡ log (state_after plan h) i)
 log_kept plan is j i h [] legal none r = ap (λ l. log (state_after plan l) i) (append-nil h)
 log_kept plan is j i h (x ∷ more) legal none r =
@@ -90,13 +99,15 @@ log_kept plan is j i h (x ∷ more) legal none r =
     let assoc : (h ++ x ∷ []) ++ more ≡ h ++ x ∷ more = append_assoc h (x ∷ []) more in
     let next : state_after plan (h ++ x ∷ []) ≡ after plan w x = after_all-append plan (the_opening plan) h (x ∷ []) in
     let still : phase (after plan w x) j ≡ phase w j = ap (λ (y : Seat). y.phase) (other_seat plan w x j (λ e. apart.0 (sym e))) in
-    let r' : IsReachingFor plan (state_after plan (h ++ x ∷ [])) j i = subst (λ s. IsReachingFor plan s j i) (sym next) (reaching_still plan w (after plan w x) j i still r) in
+    let r' : IsReachingFor plan (state_after plan (h ++ x ∷ [])) j i =
+    subst (λ s. IsReachingFor plan s j i) (sym next) (reaching_still plan w (after plan w x) j i still r) in
     let rest = log_kept plan is j i (h ++ x ∷ []) more (subst (IsHistory plan) (sym assoc) legal) apart.1 r' in
     ap (λ l. log (state_after plan l) i) (sym assoc) ∙ (rest ∙ (ap (λ s. log s i) next
     ∙ log_else plan w j i x (history_fits plan h before) (history_exclusive plan h is before) r apart.0 may))
 
 -- the entry of a job's next command, by its seat and the one log
-pub next_entry_same : (plan : LabPlan) (s t : State) (j : ℕ) → seat s j ≡ seat t j → log s (next_command plan s j).0 ≡ log t (next_command plan t j).0 → next_entry plan s j ≡ next_entry plan t j
+pub next_entry_same : (plan : LabPlan) (s t : State) (j : ℕ) → seat s j ≡ seat t j
+    → log s (next_command plan s j).0 ≡ log t (next_command plan t j).0 → next_entry plan s j ≡ next_entry plan t j
 unfolding next_entry
 next_entry_same plan s t j own logs =
     λ n. (let next : ℕ × Verb = command_at plan j (own n).phase.session (own n).phase.position in

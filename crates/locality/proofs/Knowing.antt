@@ -47,6 +47,7 @@ counts_itself h j = (counted j (is_sit j) (sits j) h, counted j (is_quit j) (qui
 pub knows_what_it_saw : KnowsWhatItSaw
 knows_what_it_saw plan deeds j e seen inside =
     let before : State = known_by plan deeds in
-    let ends : known_by plan (deeds ++ Look j e seen ∷ []) ≡ learned plan before (Look j e seen) = learned_all-append plan (the_opening plan) deeds (Look j e seen ∷ []) in
+    let ends : known_by plan (deeds ++ Look j e seen ∷ []) ≡ learned plan before (Look j e seen) =
+    learned_all-append plan (the_opening plan) deeds (Look j e seen ∷ []) in
     let there : e < length before.edges = subst (λ n. e < n) (sym (learned_all_edges plan (the_opening plan) deeds ∙ opening_edges plan)) inside in
     (ap (λ (s : State). edge s e) ends ∙ edge_same before e seen there, λ f other. ap (λ (s : State). edge s f) ends ∙ edge_other before e seen f other)

@@ -52,20 +52,26 @@ module _ (plan : LabPlan) (j : ℕ) where
 
     pub ask_fork_local : IsLocal plan j e (AskFork j e)
     ask_fork_local s t a = (
-      λ m. subst (λ (z : Seat × EdgeState). IsOwn plan j e × (z.0.phase.dining ≡ Hungry) × There plan j e z.1.fork × Here plan j e z.1.token) (λ i. (a.own i, a.here i)) m,
-      alike_after s t (AskFork j e) fork_asked a (own_seat plan s (AskFork j e) a.job_s) (own_seat plan t (AskFork j e) a.job_t) (edge_same s e _ a.edge_s) (edge_same t e _ a.edge_t),
+      λ m. subst (λ (z : Seat × EdgeState). IsOwn plan j e × (z.0.phase.dining ≡ Hungry) × There plan j e z.1.fork × Here plan j e z.1.token)
+          (λ i. (a.own i, a.here i)) m,
+      alike_after s t (AskFork j e) fork_asked a (own_seat plan s (AskFork j e) a.job_s)
+          (own_seat plan t (AskFork j e) a.job_t) (edge_same s e _ a.edge_s) (edge_same t e _ a.edge_t),
     )
 
     pub give_fork_local : IsLocal plan j e (GiveFork j e)
     give_fork_local s t a = (
-      λ m. subst (λ (z : Seat × EdgeState). IsOwn plan j e × (z.0.phase.dining ≢ Eating) × Here plan j e z.1.fork × (z.1.dirty ≡ true) × Here plan j e z.1.token) (λ i. (a.own i, a.here i)) m,
-      alike_after s t (GiveFork j e) fork_given a (own_seat plan s (GiveFork j e) a.job_s) (own_seat plan t (GiveFork j e) a.job_t) (edge_same s e _ a.edge_s) (edge_same t e _ a.edge_t),
+      λ m. subst (λ (z : Seat × EdgeState). IsOwn plan j e × (z.0.phase.dining ≢ Eating)
+          × Here plan j e z.1.fork × (z.1.dirty ≡ true) × Here plan j e z.1.token) (λ i. (a.own i, a.here i)) m,
+      alike_after s t (GiveFork j e) fork_given a (own_seat plan s (GiveFork j e) a.job_s)
+          (own_seat plan t (GiveFork j e) a.job_t) (edge_same s e _ a.edge_s) (edge_same t e _ a.edge_t),
     )
 
     pub soil_local : IsLocal plan j e (Soil j e)
     soil_local s t a = (
-      λ m. subst (λ (z : Seat × EdgeState). IsOwn plan j e × (z.0.phase.dining ≡ Eating) × Here plan j e z.1.fork × (z.1.dirty ≡ false)) (λ i. (a.own i, a.here i)) m,
-      alike_after s t (Soil j e) fork_soiled a (own_seat plan s (Soil j e) a.job_s) (own_seat plan t (Soil j e) a.job_t) (edge_same s e _ a.edge_s) (edge_same t e _ a.edge_t),
+      λ m. subst (λ (z : Seat × EdgeState). IsOwn plan j e × (z.0.phase.dining ≡ Eating) × Here plan j e z.1.fork × (z.1.dirty ≡ false))
+          (λ i. (a.own i, a.here i)) m,
+      alike_after s t (Soil j e) fork_soiled a (own_seat plan s (Soil j e) a.job_s)
+          (own_seat plan t (Soil j e) a.job_t) (edge_same s e _ a.edge_s) (edge_same t e _ a.edge_t),
     )
 
     may_ask_alike : (s t : State) (k : ℕ) → Alike j e s t → MayAskBottle plan s j e k → MayAskBottle plan t j e k
@@ -78,10 +84,12 @@ module _ (plan : LabPlan) (j : ℕ) where
     pub ask_bottles_local : (set : ℕ) → IsLocal plan j e (AskBottles j e set)
     ask_bottles_local set s t a = (
       λ m. (m.0, sym (ap (λ (x : Seat). x.phase.drinking) a.own) ∙ m.1, m.2, λ k has. may_ask_alike s t k a (m.3 k has)),
-      alike_after s t (AskBottles j e set) (bottles_asked set) a (own_seat plan s (AskBottles j e set) a.job_s) (own_seat plan t (AskBottles j e set) a.job_t) (edge_same s e _ a.edge_s) (edge_same t e _ a.edge_t),
+      alike_after s t (AskBottles j e set) (bottles_asked set) a (own_seat plan s (AskBottles j e set) a.job_s)
+          (own_seat plan t (AskBottles j e set) a.job_t) (edge_same s e _ a.edge_s) (edge_same t e _ a.edge_t),
     )
 
-    kept_alike : (s t : State) (k : ℕ) → Alike j e s t → ¬ (Needs plan s j (instrument_of plan e k) × (IsDrinking (phase s j) ⊎ Here plan j e (edge s e).fork)) → ¬ (Needs plan t j (instrument_of plan e k) × (IsDrinking (phase t j) ⊎ Here plan j e (edge t e).fork))
+    kept_alike : (s t : State) (k : ℕ) → Alike j e s t → ¬ (Needs plan s j (instrument_of plan e k) × (IsDrinking (phase s j) ⊎ Here plan j e (edge s e).fork))
+        → ¬ (Needs plan t j (instrument_of plan e k) × (IsDrinking (phase t j) ⊎ Here plan j e (edge t e).fork))
     kept_alike s t k a n both = n (
       needs_alike t s (instrument_of plan e k) (sym a.own) both.0,
       subst (λ (z : Seat × EdgeState). IsDrinking z.0.phase ⊎ Here plan j e z.1.fork) (λ i. (sym a.own i, sym a.here i)) both.1,
@@ -97,12 +105,14 @@ module _ (plan : LabPlan) (j : ℕ) where
     pub give_bottles_local : (set : ℕ) → IsLocal plan j e (GiveBottles j e set)
     give_bottles_local set s t a = (
       λ m. (m.0, m.1, λ k has. may_give_alike s t k a (m.2 k has)),
-      alike_after s t (GiveBottles j e set) (bottles_given set) a (own_seat plan s (GiveBottles j e set) a.job_s) (own_seat plan t (GiveBottles j e set) a.job_t) (edge_same s e _ a.edge_s) (edge_same t e _ a.edge_t),
+      alike_after s t (GiveBottles j e set) (bottles_given set) a (own_seat plan s (GiveBottles j e set) a.job_s)
+          (own_seat plan t (GiveBottles j e set) a.job_t) (edge_same s e _ a.edge_s) (edge_same t e _ a.edge_t),
     )
 
     -- ---- groups
 
-    pub legal_alike : (g : List Event) (s t : State) → Each (IsLocal plan j e) g → Alike j e s t → IsLegalFrom plan s g → IsLegalFrom plan t g × Alike j e (after_all plan s g) (after_all plan t g)
+    pub legal_alike : (g : List Event) (s t : State) → Each (IsLocal plan j e) g → Alike j e s t
+        → IsLegalFrom plan s g → IsLegalFrom plan t g × Alike j e (after_all plan s g) (after_all plan t g)
     legal_alike [] s t local a legal = (tt, a)
     legal_alike (event ∷ g) s t local a legal =
         let here = local.0 s t a in
@@ -114,20 +124,27 @@ module _ (plan : LabPlan) (j : ℕ) where
     each_on P true event rest p q = (p, q)
 
     -- what holds of all moves of j on e holds of a group
-    pub each_move : (P : Event → Type 0) (m : EdgeMoves) → P (GiveFork j e) → P (GiveBottles j e m.give_bottles) → P (AskFork j e) → P (AskBottles j e m.ask_bottles) → P (Soil j e) → Each P (events_of m j e)
-    each_move P m a b c d f = each_on P m.give_fork _ _ a (each_on P (not (m.give_bottles == 0)) _ _ b (each_on P m.ask_fork _ _ c (each_on P (not (m.ask_bottles == 0)) _ _ d (each_on P m.soil _ _ f tt))))
+    pub each_move : (P : Event → Type 0) (m : EdgeMoves) → P (GiveFork j e) → P (GiveBottles j e m.give_bottles)
+        → P (AskFork j e) → P (AskBottles j e m.ask_bottles) → P (Soil j e) → Each P (events_of m j e)
+    each_move P m a b c d f =
+        each_on P m.give_fork _ _ a
+        (each_on P (not (m.give_bottles == 0)) _ _ b (each_on P m.ask_fork _ _ c (each_on P (not (m.ask_bottles == 0)) _ _ d (each_on P m.soil _ _ f tt))))
 
-    pub moves_alike : (m : EdgeMoves) (s t : State) → Alike j e s t → IsLegalFrom plan s (events_of m j e) → IsLegalFrom plan t (events_of m j e) × Alike j e (after_all plan s (events_of m j e)) (after_all plan t (events_of m j e))
-    moves_alike m s t = legal_alike (events_of m j e) s t (each_move (IsLocal plan j e) m give_fork_local (give_bottles_local m.give_bottles) ask_fork_local (ask_bottles_local m.ask_bottles) soil_local)
+    pub moves_alike : (m : EdgeMoves) (s t : State) → Alike j e s t → IsLegalFrom plan s (events_of m j e)
+        → IsLegalFrom plan t (events_of m j e) × Alike j e (after_all plan s (events_of m j e)) (after_all plan t (events_of m j e))
+    moves_alike m s t = legal_alike (events_of m j e) s t
+        (each_move (IsLocal plan j e) m give_fork_local (give_bottles_local m.give_bottles) ask_fork_local (ask_bottles_local m.ask_bottles) soil_local)
 
   -- ---- events of a phase: the own seat alone
 
   needed_alike : (s t : State) → seat s j ≡ seat t j → HasNeeded plan s j → HasNeeded plan t j
-  needed_alike s t own h e at k is needs = subst (λ (x : Seat). Has (slice_index_or x.bottle_marks e 0) k) own (h e at k is (needs_alike t s (instrument_of plan e k) (sym own) needs))
+  needed_alike s t own h e at k is needs =
+      subst (λ (x : Seat). Has (slice_index_or x.bottle_marks e 0) k) own (h e at k is (needs_alike t s (instrument_of plan e k) (sym own) needs))
 
   module _ (s t : State) (own : seat s j ≡ seat t j) where
     pub thirst_alike : May plan s (Thirst j) → May plan t (Thirst j)
-    thirst_alike m = subst (λ (x : Seat). IsJob plan j × (x.phase.drinking ≡ Tranquil) × (x.phase.dining ≢ Eating) × (x.phase.session < length (sessions plan j))) own m
+    thirst_alike m =
+        subst (λ (x : Seat). IsJob plan j × (x.phase.drinking ≡ Tranquil) × (x.phase.dining ≢ Eating) × (x.phase.session < length (sessions plan j))) own m
 
     pub hunger_alike : May plan s (Hunger j) → May plan t (Hunger j)
     hunger_alike m = subst (λ (x : Seat). IsJob plan j × (x.phase.dining ≡ Thinking) × (x.phase.drinking ≡ Thirsty)) own m
@@ -136,7 +153,9 @@ module _ (plan : LabPlan) (j : ℕ) where
     sit_alike m = subst (λ (x : Seat). IsJob plan j × (x.phase.dining ≡ Hungry) × ((e : ℕ) → IsOwn plan j e → slice_index_or x.fork_marks e false ≡ true)) own m
 
     pub leave_alike : May plan s (Leave j) → May plan t (Leave j)
-    leave_alike m = subst (λ (x : Seat). IsJob plan j × (x.phase.dining ≡ Eating) × (x.phase.drinking ≢ Thirsty) × ((e : ℕ) → IsOwn plan j e → slice_index_or x.fork_marks e false ≡ true)) own m
+    leave_alike m =
+        subst (λ (x : Seat). IsJob plan j × (x.phase.dining ≡ Eating) × (x.phase.drinking ≢ Thirsty)
+        × ((e : ℕ) → IsOwn plan j e → slice_index_or x.fork_marks e false ≡ true)) own m
 
     pub drink_alike : May plan s (Drink j) → May plan t (Drink j)
     drink_alike m = (m.0, sym (ap (λ (x : Seat). x.phase.drinking) own) ∙ m.1, needed_alike s t own m.2)
@@ -151,7 +170,8 @@ module _ (plan : LabPlan) (j : ℕ) where
     quit_alike m = subst (λ (x : Seat). IsJob plan j × (x.phase.drinking ≡ Drinks) × (length (commands plan j x.phase.session) ≤ x.phase.position)) own m
 
     pub retire_alike : May plan s (Retire j) → May plan t (Retire j)
-    retire_alike m = subst (λ (x : Seat). IsJob plan j × (x.phase.dining ≡ Thinking) × (x.phase.drinking ≡ Tranquil) × (length (sessions plan j) ≤ x.phase.session)) own m
+    retire_alike m =
+        subst (λ (x : Seat). IsJob plan j × (x.phase.dining ≡ Thinking) × (x.phase.drinking ≡ Tranquil) × (length (sessions plan j) ≤ x.phase.session)) own m
 
     pub withdraw_alike : May plan s (Withdraw j) → May plan t (Withdraw j)
     withdraw_alike m = subst (λ (x : Seat). IsJob plan j × (x.phase.drinking ≡ Thirsty) × IsSome (patience plan j x.phase.session)) own m

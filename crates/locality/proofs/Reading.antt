@@ -41,24 +41,36 @@ module _ (plan : LabPlan) (s t : State) where
   }
 
   has_needed_same : (j : ℕ) → seat s j ≡ seat t j → HasNeeded plan s j → HasNeeded plan t j
-  has_needed_same j own h e at k is needs = subst (λ (x : Seat). Has (slice_index_or x.bottle_marks e 0) k) own (h e at k is (needs_back plan s t j (instrument_of plan e k) own needs))
+  has_needed_same j own h e at k is needs =
+      subst (λ (x : Seat). Has (slice_index_or x.bottle_marks e 0) k) own (h e at k is (needs_back plan s t j (instrument_of plan e k) own needs))
 
   pub may_same : (event : Event) → AreAlikeFor s t event → May plan s event → May plan t event
   may_same (Look j e seen) a m = (m.0, m.1 ∙ a)
-  may_same (AskFork j e) a m = subst (λ (z : Seat × EdgeState). IsOwn plan j e × (z.0.phase.dining ≡ Hungry) × There plan j e z.1.fork × Here plan j e z.1.token) (λ i. (a.0 i, a.1 i)) m
-  may_same (GiveFork j e) a m = subst (λ (z : Seat × EdgeState). IsOwn plan j e × (z.0.phase.dining ≢ Eating) × Here plan j e z.1.fork × (z.1.dirty ≡ true) × Here plan j e z.1.token) (λ i. (a.0 i, a.1 i)) m
-  may_same (Soil j e) a m = subst (λ (z : Seat × EdgeState). IsOwn plan j e × (z.0.phase.dining ≡ Eating) × Here plan j e z.1.fork × (z.1.dirty ≡ false)) (λ i. (a.0 i, a.1 i)) m
+  may_same (AskFork j e) a m =
+      subst (λ (z : Seat × EdgeState). IsOwn plan j e × (z.0.phase.dining ≡ Hungry) × There plan j e z.1.fork × Here plan j e z.1.token) (λ i. (a.0 i, a.1 i)) m
+  may_same (GiveFork j e) a m =
+      subst (λ (z : Seat × EdgeState). IsOwn plan j e × (z.0.phase.dining ≢ Eating) × Here plan j e z.1.fork × (z.1.dirty ≡ true) × Here plan j e z.1.token)
+      (λ i. (a.0 i, a.1 i)) m
+  may_same (Soil j e) a m =
+      subst (λ (z : Seat × EdgeState). IsOwn plan j e × (z.0.phase.dining ≡ Eating) × Here plan j e z.1.fork × (z.1.dirty ≡ false)) (λ i. (a.0 i, a.1 i)) m
   may_same (AskBottles j e set) a m = (m.0, sym (ap (λ (x : Seat). x.phase.drinking) a.0) ∙ m.1, m.2, λ k has. may_ask_same plan s t j e k a (m.3 k has))
   may_same (GiveBottles j e set) a m = (m.0, m.1, λ k has. may_give_same j e k a (m.2 k has))
-  may_same (Thirst j) own m = subst (λ (x : Seat). IsJob plan j × (x.phase.drinking ≡ Tranquil) × (x.phase.dining ≢ Eating) × (x.phase.session < length (sessions plan j))) own m
+  may_same (Thirst j) own m =
+      subst (λ (x : Seat). IsJob plan j × (x.phase.drinking ≡ Tranquil) × (x.phase.dining ≢ Eating) × (x.phase.session < length (sessions plan j))) own m
   may_same (Hunger j) own m = subst (λ (x : Seat). IsJob plan j × (x.phase.dining ≡ Thinking) × (x.phase.drinking ≡ Thirsty)) own m
-  may_same (Sit j) own m = subst (λ (x : Seat). IsJob plan j × (x.phase.dining ≡ Hungry) × ((e : ℕ) → IsOwn plan j e → slice_index_or x.fork_marks e false ≡ true)) own m
-  may_same (Leave j) own m = subst (λ (x : Seat). IsJob plan j × (x.phase.dining ≡ Eating) × (x.phase.drinking ≢ Thirsty) × ((e : ℕ) → IsOwn plan j e → slice_index_or x.fork_marks e false ≡ true)) own m
+  may_same (Sit j) own m =
+      subst (λ (x : Seat). IsJob plan j × (x.phase.dining ≡ Hungry) × ((e : ℕ) → IsOwn plan j e → slice_index_or x.fork_marks e false ≡ true)) own m
+  may_same (Leave j) own m =
+      subst (λ (x : Seat). IsJob plan j × (x.phase.dining ≡ Eating) × (x.phase.drinking ≢ Thirsty)
+      × ((e : ℕ) → IsOwn plan j e → slice_index_or x.fork_marks e false ≡ true)) own m
   may_same (Drink j) own m = (m.0, sym (ap (λ (x : Seat). x.phase.drinking) own) ∙ m.1, has_needed_same j own m.2)
-  may_same (Reach j) own m = subst (λ (x : Seat). IsJob plan j × (x.phase.drinking ≡ Drinks) × (x.phase.position < length (commands plan j x.phase.session))) own m
+  may_same (Reach j) own m =
+      subst (λ (x : Seat). IsJob plan j × (x.phase.drinking ≡ Drinks) × (x.phase.position < length (commands plan j x.phase.session))) own m
   may_same (Act j) own m = subst (λ (x : Seat). IsJob plan j × (x.phase.drinking ≡ Reaching)) own m
-  may_same (Quit j) own m = subst (λ (x : Seat). IsJob plan j × (x.phase.drinking ≡ Drinks) × (length (commands plan j x.phase.session) ≤ x.phase.position)) own m
-  may_same (Retire j) own m = subst (λ (x : Seat). IsJob plan j × (x.phase.dining ≡ Thinking) × (x.phase.drinking ≡ Tranquil) × (length (sessions plan j) ≤ x.phase.session)) own m
+  may_same (Quit j) own m =
+      subst (λ (x : Seat). IsJob plan j × (x.phase.drinking ≡ Drinks) × (length (commands plan j x.phase.session) ≤ x.phase.position)) own m
+  may_same (Retire j) own m =
+      subst (λ (x : Seat). IsJob plan j × (x.phase.dining ≡ Thinking) × (x.phase.drinking ≡ Tranquil) × (length (sessions plan j) ≤ x.phase.session)) own m
   may_same (Glance j other seen) a m = subst (λ (x : JobState). IsJob plan j × IsJob plan other × (other ≢ j) × (seen ≡ x)) a m
   may_same (Withdraw j) own m = subst (λ (x : Seat). IsJob plan j × (x.phase.drinking ≡ Thirsty) × IsSome (patience plan j x.phase.session)) own m
 

@@ -58,4 +58,5 @@ module _ (plan : LabPlan) where
   rests_all s (event ∷ events) j legal h = rests_all (after plan s event) events j legal.1 (rests_after s event j legal.0 h)
 
 pub rests_at_no_command : RestsAtNoCommand
-rests_at_no_command plan h j legal = rests_all plan (the_opening plan) h j legal (λ out. ap (λ x. x.position) (opening_phase plan (the_opening plan) j (the_opening_is_acyclic plan).0))
+rests_at_no_command plan h j legal =
+    rests_all plan (the_opening plan) h j legal (λ out. ap (λ x. x.position) (opening_phase plan (the_opening plan) j (the_opening_is_acyclic plan).0))

@@ -18,7 +18,8 @@ use Rattle.locality.proofs.Runs.{after_all-append, legal-goes_on}
 
 module _ (plan : LabPlan) where
   -- its own events leave it so: what they ask for, a retired job never is, but for looks, groups, meals and glances
-  retired_own : (s : State) (event : Event) → May plan s event → drinking s (actor event) ≡ Retired → (seat_after plan (seat s (actor event)) event).phase.drinking ≡ Retired
+  retired_own : (s : State) (event : Event) → May plan s event → drinking s (actor event) ≡ Retired
+      → (seat_after plan (seat s (actor event)) event).phase.drinking ≡ Retired
   retired_own s (Look j e seen) may is = is
   retired_own s (AskFork j e) may is = is
   retired_own s (GiveFork j e) may is = is
@@ -55,12 +56,14 @@ module _ (plan : LabPlan) where
   ]
 
   -- a legal list
-  pub retired_stays : (s : State) (events : List Event) (j : ℕ) → IsLegalFrom plan s events → drinking s j ≡ Retired → drinking (after_all plan s events) j ≡ Retired
+  pub retired_stays : (s : State) (events : List Event) (j : ℕ) → IsLegalFrom plan s events
+      → drinking s j ≡ Retired → drinking (after_all plan s events) j ≡ Retired
   retired_stays s [] j legal is = is
   retired_stays s (event ∷ events) j legal is = retired_stays (after plan s event) events j legal.1 (retired_after s event j legal.0 is)
 
   -- who is retired after a history is so after each longer one
-  pub retired_on : (j : ℕ) (h more : List Event) → IsHistory plan (h ++ more) → drinking (state_after plan h) j ≡ Retired → drinking (state_after plan (h ++ more)) j ≡ Retired
+  pub retired_on : (j : ℕ) (h more : List Event) → IsHistory plan (h ++ more)
+      → drinking (state_after plan h) j ≡ Retired → drinking (state_after plan (h ++ more)) j ≡ Retired
   retired_on j h more legal is =
       ap (λ (s : State). drinking s j) (after_all-append plan (the_opening plan) h more)
       ∙ retired_stays (state_after plan h) more j (legal-goes_on plan (the_opening plan) h more legal) is

@@ -48,13 +48,16 @@ module _ (plan : LabPlan) where
   learned_all_edges s (x ∷ h) = learned_all_edges (learned plan s x) h ∙ learned_edges plan s x
 
   -- what a job is follows from its own events alone
-  pub own_follows : (j : ℕ) (s t : State) (h : List Event) → j < length s.seats → j < length t.seats → seat s j ≡ seat t j → seat (after_all plan s h) j ≡ seat (learned_all plan t (events_by j h)) j
+  pub own_follows : (j : ℕ) (s t : State) (h : List Event) → j < length s.seats → j < length t.seats
+      → seat s j ≡ seat t j → seat (after_all plan s h) j ≡ seat (learned_all plan t (events_by j h)) j
   own_follows j s t [] in_s in_t same = same
   own_follows j s t (x ∷ h) in_s in_t same = elim (cases_eq (actor x) j) [
     | inl is ↦
         let here : (actor x == j) ≡ true = eq-eqb (actor x) j is in
-        let a : seat (after plan s x) j ≡ seat_after plan (seat s j) x = subst (λ i. i < length s.seats → seat (after plan s x) i ≡ seat_after plan (seat s i) x) is (own_seat plan s x) in_s in
-        let b : seat (learned plan t x) j ≡ seat_after plan (seat t j) x = subst (λ i. i < length t.seats → seat (learned plan t x) i ≡ seat_after plan (seat t i) x) is (learned_seat plan t x) in_t in
+        let a : seat (after plan s x) j ≡ seat_after plan (seat s j) x =
+        subst (λ i. i < length s.seats → seat (after plan s x) i ≡ seat_after plan (seat s i) x) is (own_seat plan s x) in_s in
+        let b : seat (learned plan t x) j ≡ seat_after plan (seat t j) x =
+        subst (λ i. i < length t.seats → seat (learned plan t x) i ≡ seat_after plan (seat t i) x) is (learned_seat plan t x) in_t in
         rw here (own_follows j (after plan s x) (learned plan t x) h (omega (arith, in_s, as_many_seats plan s x)) (omega (arith, in_t, learned_seats plan t x))
         (a ∙ (ap (λ (y : Seat). seat_after plan y x) same ∙ sym b)))
     | inr ne ↦

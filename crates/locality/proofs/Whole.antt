@@ -13,7 +13,9 @@ use Rattle.legal_steps.proofs.ReachedLaws.{stays_within_plan, marks_are_truthful
 use Rattle.locality.specs.Laws.{AfterEvery}
 
 whole : (P : LabPlan → State → Type 0) → Always P → AfterEvery P
-whole P always plan h is_plan legal = subst (λ l. P plan (after_all plan (the_opening plan) l)) (take-length h) (always plan (the_opening plan) h (length h) is_plan (the_opening_is_acyclic plan).0 legal)
+whole P always plan h is_plan legal =
+    subst (λ l. P plan (after_all plan (the_opening plan) l)) (take-length h)
+    (always plan (the_opening plan) h (length h) is_plan (the_opening_is_acyclic plan).0 legal)
 
 pub fits_after_every : AfterEvery Fits
 fits_after_every = whole Fits stays_within_plan
@@ -27,4 +29,5 @@ exclusive_after_every = whole IsExclusive has_one_holder
 pub acyclic_after_every : AfterEvery IsAcyclic
 acyclic_after_every plan h is_plan legal =
     let opens = the_opening_is_acyclic plan in
-    subst (λ l. IsAcyclic plan (after_all plan (the_opening plan) l)) (take-length h) (stays_acyclic plan (the_opening plan) h (length h) is_plan opens.0 opens.1 legal)
+    subst (λ l. IsAcyclic plan (after_all plan (the_opening plan) l)) (take-length h)
+    (stays_acyclic plan (the_opening plan) h (length h) is_plan opens.0 opens.1 legal)

@@ -10,7 +10,8 @@ use Rattle.legal_steps.specs.Legal.{with_fork_mark, with_bottle_marks, turned_to
 
 -- the seat of the job that acts, after the event
 abbrev pub seat_after : LabPlan → Seat → Event → Seat
-seat_after plan x (Look j e seen) = with_bottle_marks (with_fork_mark x e (fork_mark_seen x.phase.dining (end_of plan j e) seen)) e (bottles_at plan e (end_of plan j e) seen)
+seat_after plan x (Look j e seen) =
+    with_bottle_marks (with_fork_mark x e (fork_mark_seen x.phase.dining (end_of plan j e) seen)) e (bottles_at plan e (end_of plan j e) seen)
 seat_after plan x (AskFork j e) = x
 seat_after plan x (GiveFork j e) = with_fork_mark x e false
 seat_after plan x (Soil j e) = with_fork_mark x e true

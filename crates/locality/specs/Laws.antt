@@ -60,7 +60,8 @@ ReadsAlike = (plan : LabPlan) (s t : State) (event : Event) → AreAlikeFor s t 
 
 -- and the entry that an Act makes depends on the seat of its job and on the one log that it writes
 abbrev pub EntryReadsAlike : Type 0
-EntryReadsAlike = (plan : LabPlan) (s t : State) (j : ℕ) → seat s j ≡ seat t j → log s (next_command plan s j).0 ≡ log t (next_command plan t j).0 → next_entry plan s j ≡ next_entry plan t j
+EntryReadsAlike = (plan : LabPlan) (s t : State) (j : ℕ) → seat s j ≡ seat t j
+    → log s (next_command plan s j).0 ≡ log t (next_command plan t j).0 → next_entry plan s j ≡ next_entry plan t j
 
 -- ---- what a job knows
 
@@ -71,11 +72,13 @@ KnowsItself = (plan : LabPlan) (h : List Event) (j : ℕ) → j < length plan.jo
 -- a look at an edge puts there what it saw, and leaves what the job knows of the other edges
 abbrev pub KnowsWhatItSaw : Type 0
 KnowsWhatItSaw = (plan : LabPlan) (deeds : List Event) (j e : ℕ) (seen : EdgeState) → e < length (edges plan)
-    → (edge (known_by plan (deeds ++ Look j e seen ∷ [])) e ≡ seen) × ((f : ℕ) → f ≢ e → edge (known_by plan (deeds ++ Look j e seen ∷ [])) f ≡ edge (known_by plan deeds) f)
+    → (edge (known_by plan (deeds ++ Look j e seen ∷ [])) e ≡ seen)
+    × ((f : ℕ) → f ≢ e → edge (known_by plan (deeds ++ Look j e seen ∷ [])) f ≡ edge (known_by plan deeds) f)
 
 -- a job's counts in any list are those of its own events in it
 abbrev pub CountsItself : Type 0
-CountsItself = (h : List Event) (j : ℕ) → (meals_of j (events_by j h) ≡ meals_of j h) × (sessions_done_of j (events_by j h) ≡ sessions_done_of j h) × (withdrawn_of j (events_by j h) ≡ withdrawn_of j h)
+CountsItself = (h : List Event) (j : ℕ) → (meals_of j (events_by j h) ≡ meals_of j h)
+    × (sessions_done_of j (events_by j h) ≡ sessions_done_of j h) × (withdrawn_of j (events_by j h) ≡ withdrawn_of j h)
 
 -- ---- lists of events, one after another
 
@@ -85,7 +88,8 @@ LeadsOn = (plan : LabPlan) (s : State) (a b : List Event) → after_all plan s (
 
 -- both are legal where the first is, and the second from where it led
 abbrev pub IsLegalInParts : Type 0
-IsLegalInParts = (plan : LabPlan) (s : State) (a b : List Event) → IsLegalFrom plan s (a ++ b) ↔ (IsLegalFrom plan s a × IsLegalFrom plan (after_all plan s a) b)
+IsLegalInParts = (plan : LabPlan) (s : State) (a b : List Event)
+    → IsLegalFrom plan s (a ++ b) ↔ (IsLegalFrom plan s a × IsLegalFrom plan (after_all plan s a) b)
 
 -- ---- what holds after histories
 
@@ -97,26 +101,32 @@ AfterEvery P = (plan : LabPlan) (h : List Event) → IsPlan plan → IsHistory p
 
 -- a retired job stays retired, whatever legal events come
 abbrev pub StaysRetired : Type 0
-StaysRetired = (plan : LabPlan) (s : State) (events : List Event) (j : ℕ) → IsLegalFrom plan s events → drinking s j ≡ Retired → drinking (after_all plan s events) j ≡ Retired
+StaysRetired = (plan : LabPlan) (s : State) (events : List Event) (j : ℕ) → IsLegalFrom plan s events
+    → drinking s j ≡ Retired → drinking (after_all plan s events) j ≡ Retired
 
 -- a job that may reach, or may act, holds the instrument of its next command
 abbrev pub HoldsWhatItReaches : Type 0
-HoldsWhatItReaches = (plan : LabPlan) (h : List Event) (j : ℕ) → IsHistory plan h → May plan (state_after plan h) (Reach j) ⊎ May plan (state_after plan h) (Act j)
+HoldsWhatItReaches = (plan : LabPlan) (h : List Event) (j : ℕ) → IsHistory plan h
+    → May plan (state_after plan h) (Reach j) ⊎ May plan (state_after plan h) (Act j)
     → Holds plan (state_after plan h) j (next_command plan (state_after plan h) j).0
 
 -- the log that a job reaches for stays as it was until the job's own next event
 abbrev pub KeepsReachedLog : Type 0
-KeepsReachedLog = (plan : LabPlan) (h more : List Event) (j i : ℕ) → IsPlan plan → IsHistory plan (h ++ more) → events_by j more ≡ [] → IsReachingFor plan (state_after plan h) j i
+KeepsReachedLog = (plan : LabPlan) (h more : List Event) (j i : ℕ) → IsPlan plan
+    → IsHistory plan (h ++ more) → events_by j more ≡ [] → IsReachingFor plan (state_after plan h) j i
     → log (state_after plan (h ++ more)) i ≡ log (state_after plan h) i
 
 -- and no one else reaches for it
 abbrev pub HasOneReaching : Type 0
-HasOneReaching = (plan : LabPlan) (h : List Event) (j k i : ℕ) → IsPlan plan → IsHistory plan h → IsReachingFor plan (state_after plan h) j i → IsReachingFor plan (state_after plan h) k i → j ≡ k
+HasOneReaching = (plan : LabPlan) (h : List Event) (j k i : ℕ) → IsPlan plan → IsHistory plan h
+    → IsReachingFor plan (state_after plan h) j i → IsReachingFor plan (state_after plan h) k i → j ≡ k
 
 -- a log has one entry for each Act on its instrument
 abbrev pub HasOneEntryEach : Type 0
-HasOneEntryEach = (plan : LabPlan) (h : List Event) (i : ℕ) → i < length plan.instruments → length (log (state_after plan h) i) ≡ acts_on plan i (the_opening plan) h
+HasOneEntryEach = (plan : LabPlan) (h : List Event) (i : ℕ) → i < length plan.instruments
+    → length (log (state_after plan h) i) ≡ acts_on plan i (the_opening plan) h
 
 -- a job in no session is at no command
 abbrev pub RestsAtNoCommand : Type 0
-RestsAtNoCommand = (plan : LabPlan) (h : List Event) (j : ℕ) → IsHistory plan h → ¬ IsInSession (drinking (state_after plan h) j) → position (state_after plan h) j ≡ 0
+RestsAtNoCommand = (plan : LabPlan) (h : List Event) (j : ℕ) → IsHistory plan h
+    → ¬ IsInSession (drinking (state_after plan h) j) → position (state_after plan h) j ≡ 0

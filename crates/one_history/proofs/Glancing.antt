@@ -22,7 +22,8 @@ module _ (p : LabPlan) (slots id : ℕ) (v : View) (c : List (ℕ × LogView)) (
   abbrev j : ℕ
   j = (hand_in v).job
 
-  pub glances : (k : ℕ) → k ≢ j → k < length p.jobs → Allows (Kept p) slots id (v, c) (phase_place p k) (λ n. n) (glanced (step slots (phase_place p k) 0 0 none) (v, c))
+  pub glances : (k : ℕ) → k ≢ j → k < length p.jobs
+      → Allows (Kept p) slots id (v, c) (phase_place p k) (λ n. n) (glanced (step slots (phase_place p k) 0 0 none) (v, c))
   glances k apart inside s r _ at _ =
       let w : State = state_after p r.history in
       let x : JobState = phase w k in
@@ -30,11 +31,14 @@ module _ (p : LabPlan) (slots id : ℕ) (v : View) (c : List (ℕ × LogView)) (
       let g : List Event = event ∷ [] in
       let legal : IsLegalFrom p w g = ((job, inside, apart, refl), tt) in
       let held = held_in p r.history r.owner id v led (r.seats id v at) in
-      let back : phase_place p k / 8 - length (edges (hand_in v).plan) ≡ k = let same : length (edges (hand_in v).plan) ≡ length (edges p) = ap (λ (z : LabPlan). length (edges z)) held.0 in omega arith in (
+      let back : phase_place p k / 8 - length (edges (hand_in v).plan) ≡ k =
+      let same : length (edges (hand_in v).plan) ≡ length (edges p) = ap (λ (z : LabPlan). length (edges z)) held.0 in
+      omega arith in (
         grown p v r.history g,
         keeps,
         tt,
-        subst (λ ws. Kept p record { words = ws; homes = s.homes; views = set s.views id (grown p v r.history g) }) (sym (set-get_or s.words (phase_place p k) 0))
+        subst (λ ws. Kept p record { words = ws; homes = s.homes; views = set s.views id (grown p v r.history g) })
+            (sym (set-get_or s.words (phase_place p k) 0))
             (appends p s r id v at led g (refl, tt) legal s.words r.words s.homes r.homes),
         (
           x,

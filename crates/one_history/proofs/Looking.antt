@@ -25,7 +25,8 @@ use Rattle.one_history.proofs.Keeps.{grown, held_in, appends, tells, spelled_sti
 use Rattle.locality.proofs.Histories.{history_fits, edge_fits, reaching_still}
 
 -- an event that leaves the phase of its seat leaves all phases
-pub phases_still : (plan : LabPlan) (s : State) (event : Event) → actor event < length s.seats → (seat_after plan (seat s (actor event)) event).phase ≡ (seat s (actor event)).phase → (k : ℕ) → phase (after plan s event) k ≡ phase s k
+pub phases_still : (plan : LabPlan) (s : State) (event : Event) → actor event < length s.seats
+    → (seat_after plan (seat s (actor event)) event).phase ≡ (seat s (actor event)).phase → (k : ℕ) → phase (after plan s event) k ≡ phase s k
 phases_still plan s event inside same k = elim (cases_eq k (actor event)) [
   | inl is ↦ subst (λ i. phase (after plan s event) i ≡ phase s i) (sym is) (ap (λ (x : Seat). x.phase) (own_seat plan s event inside) ∙ same)
   | inr ne ↦ ap (λ (x : Seat). x.phase) (other_seat plan s event k ne)

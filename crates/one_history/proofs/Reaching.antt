@@ -69,7 +69,10 @@ module _ (p : LabPlan) (w : State) (j : ℕ) (hs : List (Option LogView)) (homed
       record {
         deep = length-set hs next none ∙ deep;
         slots = λ i l. elim (cases_eq i next) [
-          | inl same ↦ inr (subst (λ z. get_elem? (set hs next none) z ≡ some none) (sym same) (set_here hs next none (omega arith)), (j, subst (IsReachingFor p w' j) (sym same) mine_now))
+          | inl same ↦ inr (
+            subst (λ z. get_elem? (set hs next none) z ≡ some none) (sym same) (set_here hs next none (omega arith)),
+            (j, subst (IsReachingFor p w' j) (sym same) mine_now),
+          )
           | inr other ↦ elim (homed.slots i l) [
             | inl q ↦ inl (set_else hs next i none other ∙ q)
             | inr q ↦ inr (set_else hs next i none other ∙ q.0, (q.1.0, others_reach p j (Reach j) refl w rests q.1.0 i q.1.1))
@@ -90,11 +93,13 @@ module _ (p : LabPlan) (w : State) (j : ℕ) (hs : List (Option LogView)) (homed
         deep = length-set hs next (some y) ∙ deep;
         slots = λ i l. elim (cases_eq i next) [
           | inl same ↦ inl (subst (λ z. get_elem? (set hs next (some y)) z ≡ some (some (log_view p w' z))) (sym same)
-              (set_here hs next (some y) (omega arith) ∙ ap (λ (entries : List Entry). some (some (record { entries = entries; room = room_of p next }))) (sym new)))
+              (set_here hs next (some y) (omega arith)
+              ∙ ap (λ (entries : List Entry). some (some (record { entries = entries; room = room_of p next }))) (sym new)))
           | inr other ↦
               let old : log w' i ≡ log w i = get_or-set_other w.logs next i _ [] other in
               elim (homed.slots i l) [
-                | inl q ↦ inl (set_else hs next i (some y) other ∙ (q ∙ ap (λ (entries : List Entry). some (some (record { entries = entries; room = room_of p i }))) (sym old)))
+                | inl q ↦ inl (set_else hs next i (some y) other
+                    ∙ (q ∙ ap (λ (entries : List Entry). some (some (record { entries = entries; room = room_of p i }))) (sym old)))
                 | inr q ↦
                     let ne : q.1.0 ≢ j = λ e. other (sym q.1.1.next ∙ ap (λ z. (next_command p w z).0) e) in
                     inr (set_else hs next i (some y) other ∙ q.0, (q.1.0, reaching_still p w w' q.1.0 i (phase_there p j (Act j) refl w q.1.0 ne) q.1.1))
@@ -112,7 +117,8 @@ module _ (p : LabPlan) (slots id : ℕ) (v : View) (c : List (ℕ × LogView)) (
   next_known : (s : TableState LogView View) (k : Kept p s) → get_elem? s.views id ≡ some v → (next_command p (state_after p k.history) j).0 ≡ next_instrument v
   next_known s k at =
       let held = held_in p k.history k.owner id v led (k.seats id v at) in
-      ap (λ (x : ℕ × Verb). x.0) (next_same p (state_after p k.history) (mine v) j (known p s k id v at led job)) ∙ ap (λ (q : LabPlan). (next_command q (mine v) j).0) (sym held.0)
+      ap (λ (x : ℕ × Verb). x.0) (next_same p (state_after p k.history) (mine v) j (known p s k id v at led job))
+      ∙ ap (λ (q : LabPlan). (next_command q (mine v) j).0) (sym held.0)
 
   pub reaches : (n : ℕ) → May p (mine v) (Reach j) → n ≡ phase_word_of (record (own_phase v) { drinking = Reaching })
       → Allows (Kept p) slots id (v, c) (phase_place p j) (λ _. n) (λ _. reached (step slots (phase_place p j) n 0 none) (v, c) n)
@@ -131,12 +137,15 @@ module _ (p : LabPlan) (slots id : ℕ) (v : View) (c : List (ℕ × LogView)) (
       let y : JobState = record (own_phase v) { drinking = Reaching } in
       let becomes : (seat_after p (seat w j) (Reach j)).phase ≡ y = ap (λ (x : Seat). (seat_after p x (Reach j)).phase) own in
       let words : Spelled p (after p w (Reach j)) (set s.words (phase_place p j) n) =
-      subst (λ z. Spelled p (after p w (Reach j)) (set s.words (phase_place p j) z)) (sym is_n) (turned_words p j (Reach j) refl w s.words y job inside becomes refl k.words) in
-      let ahead : state_after (hand_in v).plan (h ++ g) ≡ after p w (Reach j) = ap (λ (q : LabPlan). state_after q (h ++ g)) held.0 ∙ after_all-append p (the_opening p) h g in (
+      subst (λ z. Spelled p (after p w (Reach j)) (set s.words (phase_place p j) z)) (sym is_n)
+      (turned_words p j (Reach j) refl w s.words y job inside becomes refl k.words) in
+      let ahead : state_after (hand_in v).plan (h ++ g) ≡ after p w (Reach j) =
+      ap (λ (q : LabPlan). state_after q (h ++ g)) held.0 ∙ after_all-append p (the_opening p) h g in (
         grown p v h g,
         takes i (log_view p w i),
         at_home p w j s.homes k.homes fit k.is_plan (history_exclusive p h k.is_plan k.legal) may_now,
-        appends p s k id v at led g (refl, tt) legal (set s.words (phase_place p j) n) words (set s.homes i none) (homed_out p w j s.homes k.homes k.is_plan inside may_now),
+        appends p s k id v at led g (refl, tt) legal (set s.words (phase_place p j) n) words
+            (set s.homes i none) (homed_out p w j s.homes k.homes k.is_plan inside may_now),
         (tells p s k id v at led g (refl, tt) legal, λ r. (is_next r, log_view (sym held.0 r) (sym ahead r) (is_next r)) ∷ c),
       )
 
@@ -161,21 +170,29 @@ module _ (p : LabPlan) (slots id : ℕ) (v : View) (c : List (ℕ × LogView)) (
       -- since the front nothing of the job has happened, so the log is as it was
       let u : State = state_after p v.front in
       let more : List Event = f.front.0 in
-      let silent : events_by j more ≡ [] = append_self (events_by j v.front) (events_by j more) (sym (filter-append (is_by j) v.front more) ∙ (ap (events_by j) (sym f.front.1) ∙ (held.1 ∙ sym whole))) in
-      let own_then : seat u j ≡ seat w j = own_known p j v.front job ∙ (ap (λ (l : List Event). seat (known_by p l) j) (whole ∙ sym held.1) ∙ sym (own_known p j h job)) in
+      let silent : events_by j more ≡ [] =
+      append_self (events_by j v.front) (events_by j more) (sym (filter-append (is_by j) v.front more)
+      ∙ (ap (events_by j) (sym f.front.1) ∙ (held.1 ∙ sym whole))) in
+      let own_then : seat u j ≡ seat w j =
+      own_known p j v.front job ∙ (ap (λ (l : List Event). seat (known_by p l) j) (whole ∙ sym held.1) ∙ sym (own_known p j h job)) in
       let reaching_then : IsReachingFor p u j i = record {
         job = job;
         reaching = ap (λ (x : Seat). x.phase.drinking) own_then ∙ may_now.1;
         next = ap (λ (x : ℕ × Verb). x.0) (next_same p u w j own_then) ∙ sym is_next;
       } in
-      let same : log w i ≡ log u i = ap (λ l. log (state_after p l) i) f.front.1 ∙ log_kept p k.is_plan j i v.front more (subst (IsHistory p) f.front.1 k.legal) silent reaching_then in
+      let same : log w i ≡ log u i =
+      ap (λ l. log (state_after p l) i) f.front.1 ∙ log_kept p k.is_plan j i v.front more (subst (IsHistory p) f.front.1 k.legal) silent reaching_then in
       let entries : next_entry p u j ≡ next_entry p w j = next_entry_same p u w j own_then (ap (log u) reaching_then.next ∙ (sym same ∙ ap (log w) is_next)) in
-      let right : y ≡ with_log_entry (log_view p w next) (next_entry p w j) = is_y ∙ (λ r. record { entries = (sym same ∙ ap (log w) is_next) r ++ entries r ∷ []; room = room_of p (is_next r) }) in
+      let right : y ≡ with_log_entry (log_view p w next) (next_entry p w j) =
+      is_y ∙ (λ r. record { entries = (sym same ∙ ap (log w) is_next) r ++ entries r ∷ []; room = room_of p (is_next r) }) in
       let z : JobState = record (own_phase v) { drinking = Drinks; position = (own_phase v).position + 1 } in
       let becomes : (seat_after p (seat w j) (Act j)).phase ≡ z = ap (λ (x : Seat). (seat_after p x (Act j)).phase) own in
       let words : Spelled p (after p w (Act j)) (set s.words (phase_place p j) n) =
-      subst (λ z. Spelled p (after p w (Act j)) (set s.words (phase_place p j) z)) (sym is_n) (turned_words p j (Act j) refl w s.words z job inside becomes refl k.words) in
-      let homes : Homed p (after p w (Act j)) (set s.homes i (some y)) = subst (λ (q : ℕ × LogView). Homed p (after p w (Act j)) (set s.homes q.0 (some q.1))) (λ r. (sym is_next r, sym right r)) (homed_back p w j s.homes k.homes fit k.is_plan may_now) in (
+      subst (λ z. Spelled p (after p w (Act j)) (set s.words (phase_place p j) z)) (sym is_n)
+      (turned_words p j (Act j) refl w s.words z job inside becomes refl k.words) in
+      let homes : Homed p (after p w (Act j)) (set s.homes i (some y)) =
+      subst (λ (q : ℕ × LogView). Homed p (after p w (Act j)) (set s.homes q.0 (some q.1)))
+      (λ r. (sym is_next r, sym right r)) (homed_back p w j s.homes k.homes fit k.is_plan may_now) in (
         grown p v h g,
         gives,
         tt,

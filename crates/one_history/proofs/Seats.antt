@@ -37,15 +37,19 @@ module _ (p : LabPlan) where
   fresh_apart k j (suc n) l = ((λ e. absurd (omega arith)), fresh_apart k (suc j) n (omega arith))
 
   first_seat : (id : ℕ) (v : View) → get_elem? (first_view p ∷ []) id ≡ some v → Sees p [] (λ _. 0) id v
-  first_seat zero v e = subst (λ (z : View). Sees p [] (λ _. 0) 0 z) (some-injective (first_view p) v e) (record { front = ([], refl); told = tt; hands = fresh_held (λ _. 0) 0 0 (length p.jobs) (λ _. refl) })
+  first_seat zero v e = subst (λ (z : View). Sees p [] (λ _. 0) 0 z) (some-injective (first_view p) v e)
+      (record { front = ([], refl); told = tt; hands = fresh_held (λ _. 0) 0 0 (length p.jobs) (λ _. refl) })
   first_seat (suc id) v e = absurd (some-ne-none v (sym e))
 
   -- the rule at the start
-  pub opens : (ws : List ℕ) (xs : List LogView) → IsPlan p → Spelled p (the_opening p) ws → Homed p (the_opening p) (map some xs) → Kept p (opening ws xs (first_view p))
+  pub opens : (ws : List ℕ) (xs : List LogView) → IsPlan p → Spelled p (the_opening p) ws
+      → Homed p (the_opening p) (map some xs) → Kept p (opening ws xs (first_view p))
   opens ws xs is spelled homed = record { is_plan = is; history = []; owner = λ _. 0; legal = tt; words = spelled; homes = homed; seats = first_seat }
 
-  cut : (s : TableState LogView View) (k : Kept p s) (id : ℕ) (v left right : View) (owner : ℕ → ℕ) → get_elem? s.views id ≡ some v → Sees p k.history owner id left
-      → Sees p k.history owner (length (set s.views id left)) right → ((other : ℕ) (u : View) → other ≢ id → Sees p k.history k.owner other u → Sees p k.history owner other u)
+  cut : (s : TableState LogView View) (k : Kept p s) (id : ℕ) (v left right : View) (owner : ℕ → ℕ)
+      → get_elem? s.views id ≡ some v → Sees p k.history owner id left
+      → Sees p k.history owner (length (set s.views id left)) right
+      → ((other : ℕ) (u : View) → other ≢ id → Sees p k.history k.owner other u → Sees p k.history owner other u)
       → Kept p record { words = s.words; homes = s.homes; views = set s.views id left ++ right ∷ [] }
   cut s k id v left right owner at here there others = record {
     is_plan = k.is_plan;
@@ -71,20 +75,37 @@ module _ (p : LabPlan) where
   Less v part = (h : List Event) → StartsWith h v.front → Each (StartsWith h) v.told → StartsWith h part.front × Each (StartsWith h) part.told
 
   -- one hand of a view goes to a seat of its own
-  pub moves_hand : (id : ℕ) (v left right : View) (x : Hand) → Less v left → Less v right → ((P : Hand → Type 0) → Each P v.hands → Each P left.hands) → ((P : Hand → Type 0) → Each P v.hands → P x) → right.hands ≡ x ∷ []
+  pub moves_hand : (id : ℕ) (v left right : View) (x : Hand) → Less v left → Less v right
+      → ((P : Hand → Type 0) → Each P v.hands → Each P left.hands) → ((P : Hand → Type 0) → Each P v.hands → P x) → right.hands ≡ x ∷ []
       → Each (λ (y : Hand). y.job ≢ x.job) left.hands → Splits (Kept p) id v left right
   moves_hand id v left right x less_left less_right hands_left hand_right is apart s k at = let h : List Event = k.history in let f = k.seats id v at in
       let mine : Held p h k.owner id x = hand_right (Held p h k.owner id) f.hands in
       let n : ℕ = length (set s.views id left) in let owner : ℕ → ℕ = λ j. if x.job == j then n else k.owner j in
-      let new_else : (j i : ℕ) → j ≢ x.job → k.owner j ≡ i → owner j ≡ i = λ j i ne e. ap (λ (b : Bool). if b then n else k.owner j) (ne_eqb x.job j (λ q. ne (sym q))) ∙ e in
+      let new_else : (j i : ℕ) → j ≢ x.job → k.owner j ≡ i → owner j ≡ i =
+      λ j i ne e. ap (λ (b : Bool). if b then n else k.owner j) (ne_eqb x.job j (λ q. ne (sym q))) ∙ e in
       let l = less_left h f.front f.told in let r = less_right h f.front f.told in
       cut s k id v left right owner at
-      (record { front = l.0; told = l.1; hands = both_each (λ (y : Hand). y.job ≢ x.job) (Held p h k.owner id) (Held p h owner id) (λ y ne t. (t.0, t.1, new_else y.job id ne t.2)) left.hands apart (hands_left (Held p h k.owner id) f.hands) })
-      (record { front = r.0; told = r.1; hands = subst (Each (Held p h owner n)) (sym is) ((mine.0, mine.1, ap (λ (b : Bool). if b then n else k.owner x.job) (eq-eqb x.job x.job refl)), tt) })
-      (λ other u ne g. record { front = g.front; told = g.told; hands = each_map (Held p h k.owner other) (Held p h owner other) (λ y t. (t.0, t.1, new_else y.job other (λ q. ne (sym t.2 ∙ (ap k.owner q ∙ mine.2))) t.2)) u.hands g.hands })
+      (record {
+        front = l.0;
+        told = l.1;
+        hands = both_each (λ (y : Hand). y.job ≢ x.job) (Held p h k.owner id) (Held p h owner id)
+            (λ y ne t. (t.0, t.1, new_else y.job id ne t.2)) left.hands apart (hands_left (Held p h k.owner id) f.hands);
+      })
+      (record {
+        front = r.0;
+        told = r.1;
+        hands = subst (Each (Held p h owner n)) (sym is) ((mine.0, mine.1, ap (λ (b : Bool). if b then n else k.owner x.job) (eq-eqb x.job x.job refl)), tt);
+      })
+      (λ other u ne g. record {
+        front = g.front;
+        told = g.told;
+        hands = each_map (Held p h k.owner other) (Held p h owner other)
+            (λ y t. (t.0, t.1, new_else y.job other (λ q. ne (sym t.2 ∙ (ap k.owner q ∙ mine.2))) t.2)) u.hands g.hands;
+      })
 
   -- the first hand of a view goes to a seat of its own
-  pub deals : (id : ℕ) (v : View) (x : Hand) (xs : List Hand) → v.hands ≡ x ∷ xs → Each (λ (y : Hand). y.job ≢ x.job) xs → Splits (Kept p) id v (dealt_left v) (dealt_right v)
+  pub deals : (id : ℕ) (v : View) (x : Hand) (xs : List Hand) → v.hands ≡ x ∷ xs
+      → Each (λ (y : Hand). y.job ≢ x.job) xs → Splits (Kept p) id v (dealt_left v) (dealt_right v)
   deals id v x xs is apart = moves_hand id v (dealt_left v) (dealt_right v) x (λ h f t. (f, t)) (λ h f t. (f, t))
       (λ P e. subst (λ (z : List Hand). Each P (rest_hands z)) (sym is) (subst (Each P) is e).1) (λ P e. (subst (Each P) is e).0) (ap first_hand is)
       (subst (λ (z : List Hand). Each (λ (y : Hand). y.job ≢ x.job) (rest_hands z)) (sym is) apart)
@@ -105,10 +126,16 @@ module _ (p : LabPlan) where
 
   -- a seat takes over the hands of another
   joins : (id : ℕ) (v : View) (other : ℕ) (w both : View) → both.hands ≡ v.hands ++ w.hands → Less (glued v w) both → Joins (Kept p) id v other w both nothing
-  joins id v other w both is less s k at apart there = let h : List Event = k.history in let owner : ℕ → ℕ = λ j. if k.owner j == other then id else k.owner j in
+  joins id v other w both is less s k at apart there =
+      let h : List Event = k.history in
+      let owner : ℕ → ℕ = λ j. if k.owner j == other then id else k.owner j in
       let f = k.seats id v at in
-      let g : Sees p h k.owner other w = ⊎_elim (λ (r : (other ≡ id) × (both ≡ w)). absurd (apart r.0)) (λ (r : (other ≢ id) × (get_elem? s.views other ≡ some w)). k.seats other w r.1) (at_set s.views id other both w there) in
-      let kept_else : (j i : ℕ) → i ≢ other → k.owner j ≡ i → owner j ≡ i = λ j i ne e. ap (λ (b : Bool). if b then id else k.owner j) (ne_eqb (k.owner j) other (λ q. ne (sym e ∙ q))) ∙ e in record {
+      let g : Sees p h k.owner other w =
+      ⊎_elim (λ (r : (other ≡ id) × (both ≡ w)). absurd (apart r.0))
+      (λ (r : (other ≢ id) × (get_elem? s.views other ≡ some w)). k.seats other w r.1) (at_set s.views id other both w there) in
+      let kept_else : (j i : ℕ) → i ≢ other → k.owner j ≡ i → owner j ≡ i =
+      λ j i ne e. ap (λ (b : Bool). if b then id else k.owner j) (ne_eqb (k.owner j) other (λ q. ne (sym e ∙ q))) ∙ e in
+      record {
         is_plan = k.is_plan;
         history = h;
         owner = owner;
@@ -123,10 +150,15 @@ module _ (p : LabPlan) where
               told = (less h f.front (each-append (StartsWith h) v.told (w.front ∷ w.told) f.told (g.front, g.told))).1;
               hands = subst (Each (Held p h owner id)) (sym is) (each-append (Held p h owner id) v.hands w.hands
                   (each_map (Held p h k.owner id) (Held p h owner id) (λ y t. (t.0, t.1, kept_else y.job id (λ q. apart (sym q)) t.2)) v.hands f.hands)
-                  (each_map (Held p h k.owner other) (Held p h owner id) (λ y t. (t.0, t.1, ap (λ (b : Bool). if b then id else k.owner y.job) (eq-eqb (k.owner y.job) other t.2))) w.hands g.hands));
+                  (each_map (Held p h k.owner other) (Held p h owner id)
+                  (λ y t. (t.0, t.1, ap (λ (b : Bool). if b then id else k.owner y.job) (eq-eqb (k.owner y.job) other t.2))) w.hands g.hands));
             }))
             (λ (r : (i ≢ id) × (get_elem? s.views i ≡ some u)). let m = k.seats i u r.1 in
-            record { front = m.front; told = m.told; hands = each_map (Held p h k.owner i) (Held p h owner i) (λ y t. (t.0, t.1, kept_else y.job i q.0 t.2)) u.hands m.hands })
+            record {
+              front = m.front;
+              told = m.told;
+              hands = each_map (Held p h k.owner i) (Held p h owner i) (λ y t. (t.0, t.1, kept_else y.job i q.0 t.2)) u.hands m.hands;
+            })
             (at_set s.views id i both u q.1))
             (at_set (set s.views id both) other i nothing u e);
       }
@@ -146,13 +178,19 @@ module _ (p : LabPlan) where
   undealt_next j l = let e : length p.jobs - j ≡ suc (length p.jobs - suc j) = omega arith in ap (fresh p j) e
 
   pub dealt_next : (j : ℕ) → j < length p.jobs → dealt_left (undealt p j) ≡ undealt p (j + 1)
-  dealt_next j l = let e : suc j ≡ j + 1 = omega arith in ap (λ (z : List Hand). let v : View = record { hands = rest_hands z; front = []; told = [] } in v) (undealt_next j l) ∙ ap (undealt p) e
+  dealt_next j l =
+      let e : suc j ≡ j + 1 = omega arith in
+      ap (λ (z : List Hand). let v : View = record { hands = rest_hands z; front = []; told = [] } in v) (undealt_next j l) ∙ ap (undealt p) e
 
   pub undealt_first : undealt p 0 ≡ first_view p
-  undealt_first = let e : length p.jobs - 0 ≡ length p.jobs = omega arith in ap (λ (z : ℕ). let v : View = record { hands = fresh p 0 z; front = []; told = [] } in v) e
+  undealt_first =
+      let e : length p.jobs - 0 ≡ length p.jobs = omega arith in
+      ap (λ (z : ℕ). let v : View = record { hands = fresh p 0 z; front = []; told = [] } in v) e
 
   pub undealt_last : undealt p (length p.jobs) ≡ nothing
-  undealt_last = let e : length p.jobs - length p.jobs ≡ 0 = omega arith in ap (λ (z : ℕ). let v : View = record { hands = fresh p (length p.jobs) z; front = []; told = [] } in v) e
+  undealt_last =
+      let e : length p.jobs - length p.jobs ≡ 0 = omega arith in
+      ap (λ (z : ℕ). let v : View = record { hands = fresh p (length p.jobs) z; front = []; told = [] } in v) e
 
   some_at : (xs : List LogView) (i : ℕ) (x : LogView) → get_elem? xs i ≡ some x → get_elem? (map some xs) i ≡ some (some x)
   some_at [] i x e = absurd (some-ne-none x (sym e))
@@ -163,10 +201,12 @@ module _ (p : LabPlan) where
   some_length [] = refl
   some_length (x ∷ xs) = ap suc (some_length xs)
 
-  pub fresh_homed : (xs : List LogView) → length xs ≡ length p.instruments → ((i : ℕ) → i < length p.instruments → get_elem? xs i ≡ some (empty_log (room_of p i))) → Homed p (the_opening p) (map some xs)
+  pub fresh_homed : (xs : List LogView) → length xs ≡ length p.instruments
+      → ((i : ℕ) → i < length p.instruments → get_elem? xs i ≡ some (empty_log (room_of p i))) → Homed p (the_opening p) (map some xs)
   fresh_homed xs n e = record {
     deep = some_length xs ∙ n;
-    slots = λ i l. inl (some_at xs i (log_view p (the_opening p) i) (e i l ∙ ap (λ (y : List Entry). let z : LogView = record { entries = y; room = room_of p i } in some z) (sym (no_entries (length p.instruments) i))));
+    slots = λ i l. inl (some_at xs i (log_view p (the_opening p) i) (e i l
+        ∙ ap (λ (y : List Entry). let z : LogView = record { entries = y; room = room_of p i } in some z) (sym (no_entries (length p.instruments) i))));
   } where
     no_entries : (n i : ℕ) → get_or (replicate n (let y : List Entry = [] in y)) i [] ≡ []
     no_entries zero i = refl
@@ -184,7 +224,10 @@ module _ (p : LabPlan) where
       legal = k.legal;
       words = k.words;
       homes = k.homes;
-      seats = λ other u e. ⊎_elim (k.seats other u) (λ (q : (other ≡ length s.views) × (nothing ≡ u)). subst (λ (z : View). Sees p k.history k.owner other z) q.1 (record { front = (k.history, refl); told = tt; hands = tt })) (snoc_at s.views nothing u other e);
+      seats =
+          λ other u e. ⊎_elim (k.seats other u)
+          (λ (q : (other ≡ length s.views) × (nothing ≡ u)). subst (λ (z : View). Sees p k.history k.owner other z) q.1
+          (record { front = (k.history, refl); told = tt; hands = tt })) (snoc_at s.views nothing u other e);
     },
     refl,
   )

@@ -91,7 +91,8 @@ same_dining j Hungry other = refl
 same_dining j Eating other = refl
 
 -- the event is told by the phases before and after it
-pub told_back : (what : PhaseEvent) (plan : LabPlan) (j : ℕ) (s : State) → May plan s (event_of what j) → phase_event j (phase s j) (phase_after what (phase s j)) ≡ event_of what j
+pub told_back : (what : PhaseEvent) (plan : LabPlan) (j : ℕ) (s : State) → May plan s (event_of what j)
+    → phase_event j (phase s j) (phase_after what (phase s j)) ≡ event_of what j
 told_back Thirst plan j s m = same_dining j (phase s j).dining _ ∙ ap (λ (d : Drinking). drinking_event j d Thirsty) m.1
 told_back Hunger plan j s m = ap (λ (d : Dining). dining_event j d Hungry (drinking_event j (phase s j).drinking (phase s j).drinking)) m.1
 told_back Sit plan j s m = ap (λ (d : Dining). dining_event j d Eating (drinking_event j (phase s j).drinking (phase s j).drinking)) m.1
@@ -105,14 +106,17 @@ told_back Withdraw plan j s m = same_dining j (phase s j).dining _ ∙ ap (λ (d
 
 module _ (p : LabPlan) (j : ℕ) (event : Event) (by : actor event ≡ j) where
   pub phase_here : (w : State) → j < length w.seats → phase (after p w event) j ≡ (seat_after p (seat w j) event).phase
-  phase_here w inside = subst (λ i. i < length w.seats → phase (after p w event) i ≡ (seat_after p (seat w i) event).phase) by (λ h. ap (λ (x : Seat). x.phase) (own_seat p w event h)) inside
+  phase_here w inside = subst (λ i. i < length w.seats → phase (after p w event) i ≡ (seat_after p (seat w i) event).phase) by
+      (λ h. ap (λ (x : Seat). x.phase) (own_seat p w event h)) inside
 
   pub phase_there : (w : State) (k : ℕ) → k ≢ j → phase (after p w event) k ≡ phase w k
   phase_there w k ne = ap (λ (x : Seat). x.phase) (other_seat p w event k (λ is. ne (is ∙ by)))
 
-  pub turned_words : (w : State) (ws : List ℕ) (y : JobState) → j < length p.jobs → j < length w.seats → (seat_after p (seat w j) event).phase ≡ y → (after p w event).edges ≡ w.edges
+  pub turned_words : (w : State) (ws : List ℕ) (y : JobState) → j < length p.jobs → j < length w.seats
+      → (seat_after p (seat w j) event).phase ≡ y → (after p w event).edges ≡ w.edges
       → Spelled p w ws → Spelled p (after p w event) (set ws (phase_place p j) (phase_word_of y))
-  turned_words w ws y job inside is same q = spelled_phase p w (after p w event) ws j y job (phase_here w inside ∙ is) (λ e. ap (λ (l : List EdgeState). get_or l e no_edge) same) (phase_there w) q
+  turned_words w ws y job inside is same q =
+      spelled_phase p w (after p w event) ws j y job (phase_here w inside ∙ is) (λ e. ap (λ (l : List EdgeState). get_or l e no_edge) same) (phase_there w) q
 
   -- the other jobs reach as before
   pub others_reach : (w : State) → drinking w j ≢ Reaching → (k i : ℕ) → IsReachingFor p w k i → IsReachingFor p (after p w event) k i
@@ -122,7 +126,8 @@ module _ (p : LabPlan) (slots id : ℕ) (v : View) (c : List (ℕ × LogView)) (
   abbrev j : ℕ
   j = (hand_in v).job
 
-  pub stores : (what : PhaseEvent) (n : ℕ) → May p (mine v) (event_of what j) → (own_phase v).drinking ≢ Reaching → n ≡ phase_word_of (phase_after what (own_phase v))
+  pub stores : (what : PhaseEvent) (n : ℕ) → May p (mine v) (event_of what j)
+      → (own_phase v).drinking ≢ Reaching → n ≡ phase_word_of (phase_after what (own_phase v))
       → Allows (Kept p) slots id (v, c) (phase_place p j) (λ _. n) (λ _. stored (step slots (phase_place p j) n 0 none) (v, c) n)
   stores what n may rests is_n s k _ at _ =
       let w : State = state_after p k.history in
@@ -135,9 +140,14 @@ module _ (p : LabPlan) (slots id : ℕ) (v : View) (c : List (ℕ × LogView)) (
       let legal : IsLegalFrom p w g = (may_now, tt) in
       let y : JobState = phase_after what (own_phase v) in
       let becomes : (seat_after p (seat w j) event).phase ≡ y = phase_is what p j (seat w j) ∙ ap (λ (x : Seat). phase_after what x.phase) own in
-      let fits : FitsPhaseWord y = subst FitsPhaseWord (phase_here p j event by w inside ∙ becomes) (phase_fits p (after p w event) j k.is_plan (fits_more p k.history event k.legal may_now) job) in
-      let told : phase_event j (own_phase v) (phase_of n) ≡ event = ap (λ z. phase_event j (own_phase v) (phase_of z)) is_n ∙ (ap (phase_event j (own_phase v)) (phase_of-phase_word_of y fits) ∙ told_back what p j (mine v) may) in
-      let words : Spelled p (after p w event) (set s.words (phase_place p j) n) = subst (λ z. Spelled p (after p w event) (set s.words (phase_place p j) z)) (sym is_n) (turned_words p j event by w s.words y job inside becomes (edges_same what p j w) k.words) in (
+      let fits : FitsPhaseWord y =
+      subst FitsPhaseWord (phase_here p j event by w inside ∙ becomes)
+      (phase_fits p (after p w event) j k.is_plan (fits_more p k.history event k.legal may_now) job) in
+      let told : phase_event j (own_phase v) (phase_of n) ≡ event = ap (λ z. phase_event j (own_phase v) (phase_of z)) is_n
+      ∙ (ap (phase_event j (own_phase v)) (phase_of-phase_word_of y fits) ∙ told_back what p j (mine v) may) in
+      let words : Spelled p (after p w event) (set s.words (phase_place p j) n) =
+      subst (λ z. Spelled p (after p w event) (set s.words (phase_place p j) z)) (sym is_n)
+      (turned_words p j event by w s.words y job inside becomes (edges_same what p j w) k.words) in (
         grown p v k.history g,
         keeps,
         tt,

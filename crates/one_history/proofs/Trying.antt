@@ -47,14 +47,16 @@ module _ (p : LabPlan) (slots id : ℕ) (v : View) (c : List (ℕ × LogView)) (
   j = (hand_in v).job
 
   -- the state and what the job knows are alike at the job and at an edge that is as last seen
-  alike : (s : TableState LogView View) (k : Kept p s) → get_elem? s.views id ≡ some v → (e : ℕ) → e < length (edges p) → edge (state_after p k.history) e ≡ edge (mine v) e → Alike j e (mine v) (state_after p k.history)
+  alike : (s : TableState LogView View) (k : Kept p s) → get_elem? s.views id ≡ some v → (e : ℕ) → e < length (edges p)
+      → edge (state_after p k.history) e ≡ edge (mine v) e → Alike j e (mine v) (state_after p k.history)
   alike s k at e inside same =
       let fit = history_fits p k.history k.legal in
       let held = held_in p k.history k.owner id v led (k.seats id v at) in
       let there = fit.edges_there in
       let seats = learned_all_seats (hand_in v).plan (the_opening (hand_in v).plan) (hand_in v).deeds in
       let wide = learned_all_edges (hand_in v).plan (the_opening (hand_in v).plan) (hand_in v).deeds in
-      let as_many : length (the_opening (hand_in v).plan).edges ≡ length (edges p) = ap (λ (q : LabPlan). length (the_opening q).edges) held.0 ∙ opening_edges p in
+      let as_many : length (the_opening (hand_in v).plan).edges ≡ length (edges p) =
+      ap (λ (q : LabPlan). length (the_opening q).edges) held.0 ∙ opening_edges p in
       let jobs : length (the_opening (hand_in v).plan).seats ≡ length p.jobs = ap (λ (q : LabPlan). length (the_opening q).seats) held.0 ∙ opening_seats p in
       record {
         job_s = omega arith;
@@ -66,7 +68,8 @@ module _ (p : LabPlan) (slots id : ℕ) (v : View) (c : List (ℕ × LogView)) (
       }
 
   -- what is expected is what the job last saw, and the moves are legal by that
-  pub tries : (e : ℕ) (m : EdgeMoves) (old new : ℕ) → IsOwn p j e → IsLegalFrom p (mine v) (events_of m j e) → IsOfBottles (length (bottles p e)) (edge (mine v) e)
+  pub tries : (e : ℕ) (m : EdgeMoves) (old new : ℕ) → IsOwn p j e
+      → IsLegalFrom p (mine v) (events_of m j e) → IsOfBottles (length (bottles p e)) (edge (mine v) e)
       → old ≡ word_of (edge (mine v) e) → new ≡ word_of (after_moves m (edge (mine v) e))
       → Allows (Kept p) slots id (v, c) (edge_place e) (λ n. either (eqb n old) new n) (tried (step slots (edge_place e) old new none) (v, c))
   tries e m old new own may fits_mine is_old is_new s k _ at _ =
@@ -80,7 +83,8 @@ module _ (p : LabPlan) (slots id : ℕ) (v : View) (c : List (ℕ × LogView)) (
       let fits : IsOfBottles (length (bottles p e)) (edge w e) = edge_fits p w e (history_fits p k.history k.legal) own.is_edge in
       elim (cases_eq n old) [
         | inl hit ↦
-            let same : edge w e ≡ edge (mine v) e = no_two_edges (edge w e) (edge (mine v) e) (IsOfBottles-28 _ _ few fits) (IsOfBottles-28 _ _ few fits_mine) (sym found ∙ (hit ∙ is_old)) in
+            let same : edge w e ≡ edge (mine v) e =
+            no_two_edges (edge w e) (edge (mine v) e) (IsOfBottles-28 _ _ few fits) (IsOfBottles-28 _ _ few fits_mine) (sym found ∙ (hit ∙ is_old)) in
             let alike_now : Alike j e (mine v) w = alike s k at e own.is_edge same in
             let legal : IsLegalFrom p w g = (moves_alike p j e m (mine v) w alike_now may).0 in
             let only : ChangesOnly j e w (after_all p w g) = moves_change_only_their_edge p w j e m (jobs_there p k.history j job) in
@@ -96,22 +100,30 @@ module _ (p : LabPlan) (slots id : ℕ) (v : View) (c : List (ℕ × LogView)) (
               tt,
               subst (λ b. Kept p (stepped s (edge_place e) (either b new n) id c (grown p v k.history g) keeps)) (sym (eq-eqb n old hit))
                   (appends p s k id v at led g (moves_by j e m) legal (set s.words (edge_place e) new) written s.homes
-                  (homed_still p w (after_all p w g) s.homes (λ i. ap (λ (logs : List (List Entry)). get_or logs i []) only.logs) (λ i l. reaching_still p w (after_all p w g) i l (phases i)) k.homes)),
-              ((λ _. subst (λ (z : EdgeMoves × ℕ). Grows v (events_of z.0 j z.1) (grown p v k.history g)) (λ i. (sym back i, sym (place_edge e) i)) (tells p s k id v at led g (moves_by j e m) legal)), (λ miss. absurd (miss hit)), refl),
+                  (homed_still p w (after_all p w g) s.homes (λ i. ap (λ (logs : List (List Entry)). get_or logs i []) only.logs)
+                  (λ i l. reaching_still p w (after_all p w g) i l (phases i)) k.homes)),
+              (
+                (λ _. subst (λ (z : EdgeMoves × ℕ). Grows v (events_of z.0 j z.1) (grown p v k.history g))
+                    (λ i. (sym back i, sym (place_edge e) i)) (tells p s k id v at led g (moves_by j e m) legal)),
+                (λ miss. absurd (miss hit)),
+                refl,
+              ),
             )
         | inr miss ↦ (
           grown p v k.history [],
           keeps,
           tt,
           subst (λ b. Kept p (stepped s (edge_place e) (either b new n) id c (grown p v k.history []) keeps)) (sym (ne_eqb n old miss))
-              (subst (λ ws. Kept p record { words = ws; homes = s.homes; views = set s.views id (grown p v k.history []) }) (sym (set-get_or s.words (edge_place e) 0))
+              (subst (λ ws. Kept p record { words = ws; homes = s.homes; views = set s.views id (grown p v k.history []) })
+              (sym (set-get_or s.words (edge_place e) 0))
               (appends p s k id v at led [] tt tt s.words k.words s.homes k.homes)),
           (
             (λ hit. absurd (miss hit)),
             (λ _. let now : w ≡ state_after (hand_in v).plan (k.history ++ []) = λ i. state_after (sym held.0 i) (sym (append-nil k.history) i) in (
               tells p s k id v at led [] tt tt,
               found ∙ (λ i. word_of (edge (now i) (sym (place_edge e) i))),
-              subst (λ (z : LabPlan × State × ℕ). IsOfBottles (length (bottles z.0 z.2)) (edge z.1 z.2)) (λ i. (sym held.0 i, now i, sym (place_edge e) i)) fits,
+              subst (λ (z : LabPlan × State × ℕ). IsOfBottles (length (bottles z.0 z.2)) (edge z.1 z.2))
+                  (λ i. (sym held.0 i, now i, sym (place_edge e) i)) fits,
             )),
             refl,
           ),

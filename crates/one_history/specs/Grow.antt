@@ -89,7 +89,8 @@ looked st m n m' = (x : EdgeState) × (n ≡ word_of x) × IsOfBottles (length (
 abbrev pub tried : At → Sat → ℕ → Sat → Type 0
 tried st m n m' =
     (n ≡ st.first → Grows m.0 (events_of (moves_of_words st.first st.second) (hand_in m.0).job (st.word / 8)) m'.0)
-    × (n ≢ st.first → Grows m.0 [] m'.0 × (n ≡ word_of (edge (seen_state m.0 m'.0) (st.word / 8))) × IsOfBottles (length (bottles (hand_in m.0).plan (st.word / 8))) (edge (seen_state m.0 m'.0) (st.word / 8)))
+    × (n ≢ st.first → Grows m.0 [] m'.0 × (n ≡ word_of (edge (seen_state m.0 m'.0) (st.word / 8)))
+    × IsOfBottles (length (bottles (hand_in m.0).plan (st.word / 8))) (edge (seen_state m.0 m'.0) (st.word / 8)))
     × (m'.1 ≡ m.1)
 
 -- the event that leads a job from one phase to another

@@ -66,13 +66,16 @@ module _ (plan : LabPlan) (j e : ℕ) where
       let same : dining t j ≡ dining k j = dines k e x w.job in
       record {
         up_to_date = record {
-          fork = ap (λ (y : Seat). slice_index_or y.fork_marks e false) mine ∙ (get_or-set_same (seat k j).fork_marks e _ false w.fork_marks ∙ (λ i. fork_mark_seen (sym same i) (end_of plan j e) (sym now i)));
-          bottles = ap (λ (y : Seat). slice_index_or y.bottle_marks e 0) mine ∙ (get_or-set_same (seat k j).bottle_marks e _ 0 w.bottle_marks ∙ ap (bottles_at plan e (end_of plan j e)) (sym now));
+          fork = ap (λ (y : Seat). slice_index_or y.fork_marks e false) mine
+              ∙ (get_or-set_same (seat k j).fork_marks e _ false w.fork_marks ∙ (λ i. fork_mark_seen (sym same i) (end_of plan j e) (sym now i)));
+          bottles = ap (λ (y : Seat). slice_index_or y.bottle_marks e 0) mine
+              ∙ (get_or-set_same (seat k j).bottle_marks e _ 0 w.bottle_marks ∙ ap (bottles_at plan e (end_of plan j e)) (sym now));
         };
         saw = ap (λ (b : Bool). if b then Some x else seen) (eq-eqb e e refl) ∙ ap (λ (y : EdgeState). Some y) (sym now);
       }
 
-  look_there : (k : State) (seen : Option EdgeState) (f : ℕ) (x : EdgeState) → f ≢ e → IsWide k → IsClear k seen → IsClear (learned plan k (Look j f x)) (seen_next e seen (Look j f x))
+  look_there : (k : State) (seen : Option EdgeState) (f : ℕ) (x : EdgeState) → f ≢ e → IsWide k
+      → IsClear k seen → IsClear (learned plan k (Look j f x)) (seen_next e seen (Look j f x))
   look_there k seen f x apart w c =
       let t : State = learned plan k (Look j f x) in
       let still : edge t e ≡ edge k e = edge_other k f x e (λ is. apart (sym is)) in
@@ -80,8 +83,10 @@ module _ (plan : LabPlan) (j e : ℕ) where
       let same : dining t j ≡ dining k j = dines k f x w.job in
       record {
         up_to_date = record {
-          fork = ap (λ (y : Seat). slice_index_or y.fork_marks e false) mine ∙ (get_or-set_other (seat k j).fork_marks f e _ false (λ is. apart (sym is)) ∙ (c.up_to_date.fork ∙ (λ i. fork_mark_seen (sym same i) (end_of plan j e) (sym still i))));
-          bottles = ap (λ (y : Seat). slice_index_or y.bottle_marks e 0) mine ∙ (get_or-set_other (seat k j).bottle_marks f e _ 0 (λ is. apart (sym is)) ∙ (c.up_to_date.bottles ∙ ap (bottles_at plan e (end_of plan j e)) (sym still)));
+          fork = ap (λ (y : Seat). slice_index_or y.fork_marks e false) mine ∙ (get_or-set_other (seat k j).fork_marks f e _ false (λ is. apart (sym is))
+              ∙ (c.up_to_date.fork ∙ (λ i. fork_mark_seen (sym same i) (end_of plan j e) (sym still i))));
+          bottles = ap (λ (y : Seat). slice_index_or y.bottle_marks e 0) mine ∙ (get_or-set_other (seat k j).bottle_marks f e _ 0 (λ is. apart (sym is))
+              ∙ (c.up_to_date.bottles ∙ ap (bottles_at plan e (end_of plan j e)) (sym still)));
         };
         saw = ap (λ (b : Bool). if b then Some x else seen) (ne_eqb f e apart) ∙ (c.saw ∙ ap (λ (y : EdgeState). Some y) (sym still));
       }
@@ -92,7 +97,8 @@ module _ (plan : LabPlan) (j e : ℕ) where
   wide_before k [] job is_edge w = w
   wide_before k (v ∷ visits) job is_edge w =
       let t : State = learned plan k (Look j v.edge v.saw) in
-      let next : IsWide t = wide_before t visits (subst (λ n. j < n) (sym (learned_seats plan k (Look j v.edge v.saw))) job) (subst (λ n. e < n) (sym (learned_edges plan k (Look j v.edge v.saw))) is_edge) w in
+      let next : IsWide t = wide_before t visits (subst (λ n. j < n) (sym (learned_seats plan k (Look j v.edge v.saw))) job)
+      (subst (λ n. e < n) (sym (learned_edges plan k (Look j v.edge v.saw))) is_edge) w in
       record {
         job = job;
         is_edge = is_edge;
@@ -100,15 +106,18 @@ module _ (plan : LabPlan) (j e : ℕ) where
         bottle_marks = subst (λ n. e < n) (bottle_marks_look k v.edge v.saw job) next.bottle_marks;
       }
 
-  stays_clear : (k : State) (seen : Option EdgeState) (visits : List Visit) → IsWide k → IsClear k seen → IsClear (learned_all plan k (looks j visits)) (seen_after e seen (looks j visits))
+  stays_clear : (k : State) (seen : Option EdgeState) (visits : List Visit) → IsWide k → IsClear k seen
+      → IsClear (learned_all plan k (looks j visits)) (seen_after e seen (looks j visits))
   stays_clear k seen [] w c = c
   stays_clear k seen (v ∷ visits) w c =
-      stays_clear (learned plan k (Look j v.edge v.saw)) (seen_next e seen (Look j v.edge v.saw)) visits (wide_look k v.edge v.saw w) (elim (cases_eq v.edge e) [
+      stays_clear (learned plan k (Look j v.edge v.saw)) (seen_next e seen (Look j v.edge v.saw)) visits
+      (wide_look k v.edge v.saw w) (elim (cases_eq v.edge e) [
         | inl is ↦ subst (λ f. IsClear (learned plan k (Look j f v.saw)) (seen_next e seen (Look j f v.saw))) (sym is) (look_here k seen v.saw w)
         | inr apart ↦ look_there k seen v.edge v.saw apart w c
       ])
 
-  pub looks_clear : (k : State) (seen : Option EdgeState) (visits : List Visit) → IsWide k → In e (map (λ (v : Visit). v.edge) visits) → IsClear (learned_all plan k (looks j visits)) (seen_after e seen (looks j visits))
+  pub looks_clear : (k : State) (seen : Option EdgeState) (visits : List Visit) → IsWide k
+      → In e (map (λ (v : Visit). v.edge) visits) → IsClear (learned_all plan k (looks j visits)) (seen_after e seen (looks j visits))
   looks_clear k seen [] w listed = absurd listed
   looks_clear k seen (v ∷ visits) w listed =
       let wide : IsWide (learned plan k (Look j v.edge v.saw)) = wide_look k v.edge v.saw w in

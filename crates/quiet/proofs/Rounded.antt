@@ -62,14 +62,16 @@ glance_sees e seen _ is = refl
 pub known_but : (plan : LabPlan) (s : State) (l : List Event) → learned_all plan s (but_glances l) ≡ learned_all plan s l
 known_but plan s [] = refl
 known_but plan s (x ∷ l) = at (is_glance x) refl (λ t. known_but plan t l) where
-  at : (b : Bool) → is_glance x ≡ b → ((t : State) → learned_all plan t (but_glances l) ≡ learned_all plan t l) → learned_all plan s (if b then but_glances l else x ∷ but_glances l) ≡ learned_all plan (learned plan s x) l
+  at : (b : Bool) → is_glance x ≡ b → ((t : State) → learned_all plan t (but_glances l) ≡ learned_all plan t l)
+      → learned_all plan s (if b then but_glances l else x ∷ but_glances l) ≡ learned_all plan (learned plan s x) l
   at true is rest = rest s ∙ ap (λ t. learned_all plan t l) (sym (glance_learns plan s x is))
   at false is rest = rest (learned plan s x)
 
 seen_but : (e : ℕ) (seen : Option EdgeState) (l : List Event) → seen_after e seen (but_glances l) ≡ seen_after e seen l
 seen_but e seen [] = refl
 seen_but e seen (x ∷ l) = at (is_glance x) refl (λ z. seen_but e z l) where
-  at : (b : Bool) → is_glance x ≡ b → ((z : Option EdgeState) → seen_after e z (but_glances l) ≡ seen_after e z l) → seen_after e seen (if b then but_glances l else x ∷ but_glances l) ≡ seen_after e (seen_next e seen x) l
+  at : (b : Bool) → is_glance x ≡ b → ((z : Option EdgeState) → seen_after e z (but_glances l) ≡ seen_after e z l)
+      → seen_after e seen (if b then but_glances l else x ∷ but_glances l) ≡ seen_after e (seen_next e seen x) l
   at true is rest = rest seen ∙ ap (λ z. seen_after e z l) (sym (glance_sees e seen x is))
   at false is rest = rest (seen_next e seen x)
 
@@ -87,7 +89,8 @@ module _ (plan : LabPlan) (h : List Event) (legal : IsHistory plan h) (j : ℕ) 
   calm_after = idle_turn_is_calm plan j q.waited start q.idle q.turn
 
   known_is : learned_all plan start q.idle ≡ known_by plan (events_by j h)
-  known_is = sym (learned_all-append plan (the_opening plan) q.before q.idle) ∙ (ap (known_by plan) (sym q.events) ∙ known_but plan (the_opening plan) (events_by j h))
+  known_is = sym (learned_all-append plan (the_opening plan) q.before q.idle)
+      ∙ (ap (known_by plan) (sym q.events) ∙ known_but plan (the_opening plan) (events_by j h))
 
   seen_is : (e : ℕ) → seen_after e (last_seen e q.before) q.idle ≡ last_seen e (events_by j h)
   seen_is e = sym (seen_after-append e None q.before q.idle) ∙ (ap (last_seen e) (sym q.events) ∙ seen_but e None (events_by j h))
@@ -144,8 +147,10 @@ pub both_saw_is_both_know : BothSawIsBothKnow
 both_saw_is_both_know plan h legal idle =
     let saw : (j e : ℕ) → IsOwn plan j e → last_seen e (events_by j h) ≡ Some (edge (known_by plan (events_by j h)) e) =
     λ j e own. idle_job_knows_what_it_saw plan h j e legal (idle j (own_is_job plan j e own)) own in (
-      λ both e inside. same_word _ _ (sym (saw (ends plan e).0 e (lower_own plan e inside)) ∙ (both e inside ∙ saw (ends plan e).1 e (higher_own plan e inside))),
-      λ both e inside. saw (ends plan e).0 e (lower_own plan e inside) ∙ (ap (λ (x : EdgeState). Some x) (both e inside) ∙ sym (saw (ends plan e).1 e (higher_own plan e inside))),
+      λ both e inside. same_word _ _ (sym (saw (ends plan e).0 e (lower_own plan e inside))
+          ∙ (both e inside ∙ saw (ends plan e).1 e (higher_own plan e inside))),
+      λ both e inside. saw (ends plan e).0 e (lower_own plan e inside)
+          ∙ (ap (λ (x : EdgeState). Some x) (both e inside) ∙ sym (saw (ends plan e).1 e (higher_own plan e inside))),
     )
 
 -- ---- no act is due
@@ -154,7 +159,8 @@ some_event : (x : Event) (l : List Event) → x ∷ l ≡ [] → ⊥
 some_event x l e = cc
 
 module _ (plan : LabPlan) (k : State) (j waited : ℕ) where
-  later_first : (x y : Event) (rest later : List Event) → whole_act x ≡ y ∷ rest → AreFirst plan k j waited (x ∷ later) [] → (¬ Counts plan k j waited x) × AreFirst plan k j waited later []
+  later_first : (x y : Event) (rest later : List Event) → whole_act x ≡ y ∷ rest
+      → AreFirst plan k j waited (x ∷ later) [] → (¬ Counts plan k j waited x) × AreFirst plan k j waited later []
   later_first x y rest later is (inl both) = absurd (some_event y rest (sym is ∙ sym both.1))
   later_first x y rest later is (inr none) = none
 
@@ -209,8 +215,10 @@ module _ (plan : LabPlan) (h : List Event) (r : IsQuietRound plan h) where
   -- the lower job of an edge knows it as it is
   lower_knows : (e : ℕ) → e < length (edges plan) → edge w e ≡ edge (known (ends plan e).0) e
   lower_knows e inside = elim (one_is_current plan e (the_opening plan) h None None r.legal (inl (inl refl))) [
-    | inl current ↦ current_is plan e w (last_seen e (events_by (ends plan e).0 h)) (edge (known (ends plan e).0) e) (saw (ends plan e).0 e (lower_own plan e inside)) current
-    | inr current ↦ current_is plan e w (last_seen e (events_by (ends plan e).1 h)) (edge (known (ends plan e).1) e) (saw (ends plan e).1 e (higher_own plan e inside)) current ∙ sym (r.both_know e inside)
+    | inl current ↦ current_is plan e w (last_seen e (events_by (ends plan e).0 h))
+        (edge (known (ends plan e).0) e) (saw (ends plan e).0 e (lower_own plan e inside)) current
+    | inr current ↦ current_is plan e w (last_seen e (events_by (ends plan e).1 h)) (edge (known (ends plan e).1) e)
+        (saw (ends plan e).1 e (higher_own plan e inside)) current ∙ sym (r.both_know e inside)
   ]
 
   -- each job knows its edges as they are
@@ -256,8 +264,10 @@ module _ (plan : LabPlan) (h : List Event) (r : IsQuietRound plan h) where
       let there : IsUpToDate plan (known j) j e = (clear plan h r.legal j (ends_idle j e own) e own).up_to_date in
       let a = alike j e own in
       record {
-        fork = subst (λ (z : Seat × EdgeState). slice_index_or z.0.fork_marks e false ≡ fork_mark_seen z.0.phase.dining (end_of plan j e) z.1) (λ i. (sym a.0 i, sym a.1 i)) there.fork;
-        bottles = subst (λ (z : Seat × EdgeState). slice_index_or z.0.bottle_marks e 0 ≡ bottles_at plan e (end_of plan j e) z.1) (λ i. (sym a.0 i, sym a.1 i)) there.bottles;
+        fork = subst (λ (z : Seat × EdgeState). slice_index_or z.0.fork_marks e false ≡ fork_mark_seen z.0.phase.dining (end_of plan j e) z.1)
+            (λ i. (sym a.0 i, sym a.1 i)) there.fork;
+        bottles = subst (λ (z : Seat × EdgeState). slice_index_or z.0.bottle_marks e 0 ≡ bottles_at plan e (end_of plan j e) z.1)
+            (λ i. (sym a.0 i, sym a.1 i)) there.bottles;
       }
 
   pub quiet_round : IsQuiet plan w
@@ -268,4 +278,5 @@ quiet_round_is_retired plan h r =
     let opens = the_opening_is_acyclic plan in
     let all : take (length h) h ≡ h = take-length h in
     subst (λ l. AllRetired plan (after_all plan (the_opening plan) l)) all
-    (quiet_is_retired plan (the_opening plan) h (length h) opens.0 opens.1 r.legal (subst (λ l. IsQuiet plan (after_all plan (the_opening plan) l)) (sym all) (quiet_round plan h r)))
+    (quiet_is_retired plan (the_opening plan) h (length h) opens.0 opens.1 r.legal
+    (subst (λ l. IsQuiet plan (after_all plan (the_opening plan) l)) (sym all) (quiet_round plan h r)))

@@ -21,7 +21,8 @@ pub record EndsIdle (plan : LabPlan) (h : List Event) (j : ℕ) : Type 0 where
 
 -- both ends of every edge know the same of it
 abbrev pub BothKnow : LabPlan → List Event → Type 0
-BothKnow plan h = (e : ℕ) → e < length (edges plan) → edge (known_by plan (events_by (ends plan e).0 h)) e ≡ edge (known_by plan (events_by (ends plan e).1 h)) e
+BothKnow plan h = (e : ℕ) → e < length (edges plan)
+    → edge (known_by plan (events_by (ends plan e).0 h)) e ≡ edge (known_by plan (events_by (ends plan e).1 h)) e
 
 -- both ends of every edge saw the same word last
 abbrev pub BothSaw : LabPlan → List Event → Type 0
@@ -36,7 +37,8 @@ pub record IsQuietRound (plan : LabPlan) (h : List Event) : Type 0 where
 
 -- after an idle turn, what a job knows of an own edge is what its last look saw
 abbrev pub IdleJobKnowsWhatItSaw : Type 0
-IdleJobKnowsWhatItSaw = (plan : LabPlan) (h : List Event) (j e : ℕ) → IsHistory plan h → EndsIdle plan h j → IsOwn plan j e → last_seen e (events_by j h) ≡ Some (edge (known_by plan (events_by j h)) e)
+IdleJobKnowsWhatItSaw = (plan : LabPlan) (h : List Event) (j e : ℕ) → IsHistory plan h → EndsIdle plan h j
+    → IsOwn plan j e → last_seen e (events_by j h) ≡ Some (edge (known_by plan (events_by j h)) e)
 
 -- so where each job's last turn was idle, it is the same to know the same of an edge and to have seen the same word last
 abbrev pub BothSawIsBothKnow : Type 0

@@ -25,11 +25,17 @@ module _ (desks : List DeskView) (plan : LabPlan) where
 
 -- edges are told apart by their words
 pub same_word : (n : ℕ) (x y : EdgeState) → n ≤ 28 → IsOfBottles n x → IsOfBottles n y → (eqb (word_of x) (word_of y) ≡ true) ↔ (x ≡ y)
-same_word n x y few fits_x fits_y = (λ is. no_two_edges x y (IsOfBottles-28 n x few fits_x) (IsOfBottles-28 n y few fits_y) (eqb-true (word_of x) (word_of y) is), λ is. eq-eqb (word_of x) (word_of y) (ap word_of is))
+same_word n x y few fits_x fits_y = (
+  λ is. no_two_edges x y (IsOfBottles-28 n x few fits_x) (IsOfBottles-28 n y few fits_y) (eqb-true (word_of x) (word_of y) is),
+  λ is. eq-eqb (word_of x) (word_of y) (ap word_of is),
+)
 
 -- one more edge
-pub with_one_more : (desks : List DeskView) (plan : LabPlan) (n : ℕ) (all here : Bool) → all ≡ true → IsTrue all ↔ IsAgreed desks plan n → IsTrue here ↔ seen_by desks (ends plan n).0 n ≡ seen_by desks (ends plan n).1 n → IsTrue here ↔ IsAgreed desks plan (n + 1)
+pub with_one_more : (desks : List DeskView) (plan : LabPlan) (n : ℕ) (all here : Bool) → all ≡ true → IsTrue all ↔ IsAgreed desks plan n
+    → IsTrue here ↔ seen_by desks (ends plan n).0 n ≡ seen_by desks (ends plan n).1 n → IsTrue here ↔ IsAgreed desks plan (n + 1)
 with_one_more desks plan n all here is so_far last = (λ t. agreed_more desks plan n (so_far.0 is) (last.0 t), λ t. last.1 (t n (omega arith)))
 
-pub not_all : (desks : List DeskView) (plan : LabPlan) (n : ℕ) (all now : Bool) → all ≡ false → now ≡ all → IsTrue all ↔ IsAgreed desks plan n → IsTrue now ↔ IsAgreed desks plan (n + 1)
-not_all desks plan n all now is same so_far = (λ t. let both : true ≡ false = sym t ∙ (same ∙ is) in absurd (cc), λ t. same ∙ so_far.1 (agreed_fewer desks plan n t))
+pub not_all : (desks : List DeskView) (plan : LabPlan) (n : ℕ) (all now : Bool) → all ≡ false
+    → now ≡ all → IsTrue all ↔ IsAgreed desks plan n → IsTrue now ↔ IsAgreed desks plan (n + 1)
+not_all desks plan n all now is same so_far =
+    (λ t. let both : true ≡ false = sym t ∙ (same ∙ is) in absurd (cc), λ t. same ∙ so_far.1 (agreed_fewer desks plan n t))

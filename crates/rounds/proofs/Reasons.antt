@@ -47,7 +47,8 @@ module _ (b : BenchView) (h : List Event) (desks : List DeskView) (c : Company b
   nows : Each IsNow desks
   nows = zip_each (Owns b) (λ (d : DeskView). IsAtRest d × (events_by d.job h ≡ d.deeds)) IsNow
       (λ d o w. (λ i. known_by (o.1 i) (sym w.1 i), subst (λ (z : LabPlan). d.job < length z.jobs) o.1 w.0.inside)) desks c.own
-      (zip_each IsAtRest (λ (d : DeskView). events_by d.job h ≡ d.deeds) (λ (d : DeskView). IsAtRest d × (events_by d.job h ≡ d.deeds)) (λ d s t. (s, t)) desks c.rest c.whole)
+      (zip_each IsAtRest (λ (d : DeskView). events_by d.job h ≡ d.deeds)
+      (λ (d : DeskView). IsAtRest d × (events_by d.job h ≡ d.deeds)) (λ d s t. (s, t)) desks c.rest c.whole)
 
   -- ---- all are retired
 
@@ -61,24 +62,28 @@ module _ (b : BenchView) (h : List Event) (desks : List DeskView) (c : Company b
 
   pub retired_then : all_retired desks ≡ true → AreRetired b.plan h
   retired_then e j inside = find_job j (λ i. drinking (state_after b.plan h) i ≡ Retired) desks (all j inside)
-      (zip_each IsNow (λ (d : DeskView). is_retired d ≡ true) (λ (d : DeskView). drinking (state_after b.plan h) d.job ≡ Retired) (λ d now is. sym (drinks d now) ∙ gone_is (drinking (known d) d.job) is) desks nows (retired_each desks e))
+      (zip_each IsNow (λ (d : DeskView). is_retired d ≡ true) (λ (d : DeskView). drinking (state_after b.plan h) d.job ≡ Retired)
+      (λ d now is. sym (drinks d now) ∙ gone_is (drinking (known d) d.job) is) desks nows (retired_each desks e))
 
   pub then_retired : AreRetired b.plan h → all_retired desks ≡ true
-  then_retired are = each_retired desks (zip_each IsNow IsNow (λ (d : DeskView). is_retired d ≡ true) (λ d now _. ap has_retired (drinks d now ∙ are d.job now.1)) desks nows nows)
+  then_retired are = each_retired desks
+      (zip_each IsNow IsNow (λ (d : DeskView). is_retired d ≡ true) (λ d now _. ap has_retired (drinks d now ∙ are d.job now.1)) desks nows nows)
 
   -- ---- both ends know the same
 
   seen_is : (j e : ℕ) (l : List DeskView) → Any (λ (i : ℕ). i ≡ j) (jobs_of l) → Each IsNow l → seen_by l j e ≡ edge (known_in b.plan h j) e
   seen_is j e [] any now = absurd any
   seen_is j e (d ∷ l) any now = elim (cases_eq d.job j) [
-    | inl is ↦ ap (λ (t : Bool). if t then edge (known d) e else seen_by l j e) (eq-eqb d.job j is) ∙ (ap (λ (s : State). edge s e) now.0.0 ∙ ap (λ i. edge (known_in b.plan h i) e) is)
+    | inl is ↦ ap (λ (t : Bool). if t then edge (known d) e else seen_by l j e) (eq-eqb d.job j is)
+        ∙ (ap (λ (s : State). edge s e) now.0.0 ∙ ap (λ i. edge (known_in b.plan h i) e) is)
     | inr other ↦ ap (λ (t : Bool). if t then edge (known d) e else seen_by l j e) (ne_eqb d.job j other) ∙ seen_is j e l (later any other) now.1
   ] where
     later : Any (λ (i : ℕ). i ≡ j) (jobs_of (d ∷ l)) → d.job ≢ j → Any (λ (i : ℕ). i ≡ j) (jobs_of l)
     later (inl h) other = absurd (other h)
     later (inr h) other = h
 
-  seen_ends : (e : ℕ) → e < length (edges b.plan) → (seen_by desks (ends b.plan e).0 e ≡ edge (known_in b.plan h (ends b.plan e).0) e) × (seen_by desks (ends b.plan e).1 e ≡ edge (known_in b.plan h (ends b.plan e).1) e)
+  seen_ends : (e : ℕ) → e < length (edges b.plan) → (seen_by desks (ends b.plan e).0 e ≡ edge (known_in b.plan h (ends b.plan e).0) e)
+      × (seen_by desks (ends b.plan e).1 e ≡ edge (known_in b.plan h (ends b.plan e).1) e)
   seen_ends e inside = let pair = ends_are_pair b.plan e inside in let low = pair.0 in let high = pair.1 in (
     seen_is (ends b.plan e).0 e desks (all (ends b.plan e).0 (omega arith)) nows,
     seen_is (ends b.plan e).1 e desks (all (ends b.plan e).1 high) nows,
@@ -92,17 +97,24 @@ module _ (b : BenchView) (h : List Event) (desks : List DeskView) (c : Company b
 
 -- ---- why it ends, after so many rounds
 
-module _ (b : BenchView) (limit : ℕ) (players : List Player) (h g : List Event) (desks : List DeskView) (number : ℕ) (quiet : Bool) (all : AllOf b.plan (jobs_of desks)) (joint : Company b g desks)
+module _ (b : BenchView) (limit : ℕ) (players : List Player) (h g : List Event) (desks : List DeskView)
+    (number : ℕ) (quiet : Bool) (all : AllOf b.plan (jobs_of desks)) (joint : Company b g desks)
     (inv : (idle : Bool) × Rounds b.plan players number idle h g (players_of desks) × (IsTrue quiet ↔ ((idle ≡ true) × BothKnow b.plan g))) where
   gives : (ended : Ended) (n : ℕ) → number ≡ n → n ≤ limit → Why b.plan g ended inv.0 n limit → Played b limit players h ended n g desks
-  gives ended n is most why = record { idle = inv.0; rounds = subst (λ (z : ℕ). Rounds b.plan players z inv.0 h g (players_of desks)) is inv.1; most = most; why = why }
+  gives ended n is most why = record {
+    idle = inv.0;
+    rounds = subst (λ (z : ℕ). Rounds b.plan players z inv.0 h g (players_of desks)) is inv.1;
+    most = most;
+    why = why;
+  }
 
   not_retired : all_retired desks ≡ false → ¬ AreRetired b.plan g
   not_retired r are = let both : true ≡ false = sym (then_retired b g desks joint all are) ∙ r in absurd (cc)
 
   -- it isn't over
   pub going : all_retired desks ≡ false → quiet ≡ false → ¬ IsOver b.plan inv.0 g
-  going r q over = ⊎_elim (λ are. not_retired r are) (λ (s : (inv.0 ≡ true) × BothKnow b.plan g). let both : true ≡ false = sym (inv.2.1 s) ∙ q in absurd (cc)) over
+  going r q over =
+      ⊎_elim (λ are. not_retired r are) (λ (s : (inv.0 ≡ true) × BothKnow b.plan g). let both : true ≡ false = sym (inv.2.1 s) ∙ q in absurd (cc)) over
 
   pub ended_all : (n : ℕ) → number ≡ n → n ≤ limit → all_retired desks ≡ true → Played b limit players h reasons.AllRetired n g desks
   ended_all n is most r = gives reasons.AllRetired n is most (retired_then b g desks joint all r)
@@ -114,7 +126,8 @@ module _ (b : BenchView) (limit : ℕ) (players : List Player) (h g : List Event
   ended_limit is r q = gives reasons.Limit limit is (omega arith) (going r q, refl)
 
 -- whether the last round was quiet
-pub quiet_then : (idle agreed quiet : Bool) (P Q : Type 0) → idle ≡ true → quiet ≡ agreed → (IsTrue agreed ↔ P) → (P → Q) → (Q → P) → IsTrue quiet ↔ ((idle ≡ true) × Q)
+pub quiet_then : (idle agreed quiet : Bool) (P Q : Type 0) → idle ≡ true → quiet ≡ agreed
+    → (IsTrue agreed ↔ P) → (P → Q) → (Q → P) → IsTrue quiet ↔ ((idle ≡ true) × Q)
 quiet_then idle agreed quiet P Q is same iff f b = (λ t. (is, f (iff.0 (sym same ∙ t))), λ s. same ∙ iff.1 (b s.1))
 
 pub quiet_else : (idle quiet : Bool) (Q : Type 0) → idle ≡ false → quiet ≡ idle → IsTrue quiet ↔ ((idle ≡ true) × Q)

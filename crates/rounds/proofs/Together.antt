@@ -58,7 +58,10 @@ module _ (plan : LabPlan) where
   all_by j s [] legal none = tt
   all_by j s (x ∷ l) legal none = dite (ℕ_discrete (actor x) j)
       (λ is. (is, all_by j (after plan s x) l legal.1 (λ m inside apart. less m (none m inside apart))))
-      (λ other. let q : x ∷ events_by (actor x) l ≡ [] = sym (ap (λ (c : Bool). if c then x ∷ events_by (actor x) l else events_by (actor x) l) (eq-eqb (actor x) (actor x) refl)) ∙ none (actor x) (acts_inside plan s x legal.0) other in absurd (cc))
+      (λ other. let q : x ∷ events_by (actor x) l
+      ≡ [] = sym (ap (λ (c : Bool). if c then x ∷ events_by (actor x) l else events_by (actor x) l) (eq-eqb (actor x) (actor x) refl))
+      ∙ none (actor x) (acts_inside plan s x legal.0) other in
+      absurd (cc))
     where
       less : (m : ℕ) → events_by m (x ∷ l) ≡ [] → events_by m l ≡ []
       less m e = at (actor x == m) e where
@@ -69,15 +72,21 @@ module _ (plan : LabPlan) where
   -- a legal part in which none of the jobs does anything
   pub none_left : (s : State) (l : List Event) → IsLegalFrom plan s l → ((m : ℕ) → m < length plan.jobs → events_by m l ≡ []) → l ≡ []
   none_left s [] legal none = refl
-  none_left s (x ∷ l) legal none = let q : x ∷ events_by (actor x) l ≡ [] = sym (ap (λ (c : Bool). if c then x ∷ events_by (actor x) l else events_by (actor x) l) (eq-eqb (actor x) (actor x) refl)) ∙ none (actor x) (acts_inside plan s x legal.0) in absurd (cc)
+  none_left s (x ∷ l) legal none =
+      let q : x ∷ events_by (actor x) l ≡ [] =
+      sym (ap (λ (c : Bool). if c then x ∷ events_by (actor x) l else events_by (actor x) l) (eq-eqb (actor x) (actor x) refl))
+      ∙ none (actor x) (acts_inside plan s x legal.0) in
+      absurd (cc)
 
   -- a history that has of each job as much as its beginning is no longer
   pub no_more : (h g : List Event) → StartsWith g h → IsHistory plan g → ((m : ℕ) → m < length plan.jobs → events_by m g ≡ events_by m h) → g ≡ h
-  no_more h g s legal same = s.1 ∙ (ap (λ l. h ++ l) (none_left (state_after plan h) s.0 (legal-goes_on plan (the_opening plan) h s.0 (subst (IsHistory plan) s.1 legal))
+  no_more h g s legal same =
+      s.1 ∙ (ap (λ l. h ++ l) (none_left (state_after plan h) s.0 (legal-goes_on plan (the_opening plan) h s.0 (subst (IsHistory plan) s.1 legal))
       (λ m l. append_self (events_by m h) (events_by m s.0) (sym (filter-append (is_by m) h s.0) ∙ (ap (events_by m) (sym s.1) ∙ same m l)))) ∙ append-nil h)
 
 -- a job whose desk stayed did nothing
-others : (l : List DeskView) (k : ℕ) (x y : DeskView) (m : ℕ) (f g : List Event) → x ≡ get_or l k x → m ≢ x.job → Any (λ (j : ℕ). j ≡ m) (jobs_of l) → IsWhole f l → IsWhole g (set l k y) → events_by m g ≡ events_by m f
+others : (l : List DeskView) (k : ℕ) (x y : DeskView) (m : ℕ) (f g : List Event) → x ≡ get_or l k x → m ≢ x.job
+    → Any (λ (j : ℕ). j ≡ m) (jobs_of l) → IsWhole f l → IsWhole g (set l k y) → events_by m g ≡ events_by m f
 others [] k x y m f g is apart any a b = absurd any
 others (d ∷ l) zero x y m f g is apart (inl h) a b = absurd (apart (sym h ∙ ap (λ (z : DeskView). z.job) (sym is)))
 others (d ∷ l) zero x y m f g is apart (inr h) a b = same l h a.1 b.1 where
@@ -92,25 +101,33 @@ others (d ∷ l) (suc k) x y m f g is apart (inr h) a b = others l k x y m f g i
 pub squeeze : (m : ℕ) (f h g : List Event) → StartsWith h f → StartsWith g h → events_by m f ≡ events_by m g → events_by m h ≡ events_by m f
 squeeze m f h g s t same = let a : List Event = events_by m s.0 in let b : List Event = events_by m t.0 in
     let h_is : events_by m h ≡ events_by m f ++ a = ap (events_by m) s.1 ∙ filter-append (is_by m) f s.0 in
-    let g_is : events_by m g ≡ events_by m f ++ (a ++ b) = ap (events_by m) t.1 ∙ (filter-append (is_by m) h t.0 ∙ (ap (λ z. z ++ b) h_is ∙ append_assoc (events_by m f) a b)) in
+    let g_is : events_by m g ≡ events_by m f ++ (a ++ b) =
+    ap (events_by m) t.1 ∙ (filter-append (is_by m) h t.0 ∙ (ap (λ z. z ++ b) h_is ∙ append_assoc (events_by m f) a b)) in
     h_is ∙ (ap (λ z. events_by m f ++ z) (nil_left a b (append_self (events_by m f) (a ++ b) (sym g_is ∙ sym same))) ∙ append-nil (events_by m f))
 
 -- what is whole later was whole before
-pub whole_before : (l : List DeskView) (h g : List Event) → StartsWith g h → Each (λ (d : DeskView). StartsWith h d.front) l → Each IsAtRest l → IsWhole g l → IsWhole h l
+pub whole_before : (l : List DeskView) (h g : List Event) → StartsWith g h
+    → Each (λ (d : DeskView). StartsWith h d.front) l → Each IsAtRest l → IsWhole g l → IsWhole h l
 whole_before [] h g t s f w = tt
 whole_before (d ∷ l) h g t s f w = (squeeze d.job d.front h g s.0 t (f.0.whole ∙ sym w.0) ∙ f.0.whole, whole_before l h g t s.1 f.1 w.1)
 
-was_whole : (l : List DeskView) (k : ℕ) (x y : DeskView) (h g : List Event) → x ≡ get_or l k x → StartsWith g h → Each (λ (d : DeskView). StartsWith h d.front) l → Each IsAtRest l → events_by x.job h ≡ x.deeds → IsWhole g (set l k y) → IsWhole h l
+was_whole : (l : List DeskView) (k : ℕ) (x y : DeskView) (h g : List Event) → x ≡ get_or l k x → StartsWith g h
+    → Each (λ (d : DeskView). StartsWith h d.front) l → Each IsAtRest l → events_by x.job h ≡ x.deeds → IsWhole g (set l k y) → IsWhole h l
 was_whole [] k x y h g is t s f here w = tt
 was_whole (d ∷ l) zero x y h g is t s f here w = (subst (λ (z : DeskView). events_by z.job h ≡ z.deeds) is here, whole_before l h g t s.1 f.1 w.1)
-was_whole (d ∷ l) (suc k) x y h g is t s f here w = (squeeze d.job d.front h g s.0 t (f.0.whole ∙ sym w.0) ∙ f.0.whole, was_whole l k x y h g is t s.1 f.1 here w.1)
+was_whole (d ∷ l) (suc k) x y h g is t s f here w =
+    (squeeze d.job d.front h g s.0 t (f.0.whole ∙ sym w.0) ∙ f.0.whole, was_whole l k x y h g is t s.1 f.1 here w.1)
 
 pub company_of : (b : BenchView) (h : List Event) (l : List DeskView) → Spread b h l → IsWhole h l → Company b h l
 company_of b h l s w = record { own = s.own; rest = s.rest; legal = s.legal; starts = s.starts; whole = w }
 
 -- a desk that hears is at rest
 pub heard_rests : (x : DeskView) (news : List Event) (y : DeskView) → IsAtRest x → Heard x news y → IsAtRest y
-heard_rests x news y r h = record { inside = subst (λ (z : LabPlan × ℕ). z.1 < length z.0.jobs) (λ i. (sym h.plan i, sym h.job i)) r.inside; legal = h.legal; whole = h.whole }
+heard_rests x news y r h = record {
+  inside = subst (λ (z : LabPlan × ℕ). z.1 < length z.0.jobs) (λ i. (sym h.plan i, sym h.job i)) r.inside;
+  legal = h.legal;
+  whole = h.whole;
+}
 
 -- ---- one turn of a desk
 
@@ -144,12 +161,18 @@ module _ (y : DeskView) (r : Turned) (d' : DeskView) (t : Took y r d') where
   unfolding acted_grew took_grew
   took_alone rest alone = let a = visits_go y t.visits t.visited t.all in let b = acts_go t.visited t.acts t.acted t.does in
       visits_alone y t.visits t.visited a.grew.more rest t.all a.grew.front
-      (each_begin (λ (x : Event). actor x ≡ y.job) a.grew.more b.grew.more (subst (AreBy y.job) (parts y.front t.visited.front t.acted.front a.grew.more b.grew.more acted_grew.more a.grew.front b.grew.front acted_grew.front) alone))
+      (each_begin (λ (x : Event). actor x ≡ y.job) a.grew.more b.grew.more (subst (AreBy y.job)
+      (parts y.front t.visited.front t.acted.front a.grew.more b.grew.more acted_grew.more a.grew.front b.grew.front acted_grew.front) alone))
 
   -- the clock after it
-  pub took_clock : (plan : LabPlan) (j : ℕ) (k : Clock) (s : State) → y.plan ≡ plan → y.job ≡ j → y.clock ≡ k → known y ≡ s → player_of d' ≡ record { job = j; waited = waited_after j (waits k) (is_waiting (drinking s j)) (learned_all plan s did) }
+  pub took_clock : (plan : LabPlan) (j : ℕ) (k : Clock) (s : State) → y.plan ≡ plan → y.job ≡ j → y.clock ≡ k → known y ≡ s
+      → player_of d' ≡ record { job = j; waited = waited_after j (waits k) (is_waiting (drinking s j)) (learned_all plan s did) }
   took_clock plan j k s is_plan is_job is_clock is_known = ap player_of t.noted_is
-      ∙ (λ i. record { job = (acted_grew.job ∙ is_job) i; waited = waited_after ((acted_grew.job ∙ is_job) i) (waits ((went.clock ∙ is_clock) i)) (is_waiting (drinking (is_known i) (is_job i))) ((known_grown y t.acted did acted_grew ∙ (λ l. learned_all (is_plan l) (is_known l) did)) i) })
+      ∙ (λ i. record {
+        job = (acted_grew.job ∙ is_job) i;
+        waited = waited_after ((acted_grew.job ∙ is_job) i) (waits ((went.clock ∙ is_clock) i)) (is_waiting (drinking (is_known i) (is_job i)))
+            ((known_grown y t.acted did acted_grew ∙ (λ l. learned_all (is_plan l) (is_known l) did)) i);
+      })
 
 -- ---- a desk hears what was seen, and takes a turn
 
@@ -189,7 +212,8 @@ module _ (b : BenchView) (l : List DeskView) (k : ℕ) (x y d' : DeskView) (r : 
     rest = each_but IsAtRest l k d' joint.rest (g.rests rest_y);
     legal = legal;
     starts = each_but (λ (d : DeskView). StartsWith G d.front) l k d'
-        (each_map (λ (d : DeskView). StartsWith F d.front) (λ (d : DeskView). StartsWith G d.front) (λ d s. starts_then G F d.front (delta, goes_is) s) l joint.starts) ([], end ∙ sym (append-nil d'.front));
+        (each_map (λ (d : DeskView). StartsWith F d.front) (λ (d : DeskView). StartsWith G d.front)
+        (λ d s. starts_then G F d.front (delta, goes_is) s) l joint.starts) ([], end ∙ sym (append-nil d'.front));
   }
 
   module _ (w : IsWhole G (set l k d')) where
@@ -197,7 +221,8 @@ module _ (b : BenchView) (l : List DeskView) (k : ℕ) (x y d' : DeskView) (r : 
     whole_then = was_whole l k x d' F G is (delta, goes_is) joint.starts joint.rest here w
 
     none : (m : ℕ) → m < length b.plan.jobs → m ≢ x.job → events_by m delta ≡ []
-    none m small apart = append_self (events_by m F) (events_by m delta) (sym (filter-append (is_by m) F delta) ∙ (ap (events_by m) (sym goes_is) ∙ others l k x d' m F G is apart (all m small) whole_then w))
+    none m small apart = append_self (events_by m F) (events_by m delta) (sym (filter-append (is_by m) F delta)
+        ∙ (ap (events_by m) (sym goes_is) ∙ others l k x d' m F G is apart (all m small) whole_then w))
 
     mine : AreBy x.job delta
     mine = all_by b.plan x.job (state_after b.plan F) delta (legal-goes_on b.plan (the_opening b.plan) F delta (subst (IsHistory b.plan) goes_is legal)) none
@@ -213,11 +238,13 @@ module _ (b : BenchView) (l : List DeskView) (k : ℕ) (x y d' : DeskView) (r : 
 
     same : delta ≡ did y r d' t
     same = sym (only_mine x.job delta mine) ∙ append_cancel x.deeds (events_by x.job delta) (did y r d' t)
-        (ap (λ z. z ++ events_by x.job delta) (sym here) ∙ (sym (filter-append (is_by x.job) F delta) ∙ (ap (events_by x.job) (sym goes_is) ∙ (whole_after ∙ (g.deeds ∙ ap (λ z. z ++ did y r d' t) heard.deeds)))))
+        (ap (λ z. z ++ events_by x.job delta) (sym here) ∙ (sym (filter-append (is_by x.job) F delta)
+        ∙ (ap (events_by x.job) (sym goes_is) ∙ (whole_after ∙ (g.deeds ∙ ap (λ z. z ++ did y r d' t) heard.deeds)))))
 
     none_lost : count is_lost t.visits ≡ 0
     unfolding took_grew g
-    none_lost = took_alone y r d' t rest_y (subst (λ j. AreBy j g.more) (sym heard.job) (each_end (λ (x' : Event). actor x' ≡ x.job) heard.starts.0 g.more mine))
+    none_lost =
+        took_alone y r d' t rest_y (subst (λ j. AreBy j g.more) (sym heard.job) (each_end (λ (x' : Event). actor x' ≡ x.job) heard.starts.0 g.more mine))
 
     pub played : Plays b.plan (player_of x) F r G (player_of d')
     played = record {
@@ -225,7 +252,8 @@ module _ (b : BenchView) (l : List DeskView) (k : ℕ) (x y d' : DeskView) (r : 
       acts = t.acts;
       events = did y r d' t;
       after = goes_is ∙ ap (λ z. F ++ z) same;
-      turn = subst (λ (z : LabPlan × ℕ × Clock × State). IsTurnBy z.0 z.1 (waited_in (waits z.2) (session z.3 z.1)) z.3 t.visits t.acts (did y r d' t)) (λ i. (is_plan i, heard.job i, heard.clock i, knew i)) (took_by y r d' t);
+      turn = subst (λ (z : LabPlan × ℕ × Clock × State). IsTurnBy z.0 z.1 (waited_in (waits z.2) (session z.3 z.1)) z.3 t.visits t.acts (did y r d' t))
+          (λ i. (is_plan i, heard.job i, heard.clock i, knew i)) (took_by y r d' t);
       none_lost = none_lost;
       says = subst (Says r (count is_done t.visits + once t.acts)) none_lost t.says;
       counted = took_clock y r d' t b.plan x.job x.clock (known_in b.plan F x.job) is_plan heard.job heard.clock knew;

@@ -83,7 +83,8 @@ IsOver plan idle h = AreRetired plan h ⊎ ((idle ≡ true) × BothKnow plan h)
 abbrev pub Rounds : LabPlan → List Player → ℕ → Bool → List Event → List Event → List Player → Type 0
 Rounds plan players zero idle h h' players' = (h' ≡ h) × (idle ≡ false) × (players' ≡ players)
 Rounds plan players (suc n) idle h h' players' =
-    (m : List Event) × (before : Bool) × (middle : List Player) × Rounds plan players n before h m middle × ¬ IsOver plan before m × Round plan middle idle m h' players'
+    (m : List Event) × (before : Bool) × (middle : List Player) × Rounds plan players n before h m middle
+    × ¬ IsOver plan before m × Round plan middle idle m h' players'
 
 -- why rounds ended after n of them
 abbrev pub Why : LabPlan → List Event → Ended → Bool → ℕ → ℕ → Type 0
@@ -93,13 +94,15 @@ Why plan h reasons.Limit idle n limit = ¬ IsOver plan idle h × (n ≡ limit)
 Why plan h reasons.NoMemory idle n limit = ⊥
 
 -- so many rounds were played from the history h to new, where the desks stand then
-pub record Played (b : BenchView) (limit : ℕ) (players : List Player) (h : List Event) (ended : Ended) (n : ℕ) (new : List Event) (desks : List DeskView) : Type 0 where
+pub record Played (b : BenchView) (limit : ℕ) (players : List Player) (h : List Event)
+    (ended : Ended) (n : ℕ) (new : List Event) (desks : List DeskView) : Type 0 where
   pub idle : Bool
   pub rounds : Rounds b.plan players n idle h new (players_of desks)
   pub most : n ≤ limit
   pub why : Why b.plan new ended idle n limit
 
--- So many rounds were driven, from a history that begins with what the first desk had seen, and has every record whole. Then the first desk's front has every record whole
+-- So many rounds were driven, from a history that begins with what the first desk had seen, and has every record whole. Then the first desk's front has every
+-- record whole
 pub record Drove (b : BenchView) (limit : ℕ) (old : List DeskView) (ended : Ended) (n : ℕ) (new : List DeskView) : Type 0 where
   pub start : List Event
   pub begins : StartsWith start (first_front old)

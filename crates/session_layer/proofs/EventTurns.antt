@@ -32,7 +32,11 @@ did_then : (d m e : DeskView) (a b : List Event) → Did d a m → Did m b e →
 did_then d m e a b s t = record { plan = t.plan ∙ s.plan; job = t.job ∙ s.job; deeds = t.deeds ∙ (ap (λ l. l ++ b) s.deeds ∙ append_assoc d.deeds a b) }
 
 did_none : (d e : DeskView) → e ≡ d → Did d [] e
-did_none d e is = record { plan = ap (λ (z : DeskView). z.plan) is; job = ap (λ (z : DeskView). z.job) is; deeds = ap (λ (z : DeskView). z.deeds) is ∙ sym (append-nil d.deeds) }
+did_none d e is = record {
+  plan = ap (λ (z : DeskView). z.plan) is;
+  job = ap (λ (z : DeskView). z.job) is;
+  deeds = ap (λ (z : DeskView). z.deeds) is ∙ sym (append-nil d.deeds);
+}
 
 pub known_then : (d e : DeskView) (g : List Event) → Did d g e → known e ≡ learned_all d.plan (known d) g
 known_then d e g t = (λ i. known_by (t.plan i) (t.deeds i)) ∙ learned_all-append d.plan (the_opening d.plan) d.deeds g
@@ -55,7 +59,8 @@ visits_did d (v ∷ vs) d' (m, first, later) = let a = visit_did d v m first in 
   subst (λ j. Did d (visit_events d.job v ++ visits_events j vs) d') a.job (did_then d m d' (visit_events d.job v) (visits_events m.job vs) a b.0),
   (
     (let look = adds_did d (Look d.job v.edge v.saw ∷ []) first.looked first.look in
-        subst (λ (z : LabPlan × State × ℕ). AreDue z.0 z.1 z.2 v.edge v.moves) (λ i. (look.plan i, known_then d first.looked (Look d.job v.edge v.saw ∷ []) look i, look.job i)) first.due),
+        subst (λ (z : LabPlan × State × ℕ). AreDue z.0 z.1 z.2 v.edge v.moves)
+        (λ i. (look.plan i, known_then d first.looked (Look d.job v.edge v.saw ∷ []) look i, look.job i)) first.due),
     subst (λ (z : LabPlan × ℕ × State). AreVisits z.0 z.1 z.2 vs) (λ i. (a.plan i, a.job i, known_then d m (visit_events d.job v) a i)) b.1,
   ),
 )
@@ -65,16 +70,21 @@ all_did d [] d' is = did_none d d' is
 all_did d (x ∷ xs) d' (m, first, later) = did_then d m d' (x ∷ []) xs (adds_did d (x ∷ []) m first) (all_did m xs d' later)
 
 -- by which turn
-turn_by : (d : DeskView) (r : Turned) (d' : DeskView) (t : Took d r d') → IsTurnBy d.plan d.job (waited d) (known d) t.visits t.acts (visits_events d.job t.visits ++ t.acts)
+turn_by : (d : DeskView) (r : Turned) (d' : DeskView) (t : Took d r d')
+    → IsTurnBy d.plan d.job (waited d) (known d) t.visits t.acts (visits_events d.job t.visits ++ t.acts)
 turn_by d r d' t = let a = visits_did d t.visits t.visited t.all in record {
   edges = t.edges;
   due = a.1;
-  acts_due = subst (λ (z : LabPlan × State × ℕ). AreActs z.0 z.1 z.2 (waited d) t.acts) (λ i. (a.0.plan i, known_then d t.visited (visits_events d.job t.visits) a.0 i, a.0.job i)) t.due;
+  acts_due = subst (λ (z : LabPlan × State × ℕ). AreActs z.0 z.1 z.2 (waited d) t.acts)
+      (λ i. (a.0.plan i, known_then d t.visited (visits_events d.job t.visits) a.0 i, a.0.job i)) t.due;
   events_are = refl;
 }
 
 deeds_then : (d : DeskView) (r : Turned) (d' : DeskView) (t : Took d r d') → d'.deeds ≡ d.deeds ++ (visits_events d.job t.visits ++ t.acts)
-deeds_then d r d' t = ap (λ (z : DeskView). z.deeds) t.noted_is ∙ (did_then d t.visited t.acted (visits_events d.job t.visits) t.acts (visits_did d t.visits t.visited t.all).0 (all_did t.visited t.acts t.acted t.does)).deeds
+deeds_then d r d' t =
+    ap (λ (z : DeskView). z.deeds) t.noted_is
+    ∙ (did_then d t.visited t.acted (visits_events d.job t.visits) t.acts
+    (visits_did d t.visits t.visited t.all).0 (all_did t.visited t.acts t.acted t.does)).deeds
 
 pub took_is_turn : TookIsTurn
 took_is_turn = λ d r d' t. (visits_events d.job t.visits ++ t.acts, (t.visits, t.acts, turn_by d r d' t), deeds_then d r d' t)
@@ -87,14 +97,17 @@ idle_is_idle = λ d d' t. (
 )
 
 -- a visit that did nothing is a look
-not_done : (nothing lost : Bool) (n : ℕ) (events : List Event) → (if not nothing && not lost then 1 else 0) + n ≡ 0 → (nothing ≡ true → events ≡ []) → (if lost then [] else events) ≡ []
+not_done : (nothing lost : Bool) (n : ℕ) (events : List Event) → (if not nothing && not lost then 1 else 0) + n ≡ 0
+    → (nothing ≡ true → events ≡ []) → (if lost then [] else events) ≡ []
 not_done nothing true n events h none = refl
 not_done true false n events h none = none refl
 not_done false false n events h none = absurd (omega (arith, h))
 
 looks_alone : (j : ℕ) (vs : List Visit) → count is_done vs ≡ 0 → visits_events j vs ≡ map (λ (v : Visit). Look j v.edge v.saw) vs
 looks_alone j [] h = refl
-looks_alone j (v ∷ vs) h = λ i. Look j v.edge v.saw ∷ not_done (is_nothing v.moves) v.lost (count is_done vs) (events_of v.moves j v.edge) h (no_events v.moves j v.edge) i ++ looks_alone j vs (omega (arith, h)) i
+looks_alone j (v ∷ vs) h =
+    λ i. Look j v.edge v.saw ∷ not_done (is_nothing v.moves) v.lost (count is_done vs) (events_of v.moves j v.edge) h (no_events v.moves j v.edge) i
+    ++ looks_alone j vs (omega (arith, h)) i
 
 none_at_all : (acts : List Event) → once acts ≡ 0 → acts ≡ []
 none_at_all [] h = refl
@@ -102,7 +115,9 @@ none_at_all (x ∷ acts) h = absurd (omega (arith, h))
 
 pub moved_did_nothing : MovedDidNothing
 moved_did_nothing = λ d d' t. let none = t.says.0 in let z : visits_events d.job t.visits ++ t.acts ≡ map (λ (v : Visit). Look d.job v.edge v.saw) t.visits =
-    ap (λ l. visits_events d.job t.visits ++ l) (none_at_all t.acts (omega (arith, none))) ∙ (append-nil (visits_events d.job t.visits) ∙ looks_alone d.job t.visits (omega (arith, none))) in record {
+    ap (λ l. visits_events d.job t.visits ++ l) (none_at_all t.acts (omega (arith, none)))
+    ∙ (append-nil (visits_events d.job t.visits) ∙ looks_alone d.job t.visits (omega (arith, none))) in
+    record {
       visits = t.visits;
       edges = t.edges;
       looks = deeds_then d Moved d' t ∙ ap (λ l. d.deeds ++ l) z;

@@ -65,7 +65,8 @@ and_last false b c = refl
 
 seen-snoc : (a : List (ℕ × JobState)) (s : ℕ × JobState) → all_seen_retired (a ++ s ∷ []) ≡ (all_seen_retired a && has_retired s.1.drinking)
 seen-snoc [] s = sym (and_true (has_retired s.1.drinking))
-seen-snoc (t ∷ a) s = ap (λ (b : Bool). has_retired t.1.drinking && b) (seen-snoc a s) ∙ sym (and_last (has_retired t.1.drinking) (all_seen_retired a) (has_retired s.1.drinking))
+seen-snoc (t ∷ a) s = ap (λ (b : Bool). has_retired t.1.drinking && b) (seen-snoc a s)
+    ∙ sym (and_last (has_retired t.1.drinking) (all_seen_retired a) (has_retired s.1.drinking))
 
 -- ---- the other jobs below n were glanced at
 
@@ -78,13 +79,21 @@ pub record GlancedTo (d : DeskView) (n : ℕ) (r : Bool) (e : DeskView) : Type 0
   pub done : r ≡ true → (k : ℕ) → k < n → k ≢ d.job → drinking (state_after e.plan e.front) k ≡ Retired
 
 pub glanced_none : (d : DeskView) (r : Bool) → r ≡ is_retired d → GlancedTo d 0 r d
-glanced_none d r is = record { saw = []; each = refl; grew = grew_none d; clock = refl; says = is ∙ and_true (is_retired d); done = λ t k l apart. absurd (omega (arith, l)) }
+glanced_none d r is = record {
+  saw = [];
+  each = refl;
+  grew = grew_none d;
+  clock = refl;
+  says = is ∙ and_true (is_retired d);
+  done = λ t k l apart. absurd (omega (arith, l));
+}
 
 module _ (d : DeskView) (n : ℕ) (r : Bool) (e : DeskView) (a : GlancedTo d n r e) where
   pub glanced_skip : n ≡ d.job → GlancedTo d (n + 1) r e
   glanced_skip is = record {
     saw = a.saw;
-    each = a.each ∙ (sym (append-nil (other_jobs d.job n)) ∙ ((λ i. other_jobs d.job n ++ (if sym (eq-eqb n d.job is) i then [] else n ∷ [])) ∙ ap (other_jobs d.job) (sym (add-one n))));
+    each = a.each ∙ (sym (append-nil (other_jobs d.job n))
+        ∙ ((λ i. other_jobs d.job n ++ (if sym (eq-eqb n d.job is) i then [] else n ∷ [])) ∙ ap (other_jobs d.job) (sym (add-one n))));
     grew = a.grew;
     clock = a.clock;
     says = a.says;
@@ -102,20 +111,28 @@ module _ (d : DeskView) (n : ℕ) (r : Bool) (e : DeskView) (a : GlancedTo d n r
         (sym (ap (λ (x : JobState). x.drinking) last.0.3) ∙ retires t.seen.drinking (sym t.says ∙ is))
 
     there : (k : ℕ) → drinking (state_after e.plan e.front) k ≡ Retired → drinking (state_after e'.plan e'.front) k ≡ Retired
-    there k was = let more : e'.front ≡ e.front ++ (t.adds.between ++ Glance e.job n t.seen ∷ []) = t.adds.front ∙ append_assoc e.front t.adds.between (Glance e.job n t.seen ∷ []) in
+    there k was = let more : e'.front ≡ e.front ++ (t.adds.between ++ Glance e.job n t.seen ∷ []) = t.adds.front
+        ∙ append_assoc e.front t.adds.between (Glance e.job n t.seen ∷ []) in
         ap (λ h. drinking (state_after e'.plan h) k) more
-        ∙ retired_on e'.plan k e.front (t.adds.between ++ Glance e.job n t.seen ∷ []) (subst (IsHistory e'.plan) more t.adds.legal) (ap (λ (p : LabPlan). drinking (state_after p e.front) k) t.adds.plan ∙ was)
+        ∙ retired_on e'.plan k e.front (t.adds.between ++ Glance e.job n t.seen ∷ [])
+        (subst (IsHistory e'.plan) more t.adds.legal) (ap (λ (p : LabPlan). drinking (state_after p e.front) k) t.adds.plan ∙ was)
 
     pub glanced_more : (r' : Bool) → r' ≡ (b && r) → GlancedTo d (n + 1) r' e'
     glanced_more r' is = record {
       saw = a.saw ++ (n, t.seen) ∷ [];
-      each = map-append (λ (s : ℕ × JobState). s.0) a.saw ((n, t.seen) ∷ []) ∙ ((λ i. a.each i ++ (if sym (ne_eqb n d.job apart) i then [] else n ∷ [])) ∙ ap (other_jobs d.job) (sym (add-one n)));
-      grew = grew_as d (glances d.job a.saw ++ Glance e.job n t.seen ∷ []) (glances d.job (a.saw ++ (n, t.seen) ∷ [])) e' ((λ i. glances d.job a.saw ++ Glance (a.grew.job i) n t.seen ∷ []) ∙ sym (glances-append d.job a.saw ((n, t.seen) ∷ [])))
+      each = map-append (λ (s : ℕ × JobState). s.0) a.saw ((n, t.seen) ∷ [])
+          ∙ ((λ i. a.each i ++ (if sym (ne_eqb n d.job apart) i then [] else n ∷ [])) ∙ ap (other_jobs d.job) (sym (add-one n)));
+      grew = grew_as d (glances d.job a.saw ++ Glance e.job n t.seen ∷ []) (glances d.job (a.saw ++ (n, t.seen) ∷ [])) e'
+          ((λ i. glances d.job a.saw ++ Glance (a.grew.job i) n t.seen ∷ []) ∙ sym (glances-append d.job a.saw ((n, t.seen) ∷ [])))
           (grew_then d e e' (glances d.job a.saw) (Glance e.job n t.seen ∷ []) a.grew (adds_grew e (Glance e.job n t.seen ∷ []) e' t.adds));
       clock = t.adds.clock ∙ a.clock;
-      says = is ∙ ((λ i. t.says i && a.says i) ∙ (and_swap (is_retired d) (all_seen_retired a.saw) (has_retired t.seen.drinking) ∙ ap (λ (c : Bool). is_retired d && c) (sym (seen-snoc a.saw (n, t.seen)))));
+      says = is ∙ ((λ i. t.says i && a.says i) ∙ (and_swap (is_retired d) (all_seen_retired a.saw) (has_retired t.seen.drinking)
+          ∙ ap (λ (c : Bool). is_retired d && c) (sym (seen-snoc a.saw (n, t.seen)))));
       done = λ sure k l other. let q = both b r (sym is ∙ sure) in
-          elim (cases_eq k n) [ inl same ↦ subst (λ z. drinking (state_after e'.plan e'.front) z ≡ Retired) (sym same) (here q.0) | inr ne ↦ there k (a.done q.1 k (omega (arith, l, ne)) other) ];
+          elim (cases_eq k n) [
+            | inl same ↦ subst (λ z. drinking (state_after e'.plan e'.front) z ≡ Retired) (sym same) (here q.0)
+            | inr ne ↦ there k (a.done q.1 k (omega (arith, l, ne)) other)
+          ];
     }
 
   pub glanced_all : n ≡ length d.plan.jobs → IsAtRest d → Glanced d r e
@@ -136,4 +153,5 @@ module _ (d : DeskView) (n : ℕ) (r : Bool) (e : DeskView) (a : GlancedTo d n r
     mine : r ≡ true → drinking (state_after e.plan e.front) e.job ≡ Retired
     mine sure = let q = both (is_retired d) (all_seen_retired a.saw) (sym a.says ∙ sure) in
         ap (λ (x : Seat). x.phase.drinking) (own_known e.plan e.job e.front after.inside ∙ ap (λ l. seat (known_by e.plan l) e.job) after.whole)
-        ∙ ((λ i. drinking ((known_grown d e (glances d.job a.saw) a.grew ∙ learned_glances d.plan (known d) d.job a.saw) i) (a.grew.job i)) ∙ retires (drinking (known d) d.job) q.0)
+        ∙ ((λ i. drinking ((known_grown d e (glances d.job a.saw) a.grew ∙ learned_glances d.plan (known d) d.job a.saw) i) (a.grew.job i))
+        ∙ retires (drinking (known d) d.job) q.0)

@@ -30,7 +30,12 @@ stands_later (g ∷ gs) a b (before, after, is, rest) = (a ++ before, after, ap 
 
 pub stands-append : (gs hs : List (List Event)) (a b : List Event) → Stands gs a → Stands hs b → Stands (gs ++ hs) (a ++ b)
 stands-append [] hs a b s t = stands_later hs a b t
-stands-append (g ∷ gs) hs a b (before, after, is, rest) t = (before, after ++ b, ap (λ z. z ++ b) is ∙ (append_assoc before (g ++ after) b ∙ ap (λ z. before ++ z) (append_assoc g after b)), stands-append gs hs after b rest t)
+stands-append (g ∷ gs) hs a b (before, after, is, rest) t = (
+  before,
+  after ++ b,
+  ap (λ z. z ++ b) is ∙ (append_assoc before (g ++ after) b ∙ ap (λ z. before ++ z) (append_assoc g after b)),
+  stands-append gs hs after b rest t,
+)
 
 pub stands_more : (gs : List (List Event)) (a b : List Event) → Stands gs a → Stands gs (a ++ b)
 stands_more gs a b s = subst (λ z. Stands z (a ++ b)) (append-nil gs) (stands-append gs [] a b s tt)
@@ -42,10 +47,22 @@ flat-append (g ∷ a) b = ap (λ z. g ++ z) (flat-append a b) ∙ sym (append_as
 -- ---- how a desk grows
 
 pub adds_rests : (d : DeskView) (g : List Event) (e : DeskView) → Adds d g e → IsAtRest d → IsAtRest e
-adds_rests d g e a r = record { inside = subst (λ (z : LabPlan × ℕ). z.1 < length z.0.jobs) (λ i. (sym a.plan i, sym a.job i)) r.inside; legal = a.legal; whole = a.whole }
+adds_rests d g e a r = record {
+  inside = subst (λ (z : LabPlan × ℕ). z.1 < length z.0.jobs) (λ i. (sym a.plan i, sym a.job i)) r.inside;
+  legal = a.legal;
+  whole = a.whole;
+}
 
 abbrev pub adds_grew : (d : DeskView) (g : List Event) (e : DeskView) → Adds d g e → Grew d g e
-adds_grew d g e a = record { table = a.table; plan = a.plan; job = a.job; deeds = a.deeds; more = a.between ++ g; front = a.front ∙ append_assoc d.front a.between g; rests = adds_rests d g e a }
+adds_grew d g e a = record {
+  table = a.table;
+  plan = a.plan;
+  job = a.job;
+  deeds = a.deeds;
+  more = a.between ++ g;
+  front = a.front ∙ append_assoc d.front a.between g;
+  rests = adds_rests d g e a;
+}
 
 abbrev pub grew_none : (d : DeskView) → Grew d [] d
 grew_none d = record { table = refl; plan = refl; job = refl; deeds = sym (append-nil d.deeds); more = []; front = sym (append-nil d.front); rests = λ r. r }
@@ -63,11 +80,27 @@ grew_then d m e a b s t = record {
 
 -- the same events under another name
 abbrev pub grew_as : (d : DeskView) (a b : List Event) (e : DeskView) → a ≡ b → Grew d a e → Grew d b e
-grew_as d a b e is g = record { table = g.table; plan = g.plan; job = g.job; deeds = g.deeds ∙ ap (λ z. d.deeds ++ z) is; more = g.more; front = g.front; rests = g.rests }
+grew_as d a b e is g = record {
+  table = g.table;
+  plan = g.plan;
+  job = g.job;
+  deeds = g.deeds ∙ ap (λ z. d.deeds ++ z) is;
+  more = g.more;
+  front = g.front;
+  rests = g.rests;
+}
 
 -- a noted turn changes the clock alone
 abbrev grew_noted : (d : DeskView) (events : List Event) (e : DeskView) (thirsty : Bool) → Grew d events e → Grew d events (noted e thirsty)
-grew_noted d events e thirsty g = record { table = g.table; plan = g.plan; job = g.job; deeds = g.deeds; more = g.more; front = g.front; rests = λ r. let x : IsAtRest e = g.rests r in record { inside = x.inside; legal = x.legal; whole = x.whole } }
+grew_noted d events e thirsty g = record {
+  table = g.table;
+  plan = g.plan;
+  job = g.job;
+  deeds = g.deeds;
+  more = g.more;
+  front = g.front;
+  rests = λ r. let x : IsAtRest e = g.rests r in record { inside = x.inside; legal = x.legal; whole = x.whole };
+}
 
 -- what the job knows after the desk grew
 pub known_grown : (d e : DeskView) (events : List Event) → Grew d events e → known e ≡ learned_all d.plan (known d) events
@@ -80,7 +113,11 @@ pub record Goes (d : DeskView) (groups : List (List Event)) (e : DeskView) : Typ
   pub stands : Stands groups grew.more
 
 pub adds_goes : (d : DeskView) (g : List Event) (e : DeskView) → Adds d g e → Goes d (g ∷ []) e
-adds_goes d g e a = record { grew = grew_as d g (g ++ []) e (sym (append-nil g)) (adds_grew d g e a); clock = a.clock; stands = (a.between, [], ap (λ z. a.between ++ z) (sym (append-nil g)), tt) }
+adds_goes d g e a = record {
+  grew = grew_as d g (g ++ []) e (sym (append-nil g)) (adds_grew d g e a);
+  clock = a.clock;
+  stands = (a.between, [], ap (λ z. a.between ++ z) (sym (append-nil g)), tt);
+}
 
 goes_none : (d e : DeskView) → e ≡ d → Goes d [] e
 goes_none d e is = subst (Goes d []) (sym is) (record { grew = grew_none d; clock = refl; stands = tt })
@@ -108,16 +145,19 @@ tried d v e false false is lost t = adds_goes d (events_of v.moves d.job v.edge)
 
 pub visit_goes : (d : DeskView) (v : Visit) (e : DeskView) → Visits d v e → Goes d (visit_groups d.job v) e
 visit_goes d v e t = subst (λ j. Goes d ((Look d.job v.edge v.saw ∷ []) ∷ (if v.lost then [] else events_of v.moves j v.edge) ∷ []) e) t.look.job
-    (goes_then d t.looked e ((Look d.job v.edge v.saw ∷ []) ∷ []) _ (adds_goes d _ t.looked t.look) (tried t.looked v e (is_nothing v.moves) v.lost refl refl t.tries))
+    (goes_then d t.looked e ((Look d.job v.edge v.saw ∷ []) ∷ []) _ (adds_goes d _ t.looked t.look)
+    (tried t.looked v e (is_nothing v.moves) v.lost refl refl t.tries))
 
 pub visits_go : (d : DeskView) (vs : List Visit) (e : DeskView) → VisitsAll d vs e → Goes d (visits_groups d.job vs) e
 visits_go d [] e is = goes_none d e is
 visits_go d (v ∷ vs) e (m, first, later) = let a = visit_goes d v m first in
-    subst (λ j. Goes d (visit_groups d.job v ++ visits_groups j vs) e) a.grew.job (goes_then d m e (visit_groups d.job v) (visits_groups m.job vs) a (visits_go m vs e later))
+    subst (λ j. Goes d (visit_groups d.job v ++ visits_groups j vs) e) a.grew.job
+    (goes_then d m e (visit_groups d.job v) (visits_groups m.job vs) a (visits_go m vs e later))
 
 pub acts_go : (d : DeskView) (acts : List Event) (e : DeskView) → DoesAll d acts e → Goes d (map (λ (event : Event). event ∷ []) acts) e
 acts_go d [] e is = goes_none d e is
-acts_go d (x ∷ xs) e (m, first, later) = goes_then d m e ((x ∷ []) ∷ []) (map (λ (event : Event). event ∷ []) xs) (adds_goes d (x ∷ []) m first) (acts_go m xs e later)
+acts_go d (x ∷ xs) e (m, first, later) =
+    goes_then d m e ((x ∷ []) ∷ []) (map (λ (event : Event). event ∷ []) xs) (adds_goes d (x ∷ []) m first) (acts_go m xs e later)
 
 module _ (j : ℕ) where
   flat_visit : (v : Visit) → flat (visit_groups j v) ≡ visit_events j v
@@ -151,7 +191,10 @@ module _ (plan : LabPlan) (j : ℕ) where
 
   visits_plain : (vs : List Visit) → Each IsPlain (visits_events j vs)
   visits_plain [] = tt
-  visits_plain (v ∷ vs) = each-append IsPlain (visit_events j v) (visits_events j vs) (refl, plain_if v.lost (events_of v.moves j v.edge) (each_move plan j v.edge IsPlain v.moves refl refl refl refl refl)) (visits_plain vs)
+  visits_plain (v ∷ vs) = each-append IsPlain (visit_events j v) (visits_events j vs) (
+    refl,
+    plain_if v.lost (events_of v.moves j v.edge) (each_move plan j v.edge IsPlain v.moves refl refl refl refl refl),
+  ) (visits_plain vs)
 
   first_plain : (s : State) (w : ℕ) (list acts : List Event) → Each (λ x. Each IsPlain (whole_act x)) list → AreFirst plan s j w list acts → Each IsPlain acts
   first_plain s w [] acts all is = subst (Each IsPlain) (sym is) tt
@@ -159,31 +202,45 @@ module _ (plan : LabPlan) (j : ℕ) where
   first_plain s w (x ∷ later) acts all (inr (not_first, more)) = first_plain s w later acts all.1 more
 
   acts_plain : (s : State) (w : ℕ) (acts : List Event) → AreFirst plan s j w (order j) acts → Each IsPlain acts
-  acts_plain s w acts due = first_plain s w (order j) acts ((refl, tt), ((refl, (refl, tt)), ((refl, tt), ((refl, tt), ((refl, tt), ((refl, tt), ((refl, tt), ((refl, tt), ((refl, tt), tt))))))))) due
+  acts_plain s w acts due =
+      first_plain s w (order j) acts (
+        (refl, tt),
+        ((refl, (refl, tt)), ((refl, tt), ((refl, tt), ((refl, tt), ((refl, tt), ((refl, tt), ((refl, tt), ((refl, tt), tt)))))))),
+      ) due
 
-pub but_turn : (plan : LabPlan) (j w : ℕ) (s : State) (vs : List Visit) (acts events : List Event) → IsTurnBy plan j w s vs acts events → but_glances events ≡ flat (turn_groups j vs acts)
-but_turn plan j w s vs acts events t = ap but_glances t.events_are ∙ (but_plain (visits_events j vs ++ acts) (each-append IsPlain (visits_events j vs) acts (visits_plain plan j vs) (acts_plain plan j _ w acts t.acts_due)) ∙ sym (flat_turn j vs acts))
+pub but_turn : (plan : LabPlan) (j w : ℕ) (s : State) (vs : List Visit) (acts events : List Event)
+    → IsTurnBy plan j w s vs acts events → but_glances events ≡ flat (turn_groups j vs acts)
+but_turn plan j w s vs acts events t =
+    ap but_glances t.events_are
+    ∙ (but_plain (visits_events j vs ++ acts)
+    (each-append IsPlain (visits_events j vs) acts (visits_plain plan j vs) (acts_plain plan j _ w acts t.acts_due)) ∙ sym (flat_turn j vs acts))
 
 -- ---- turns
 
 -- by which turn
-pub took_by : (d : DeskView) (r : Turned) (e : DeskView) (t : Took d r e) → IsTurnBy d.plan d.job (waited d) (known d) t.visits t.acts (visits_events d.job t.visits ++ t.acts)
+pub took_by : (d : DeskView) (r : Turned) (e : DeskView) (t : Took d r e)
+    → IsTurnBy d.plan d.job (waited d) (known d) t.visits t.acts (visits_events d.job t.visits ++ t.acts)
 took_by d r e t = let a = visits_did d t.visits t.visited t.all in record {
   edges = t.edges;
   due = a.1;
-  acts_due = subst (λ (z : LabPlan × State × ℕ). AreFirst z.0 z.1 z.2 (waited d) (order z.2) t.acts) (λ i. (a.0.plan i, known_then d t.visited (visits_events d.job t.visits) a.0 i, a.0.job i)) t.due;
+  acts_due = subst (λ (z : LabPlan × State × ℕ). AreFirst z.0 z.1 z.2 (waited d) (order z.2) t.acts)
+      (λ i. (a.0.plan i, known_then d t.visited (visits_events d.job t.visits) a.0 i, a.0.job i)) t.due;
   events_are = refl;
 }
 
 pub took_goes : (d : DeskView) (r : Turned) (e : DeskView) (t : Took d r e) → Goes d (turn_groups d.job t.visits t.acts) t.acted
-took_goes d r e t = goes_then d t.visited t.acted (visits_groups d.job t.visits) (map (λ (event : Event). event ∷ []) t.acts) (visits_go d t.visits t.visited t.all) (acts_go t.visited t.acts t.acted t.does)
+took_goes d r e t = goes_then d t.visited t.acted (visits_groups d.job t.visits) (map (λ (event : Event). event ∷ []) t.acts)
+    (visits_go d t.visits t.visited t.all) (acts_go t.visited t.acts t.acted t.does)
 
 pub one_turn : OneTurn
 one_turn = λ d r e t.
-    let g = took_goes d r e t in let events : List Event = visits_events d.job t.visits ++ t.acts in let thirsty : Bool = is_waiting (drinking (known d) d.job) in
+    let g = took_goes d r e t in
+    let events : List Event = visits_events d.job t.visits ++ t.acts in
+    let thirsty : Bool = is_waiting (drinking (known d) d.job) in
     let same : flat (turn_groups d.job t.visits t.acts) ≡ events = flat_turn d.job t.visits t.acts in
     let grown : Grew d events t.acted = grew_as d (flat (turn_groups d.job t.visits t.acts)) events t.acted same g.grew in
-    let after : waited_after t.acted.job (waits t.acted.clock) thirsty (known t.acted) ≡ waited_next d.plan d.job (waits d.clock) (known d) events = λ i. waited_after (g.grew.job i) (waits (g.clock i)) thirsty (known_grown d t.acted events grown i) in
+    let after : waited_after t.acted.job (waits t.acted.clock) thirsty (known t.acted) ≡ waited_next d.plan d.job (waits d.clock) (known d) events =
+    λ i. waited_after (g.grew.job i) (waits (g.clock i)) thirsty (known_grown d t.acted events grown i) in
     subst (TookTurns 1 d) (sym t.noted_is) (record {
       events = events;
       grew = grew_noted d events t.acted thirsty grown;
@@ -195,7 +252,15 @@ one_turn = λ d r e t.
     })
 
 pub glances_alone : GlancesAlone
-glances_alone = λ d e events g none clock. record { events = events; grew = g; groups = []; grouped = (refl, ap waits clock); all = none; stands = tt; counted = ap (λ (k : Clock). k.turns) clock }
+glances_alone = λ d e events g none clock. record {
+  events = events;
+  grew = g;
+  groups = [];
+  grouped = (refl, ap waits clock);
+  all = none;
+  stands = tt;
+  counted = ap (λ (k : Clock). k.turns) clock;
+}
 
 pub hearing_alone : HearingAlone
 hearing_alone = λ d e others h. glances_alone d e [] (record {
@@ -205,7 +270,11 @@ hearing_alone = λ d e others h. glances_alone d e [] (record {
   deeds = h.deeds ∙ sym (append-nil d.deeds);
   more = h.more;
   front = h.front;
-  rests = λ r. record { inside = subst (λ (z : LabPlan × ℕ). z.1 < length z.0.jobs) (λ i. (sym h.plan i, sym h.job i)) r.inside; legal = h.legal; whole = h.whole };
+  rests = λ r. record {
+    inside = subst (λ (z : LabPlan × ℕ). z.1 < length z.0.jobs) (λ i. (sym h.plan i, sym h.job i)) r.inside;
+    legal = h.legal;
+    whole = h.whole;
+  };
 }) refl h.clock
 
 -- ---- turns after turns
@@ -213,7 +282,8 @@ hearing_alone = λ d e others h. glances_alone d e [] (record {
 pub but-append : (a b : List Event) → but_glances (a ++ b) ≡ but_glances a ++ but_glances b
 but-append [] b = refl
 but-append (x ∷ a) b = at (is_glance x) (but-append a b) where
-  at : (c : Bool) → but_glances (a ++ b) ≡ but_glances a ++ but_glances b → (if c then but_glances (a ++ b) else x ∷ but_glances (a ++ b)) ≡ (if c then but_glances a else x ∷ but_glances a) ++ but_glances b
+  at : (c : Bool) → but_glances (a ++ b) ≡ but_glances a ++ but_glances b
+      → (if c then but_glances (a ++ b) else x ∷ but_glances (a ++ b)) ≡ (if c then but_glances a else x ∷ but_glances a) ++ but_glances b
   at true e = e
   at false e = ap (λ l. x ∷ l) e
 
@@ -240,28 +310,37 @@ learned_glance plan s (Withdraw j) is = absurd (cc)
 pub learned_but : (plan : LabPlan) (s : State) (events : List Event) → learned_all plan s (but_glances events) ≡ learned_all plan s events
 learned_but plan s [] = refl
 learned_but plan s (x ∷ xs) = at (is_glance x) refl (λ t. learned_but plan t xs) where
-  at : (c : Bool) → is_glance x ≡ c → ((t : State) → learned_all plan t (but_glances xs) ≡ learned_all plan t xs) → learned_all plan s (if c then but_glances xs else x ∷ but_glances xs) ≡ learned_all plan (learned plan s x) xs
+  at : (c : Bool) → is_glance x ≡ c → ((t : State) → learned_all plan t (but_glances xs) ≡ learned_all plan t xs)
+      → learned_all plan s (if c then but_glances xs else x ∷ but_glances xs) ≡ learned_all plan (learned plan s x) xs
   at true is rest = rest s ∙ ap (λ (z : State). learned_all plan z xs) (sym (learned_glance plan s x is))
   at false is rest = rest (learned plan s x)
 
-pub grouped-append : (plan : LabPlan) (j n k : ℕ) (w v u : Waited) (s : State) (a b : List (List Event)) → AreGrouped plan j n w s a v → AreGrouped plan j k v (learned_all plan s (flat a)) b u → AreGrouped plan j (n + k) w s (a ++ b) u
-grouped-append plan j zero k w v u s a b (none, is) t = subst (λ (z : ℕ × Waited × List (List Event)). AreGrouped plan j z.0 z.1 s (z.2 ++ b) u) (λ i. (zero_more i, is i, sym none i)) (subst (λ (z : List (List Event)). AreGrouped plan j k v (learned_all plan s (flat z)) b u) none t) where
-  zero_more : k ≡ zero + k
-  zero_more = omega arith
-grouped-append plan j (suc n) k w v u s a b (visits, acts, first, later, is, turn, rest) t = subst (λ (z : ℕ). AreGrouped plan j z w s (a ++ b) u) one_more_there (
-  visits,
-  acts,
-  first,
-  later ++ b,
-  ap (λ z. z ++ b) is ∙ append_assoc (turn_groups j visits acts) later b,
-  turn,
-  grouped-append plan j n k (waited_next plan j w s first) v u (learned_all plan s first) later b rest (subst (λ (z : State). AreGrouped plan j k v z b u) now t),
-) where
-  one_more_there : suc (n + k) ≡ suc n + k
-  one_more_there = omega arith
+pub grouped-append : (plan : LabPlan) (j n k : ℕ) (w v u : Waited) (s : State) (a b : List (List Event))
+    → AreGrouped plan j n w s a v → AreGrouped plan j k v (learned_all plan s (flat a)) b u → AreGrouped plan j (n + k) w s (a ++ b) u
+grouped-append plan j zero k w v u s a b (none, is) t =
+    subst (λ (z : ℕ × Waited × List (List Event)). AreGrouped plan j z.0 z.1 s (z.2 ++ b) u) (λ i. (zero_more i, is i, sym none i))
+    (subst (λ (z : List (List Event)). AreGrouped plan j k v (learned_all plan s (flat z)) b u) none t) where
+      zero_more : k ≡ zero + k
+      zero_more = omega arith
+grouped-append plan j (suc n) k w v u s a b (visits, acts, first, later, is, turn, rest) t =
+    subst (λ (z : ℕ). AreGrouped plan j z w s (a ++ b) u) one_more_there (
+      visits,
+      acts,
+      first,
+      later ++ b,
+      ap (λ z. z ++ b) is ∙ append_assoc (turn_groups j visits acts) later b,
+      turn,
+      grouped-append plan j n k (waited_next plan j w s first) v u
+          (learned_all plan s first) later b rest (subst (λ (z : State). AreGrouped plan j k v z b u) now t),
+    ) where
+      one_more_there : suc (n + k) ≡ suc n + k
+      one_more_there = omega arith
 
-  now : learned_all plan s (flat a) ≡ learned_all plan (learned_all plan s first) (flat later)
-  now = ap (λ z. learned_all plan s (flat z)) is ∙ (ap (learned_all plan s) (flat-append (turn_groups j visits acts) later ∙ ap (λ z. z ++ flat later) (flat_turn j visits acts ∙ sym turn.events_are)) ∙ learned_all-append plan s first (flat later))
+      now : learned_all plan s (flat a) ≡ learned_all plan (learned_all plan s first) (flat later)
+      now =
+          ap (λ z. learned_all plan s (flat z)) is
+          ∙ (ap (learned_all plan s) (flat-append (turn_groups j visits acts) later ∙ ap (λ z. z ++ flat later) (flat_turn j visits acts ∙ sym turn.events_are))
+          ∙ learned_all-append plan s first (flat later))
 
 turns_after-add : (n k turns : ℕ) → turns_after (n + k) turns ≡ turns_after k (turns_after n turns)
 turns_after-add zero k turns = ap (λ (z : ℕ). turns_after z turns) none where
@@ -273,12 +352,15 @@ turns_after-add (suc n) k turns = ap (λ (z : ℕ). turns_after z turns) one ∙
 
 pub turns_go_on : TurnsGoOn
 turns_go_on = λ n k d m e a t.
-    let now : known m ≡ learned_all d.plan (known d) (flat a.groups) = known_grown d m a.events a.grew ∙ (sym (learned_but d.plan (known d) a.events) ∙ ap (learned_all d.plan (known d)) a.all) in record {
+    let now : known m ≡ learned_all d.plan (known d) (flat a.groups) =
+    known_grown d m a.events a.grew ∙ (sym (learned_but d.plan (known d) a.events) ∙ ap (learned_all d.plan (known d)) a.all) in
+    record {
       events = a.events ++ t.events;
       grew = grew_then d m e a.events t.events a.grew t.grew;
       groups = a.groups ++ t.groups;
       grouped = grouped-append d.plan d.job n k (waits d.clock) (waits m.clock) (waits e.clock) (known d) a.groups t.groups a.grouped
-          (subst (λ (z : LabPlan × ℕ × State). AreGrouped z.0 z.1 k (waits m.clock) z.2 t.groups (waits e.clock)) (λ i. (a.grew.plan i, a.grew.job i, now i)) t.grouped);
+          (subst (λ (z : LabPlan × ℕ × State). AreGrouped z.0 z.1 k (waits m.clock) z.2 t.groups (waits e.clock))
+          (λ i. (a.grew.plan i, a.grew.job i, now i)) t.grouped);
       all = but-append a.events t.events ∙ ((λ i. a.all i ++ t.all i) ∙ sym (flat-append a.groups t.groups));
       stands = stands-append a.groups t.groups a.grew.more t.grew.more a.stands t.stands;
       counted = t.counted ∙ (ap (turns_after k) a.counted ∙ sym (turns_after-add n k d.clock.turns));
@@ -288,7 +370,8 @@ turns_go_on = λ n k d m e a t.
 
 pub groups_are_turns : GroupsAreTurns
 groups_are_turns = at where
-  at : (plan : LabPlan) (j n : ℕ) (w : Waited) (s : State) (groups : List (List Event)) (w' : Waited) → AreGrouped plan j n w s groups w' → AreTurns plan j n w s (flat groups) w'
+  at : (plan : LabPlan) (j n : ℕ) (w : Waited) (s : State) (groups : List (List Event)) (w' : Waited)
+      → AreGrouped plan j n w s groups w' → AreTurns plan j n w s (flat groups) w'
   at plan j zero w s groups w' (none, is) = (ap flat none, is)
   at plan j (suc n) w s groups w' (visits, acts, first, later, is, turn, rest) = (
     visits,

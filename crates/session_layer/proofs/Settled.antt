@@ -7,7 +7,8 @@ use Rattle.legal_steps.specs.State.{State}
 use Rattle.turns.specs.Acts.{Counts, AreActs, AreFirst, IsSettled, whole_act}
 
 -- an act that the list passes doesn't count
-passed : (plan : LabPlan) (s : State) (j waited : ℕ) (x : Event) (later : List Event) → ¬ ([] ≡ whole_act x) → AreFirst plan s j waited (x ∷ later) [] → ¬ Counts plan s j waited x × AreFirst plan s j waited later []
+passed : (plan : LabPlan) (s : State) (j waited : ℕ) (x : Event) (later : List Event) → ¬ ([] ≡ whole_act x)
+    → AreFirst plan s j waited (x ∷ later) [] → ¬ Counts plan s j waited x × AreFirst plan s j waited later []
 passed plan s j waited x later some first = elim first [ inl a ↦ absurd (some a.1) | inr b ↦ b ]
 
 pub none_due : (plan : LabPlan) (s : State) (j waited : ℕ) → AreActs plan s j waited [] → IsSettled plan s j
@@ -32,7 +33,9 @@ none_due plan s j waited first =
       no_retire = λ may. l.0 (may, tt);
     }
 
-pub settled_acts : (plan : LabPlan) (s : State) (j waited : ℕ) (events : List Event) → IsSettled plan s j → (Counts plan s j waited (Withdraw j) × (events ≡ Withdraw j ∷ [])) ⊎ (¬ Counts plan s j waited (Withdraw j) × (events ≡ [])) → AreActs plan s j waited events
+pub settled_acts : (plan : LabPlan) (s : State) (j waited : ℕ) (events : List Event) → IsSettled plan s j
+    → (Counts plan s j waited (Withdraw j) × (events ≡ Withdraw j ∷ [])) ⊎ (¬ Counts plan s j waited (Withdraw j) × (events ≡ []))
+    → AreActs plan s j waited events
 settled_acts plan s j waited events none which = inr (
   λ c. none.no_quit c.0,
   inr (
@@ -41,7 +44,13 @@ settled_acts plan s j waited events none which = inr (
       λ c. none.no_drink c.0,
       elim which [
         | inl up ↦ inl up
-        | inr not_up ↦ inr (not_up.0, inr (λ c. none.no_leave c.0, inr (λ c. none.no_sit c.0, inr (λ c. none.no_thirst c.0, inr (λ c. none.no_hunger c.0, inr (λ c. none.no_retire c.0, not_up.1))))))
+        | inr not_up ↦ inr (
+          not_up.0,
+          inr (
+            λ c. none.no_leave c.0,
+            inr (λ c. none.no_sit c.0, inr (λ c. none.no_thirst c.0, inr (λ c. none.no_hunger c.0, inr (λ c. none.no_retire c.0, not_up.1)))),
+          ),
+        )
       ],
     ),
   ),

@@ -42,11 +42,17 @@ module _ (d m : DeskView) (e : ℕ) (x : EdgeState) (mv : EdgeMoves) (look : Add
     lost = λ i. if not (is i) && false then 1 else 0;
   }
 
-  pub visited_lost : (d' : DeskView) (y : EdgeState) → is_nothing mv ≡ false → Adds m [] d' → y ≡ edge (shown d') e → y ≢ edge (known m) e → IsVisited d e answers.Lost d'
+  pub visited_lost : (d' : DeskView) (y : EdgeState) → is_nothing mv ≡ false → Adds m [] d'
+      → y ≡ edge (shown d') e → y ≢ edge (known m) e → IsVisited d e answers.Lost d'
   visited_lost d' y is adds there other = record {
     visit = visit e x mv true;
     edge = refl;
-    visits = record { looked = m; look = look; due = due; tries = subst (λ b. Chosen b (d' ≡ m) (Adds m [] d' × (edge (shown d') e ≢ edge (known m) e))) (sym is) (adds, (λ q. other (there ∙ q))) };
+    visits = record {
+      looked = m;
+      look = look;
+      due = due;
+      tries = subst (λ b. Chosen b (d' ≡ m) (Adds m [] d' × (edge (shown d') e ≢ edge (known m) e))) (sym is) (adds, (λ q. other (there ∙ q)));
+    };
     done = λ i. if not (is i) && false then 1 else 0;
     lost = λ i. if not (is i) && true then 1 else 0;
   }
@@ -57,13 +63,16 @@ pub record Frame (d e : DeskView) : Type 0 where
   pub job : e.job ≡ d.job
   pub table : e.table ≡ d.table
 
-tries_frame : (d : DeskView) (v : Visit) (d' : DeskView) (b c : Bool) → Chosen b (d' ≡ d) (Chosen c (Adds d [] d' × (edge (shown d') v.edge ≢ edge (known d) v.edge)) (Adds d (events_of v.moves d.job v.edge) d')) → Frame d d'
+tries_frame : (d : DeskView) (v : Visit) (d' : DeskView) (b c : Bool)
+    → Chosen b (d' ≡ d) (Chosen c (Adds d [] d' × (edge (shown d') v.edge ≢ edge (known d) v.edge)) (Adds d (events_of v.moves d.job v.edge) d')) → Frame d d'
 tries_frame d v d' true c t = record { plan = ap (λ (z : DeskView). z.plan) t; job = ap (λ (z : DeskView). z.job) t; table = ap (λ (z : DeskView). z.table) t }
 tries_frame d v d' false true t = record { plan = t.0.plan; job = t.0.job; table = t.0.table }
 tries_frame d v d' false false t = record { plan = t.plan; job = t.job; table = t.table }
 
 pub visits_frame : (d : DeskView) (v : Visit) (d' : DeskView) → Visits d v d' → Frame d d'
-visits_frame d v d' t = let f = tries_frame t.looked v d' (is_nothing v.moves) v.lost t.tries in record { plan = f.plan ∙ t.look.plan; job = f.job ∙ t.look.job; table = f.table ∙ t.look.table }
+visits_frame d v d' t =
+    let f = tries_frame t.looked v d' (is_nothing v.moves) v.lost t.tries in
+    record { plan = f.plan ∙ t.look.plan; job = f.job ∙ t.look.job; table = f.table ∙ t.look.table }
 
 pub visits-snoc : (d m d' : DeskView) (vs : List Visit) (v : Visit) → VisitsAll d vs m → Visits m v d' → VisitsAll d (vs ++ v ∷ []) d'
 visits-snoc d m d' [] v is last = (d', subst (λ (z : DeskView). Visits z v d') is last, refl)
@@ -76,7 +85,8 @@ count-snoc f (x ∷ vs) v = let e = count-snoc f vs v in omega (arith, e)
 pub along_none : (d : DeskView) → Along d [] 0 0 d
 along_none d = record { visits = []; edges = refl; all = refl; done_is = refl; lost_is = refl; plan = refl; job = refl; table = refl }
 
-pub along_more : (d m d' : DeskView) (es : List ℕ) (e done lost : ℕ) (r : Visited) → Along d es done lost m → IsVisited m e r d' → Along d (es ++ e ∷ []) (done + done_by r) (lost + lost_by r) d'
+pub along_more : (d m d' : DeskView) (es : List ℕ) (e done lost : ℕ) (r : Visited) → Along d es done lost m
+    → IsVisited m e r d' → Along d (es ++ e ∷ []) (done + done_by r) (lost + lost_by r) d'
 along_more d m d' es e done lost r a v = let f = visits_frame m v.visit d' v.visits in record {
   visits = a.visits ++ v.visit ∷ [];
   edges = map-append (λ (x : Visit). x.edge) a.visits (v.visit ∷ []) ∙ (λ i. a.edges i ++ v.edge i ∷ []);
@@ -88,7 +98,8 @@ along_more d m d' es e done lost r a v = let f = visits_frame m v.visit d' v.vis
   table = f.table ∙ a.table;
 }
 
-pub took : (d m n d' : DeskView) (w done lost acted : ℕ) (thirsty : Bool) (r : Turned) → Along d (edges_of d.plan d.job) done lost m → IsActed m w acted n → w ≡ waited d → thirsty ≡ is_waiting (drinking (known d) d.job) → d' ≡ noted n thirsty → Says r (done + acted) lost → Took d r d'
+pub took : (d m n d' : DeskView) (w done lost acted : ℕ) (thirsty : Bool) (r : Turned) → Along d (edges_of d.plan d.job) done lost m
+    → IsActed m w acted n → w ≡ waited d → thirsty ≡ is_waiting (drinking (known d) d.job) → d' ≡ noted n thirsty → Says r (done + acted) lost → Took d r d'
 took d m n d' w done lost acted thirsty r a b is_w is_thirsty is_noted says = record {
   visits = a.visits;
   edges = a.edges;
@@ -111,7 +122,10 @@ filter_short p [] = omega arith
 filter_short p (x ∷ xs) = shorter (p x) x (filter p xs) xs (filter_short p xs)
 
 pub few_own : (plan : LabPlan) (j : ℕ) → length (edges_of plan j) ≤ length (edges plan)
-few_own plan j = let n = length-range_with_len 0 (length (edges plan)) in let h = filter_short (λ e. ((ends plan e).0 == j) || ((ends plan e).1 == j)) (range_with_len 0 (length (edges plan))) in omega (arith, n, h)
+few_own plan j =
+    let n = length-range_with_len 0 (length (edges plan)) in
+    let h = filter_short (λ e. ((ends plan e).0 == j) || ((ends plan e).1 == j)) (range_with_len 0 (length (edges plan))) in
+    omega (arith, n, h)
 
 pub acted_once : (d : DeskView) (waited n : ℕ) (d' : DeskView) → IsActed d waited n d' → n ≤ 1
 acted_once d waited n d' a = at a.events a.says where

@@ -25,7 +25,8 @@ abbrev pub turns_after : ℕ → ℕ → ℕ
 turns_after zero turns = turns
 turns_after (suc n) turns = turns_after n (one_more 18446744073709551615 turns)
 
--- The desk took n turns, between which it may have glanced and heard of others. But for Glances its record grew by these turns alone, and their groups stand unbroken, in this order, in what it saw meanwhile
+-- The desk took n turns, between which it may have glanced and heard of others. But for Glances its record grew by these turns alone, and their groups stand
+-- unbroken, in this order, in what it saw meanwhile
 pub record TookTurns (n : ℕ) (d e : DeskView) : Type 0 where
   pub events : List Event
   pub grew : Grew d events e
@@ -55,4 +56,5 @@ TurnsGoOn = (n k : ℕ) (d m e : DeskView) → TookTurns n d m → TookTurns k m
 
 -- groups of turns are turns one after another
 abbrev pub GroupsAreTurns : Type 0
-GroupsAreTurns = (plan : LabPlan) (j n : ℕ) (w : Waited) (s : State) (groups : List (List Event)) (w' : Waited) → AreGrouped plan j n w s groups w' → AreTurns plan j n w s (flat groups) w'
+GroupsAreTurns = (plan : LabPlan) (j n : ℕ) (w : Waited) (s : State) (groups : List (List Event)) (w' : Waited)
+    → AreGrouped plan j n w s groups w' → AreTurns plan j n w s (flat groups) w'

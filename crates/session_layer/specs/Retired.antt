@@ -47,7 +47,8 @@ pub record Sees (d : DeskView) (other : ℕ) (r : Bool) (e : DeskView) : Type 0 
   pub says : r ≡ has_retired seen.drinking
   pub adds : Adds d (Glance d.job other seen ∷ []) e
 
--- The desk glanced at every other job, in ascending order. It answers true exactly where it is retired and each glance saw a retired job; then all are, in the history that it has seen
+-- The desk glanced at every other job, in ascending order. It answers true exactly where it is retired and each glance saw a retired job; then all are, in the
+-- history that it has seen
 pub record Glanced (d : DeskView) (r : Bool) (e : DeskView) : Type 0 where
   pub saw : List (ℕ × JobState)
   pub each : map (λ (s : ℕ × JobState). s.0) saw ≡ other_jobs d.job (length d.plan.jobs)

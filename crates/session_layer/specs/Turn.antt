@@ -22,7 +22,8 @@ Chosen false P Q = Q
 
 -- the moves were done, as one group; or their exchange found another word; or none was due
 abbrev pub Tries : DeskView → Visit → DeskView → Type 0
-Tries d v d' = Chosen (is_nothing v.moves) (d' ≡ d) (Chosen v.lost (Adds d [] d' × (edge (shown d') v.edge ≢ edge (known d) v.edge)) (Adds d (events_of v.moves d.job v.edge) d'))
+Tries d v d' = Chosen (is_nothing v.moves) (d' ≡ d)
+    (Chosen v.lost (Adds d [] d' × (edge (shown d') v.edge ≢ edge (known d) v.edge)) (Adds d (events_of v.moves d.job v.edge) d'))
 
 -- the edge was looked at, and what was due after the look was tried
 pub record Visits (d : DeskView) (v : Visit) (d' : DeskView) : Type 0 where
@@ -98,7 +99,8 @@ pub record Took (d : DeskView) (r : Turned) (d' : DeskView) : Type 0 where
 
 -- what a desk did in a turn is a turn of its record
 abbrev pub TookIsTurn : Type 0
-TookIsTurn = (d : DeskView) (r : Turned) (d' : DeskView) → Took d r d' → (events : List Event) × IsTurn d.plan d.job (waited d) (known d) events × (d'.deeds ≡ d.deeds ++ events)
+TookIsTurn = (d : DeskView) (r : Turned) (d' : DeskView) → Took d r d'
+    → (events : List Event) × IsTurn d.plan d.job (waited d) (known d) events × (d'.deeds ≡ d.deeds ++ events)
 
 -- the answer Idle is given for an idle turn alone
 abbrev pub IdleIsIdle : Type 0

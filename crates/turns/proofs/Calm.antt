@@ -23,7 +23,11 @@ none n h = grind (arith, nat_tests)
 
 pub nothing_due_is_calm : NothingDueIsCalm
 nothing_due_is_calm = λ plan s j e m due h. let a = both _ _ h in let b = both _ _ a.0 in let c = both _ _ b.0 in let f = both _ _ c.0 in
-    let gf : m.give_fork ≡ false = untrue m.give_fork f.0 in let gb : (m.give_bottles == 0) ≡ true = f.1 in let af : m.ask_fork ≡ false = untrue m.ask_fork c.1 in let ab : (m.ask_bottles == 0) ≡ true = b.1 in let so : m.soil ≡ false = untrue m.soil a.1 in
+    let gf : m.give_fork ≡ false = untrue m.give_fork f.0 in
+    let gb : (m.give_bottles == 0) ≡ true = f.1 in
+    let af : m.ask_fork ≡ false = untrue m.ask_fork c.1 in
+    let ab : (m.ask_bottles == 0) ≡ true = b.1 in
+    let so : m.soil ≡ false = untrue m.soil a.1 in
     let one : fork_gone plan s j e m ≡ s = λ i. after_if plan (gf i) (GiveFork j e) s in
     let two : bottles_gone plan s j e m ≡ s = (λ i. after_if plan (not (gb i)) (GiveBottles j e m.give_bottles) (fork_gone plan s j e m)) ∙ one in
     let three : fork_asked_for plan s j e m ≡ s = (λ i. after_if plan (af i) (AskFork j e) (bottles_gone plan s j e m)) ∙ two in
@@ -34,9 +38,11 @@ nothing_due_is_calm = λ plan s j e m due h. let a = both _ _ h in let b = both 
       no_ask = λ may. false≢true (sym af ∙ due.forks.ask_fork.1 (subst (λ (t : State). May plan t (AskFork j e)) (sym two) may));
       no_soil = λ may. false≢true (sym so ∙ due.forks.soil.1 (subst (λ (t : State). May plan t (Soil j e)) (sym four) may));
       no_bottles_given = λ set may. let moved = subst (λ (t : State). May plan t (GiveBottles j e set)) (sym one) may in
-          moved.1.not_empty (empty_set (length (bottles plan e)) set moved.1.of_edge (λ k l member. has_none k (subst (λ z. Has z k) (none m.give_bottles gb) ((g.just k l).1 (moved.2 k member)))));
+          moved.1.not_empty (empty_set (length (bottles plan e)) set moved.1.of_edge
+          (λ k l member. has_none k (subst (λ z. Has z k) (none m.give_bottles gb) ((g.just k l).1 (moved.2 k member)))));
       no_bottles_asked = λ set may. let moved = subst (λ (t : State). May plan t (AskBottles j e set)) (sym three) may in
-          moved.2.not_empty (empty_set (length (bottles plan e)) set moved.2.of_edge (λ k l member. has_none k (subst (λ z. Has z k) (none m.ask_bottles ab) ((w.just k l).1 (may.1, moved.3 k member)))));
+          moved.2.not_empty (empty_set (length (bottles plan e)) set moved.2.of_edge
+          (λ k l member. has_none k (subst (λ z. Has z k) (none m.ask_bottles ab) ((w.just k l).1 (may.1, moved.3 k member)))));
     }
 
 alone : (k i : ℕ) → Has (2 ^ k) i → i ≡ k
@@ -58,14 +64,16 @@ calm_has_nothing_due = λ plan s j e own calm. record {
       of_edge = pow_pos (length (bottles plan e));
       just = λ k l. (
         (λ h. absurd (has_none k h)),
-        (λ g. absurd (calm.no_bottles_given (2 ^ k) (own, one_bottle plan e k l, λ i member. subst (λ z. MayGiveBottle plan s j e z) (sym (alone k i member)) g))),
+        (λ g. absurd (calm.no_bottles_given (2 ^ k)
+            (own, one_bottle plan e k l, λ i member. subst (λ z. MayGiveBottle plan s j e z) (sym (alone k i member)) g))),
       );
     };
     ask_bottles = record {
       of_edge = pow_pos (length (bottles plan e));
       just = λ k l. (
         (λ h. absurd (has_none k h)),
-        (λ g. absurd (calm.no_bottles_asked (2 ^ k) (own, g.0, one_bottle plan e k l, λ i member. subst (λ z. MayAskBottle plan s j e z) (sym (alone k i member)) g.1))),
+        (λ g. absurd (calm.no_bottles_asked (2 ^ k)
+            (own, g.0, one_bottle plan e k l, λ i member. subst (λ z. MayAskBottle plan s j e z) (sym (alone k i member)) g.1))),
       );
     };
   };
@@ -78,26 +86,36 @@ same_test false false M p q = refl
 
 same_set : (plan : LabPlan) (e a b : ℕ) (P : ℕ → Type 0) → IsGreatest plan e a P → IsGreatest plan e b P → a ≡ b
 unfolding Has
-same_set plan e a b P p q = same_from_bits_below (length (bottles plan e)) a b p.of_edge q.of_edge (λ k l. let x = p.just k l in let y = q.just k l in elim (one_or_none (bit_at a k) (bit_at-lt a k)) [
-  | inr a1 ↦ a1 ∙ sym (y.1 (x.0 a1))
-  | inl a0 ↦ elim (one_or_none (bit_at b k) (bit_at-lt b k)) [
-    | inl b0 ↦ a0 ∙ sym b0
-    | inr b1 ↦ let z = x.1 (y.0 b1) in absurd (omega (arith, z, a0))
-  ]
-])
+same_set plan e a b P p q =
+    same_from_bits_below (length (bottles plan e)) a b p.of_edge q.of_edge
+    (λ k l. let x = p.just k l in let y = q.just k l in elim (one_or_none (bit_at a k) (bit_at-lt a k)) [
+      | inr a1 ↦ a1 ∙ sym (y.1 (x.0 a1))
+      | inl a0 ↦ elim (one_or_none (bit_at b k) (bit_at-lt b k)) [
+        | inl b0 ↦ a0 ∙ sym b0
+        | inr b1 ↦ let z = x.1 (y.0 b1) in absurd (omega (arith, z, a0))
+      ]
+    ])
 
 pub one_group_is_due : OneGroupIsDue
 one_group_is_due = λ plan s j e m r p q.
     let gf : m.give_fork ≡ r.give_fork = same_test m.give_fork r.give_fork (May plan s (GiveFork j e)) p.forks.give_fork q.forks.give_fork in
     let one : fork_gone plan s j e m ≡ fork_gone plan s j e r = λ i. after_if plan (gf i) (GiveFork j e) s in
-    let gb : m.give_bottles ≡ r.give_bottles = same_set plan e m.give_bottles r.give_bottles (MayGiveBottle plan (fork_gone plan s j e r) j e) (subst (λ (t : State). IsGreatest plan e m.give_bottles (MayGiveBottle plan t j e)) one p.bottles.give_bottles) q.bottles.give_bottles in
+    let gb : m.give_bottles ≡ r.give_bottles =
+    same_set plan e m.give_bottles r.give_bottles (MayGiveBottle plan (fork_gone plan s j e r) j e)
+    (subst (λ (t : State). IsGreatest plan e m.give_bottles (MayGiveBottle plan t j e)) one p.bottles.give_bottles) q.bottles.give_bottles in
     let two : bottles_gone plan s j e m ≡ bottles_gone plan s j e r = λ i. after_if plan (not (gb i == 0)) (GiveBottles j e (gb i)) (one i) in
-    let af : m.ask_fork ≡ r.ask_fork = same_test m.ask_fork r.ask_fork (May plan (bottles_gone plan s j e r) (AskFork j e)) (subst (λ (t : State). (m.ask_fork ≡ true) ↔ May plan t (AskFork j e)) two p.forks.ask_fork) q.forks.ask_fork in
+    let af : m.ask_fork ≡ r.ask_fork =
+    same_test m.ask_fork r.ask_fork (May plan (bottles_gone plan s j e r) (AskFork j e))
+    (subst (λ (t : State). (m.ask_fork ≡ true) ↔ May plan t (AskFork j e)) two p.forks.ask_fork) q.forks.ask_fork in
     let three : fork_asked_for plan s j e m ≡ fork_asked_for plan s j e r = λ i. after_if plan (af i) (AskFork j e) (two i) in
-    let ab : m.ask_bottles ≡ r.ask_bottles = same_set plan e m.ask_bottles r.ask_bottles (λ k. (drinking s j ≡ Thirsty) × MayAskBottle plan (fork_asked_for plan s j e r) j e k)
-    (subst (λ (t : State). IsGreatest plan e m.ask_bottles (λ k. (drinking s j ≡ Thirsty) × MayAskBottle plan t j e k)) three p.bottles.ask_bottles) q.bottles.ask_bottles in
+    let ab : m.ask_bottles ≡ r.ask_bottles =
+    same_set plan e m.ask_bottles r.ask_bottles (λ k. (drinking s j ≡ Thirsty) × MayAskBottle plan (fork_asked_for plan s j e r) j e k)
+    (subst (λ (t : State). IsGreatest plan e m.ask_bottles (λ k. (drinking s j ≡ Thirsty) × MayAskBottle plan t j e k)) three p.bottles.ask_bottles)
+    q.bottles.ask_bottles in
     let four : all_asked_for plan s j e m ≡ all_asked_for plan s j e r = λ i. after_if plan (not (ab i == 0)) (AskBottles j e (ab i)) (three i) in
-    let so : m.soil ≡ r.soil = same_test m.soil r.soil (May plan (all_asked_for plan s j e r) (Soil j e)) (subst (λ (t : State). (m.soil ≡ true) ↔ May plan t (Soil j e)) four p.forks.soil) q.forks.soil in
+    let so : m.soil ≡ r.soil =
+    same_test m.soil r.soil (May plan (all_asked_for plan s j e r) (Soil j e))
+    (subst (λ (t : State). (m.soil ≡ true) ↔ May plan t (Soil j e)) four p.forks.soil) q.forks.soil in
     λ i. record { give_fork = gf i; give_bottles = gb i; ask_fork = af i; ask_bottles = ab i; soil = so i }
 
 module _ (plan : LabPlan) (s t : State) (j e : ℕ) (is : edge t e ≡ edge s e) (ph : but_position (phase t j) ≡ but_position (phase s j)) where
@@ -117,7 +135,10 @@ module _ (plan : LabPlan) (s t : State) (j e : ℕ) (is : edge t e ≡ edge s e)
   give_here k g = record {
     bottle_here = sym (ap (λ (x : EdgeState). bottle_end x.bottles k) is) ∙ g.bottle_here;
     token_here = sym (ap (λ (x : EdgeState). bottle_end x.bottle_tokens k) is) ∙ g.token_here;
-    not_kept = λ q. g.not_kept (needs_there _ q.0, elim q.1 [ inl d ↦ inl (subst IsDrinking (sym ph) d) | inr f ↦ inr (ap (λ (x : EdgeState). x.fork) is ∙ f) ]);
+    not_kept = λ q. g.not_kept (
+      needs_there _ q.0,
+      elim q.1 [ inl d ↦ inl (subst IsDrinking (sym ph) d) | inr f ↦ inr (ap (λ (x : EdgeState). x.fork) is ∙ f) ],
+    );
   }
 
   ask_here : (k : ℕ) → MayAskBottle plan t j e k → MayAskBottle plan s j e k
@@ -133,7 +154,8 @@ module _ (plan : LabPlan) (s t : State) (j e : ℕ) (is : edge t e ≡ edge s e)
     no_ask = λ may. calm.no_ask (subst (λ (q : EdgeState × JobState). AskAt plan j e q.0 q.1) (λ i. (is i, ph i)) may);
     no_soil = λ may. calm.no_soil (subst (λ (q : EdgeState × JobState). SoilAt plan j e q.0 q.1) (λ i. (is i, ph i)) may);
     no_bottles_given = λ set may. calm.no_bottles_given set (may.0, may.1, λ k member. give_here k (may.2 k member));
-    no_bottles_asked = λ set may. calm.no_bottles_asked set (may.0, sym (ap (λ (x : JobState). x.drinking) ph) ∙ may.1, may.2, λ k member. ask_here k (may.3 k member));
+    no_bottles_asked =
+        λ set may. calm.no_bottles_asked set (may.0, sym (ap (λ (x : JobState). x.drinking) ph) ∙ may.1, may.2, λ k member. ask_here k (may.3 k member));
   }
 
 pub stays_calm : StaysCalm

@@ -20,7 +20,8 @@ use Rattle.turns.proofs.Sets.{member_below, empty_set}
 use Rattle.turns.proofs.Stages.{stage_three}
 use Rattle.turns.proofs.ForkGuards.{same_forks}
 
-legal_on : (plan : LabPlan) (s : State) (b : Bool) (event : Event) (rest : List Event) → (b ≡ true → May plan s event) → IsLegalFrom plan (after_if plan b event s) rest → IsLegalFrom plan s (on b event rest)
+legal_on : (plan : LabPlan) (s : State) (b : Bool) (event : Event) (rest : List Event) → (b ≡ true → May plan s event)
+    → IsLegalFrom plan (after_if plan b event s) rest → IsLegalFrom plan s (on b event rest)
 legal_on plan s false event rest may h = h
 legal_on plan s true event rest may h = (may refl, h)
 
@@ -29,12 +30,18 @@ some set h = grind (arith, nat_tests)
 
 module _ (plan : LabPlan) (s : State) (j e : ℕ) (he : e < length s.edges) (hj : j < length s.seats) where
   pub due_all : (m r : EdgeMoves) → AreForkMoves plan s j e m → WithBottles plan s j e m r → AreDue plan s j e r
-  due_all m r forks with_them = record { forks = same_forks plan j e s m r he hj with_them.give_fork with_them.ask_fork with_them.soil forks; bottles = with_them.bottles }
+  due_all m r forks with_them = record {
+    forks = same_forks plan j e s m r he hj with_them.give_fork with_them.ask_fork with_them.soil forks;
+    bottles = with_them.bottles;
+  }
 
   module _ (own : IsOwn plan j e) (m : EdgeMoves) (due : AreDue plan s j e m) where
     may_give : not (m.give_bottles == 0) ≡ true → May plan (fork_gone plan s j e m) (GiveBottles j e m.give_bottles)
-    may_give h = let g = due.bottles.give_bottles in
-        (own, record { not_empty = some m.give_bottles h; of_edge = g.of_edge }, λ k member. (g.just k (member_below m.give_bottles (length (bottles plan e)) k g.of_edge member)).0 member)
+    may_give h = let g = due.bottles.give_bottles in (
+      own,
+      record { not_empty = some m.give_bottles h; of_edge = g.of_edge },
+      λ k member. (g.just k (member_below m.give_bottles (length (bottles plan e)) k g.of_edge member)).0 member,
+    )
 
     thirsts : (b : Bool) → is_waiting (drinking s j) ≡ b → m.ask_bottles ≢ 0 → drinking s j ≡ Thirsty
     thirsts true is other = at (drinking s j) is where
@@ -45,7 +52,8 @@ module _ (plan : LabPlan) (s : State) (j e : ℕ) (he : e < length s.edges) (hj 
       at Reaching h = absurd (false≢true h)
       at Retired h = absurd (false≢true h)
     thirsts false is other = let a = due.bottles.ask_bottles in
-        absurd (other (empty_set (length (bottles plan e)) m.ask_bottles a.of_edge (λ k l member. false≢true (sym is ∙ ap is_waiting ((a.just k l).0 member).0))))
+        absurd (other (empty_set (length (bottles plan e)) m.ask_bottles a.of_edge (λ k l member. false≢true (sym is
+        ∙ ap is_waiting ((a.just k l).0 member).0))))
 
     may_ask : not (m.ask_bottles == 0) ≡ true → May plan (fork_asked_for plan s j e m) (AskBottles j e m.ask_bottles)
     may_ask h = let a = due.bottles.ask_bottles in let t = stage_three plan s j e m he hj in (

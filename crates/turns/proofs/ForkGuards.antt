@@ -84,9 +84,21 @@ module _ (plan : LabPlan) (j e : ℕ) where
     )
 
   -- moves with the same fork moves
-  pub same_forks : (s : State) (m r : EdgeMoves) (he : e < length s.edges) (hj : j < length s.seats) → r.give_fork ≡ m.give_fork → r.ask_fork ≡ m.ask_fork → r.soil ≡ m.soil → AreForkMoves plan s j e m → AreForkMoves plan s j e r
-  same_forks s m r he hj g a t due = let am = ask_at s m he hj in let ar = ask_at s r he hj in let sm = soil_at s m he hj in let sr = soil_at s r he hj in record {
-    give_fork = (λ h. due.give_fork.0 (sym g ∙ h), λ h. g ∙ due.give_fork.1 h);
-    ask_fork = (λ h. ar.1 (subst (λ b. AskAt (when b fork_given (edge s e)) (phase s j)) (sym g) (am.0 (due.ask_fork.0 (sym a ∙ h)))), λ h. a ∙ due.ask_fork.1 (am.1 (subst (λ b. AskAt (when b fork_given (edge s e)) (phase s j)) g (ar.0 h))));
-    soil = (λ h. sr.1 (subst (λ b. SoilAt (when b fork_given (edge s e)) (phase s j)) (sym g) (sm.0 (due.soil.0 (sym t ∙ h)))), λ h. t ∙ due.soil.1 (sm.1 (subst (λ b. SoilAt (when b fork_given (edge s e)) (phase s j)) g (sr.0 h))));
-  }
+  pub same_forks : (s : State) (m r : EdgeMoves) (he : e < length s.edges) (hj : j < length s.seats) → r.give_fork ≡ m.give_fork
+      → r.ask_fork ≡ m.ask_fork → r.soil ≡ m.soil → AreForkMoves plan s j e m → AreForkMoves plan s j e r
+  same_forks s m r he hj g a t due =
+      let am = ask_at s m he hj in
+      let ar = ask_at s r he hj in
+      let sm = soil_at s m he hj in
+      let sr = soil_at s r he hj in
+      record {
+        give_fork = (λ h. due.give_fork.0 (sym g ∙ h), λ h. g ∙ due.give_fork.1 h);
+        ask_fork = (
+          λ h. ar.1 (subst (λ b. AskAt (when b fork_given (edge s e)) (phase s j)) (sym g) (am.0 (due.ask_fork.0 (sym a ∙ h)))),
+          λ h. a ∙ due.ask_fork.1 (am.1 (subst (λ b. AskAt (when b fork_given (edge s e)) (phase s j)) g (ar.0 h))),
+        );
+        soil = (
+          λ h. sr.1 (subst (λ b. SoilAt (when b fork_given (edge s e)) (phase s j)) (sym g) (sm.0 (due.soil.0 (sym t ∙ h)))),
+          λ h. t ∙ due.soil.1 (sm.1 (subst (λ b. SoilAt (when b fork_given (edge s e)) (phase s j)) g (sr.0 h))),
+        );
+      }

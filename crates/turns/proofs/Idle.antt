@@ -47,7 +47,8 @@ not_both false false n m h k = absurd (omega (arith, h))
 
 all_nothing : (vs : List Visit) → count is_done vs ≡ 0 → count is_lost vs ≡ 0 → AllNothing vs
 all_nothing [] h k = tt
-all_nothing (v ∷ vs) h k = (not_both (is_nothing v.moves) v.lost (count is_done vs) (count is_lost vs) h k, all_nothing vs (omega (arith, h)) (omega (arith, k)))
+all_nothing (v ∷ vs) h k =
+    (not_both (is_nothing v.moves) v.lost (count is_done vs) (count is_lost vs) h k, all_nothing vs (omega (arith, h)) (omega (arith, k)))
 
 empty_on : (a b c d f : Bool) (u v w x y : Event) → (not a && b && not c && d && not f) ≡ true → on a u (on (not b) v (on c w (on (not d) x (on f y [])))) ≡ []
 empty_on true b c d f u v w x y h = absurd (false≢true h)
@@ -59,7 +60,8 @@ empty_on false true false true false u v w x y h = refl
 
 -- no moves are no events
 pub no_events : (m : EdgeMoves) (j e : ℕ) → is_nothing m ≡ true → events_of m j e ≡ []
-no_events m j e h = empty_on m.give_fork (m.give_bottles == 0) m.ask_fork (m.ask_bottles == 0) m.soil (GiveFork j e) (GiveBottles j e m.give_bottles) (AskFork j e) (AskBottles j e m.ask_bottles) (Soil j e) h
+no_events m j e h = empty_on m.give_fork (m.give_bottles == 0) m.ask_fork (m.ask_bottles == 0) m.soil
+    (GiveFork j e) (GiveBottles j e m.give_bottles) (AskFork j e) (AskBottles j e m.ask_bottles) (Soil j e) h
 
 abbrev look_of : ℕ → Visit → Event
 look_of j v = Look j v.edge v.saw
@@ -82,36 +84,46 @@ looks_alone j (v ∷ vs) h = λ i. one_look j v h.0 i ++ looks_alone j vs h.1 i
 
 module _ (plan : LabPlan) (j : ℕ) where
   look_phase : (s : State) (e : ℕ) (x : EdgeState) → phase (learned plan s (Look j e x)) j ≡ phase s j
-  look_phase s e x = let y : Seat = with_bottle_marks (with_fork_mark (seat s j) e (fork_mark_seen (seat s j).phase.dining (end_of plan j e) x)) e (bottles_at plan e (end_of plan j e) x) in elim (cases_lt j (length s.seats)) [
-    | inl inside ↦ ap (λ (z : Seat). z.phase) (seat_same (with_edge s e x) j y inside)
-    | inr past ↦ ap (λ (z : List Seat). (seat (record s { seats = z }) j).phase) (set_past s.seats j y past)
-  ]
+  look_phase s e x =
+      let y : Seat =
+      with_bottle_marks (with_fork_mark (seat s j) e (fork_mark_seen (seat s j).phase.dining (end_of plan j e) x)) e
+      (bottles_at plan e (end_of plan j e) x) in
+      elim (cases_lt j (length s.seats)) [
+        | inl inside ↦ ap (λ (z : Seat). z.phase) (seat_same (with_edge s e x) j y inside)
+        | inr past ↦ ap (λ (z : List Seat). (seat (record s { seats = z }) j).phase) (set_past s.seats j y past)
+      ]
 
   looks_phase : (s : State) (vs : List Visit) → phase (learned_all plan s (map (λ (v : Visit). Look j v.edge v.saw) vs)) j ≡ phase s j
   looks_phase s [] = refl
   looks_phase s (v ∷ vs) = looks_phase (learned plan s (look_of j v)) vs ∙ look_phase s v.edge v.saw
 
-  looks_edge : (s : State) (vs : List Visit) (e : ℕ) → ¬ In e (map (λ (v : Visit). v.edge) vs) → edge (learned_all plan s (map (λ (v : Visit). Look j v.edge v.saw) vs)) e ≡ edge s e
+  looks_edge : (s : State) (vs : List Visit) (e : ℕ) → ¬ In e (map (λ (v : Visit). v.edge) vs)
+      → edge (learned_all plan s (map (λ (v : Visit). Look j v.edge v.saw) vs)) e ≡ edge s e
   looks_edge s [] e other = refl
   looks_edge s (v ∷ vs) e other = looks_edge (learned plan s (look_of j v)) vs e (λ h. other (inr h)) ∙ edge_other s v.edge v.saw e (λ is. other (inl (sym is)))
 
-  calm_all : (s : State) (vs : List Visit) → AllNothing vs → AreVisits plan j s vs → Distinct (map (λ (v : Visit). v.edge) vs) → (e : ℕ) → In e (map (λ (v : Visit). v.edge) vs) → IsCalm plan (learned_all plan s (map (λ (v : Visit). Look j v.edge v.saw) vs)) j e
+  calm_all : (s : State) (vs : List Visit) → AllNothing vs → AreVisits plan j s vs → Distinct (map (λ (v : Visit). v.edge) vs) → (e : ℕ)
+      → In e (map (λ (v : Visit). v.edge) vs) → IsCalm plan (learned_all plan s (map (λ (v : Visit). Look j v.edge v.saw) vs)) j e
   calm_all s [] none due distinct e h = absurd h
   calm_all s (v ∷ vs) none due distinct e h = let t : State = learned plan s (look_of j v) in elim h [
     | inl is ↦ subst (λ n. IsCalm plan (learned_all plan t (map (λ (v : Visit). Look j v.edge v.saw) vs)) j n) is
-        (stays_calm plan t (learned_all plan t (map (λ (v : Visit). Look j v.edge v.saw) vs)) j v.edge (looks_edge t vs v.edge distinct.0) (ap but_position (looks_phase t vs)) (nothing_due_is_calm plan t j v.edge v.moves due.0 none.0))
+        (stays_calm plan t (learned_all plan t (map (λ (v : Visit). Look j v.edge v.saw) vs)) j v.edge (looks_edge t vs v.edge distinct.0)
+        (ap but_position (looks_phase t vs)) (nothing_due_is_calm plan t j v.edge v.moves due.0 none.0))
     | inr later ↦ calm_all t vs none.1 (subst (λ l. AreVisits plan j (learned_all plan s l) vs) (one_look j v none.0) due.1) distinct.1 e later
   ]
 
 pub idle_turn_is_calm : IdleTurnIsCalm
 idle_turn_is_calm = λ plan j waited s events idle. let visits = idle.0 in let turn = idle.1 in
     let none = all_nothing visits idle.2 idle.3 in
-    let alone : events ≡ map (λ (v : Visit). Look j v.edge v.saw) visits = turn.events_are ∙ (append-nil (visits_events j visits) ∙ looks_alone j visits none) in record {
+    let alone : events ≡ map (λ (v : Visit). Look j v.edge v.saw) visits =
+    turn.events_are ∙ (append-nil (visits_events j visits) ∙ looks_alone j visits none) in
+    record {
       visits = visits;
       edges = turn.edges;
       looks = alone;
       calm = λ e own. subst (λ l. IsCalm plan (learned_all plan s l) j e) (sym alone)
-          (calm_all plan j s visits none turn.due (subst Distinct (sym turn.edges) (own_edges_once plan j)) e (subst (In e) (sym turn.edges) (own_edge_in plan j e own)));
+          (calm_all plan j s visits none turn.due (subst Distinct (sym turn.edges) (own_edges_once plan j)) e
+          (subst (In e) (sym turn.edges) (own_edge_in plan j e own)));
       phase_stays = ap (λ l. phase (learned_all plan s l) j) alone ∙ looks_phase plan j s visits;
       no_act = subst (λ l. AreActs plan (learned_all plan s l) j waited []) (sym (turn.events_are ∙ append-nil (visits_events j visits))) turn.acts_due;
     }

@@ -23,15 +23,26 @@ pub record Stage (s t : State) (j e : ℕ) (y : EdgeState) : Type 0 where
 module _ (plan : LabPlan) (j e : ℕ) where
   give_fork : (s : State) (b : Bool) → e < length s.edges → j < length s.seats → Stage s (after_if plan b (GiveFork j e) s) j e (when b fork_given (edge s e))
   give_fork s false he hj = record { edge_is = refl; phase_is = refl; as_many_edges = refl; as_many_seats = refl }
-  give_fork s true he hj = record { edge_is = edge_same s e _ he; phase_is = ap (λ (x : Seat). x.phase) (seat_same s j _ hj); as_many_edges = simp length-set; as_many_seats = simp length-set }
+  give_fork s true he hj = record {
+    edge_is = edge_same s e _ he;
+    phase_is = ap (λ (x : Seat). x.phase) (seat_same s j _ hj);
+    as_many_edges = simp length-set;
+    as_many_seats = simp length-set;
+  }
 
   ask_fork : (s : State) (b : Bool) → e < length s.edges → Stage s (after_if plan b (AskFork j e) s) j e (when b fork_asked (edge s e))
   ask_fork s false he = record { edge_is = refl; phase_is = refl; as_many_edges = refl; as_many_seats = refl }
   ask_fork s true he = record { edge_is = edge_same s e _ he; phase_is = refl; as_many_edges = simp length-set; as_many_seats = refl }
 
-  give_set : (s : State) (b : Bool) (set : ℕ) → e < length s.edges → j < length s.seats → Stage s (after_if plan b (GiveBottles j e set) s) j e (when b (bottles_given set) (edge s e))
+  give_set : (s : State) (b : Bool) (set : ℕ) → e < length s.edges → j < length s.seats
+      → Stage s (after_if plan b (GiveBottles j e set) s) j e (when b (bottles_given set) (edge s e))
   give_set s false set he hj = record { edge_is = refl; phase_is = refl; as_many_edges = refl; as_many_seats = refl }
-  give_set s true set he hj = record { edge_is = edge_same s e _ he; phase_is = ap (λ (x : Seat). x.phase) (seat_same s j _ hj); as_many_edges = simp length-set; as_many_seats = simp length-set }
+  give_set s true set he hj = record {
+    edge_is = edge_same s e _ he;
+    phase_is = ap (λ (x : Seat). x.phase) (seat_same s j _ hj);
+    as_many_edges = simp length-set;
+    as_many_seats = simp length-set;
+  }
 
   ask_set : (s : State) (b : Bool) (set : ℕ) → e < length s.edges → Stage s (after_if plan b (AskBottles j e set) s) j e (when b (bottles_asked set) (edge s e))
   ask_set s false set he = record { edge_is = refl; phase_is = refl; as_many_edges = refl; as_many_seats = refl }

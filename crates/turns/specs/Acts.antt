@@ -32,7 +32,8 @@ whole_act event = event ∷ []
 -- these are the events of the first in the list that counts as legal, or none where none does
 abbrev pub AreFirst : LabPlan → State → ℕ → ℕ → List Event → List Event → Type 0
 AreFirst plan s j waited [] events = events ≡ []
-AreFirst plan s j waited (x ∷ later) events = (Counts plan s j waited x × (events ≡ whole_act x)) ⊎ (¬ Counts plan s j waited x × AreFirst plan s j waited later events)
+AreFirst plan s j waited (x ∷ later) events =
+    (Counts plan s j waited x × (events ≡ whole_act x)) ⊎ (¬ Counts plan s j waited x × AreFirst plan s j waited later events)
 
 -- no phase act of the job is legal, but for giving the session up
 pub record IsSettled (plan : LabPlan) (s : State) (j : ℕ) : Type 0 where

@@ -16,7 +16,8 @@ use Rattle.turns.specs.Turn.{Visit, is_done, is_lost, count, once, IsTurnBy, IsI
 
 -- the moves that are due are legal, one after another
 abbrev pub DueIsLegal : Type 0
-DueIsLegal = (plan : LabPlan) (s : State) (j e : ℕ) (m : EdgeMoves) → e < length s.edges → j < length s.seats → IsOwn plan j e → AreDue plan s j e m → IsLegalFrom plan s (events_of m j e)
+DueIsLegal = (plan : LabPlan) (s : State) (j e : ℕ) (m : EdgeMoves) → e < length s.edges
+    → j < length s.seats → IsOwn plan j e → AreDue plan s j e m → IsLegalFrom plan s (events_of m j e)
 
 -- they are one group
 abbrev pub OneGroupIsDue : Type 0
@@ -32,7 +33,8 @@ CalmHasNothingDue = (plan : LabPlan) (s : State) (j e : ℕ) → IsOwn plan j e 
 
 -- calm is a matter of that edge and of the own phase alone, and of the phase only how the job dines and drinks, in which session
 abbrev pub StaysCalm : Type 0
-StaysCalm = (plan : LabPlan) (s t : State) (j e : ℕ) → edge t e ≡ edge s e → but_position (phase t j) ≡ but_position (phase s j) → IsCalm plan s j e → IsCalm plan t j e
+StaysCalm = (plan : LabPlan) (s t : State) (j e : ℕ) → edge t e ≡ edge s e
+    → but_position (phase t j) ≡ but_position (phase s j) → IsCalm plan s j e → IsCalm plan t j e
 
 -- ---- which phase act is due
 
@@ -53,7 +55,8 @@ pub record LeavesCalm (plan : LabPlan) (j waited : ℕ) (s : State) (events : Li
 
 -- a turn in which nothing was done and no exchange was lost is an idle turn
 abbrev pub NothingDoneIsIdle : Type 0
-NothingDoneIsIdle = (plan : LabPlan) (j waited : ℕ) (s : State) (visits : List Visit) (acts events : List Event) → IsTurnBy plan j waited s visits acts events → count is_done visits + once acts ≡ 0 → count is_lost visits ≡ 0 → IsIdleTurn plan j waited s events
+NothingDoneIsIdle = (plan : LabPlan) (j waited : ℕ) (s : State) (visits : List Visit) (acts events : List Event)
+    → IsTurnBy plan j waited s visits acts events → count is_done visits + once acts ≡ 0 → count is_lost visits ≡ 0 → IsIdleTurn plan j waited s events
 
 -- after an idle turn each own edge is calm
 abbrev pub IdleTurnIsCalm : Type 0

@@ -7,5 +7,6 @@ use Rattle.dining_layer.proofs.forks.may_ask.Goals as goal
 
 pub returns : goal.returns
 returns g c = let a = c.at_edge-at.ensures in let d : DeskView = c.args.desk.now in let e = c.args.edge in
-    let is : c.wants_fork.result ≡ wants_fork (phase (known d) d.job).dining (end_of d.plan d.job e) (edge (known d) e) = c.wants_fork.ensures ∙ (λ i. wants_fork ((a.phase i).dining) (a.here i) (a.seen i)) in
+    let is : c.wants_fork.result ≡ wants_fork (phase (known d) d.job).dining (end_of d.plan d.job e) (edge (known d) e) =
+    c.wants_fork.ensures ∙ (λ i. wants_fork ((a.phase i).dining) (a.here i) (a.seen i)) in
     let t = want_test d.plan d.job e (edge (known d) e) (phase (known d) d.job) c.requires.edge in (λ h. t.0 (sym is ∙ h), λ may. is ∙ t.1 may)

@@ -14,4 +14,5 @@ returns-then-not-may_soil g c = ((λ may. false≢true (sym c.if-not-may_soil.tr
 
 pub returns : goal.returns
 returns g c = subst (λ (r : Tried). TriedTo c.args.desk.now (Soil c.args.desk.now.job c.args.edge) c.args.edge r c.exchange.new.desk) (sym c.answered.ensures)
-    (one_move c.args.desk.now (record { give_fork = false; give_bottles = 0; ask_fork = false; ask_bottles = 0; soil = true }) c.args.edge (Soil c.args.desk.now.job c.args.edge) c.exchange.result c.exchange.new.desk refl (c.may_soil.ensures.0 c.if-not-may_soil.false) c.exchange.ensures)
+    (one_move c.args.desk.now (record { give_fork = false; give_bottles = 0; ask_fork = false; ask_bottles = 0; soil = true }) c.args.edge
+    (Soil c.args.desk.now.job c.args.edge) c.exchange.result c.exchange.new.desk refl (c.may_soil.ensures.0 c.if-not-may_soil.false) c.exchange.ensures)

@@ -15,6 +15,7 @@ returns g c = let a = c.at_edge-at.ensures in let k = a.known in let d : DeskVie
     let p : c.plan-plan.result.now ≡ d.plan = c.plan-plan.ensures ∙ sym c.requires.own.1 in
     let n = c.needed_bottles-needed.result in let w = c.needed_bottles-needed.ensures in
     let f = k.edges_fit e c.requires.edge.is_edge in
-    let two : c.wishes.result ≡ wishes d.plan e (end_of d.plan d.job e) (phase (known d) d.job) n (edge (known d) e) 0 = c.wishes.ensures ∙ (λ i. wishes (p i) e (a.here i) (a.phase i) n (a.seen i) 0) in
+    let two : c.wishes.result ≡ wishes d.plan e (end_of d.plan d.job e) (phase (known d) d.job) n (edge (known d) e) 0 =
+    c.wishes.ensures ∙ (λ i. wishes (p i) e (a.here i) (a.phase i) n (a.seen i) 0) in
     wishes_greatest d.plan (known d) d.job e (edge_there d e k c.requires.edge) (seat_there d e k c.requires.edge) n w.of_edge f.bottles_fit f.tokens_fit w.just
     (record { give_fork = false; give_bottles = 0; ask_fork = false; ask_bottles = c.wishes.result; soil = false }) two

@@ -10,14 +10,19 @@ pub with_sets-requires : goal.with_sets-requires
 with_sets-requires g c = subst (λ (z : LabPlan). c.args.edge < length (edges z)) (c.requires.own.1 ∙ sym c.plan.ensures) c.requires.edge.is_edge
 
 pub returns-clause-with : goal.returns-clause-with
-returns-clause-with g c = let a = c.at_edge-at.ensures in let d : DeskView = c.args.desk.now in let p : c.plan.result.now ≡ d.plan = c.plan.ensures ∙ sym c.requires.own.1 in
+returns-clause-with g c =
+    let a = c.at_edge-at.ensures in
+    let d : DeskView = c.args.desk.now in
+    let p : c.plan.result.now ≡ d.plan = c.plan.ensures ∙ sym c.requires.own.1 in
     sets_with d c.args.edge a.known c.requires.edge c.needed_bottles-needed.result c.args.moves c.with_sets.result c.needed_bottles-needed.ensures
     (c.with_sets.ensures ∙ (λ i. with_sets (p i) c.args.edge (a.here i) (a.phase i) c.needed_bottles-needed.result (a.seen i) c.args.moves))
 
 pub returns-clause-due : goal.returns-clause-due
 returns-clause-due g c = λ forks. let k = c.at_edge-at.ensures.known in let d : DeskView = c.args.desk.now in
-    due_all d.plan (known d) d.job c.args.edge (edge_there d c.args.edge k c.requires.edge) (seat_there d c.args.edge k c.requires.edge) c.args.moves _ forks (returns-clause-with g c)
+    due_all d.plan (known d) d.job c.args.edge (edge_there d c.args.edge k c.requires.edge)
+    (seat_there d c.args.edge k c.requires.edge) c.args.moves _ forks (returns-clause-with g c)
 
 pub returns-clause-legal : goal.returns-clause-legal
 returns-clause-legal g c = λ forks. let k = c.at_edge-at.ensures.known in let d : DeskView = c.args.desk.now in
-    due_legal d.plan (known d) d.job c.args.edge (edge_there d c.args.edge k c.requires.edge) (seat_there d c.args.edge k c.requires.edge) c.requires.edge _ (returns-clause-due g c forks)
+    due_legal d.plan (known d) d.job c.args.edge (edge_there d c.args.edge k c.requires.edge)
+    (seat_there d c.args.edge k c.requires.edge) c.requires.edge _ (returns-clause-due g c forks)

@@ -14,7 +14,8 @@ returns g c = let d : DeskView = c.args.desk.now in let e = c.args.edge in let n
     let m = c.bottle_marks-marks.result in
     let same : m ≡ bottle_marks (known d) d.job e = c.bottle_marks-marks.ensures in
     let s = subset n m in (
-      λ t k l needs. subst (λ z. Has z k) same (s.0 (is_equal (bit_and n m) n t) k ((w.just k l).1 (record { in_session = needs.in_session; named = needs.named }))),
+      λ t k l needs. subst (λ z. Has z k) same
+          (s.0 (is_equal (bit_and n m) n t) k ((w.just k l).1 (record { in_session = needs.in_session; named = needs.named }))),
       λ all. eq-eqb (bit_and n m) n (s.1 (λ k h. let l = member_below n (length (bottles d.plan e)) k w.of_edge h in let needs = (w.just k l).0 h in
           subst (λ z. Has z k) (sym same) (all k l (record { in_session = needs.in_session; named = needs.named })))),
     )

@@ -8,11 +8,13 @@ use Rattle.drinking_layer.proofs.serving.want_bottles.Goals as goal
 
 pub exchange-requires-clause-may : goal.exchange-requires-clause-may
 exchange-requires-clause-may g c = let d : DeskView = c.args.desk.now in let set = c.all_wishes-set.result in
-    subst (λ l. IsLegalFrom d.plan (known d) l) (sym (ask_events d c.args.edge set c.if-set-eq0.false)) (may_ask_all d.plan (known d) d.job c.args.edge set c.requires.edge c.all_wishes-set.ensures c.if-set-eq0.false, tt)
+    subst (λ l. IsLegalFrom d.plan (known d) l) (sym (ask_events d c.args.edge set c.if-set-eq0.false))
+    (may_ask_all d.plan (known d) d.job c.args.edge set c.requires.edge c.all_wishes-set.ensures c.if-set-eq0.false, tt)
 
 pub returns-then-set-eq0 : goal.returns-then-set-eq0
 returns-then-set-eq0 g c = wants_none c.args.desk.now c.args.edge c.all_wishes-set.result c.requires.edge c.all_wishes-set.ensures c.if-set-eq0.true
 
 pub returns : goal.returns
 returns g c = subst (λ (r : Tried). Wanted c.args.desk.now c.args.edge r c.exchange.new.desk) (sym c.answered.ensures)
-    (wants c.args.desk.now c.args.edge c.all_wishes-set.result c.requires.edge c.all_wishes-set.ensures c.exchange.result c.exchange.new.desk c.if-set-eq0.false c.exchange.ensures)
+    (wants c.args.desk.now c.args.edge c.all_wishes-set.result c.requires.edge c.all_wishes-set.ensures
+    c.exchange.result c.exchange.new.desk c.if-set-eq0.false c.exchange.ensures)

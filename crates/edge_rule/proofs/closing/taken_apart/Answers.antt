@@ -25,7 +25,9 @@ pub gather-requires-clause-empty : goal.gather-requires-clause-empty
 gather-requires-clause-empty g0 c = λ i. (c.load_new_seat-keeper.ensures.2 i, c.load_new_seat-keeper.ensures.1 i)
 
 pub gather-requires-clause-own : goal.gather-requires-clause-own
-gather-requires-clause-own g0 c = each_map (Owns c.args.bench) (λ (d : DeskView). d.table ≡ c.bench.inside.table.shared.table_id) (λ d o. o.0 ∙ sym (ap (λ (z : BenchView). z.table) c.bench.view_is)) c.args.desks.items c.requires.own
+gather-requires-clause-own g0 c =
+    each_map (Owns c.args.bench) (λ (d : DeskView). d.table ≡ c.bench.inside.table.shared.table_id)
+    (λ d o. o.0 ∙ sym (ap (λ (z : BenchView). z.table) c.bench.view_is)) c.args.desks.items c.requires.own
 
 pub invariant_of-result : goal.invariant_of-result
 invariant_of-result g0 c =
@@ -51,6 +53,7 @@ returns g0 c =
     let same : p ≡ c.args.bench.plan = ap (λ (z : BenchView). z.plan) c.bench.view_is in
     let view : ClosedView = record { plan = c.bench.inside.plan.now; words = ws; logs = ls; counts = c.args.counts.items } in
     subst (λ (z : LabPlan). IsEnd z c.args.desks.items view) same
-    (ends p c.gather.new.keeper.id c.args.desks.items view (sym c.bench.invariant.plan) (each_map (Owns c.args.bench) (λ (d : DeskView). d.plan ≡ p) (λ d o. o.1 ∙ sym same) c.args.desks.items c.requires.own)
+    (ends p c.gather.new.keeper.id c.args.desks.items view (sym c.bench.invariant.plan)
+    (each_map (Owns c.args.bench) (λ (d : DeskView). d.plan ≡ p) (λ d o. o.1 ∙ sym same) c.args.desks.items c.requires.own)
     (subst (λ (z : LabPlan). HasAll z c.args.desks.items) (sym same) c.requires.all) c.gather.ensures.rests c.requires.counts.1
     (subst (λ (z : View). Final (Seen (Kept p) c.gather.new.keeper.id z) ws ls) (ap (λ m. m.0) c.gather.ensures.keeper.1) c.close_with.ensures.values.2))

@@ -13,8 +13,10 @@ loop-e-preserved g c =
     record {
       length = length-set c.loop-e.numbers.items c.slot.result (Some c.loop-e.e) ∙ c.loop-e.invariant.length;
       numbers = subst (λ n. AreNumbers (take (c.loop-e.e + 1) c.args.pairs.now) (slice_set c.loop-e.numbers.items n (Some c.loop-e.e))) (sym c.slot.ensures)
-          (numbers_more c.args.pairs.now c.loop-e.numbers.items c.loop-e.e c.index-pairs-e.result.0 c.index-pairs-e.result.1 c.loop-e-test.true read (omega (arith, fits, low_is, high_is)) (omega (arith, fits, high_is)) c.loop-e.invariant.length c.loop-e.invariant.numbers);
+          (numbers_more c.args.pairs.now c.loop-e.numbers.items c.loop-e.e c.index-pairs-e.result.0 c.index-pairs-e.result.1 c.loop-e-test.true read
+          (omega (arith, fits, low_is, high_is)) (omega (arith, fits, high_is)) c.loop-e.invariant.length c.loop-e.invariant.numbers);
     }
 
 pub returns-clause-numbers : goal.returns-clause-numbers
-returns-clause-numbers g c = subst (λ ps. AreNumbers ps c.loop-e.numbers.items) (take_all c.loop-e.e c.args.pairs.now c.loop-e-test.false) c.loop-e.invariant.numbers
+returns-clause-numbers g c =
+    subst (λ ps. AreNumbers ps c.loop-e.numbers.items) (take_all c.loop-e.e c.args.pairs.now c.loop-e-test.false) c.loop-e.invariant.numbers

@@ -22,9 +22,12 @@ own_others : (P : DeskView → Type 0) (l : List DeskView) → 1 ≤ length l �
 own_others P [] n each = absurd (omega arith)
 own_others P (d ∷ l) n each = subst (Each P) (sym (behind d l)) each.1
 
-there : (l : List DeskView) (j : ℕ) (d : DeskView) → 1 ≤ length l → d ≡ get_or l 0 d → ¬ (d.job ≡ j) → Any (λ k. k ≡ j) (jobs_of l) → Any (λ k. k ≡ j) (jobs_of (others l))
+there : (l : List DeskView) (j : ℕ) (d : DeskView) → 1 ≤ length l → d ≡ get_or l 0 d
+    → ¬ (d.job ≡ j) → Any (λ k. k ≡ j) (jobs_of l) → Any (λ k. k ≡ j) (jobs_of (others l))
 there [] j d n is other any = absurd (omega arith)
-there (x ∷ l) j d n is other any = subst (λ (z : List DeskView). Any (λ k. k ≡ j) (jobs_of z)) (sym (behind x l)) (elim any [ inl here ↦ absurd (other (ap (λ (z : DeskView). z.job) is ∙ here)) | inr later ↦ later ])
+there (x ∷ l) j d n is other any =
+    subst (λ (z : List DeskView). Any (λ k. k ≡ j) (jobs_of z)) (sym (behind x l))
+    (elim any [ inl here ↦ absurd (other (ap (λ (z : DeskView). z.job) is ∙ here)) | inr later ↦ later ])
 
 unlike : (a b : ℕ) → (a == b) ≡ false → ¬ (a ≡ b)
 unlike a b h e = grind (arith, nat_tests)
@@ -40,7 +43,8 @@ seen_by-requires g t c = let l : List DeskView = c.args.desks.now in
         (
           own_others (Owns c.args.bench.now) l some c.requires.own,
           (
-            there l c.args.job c.desk-item.result some c.desk-item.is (λ e. unlike c.job.result c.args.job (sym c.eq.ensures ∙ c.if-eq.false) (c.job.ensures.job ∙ e)) c.requires.job,
+            there l c.args.job c.desk-item.result some c.desk-item.is
+                (λ e. unlike c.job.result c.args.job (sym c.eq.ensures ∙ c.if-eq.false) (c.job.ensures.job ∙ e)) c.requires.job,
             c.requires.edge,
           ),
         ),

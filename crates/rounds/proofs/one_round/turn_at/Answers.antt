@@ -12,29 +12,55 @@ at_is l k x0 e = ap (get_or l k) e
 
 pub tell-later-requires : goal.tell-later-requires
 tell-later-requires g c = let l : List DeskView = c.args.desks.now in let k = c.args.place in let x : DeskView = get_or l k c.index-desks-place.result in
-    record { own = owns_on c.args.bench.now x c.heed.new.desk c.turn-turned.new.desk c.turn-turned.result c.args.news.front (each_at (Owns c.args.bench.now) l k x c.requires.place (at_is l k c.index-desks-place.result c.index-desks-place.is) c.requires.spread.own) c.heed.ensures c.turn-turned.ensures }
+    record {
+      own = owns_on c.args.bench.now x c.heed.new.desk c.turn-turned.new.desk c.turn-turned.result
+          c.args.news.front (each_at (Owns c.args.bench.now) l k x c.requires.place
+          (at_is l k c.index-desks-place.result c.index-desks-place.is) c.requires.spread.own) c.heed.ensures c.turn-turned.ensures;
+    }
 
 pub returns-clause-spread : goal.returns-clause-spread
-returns-clause-spread g c = let l : List DeskView = c.args.desks.now in let k = c.args.place in let x : DeskView = get_or l k c.index-desks-place.result in let G : List Event = c.tell-later.result.front in
+returns-clause-spread g c =
+    let l : List DeskView = c.args.desks.now in
+    let k = c.args.place in
+    let x : DeskView = get_or l k c.index-desks-place.result in
+    let G : List Event = c.tell-later.result.front in
     subst (λ z. Spread c.args.bench.now G (set l k z)) (sym c.tell-later.ensures.same)
-    (spread_on c.args.bench.now l k x c.heed.new.desk c.turn-turned.new.desk c.turn-turned.result c.args.news.front G c.requires.spread c.requires.all c.requires.place (at_is l k c.index-desks-place.result c.index-desks-place.is) c.heed.ensures c.turn-turned.ensures c.tell-later.ensures.news.1 c.tell-later.ensures.legal)
+    (spread_on c.args.bench.now l k x c.heed.new.desk c.turn-turned.new.desk c.turn-turned.result c.args.news.front
+    G c.requires.spread c.requires.all c.requires.place (at_is l k c.index-desks-place.result c.index-desks-place.is)
+    c.heed.ensures c.turn-turned.ensures c.tell-later.ensures.news.1 c.tell-later.ensures.legal)
 
 pub returns-clause-jobs : goal.returns-clause-jobs
 returns-clause-jobs g c = let l : List DeskView = c.args.desks.now in let k = c.args.place in let x : DeskView = get_or l k c.index-desks-place.result in
-    jobs_set l k x c.tell-later.new.desk (at_is l k c.index-desks-place.result c.index-desks-place.is) (ap (λ (z : DeskView). z.job) c.tell-later.ensures.same ∙ job_on x c.heed.new.desk c.turn-turned.new.desk c.turn-turned.result c.args.news.front c.heed.ensures c.turn-turned.ensures)
+    jobs_set l k x c.tell-later.new.desk (at_is l k c.index-desks-place.result c.index-desks-place.is) (ap (λ (z : DeskView). z.job) c.tell-later.ensures.same
+    ∙ job_on x c.heed.new.desk c.turn-turned.new.desk c.turn-turned.result c.args.news.front c.heed.ensures c.turn-turned.ensures)
 
 pub returns-clause-before : goal.returns-clause-before
-returns-clause-before g c = let l : List DeskView = c.args.desks.now in let k = c.args.place in ap (take k) (players_set l k c.tell-later.new.desk) ∙ take_set (players_of l) k (player_of c.tell-later.new.desk)
+returns-clause-before g c =
+    let l : List DeskView = c.args.desks.now in
+    let k = c.args.place in
+    ap (take k) (players_set l k c.tell-later.new.desk) ∙ take_set (players_of l) k (player_of c.tell-later.new.desk)
 
 pub returns-clause-behind : goal.returns-clause-behind
-returns-clause-behind g c = let l : List DeskView = c.args.desks.now in let k = c.args.place in ap (drop (k + 1)) (players_set l k c.tell-later.new.desk) ∙ drop_set (players_of l) k (player_of c.tell-later.new.desk)
+returns-clause-behind g c =
+    let l : List DeskView = c.args.desks.now in
+    let k = c.args.place in
+    ap (drop (k + 1)) (players_set l k c.tell-later.new.desk) ∙ drop_set (players_of l) k (player_of c.tell-later.new.desk)
 
 pub returns-clause-plays : goal.returns-clause-plays
-returns-clause-plays g c = λ whole. let l : List DeskView = c.args.desks.now in let k = c.args.place in let x : DeskView = get_or l k c.index-desks-place.result in let is = at_is l k c.index-desks-place.result c.index-desks-place.is in let G : List Event = c.tell-later.result.front in
+returns-clause-plays g c = λ whole. let l : List DeskView = c.args.desks.now in
+    let k = c.args.place in
+    let x : DeskView = get_or l k c.index-desks-place.result in
+    let is = at_is l k c.index-desks-place.result c.index-desks-place.is in
+    let G : List Event = c.tell-later.result.front in
     let w : IsWhole G (set l k c.turn-turned.new.desk) = subst (λ z. IsWhole G (set l k z)) c.tell-later.ensures.same whole in
     let before : get_or (players_of l) k no_player ≡ player_of x = player_at l k x no_player c.requires.place is in
-    let after : get_or (players_of (set l k c.tell-later.new.desk)) k no_player ≡ player_of c.turn-turned.new.desk = ap (λ z. get_or z k no_player) (players_set l k c.tell-later.new.desk) ∙ (get_set (players_of l) k (player_of c.tell-later.new.desk) no_player (let n = length_players l in let m = c.requires.place in omega arith) ∙ ap player_of c.tell-later.ensures.same) in (
-      whole_then c.args.bench.now l k x c.heed.new.desk c.turn-turned.new.desk c.turn-turned.result c.args.news.front G c.requires.spread c.requires.all c.requires.place is c.heed.ensures c.turn-turned.ensures c.tell-later.ensures.news.1 c.tell-later.ensures.legal w,
+    let after : get_or (players_of (set l k c.tell-later.new.desk)) k no_player ≡ player_of c.turn-turned.new.desk =
+    ap (λ z. get_or z k no_player) (players_set l k c.tell-later.new.desk)
+    ∙ (get_set (players_of l) k (player_of c.tell-later.new.desk) no_player (let n = length_players l in let m = c.requires.place in omega arith)
+    ∙ ap player_of c.tell-later.ensures.same) in (
+      whole_then c.args.bench.now l k x c.heed.new.desk c.turn-turned.new.desk c.turn-turned.result c.args.news.front G c.requires.spread
+          c.requires.all c.requires.place is c.heed.ensures c.turn-turned.ensures c.tell-later.ensures.news.1 c.tell-later.ensures.legal w,
       subst (λ (z : Player × Player). Plays c.args.bench.now.plan z.0 c.args.news.front c.turn-turned.result G z.1) (λ i. (sym before i, sym after i))
-          (played c.args.bench.now l k x c.heed.new.desk c.turn-turned.new.desk c.turn-turned.result c.args.news.front G c.requires.spread c.requires.all c.requires.place is c.heed.ensures c.turn-turned.ensures c.tell-later.ensures.news.1 c.tell-later.ensures.legal w),
+          (played c.args.bench.now l k x c.heed.new.desk c.turn-turned.new.desk c.turn-turned.result c.args.news.front G c.requires.spread
+          c.requires.all c.requires.place is c.heed.ensures c.turn-turned.ensures c.tell-later.ensures.news.1 c.tell-later.ensures.legal w),
     )

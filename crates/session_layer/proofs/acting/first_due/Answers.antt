@@ -8,7 +8,10 @@ use Rattle.turns.proofs.Firsts.{refused, illegal}
 use Rattle.session_layer.proofs.acting.first_due.Goals as goal
 
 pub returns-then-may_quit-clause-first : goal.returns-then-may_quit-clause-first
-returns-then-may_quit-clause-first g c = let d : DeskView = c.args.desk.now in let s : State = known d in inl ((c.may_quit.ensures.0 c.if-may_quit.true, tt), refl)
+returns-then-may_quit-clause-first g c =
+    let d : DeskView = c.args.desk.now in
+    let s : State = known d in
+    inl ((c.may_quit.ensures.0 c.if-may_quit.true, tt), refl)
 
 pub returns-then-may_reach-clause-first : goal.returns-then-may_reach-clause-first
 returns-then-may_reach-clause-first g c = let d : DeskView = c.args.desk.now in let s : State = known d in inr (
@@ -105,7 +108,8 @@ returns-then-may_hunger-clause-first g c = let d : DeskView = c.args.desk.now in
           inr (
             illegal d.plan s d.job c.args.waited (Sit d.job) (refused c.may_sit.result (May d.plan s (Sit d.job)) c.may_sit.ensures c.if-may_sit.false),
             inr (
-              illegal d.plan s d.job c.args.waited (Thirst d.job) (refused c.may_thirst.result (May d.plan s (Thirst d.job)) c.may_thirst.ensures c.if-may_thirst.false),
+              illegal d.plan s d.job c.args.waited (Thirst d.job)
+                  (refused c.may_thirst.result (May d.plan s (Thirst d.job)) c.may_thirst.ensures c.if-may_thirst.false),
               inl ((c.may_hunger.ensures.0 c.if-may_hunger.true, tt), refl),
             ),
           ),
@@ -129,9 +133,11 @@ returns-then-may_retire-clause-first g c = let d : DeskView = c.args.desk.now in
           inr (
             illegal d.plan s d.job c.args.waited (Sit d.job) (refused c.may_sit.result (May d.plan s (Sit d.job)) c.may_sit.ensures c.if-may_sit.false),
             inr (
-              illegal d.plan s d.job c.args.waited (Thirst d.job) (refused c.may_thirst.result (May d.plan s (Thirst d.job)) c.may_thirst.ensures c.if-may_thirst.false),
+              illegal d.plan s d.job c.args.waited (Thirst d.job)
+                  (refused c.may_thirst.result (May d.plan s (Thirst d.job)) c.may_thirst.ensures c.if-may_thirst.false),
               inr (
-                illegal d.plan s d.job c.args.waited (Hunger d.job) (refused c.may_hunger.result (May d.plan s (Hunger d.job)) c.may_hunger.ensures c.if-may_hunger.false),
+                illegal d.plan s d.job c.args.waited (Hunger d.job)
+                    (refused c.may_hunger.result (May d.plan s (Hunger d.job)) c.may_hunger.ensures c.if-may_hunger.false),
                 inl ((c.may_retire.ensures.0 c.if-may_retire.true, tt), refl),
               ),
             ),
@@ -156,11 +162,14 @@ returns-clause-first g c = let d : DeskView = c.args.desk.now in let s : State =
           inr (
             illegal d.plan s d.job c.args.waited (Sit d.job) (refused c.may_sit.result (May d.plan s (Sit d.job)) c.may_sit.ensures c.if-may_sit.false),
             inr (
-              illegal d.plan s d.job c.args.waited (Thirst d.job) (refused c.may_thirst.result (May d.plan s (Thirst d.job)) c.may_thirst.ensures c.if-may_thirst.false),
+              illegal d.plan s d.job c.args.waited (Thirst d.job)
+                  (refused c.may_thirst.result (May d.plan s (Thirst d.job)) c.may_thirst.ensures c.if-may_thirst.false),
               inr (
-                illegal d.plan s d.job c.args.waited (Hunger d.job) (refused c.may_hunger.result (May d.plan s (Hunger d.job)) c.may_hunger.ensures c.if-may_hunger.false),
+                illegal d.plan s d.job c.args.waited (Hunger d.job)
+                    (refused c.may_hunger.result (May d.plan s (Hunger d.job)) c.may_hunger.ensures c.if-may_hunger.false),
                 inr (
-                  illegal d.plan s d.job c.args.waited (Retire d.job) (refused c.may_retire.result (May d.plan s (Retire d.job)) c.may_retire.ensures c.if-may_retire.false),
+                  illegal d.plan s d.job c.args.waited (Retire d.job)
+                      (refused c.may_retire.result (May d.plan s (Retire d.job)) c.may_retire.ensures c.if-may_retire.false),
                   refl,
                 ),
               ),

@@ -7,7 +7,9 @@ use Rattle.session_layer.proofs.Settled.{settled_acts}
 use Rattle.session_layer.proofs.acting.settled_due.Goals as goal
 
 pub returns-then-withdraws-clause-first : goal.returns-then-withdraws-clause-first
-returns-then-withdraws-clause-first g c = let d : DeskView = c.args.desk.now in settled_acts d.plan (known d) d.job c.args.waited _ c.requires.settled (inl (c.withdraws.ensures.0 c.if-withdraws.true, refl))
+returns-then-withdraws-clause-first g c =
+    let d : DeskView = c.args.desk.now in
+    settled_acts d.plan (known d) d.job c.args.waited _ c.requires.settled (inl (c.withdraws.ensures.0 c.if-withdraws.true, refl))
 
 pub returns-else-withdraws-clause-first : goal.returns-else-withdraws-clause-first
 returns-else-withdraws-clause-first g c = let d : DeskView = c.args.desk.now in settled_acts d.plan (known d) d.job c.args.waited _ c.requires.settled

@@ -8,4 +8,5 @@ use Rattle.edge_rule.proofs.desk.Desk.is_calm.Goals as goal
 pub returns : goal.returns
 returns g c = λ t. let d = c.self.inside in
     subst (λ (z : DeskView). IsCalm z.plan (known z) z.job c.args.edge) c.self.view_is
-    (noted_still d c.self.invariant c.args.edge c.number.result c.index.result.now c.number.ensures.0 (of_seat (λ (z : DeskView). c.args.edge < length (edges z.plan)) d _ c.self.view_is c.requires) c.index.ensures t).calm
+    (noted_still d c.self.invariant c.args.edge c.number.result c.index.result.now c.number.ensures.0
+    (of_seat (λ (z : DeskView). c.args.edge < length (edges z.plan)) d _ c.self.view_is c.requires) c.index.ensures t).calm

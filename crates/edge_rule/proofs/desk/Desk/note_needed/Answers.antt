@@ -25,6 +25,7 @@ invariant_of-self g c =
       calm = ok.calm;
       settled = ok.settled;
       needed = one_more (hand_in d.seat.me.0).plan (hand_in d.seat.me.0).job c.args.edge c.number.result _ d.needed.items c.number.ensures.0 inside
-          (subst (λ n. AreNamed (hand_in d.seat.me.0).plan (hand_in d.seat.me.0).job n c.args.edge c.args.bottles) (ap (λ (y : Seat). y.phase.session) ok.own) named) ok.needed;
+          (subst (λ n. AreNamed (hand_in d.seat.me.0).plan (hand_in d.seat.me.0).job n c.args.edge c.args.bottles)
+          (ap (λ (y : Seat). y.phase.session) ok.own) named) ok.needed;
       rests = ok.rests;
     }

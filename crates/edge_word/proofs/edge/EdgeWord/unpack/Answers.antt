@@ -12,4 +12,5 @@ returns-then-stray_bits_of-eq0-clause-spelled c =
     (word_of-state_of c.args.word is.0, is.1)
 
 pub returns-else-stray_bits_of-eq0-clause-refused : goal.returns-else-stray_bits_of-eq0-clause-refused
-returns-else-stray_bits_of-eq0-clause-refused c = λ x h e. c.if-stray_bits_of-eq0.false (c.stray_bits_of.ensures ∙ tested x c.args.word c.args.bottles c.requires.few h e)
+returns-else-stray_bits_of-eq0-clause-refused c =
+    λ x h e. c.if-stray_bits_of-eq0.false (c.stray_bits_of.ensures ∙ tested x c.args.word c.args.bottles c.requires.few h e)

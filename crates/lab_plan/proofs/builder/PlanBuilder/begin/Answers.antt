@@ -19,5 +19,6 @@ invariant_of-self-2 g c =
     record {
       is_draft = subst IsDraft (sym new) (draft_with_session c.args.patience plan c.self.invariant.is_draft some room patient);
       closed = subst AreClosed (sym new) (closed_with_session c.args.patience plan c.self.invariant.closed unbare);
-      counted = c.self.invariant.counted ∙ ap (λ all. length all) (sym (all_commands_with_session c.args.patience plan some)) ∙ ap (λ (p : LabPlan). length (all_commands p)) (sym new);
+      counted = c.self.invariant.counted ∙ ap (λ all. length all) (sym (all_commands_with_session c.args.patience plan some))
+          ∙ ap (λ (p : LabPlan). length (all_commands p)) (sym new);
     }

@@ -12,12 +12,15 @@ invariant_of-self-2 g c =
     let name = c.args.instrument.now in
     let plan : LabPlan = c.self.inside.draft in
     let test : Bool → LabPlan → Bool = λ b p. nat_le 100000 (length (all_commands p)) || (b && nat_le 56 (length p.instruments)) in
-    let new_name : c.is_none.result ≡ not (is_instrument name plan) = is_new name plan c.place-place.result c.is_none.result c.place-place.ensures c.is_none.ensures in
-    let past : is_past_limit name plan ≡ false = ap (λ b. test b plan) (sym new_name) ∙ ap (test c.is_none.result) c.self.view_is ∙ sym c.is_past_limit.ensures ∙ c.if-is_past_limit.false in
+    let new_name : c.is_none.result ≡ not (is_instrument name plan) =
+    is_new name plan c.place-place.result c.is_none.result c.place-place.ensures c.is_none.ensures in
+    let past : is_past_limit name plan ≡ false =
+    ap (λ b. test b plan) (sym new_name) ∙ ap (test c.is_none.result) c.self.view_is ∙ sym c.is_past_limit.ensures ∙ c.if-is_past_limit.false in
     let some : has_session plan ≡ true = subst (λ (p : LabPlan). has_session p ≡ true) (sym c.self.view_is) c.requires.session in
     let new = c.in_ok-push_at.ensures in
     record {
       is_draft = subst IsDraft (sym new) (draft_with_command name c.args.verb plan c.self.invariant.is_draft some c.requires.name c.requires.fits past);
       closed = subst AreClosed (sym new) (closed_with_command name c.args.verb plan c.self.invariant.closed);
-      counted = ap (λ n. n + 1) c.self.invariant.counted ∙ sym (commands_with_command name c.args.verb plan some) ∙ ap (λ (p : LabPlan). length (all_commands p)) (sym new);
+      counted = ap (λ n. n + 1) c.self.invariant.counted ∙ sym (commands_with_command name c.args.verb plan some)
+          ∙ ap (λ (p : LabPlan). length (all_commands p)) (sym new);
     }

@@ -11,6 +11,7 @@ pub loop-j-preserved : goal.loop-j-preserved
 loop-j-preserved g c =
     let read = sym (get_or_read c.all_jobs-job-items.result.now c.loop-j.j c.job-item.result c.loop-j-test.true c.job-item.is no_job) in
     record {
-      naming = naming_more c.loop-j.sets c.all_jobs-job-items.result.now c.loop-j.j c.named_by.result c.job-item.result (omega (arith, ap length c.all_jobs-job-items.ensures)) read c.named_by.ensures c.loop-j.invariant.naming;
+      naming = naming_more c.loop-j.sets c.all_jobs-job-items.result.now c.loop-j.j c.named_by.result c.job-item.result
+          (omega (arith, ap length c.all_jobs-job-items.ensures)) read c.named_by.ensures c.loop-j.invariant.naming;
       length = length-set c.loop-j.sets c.loop-j.j c.named_by.result ∙ c.loop-j.invariant.length;
     }

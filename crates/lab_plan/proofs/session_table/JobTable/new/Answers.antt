@@ -15,9 +15,11 @@ loop-session-preserved g c =
     let read = get_or_read sessions k c.session-item.result c.loop-session-test.true c.session-item.is no_session in
     let one = subst (λ commands. IsTable commands c.in_ok-new.field-0) (c.commands.ensures ∙ ap (λ (s : SessionPlan). s.commands) read) c.in_ok-new.ensures in
     subst (AreTables (take (k + 1) sessions)) (sym c.in_ok-push.ensures.items)
-    (related_more IsSessionTable no_session no_table sessions c.loop-session.tables.items k c.in_ok-new.field-0 c.loop-session-test.true one c.loop-session.invariant)
+    (related_more IsSessionTable no_session no_table sessions c.loop-session.tables.items
+    k c.in_ok-new.field-0 c.loop-session-test.true one c.loop-session.invariant)
 
 pub returns : goal.returns
 returns g c =
-    let all = related_all IsSessionTable no_session no_table c.sessions-session-items.result.now c.loop-session.tables.items c.loop-session.session-index c.loop-session-test.false c.loop-session.invariant in
+    let all = related_all IsSessionTable no_session no_table c.sessions-session-items.result.now
+    c.loop-session.tables.items c.loop-session.session-index c.loop-session-test.false c.loop-session.invariant in
     subst (λ sessions. AreTables sessions c.loop-session.tables.items) c.sessions-session-items.ensures all

@@ -7,7 +7,12 @@ use Rattle.lab_plan.proofs.Parts.{parts_more, places_more, ArePlaces}
 use Rattle.lab_plan.proofs.session_table.SessionTable.new.Goals as goal
 
 pub loop-instrument-init : goal.loop-instrument-init
-loop-instrument-init g c = record { parts = λ i below. read_alike 56 i 0; numbered = refl; placed = ap length c.new-places.ensures.items; places = λ m h. absurd (omega (arith, h)) }
+loop-instrument-init g c = record {
+  parts = λ i below. read_alike 56 i 0;
+  numbered = refl;
+  placed = ap length c.new-places.ensures.items;
+  places = λ m h. absurd (omega (arith, h));
+}
 
 pub loop-instrument-preserved : goal.loop-instrument-preserved
 loop-instrument-preserved g c =
@@ -21,8 +26,11 @@ loop-instrument-preserved g c =
     let new : ℕ = slice_index_or c.loop-instrument.parts n 0 + 1 in
     let pushed = c.in_ok-push.ensures.items in
     record {
-      parts = parts_more commands c.loop-instrument.parts k n new c.loop-instrument-test.true is below c.loop-instrument.invariant.numbered c.loop-instrument.invariant.parts refl;
+      parts = parts_more commands c.loop-instrument.parts k n new c.loop-instrument-test.true
+          is below c.loop-instrument.invariant.numbered c.loop-instrument.invariant.parts refl;
       numbered = length-set c.loop-instrument.parts n new ∙ c.loop-instrument.invariant.numbered;
       placed = ap length pushed ∙ length_push c.loop-instrument.places.items new ∙ ap (λ (m : ℕ). m + 1) c.loop-instrument.invariant.placed;
-      places = subst (ArePlaces commands (k + 1)) (sym pushed) (places_more commands c.loop-instrument.parts c.loop-instrument.places.items k n new is below c.loop-instrument.invariant.parts refl c.loop-instrument.invariant.placed c.loop-instrument.invariant.places);
+      places =
+          subst (ArePlaces commands (k + 1)) (sym pushed) (places_more commands c.loop-instrument.parts c.loop-instrument.places.items k
+          n new is below c.loop-instrument.invariant.parts refl c.loop-instrument.invariant.placed c.loop-instrument.invariant.places);
     }

@@ -12,7 +12,8 @@ returns g c =
     let naming = c.new-naming.result in
     let told = c.new-naming.ensures in
     let found : c.in_ok-edges.edges ≡ edges plan =
-    c.in_ok-edges.ensures ∙ ap (λ (n : ℕ). meeting naming.sets n naming.jobs) told.instruments ∙ ap (λ (n : ℕ). meeting naming.sets (length plan.instruments) n) told.jobs ∙ meeting_is plan naming.sets told.naming in
+    c.in_ok-edges.ensures ∙ ap (λ (n : ℕ). meeting naming.sets n naming.jobs) told.instruments
+    ∙ ap (λ (n : ℕ). meeting naming.sets (length plan.instruments) n) told.jobs ∙ meeting_is plan naming.sets told.naming in
     let pairs : c.pairs.result.now ≡ edges plan = c.pairs.ensures.pairs ∙ found in
     record {
       pairs_are = found;
