@@ -22,9 +22,14 @@ module _ (plan : LabPlan) (s : State) (j e set all : ℕ) where
   fits_edge : (P : ℕ → Type 0) → IsGreatest plan e all P → bit_and set all ≡ set → set ≢ 0 → IsBottleSet plan e set
   fits_edge P g part some = record { not_empty = some; of_edge = let fits = g.of_edge in let small = and_le_r set all in omega (arith, fits, small, part) }
 
-  pub may_give : IsOwn plan j e → IsGreatest plan e all (MayGiveBottle plan s j e) → set ≢ 0 → IsTrue (nat_eq (bit_and set all) set) ↔ May plan s (GiveBottles j e set)
+  pub may_give : IsOwn plan j e → IsGreatest plan e all (MayGiveBottle plan s j e)
+      → set ≢ 0 → IsTrue (nat_eq (bit_and set all) set) ↔ May plan s (GiveBottles j e set)
   may_give own g some = (
-    λ t. (own, fits_edge (MayGiveBottle plan s j e) g (eqb-true (bit_and set all) set t) some, within (MayGiveBottle plan s j e) g (eqb-true (bit_and set all) set t)),
+    λ t. (
+      own,
+      fits_edge (MayGiveBottle plan s j e) g (eqb-true (bit_and set all) set t) some,
+      within (MayGiveBottle plan s j e) g (eqb-true (bit_and set all) set t),
+    ),
     λ may. eq-eqb (bit_and set all) set (part_of (MayGiveBottle plan s j e) g may.1.of_edge may.2),
   )
 
@@ -34,8 +39,10 @@ module _ (plan : LabPlan) (s : State) (j e set all : ℕ) where
   all_some : bit_and set all ≡ set → set ≢ 0 → all ≢ 0
   all_some part some none = some (sym part ∙ (ap (bit_and set) none ∙ and_zero_r set))
 
-  pub may_ask : IsOwn plan j e → IsGreatest plan e all (λ k. (drinking s j ≡ Thirsty) × MayAskBottle plan s j e k) → set ≢ 0 → IsTrue (nat_eq (bit_and set all) set) ↔ May plan s (AskBottles j e set)
+  pub may_ask : IsOwn plan j e → IsGreatest plan e all (λ k. (drinking s j ≡ Thirsty) × MayAskBottle plan s j e k)
+      → set ≢ 0 → IsTrue (nat_eq (bit_and set all) set) ↔ May plan s (AskBottles j e set)
   may_ask own g some = (
-    λ t. let part = eqb-true (bit_and set all) set t in (own, (may_ask_all plan s j e all own g (all_some part some)).1, fits_edge Asks g part some, λ k member. (within Asks g part k member).1),
+    λ t. let part = eqb-true (bit_and set all) set t in
+        (own, (may_ask_all plan s j e all own g (all_some part some)).1, fits_edge Asks g part some, λ k member. (within Asks g part k member).1),
     λ may. eq-eqb (bit_and set all) set (part_of Asks g may.2.of_edge (λ k member. (may.1, may.3 k member))),
   )

@@ -29,7 +29,8 @@ ended_at plan history n = ended_sessions plan (the_opening plan) (take n history
 pub record HoldsOf (plan : LabPlan) (history : List Event) : Type 0 where
   -- after each beginning of the run every log is whole sessions one after another, save at most one unfinished last
   pub logs_whole : (n i : ℕ) → IsWholeButEnd plan i (log_at plan history n i)
-  -- the sessions that ended are the plan's, those of each job in ascending order, and every log has their parts, in the order of their ends, before anything else
+  -- the sessions that ended are the plan's, those of each job in ascending order, and every log has their parts, in the order of their ends, before anything
+  -- else
   pub ended_are : (n : ℕ) → All (IsSessionOf plan) (ended_at plan history n)
   pub ended_ascend : (n : ℕ) → IsAscending (ended_at plan history n)
   pub ended_there : (n i : ℕ) → BeginsWithParts plan i (ended_at plan history n) (log_at plan history n i)

@@ -26,11 +26,15 @@ one_more : (p : Event → Bool) (event : Event) (n : ℕ) → p event ≡ true �
 one_more p event n h = let one : count_by p (event ∷ []) ≡ 1 = count_one p event ∙ ap (λ b. cond b 1 0) h in omega arith
 
 -- an event that isn't counted for the job
-not_counted : (x : Counts) (k : ℕ) (event : Event) → is_sit k event ≡ false → is_quit k event ≡ false → is_withdraw k event ≡ false → x ≡ both_counts x (counts_of k (event ∷ []))
-not_counted x k event sit quit withdraw = same_counts _ _ (none_more (is_sit k) event x.meals sit) (none_more (is_quit k) event x.sessions_done quit) (none_more (is_withdraw k) event x.withdrawn withdraw)
+not_counted : (x : Counts) (k : ℕ) (event : Event) → is_sit k event ≡ false → is_quit k event ≡ false
+    → is_withdraw k event ≡ false → x ≡ both_counts x (counts_of k (event ∷ []))
+not_counted x k event sit quit withdraw =
+    same_counts _ _ (none_more (is_sit k) event x.meals sit)
+    (none_more (is_quit k) event x.sessions_done quit) (none_more (is_withdraw k) event x.withdrawn withdraw)
 
 -- an event that is counted for no job
-still : (counts : List Counts) (event : Event) → ((k : ℕ) → is_sit k event ≡ false) → ((k : ℕ) → is_quit k event ≡ false) → ((k : ℕ) → is_withdraw k event ≡ false) → GoOnBy counts (event ∷ []) counts
+still : (counts : List Counts) (event : Event) → ((k : ℕ) → is_sit k event ≡ false)
+    → ((k : ℕ) → is_quit k event ≡ false) → ((k : ℕ) → is_withdraw k event ≡ false) → GoOnBy counts (event ∷ []) counts
 still counts event sit quit withdraw = record { one_each = refl; counted = λ k below. not_counted (count_at counts k) k event (sit k) (quit k) (withdraw k) }
 
 -- the counts after an event
@@ -40,7 +44,8 @@ goes_on (Sit j) counts can =
     record {
       one_each = length-set _ _ _;
       counted = λ k below. set_cases (λ n y. y ≡ both_counts (count_at counts n) (counts_of n (Sit j ∷ []))) counts j _ no_counts k can.is_job
-          (same_counts _ _ (one_more (is_sit j) (Sit j) x.meals (eq-eqb j j refl)) (none_more (is_quit j) (Sit j) x.sessions_done refl) (none_more (is_withdraw j) (Sit j) x.withdrawn refl))
+          (same_counts _ _ (one_more (is_sit j) (Sit j) x.meals (eq-eqb j j refl))
+          (none_more (is_quit j) (Sit j) x.sessions_done refl) (none_more (is_withdraw j) (Sit j) x.withdrawn refl))
           (λ other. not_counted (count_at counts k) k (Sit j) (ne_eqb j k (λ e. other (sym e))) refl refl);
     }
 goes_on (Quit j) counts can =
@@ -48,7 +53,8 @@ goes_on (Quit j) counts can =
     record {
       one_each = length-set _ _ _;
       counted = λ k below. set_cases (λ n y. y ≡ both_counts (count_at counts n) (counts_of n (Quit j ∷ []))) counts j _ no_counts k can.is_job
-          (same_counts _ _ (none_more (is_sit j) (Quit j) x.meals refl) (one_more (is_quit j) (Quit j) x.sessions_done (eq-eqb j j refl)) (none_more (is_withdraw j) (Quit j) x.withdrawn refl))
+          (same_counts _ _ (none_more (is_sit j) (Quit j) x.meals refl)
+          (one_more (is_quit j) (Quit j) x.sessions_done (eq-eqb j j refl)) (none_more (is_withdraw j) (Quit j) x.withdrawn refl))
           (λ other. not_counted (count_at counts k) k (Quit j) refl (ne_eqb j k (λ e. other (sym e))) refl);
     }
 goes_on (Withdraw j) counts can =
@@ -56,7 +62,8 @@ goes_on (Withdraw j) counts can =
     record {
       one_each = length-set _ _ _;
       counted = λ k below. set_cases (λ n y. y ≡ both_counts (count_at counts n) (counts_of n (Withdraw j ∷ []))) counts j _ no_counts k can.is_job
-          (same_counts _ _ (none_more (is_sit j) (Withdraw j) x.meals refl) (none_more (is_quit j) (Withdraw j) x.sessions_done refl) (one_more (is_withdraw j) (Withdraw j) x.withdrawn (eq-eqb j j refl)))
+          (same_counts _ _ (none_more (is_sit j) (Withdraw j) x.meals refl) (none_more (is_quit j) (Withdraw j) x.sessions_done refl)
+          (one_more (is_withdraw j) (Withdraw j) x.withdrawn (eq-eqb j j refl)))
           (λ other. not_counted (count_at counts k) k (Withdraw j) refl refl (ne_eqb j k (λ e. other (sym e))));
     }
 goes_on event counts can = still counts event (λ k. refl) (λ k. refl) (λ k. refl)
@@ -78,17 +85,21 @@ joined x k xs ys = same_counts _ _
     (omega (arith, count_joined (is_quit k) xs ys))
     (omega (arith, count_joined (is_withdraw k) xs ys))
 
-pub goes_on_push : (old mid new : List Counts) (events : List Event) (event : Event) → GoOnBy old events mid → GoOnBy mid (event ∷ []) new → GoOnBy old (events ++ event ∷ []) new
+pub goes_on_push : (old mid new : List Counts) (events : List Event) (event : Event)
+    → GoOnBy old events mid → GoOnBy mid (event ∷ []) new → GoOnBy old (events ++ event ∷ []) new
 goes_on_push old mid new events event first then = record {
   one_each = then.one_each ∙ first.one_each;
-  counted = λ k below. then.counted k (omega (arith, below, first.one_each)) ∙ (ap (λ x. both_counts x (counts_of k (event ∷ []))) (first.counted k below) ∙ joined (count_at old k) k events (event ∷ []));
+  counted = λ k below. then.counted k (omega (arith, below, first.one_each))
+      ∙ (ap (λ x. both_counts x (counts_of k (event ∷ []))) (first.counted k below) ∙ joined (count_at old k) k events (event ∷ []));
 }
 
 from_none : (k : ℕ) (xs ys : List Event) → both_counts (counts_of k xs) (counts_of k ys) ≡ counts_of k (xs ++ ys)
 from_none k xs ys = same_counts _ _ (sym (count_joined (is_sit k) xs ys)) (sym (count_joined (is_quit k) xs ys)) (sym (count_joined (is_withdraw k) xs ys))
 
-pub counts_push : (plan : LabPlan) (events : List Event) (event : Event) (counts new : List Counts) → AreCountsOf plan events counts → GoOnBy counts (event ∷ []) new → AreCountsOf plan (events ++ event ∷ []) new
+pub counts_push : (plan : LabPlan) (events : List Event) (event : Event) (counts new : List Counts)
+    → AreCountsOf plan events counts → GoOnBy counts (event ∷ []) new → AreCountsOf plan (events ++ event ∷ []) new
 counts_push plan events event counts new h more = record {
   one_each = more.one_each ∙ h.one_each;
-  counted = λ k below. more.counted k (omega (arith, below, h.one_each)) ∙ (ap (λ x. both_counts x (counts_of k (event ∷ []))) (h.counted k below) ∙ from_none k events (event ∷ []));
+  counted = λ k below. more.counted k (omega (arith, below, h.one_each))
+      ∙ (ap (λ x. both_counts x (counts_of k (event ∷ []))) (h.counted k below) ∙ from_none k events (event ∷ []));
 }

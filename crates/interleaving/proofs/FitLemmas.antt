@@ -8,7 +8,8 @@ use Rattle.legal_steps.specs.Fitting.{IsSeatOf}
 use Rattle.interleaving.specs.Phases.{IsPhaseOf}
 
 -- what holds at place k of a list with a new element at place n: the new one where they are the same, the old one elsewhere
-pub set_cases : {X : Type 0} (P : ℕ → X → Type 0) (xs : List X) (n : ℕ) (x d : X) (k : ℕ) → n < length xs → P n x → (k ≢ n → P k (slice_index_or xs k d)) → P k (slice_index_or (slice_set xs n x) k d)
+pub set_cases : {X : Type 0} (P : ℕ → X → Type 0) (xs : List X) (n : ℕ) (x d : X) (k : ℕ) → n < length xs
+    → P n x → (k ≢ n → P k (slice_index_or xs k d)) → P k (slice_index_or (slice_set xs n x) k d)
 set_cases {X} P xs n x d k inside new old = elim (cases_eq k n) [
   | inl same ↦ let Q : ℕ → Type 0 = λ m. P m (slice_index_or (slice_set xs n x) m d) in
       subst Q (sym same) (subst (P n) (sym (get_or-set_same xs n x d inside)) new)
@@ -16,7 +17,8 @@ set_cases {X} P xs n x d k inside new old = elim (cases_eq k n) [
 ]
 
 -- a seat fits with another phase that fits
-pub seat_with_phase : (plan : LabPlan) (j : ℕ) (x : Seat) (phase : JobState) → IsSeatOf plan j x → IsPhaseOf plan j phase → IsSeatOf plan j (record x { phase = phase })
+pub seat_with_phase : (plan : LabPlan) (j : ℕ) (x : Seat) (phase : JobState)
+    → IsSeatOf plan j x → IsPhaseOf plan j phase → IsSeatOf plan j (record x { phase = phase })
 seat_with_phase plan j x phase h p = record {
   fork_marks_there = h.fork_marks_there;
   bottle_marks_there = h.bottle_marks_there;

@@ -17,11 +17,13 @@ use Rattle.interleaving.specs.Rooms.{log_at, log_with_room, HasRooms}
 use Rattle.legal_steps.proofs.FitsWrites.{fits_with_log}
 use Rattle.interleaving.proofs.FitLemmas.{set_cases}
 
-not_next : (last : Option Entry) (entry : Entry) → MatchOption last (entry.place ≡ 1) (λ before. IsNextPlace before entry) → MatchOption last ⊥ (λ before. ¬ IsNextPlace before entry) → ⊥
+not_next : (last : Option Entry) (entry : Entry) → MatchOption last (entry.place ≡ 1) (λ before. IsNextPlace before entry)
+    → MatchOption last ⊥ (λ before. ¬ IsNextPlace before entry) → ⊥
 not_next None entry h r = r
 not_next (Some before) entry h r = r h
 
-not_first : (last : Option Entry) (entry : Entry) → MatchOption last (entry.place ≡ 1) (λ before. IsNextPlace before entry) → MatchOption last (entry.place ≢ 1) (λ before. ⊥) → ⊥
+not_first : (last : Option Entry) (entry : Entry) → MatchOption last (entry.place ≡ 1) (λ before. IsNextPlace before entry)
+    → MatchOption last (entry.place ≢ 1) (λ before. ⊥) → ⊥
 not_first None entry h r = r h
 not_first (Some before) entry h r = r
 
@@ -38,7 +40,8 @@ entries_at (l ∷ logs) zero = refl
 entries_at (l ∷ logs) (suc i) = entries_at logs i
 
 -- one log is replaced
-pub entries_set : (logs : List LogView) (i : ℕ) (log : LogView) → map (λ (l : LogView). l.entries) (slice_set logs i log) ≡ slice_set (map (λ (l : LogView). l.entries) logs) i log.entries
+pub entries_set : (logs : List LogView) (i : ℕ) (log : LogView)
+    → map (λ (l : LogView). l.entries) (slice_set logs i log) ≡ slice_set (map (λ (l : LogView). l.entries) logs) i log.entries
 entries_set [] i log = refl
 entries_set (l ∷ logs) zero log = refl
 entries_set (l ∷ logs) (suc i) log = ap (λ xs. l.entries ∷ xs) (entries_set logs i log)
@@ -47,20 +50,23 @@ entries_set (l ∷ logs) (suc i) log = ap (λ xs. l.entries ∷ xs) (entries_set
 abbrev pub shown : List EdgeState → List Seat → List LogView → State
 shown edges seats logs = record { edges = edges; seats = seats; logs = map (λ (l : LogView). l.entries) logs }
 
-log_is : (plan : LabPlan) (edges : List EdgeState) (seats : List Seat) (logs : List LogView) (i : ℕ) → HasRooms plan logs → i < length logs → log_at logs i ≡ log_with_room plan (shown edges seats logs) i
+log_is : (plan : LabPlan) (edges : List EdgeState) (seats : List Seat) (logs : List LogView) (i : ℕ)
+    → HasRooms plan logs → i < length logs → log_at logs i ≡ log_with_room plan (shown edges seats logs) i
 log_is plan edges seats logs i rooms inside =
     let make : List Entry → ℕ → LogView = λ entries room. record { entries = entries; room = room } in
     ap (make (log_at logs i).entries) (rooms i inside) ∙ ap (λ entries. make entries (room_of plan i)) (sym (entries_at logs i))
 
 -- a log as it is read from the tables
 pub log_read : (w : Setting) (plan : LabPlan) (edges : List EdgeState) (seats : List Seat) (logs : List LogView) (i n : ℕ) (log : LogView)
-    → record { plan = plan; state = shown edges seats logs } ≡ w → HasRooms plan logs → i < length logs → i ≡ n → log ≡ log_at logs i → log ≡ log_with_room w.plan w.state n
+    → record { plan = plan; state = shown edges seats logs } ≡ w → HasRooms plan logs
+    → i < length logs → i ≡ n → log ≡ log_at logs i → log ≡ log_with_room w.plan w.state n
 log_read w plan edges seats logs i n log view rooms inside same is =
     is ∙ (log_is plan edges seats logs i rooms inside ∙ (ap (λ (x : Setting). log_with_room x.plan x.state i) view ∙ ap (log_with_room w.plan w.state) same))
 
 -- the state after one more entry
 pub pushed : (w : Setting) (plan : LabPlan) (edges : List EdgeState) (seats : List Seat) (logs : List LogView) (i n : ℕ) (old new : LogView) (entry : Entry)
-    → record { plan = plan; state = shown edges seats logs } ≡ w → i ≡ n → old ≡ log_at logs i → new ≡ with_log_entry old entry → shown edges seats (slice_set logs i new) ≡ with_entry w.state n entry
+    → record { plan = plan; state = shown edges seats logs } ≡ w → i ≡ n → old ≡ log_at logs i
+    → new ≡ with_log_entry old entry → shown edges seats (slice_set logs i new) ≡ with_entry w.state n entry
 pushed w plan edges seats logs i n old new entry view same was is =
     let make : List (List Entry) → State = λ all. record { edges = edges; seats = seats; logs = all } in
     let entries : new.entries ≡ slice_index_or (map (λ (l : LogView). l.entries) logs) i [] ++ entry ∷ [] =
@@ -69,11 +75,15 @@ pushed w plan edges seats logs i n old new entry view same was is =
     ∙ (ap (λ (x : Setting). with_entry x.state i entry) view ∙ ap (λ k. with_entry w.state k entry) same)
 
 -- the tables fit after it
-pub fits_pushed : (plan : LabPlan) (edges : List EdgeState) (seats : List Seat) (logs : List LogView) (i : ℕ) (new : LogView) → Fits plan (shown edges seats logs) → Fits plan (shown edges seats (slice_set logs i new))
+pub fits_pushed : (plan : LabPlan) (edges : List EdgeState) (seats : List Seat) (logs : List LogView) (i : ℕ) (new : LogView)
+    → Fits plan (shown edges seats logs) → Fits plan (shown edges seats (slice_set logs i new))
 fits_pushed plan edges seats logs i new h =
     let make : List (List Entry) → State = λ all. record { edges = edges; seats = seats; logs = all } in
     subst (λ all. Fits plan (make all)) (sym (entries_set logs i new)) (fits_with_log plan (shown edges seats logs) i new.entries h)
 
-pub rooms_pushed : (plan : LabPlan) (logs : List LogView) (i : ℕ) (old new : LogView) (entry : Entry) → HasRooms plan logs → i < length logs → old ≡ log_at logs i → new ≡ with_log_entry old entry → HasRooms plan (slice_set logs i new)
+pub rooms_pushed : (plan : LabPlan) (logs : List LogView) (i : ℕ) (old new : LogView) (entry : Entry) → HasRooms plan logs
+    → i < length logs → old ≡ log_at logs i → new ≡ with_log_entry old entry → HasRooms plan (slice_set logs i new)
 rooms_pushed plan logs i old new entry rooms inside was is k below =
-    set_cases (λ n (l : LogView). l.room ≡ room_of plan n) logs i new (empty_log 0) k inside (ap (λ (l : LogView). l.room) (is ∙ ap (λ l. with_log_entry l entry) was) ∙ rooms i inside) (λ _. rooms k (omega (arith, below, length-set {A = LogView})))
+    set_cases (λ n (l : LogView). l.room ≡ room_of plan n) logs i new (empty_log 0) k
+    inside (ap (λ (l : LogView). l.room) (is ∙ ap (λ l. with_log_entry l entry) was) ∙ rooms i inside)
+    (λ _. rooms k (omega (arith, below, length-set {A = LogView})))

@@ -36,17 +36,20 @@ chosen_more plan choices n d inside =
     let there : n < length all = omega (arith, inside, chosen_length plan choices) in
     take_more all n no_edge there ∙ ap (λ (x : EdgeState). take n all ++ x ∷ []) (opening_edge plan choices n d inside)
 
-pub chosen_all : (plan : LabPlan) (choices : List EndChoice) (n : ℕ) → n ≡ length choices → take n (opening_of plan choices).edges ≡ (opening_of plan choices).edges
+pub chosen_all : (plan : LabPlan) (choices : List EndChoice) (n : ℕ) → n ≡ length choices
+    → take n (opening_of plan choices).edges ≡ (opening_of plan choices).edges
 chosen_all plan choices n all = take_all n (opening_of plan choices).edges (omega (arith, all, chosen_length plan choices))
 
 -- the state that the parts show
 pub opening_shown : (plan : LabPlan) (choices : List EndChoice) (edges : List EdgeState) (seats : List Seat) (logs : List LogView)
-    → edges ≡ (opening_of plan choices).edges → seats ≡ replicate (length plan.jobs) (idle_seat plan) → logs ≡ map (λ i. empty_log (room_of plan i)) (range_with_len 0 (length plan.instruments)) → shown edges seats logs ≡ opening_of plan choices
+    → edges ≡ (opening_of plan choices).edges → seats ≡ replicate (length plan.jobs) (idle_seat plan)
+    → logs ≡ map (λ i. empty_log (room_of plan i)) (range_with_len 0 (length plan.instruments)) → shown edges seats logs ≡ opening_of plan choices
 opening_shown plan choices edges seats logs is_edges is_seats is_logs =
     let make : List EdgeState → List Seat → List (List Entry) → State = λ e s l. record { edges = e; seats = s; logs = l } in
     ap (λ e. make e seats (map (λ (l : LogView). l.entries) logs)) is_edges
     ∙ (ap (λ s. make (opening_of plan choices).edges s (map (λ (l : LogView). l.entries) logs)) is_seats
-    ∙ ap (λ l. make (opening_of plan choices).edges (replicate (length plan.jobs) (idle_seat plan)) l) (ap (map (λ (l : LogView). l.entries)) is_logs ∙ are_empty plan 0 (length plan.instruments)))
+    ∙ ap (λ l. make (opening_of plan choices).edges (replicate (length plan.jobs) (idle_seat plan)) l) (ap (map (λ (l : LogView). l.entries)) is_logs
+    ∙ are_empty plan 0 (length plan.instruments)))
 
 pub opening_fits : (plan : LabPlan) (choices : List EndChoice) → AreChoices plan choices → Fits plan (opening_of plan choices)
 opening_fits plan choices are = fits_opening plan (opening_of plan choices) (opening_of_choices plan choices are)
@@ -56,7 +59,8 @@ opening_fits plan choices are = fits_opening plan (opening_of plan choices) (ope
 none_counted : (n k : ℕ) → k < n → slice_index_or (replicate n no_counts) k no_counts ≡ counts_of k []
 none_counted n k below = get_or-replicate n k no_counts no_counts below
 
-pub reached_at_start : (plan : LabPlan) (s : State) → IsPlan plan → IsOpening plan s → IsAcyclic plan s → IsReachedWith plan s (replicate (length plan.jobs) no_counts)
+pub reached_at_start : (plan : LabPlan) (s : State) → IsPlan plan → IsOpening plan s
+    → IsAcyclic plan s → IsReachedWith plan s (replicate (length plan.jobs) no_counts)
 reached_at_start plan s is_plan opens acyclic = record {
   is_plan = is_plan;
   opening = s;
@@ -68,13 +72,16 @@ reached_at_start plan s is_plan opens acyclic = record {
 }
 
 -- tables that show an opening state, with a tally of no counts
-pub reached_opened : (t : Setting) (plan : LabPlan) (s : State) (tally : List Counts) (n : ℕ) → t ≡ record { plan = plan; state = s } → n ≡ length plan.jobs → tally ≡ replicate n no_counts
+pub reached_opened : (t : Setting) (plan : LabPlan) (s : State) (tally : List Counts) (n : ℕ)
+    → t ≡ record { plan = plan; state = s } → n ≡ length plan.jobs → tally ≡ replicate n no_counts
     → IsPlan plan → IsOpening plan s → IsAcyclic plan s → IsReachedWith t.plan t.state tally
 reached_opened t plan s tally n shows all none is_plan opens acyclic =
     let counts : tally ≡ replicate (length plan.jobs) no_counts = none ∙ ap (λ k. replicate k no_counts) all in
-    subst (λ (x : Setting). IsReachedWith x.plan x.state tally) (sym shows) (subst (IsReachedWith plan s) (sym counts) (reached_at_start plan s is_plan opens acyclic))
+    subst (λ (x : Setting). IsReachedWith x.plan x.state tally) (sym shows)
+    (subst (IsReachedWith plan s) (sym counts) (reached_at_start plan s is_plan opens acyclic))
 
-pub is_at_start : (t : Setting) (plan : LabPlan) (s : State) (tally : List Counts) (n : ℕ) → t ≡ record { plan = plan; state = s } → n ≡ length plan.jobs → tally ≡ replicate n no_counts
+pub is_at_start : (t : Setting) (plan : LabPlan) (s : State) (tally : List Counts) (n : ℕ)
+    → t ≡ record { plan = plan; state = s } → n ≡ length plan.jobs → tally ≡ replicate n no_counts
     → record { plan = t.plan; state = t.state; counts = tally } ≡ at_start plan s
 is_at_start t plan s tally n shows all none =
     let counts : tally ≡ replicate (length plan.jobs) no_counts = none ∙ ap (λ k. replicate k no_counts) all in
@@ -86,7 +93,8 @@ pub opened_acyclic : (t : Setting) (plan : LabPlan) (s : State) (pairs lent : Li
 opened_acyclic t plan s pairs lent shows same these none =
     subst (λ (x : Setting). IsAcyclic x.plan x.state) shows (acyclic_of t.plan t.state pairs these (subst (λ xs. HasNoCycle (IsAmong xs)) same none))
 
-pub opened_cyclic : (t : Setting) (plan : LabPlan) (s : State) (pairs lent : List (ℕ × ℕ)) (cycle : List ℕ) → t ≡ record { plan = plan; state = s } → lent ≡ pairs
+pub opened_cyclic : (t : Setting) (plan : LabPlan) (s : State) (pairs lent : List (ℕ × ℕ)) (cycle : List ℕ)
+    → t ≡ record { plan = plan; state = s } → lent ≡ pairs
     → ((a b : ℕ) → IsAmong pairs a b ↔ Precedes t.plan t.state a b) → IsCycleOf (IsAmong lent) cycle → ¬ IsAcyclic plan s
 opened_cyclic t plan s pairs lent cycle shows same these is =
     subst (λ (x : Setting). ¬ IsAcyclic x.plan x.state) shows (cyclic_of t.plan t.state pairs cycle these (subst (λ xs. IsCycleOf (IsAmong xs) cycle) same is))

@@ -41,8 +41,10 @@ pairs_none plan s pairs none =
       below = λ k d inside. absurd (omega (arith, inside, empty));
     }
 
-pub pairs_more : (plan : LabPlan) (s : State) (n : ℕ) (pairs : List (ℕ × ℕ)) (order : ℕ × ℕ) → ArePairsBelow plan s n pairs → PrecedesOn plan s n order.0 order.1
-    → ((a b : ℕ) → PrecedesOn plan s n a b → (a ≡ order.0) × (b ≡ order.1)) → (order.0 < length plan.jobs) × (order.1 < length plan.jobs) → ArePairsBelow plan s (n + 1) (pairs ++ order ∷ [])
+pub pairs_more : (plan : LabPlan) (s : State) (n : ℕ) (pairs : List (ℕ × ℕ)) (order : ℕ × ℕ)
+    → ArePairsBelow plan s n pairs → PrecedesOn plan s n order.0 order.1
+    → ((a b : ℕ) → PrecedesOn plan s n a b → (a ≡ order.0) × (b ≡ order.1))
+    → (order.0 < length plan.jobs) × (order.1 < length plan.jobs) → ArePairsBelow plan s (n + 1) (pairs ++ order ∷ [])
 pairs_more plan s n pairs order h on only jobs = record {
   count = omega (arith, length_push pairs order, h.count);
   each = λ e below. elim (cases_lt e n) [
@@ -69,16 +71,20 @@ pairs_more plan s n pairs order h on only jobs = record {
   below = All-push (λ (p : ℕ × ℕ). (p.0 < length plan.jobs) × (p.1 < length plan.jobs)) pairs order h.below jobs;
 }
 
-pub precedes_of : (plan : LabPlan) (s : State) (n : ℕ) (pairs : List (ℕ × ℕ)) → ArePairsBelow plan s n pairs → length (edges plan) ≤ n → (a b : ℕ) → IsAmong pairs a b ↔ Precedes plan s a b
+pub precedes_of : (plan : LabPlan) (s : State) (n : ℕ) (pairs : List (ℕ × ℕ)) → ArePairsBelow plan s n pairs
+    → length (edges plan) ≤ n → (a b : ℕ) → IsAmong pairs a b ↔ Precedes plan s a b
 precedes_of plan s n pairs h past a b = (λ has. let w = h.among a b has in (w.0, w.2), λ p. h.all a b p.0 (omega (arith, p.1.is_edge, past)) p.1)
 
-pub by_edge_of : (plan : LabPlan) (s : State) (n : ℕ) (pairs : List (ℕ × ℕ)) → ArePairsBelow plan s n pairs → n ≡ length (edges plan) → IsPrecedenceByEdge plan s pairs
+pub by_edge_of : (plan : LabPlan) (s : State) (n : ℕ) (pairs : List (ℕ × ℕ))
+    → ArePairsBelow plan s n pairs → n ≡ length (edges plan) → IsPrecedenceByEdge plan s pairs
 by_edge_of plan s n pairs h all = record { one_each = h.count ∙ all; each = λ e is_edge. h.each e (omega (arith, is_edge, all)) }
 
 -- ---- cycles
 
-pub acyclic_of : (plan : LabPlan) (s : State) (pairs : List (ℕ × ℕ)) → ((a b : ℕ) → IsAmong pairs a b ↔ Precedes plan s a b) → HasNoCycle (IsAmong pairs) → IsAcyclic plan s
+pub acyclic_of : (plan : LabPlan) (s : State) (pairs : List (ℕ × ℕ))
+    → ((a b : ℕ) → IsAmong pairs a b ↔ Precedes plan s a b) → HasNoCycle (IsAmong pairs) → IsAcyclic plan s
 acyclic_of plan s pairs same none jobs cycle = none jobs (cycle_same (Precedes plan s) (IsAmong pairs) (λ a b. (same a b).1) jobs cycle)
 
-pub cyclic_of : (plan : LabPlan) (s : State) (pairs : List (ℕ × ℕ)) (cycle : List ℕ) → ((a b : ℕ) → IsAmong pairs a b ↔ Precedes plan s a b) → IsCycleOf (IsAmong pairs) cycle → ¬ IsAcyclic plan s
+pub cyclic_of : (plan : LabPlan) (s : State) (pairs : List (ℕ × ℕ)) (cycle : List ℕ)
+    → ((a b : ℕ) → IsAmong pairs a b ↔ Precedes plan s a b) → IsCycleOf (IsAmong pairs) cycle → ¬ IsAcyclic plan s
 cyclic_of plan s pairs cycle same is acyclic = acyclic cycle (cycle_same (IsAmong pairs) (Precedes plan s) (λ a b. (same a b).0) cycle is)

@@ -19,7 +19,8 @@ use Rattle.interleaving.proofs.FewCommands.{of_job, in_plan}
 pub job_more : (plan : LabPlan) (i j n : ℕ) → n < length (sessions plan j) → first_on plan i j (n + 1) ≡ first_on plan i j n + part plan j (n + 1) i
 job_more plan i j n inside = first_on-more plan i j n inside
 
-pub job_all : (plan : LabPlan) (i j n : ℕ) → n ≡ length (sessions plan j) → first_on plan i j n ≡ count_on i (flat_map (λ session. session.commands) (sessions plan j))
+pub job_all : (plan : LabPlan) (i j n : ℕ) → n ≡ length (sessions plan j)
+    → first_on plan i j n ≡ count_on i (flat_map (λ session. session.commands) (sessions plan j))
 job_all plan i j n all = ap (λ xs. count_on i (flat_map (λ (session : SessionPlan). session.commands) xs)) (take_all n (sessions plan j) (omega arith))
 
 -- all of a job's commands on the instrument
@@ -28,7 +29,8 @@ on_by plan i j = count_on i (flat_map (λ session. session.commands) (sessions p
 
 few_on : (plan : LabPlan) (i j : ℕ) → IsPlan plan → on_by plan i j ≤ 100000
 few_on plan i j is =
-    let short : on_by plan i j ≤ length (of_job (job_at plan j)) = count_by-le-length _ (flat_map (λ (session : SessionPlan). session.commands) (sessions plan j)) in
+    let short : on_by plan i j ≤ length (of_job (job_at plan j)) =
+    count_by-le-length _ (flat_map (λ (session : SessionPlan). session.commands) (sessions plan j)) in
     omega (arith, short, in_plan plan j, is.draft.few_commands)
 
 pub job_few : (plan : LabPlan) (i j n : ℕ) → IsPlan plan → first_on plan i j n ≤ 100000
@@ -56,7 +58,8 @@ all_few plan i n is below =
 
 -- ---- the logs
 
-pub logs_more : (plan : LabPlan) (n : ℕ) → map (λ i. empty_log (room_of plan i)) (range_with_len 0 (n + 1)) ≡ map (λ i. empty_log (room_of plan i)) (range_with_len 0 n) ++ empty_log (room_of plan n) ∷ []
+pub logs_more : (plan : LabPlan) (n : ℕ) → map (λ i. empty_log (room_of plan i)) (range_with_len 0 (n + 1))
+    ≡ map (λ i. empty_log (room_of plan i)) (range_with_len 0 n) ++ empty_log (room_of plan n) ∷ []
 logs_more plan n = map-range_with_len_more (λ i. empty_log (room_of plan i)) 0 n n (omega arith)
 
 pub have_rooms : (plan : LabPlan) (n : ℕ) → HasRooms plan (map (λ i. empty_log (room_of plan i)) (range_with_len 0 n))

@@ -34,8 +34,10 @@ pub step_events_length : (plan : LabPlan) (s : State) (lines : List StepLine) �
 step_events_length plan s lines = events_length plan s (steps_of lines) ∙ length-map lines (λ (line : StepLine). line.step)
 
 -- the event of the line at place n
-pub event_here : (plan : LabPlan) (s : State) (lines : List StepLine) (n : ℕ) (line : StepLine) (now : State) (event : Event) → n < length lines → line ≡ slice_index_or lines n line
-    → now ≡ after_all plan s (take n (events_of plan s (steps_of lines))) → event ≡ event_of now line.step → event ≡ slice_index_or (events_of plan s (steps_of lines)) n event
+pub event_here : (plan : LabPlan) (s : State) (lines : List StepLine) (n : ℕ) (line : StepLine) (now : State) (event : Event)
+    → n < length lines → line ≡ slice_index_or lines n line
+    → now ≡ after_all plan s (take n (events_of plan s (steps_of lines)))
+    → event ≡ event_of now line.step → event ≡ slice_index_or (events_of plan s (steps_of lines)) n event
 event_here plan s lines n line now event inside is led here =
     let steps = steps_of lines in
     let there : n < length steps = omega (arith, inside, length-map lines (λ (line : StepLine). line.step)) in

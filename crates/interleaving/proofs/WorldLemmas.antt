@@ -50,7 +50,8 @@ can_count plan s counts (Withdraw j) h may = few_counts plan s counts j h may.0
 can_count plan s counts event h may = tt
 
 -- the world after a legal event
-pub reached_with : (plan : LabPlan) (s s' : State) (counts counts' : List Counts) (event : Event) → IsReachedWith plan s counts → IsLegal plan s event s' → GoOnBy counts (event ∷ []) counts' → IsReachedWith plan s' counts'
+pub reached_with : (plan : LabPlan) (s s' : State) (counts counts' : List Counts) (event : Event)
+    → IsReachedWith plan s counts → IsLegal plan s event s' → GoOnBy counts (event ∷ []) counts' → IsReachedWith plan s' counts'
 reached_with plan s s' counts counts' event h step more = record {
   is_plan = h.is_plan;
   opening = h.opening;
@@ -66,12 +67,15 @@ reached_with plan s s' counts counts' event h step more = record {
 pub leads_none : (w : WorldView) → LeadsTo w [] w
 leads_none w = record { run = record { legal = tt; leads = refl }; counted = goes_on_none w.counts; same_plan = refl }
 
-pub leads_more : (w mid new : WorldView) (events : List Event) (n : ℕ) (event : Event) → n < length events → event ≡ slice_index_or events n event → LeadsTo w (take n events) mid
+pub leads_more : (w mid new : WorldView) (events : List Event) (n : ℕ) (event : Event)
+    → n < length events → event ≡ slice_index_or events n event → LeadsTo w (take n events) mid
     → IsLegal mid.plan mid.state event new.state → GoOnBy mid.counts (event ∷ []) new.counts → new.plan ≡ mid.plan → LeadsTo w (take (n + 1) events) new
 leads_more w mid new events n event inside is led step more same =
-    let longer : take (n + 1) events ≡ take n events ++ event ∷ [] = subst (λ x. take (n + 1) events ≡ take n events ++ x ∷ []) (sym is) (take_more events n event inside) in
+    let longer : take (n + 1) events ≡ take n events ++ event ∷ [] =
+    subst (λ x. take (n + 1) events ≡ take n events ++ x ∷ []) (sym is) (take_more events n event inside) in
     record {
-      run = runs_more w.plan w.state mid.state new.state events n event inside is led.run (subst (λ plan. IsLegal plan mid.state event new.state) led.same_plan step);
+      run = runs_more w.plan w.state mid.state new.state events n event inside is led.run
+          (subst (λ plan. IsLegal plan mid.state event new.state) led.same_plan step);
       counted = subst (λ xs. GoOnBy w.counts xs new.counts) (sym longer) (goes_on_push w.counts mid.counts new.counts (take n events) event led.counted more);
       same_plan = same ∙ led.same_plan;
     }
@@ -80,10 +84,13 @@ pub leads_all : (w new : WorldView) (events : List Event) (n : ℕ) → LeadsTo 
 leads_all w new events n led past = subst (λ xs. LeadsTo w xs new) (take_all n events past) led
 
 -- a replay stops at an event that isn't legal
-pub stops_here : (w mid new : WorldView) (events : List Event) (n place : ℕ) (event : Event) → place ≡ n → n < length events → event ≡ slice_index_or events n event
-    → LeadsTo w (take n events) mid → ¬ May mid.plan mid.state event → new ≡ mid → StopsAt w.plan w.state events place new.state × LeadsTo w (take place events) new
+pub stops_here : (w mid new : WorldView) (events : List Event) (n place : ℕ) (event : Event)
+    → place ≡ n → n < length events → event ≡ slice_index_or events n event
+    → LeadsTo w (take n events) mid → ¬ May mid.plan mid.state event → new ≡ mid
+    → StopsAt w.plan w.state events place new.state × LeadsTo w (take place events) new
 stops_here w mid new events n place event same inside is led refused unchanged =
-    let here : LeadsTo w (take place events) new = subst (λ k. LeadsTo w (take k events) new) (sym same) (subst (LeadsTo w (take n events)) (sym unchanged) led) in
+    let here : LeadsTo w (take place events) new =
+    subst (λ k. LeadsTo w (take k events) new) (sym same) (subst (LeadsTo w (take n events)) (sym unchanged) led) in
     let at : slice_get events place ≡ Some event = ap (slice_get events) same ∙ slice_get_read events (length events) n event refl inside is in (
       record {
         before = here.run;

@@ -33,8 +33,10 @@ session_here plan j n = let place : (n + 1) - 1 ≡ n = omega arith in ap (λ k.
 length_here : (plan : LabPlan) (j n : ℕ) → length (session_at plan j (n + 1)).commands ≡ length (slice_index_or (sessions plan j) n no_session).commands
 length_here plan j n = ap (λ (session : SessionPlan). length session.commands) (session_here plan j n)
 
-pub commands_more : (plan : LabPlan) (j n : ℕ) → n < length (sessions plan j) → commands_to (sessions plan j) (n + 1) ≡ commands_to (sessions plan j) n + length (session_at plan j (n + 1)).commands
-commands_more plan j n inside = omega (arith, sum_by_more (λ (session : SessionPlan). length session.commands) (sessions plan j) n no_session inside, length_here plan j n)
+pub commands_more : (plan : LabPlan) (j n : ℕ) → n < length (sessions plan j)
+    → commands_to (sessions plan j) (n + 1) ≡ commands_to (sessions plan j) n + length (session_at plan j (n + 1)).commands
+commands_more plan j n inside =
+    omega (arith, sum_by_more (λ (session : SessionPlan). length session.commands) (sessions plan j) n no_session inside, length_here plan j n)
 
 pub commands_all : (plan : LabPlan) (j n : ℕ) → length (sessions plan j) ≤ n → commands_to (sessions plan j) n ≡ commands_of (sessions plan j)
 commands_all plan j n all = ap commands_of (take_all n (sessions plan j) all)
@@ -70,6 +72,12 @@ few plan is = omega (arith, counted plan.jobs, is.draft.few_commands)
 pub job_commands_few : (plan : LabPlan) (n : ℕ) → IsPlan plan → n < length plan.jobs → job_commands_to plan n + commands_of (sessions plan n) ≤ 100000
 job_commands_few plan n is inside = omega (arith, sum_by_more_le (λ (job : JobPlan). commands_of job.sessions) plan.jobs n no_job inside, few plan is)
 
-pub commands_few : (plan : LabPlan) (j n : ℕ) → IsPlan plan → j < length plan.jobs → n < length (sessions plan j) → commands_to (sessions plan j) n + length (session_at plan j (n + 1)).commands ≤ 100000
+pub commands_few : (plan : LabPlan) (j n : ℕ) → IsPlan plan → j < length plan.jobs → n < length (sessions plan j)
+    → commands_to (sessions plan j) n + length (session_at plan j (n + 1)).commands ≤ 100000
 commands_few plan j n is there inside =
-    omega (arith, sum_by_more_le (λ (session : SessionPlan). length session.commands) (sessions plan j) n no_session inside, length_here plan j n, job_commands_few plan j is there)
+    omega (
+      arith,
+      sum_by_more_le (λ (session : SessionPlan). length session.commands) (sessions plan j) n no_session inside,
+      length_here plan j n,
+      job_commands_few plan j is there,
+    )

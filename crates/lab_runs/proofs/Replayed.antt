@@ -18,13 +18,15 @@ use Rattle.lab_runs.specs.Replaying.{TakesSteps}
 use Rattle.lab_runs.specs.Runs.{run_of, outcome_of, Replays, HasIllegalStep}
 
 -- the line of the step at a place
-pub line_at : (steps : List StepLine) (k : ℕ) (d : StepLine) → k < length steps → slice_get (map (λ (step : StepLine). step.line) steps) k ≡ Some (slice_index_or steps k d).line
+pub line_at : (steps : List StepLine) (k : ℕ) (d : StepLine) → k < length steps
+    → slice_get (map (λ (step : StepLine). step.line) steps) k ≡ Some (slice_index_or steps k d).line
 line_at [] k d inside = absurd (omega (arith, inside))
 line_at (step ∷ steps) zero d inside = refl
 line_at (step ∷ steps) (suc k) d inside = line_at steps k d (omega (arith, inside))
 
 -- a step wasn't legal
-pub stopped : (input : List ℕ) (plan : LabPlan) (seen steps : List StepLine) (old new : WorldView) (line : ℕ) → seen ≡ steps → old ≡ at_start plan (the_opening plan)
+pub stopped : (input : List ℕ) (plan : LabPlan) (seen steps : List StepLine) (old new : WorldView) (line : ℕ)
+    → seen ≡ steps → old ≡ at_start plan (the_opening plan)
     → StepsMean input plan steps → TakesSteps old seen (Err line) new → HasIllegalStep input line
 stopped input plan seen steps old new line same start means taken =
     let t = subst (λ w. TakesSteps w seen (Err line) new) start taken in
@@ -36,8 +38,10 @@ stopped input plan seen steps old new line same start means taken =
     }
 
 -- all were legal
-pub replayed : IsReportOfEvents → HoldsOfEveryRun → (input : List ℕ) (plan : LabPlan) (seen steps : List StepLine) (old new : WorldView) (outcome : Outcome) → IsPlan plan → seen ≡ steps
-    → old ≡ at_start plan (the_opening plan) → StepsMean input plan steps → TakesSteps old seen (Ok tt) new → outcome ≡ outcome_of (all_retired new.plan (shown_by new))
+pub replayed : IsReportOfEvents → HoldsOfEveryRun
+    → (input : List ℕ) (plan : LabPlan) (seen steps : List StepLine) (old new : WorldView) (outcome : Outcome) → IsPlan plan → seen ≡ steps
+    → old ≡ at_start plan (the_opening plan) → StepsMean input plan steps
+    → TakesSteps old seen (Ok tt) new → outcome ≡ outcome_of (all_retired new.plan (shown_by new))
     → Replays input (report_of new.plan (shown_by new)) outcome
 replayed law holds input plan seen steps old new outcome within same start means taken ends =
     let led : LeadsTo (at_start plan (the_opening plan)) (run_of plan seen) new = subst (λ w. TakesSteps w seen (Ok tt) new) start taken in

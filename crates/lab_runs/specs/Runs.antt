@@ -97,7 +97,8 @@ ScriptRefuses input _ = ⊥
 -- ---- what a run answers
 
 -- for an input: Ok means that the text went out, and a write fault that a prefix of it did; else nothing did
-abbrev pub AnswersFor : (List ℕ → List ℕ → Outcome → Type 0) → (List ℕ → RunFault → Type 0) → List ℕ → Option (List ℕ) → Option (List ℕ) → Result Outcome RunFault → Type 0
+abbrev pub AnswersFor : (List ℕ → List ℕ → Outcome → Type 0) → (List ℕ → RunFault → Type 0)
+    → List ℕ → Option (List ℕ) → Option (List ℕ) → Result Outcome RunFault → Type 0
 AnswersFor Writes Refuses input old new (Ok outcome) = (text : List ℕ) × Writes input text outcome × Appends old new text
 AnswersFor Writes Refuses input old new (Err Write) = (text : List ℕ) × (outcome : Outcome) × Writes input text outcome × AppendsPrefix old new text
 AnswersFor Writes Refuses input old new (Err NoMemory) = Keeps old new
@@ -106,7 +107,8 @@ AnswersFor Writes Refuses input old new (Err TooLong) = ⊥
 AnswersFor Writes Refuses input old new (Err fault) = Refuses input fault × Keeps old new
 
 -- for a source: what it had left was the input, or it was not read, or too long
-abbrev pub AnswersTo : (List ℕ → List ℕ → Outcome → Type 0) → (List ℕ → RunFault → Type 0) → Option (List ℕ) → Option (List ℕ) → Option (List ℕ) → Result Outcome RunFault → Type 0
+abbrev pub AnswersTo : (List ℕ → List ℕ → Outcome → Type 0) → (List ℕ → RunFault → Type 0)
+    → Option (List ℕ) → Option (List ℕ) → Option (List ℕ) → Result Outcome RunFault → Type 0
 AnswersTo Writes Refuses left old new (Err Read) = Keeps old new
 AnswersTo Writes Refuses left old new (Err TooLong) = IsTooLong left × Keeps old new
 AnswersTo Writes Refuses left old new (Err NoMemory) = Keeps old new

@@ -35,7 +35,8 @@ pub record RunsInRounds (limit : ℕ) (input text : List ℕ) (outcome : Outcome
 
 -- a script and a limit have one report
 abbrev pub HasOneRun : Type 0
-HasOneRun = (limit : ℕ) (input text text' : List ℕ) (outcome outcome' : Outcome) → RunsInRounds limit input text outcome → RunsInRounds limit input text' outcome'
+HasOneRun = (limit : ℕ) (input text text' : List ℕ) (outcome outcome' : Outcome)
+    → RunsInRounds limit input text outcome → RunsInRounds limit input text' outcome'
     → (text ≡ text') × (outcome ≡ outcome')
 
 -- what the runs answer, for what a source had left, and what a sink has taken before and after

@@ -34,7 +34,12 @@ bottles_alone plan s j e set own h =
     let some = some_bottle plan e set h in
     record {
       ask = (
-        λ may k has. (own, may.1, one_bottle plan e k (below plan e set k h has), λ i is. subst (MayAskBottle plan s j e) (sym (only_one k i is)) (may.3 k has)),
+        λ may k has. (
+          own,
+          may.1,
+          one_bottle plan e k (below plan e set k h has),
+          λ i is. subst (MayAskBottle plan s j e) (sym (only_one k i is)) (may.3 k has),
+        ),
         λ each. (own, (each some.0 some.2).1, h, λ k has. (each k has).3 k (itself k)),
       );
       give = (
@@ -66,15 +71,18 @@ in_own plan j step job w = in_all plan j step job (Contains-append_left (own_mov
 
 in_edge : (plan : LabPlan) (j e : ℕ) (step : Step) → IsOwn plan j e → Contains (edge_moves plan j e) step → Contains (all_moves plan) step
 in_edge plan j e step own w =
-    in_all plan j step (own_is_job plan j e own) (Contains-append_right (own_moves j) _ step (contains_flat (edge_moves plan j) (edges_of plan j) e step (own_edge_listed plan j e own) w))
+    in_all plan j step (own_is_job plan j e own)
+    (Contains-append_right (own_moves j) _ step (contains_flat (edge_moves plan j) (edges_of plan j) e step (own_edge_listed plan j e own) w))
 
 in_fork : (plan : LabPlan) (j e : ℕ) (step : Step) → IsOwn plan j e → Contains (fork_moves j e) step → Contains (all_moves plan) step
 in_fork plan j e step own w = in_edge plan j e step own (Contains-append_left (fork_moves j e) _ step w)
 
-in_bottle : (plan : LabPlan) (j e k : ℕ) (step : Step) → IsOwn plan j e → k < length (bottles plan e) → Contains (bottle_moves j e k) step → Contains (all_moves plan) step
+in_bottle : (plan : LabPlan) (j e k : ℕ) (step : Step) → IsOwn plan j e
+    → k < length (bottles plan e) → Contains (bottle_moves j e k) step → Contains (all_moves plan) step
 in_bottle plan j e k step own small w =
     let n = length (bottles plan e) in
-    in_edge plan j e step own (Contains-append_right (fork_moves j e) _ step (contains_flat (bottle_moves j e) (range_with_len 0 n) k step (in_numbers n k small) w))
+    in_edge plan j e step own
+    (Contains-append_right (fork_moves j e) _ step (contains_flat (bottle_moves j e) (range_with_len 0 n) k step (in_numbers n k small) w))
 
 pub every_step : IsEveryStep
 every_step plan s (Look j e) may = tt

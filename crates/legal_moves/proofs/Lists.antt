@@ -54,10 +54,12 @@ keeps_skip P (y ∷ all) kept x h k = elim k [
 ]
 
 -- one more is looked at
-pub keeps_more : {A : Type 0} (P : A → Type 0) (xs kept : List A) (i : ℕ) (x : A) → i < length xs → x ≡ slice_index_or xs i x → P x → Keeps P (take i xs) kept → Keeps P (take (i + 1) xs) (kept ++ x ∷ [])
+pub keeps_more : {A : Type 0} (P : A → Type 0) (xs kept : List A) (i : ℕ) (x : A) → i < length xs
+    → x ≡ slice_index_or xs i x → P x → Keeps P (take i xs) kept → Keeps P (take (i + 1) xs) (kept ++ x ∷ [])
 keeps_more P xs kept i x inside is h k =
     subst (λ t. Keeps P t (kept ++ x ∷ [])) (ap (λ y. take i xs ++ y ∷ []) is ∙ sym (take_more xs i x inside)) (keeps_push P (take i xs) kept x h k)
 
-pub keeps_less : {A : Type 0} (P : A → Type 0) (xs kept : List A) (i : ℕ) (x : A) → i < length xs → x ≡ slice_index_or xs i x → ¬ P x → Keeps P (take i xs) kept → Keeps P (take (i + 1) xs) kept
+pub keeps_less : {A : Type 0} (P : A → Type 0) (xs kept : List A) (i : ℕ) (x : A) → i < length xs
+    → x ≡ slice_index_or xs i x → ¬ P x → Keeps P (take i xs) kept → Keeps P (take (i + 1) xs) kept
 keeps_less P xs kept i x inside is h k =
     subst (λ t. Keeps P t kept) (ap (λ y. take i xs ++ y ∷ []) is ∙ sym (take_more xs i x inside)) (keeps_skip P (take i xs) kept x h k)

@@ -12,12 +12,14 @@ use Rattle.interleaving.proofs.OwnEdges.{own_edges}
 use Rattle.legal_moves.specs.Moves.{own_moves, fork_moves, bottle_moves, edge_moves, moves_of, all_moves, Keeps}
 
 -- what holds of each element's list holds of all
-pub all_flat : {X Y : Type 0} (P : Y → Type 0) (Q : X → Type 0) (f : X → List Y) (xs : List X) → All Q xs → ((x : X) → Q x → All P (f x)) → All P (flat_map f xs)
+pub all_flat : {X Y : Type 0} (P : Y → Type 0) (Q : X → Type 0) (f : X → List Y) (xs : List X)
+    → All Q xs → ((x : X) → Q x → All P (f x)) → All P (flat_map f xs)
 all_flat P Q f [] all h = All-nil P
 all_flat P Q f (x ∷ xs) all h = All-append P (f x) (flat_map f xs) (h x (All-head Q x xs all)) (all_flat P Q f xs (All-tail Q x xs all) h)
 
 pub numbers_below : (n : ℕ) → All (λ e. e < n) (range_with_len 0 n)
-numbers_below n k d inside = rw (get_or-range_with_len 0 n k d (omega (arith, inside, length-range_with_len 0 n))) (omega (arith, inside, length-range_with_len 0 n))
+numbers_below n k d inside =
+    rw (get_or-range_with_len 0 n k d (omega (arith, inside, length-range_with_len 0 n))) (omega (arith, inside, length-range_with_len 0 n))
 
 own_of_plan : (plan : LabPlan) (j : ℕ) → j < length plan.jobs → All (IsStepOf plan) (own_moves j)
 own_of_plan plan j job = All-from_recursion (IsStepOf plan) (own_moves j) (job, (job, (job, (job, (job, (job, (job, (job, (job, (job, tt))))))))))
@@ -45,7 +47,8 @@ all_of_plan plan =
     all_flat (IsStepOf plan) (λ j. j < n) (moves_of plan) (range_with_len 0 n) (numbers_below n) (job_of_plan plan)
 
 -- each of them
-pub of_plan_at : (plan : LabPlan) (steps : List Step) (k : ℕ) (step : Step) → steps ≡ all_moves plan → k < length steps → step ≡ slice_index_or steps k step → IsStepOf plan step
+pub of_plan_at : (plan : LabPlan) (steps : List Step) (k : ℕ) (step : Step) → steps ≡ all_moves plan
+    → k < length steps → step ≡ slice_index_or steps k step → IsStepOf plan step
 of_plan_at plan steps k step same inside is =
     let all : All (IsStepOf plan) steps = subst (All (IsStepOf plan)) (sym same) (all_of_plan plan) in
     subst (IsStepOf plan) (sym is) (all k step inside)

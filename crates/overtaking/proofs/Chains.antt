@@ -7,7 +7,8 @@ use Rattle.cycles.specs.Cycles.{LeadsBackTo, HasNoCycle}
 abbrev pub Before : (ℕ → ℕ → Type 0) → ℕ → ℕ → Type 0
 Before R x z = (between : List ℕ) × LeadsBackTo R z x between
 
-joined : (R : ℕ → ℕ → Type 0) (x : ℕ) (ys : List ℕ) (y : ℕ) (zs : List ℕ) (z : ℕ) → LeadsBackTo R y x ys → LeadsBackTo R z y zs → LeadsBackTo R z x (ys ++ y ∷ zs)
+joined : (R : ℕ → ℕ → Type 0) (x : ℕ) (ys : List ℕ) (y : ℕ) (zs : List ℕ) (z : ℕ)
+    → LeadsBackTo R y x ys → LeadsBackTo R z y zs → LeadsBackTo R z x (ys ++ y ∷ zs)
 joined R x [] y zs z a b = (a, b)
 joined R x (w ∷ ws) y zs z a b = (a.0, joined R w ws y zs z a.1 b)
 
@@ -31,6 +32,7 @@ first R a H (suc n) j below hj k =
       | inr other ↦ free w (omega (arith, lw, other)) hw (r.0 ++ n ∷ yes.1.0, joined R w r.0 n yes.1.0 t r.1 yes.1.1)
     ]))) in
     elim (cases_eq j n) [
-      | inl is ↦ k n (omega arith) (subst H is hj) (λ w lw hw r. elim (cases_eq w n) [ inl same ↦ loop w same r | inr other ↦ earlier w (omega (arith, lw, other)) hw ])
+      | inl is ↦ k n (omega arith) (subst H is hj)
+          (λ w lw hw r. elim (cases_eq w n) [ inl same ↦ loop w same r | inr other ↦ earlier w (omega (arith, lw, other)) hw ])
       | inr other ↦ earlier j (omega (arith, below, other)) hj
     ]

@@ -35,7 +35,8 @@ pub neighbour_own : (plan : LabPlan) (j e : ℕ) → IsOwn plan j e → IsOwn pl
 neighbour_own plan j e own = own_at plan e (opposite (end_of plan j e)) own.is_edge
 
 pub neighbour_apart : (plan : LabPlan) (j e : ℕ) → IsOwn plan j e → j ≢ neighbour plan j e
-neighbour_apart plan j e own same = not_opposite (end_of plan j e) (sym (end_at plan e (opposite (end_of plan j e)) own.is_edge) ∙ ap (λ k. end_of plan k e) (sym same))
+neighbour_apart plan j e own same =
+    not_opposite (end_of plan j e) (sym (end_at plan e (opposite (end_of plan j e)) own.is_edge) ∙ ap (λ k. end_of plan k e) (sym same))
 
 pub at_neighbour : (plan : LabPlan) (j e : ℕ) (thing : End) → IsOwn plan j e → There plan j e thing → Here plan (neighbour plan j e) e thing
 at_neighbour plan j e thing own there = at_opposite thing (end_of plan j e) there ∙ sym (end_at plan e (opposite (end_of plan j e)) own.is_edge)
@@ -43,7 +44,8 @@ at_neighbour plan j e thing own there = at_opposite thing (end_of plan j e) ther
 -- ---- edge by edge, for both jobs of each
 
 -- from the edges below n to those up to n
-pub one_more_edge : (plan : LabPlan) (P : ℕ → ℕ → Type 0) (n : ℕ) (pair : ℕ × ℕ) → pair ≡ ends plan n → ((j e : ℕ) → e < n → IsOwn plan j e → P j e) → P pair.0 n → P pair.1 n → (j e : ℕ) → e < n + 1 → IsOwn plan j e → P j e
+pub one_more_edge : (plan : LabPlan) (P : ℕ → ℕ → Type 0) (n : ℕ) (pair : ℕ × ℕ) → pair ≡ ends plan n
+    → ((j e : ℕ) → e < n → IsOwn plan j e → P j e) → P pair.0 n → P pair.1 n → (j e : ℕ) → e < n + 1 → IsOwn plan j e → P j e
 one_more_edge plan P n pair is before lower higher j e below own = elim (cases_lt e n) [
   | inl inside ↦ before j e inside own
   | inr past ↦

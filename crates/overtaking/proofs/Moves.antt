@@ -17,33 +17,54 @@ use Rattle.overtaking.proofs.Seen.{changes_none}
 pub moves_change : (plan : LabPlan) (s : State) (event : Event) → Fits plan s → IsMove event → May plan s event → after plan s event ≢ s
 moves_change plan s (Look j e seen) fit move may same = move
 moves_change plan s (AskFork j e) fit move may same =
-    not_opposite (token s e) (sym (ap (λ (x : EdgeState). x.token) (edge_same s e _ (omega (arith, may.0.is_edge, fit.edges_there)))) ∙ ap (λ (r : State). token r e) same)
+    not_opposite (token s e) (sym (ap (λ (x : EdgeState). x.token) (edge_same s e _ (omega (arith, may.0.is_edge, fit.edges_there))))
+    ∙ ap (λ (r : State). token r e) same)
 moves_change plan s (GiveFork j e) fit move may same =
-    not_opposite (fork s e) (sym (ap (λ (x : EdgeState). x.fork) (edge_same s e _ (omega (arith, may.0.is_edge, fit.edges_there)))) ∙ ap (λ (r : State). fork r e) same)
+    not_opposite (fork s e) (sym (ap (λ (x : EdgeState). x.fork) (edge_same s e _ (omega (arith, may.0.is_edge, fit.edges_there))))
+    ∙ ap (λ (r : State). fork r e) same)
 moves_change plan s (Soil j e) fit move may same =
-    false≢true (sym may.3 ∙ (sym (ap (λ (r : State). is_dirty r e) same) ∙ ap (λ (x : EdgeState). x.dirty) (edge_same s e _ (omega (arith, may.0.is_edge, fit.edges_there)))))
+    false≢true (sym may.3
+    ∙ (sym (ap (λ (r : State). is_dirty r e) same) ∙ ap (λ (x : EdgeState). x.dirty) (edge_same s e _ (omega (arith, may.0.is_edge, fit.edges_there)))))
 moves_change plan s (AskBottles j e set) fit move may same =
-    may.2.not_empty (changes_none (edge s e).bottle_tokens set (sym (ap (λ (x : EdgeState). x.bottle_tokens) (edge_same s e _ (omega (arith, may.0.is_edge, fit.edges_there)))) ∙ ap (λ (r : State). (edge r e).bottle_tokens) same))
+    may.2.not_empty (changes_none (edge s e).bottle_tokens
+    set (sym (ap (λ (x : EdgeState). x.bottle_tokens) (edge_same s e _ (omega (arith, may.0.is_edge, fit.edges_there))))
+    ∙ ap (λ (r : State). (edge r e).bottle_tokens) same))
 moves_change plan s (GiveBottles j e set) fit move may same =
-    may.1.not_empty (changes_none (edge s e).bottles set (sym (ap (λ (x : EdgeState). x.bottles) (edge_same s e _ (omega (arith, may.0.is_edge, fit.edges_there)))) ∙ ap (λ (r : State). (edge r e).bottles) same))
+    may.1.not_empty (changes_none (edge s e).bottles set (sym
+    (ap (λ (x : EdgeState). x.bottles) (edge_same s e _ (omega (arith, may.0.is_edge, fit.edges_there)))) ∙ ap (λ (r : State). (edge r e).bottles) same))
 moves_change plan s (Thirst j) fit move may same =
-    let q = sym (ap (λ (x : Seat). x.phase.drinking) (seat_same s j _ (omega (arith, fit.seats_there, may.0)))) ∙ (ap (λ (r : State). drinking r j) same ∙ may.1) in cc
+    let q = sym (ap (λ (x : Seat). x.phase.drinking) (seat_same s j _ (omega (arith, fit.seats_there, may.0))))
+    ∙ (ap (λ (r : State). drinking r j) same ∙ may.1) in
+    cc
 moves_change plan s (Hunger j) fit move may same =
-    let q = sym (ap (λ (x : Seat). x.phase.dining) (seat_same s j _ (omega (arith, fit.seats_there, may.0)))) ∙ (ap (λ (r : State). dining r j) same ∙ may.1) in cc
+    let q = sym (ap (λ (x : Seat). x.phase.dining) (seat_same s j _ (omega (arith, fit.seats_there, may.0)))) ∙ (ap (λ (r : State). dining r j) same ∙ may.1) in
+    cc
 moves_change plan s (Sit j) fit move may same =
-    let q = sym (ap (λ (x : Seat). x.phase.dining) (seat_same s j _ (omega (arith, fit.seats_there, may.0)))) ∙ (ap (λ (r : State). dining r j) same ∙ may.1) in cc
+    let q = sym (ap (λ (x : Seat). x.phase.dining) (seat_same s j _ (omega (arith, fit.seats_there, may.0)))) ∙ (ap (λ (r : State). dining r j) same ∙ may.1) in
+    cc
 moves_change plan s (Leave j) fit move may same =
-    let q = sym (ap (λ (x : Seat). x.phase.dining) (seat_same s j _ (omega (arith, fit.seats_there, may.0)))) ∙ (ap (λ (r : State). dining r j) same ∙ may.1) in cc
+    let q = sym (ap (λ (x : Seat). x.phase.dining) (seat_same s j _ (omega (arith, fit.seats_there, may.0)))) ∙ (ap (λ (r : State). dining r j) same ∙ may.1) in
+    cc
 moves_change plan s (Drink j) fit move may same =
-    let q = sym (ap (λ (x : Seat). x.phase.drinking) (seat_same s j _ (omega (arith, fit.seats_there, may.0)))) ∙ (ap (λ (r : State). drinking r j) same ∙ may.1) in cc
+    let q = sym (ap (λ (x : Seat). x.phase.drinking) (seat_same s j _ (omega (arith, fit.seats_there, may.0))))
+    ∙ (ap (λ (r : State). drinking r j) same ∙ may.1) in
+    cc
 moves_change plan s (Reach j) fit move may same =
-    let q = sym (ap (λ (x : Seat). x.phase.drinking) (seat_same s j _ (omega (arith, fit.seats_there, may.0)))) ∙ (ap (λ (r : State). drinking r j) same ∙ may.1) in cc
+    let q = sym (ap (λ (x : Seat). x.phase.drinking) (seat_same s j _ (omega (arith, fit.seats_there, may.0))))
+    ∙ (ap (λ (r : State). drinking r j) same ∙ may.1) in
+    cc
 moves_change plan s (Act j) fit move may same =
-    let q = sym (ap (λ (x : Seat). x.phase.drinking) (seat_same s j _ (omega (arith, fit.seats_there, may.0)))) ∙ (ap (λ (r : State). drinking r j) same ∙ may.1) in cc
+    let q = sym (ap (λ (x : Seat). x.phase.drinking) (seat_same s j _ (omega (arith, fit.seats_there, may.0))))
+    ∙ (ap (λ (r : State). drinking r j) same ∙ may.1) in
+    cc
 moves_change plan s (Quit j) fit move may same =
-    let q = sym (ap (λ (x : Seat). x.phase.drinking) (seat_same s j _ (omega (arith, fit.seats_there, may.0)))) ∙ (ap (λ (r : State). drinking r j) same ∙ may.1) in cc
+    let q = sym (ap (λ (x : Seat). x.phase.drinking) (seat_same s j _ (omega (arith, fit.seats_there, may.0))))
+    ∙ (ap (λ (r : State). drinking r j) same ∙ may.1) in
+    cc
 moves_change plan s (Retire j) fit move may same =
-    let q = sym (ap (λ (x : Seat). x.phase.drinking) (seat_same s j _ (omega (arith, fit.seats_there, may.0)))) ∙ (ap (λ (r : State). drinking r j) same ∙ may.2) in cc
+    let q = sym (ap (λ (x : Seat). x.phase.drinking) (seat_same s j _ (omega (arith, fit.seats_there, may.0))))
+    ∙ (ap (λ (r : State). drinking r j) same ∙ may.2) in
+    cc
 moves_change plan s (Glance j other seen) fit move may same = move
 moves_change plan s (Withdraw j) fit move may same = move
 
@@ -63,8 +84,10 @@ same_is_up_to_date plan s j e fit own same =
     let x : Seat = with_bottle_marks (with_fork_mark (seat s j) e mark) e marks in
     let is : x ≡ seat s j = sym (seat_same s j x (omega (arith, fit.seats_there, job))) ∙ ap (λ (r : State). seat r j) same in
     record {
-      fork = sym (ap (λ (y : Seat). slice_index_or y.fork_marks e false) is) ∙ get_or-set_same (seat s j).fork_marks e mark false (omega (arith, own.is_edge, (fit.seats_fit j job).fork_marks_there));
-      bottles = sym (ap (λ (y : Seat). slice_index_or y.bottle_marks e 0) is) ∙ get_or-set_same (seat s j).bottle_marks e marks 0 (omega (arith, own.is_edge, (fit.seats_fit j job).bottle_marks_there));
+      fork = sym (ap (λ (y : Seat). slice_index_or y.fork_marks e false) is)
+          ∙ get_or-set_same (seat s j).fork_marks e mark false (omega (arith, own.is_edge, (fit.seats_fit j job).fork_marks_there));
+      bottles = sym (ap (λ (y : Seat). slice_index_or y.bottle_marks e 0) is)
+          ∙ get_or-set_same (seat s j).bottle_marks e marks 0 (omega (arith, own.is_edge, (fit.seats_fit j job).bottle_marks_there));
     }
 
 -- so a look at an edge whose marks are not up to date is a way on

@@ -41,9 +41,11 @@ quiet_is_retired plan opening events n opens acyclic legal quiet =
     let sound = sound_opening plan opening opens in
     let begun = legal_take plan opening events n legal in
     all_retired plan (after_all plan opening (take n events)) (sound_after_all plan opening (take n events) sound begun)
-    (wanted_after_all plan opening (take n events) sound (wanted_opening plan opening opens) begun) quiet (acyclic_after_all plan opening (take n events) sound acyclic begun)
+    (wanted_after_all plan opening (take n events) sound (wanted_opening plan opening opens) begun) quiet
+    (acyclic_after_all plan opening (take n events) sound acyclic begun)
 
 pub never_stuck : IsNeverStuck
 never_stuck plan opening events n opens acyclic legal stuck =
-    let fit : Fits plan (after_all plan opening (take n events)) = (sound_after_all plan opening (take n events) (sound_opening plan opening opens) (legal_take plan opening events n legal)).fits in
+    let fit : Fits plan (after_all plan opening (take n events)) =
+    (sound_after_all plan opening (take n events) (sound_opening plan opening opens) (legal_take plan opening events n legal)).fits in
     quiet_is_retired plan opening events n opens acyclic legal (stuck_is_quiet plan (after_all plan opening (take n events)) fit stuck)

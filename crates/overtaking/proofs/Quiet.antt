@@ -50,10 +50,12 @@ module _ (plan : LabPlan) (s : State) (sound : IsSound plan s) (wanted : IsWante
 
   eater_marked : (j : ℕ) → dining s j ≡ Eating → IsMarkedAll plan s j
   eater_marked j eats e own =
-      (quiet.up_to_date j e own).fork ∙ (ap (λ d. fork_mark_seen d (end_of plan j e) (edge s e)) eats ∙ eating_seen (end_of plan j e) (edge s e) (sound.forks.eating j e own eats) (soiled j e own eats))
+      (quiet.up_to_date j e own).fork ∙ (ap (λ d. fork_mark_seen d (end_of plan j e) (edge s e)) eats
+      ∙ eating_seen (end_of plan j e) (edge s e) (sound.forks.eating j e own eats) (soiled j e own eats))
 
   -- an eating, thirsty job has the bottles that it needs, and has marked them
-  bottle_here : (j e k : ℕ) → IsOwn plan j e → dining s j ≡ Eating → drinking s j ≡ Thirsty → k < length (bottles plan e) → Needs plan s j (instrument_of plan e k) → Here plan j e (bottle_end (edge s e).bottles k)
+  bottle_here : (j e k : ℕ) → IsOwn plan j e → dining s j ≡ Eating → drinking s j ≡ Thirsty → k < length (bottles plan e)
+      → Needs plan s j (instrument_of plan e k) → Here plan j e (bottle_end (edge s e).bottles k)
   bottle_here j e k own eats thirsty small need =
       let n = neighbour plan j e in
       let theirs = neighbour_own plan j e own in
@@ -85,11 +87,13 @@ module _ (plan : LabPlan) (s : State) (sound : IsSound plan s) (wanted : IsWante
 
   has_needed : (j : ℕ) → dining s j ≡ Eating → drinking s j ≡ Thirsty → HasNeeded plan s j
   has_needed j eats thirsty e own k small need =
-      subst (λ set. Has set k) (sym (quiet.up_to_date j e own).bottles) (bottle_seen plan e k (end_of plan j e) (edge s e) small (bottle_here j e k own eats thirsty small need))
+      subst (λ set. Has set k) (sym (quiet.up_to_date j e own).bottles)
+      (bottle_seen plan e k (end_of plan j e) (edge s e) small (bottle_here j e k own eats thirsty small need))
 
   -- nobody eats: who isn't thirsty could leave, and who is could drink
   no_eater : (j : ℕ) → IsJob plan j → dining s j ≡ Eating → ⊥
-  no_eater j job eats = quiet.no_move (Leave j) tt (job, eats, (λ thirsty. quiet.no_move (Drink j) tt (job, thirsty, has_needed j eats thirsty)), eater_marked j eats)
+  no_eater j job eats =
+      quiet.no_move (Leave j) tt (job, eats, (λ thirsty. quiet.no_move (Drink j) tt (job, thirsty, has_needed j eats thirsty)), eater_marked j eats)
 
   -- who thinks is retired
   thinker : (j : ℕ) → IsJob plan j → dining s j ≡ Thinking → (d : Drinking) → drinking s j ≡ d → drinking s j ≡ Retired
@@ -103,7 +107,8 @@ module _ (plan : LabPlan) (s : State) (sound : IsSound plan s) (wanted : IsWante
   thinker j job thinks Reaching is = absurd (no_drinker j job (inr is))
 
   -- where a clean fork is at the neighbour, the neighbour is hungry and precedes
-  clean_there : (j e : ℕ) → IsOwn plan j e → There plan j e (fork s e) → is_dirty s e ≡ false → (dining s (neighbour plan j e) ≡ Hungry) × Precedes plan s (neighbour plan j e) j
+  clean_there : (j e : ℕ) → IsOwn plan j e → There plan j e (fork s e) → is_dirty s e ≡ false
+      → (dining s (neighbour plan j e) ≡ Hungry) × Precedes plan s (neighbour plan j e) j
   clean_there j e own there clean =
       let n = neighbour plan j e in
       let theirs = neighbour_own plan j e own in
@@ -121,7 +126,11 @@ module _ (plan : LabPlan) (s : State) (sound : IsSound plan s) (wanted : IsWante
           e,
           record {
             is_edge = own.is_edge;
-            order = inr (unused, ap (job_at_end plan e) (sym at), sym (at_own plan j e own) ∙ ap (job_at_end plan e) (sym (ap opposite at ∙ opposite_twice (end_of plan j e))));
+            order = inr (
+              unused,
+              ap (job_at_end plan e) (sym at),
+              sym (at_own plan j e own) ∙ ap (job_at_end plan e) (sym (ap opposite at ∙ opposite_twice (end_of plan j e))),
+            );
           },
         ),
       )
@@ -132,7 +141,8 @@ module _ (plan : LabPlan) (s : State) (sound : IsSound plan s) (wanted : IsWante
       let n = neighbour plan j e in
       let theirs = neighbour_own plan j e own in
       let seen : (fork s e ≡ end_of plan j e) → (is_dirty s e ≡ false) ⊎ (token s e ≢ end_of plan j e) → fork_mark s j e ≡ true =
-      λ here unasked. (quiet.up_to_date j e own).fork ∙ (ap (λ d. fork_mark_seen d (end_of plan j e) (edge s e)) hungry ∙ hungry_seen (end_of plan j e) (edge s e) here unasked) in
+      λ here unasked. (quiet.up_to_date j e own).fork
+      ∙ (ap (λ d. fork_mark_seen d (end_of plan j e) (edge s e)) hungry ∙ hungry_seen (end_of plan j e) (edge s e) here unasked) in
       elim (end_cases (fork s e) (end_of plan j e)) [
         | inl here ↦ elim (cases_Bool (is_dirty s e)) [
           | inr clean ↦ seen here (inl clean)
@@ -144,7 +154,8 @@ module _ (plan : LabPlan) (s : State) (sound : IsSound plan s) (wanted : IsWante
         | inr there ↦ elim (end_cases (token s e) (end_of plan j e)) [
           | inl token ↦ absurd (quiet.no_move (AskFork j e) tt (own, hungry, there, token))
           | inr away ↦ elim (cases_Bool (is_dirty s e)) [
-            | inl dirty ↦ absurd (quiet.no_move (GiveFork n e) tt (theirs, no_eater n (own_is_job plan n e theirs), at_neighbour plan j e _ own there, dirty, at_neighbour plan j e _ own away))
+            | inl dirty ↦ absurd (quiet.no_move (GiveFork n e) tt
+                (theirs, no_eater n (own_is_job plan n e theirs), at_neighbour plan j e _ own there, dirty, at_neighbour plan j e _ own away))
             | inr clean ↦ let w = clean_there j e own there clean in absurd (free n (own_is_job plan n e theirs) w.0 w.1)
           ]
         ]

@@ -60,7 +60,8 @@ apart : Lower ≡ Higher → ⊥
 apart h = cc
 
 -- a look marks each bottle that is here
-pub bottle_seen : (plan : LabPlan) (e k : ℕ) (here : End) (x : EdgeState) → k < length (bottles plan e) → bottle_end x.bottles k ≡ here → Has (bottles_at plan e here x) k
+pub bottle_seen : (plan : LabPlan) (e k : ℕ) (here : End) (x : EdgeState)
+    → k < length (bottles plan e) → bottle_end x.bottles k ≡ here → Has (bottles_at plan e here x) k
 unfolding Has bottles_at
 bottle_seen plan e k Higher x small h = elim (bit_cases x.bottles k) [ inr one ↦ one | inl none ↦ absurd (apart (sym (low_end x.bottles k none) ∙ h)) ]
 bottle_seen plan e k Lower x small h = elim (bit_cases x.bottles k) [
@@ -95,5 +96,6 @@ some_or_none set (suc n) = elim (some_or_none set n) [
 pub some_bottle : (plan : LabPlan) (e set : ℕ) → IsBottleSet plan e set → (k : ℕ) × (k < length (bottles plan e)) × Has set k
 some_bottle plan e set h = elim (some_or_none set (length (bottles plan e))) [
   | inl w ↦ w
-  | inr none ↦ absurd (h.not_empty (same_from_bits_below (length (bottles plan e)) set 0 h.of_edge (pow_pos (length (bottles plan e))) (λ i below. none i below ∙ sym (bit_at-zero i))))
+  | inr none ↦ absurd (h.not_empty (same_from_bits_below (length (bottles plan e)) set 0 h.of_edge (pow_pos (length (bottles plan e))) (λ i below. none i below
+      ∙ sym (bit_at-zero i))))
 ]

@@ -26,20 +26,24 @@ pub record IsWanted (plan : LabPlan) (s : State) : Type 0 where
 -- a job dines in another way
 dines : (plan : LabPlan) (s : State) (j : ℕ) (x : Seat) → j < length s.seats
     → ((e : ℕ) → IsOwn plan j e → There plan j e (fork s e) → There plan j e (token s e) → x.phase.dining ≡ Hungry)
-    → ((e : ℕ) → IsOwn plan j e → Here plan j e (fork s e) → is_dirty s e ≡ false → x.phase.dining ≢ Thinking) → IsWanted plan s → IsWanted plan (with_seat s j x)
+    → ((e : ℕ) → IsOwn plan j e → Here plan j e (fork s e) → is_dirty s e ≡ false → x.phase.dining ≢ Thinking)
+    → IsWanted plan s → IsWanted plan (with_seat s j x)
 dines plan s j x inside asked clean h = record {
   asked = λ k e own f t. elim (seat_cases s j x inside k) [
-    | inl w ↦ ap (λ (y : Seat). y.phase.dining) w.1 ∙ asked e (subst (λ n. IsOwn plan n e) w.0 own) (subst (λ n. There plan n e (fork s e)) w.0 f) (subst (λ n. There plan n e (token s e)) w.0 t)
+    | inl w ↦ ap (λ (y : Seat). y.phase.dining) w.1
+        ∙ asked e (subst (λ n. IsOwn plan n e) w.0 own) (subst (λ n. There plan n e (fork s e)) w.0 f) (subst (λ n. There plan n e (token s e)) w.0 t)
     | inr w ↦ ap (λ (y : Seat). y.phase.dining) w.1 ∙ h.asked k e own f t
   ];
   clean = λ k e own f d thinks. elim (seat_cases s j x inside k) [
-    | inl w ↦ clean e (subst (λ n. IsOwn plan n e) w.0 own) (subst (λ n. Here plan n e (fork s e)) w.0 f) d (ap (λ (y : Seat). y.phase.dining) (sym w.1) ∙ thinks)
+    | inl w ↦ clean e (subst (λ n. IsOwn plan n e) w.0 own)
+        (subst (λ n. Here plan n e (fork s e)) w.0 f) d (ap (λ (y : Seat). y.phase.dining) (sym w.1) ∙ thinks)
     | inr w ↦ h.clean k e own f d (ap (λ (y : Seat). y.phase.dining) (sym w.1) ∙ thinks)
   ];
 }
 
 -- another seat of a job that dines as before
-other_seat : (plan : LabPlan) (s : State) (j : ℕ) (x : Seat) → j < length s.seats → x.phase.dining ≡ dining s j → IsWanted plan s → IsWanted plan (with_seat s j x)
+other_seat : (plan : LabPlan) (s : State) (j : ℕ) (x : Seat) → j < length s.seats
+    → x.phase.dining ≡ dining s j → IsWanted plan s → IsWanted plan (with_seat s j x)
 other_seat plan s j x inside d h = dines plan s j x inside (λ e own f t. d ∙ h.asked j e own f t) (λ e own f c thinks. h.clean j e own f c (sym d ∙ thinks)) h
 
 -- another edge, where it is wanted so too
@@ -48,22 +52,26 @@ changed : (plan : LabPlan) (s : State) (e0 : ℕ) (x : EdgeState) → e0 < lengt
     → ((k : ℕ) → IsOwn plan k e0 → Here plan k e0 x.fork → x.dirty ≡ false → dining s k ≢ Thinking) → IsWanted plan s → IsWanted plan (with_edge s e0 x)
 changed plan s e0 x inside asked clean h = record {
   asked = λ k e own f t. elim (edge_cases s e0 x inside e) [
-    | inl w ↦ asked k (subst (IsOwn plan k) w.0 own) (subst (λ n. There plan k n x.fork) w.0 (subst (λ (y : EdgeState). There plan k e y.fork) w.1 f)) (subst (λ n. There plan k n x.token) w.0 (subst (λ (y : EdgeState). There plan k e y.token) w.1 t))
+    | inl w ↦ asked k (subst (IsOwn plan k) w.0 own) (subst (λ n. There plan k n x.fork) w.0 (subst (λ (y : EdgeState). There plan k e y.fork) w.1 f))
+        (subst (λ n. There plan k n x.token) w.0 (subst (λ (y : EdgeState). There plan k e y.token) w.1 t))
     | inr w ↦ h.asked k e own (subst (λ (y : EdgeState). There plan k e y.fork) w.1 f) (subst (λ (y : EdgeState). There plan k e y.token) w.1 t)
   ];
   clean = λ k e own f d. elim (edge_cases s e0 x inside e) [
-    | inl w ↦ clean k (subst (IsOwn plan k) w.0 own) (subst (λ n. Here plan k n x.fork) w.0 (subst (λ (y : EdgeState). Here plan k e y.fork) w.1 f)) (ap (λ (y : EdgeState). y.dirty) (sym w.1) ∙ d)
+    | inl w ↦ clean k (subst (IsOwn plan k) w.0 own)
+        (subst (λ n. Here plan k n x.fork) w.0 (subst (λ (y : EdgeState). Here plan k e y.fork) w.1 f)) (ap (λ (y : EdgeState). y.dirty) (sym w.1) ∙ d)
     | inr w ↦ h.clean k e own (subst (λ (y : EdgeState). Here plan k e y.fork) w.1 f) (ap (λ (y : EdgeState). y.dirty) (sym w.1) ∙ d)
   ];
 }
 
 -- another edge with the same fork, token and dirt
-other_edge : (plan : LabPlan) (s : State) (e : ℕ) (x : EdgeState) → e < length s.edges → x.fork ≡ fork s e → x.token ≡ token s e → x.dirty ≡ is_dirty s e → IsWanted plan s → IsWanted plan (with_edge s e x)
+other_edge : (plan : LabPlan) (s : State) (e : ℕ) (x : EdgeState) → e < length s.edges → x.fork ≡ fork s e
+    → x.token ≡ token s e → x.dirty ≡ is_dirty s e → IsWanted plan s → IsWanted plan (with_edge s e x)
 other_edge plan s e x inside f t d h = changed plan s e x inside
     (λ k own away gone. h.asked k e own (subst (There plan k e) f away) (subst (There plan k e) t gone))
     (λ k own here c. h.clean k e own (subst (Here plan k e) f here) (sym d ∙ c)) h
 
-pub wanted_after : (plan : LabPlan) (s : State) (event : Event) → Fits plan s → HasForks plan s → IsWanted plan s → May plan s event → IsWanted plan (after plan s event)
+pub wanted_after : (plan : LabPlan) (s : State) (event : Event) → Fits plan s
+    → HasForks plan s → IsWanted plan s → May plan s event → IsWanted plan (after plan s event)
 wanted_after plan s (Look j e seen) fit forks h may = other_seat plan s j _ (omega (arith, fit.seats_there, own_is_job plan j e may.0)) refl h
 wanted_after plan s (AskFork j e) fit forks h may = changed plan s e _ (omega (arith, may.0.is_edge, fit.edges_there))
     (λ k own f t. elim (cases_eq k j) [
@@ -73,7 +81,8 @@ wanted_after plan s (AskFork j e) fit forks h may = changed plan s e _ (omega (a
     (λ k own f d. h.clean k e own f d) h
 wanted_after plan s (GiveFork j e) fit forks h may =
     let hungry : (k : ℕ) → IsOwn plan k e → k ≢ j → dining s k ≡ Hungry =
-    λ k own other. h.asked k e own (not_both plan j k e (fork s e) may.0 own (λ same. other (sym same)) may.2) (not_both plan j k e (token s e) may.0 own (λ same. other (sym same)) may.4) in
+    λ k own other. h.asked k e own (not_both plan j k e (fork s e) may.0 own (λ same. other (sym same)) may.2)
+    (not_both plan j k e (token s e) may.0 own (λ same. other (sym same)) may.4) in
     other_seat plan (with_edge s e _) j _ (omega (arith, fit.seats_there, own_is_job plan j e may.0)) refl
     (changed plan s e _ (omega (arith, may.0.is_edge, fit.edges_there))
     (λ k own f t. elim (cases_eq k j) [
@@ -90,10 +99,13 @@ wanted_after plan s (GiveFork j e) fit forks h may =
 wanted_after plan s (Soil j e) fit forks h may = other_seat plan (with_edge s e _) j _ (omega (arith, fit.seats_there, own_is_job plan j e may.0)) refl
     (changed plan s e _ (omega (arith, may.0.is_edge, fit.edges_there)) (λ k own f t. h.asked k e own f t) (λ k own f d. absurd (false≢true (sym d))) h)
 wanted_after plan s (AskBottles j e set) fit forks h may = other_edge plan s e _ (omega (arith, may.0.is_edge, fit.edges_there)) refl refl refl h
-wanted_after plan s (GiveBottles j e set) fit forks h may = other_seat plan (with_edge s e _) j _ (omega (arith, fit.seats_there, own_is_job plan j e may.0)) refl (other_edge plan s e _ (omega (arith, may.0.is_edge, fit.edges_there)) refl refl refl h)
+wanted_after plan s (GiveBottles j e set) fit forks h may =
+    other_seat plan (with_edge s e _) j _ (omega (arith, fit.seats_there, own_is_job plan j e may.0)) refl
+    (other_edge plan s e _ (omega (arith, may.0.is_edge, fit.edges_there)) refl refl refl h)
 wanted_after plan s (Thirst j) fit forks h may = other_seat plan s j _ (omega (arith, fit.seats_there, may.0)) refl h
 wanted_after plan s (Hunger j) fit forks h may = dines plan s j _ (omega (arith, fit.seats_there, may.0)) (λ e own f t. refl) (λ e own f d thinks. cc) h
-wanted_after plan s (Sit j) fit forks h may = dines plan s j _ (omega (arith, fit.seats_there, may.0)) (λ e own f t. absurd (f (forks.marked j e own (may.2 e own)))) (λ e own f d thinks. cc) h
+wanted_after plan s (Sit j) fit forks h may =
+    dines plan s j _ (omega (arith, fit.seats_there, may.0)) (λ e own f t. absurd (f (forks.marked j e own (may.2 e own)))) (λ e own f d thinks. cc) h
 wanted_after plan s (Leave j) fit forks h may = dines plan s j _ (omega (arith, fit.seats_there, may.0))
     (λ e own f t. absurd (f (forks.eating j e own may.1))) (λ e own f d. absurd (false≢true (sym d ∙ forks.soiled j e own may.1 (may.3 e own)))) h
 wanted_after plan s (Drink j) fit forks h may = other_seat plan s j _ (omega (arith, fit.seats_there, may.0)) refl h
@@ -108,11 +120,14 @@ wanted_after plan s (Withdraw j) fit forks h may = other_seat plan s j _ (omega 
 
 pub wanted_opening : (plan : LabPlan) (s : State) → IsOpening plan s → IsWanted plan s
 wanted_opening plan s h = record {
-  asked = λ j e own f t. absurd (t (h.token_opposite e own.is_edge ∙ (ap opposite (at_opposite (fork s e) (end_of plan j e) f) ∙ opposite_twice (end_of plan j e))));
+  asked = λ j e own f t. absurd (t (h.token_opposite e own.is_edge
+      ∙ (ap opposite (at_opposite (fork s e) (end_of plan j e) f) ∙ opposite_twice (end_of plan j e))));
   clean = λ j e own f d. absurd (false≢true (sym d ∙ h.dirty e own.is_edge));
 }
 
-pub wanted_after_all : (plan : LabPlan) (s : State) (events : List Event) → IsSound plan s → IsWanted plan s → IsLegalFrom plan s events → IsWanted plan (after_all plan s events)
+pub wanted_after_all : (plan : LabPlan) (s : State) (events : List Event) → IsSound plan s
+    → IsWanted plan s → IsLegalFrom plan s events → IsWanted plan (after_all plan s events)
 wanted_after_all plan s [] sound h legal = h
 wanted_after_all plan s (event ∷ events) sound h legal =
-    wanted_after_all plan (after plan s event) events (sound_after plan s event sound legal.0) (wanted_after plan s event sound.fits sound.forks h legal.0) legal.1
+    wanted_after_all plan (after plan s event) events (sound_after plan s event sound legal.0)
+    (wanted_after plan s event sound.fits sound.forks h legal.0) legal.1

@@ -12,7 +12,8 @@ use Rattle.overtaking.specs.Stuck.{IsMove, IsQuiet, IsUpToDate}
 use Rattle.overtaking.specs.Ways.{HasNoPhaseWay, HasNoForkWay, HasNoBottleWayOf, HasNoPhaseWays, HasNoForkWays, HasNoBottleWays}
 use Rattle.overtaking.proofs.Seen.{one_bottle, only_one, some_bottle}
 
-no_move : (plan : LabPlan) (s : State) → HasNoPhaseWays plan s → HasNoForkWays plan s → HasNoBottleWays plan s → (event : Event) → IsMove event → ¬ May plan s event
+no_move : (plan : LabPlan) (s : State) → HasNoPhaseWays plan s → HasNoForkWays plan s
+    → HasNoBottleWays plan s → (event : Event) → IsMove event → ¬ May plan s event
 no_move plan s p f b (Look j e seen) move may = move
 no_move plan s p f b (AskFork j e) move may = (f j e may.0).no_ask may
 no_move plan s p f b (GiveFork j e) move may = (f j e may.0).no_give may
@@ -40,7 +41,8 @@ no_way_is_quiet plan s p f b = record { up_to_date = λ j e own. (f j e own).up_
 
 -- ---- from the lists of what was tried
 
-pub no_phase_of : (plan : LabPlan) (s : State) (j : ℕ) → All (λ event. ¬ May plan s event) (Quit j ∷ Reach j ∷ Act j ∷ Drink j ∷ Leave j ∷ Sit j ∷ Thirst j ∷ Hunger j ∷ Retire j ∷ []) → HasNoPhaseWay plan s j
+pub no_phase_of : (plan : LabPlan) (s : State) (j : ℕ)
+    → All (λ event. ¬ May plan s event) (Quit j ∷ Reach j ∷ Act j ∷ Drink j ∷ Leave j ∷ Sit j ∷ Thirst j ∷ Hunger j ∷ Retire j ∷ []) → HasNoPhaseWay plan s j
 no_phase_of plan s j h = record {
   no_quit = h 0 (Quit j) (omega arith);
   no_reach = h 1 (Quit j) (omega arith);
@@ -53,14 +55,22 @@ no_phase_of plan s j h = record {
   no_retire = h 8 (Quit j) (omega arith);
 }
 
-pub no_fork_of : (plan : LabPlan) (s : State) (j e : ℕ) → IsUpToDate plan s j e → All (λ event. ¬ May plan s event) (Soil j e ∷ GiveFork j e ∷ AskFork j e ∷ []) → HasNoForkWay plan s j e
-no_fork_of plan s j e fresh h = record { up_to_date = fresh; no_soil = h 0 (Quit j) (omega arith); no_give = h 1 (Quit j) (omega arith); no_ask = h 2 (Quit j) (omega arith) }
+pub no_fork_of : (plan : LabPlan) (s : State) (j e : ℕ) → IsUpToDate plan s j e
+    → All (λ event. ¬ May plan s event) (Soil j e ∷ GiveFork j e ∷ AskFork j e ∷ []) → HasNoForkWay plan s j e
+no_fork_of plan s j e fresh h = record {
+  up_to_date = fresh;
+  no_soil = h 0 (Quit j) (omega arith);
+  no_give = h 1 (Quit j) (omega arith);
+  no_ask = h 2 (Quit j) (omega arith);
+}
 
 -- a set by a shift of 1
 shifted : (k : ℕ) → k < 32 → (1 * 2 ^ k) % 4294967296 ≡ 2 ^ k
 shifted k small = let fits : 2 ^ k < 2 ^ 32 = pow-lt small in omega (arith, fits)
 
-pub no_bottle_of : (plan : LabPlan) (s : State) (j e k : ℕ) → k < 32 → (let set : ℕ = (1 * 2 ^ k) % 4294967296 in All (λ event. ¬ May plan s event) (GiveBottles j e set ∷ AskBottles j e set ∷ [])) → HasNoBottleWayOf plan s j e k
+pub no_bottle_of : (plan : LabPlan) (s : State) (j e k : ℕ) → k < 32
+    → (let set : ℕ = (1 * 2 ^ k) % 4294967296 in All (λ event. ¬ May plan s event) (GiveBottles j e set ∷ AskBottles j e set ∷ []))
+    → HasNoBottleWayOf plan s j e k
 no_bottle_of plan s j e k small h = record {
   no_give = subst (λ set. ¬ May plan s (GiveBottles j e set)) (shifted k small) (h 0 (Quit j) (omega arith));
   no_ask = subst (λ set. ¬ May plan s (AskBottles j e set)) (shifted k small) (h 1 (Quit j) (omega arith));

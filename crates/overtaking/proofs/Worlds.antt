@@ -18,18 +18,22 @@ use Rattle.overtaking.proofs.Moves.{move_leads_on, look_leads_on}
 use Rattle.overtaking.proofs.Quiet.{all_retired}
 use Rattle.overtaking.proofs.Ways.{no_way_is_quiet}
 
-pub world_move : (plan : LabPlan) (s : State) (counts : List Counts) (event : Event) → IsReachedWith plan s counts → IsMove event → May plan s event → IsWayOn plan s event
+pub world_move : (plan : LabPlan) (s : State) (counts : List Counts) (event : Event)
+    → IsReachedWith plan s counts → IsMove event → May plan s event → IsWayOn plan s event
 world_move plan s counts event h move may = move_leads_on plan s event (reached_fits plan s (is_reached plan s counts h)) move may
 
-pub world_look : (plan : LabPlan) (s : State) (counts : List Counts) (j e : ℕ) → IsReachedWith plan s counts → IsOwn plan j e → ¬ IsUpToDate plan s j e → IsWayOn plan s (Look j e (edge s e))
+pub world_look : (plan : LabPlan) (s : State) (counts : List Counts) (j e : ℕ) → IsReachedWith plan s counts
+    → IsOwn plan j e → ¬ IsUpToDate plan s j e → IsWayOn plan s (Look j e (edge s e))
 world_look plan s counts j e h own stale = look_leads_on plan s j e (reached_fits plan s (is_reached plan s counts h)) own stale
 
 -- where no way on is left all jobs are retired
-pub world_at_end : (plan : LabPlan) (s : State) (counts : List Counts) → IsReachedWith plan s counts → HasNoPhaseWays plan s → HasNoForkWays plan s → HasNoBottleWays plan s → AllRetired plan s
+pub world_at_end : (plan : LabPlan) (s : State) (counts : List Counts) → IsReachedWith plan s counts
+    → HasNoPhaseWays plan s → HasNoForkWays plan s → HasNoBottleWays plan s → AllRetired plan s
 world_at_end plan s counts h phases forks bottles =
     let reached = is_reached plan s counts h in
     let opened = sound_opening plan h.opening h.is_opening in
-    let wanted : IsWanted plan s = subst (IsWanted plan) (sym h.run.leads) (wanted_after_all plan h.opening h.events opened (wanted_opening plan h.opening h.is_opening) h.run.legal) in
+    let wanted : IsWanted plan s =
+    subst (IsWanted plan) (sym h.run.leads) (wanted_after_all plan h.opening h.events opened (wanted_opening plan h.opening h.is_opening) h.run.legal) in
     all_retired plan s (reached_sound plan s reached) wanted (no_way_is_quiet plan s phases forks bottles) (reached_acyclic plan s reached)
 
 pub world_acyclic : (plan : LabPlan) (s : State) (counts : List Counts) → IsReachedWith plan s counts → IsAcyclic plan s

@@ -17,7 +17,8 @@ IsOvertakenOnce = (plan : LabPlan) (opening : State) (events : List Event) (plac
 
 -- P holds of the state after each beginning of every list that is legal from an opening state without a cycle of precedence
 abbrev pub FromAcyclic : (LabPlan → State → Type 0) → Type 0
-FromAcyclic P = (plan : LabPlan) (opening : State) (events : List Event) (n : ℕ) → IsOpening plan opening → IsAcyclic plan opening → IsLegalFrom plan opening events
+FromAcyclic P = (plan : LabPlan) (opening : State) (events : List Event) (n : ℕ)
+    → IsOpening plan opening → IsAcyclic plan opening → IsLegalFrom plan opening events
     → P plan (after_all plan opening (take n events))
 
 -- only where all jobs are retired does no event but Withdraw change anything

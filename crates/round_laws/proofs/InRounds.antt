@@ -52,7 +52,8 @@ module _ (plan : LabPlan) (j : ℕ) where
 
   plays_one : (x x' : Player) (h g : List Event) (r : Turned) → x.job ≡ j → Plays plan x h r g x' → OneTurn (is_idle r) h g
   plays_one x x' h g r is t =
-      let turn : IsTurnBy plan j (waited_so_far plan x h) (known_in plan h j) t.visits t.acts t.events = subst (λ k. IsTurnBy plan k (waited_so_far plan x h) (known_in plan h k) t.visits t.acts t.events) is t.turn in
+      let turn : IsTurnBy plan j (waited_so_far plan x h) (known_in plan h j) t.visits t.acts t.events =
+      subst (λ k. IsTurnBy plan k (waited_so_far plan x h) (known_in plan h k) t.visits t.acts t.events) is t.turn in
       let mine : events_by j t.events ≡ t.events = only_mine j t.events (turn_by plan j _ _ t.visits t.acts t.events turn) in
       record {
         waited = waited_so_far plan x h;
@@ -65,18 +66,22 @@ module _ (plan : LabPlan) (j : ℕ) where
         none_done = λ idle. nothing_done r (count is_done t.visits + once t.acts) idle t.says;
       }
 
-  round_none : (players players' : List Player) (idle : Bool) (h g : List Event) → Each (λ (i : ℕ). i ≢ j) (jobs_in players) → Round plan players idle h g players' → events_by j g ≡ events_by j h
+  round_none : (players players' : List Player) (idle : Bool) (h g : List Event)
+      → Each (λ (i : ℕ). i ≢ j) (jobs_in players) → Round plan players idle h g players' → events_by j g ≡ events_by j h
   round_none [] players' idle h g apart is = ap (events_by j) is.0
-  round_none (x ∷ players) players' idle h g apart (r, m, x', later, rest, t, more, idle_is, players_are) = round_none players rest later m g apart.1 more ∙ plays_none x x' h m r apart.0 t
+  round_none (x ∷ players) players' idle h g apart (r, m, x', later, rest, t, more, idle_is, players_are) =
+      round_none players rest later m g apart.1 more ∙ plays_none x x' h m r apart.0 t
 
   then_idle : (a b c : Bool) (n : ℕ) → c ≡ (a && b) → (a ≡ true → n ≡ 0) → c ≡ true → n ≡ 0
   then_idle a b c n is f idle = f (both_true a b (sym is ∙ idle)).0
 
-  pub round_one : (players players' : List Player) (idle : Bool) (h g : List Event) → Distinct (jobs_in players) → Any (λ (i : ℕ). i ≡ j) (jobs_in players) → Round plan players idle h g players' → OneTurn idle h g
+  pub round_one : (players players' : List Player) (idle : Bool) (h g : List Event) → Distinct (jobs_in players)
+      → Any (λ (i : ℕ). i ≡ j) (jobs_in players) → Round plan players idle h g players' → OneTurn idle h g
   round_one [] players' idle h g apart any is = absurd any
   round_one (x ∷ players) players' idle h g apart (inl same) (r, m, x', later, rest, t, more, idle_is, players_are) =
       let q : OneTurn (is_idle r) h m = plays_one x x' h m r same t in
-      let still : events_by j g ≡ events_by j m = round_none players rest later m g (subst (λ z. Each (λ (k : ℕ). k ≢ z) (jobs_in players)) same apart.0) more in
+      let still : events_by j g ≡ events_by j m =
+      round_none players rest later m g (subst (λ z. Each (λ (k : ℕ). k ≢ z) (jobs_in players)) same apart.0) more in
       record {
         waited = q.waited;
         visits = q.visits;
@@ -102,14 +107,17 @@ module _ (plan : LabPlan) (j : ℕ) where
       }
 
 -- a round has the same players after it
-pub round_jobs : (plan : LabPlan) (players players' : List Player) (idle : Bool) (h g : List Event) → Round plan players idle h g players' → jobs_in players' ≡ jobs_in players
+pub round_jobs : (plan : LabPlan) (players players' : List Player) (idle : Bool) (h g : List Event)
+    → Round plan players idle h g players' → jobs_in players' ≡ jobs_in players
 round_jobs plan [] players' idle h g is = ap jobs_in is.2
 round_jobs plan (x ∷ players) players' idle h g (r, m, x', later, rest, t, more, idle_is, players_are) =
     ap jobs_in players_are ∙ (λ i. (ap (λ (y : Player). y.job) t.counted i) ∷ round_jobs plan players rest later m g more i)
 
-pub rounds_jobs : (plan : LabPlan) (players players' : List Player) (n : ℕ) (idle : Bool) (h g : List Event) → Rounds plan players n idle h g players' → jobs_in players' ≡ jobs_in players
+pub rounds_jobs : (plan : LabPlan) (players players' : List Player) (n : ℕ) (idle : Bool) (h g : List Event)
+    → Rounds plan players n idle h g players' → jobs_in players' ≡ jobs_in players
 rounds_jobs plan players players' zero idle h g is = ap jobs_in is.2
-rounds_jobs plan players players' (suc n) idle h g (m, before, middle, rounds, going, last) = round_jobs plan middle players' idle m g last ∙ rounds_jobs plan players middle n before h m rounds
+rounds_jobs plan players players' (suc n) idle h g (m, before, middle, rounds, going, last) =
+    round_jobs plan middle players' idle m g last ∙ rounds_jobs plan players middle n before h m rounds
 
 module _ (plan : LabPlan) (j : ℕ) (job : j < length plan.jobs) where
   abbrev RestsIn : List Event → Type 0
@@ -117,13 +125,17 @@ module _ (plan : LabPlan) (j : ℕ) (job : j < length plan.jobs) where
 
   one_rests : (idle : Bool) (h g : List Event) → OneTurn plan j idle h g → RestsIn h → RestsIn g
   one_rests idle h g q rests =
-      let inside : j < length (known_in plan h j).seats = subst (λ n. j < n) (sym (learned_all_seats plan (the_opening plan) (events_by j h) ∙ opening_seats plan)) job in
-      let known : known_in plan g j ≡ learned_all plan (known_in plan h j) q.events = ap (known_by plan) q.own ∙ learned_all-append plan (the_opening plan) (events_by j h) q.events in
+      let inside : j < length (known_in plan h j).seats =
+      subst (λ n. j < n) (sym (learned_all_seats plan (the_opening plan) (events_by j h) ∙ opening_seats plan)) job in
+      let known : known_in plan g j ≡ learned_all plan (known_in plan h j) q.events =
+      ap (known_by plan) q.own ∙ learned_all-append plan (the_opening plan) (events_by j h) q.events in
       subst (λ (s : State). drinking s j ≢ Reaching) (sym known) (turn_rests plan j q.waited (known_in plan h j) q.visits q.acts q.events q.turn inside rests)
 
   -- after rounds no job reaches that didn't before
-  pub rounds_rest : (players players' : List Player) (n : ℕ) (idle : Bool) (h g : List Event) → Distinct (jobs_in players) → Any (λ (i : ℕ). i ≡ j) (jobs_in players) → Rounds plan players n idle h g players' → RestsIn h → RestsIn g
+  pub rounds_rest : (players players' : List Player) (n : ℕ) (idle : Bool) (h g : List Event) → Distinct (jobs_in players)
+      → Any (λ (i : ℕ). i ≡ j) (jobs_in players) → Rounds plan players n idle h g players' → RestsIn h → RestsIn g
   rounds_rest players players' zero idle h g apart any is rests = subst RestsIn (sym is.0) rests
   rounds_rest players players' (suc n) idle h g apart any (m, before, middle, rounds, going, last) rests =
       let same : jobs_in middle ≡ jobs_in players = rounds_jobs plan players middle n before h m rounds in
-      one_rests idle m g (round_one plan j middle players' idle m g (subst Distinct (sym same) apart) (subst (Any (λ (i : ℕ). i ≡ j)) (sym same) any) last) (rounds_rest players middle n before h m apart any rounds rests)
+      one_rests idle m g (round_one plan j middle players' idle m g (subst Distinct (sym same) apart) (subst (Any (λ (i : ℕ). i ≡ j)) (sym same) any) last)
+      (rounds_rest players middle n before h m apart any rounds rests)

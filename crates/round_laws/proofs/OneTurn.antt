@@ -26,16 +26,19 @@ module _ (plan : LabPlan) (j : ℕ) where
 
   quick_learned : (s : State) (x : Event) → IsQuickOf x → j < length s.seats → phase (learned plan s x) j ≡ phase s j
   quick_learned s x q inside =
-      let own : seat (learned plan s x) j ≡ seat_after plan (seat s j) x = subst (λ k. k < length s.seats → seat (learned plan s x) k ≡ seat_after plan (seat s k) x) q.by (learned_seat plan s x) inside in
+      let own : seat (learned plan s x) j ≡ seat_after plan (seat s j) x =
+      subst (λ k. k < length s.seats → seat (learned plan s x) k ≡ seat_after plan (seat s k) x) q.by (learned_seat plan s x) inside in
       ap (λ (y : Seat). y.phase) own ∙ q.same (seat s j)
 
   quick_all : (s : State) (events : List Event) → Each IsQuickOf events → j < length s.seats → phase (learned_all plan s events) j ≡ phase s j
   quick_all s [] each inside = refl
-  quick_all s (x ∷ events) each inside = quick_all (learned plan s x) events each.1 (subst (λ n. j < n) (sym (learned_seats plan s x)) inside) ∙ quick_learned s x each.0 inside
+  quick_all s (x ∷ events) each inside =
+      quick_all (learned plan s x) events each.1 (subst (λ n. j < n) (sym (learned_seats plan s x)) inside) ∙ quick_learned s x each.0 inside
 
   quick_moves : (m : EdgeMoves) (e : ℕ) → Each IsQuickOf (events_of m j e)
   quick_moves m e = each_move plan j e IsQuickOf m
-      (record { by = refl; same = λ y. refl }) (record { by = refl; same = λ y. refl }) (record { by = refl; same = λ y. refl }) (record { by = refl; same = λ y. refl }) (record { by = refl; same = λ y. refl })
+      (record { by = refl; same = λ y. refl }) (record { by = refl; same = λ y. refl }) (record { by = refl; same = λ y. refl })
+      (record { by = refl; same = λ y. refl }) (record { by = refl; same = λ y. refl })
 
   quick_if : (b : Bool) (events : List Event) → Each IsQuickOf events → Each IsQuickOf (if b then [] else events)
   quick_if true events each = tt
@@ -51,7 +54,8 @@ module _ (plan : LabPlan) (j : ℕ) where
   abbrev IsBy : Event → Type 0
   IsBy x = actor x ≡ j
 
-  acts_by : (k : State) (waited : ℕ) (list : List Event) (acts : List Event) → Each (λ (x : Event). Each IsBy (whole_act x)) list → AreFirst plan k j waited list acts → Each IsBy acts
+  acts_by : (k : State) (waited : ℕ) (list : List Event) (acts : List Event)
+      → Each (λ (x : Event). Each IsBy (whole_act x)) list → AreFirst plan k j waited list acts → Each IsBy acts
   acts_by k waited [] acts each is = subst (Each IsBy) (sym is) tt
   acts_by k waited (x ∷ list) acts each (inl both) = subst (Each IsBy) (sym both.1) each.0
   acts_by k waited (x ∷ list) acts each (inr none) = acts_by k waited list acts each.1 none.1
@@ -66,13 +70,16 @@ module _ (plan : LabPlan) (j : ℕ) where
   abbrev KeepsRest : List Event → Type 0
   KeepsRest events = (s : State) → j < length s.seats → Rests s → Rests (learned_all plan s events)
 
-  acts_rest : (k : State) (waited : ℕ) (list : List Event) (acts : List Event) → Each (λ (x : Event). KeepsRest (whole_act x)) list → AreFirst plan k j waited list acts → KeepsRest acts
+  acts_rest : (k : State) (waited : ℕ) (list : List Event) (acts : List Event)
+      → Each (λ (x : Event). KeepsRest (whole_act x)) list → AreFirst plan k j waited list acts → KeepsRest acts
   acts_rest k waited [] acts each is = subst KeepsRest (sym is) (λ s inside rests. rests)
   acts_rest k waited (x ∷ list) acts each (inl both) = subst KeepsRest (sym both.1) each.0
   acts_rest k waited (x ∷ list) acts each (inr none) = acts_rest k waited list acts each.1 none.1
 
   drinks_then : (s : State) (x : Event) → actor x ≡ j → j < length s.seats → drinking (learned plan s x) j ≡ (seat_after plan (seat s j) x).phase.drinking
-  drinks_then s x by inside = ap (λ (y : Seat). y.phase.drinking) (subst (λ k. k < length s.seats → seat (learned plan s x) k ≡ seat_after plan (seat s k) x) by (learned_seat plan s x) inside)
+  drinks_then s x by inside =
+      ap (λ (y : Seat). y.phase.drinking)
+      (subst (λ k. k < length s.seats → seat (learned plan s x) k ≡ seat_after plan (seat s k) x) by (learned_seat plan s x) inside)
 
   other_than : (d e : Drinking) → d ≡ e → e ≢ Reaching → d ≢ Reaching
   other_than d e is other reaching = other (sym is ∙ reaching)
@@ -81,7 +88,8 @@ module _ (plan : LabPlan) (j : ℕ) where
   quit_rests s inside rests = other_than _ _ (drinks_then s (Quit j) refl inside) (λ e. cc)
 
   reach_rests : KeepsRest (whole_act (Reach j))
-  reach_rests s inside rests = other_than _ _ (drinks_then (learned plan s (Reach j)) (Act j) refl (subst (λ n. j < n) (sym (learned_seats plan s (Reach j))) inside)) (λ e. cc)
+  reach_rests s inside rests =
+      other_than _ _ (drinks_then (learned plan s (Reach j)) (Act j) refl (subst (λ n. j < n) (sym (learned_seats plan s (Reach j))) inside)) (λ e. cc)
 
   drink_rests : KeepsRest (whole_act (Drink j))
   drink_rests s inside rests = other_than _ _ (drinks_then s (Drink j) refl inside) (λ e. cc)
@@ -112,7 +120,8 @@ module _ (plan : LabPlan) (j : ℕ) where
   module _ (waited : ℕ) (s : State) (visits : List Visit) (acts events : List Event) (t : IsTurnBy plan j waited s visits acts events) where
     pub turn_by : Each (λ (x : Event). actor x ≡ j) events
     turn_by = subst (Each IsBy) (sym t.events_are) (each-append IsBy (visits_events j visits) acts
-        (each_map IsQuickOf IsBy (λ x q. q.by) (visits_events j visits) (quick_visits visits)) (acts_by (learned_all plan s (visits_events j visits)) waited (order j) acts order_by t.acts_due))
+        (each_map IsQuickOf IsBy (λ x q. q.by) (visits_events j visits) (quick_visits visits))
+        (acts_by (learned_all plan s (visits_events j visits)) waited (order j) acts order_by t.acts_due))
 
     pub turn_rests : j < length s.seats → drinking s j ≢ Reaching → drinking (learned_all plan s events) j ≢ Reaching
     turn_rests inside rests =

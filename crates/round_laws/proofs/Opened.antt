@@ -52,7 +52,9 @@ may_job plan s (Withdraw j) may = may.0
 none_left : (plan : LabPlan) (s : State) (l : List Event) → IsLegalFrom plan s l → ((m : ℕ) → IsJob plan m → events_by m l ≡ []) → l ≡ []
 none_left plan s [] legal none = refl
 none_left plan s (x ∷ l) legal none =
-    let q : x ∷ events_by (actor x) l ≡ [] = sym (ap (λ (c : Bool). if c then x ∷ events_by (actor x) l else events_by (actor x) l) (eq-eqb (actor x) (actor x) refl)) ∙ none (actor x) (may_job plan s x legal.0) in
+    let q : x ∷ events_by (actor x) l ≡ [] =
+    sym (ap (λ (c : Bool). if c then x ∷ events_by (actor x) l else events_by (actor x) l) (eq-eqb (actor x) (actor x) refl))
+    ∙ none (actor x) (may_job plan s x legal.0) in
     absurd (cc)
 
 -- ---- the desks and players at the start
@@ -74,13 +76,16 @@ module _ (t : TableId) (plan : LabPlan) where
   fresh_whole : (h : List Event) (n m : ℕ) → Each (λ (d : DeskView). events_by d.job h ≡ d.deeds) (fresh_desks t plan n) → m < n → events_by m h ≡ []
   fresh_whole h zero m whole less = absurd (omega (arith, less))
   fresh_whole h (suc n) m whole less = elim (cases_eq m n) [
-    | inl is ↦ subst (λ k. events_by k h ≡ []) (sym is) (each_right (λ (d : DeskView). events_by d.job h ≡ d.deeds) (fresh_desks t plan n) (fresh_desk t plan n ∷ []) whole).0
-    | inr other ↦ fresh_whole h n m (each_left (λ (d : DeskView). events_by d.job h ≡ d.deeds) (fresh_desks t plan n) (fresh_desk t plan n ∷ []) whole) (omega (arith, less, other))
+    | inl is ↦ subst (λ k. events_by k h ≡ []) (sym is)
+        (each_right (λ (d : DeskView). events_by d.job h ≡ d.deeds) (fresh_desks t plan n) (fresh_desk t plan n ∷ []) whole).0
+    | inr other ↦ fresh_whole h n m
+        (each_left (λ (d : DeskView). events_by d.job h ≡ d.deeds) (fresh_desks t plan n) (fresh_desk t plan n ∷ []) whole) (omega (arith, less, other))
   ]
 
   pub players_fresh : (n : ℕ) → players_of (fresh_desks t plan n) ≡ fresh_players n
   players_fresh zero = refl
-  players_fresh (suc n) = map_append player_of (fresh_desks t plan n) (fresh_desk t plan n ∷ []) ∙ ap (λ l. l ++ record { job = n; waited = no_wait } ∷ []) (players_fresh n)
+  players_fresh (suc n) = map_append player_of (fresh_desks t plan n) (fresh_desk t plan n ∷ [])
+      ∙ ap (λ l. l ++ record { job = n; waited = no_wait } ∷ []) (players_fresh n)
 
 jobs_more : (n : ℕ) → jobs_in (fresh_players (suc n)) ≡ jobs_in (fresh_players n) ++ n ∷ []
 jobs_more n = map_append (λ (x : Player). x.job) (fresh_players n) (record { job = n; waited = no_wait } ∷ [])
@@ -105,7 +110,9 @@ distinct_more (i ∷ js) j apart e = (each-append (λ (k : ℕ). k ≢ i) js (j 
 
 fresh_below : (n k : ℕ) → n < suc k → Each (λ (i : ℕ). i < k) (jobs_in (fresh_players n))
 fresh_below zero k less = tt
-fresh_below (suc n) k less = subst (Each (λ (i : ℕ). i < k)) (sym (jobs_more n)) (each-append (λ (i : ℕ). i < k) (jobs_in (fresh_players n)) (n ∷ []) (fresh_below n k (omega (arith, less))) (omega (arith, less), tt))
+fresh_below (suc n) k less =
+    subst (Each (λ (i : ℕ). i < k)) (sym (jobs_more n))
+    (each-append (λ (i : ℕ). i < k) (jobs_in (fresh_players n)) (n ∷ []) (fresh_below n k (omega (arith, less))) (omega (arith, less), tt))
 
 fresh_once : (n : ℕ) → Distinct (jobs_in (fresh_players n))
 fresh_once zero = tt
@@ -122,18 +129,23 @@ players_once plan = fresh_once (length plan.jobs)
 
 pub drives_from_opening : DrivesFromOpening
 drives_from_opening b limit ended n desks d =
-    let before : IsHistory b.plan d.start = legal_from b.plan (first_front desks) d.start (rounds_start b.plan (players_of (opened b)) (players_of desks) n d.idle d.start (first_front desks) d.rounds) d.company.legal in
-    let none : d.start ≡ [] = none_left b.plan (the_opening b.plan) d.start before (λ m job. fresh_whole b.table b.plan d.start (length b.plan.jobs) m d.whole job) in
+    let before : IsHistory b.plan d.start =
+    legal_from b.plan (first_front desks) d.start
+    (rounds_start b.plan (players_of (opened b)) (players_of desks) n d.idle d.start (first_front desks) d.rounds) d.company.legal in
+    let none : d.start ≡ [] =
+    none_left b.plan (the_opening b.plan) d.start before (λ m job. fresh_whole b.table b.plan d.start (length b.plan.jobs) m d.whole job) in
     record {
       idle = d.idle;
       players_then = players_of desks;
       legal = d.company.legal;
-      rounds = subst (λ (z : List Player × List Event). Rounds b.plan z.0 n d.idle z.1 (first_front desks) (players_of desks)) (λ i. (players_fresh b.table b.plan (length b.plan.jobs) i, none i)) d.rounds;
+      rounds = subst (λ (z : List Player × List Event). Rounds b.plan z.0 n d.idle z.1 (first_front desks) (players_of desks))
+          (λ i. (players_fresh b.table b.plan (length b.plan.jobs) i, none i)) d.rounds;
       most = d.most;
       why = d.why;
     }
 
-quiet_or : (x : Ended) (plan : LabPlan) (h : List Event) (idle : Bool) (n limit : ℕ) → x ≡ Quiet → Why plan h x idle n limit → ¬ AreRetired plan h × (idle ≡ true) × BothKnow plan h
+quiet_or : (x : Ended) (plan : LabPlan) (h : List Event) (idle : Bool) (n limit : ℕ)
+    → x ≡ Quiet → Why plan h x idle n limit → ¬ AreRetired plan h × (idle ≡ true) × BothKnow plan h
 quiet_or x plan h idle n limit is why = subst (λ z. Why plan h z idle n limit) is why
 
 pub never_ends_quiet : NeverEndsQuiet
@@ -146,5 +158,6 @@ never_ends_quiet b limit ended n desks d is =
 pub one_run_of_a_plan : OneRunOfAPlan
 one_run_of_a_plan a b limit ended ended' n n' desks desks' same c d =
     one_run b.plan limit (fresh_players (length b.plan.jobs)) [] ended ended' n n' (first_front desks) (first_front desks')
-    (subst (λ (p : LabPlan). RanRounds p limit (fresh_players (length p.jobs)) [] ended n (first_front desks)) same (drives_from_opening a limit ended n desks c))
+    (subst (λ (p : LabPlan). RanRounds p limit (fresh_players (length p.jobs)) [] ended n (first_front desks)) same
+    (drives_from_opening a limit ended n desks c))
     (drives_from_opening b limit ended' n' desks' d)

@@ -26,7 +26,8 @@ use Rattle.round_laws.proofs.InRounds.{OneTurn, round_one, rounds_jobs, rounds_r
 but_append : (a b : List Event) → but_glances (a ++ b) ≡ but_glances a ++ but_glances b
 but_append [] b = refl
 but_append (x ∷ a) b = at (is_glance x) (but_append a b) where
-  at : (c : Bool) → but_glances (a ++ b) ≡ but_glances a ++ but_glances b → (if c then but_glances (a ++ b) else x ∷ but_glances (a ++ b)) ≡ (if c then but_glances a else x ∷ but_glances a) ++ but_glances b
+  at : (c : Bool) → but_glances (a ++ b) ≡ but_glances a ++ but_glances b
+      → (if c then but_glances (a ++ b) else x ∷ but_glances (a ++ b)) ≡ (if c then but_glances a else x ∷ but_glances a) ++ but_glances b
   at true e = e
   at false e = ap (λ l. x ∷ l) e
 
@@ -38,7 +39,8 @@ looks_stay j (v ∷ visits) = ap (λ l. Look j v.edge v.saw ∷ l) (looks_stay j
 ends_idle : (plan : LabPlan) (j : ℕ) (h g : List Event) → OneTurn plan j true h g → EndsIdle plan g j
 ends_idle plan j h g q =
     let known : known_by plan (but_glances (events_by j h)) ≡ known_in plan h j = known_but plan (the_opening plan) (events_by j h) in
-    let idle : IsIdleTurn plan j q.waited (known_in plan h j) q.events = nothing_done_is_idle plan j q.waited (known_in plan h j) q.visits q.acts q.events q.turn (q.none_done refl) q.none_lost in
+    let idle : IsIdleTurn plan j q.waited (known_in plan h j) q.events =
+    nothing_done_is_idle plan j q.waited (known_in plan h j) q.visits q.acts q.events q.turn (q.none_done refl) q.none_lost in
     let calm : LeavesCalm plan j q.waited (known_in plan h j) q.events = idle_turn_is_calm plan j q.waited (known_in plan h j) q.events idle in
     let same : but_glances q.events ≡ q.events = ap but_glances calm.looks ∙ (looks_stay j calm.visits ∙ sym calm.looks) in
     record {
@@ -55,9 +57,11 @@ no_quiet_end plan players players' (suc n) h all apart legal (m, before, middle,
     let same : jobs_in middle ≡ jobs_in players = rounds_jobs plan players middle n before [] m rounds in
     quiet_round_is_retired plan h (record {
       legal = legal;
-      idle = λ j job. ends_idle plan j m h (round_one plan j middle players' true m h (subst Distinct (sym same) apart) (subst (Any (λ (i : ℕ). i ≡ j)) (sym same) (all j job)) last);
+      idle = λ j job. ends_idle plan j m h
+          (round_one plan j middle players' true m h (subst Distinct (sym same) apart) (subst (Any (λ (i : ℕ). i ≡ j)) (sym same) (all j job)) last);
       none_reaches = λ j job reaching. rounds_rest plan j job players players' (suc n) true [] h apart (all j job) (m, before, middle, rounds, going, last)
-          (λ e. (let begins : Tranquil ≡ Reaching = sym (ap (λ x. x.drinking) (opening_phase plan (the_opening plan) j (the_opening_is_acyclic plan).0)) ∙ e in cc))
+          (λ e. (let begins : Tranquil ≡ Reaching = sym (ap (λ x. x.drinking)
+          (opening_phase plan (the_opening plan) j (the_opening_is_acyclic plan).0)) ∙ e in cc))
           (ap (λ (x : Seat). x.phase.drinking) (sym (own_known plan j h job)) ∙ reaching);
       both_know = both;
     })

@@ -35,11 +35,13 @@ module _ (plan : LabPlan) where
   Same idle idle' g g' ps ps' = (g ≡ g') × (idle ≡ idle') × (ps ≡ ps')
 
   -- one turn
-  plays_same : (x x' y' : Player) (h g g' : List Event) (r r' : Turned) → IsHistory plan g → IsHistory plan g' → Plays plan x h r g x' → Plays plan x h r' g' y' → (g ≡ g') × (is_idle r ≡ is_idle r') × (x' ≡ y')
+  plays_same : (x x' y' : Player) (h g g' : List Event) (r r' : Turned) → IsHistory plan g → IsHistory plan g'
+      → Plays plan x h r g x' → Plays plan x h r' g' y' → (g ≡ g') × (is_idle r ≡ is_idle r') × (x' ≡ y')
   plays_same x x' y' h g g' r r' legal legal' t t' =
       let now : IsLegalFrom plan (state_after plan h) t.events = legal-goes_on plan (the_opening plan) h t.events (subst (IsHistory plan) t.after legal) in
       let now' : IsLegalFrom plan (state_after plan h) t'.events = legal-goes_on plan (the_opening plan) h t'.events (subst (IsHistory plan) t'.after legal') in
-      let same = turn_same plan x.job (waited_so_far plan x h) (known_in plan h x.job) (state_after plan h) t.visits t'.visits t.acts t'.acts t.events t'.events t.turn t'.turn t.none_lost t'.none_lost now now' in (
+      let same = turn_same plan x.job (waited_so_far plan x h) (known_in plan h x.job)
+      (state_after plan h) t.visits t'.visits t.acts t'.acts t.events t'.events t.turn t'.turn t.none_lost t'.none_lost now now' in (
         t.after ∙ (ap (λ l. h ++ l) same.0 ∙ sym t'.after),
         same_idle r r' (count is_done t'.visits + once t'.acts) (subst (λ n. Says r n 0) same.1 t.says) t'.says,
         t.counted ∙ (ap (player_after plan x h) same.0 ∙ sym t'.counted),
@@ -47,27 +49,35 @@ module _ (plan : LabPlan) where
 
   round_starts : (players ps : List Player) (idle : Bool) (h g : List Event) → Round plan players idle h g ps → StartsWith g h
   round_starts [] ps idle h g is = ([], is.0 ∙ sym (append-nil h))
-  round_starts (x ∷ players) ps idle h g (r, m, x', later, rest, t, more, idle_is, players_are) = starts_then g m h (round_starts players rest later m g more) (t.events, t.after)
+  round_starts (x ∷ players) ps idle h g (r, m, x', later, rest, t, more, idle_is, players_are) =
+      starts_then g m h (round_starts players rest later m g more) (t.events, t.after)
 
   pub rounds_start : (players ps : List Player) (n : ℕ) (idle : Bool) (h g : List Event) → Rounds plan players n idle h g ps → StartsWith g h
   rounds_start players ps zero idle h g is = ([], is.0 ∙ sym (append-nil h))
-  rounds_start players ps (suc n) idle h g (m, before, middle, rounds, going, last) = starts_then g m h (round_starts middle ps idle m g last) (rounds_start players middle n before h m rounds)
+  rounds_start players ps (suc n) idle h g (m, before, middle, rounds, going, last) =
+      starts_then g m h (round_starts middle ps idle m g last) (rounds_start players middle n before h m rounds)
 
   pub legal_from : (g h : List Event) → StartsWith g h → IsHistory plan g → IsHistory plan h
   legal_from g h s legal = legal-begins plan (the_opening plan) h s.0 (subst (IsHistory plan) s.1 legal)
 
-  round_same : (players ps ps' : List Player) (idle idle' : Bool) (h g g' : List Event) → IsHistory plan g → IsHistory plan g' → Round plan players idle h g ps → Round plan players idle' h g' ps' → Same idle idle' g g' ps ps'
+  round_same : (players ps ps' : List Player) (idle idle' : Bool) (h g g' : List Event) → IsHistory plan g
+      → IsHistory plan g' → Round plan players idle h g ps → Round plan players idle' h g' ps' → Same idle idle' g g' ps ps'
   round_same [] ps ps' idle idle' h g g' legal legal' is is' = (is.0 ∙ sym is'.0, is.1 ∙ sym is'.1, is.2 ∙ sym is'.2)
-  round_same (x ∷ players) ps ps' idle idle' h g g' legal legal' (r, m, x', later, rest, t, more, idle_is, players_are) (r', m', y', later', rest', t', more', idle_is', players_are') =
-      let a = plays_same x x' y' h m m' r r' (legal_from g m (round_starts players rest later m g more) legal) (legal_from g' m' (round_starts players rest' later' m' g' more') legal') t t' in
+  round_same (x ∷ players) ps ps' idle idle' h g g' legal legal' (r, m, x', later, rest, t, more, idle_is, players_are)
+      (r', m', y', later', rest', t', more', idle_is', players_are') =
+      let a = plays_same x x' y' h m m' r r' (legal_from g m (round_starts players rest later m g more) legal)
+      (legal_from g' m' (round_starts players rest' later' m' g' more') legal') t t' in
       let b = round_same players rest rest' later later' m g g' legal legal' more (subst (λ z. Round plan players later' z g' rest') (sym a.0) more') in
       (b.0, idle_is ∙ ((λ i. a.1 i && b.1 i) ∙ sym idle_is'), players_are ∙ ((λ i. a.2 i ∷ b.2 i) ∙ sym players_are'))
 
-  pub rounds_same : (players ps ps' : List Player) (n : ℕ) (idle idle' : Bool) (h g g' : List Event) → IsHistory plan g → IsHistory plan g' → Rounds plan players n idle h g ps → Rounds plan players n idle' h g' ps' → Same idle idle' g g' ps ps'
+  pub rounds_same : (players ps ps' : List Player) (n : ℕ) (idle idle' : Bool) (h g g' : List Event) → IsHistory plan g
+      → IsHistory plan g' → Rounds plan players n idle h g ps → Rounds plan players n idle' h g' ps' → Same idle idle' g g' ps ps'
   rounds_same players ps ps' zero idle idle' h g g' legal legal' is is' = (is.0 ∙ sym is'.0, is.1 ∙ sym is'.1, is.2 ∙ sym is'.2)
   rounds_same players ps ps' (suc n) idle idle' h g g' legal legal' (m, before, middle, rounds, going, last) (m', before', middle', rounds', going', last') =
-      let a = rounds_same players middle middle' n before before' h m m' (legal_from g m (round_starts middle ps idle m g last) legal) (legal_from g' m' (round_starts middle' ps' idle' m' g' last') legal') rounds rounds' in
-      round_same middle ps ps' idle idle' m g g' legal legal' last (subst (λ (z : List Player × List Event). Round plan z.0 idle' z.1 g' ps') (λ i. (sym a.2 i, sym a.0 i)) last')
+      let a = rounds_same players middle middle' n before before' h m m' (legal_from g m (round_starts middle ps idle m g last) legal)
+      (legal_from g' m' (round_starts middle' ps' idle' m' g' last') legal') rounds rounds' in
+      round_same middle ps ps' idle idle' m g g' legal legal' last
+      (subst (λ (z : List Player × List Event). Round plan z.0 idle' z.1 g' ps') (λ i. (sym a.2 i, sym a.0 i)) last')
 
   -- ---- after fewer rounds it wasn't over
 
@@ -107,10 +117,12 @@ module _ (plan : LabPlan) where
   over reasons.NoMemory idle n limit g why = absurd why
 
   -- it ends no later
-  no_later : (limit : ℕ) (players : List Player) (h : List Event) (ended ended' : Ended) (n k : ℕ) (g g' : List Event) → RanRounds plan limit players h ended k g → RanRounds plan limit players h ended' n g' → k < n → ⊥
+  no_later : (limit : ℕ) (players : List Player) (h : List Event) (ended ended' : Ended) (n k : ℕ) (g g' : List Event)
+      → RanRounds plan limit players h ended k g → RanRounds plan limit players h ended' n g' → k < n → ⊥
   no_later limit players h ended ended' n k g g' a b less =
       let q : WasGoing players k h g' = fewer players b.players_then n k b.idle h g' less b.rounds in
-      let same = rounds_same players a.players_then q.players_then k a.idle q.idle h g q.then a.legal (legal_from g' q.then q.starts b.legal) a.rounds q.rounds in
+      let same =
+      rounds_same players a.players_then q.players_then k a.idle q.idle h g q.then a.legal (legal_from g' q.then q.starts b.legal) a.rounds q.rounds in
       elim (over ended a.idle k limit g a.why) [
         | inl done ↦ q.going (subst (λ (z : Bool × List Event). IsOver plan z.0 z.1) (λ i. (same.1 i, same.0 i)) done)
         | inr all ↦ absurd (omega (arith, all, less, b.most))
@@ -140,8 +152,10 @@ one_run plan limit players h ended ended' n n' g g' a b =
         | inr more ↦ no_later plan limit players h ended' ended n n' g' g b a (omega (arith, more, other))
       ])
     ] in
-    let same = rounds_same plan players a.players_then b.players_then n' a.idle b.idle h g g' a.legal b.legal (subst (λ k. Rounds plan players k a.idle h g a.players_then) count a.rounds) b.rounds in (
-      one_reason plan ended ended' b.idle n' limit g' (subst (λ (z : List Event × Bool × ℕ). Why plan z.0 ended z.1 z.2 limit) (λ i. (same.0 i, same.1 i, count i)) a.why) b.why,
+    let same = rounds_same plan players a.players_then b.players_then n' a.idle b.idle h g g' a.legal b.legal
+    (subst (λ k. Rounds plan players k a.idle h g a.players_then) count a.rounds) b.rounds in (
+      one_reason plan ended ended' b.idle n' limit g'
+          (subst (λ (z : List Event × Bool × ℕ). Why plan z.0 ended z.1 z.2 limit) (λ i. (same.0 i, same.1 i, count i)) a.why) b.why,
       count,
       same.0,
     )

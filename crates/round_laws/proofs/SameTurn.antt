@@ -34,7 +34,8 @@ unfolding rest_of
 same_rest a b xs ys is = ap rest_of is
 
 -- an exchange that isn't lost is done, where there is one
-not_lost : (v : Visit) (n : ℕ) → (if not (is_nothing v.moves) && v.lost then 1 else 0) + n ≡ 0 → (n ≡ 0) × ((if is_nothing v.moves then true else not v.lost) ≡ true)
+not_lost : (v : Visit) (n : ℕ) → (if not (is_nothing v.moves) && v.lost then 1 else 0) + n ≡ 0
+    → (n ≡ 0) × ((if is_nothing v.moves then true else not v.lost) ≡ true)
 not_lost v n is = at (is_nothing v.moves) v.lost is where
   at : (b c : Bool) → (if not b && c then 1 else 0) + n ≡ 0 → (n ≡ 0) × ((if b then true else not c) ≡ true)
   at true c is = (omega (arith, is), refl)
@@ -66,8 +67,10 @@ module _ (plan : LabPlan) (j : ℕ) where
   some_edge : (a : ℕ) (xs : List ℕ) → a ∷ xs ≡ [] → ⊥
   some_edge a xs is = cc
 
-  visits_same : (s w : State) (vs us : List Visit) (rest rest' : List Event) → map (λ (v : Visit). v.edge) vs ≡ map (λ (v : Visit). v.edge) us → AreVisits plan j s vs → AreVisits plan j s us
-      → count is_lost vs ≡ 0 → count is_lost us ≡ 0 → IsLegalFrom plan w (visits_events j vs ++ rest) → IsLegalFrom plan w (visits_events j us ++ rest') → SameVisits vs us
+  visits_same : (s w : State) (vs us : List Visit) (rest rest' : List Event)
+      → map (λ (v : Visit). v.edge) vs ≡ map (λ (v : Visit). v.edge) us → AreVisits plan j s vs → AreVisits plan j s us
+      → count is_lost vs ≡ 0 → count is_lost us ≡ 0 → IsLegalFrom plan w (visits_events j vs ++ rest)
+      → IsLegalFrom plan w (visits_events j us ++ rest') → SameVisits vs us
   visits_same s w [] [] rest rest' edges due due' lost lost' legal legal' = (refl, refl)
   visits_same s w [] (u ∷ us) rest rest' edges due due' lost lost' legal legal' = absurd (some_edge u.edge (map (λ (v : Visit). v.edge) us) (sym edges))
   visits_same s w (v ∷ vs) [] rest rest' edges due due' lost lost' legal legal' = absurd (some_edge v.edge (map (λ (v : Visit). v.edge) vs) edges)
@@ -80,20 +83,29 @@ module _ (plan : LabPlan) (j : ℕ) where
       (subst (λ (z : ℕ × EdgeState). AreDue plan (learned plan s (Look j z.0 z.1)) j z.0 v.moves) (λ i. (here i, saw i)) due.0) due'.0 in
       let events : visit_events j v ≡ visit_events j u = visit_whole v kept.1 ∙ ((λ i. whole_visit (here i) (saw i) (moves i)) ∙ sym (visit_whole u kept'.1)) in
       let next : IsLegalFrom plan (after_all plan w (visit_events j v)) (visits_events j vs ++ rest) =
-      legal-goes_on plan w (visit_events j v) (visits_events j vs ++ rest) (subst (IsLegalFrom plan w) (append_assoc (visit_events j v) (visits_events j vs) rest) legal) in
+      legal-goes_on plan w (visit_events j v) (visits_events j vs ++ rest)
+      (subst (IsLegalFrom plan w) (append_assoc (visit_events j v) (visits_events j vs) rest) legal) in
       let next' : IsLegalFrom plan (after_all plan w (visit_events j u)) (visits_events j us ++ rest') =
-      legal-goes_on plan w (visit_events j u) (visits_events j us ++ rest') (subst (IsLegalFrom plan w) (append_assoc (visit_events j u) (visits_events j us) rest') legal') in
-      let later : SameVisits vs us = visits_same (learned_all plan s (visit_events j v)) (after_all plan w (visit_events j v)) vs us rest rest' (same_rest v.edge u.edge _ _ edges) due.1
+      legal-goes_on plan w (visit_events j u) (visits_events j us ++ rest')
+      (subst (IsLegalFrom plan w) (append_assoc (visit_events j u) (visits_events j us) rest') legal') in
+      let later : SameVisits vs us =
+      visits_same (learned_all plan s (visit_events j v)) (after_all plan w (visit_events j v)) vs us rest rest' (same_rest v.edge u.edge _ _ edges) due.1
       (subst (λ l. AreVisits plan j (learned_all plan s l) us) (sym events) due'.1) kept.0 kept'.0 next
       (subst (λ l. IsLegalFrom plan (after_all plan w l) (visits_events j us ++ rest')) (sym events) next') in
       let one : (not (is_nothing v.moves) && not v.lost) ≡ (not (is_nothing u.moves) && not u.lost) =
-      done_count (is_nothing v.moves) v.lost kept.1 ∙ (ap (λ (m : EdgeMoves). not (is_nothing m)) moves ∙ sym (done_count (is_nothing u.moves) u.lost kept'.1)) in
+      done_count (is_nothing v.moves) v.lost kept.1
+      ∙ (ap (λ (m : EdgeMoves). not (is_nothing m)) moves ∙ sym (done_count (is_nothing u.moves) u.lost kept'.1)) in
       ((λ i. events i ++ later.0 i), (λ i. (let n : ℕ = if one i then 1 else 0 in n) + later.1 i))
 
   -- a turn by its job's knowledge and the state that it is done in
-  pub turn_same : (waited : ℕ) (s w : State) (vs us : List Visit) (acts acts' events events' : List Event) → IsTurnBy plan j waited s vs acts events → IsTurnBy plan j waited s us acts' events'
-      → count is_lost vs ≡ 0 → count is_lost us ≡ 0 → IsLegalFrom plan w events → IsLegalFrom plan w events' → (events ≡ events') × (count is_done vs + once acts ≡ count is_done us + once acts')
+  pub turn_same : (waited : ℕ) (s w : State) (vs us : List Visit) (acts acts' events events' : List Event)
+      → IsTurnBy plan j waited s vs acts events → IsTurnBy plan j waited s us acts' events'
+      → count is_lost vs ≡ 0 → count is_lost us ≡ 0 → IsLegalFrom plan w events → IsLegalFrom plan w events'
+      → (events ≡ events') × (count is_done vs + once acts ≡ count is_done us + once acts')
   turn_same waited s w vs us acts acts' events events' t t' lost lost' legal legal' =
-      let same : SameVisits vs us = visits_same s w vs us acts acts' (t.edges ∙ sym t'.edges) t.due t'.due lost lost' (subst (IsLegalFrom plan w) t.events_are legal) (subst (IsLegalFrom plan w) t'.events_are legal') in
-      let act : acts ≡ acts' = one_act_is_due plan (learned_all plan s (visits_events j us)) j waited acts acts' (subst (λ l. AreActs plan (learned_all plan s l) j waited acts) same.0 t.acts_due) t'.acts_due in
+      let same : SameVisits vs us =
+      visits_same s w vs us acts acts' (t.edges ∙ sym t'.edges) t.due t'.due lost lost'
+      (subst (IsLegalFrom plan w) t.events_are legal) (subst (IsLegalFrom plan w) t'.events_are legal') in
+      let act : acts ≡ acts' = one_act_is_due plan (learned_all plan s (visits_events j us)) j waited acts acts'
+      (subst (λ l. AreActs plan (learned_all plan s l) j waited acts) same.0 t.acts_due) t'.acts_due in
       (t.events_are ∙ ((λ i. same.0 i ++ act i) ∙ sym t'.events_are), λ i. same.1 i + once (act i))

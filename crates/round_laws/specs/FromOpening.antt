@@ -29,4 +29,5 @@ NeverEndsQuiet = (b : BenchView) (limit : ℕ) (ended : Ended) (n : ℕ) (desks 
 -- the rounds of two benches of one plan, with one limit, end for the same reason, after as many rounds, with the same history
 abbrev pub OneRunOfAPlan : Type 0
 OneRunOfAPlan = (a b : BenchView) (limit : ℕ) (ended ended' : Ended) (n n' : ℕ) (desks desks' : List DeskView) → a.plan ≡ b.plan
-    → Drove a limit (opened a) ended n desks → Drove b limit (opened b) ended' n' desks' → (ended ≡ ended') × (n ≡ n') × (first_front desks ≡ first_front desks')
+    → Drove a limit (opened a) ended n desks → Drove b limit (opened b) ended' n' desks'
+    → (ended ≡ ended') × (n ≡ n') × (first_front desks ≡ first_front desks')

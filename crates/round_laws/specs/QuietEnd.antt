@@ -16,5 +16,6 @@ HasAllPlayers plan players = (j : ℕ) → j < length plan.jobs → Any (λ (i :
 
 -- Rounds of all jobs from the opening: where every turn of the last one was idle, and both ends of every edge know the same of it, all jobs are retired
 abbrev pub NoQuietEnd : Type 0
-NoQuietEnd = (plan : LabPlan) (players players' : List Player) (n : ℕ) (h : List Event) → HasAllPlayers plan players → Distinct (jobs_in players) → IsHistory plan h
+NoQuietEnd = (plan : LabPlan) (players players' : List Player) (n : ℕ) (h : List Event)
+    → HasAllPlayers plan players → Distinct (jobs_in players) → IsHistory plan h
     → Rounds plan players n true [] h players' → BothKnow plan h → AreRetired plan h

@@ -24,7 +24,8 @@ all_there-append [] ys = same (all_there ys)
 all_there-append (None ∷ xs) ys = refl
 all_there-append (Some k ∷ xs) ys = ap (option_map (λ ks. k ∷ ks)) (all_there-append xs ys) ∙ shifted (all_there xs) (all_there ys)
   where
-    shifted : (o p : Option (List ℕ)) → option_map (λ ks. k ∷ ks) (option_and_then (λ ks. option_map (λ more. ks ++ more) p) o) ≡ option_and_then (λ ks. option_map (λ more. ks ++ more) p) (option_map (λ ks. k ∷ ks) o)
+    shifted : (o p : Option (List ℕ)) → option_map (λ ks. k ∷ ks) (option_and_then (λ ks. option_map (λ more. ks ++ more) p) o)
+        ≡ option_and_then (λ ks. option_map (λ more. ks ++ more) p) (option_map (λ ks. k ∷ ks) o)
     shifted None p = refl
     shifted (Some ks) None = refl
     shifted (Some ks) (Some more) = refl
@@ -89,8 +90,10 @@ pub distinct-twice : (ks : List ℕ) (k : ℕ) (more : List ℕ) → is_member k
 distinct-twice [] k more is = cc
 distinct-twice (x ∷ ks) k more is =
     ⊎_elim
-    (λ here. let there : is_member x (ks ++ k ∷ more) ≡ true = list_any-append (λ other. other == x) ks (k ∷ more) ∙ (λ i. is_member x ks || ((other_way k x ∙ here) i || is_member x more)) ∙ or_true (is_member x ks) in rw there refl)
-    (λ here. let later : is_member k ks ≡ true = rw here at is in ap (λ b. not (is_member x (ks ++ k ∷ more)) && b) (distinct-twice ks k more later) ∙ and_false (not (is_member x (ks ++ k ∷ more))))
+    (λ here. let there : is_member x (ks ++ k ∷ more) ≡ true = list_any-append (λ other. other == x) ks (k ∷ more)
+    ∙ (λ i. is_member x ks || ((other_way k x ∙ here) i || is_member x more)) ∙ or_true (is_member x ks) in rw there refl)
+    (λ here. let later : is_member k ks ≡ true = rw here at is in ap (λ b. not (is_member x (ks ++ k ∷ more)) && b) (distinct-twice ks k more later)
+    ∙ and_false (not (is_member x (ks ++ k ∷ more))))
     (cases_Bool (x == k))
   where
     or_true : (a : Bool) → (a || true) ≡ true
@@ -133,10 +136,12 @@ shows-push set ks k shows i =
     ⊎_elim
     (λ same.
     let one : bit_at (2 ^ k) i ≡ 1 = ap (bit_at (2 ^ k)) (sym ((Decides-eqb k i).0 same)) ∙ bit_at-pow_same k in
-    bit_at_or set (2 ^ k) i ∙ (λ j. max (shows i j) (one j)) ∙ max_one (is_member i ks) ∙ ap number (sym (member-push i k ks ∙ ap (λ b. is_member i ks || b) same)))
+    bit_at_or set (2 ^ k) i ∙ (λ j. max (shows i j) (one j)) ∙ max_one (is_member i ks)
+    ∙ ap number (sym (member-push i k ks ∙ ap (λ b. is_member i ks || b) same)))
     (λ other.
     let none : bit_at (2 ^ k) i ≡ 0 = bit_at-pow_other k i (λ e. true≢false (sym ((Decides-eqb k i).1 (sym e)) ∙ other)) in
-    bit_at_or set (2 ^ k) i ∙ (λ j. max (shows i j) (none j)) ∙ max_zero (is_member i ks) ∙ ap number (sym (member-push i k ks ∙ ap (λ b. is_member i ks || b) other)))
+    bit_at_or set (2 ^ k) i ∙ (λ j. max (shows i j) (none j)) ∙ max_zero (is_member i ks)
+    ∙ ap number (sym (member-push i k ks ∙ ap (λ b. is_member i ks || b) other)))
     (cases_Bool (k == i))
 
 bit_of : (set : ℕ) (ks : List ℕ) (k : ℕ) (there : Bool) → Shows set ks → is_member k ks ≡ there → bit_and set (2 ^ k) ≡ (if there then 1 else 0) * 2 ^ k
@@ -176,7 +181,8 @@ pub record IsSet (f : List ℕ → Option ℕ) (names done rest : List (List ℕ
 pub begins : (f : List ℕ → Option ℕ) (names : List (List ℕ)) → IsSet f names [] names [] 0
 begins f names = record { split = refl; there = refl; distinct = refl; set_is = refl; shows = shows-nil }
 
-pub goes_on : (f : List ℕ → Option ℕ) (names done rest : List (List ℕ)) (ks : List ℕ) (set : ℕ) (name : List ℕ) (k : ℕ) → IsSet f names done (name ∷ rest) ks set → f name ≡ Some k → bit_and set (2 ^ k) ≡ 0
+pub goes_on : (f : List ℕ → Option ℕ) (names done rest : List (List ℕ)) (ks : List ℕ) (set : ℕ) (name : List ℕ) (k : ℕ)
+    → IsSet f names done (name ∷ rest) ks set → f name ≡ Some k → bit_and set (2 ^ k) ≡ 0
     → IsSet f names (done ++ name ∷ []) rest (ks ++ k ∷ []) (bit_or set (2 ^ k))
 goes_on f names done rest ks set name k h is clear =
     let isnt = no_member set ks k h.shows clear in
@@ -194,20 +200,27 @@ ends f names done ks set h =
     ap (option_and_then (λ ks. if is_distinct ks then Some (set_of ks) else None)) all ∙ rw h.distinct (ap Some (sym h.set_is))
 
 -- the names from this one on
-from_here : (f : List ℕ → Option ℕ) (names done rest : List (List ℕ)) (ks : List ℕ) (set : ℕ) (name : List ℕ) (o : Option ℕ) → IsSet f names done (name ∷ rest) ks set → f name ≡ o → all_there (map f names) ≡ all_there (map f done ++ o ∷ map f rest)
-from_here f names done rest ks set name o h is = ap (λ l. all_there (map f l)) h.split ∙ ap all_there (map-append f done (name ∷ rest)) ∙ ap (λ x. all_there (map f done ++ x ∷ map f rest)) is
+from_here : (f : List ℕ → Option ℕ) (names done rest : List (List ℕ)) (ks : List ℕ) (set : ℕ) (name : List ℕ) (o : Option ℕ)
+    → IsSet f names done (name ∷ rest) ks set → f name ≡ o → all_there (map f names) ≡ all_there (map f done ++ o ∷ map f rest)
+from_here f names done rest ks set name o h is = ap (λ l. all_there (map f l)) h.split
+    ∙ ap all_there (map-append f done (name ∷ rest)) ∙ ap (λ x. all_there (map f done ++ x ∷ map f rest)) is
 
-pub missing : (f : List ℕ → Option ℕ) (names done rest : List (List ℕ)) (ks : List ℕ) (set : ℕ) (name : List ℕ) → IsSet f names done (name ∷ rest) ks set → f name ≡ None → set_by f names ≡ None
+pub missing : (f : List ℕ → Option ℕ) (names done rest : List (List ℕ)) (ks : List ℕ) (set : ℕ) (name : List ℕ)
+    → IsSet f names done (name ∷ rest) ks set → f name ≡ None → set_by f names ≡ None
 missing f names done rest ks set name h is =
-    ap (option_and_then (λ ks. if is_distinct ks then Some (set_of ks) else None)) (from_here f names done rest ks set name None h is ∙ all_there-none (map f done) (map f rest))
+    ap (option_and_then (λ ks. if is_distinct ks then Some (set_of ks) else None)) (from_here f names done rest ks set name None h is
+    ∙ all_there-none (map f done) (map f rest))
 
-pub twice : (f : List ℕ → Option ℕ) (names done rest : List (List ℕ)) (ks : List ℕ) (set : ℕ) (name : List ℕ) (k : ℕ) → IsSet f names done (name ∷ rest) ks set → f name ≡ Some k → (bit_and set (2 ^ k) ≡ 0 → ⊥) → set_by f names ≡ None
+pub twice : (f : List ℕ → Option ℕ) (names done rest : List (List ℕ)) (ks : List ℕ) (set : ℕ) (name : List ℕ) (k : ℕ)
+    → IsSet f names done (name ∷ rest) ks set → f name ≡ Some k → (bit_and set (2 ^ k) ≡ 0 → ⊥) → set_by f names ≡ None
 twice f names done rest ks set name k h is some =
     let there = is_there set ks k h.shows some in
     let found : all_there (map f names) ≡ option_and_then (λ ks. option_map (λ more. ks ++ more) (all_there (Some k ∷ map f rest))) (Some ks) =
-    from_here f names done rest ks set name (Some k) h is ∙ all_there-append (map f done) (Some k ∷ map f rest) ∙ ap (option_and_then (λ ks. option_map (λ more. ks ++ more) (all_there (Some k ∷ map f rest)))) h.there in
+    from_here f names done rest ks set name (Some k) h is ∙ all_there-append (map f done) (Some k ∷ map f rest)
+    ∙ ap (option_and_then (λ ks. option_map (λ more. ks ++ more) (all_there (Some k ∷ map f rest)))) h.there in
     ap (option_and_then (λ ks. if is_distinct ks then Some (set_of ks) else None)) found ∙ refused (all_there (map f rest)) there
   where
-    refused : (o : Option (List ℕ)) → is_member k ks ≡ true → option_and_then (λ ks. if is_distinct ks then Some (set_of ks) else None) (option_map (λ more. ks ++ more) (option_map (λ more. k ∷ more) o)) ≡ None
+    refused : (o : Option (List ℕ)) → is_member k ks ≡ true
+        → option_and_then (λ ks. if is_distinct ks then Some (set_of ks) else None) (option_map (λ more. ks ++ more) (option_map (λ more. k ∷ more) o)) ≡ None
     refused None there = refl
     refused (Some more) there = rw (distinct-twice ks k more there) refl

@@ -58,18 +58,22 @@ rows_low jobs a (suc n) =
     (weaker (λ (p : ℕ × ℕ). a + 1 ≤ p.0) (λ (p : ℕ × ℕ). a ≤ p.0) (λ p h. omega (arith, h)) (rows jobs (a + 1) n) (rows_low jobs (a + 1) n))
 
 -- a list of one lower job, and then pairs of higher ones
-ascends_joined : (low : ℕ) (xs ys : List (ℕ × ℕ)) → AllByRecursion (λ (p : ℕ × ℕ). p.0 ≡ low) xs → AllByRecursion (λ (p : ℕ × ℕ). low + 1 ≤ p.0) ys → Ascends xs → Ascends ys → Ascends (xs ++ ys)
+ascends_joined : (low : ℕ) (xs ys : List (ℕ × ℕ)) → AllByRecursion (λ (p : ℕ × ℕ). p.0 ≡ low) xs
+    → AllByRecursion (λ (p : ℕ × ℕ). low + 1 ≤ p.0) ys → Ascends xs → Ascends ys → Ascends (xs ++ ys)
 unfolding Ascends Before
 ascends_joined low [] ys all above h k = k
 ascends_joined low (x ∷ xs) ys all above h k =
-    let is = all.0 in
-    (joined (Before x) xs ys h.0 (weaker (λ (p : ℕ × ℕ). low + 1 ≤ p.0) (Before x) (λ p less. inl (omega (arith, less, is))) ys above), ascends_joined low xs ys all.1 above h.1 k)
+    let is = all.0 in (
+      joined (Before x) xs ys h.0 (weaker (λ (p : ℕ × ℕ). low + 1 ≤ p.0) (Before x) (λ p less. inl (omega (arith, less, is))) ys above),
+      ascends_joined low xs ys all.1 above h.1 k,
+    )
 
 rows_ascend : (jobs a n : ℕ) → Ascends (rows jobs a n)
 unfolding rows Ascends
 rows_ascend jobs a zero = tt
 rows_ascend jobs a (suc n) =
-    ascends_joined a (row a (a + 1) (jobs - (a + 1))) (rows jobs (a + 1) n) (row_low a (a + 1) (jobs - (a + 1))) (rows_low jobs (a + 1) n) (row_ascends a (a + 1) (jobs - (a + 1))) (rows_ascend jobs (a + 1) n)
+    ascends_joined a (row a (a + 1) (jobs - (a + 1))) (rows jobs (a + 1) n) (row_low a (a + 1) (jobs - (a + 1)))
+    (rows_low jobs (a + 1) n) (row_ascends a (a + 1) (jobs - (a + 1))) (rows_ascend jobs (a + 1) n)
 
 kept : (P : ℕ × ℕ → Type 0) (p : ℕ × ℕ → Bool) (xs : List (ℕ × ℕ)) → AllByRecursion P xs → AllByRecursion P (filter p xs)
 kept P p [] h = tt
@@ -78,7 +82,8 @@ kept P p (x ∷ xs) h = ⊎_elim (λ is. rw is (h.0, kept P p xs h.1)) (λ is. r
 filter_ascends : (p : ℕ × ℕ → Bool) (xs : List (ℕ × ℕ)) → Ascends xs → Ascends (filter p xs)
 unfolding Ascends
 filter_ascends p [] h = tt
-filter_ascends p (x ∷ xs) h = ⊎_elim (λ is. rw is (kept (Before x) p xs h.0, filter_ascends p xs h.1)) (λ is. rw is (filter_ascends p xs h.1)) (cases_Bool (p x))
+filter_ascends p (x ∷ xs) h =
+    ⊎_elim (λ is. rw is (kept (Before x) p xs h.0, filter_ascends p xs h.1)) (λ is. rw is (filter_ascends p xs h.1)) (cases_Bool (p x))
 
 edges_ascend : (plan : LabPlan) → Ascends (edges plan)
 unfolding edges rows row
@@ -129,7 +134,8 @@ edge_found plan a b e found =
     let inside = slice_get_within (edges plan) e wanted found in
     let here : get_or (edges plan) e (0, 0) ≡ wanted = get_or_from_slice_get (edges plan) e wanted (0, 0) found in
     let before : (k : ℕ) → k < e → is_pair wanted (get_or (edges plan) k (0, 0)) ≡ false =
-    λ k less. false_from_ne_true _ (λ same. not_itself _ _ (pair_is wanted _ same ∙ sym here) (earlier (edges plan) k e (0, 0) (edges_ascend plan) less inside)) in
+    λ k less. false_from_ne_true _
+    (λ same. not_itself _ _ (pair_is wanted _ same ∙ sym here) (earlier (edges plan) k e (0, 0) (edges_ascend plan) less inside)) in
     (position_found (is_pair wanted) (edges plan) e (0, 0) inside before (ap (is_pair wanted) here ∙ is_itself wanted), inside)
 
 pub edge_none : (plan : LabPlan) (a b : ℕ) → (Contains (edges plan) (lower_first a b) → ⊥) → edge_between plan a b ≡ None

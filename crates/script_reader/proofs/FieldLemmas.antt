@@ -29,12 +29,14 @@ some : (field : List ℕ) → 0 < length field → is_some_field field ≡ true
 some [] h = absurd (omega arith)
 some (b ∷ bs) h = refl
 
-first_of : (field rest : List ℕ) → All IsInk field → 0 < length field → (0 < length rest → IsGap (slice_index rest 0)) → fields (field ++ rest) ≡ field ∷ fields rest
+first_of : (field rest : List ℕ) → All IsInk field → 0 < length field
+    → (0 < length rest → IsGap (slice_index rest 0)) → fields (field ++ rest) ≡ field ∷ fields rest
 unfolding fields
 first_of field [] all long ends =
     ap fields (append-nil field) ∙ ap (filter is_some_field) (slice_split_none is_gap field (λ k d inside. ink _ (all k d inside))) ∙ rw (some field long) refl
 first_of field (b ∷ rest) all long ends =
-    ap (filter is_some_field) (slice_split_at is_gap field b rest (λ k d inside. ink _ (all k d inside)) (gap b (ends (omega arith)))) ∙ rw (some field long) (ap (λ l. field ∷ l) (sym (after_gap b rest (gap b (ends (omega arith))))))
+    ap (filter is_some_field) (slice_split_at is_gap field b rest (λ k d inside. ink _ (all k d inside)) (gap b (ends (omega arith))))
+    ∙ rw (some field long) (ap (λ l. field ∷ l) (sym (after_gap b rest (gap b (ends (omega arith))))))
 
 pub cut_fields : (line field rest : List ℕ) → CutsField line field rest → fields line ≡ field ∷ fields rest
 cut_fields line field rest h = ap fields h.1 ∙ after_gaps h.0 (field ++ rest) h.2 ∙ first_of field rest h.3 h.4 h.5

@@ -15,12 +15,14 @@ same_bytes : (a b : List ℕ) → bytes_eq a b ≡ true → a ≡ b
 same_bytes a b = (bytes_eq-Decides a b).0
 
 -- a filter that keeps what is looked for
-any_kept : (name : List ℕ) (p : List ℕ → Bool) (names : List (List ℕ)) → ((x : List ℕ) → bytes_eq name x ≡ true → p x ≡ true) → list_any (bytes_eq name) (filter p names) ≡ list_any (bytes_eq name) names
+any_kept : (name : List ℕ) (p : List ℕ → Bool) (names : List (List ℕ)) → ((x : List ℕ) → bytes_eq name x ≡ true → p x ≡ true)
+    → list_any (bytes_eq name) (filter p names) ≡ list_any (bytes_eq name) names
 any_kept name p [] keeps = refl
 any_kept name p (x ∷ names) keeps =
     ⊎_elim
     (λ is. rw is (ap (λ b. bytes_eq name x || b) (any_kept name p names keeps)))
-    (λ is. let differs : bytes_eq name x ≡ false = false_from_ne_true _ (λ e. true≢false (sym (keeps x e) ∙ is)) in rw (is, differs) (any_kept name p names keeps))
+    (λ is. let differs : bytes_eq name x
+    ≡ false = false_from_ne_true _ (λ e. true≢false (sym (keeps x e) ∙ is)) in rw (is, differs) (any_kept name p names keeps))
     (cases_Bool (p x))
 
 -- other isn't what is looked for, so what is looked for isn't other
@@ -31,7 +33,8 @@ keeps_others name other differs x is =
     (λ e. ap not e)
     (cases_Bool (bytes_eq other x))
 
-any_first : (name other : List ℕ) (names : List (List ℕ)) → (bytes_eq name other || list_any (bytes_eq name) (filter (λ x. not (bytes_eq other x)) names)) ≡ (bytes_eq name other || list_any (bytes_eq name) names)
+any_first : (name other : List ℕ) (names : List (List ℕ))
+    → (bytes_eq name other || list_any (bytes_eq name) (filter (λ x. not (bytes_eq other x)) names)) ≡ (bytes_eq name other || list_any (bytes_eq name) names)
 any_first name other names =
     ⊎_elim
     (λ is. rw is refl)
@@ -60,17 +63,20 @@ namings-more (x ∷ names) name =
     more ∙ ⊎_elim
     (λ is.
     let out : p name ≡ false = ap not ((bytes_eq-Decides x name).1 (sym (same_bytes name x is))) in
-    rw is (⊎_elim (λ there. rw there refl) (λ there. rw there (ap (λ l. x ∷ l) (gone p (first_namings names) name out))) (cases_Bool (list_any (bytes_eq name) (first_namings names)))))
+    rw is (⊎_elim (λ there. rw there refl) (λ there. rw there (ap (λ l. x ∷ l) (gone p (first_namings names) name out)))
+    (cases_Bool (list_any (bytes_eq name) (first_namings names)))))
     (λ is.
     let kept = any_kept name p (first_namings names) (keeps_others name x is) in
     let inside : p name ≡ true = keeps_others name x is name ((bytes_eq-Decides name name).1 refl) in
-    rw (is, kept) (⊎_elim (λ there. rw there refl) (λ there. rw there (ap (λ l. x ∷ l) (drops p (first_namings names) name inside))) (cases_Bool (list_any (bytes_eq name) (first_namings names)))))
+    rw (is, kept) (⊎_elim (λ there. rw there refl) (λ there. rw there (ap (λ l. x ∷ l) (drops p (first_namings names) name inside)))
+    (cases_Bool (list_any (bytes_eq name) (first_namings names)))))
     (cases_Bool (bytes_eq name x))
 
 -- ---- the place of a name
 
 -- a name that is there, or is the new one, keeps its place
-place_kept : (p : List ℕ → Bool) (names : List (List ℕ)) (y : List ℕ) → (list_any p names || p y) ≡ true → position_or_len p (names ++ y ∷ []) ≡ position_or_len p names
+place_kept : (p : List ℕ → Bool) (names : List (List ℕ)) (y : List ℕ)
+    → (list_any p names || p y) ≡ true → position_or_len p (names ++ y ∷ []) ≡ position_or_len p names
 place_kept p [] y is = rw is refl
 place_kept p (x ∷ names) y is =
     ⊎_elim
@@ -114,7 +120,8 @@ same_command names y Unknown there = refl
 AreIn : List (List ℕ) → List Line → Type 0
 AreIn names lines = AllByRecursion (λ line. IsIn names (instrument line)) lines
 
-same_commands : (names : List (List ℕ)) (y : List ℕ) (lines : List Line) → AreIn names lines → filter_map (command_of (names ++ y ∷ [])) lines ≡ filter_map (command_of names) lines
+same_commands : (names : List (List ℕ)) (y : List ℕ) (lines : List Line) → AreIn names lines
+    → filter_map (command_of (names ++ y ∷ [])) lines ≡ filter_map (command_of names) lines
 unfolding AreIn
 same_commands names y [] all = refl
 same_commands names y (x ∷ lines) all = λ i. cons_option (same_command names y x all.0 i) (same_commands names y lines all.1 i)
@@ -124,7 +131,8 @@ unfolding AreIn
 up_to_in names kind [] all = all
 up_to_in names kind (x ∷ lines) all = ⊎_elim (λ is. rw is tt) (λ is. rw is (all.0, up_to_in names kind lines all.1)) (cases_Bool (kind x))
 
-same_each : {B : Type 0} (names : List (List ℕ)) (kind : Line → Bool) (f g : Line → List Line → B) → ((x : Line) (lines : List Line) → AreIn names lines → f x lines ≡ g x lines)
+same_each : {B : Type 0} (names : List (List ℕ)) (kind : Line → Bool) (f g : Line → List Line → B)
+    → ((x : Line) (lines : List Line) → AreIn names lines → f x lines ≡ g x lines)
     → (lines : List Line) → AreIn names lines → each_with_its_lines kind f lines ≡ each_with_its_lines kind g lines
 unfolding AreIn
 same_each names kind f g same [] all = refl
@@ -132,7 +140,8 @@ same_each names kind f g same (x ∷ lines) all =
     let more = same_each names kind f g same lines all.1 in
     ⊎_elim (λ is. rw is (λ i. same x (up_to_next kind lines) (up_to_in names kind lines all.1) i ∷ more i)) (λ is. rw is more) (cases_Bool (kind x))
 
-same_session : (names : List (List ℕ)) (y : List ℕ) (x : Line) (lines : List Line) → AreIn names lines → session_of (names ++ y ∷ []) x lines ≡ session_of names x lines
+same_session : (names : List (List ℕ)) (y : List ℕ) (x : Line) (lines : List Line)
+    → AreIn names lines → session_of (names ++ y ∷ []) x lines ≡ session_of names x lines
 same_session names y x lines all = ap (λ commands. record (session_of names x lines) { commands = commands }) (same_commands names y lines all)
 
 same_job : (names : List (List ℕ)) (y : List ℕ) (x : Line) (lines : List Line) → AreIn names lines → job_of (names ++ y ∷ []) x lines ≡ job_of names x lines

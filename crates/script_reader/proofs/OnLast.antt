@@ -3,7 +3,8 @@ use Rattle.std.proofs.Common.{◌≡◌, ◌-◌, ◌<◌, List, [], ◌∷◌, 
 use Rattle.std.proofs.lemmas.List.{get_or_at}
 use Rattle.lab_plan.specs.Building.{on_last}
 
-on_last-write : {A : Type 0} (change : A → A) (xs : List A) (d : A) → 0 < length xs → set xs (length xs - 1) (change (get_or xs (length xs - 1) d)) ≡ on_last change xs
+on_last-write : {A : Type 0} (change : A → A) (xs : List A) (d : A) → 0 < length xs
+    → set xs (length xs - 1) (change (get_or xs (length xs - 1) d)) ≡ on_last change xs
 on_last-write change [] d inside = absurd (omega arith)
 on_last-write change (x ∷ []) d inside = refl
 on_last-write change (x ∷ y ∷ xs) d inside =
@@ -13,7 +14,8 @@ on_last-write change (x ∷ y ∷ xs) d inside =
 pub last_pushed : {A : Type 0} (xs : List A) (x d : A) → get_or (xs ++ x ∷ []) (length (xs ++ x ∷ []) - 1) d ≡ x
 last_pushed xs x d = get_or_at xs x [] d (length (xs ++ x ∷ []) - 1) (omega (arith, length-append xs (x ∷ [])))
 
-pub last_changed : {A : Type 0} (change : A → A) (xs : List A) (d : A) → 0 < length xs → get_or (on_last change xs) (length (on_last change xs) - 1) d ≡ change (get_or xs (length xs - 1) d)
+pub last_changed : {A : Type 0} (change : A → A) (xs : List A) (d : A) → 0 < length xs
+    → get_or (on_last change xs) (length (on_last change xs) - 1) d ≡ change (get_or xs (length xs - 1) d)
 last_changed change xs d inside =
     let place : length xs - 1 < length xs = omega arith in
     let written = on_last-write change xs d inside in

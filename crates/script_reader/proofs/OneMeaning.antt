@@ -14,10 +14,12 @@ sound_at (x ∷ later) line before h = sound_at later line before h.1
 turned : (front back : List (ℕ × Line)) (x : ℕ × Line) → backwards (front ++ x ∷ back) ≡ backwards back ++ x.1 ∷ backwards front
 turned front back x =
     let f : (ℕ × Line) → Line = λ p. p.1 in
-    ap reverse (map-append f front (x ∷ back)) ∙ reverse-append (map f front) (x.1 ∷ map f back) ∙ ap (λ l. l ++ backwards front) (reverse-append (x.1 ∷ []) (map f back)) ∙ append_assoc (backwards back) (x.1 ∷ []) (backwards front)
+    ap reverse (map-append f front (x ∷ back)) ∙ reverse-append (map f front) (x.1 ∷ map f back)
+    ∙ ap (λ l. l ++ backwards front) (reverse-append (x.1 ∷ []) (map f back)) ∙ append_assoc (backwards back) (x.1 ∷ []) (backwards front)
 
 -- in a sound list no line meets a cause
-never : (front back : List (ℕ × Line)) (x : ℕ × Line) (cause : ScriptCause) → AreSound (backwards (front ++ x ∷ back)) → cause_at (backwards front) x.1 ≡ Some cause → ⊥
+never : (front back : List (ℕ × Line)) (x : ℕ × Line) (cause : ScriptCause)
+    → AreSound (backwards (front ++ x ∷ back)) → cause_at (backwards front) x.1 ≡ Some cause → ⊥
 never front back x cause sound met =
     let clean = sound_at (backwards back) x.1 (backwards front) (subst AreSound (turned front back x) sound) in cc
 
@@ -41,7 +43,8 @@ cuts (z ∷ a) b (w ∷ c) d x y e =
 some_same : (p q : ScriptCause) (o : Option ScriptCause) → o ≡ Some p → o ≡ Some q → p ≡ q
 some_same p q o e f = let both : Some p ≡ Some q = sym e ∙ f in cc
 
-two_lines : (lines : List (List ℕ)) (m n : ℕ) (cause other : ScriptCause) → IsFaultAtLine lines m cause → IsFaultAtLine lines n other → (m ≡ n) × (cause ≡ other)
+two_lines : (lines : List (List ℕ)) (m n : ℕ) (cause other : ScriptCause)
+    → IsFaultAtLine lines m cause → IsFaultAtLine lines n other → (m ≡ n) × (cause ≡ other)
 unfolding Cuts
 two_lines lines m n cause other h k =
     ⊎_elim
@@ -61,9 +64,11 @@ pub plans : (lines : List (List ℕ)) (p q : LabPlan) → LinesMean lines p → 
 plans lines p q h k = h.2 ∙ sym k.2
 
 pub apart : (lines : List (List ℕ)) (p : LabPlan) (n : ℕ) (cause : ScriptCause) → LinesMean lines p → IsFaultOfLines lines n cause → ⊥
-apart lines p n cause h f = ⊎_elim (λ k. line_not_sound lines n cause h.0 k) (λ k. let a = h.1 in let b = k.1 in let both : None ≡ Some cause = sym a ∙ b in cc) f
+apart lines p n cause h f =
+    ⊎_elim (λ k. line_not_sound lines n cause h.0 k) (λ k. let a = h.1 in let b = k.1 in let both : None ≡ Some cause = sym a ∙ b in cc) f
 
-pub one_fault : (lines : List (List ℕ)) (m n : ℕ) (cause other : ScriptCause) → IsFaultOfLines lines m cause → IsFaultOfLines lines n other → (m ≡ n) × (cause ≡ other)
+pub one_fault : (lines : List (List ℕ)) (m n : ℕ) (cause other : ScriptCause)
+    → IsFaultOfLines lines m cause → IsFaultOfLines lines n other → (m ≡ n) × (cause ≡ other)
 one_fault lines m n cause other f g =
     ⊎_elim
     (λ h. ⊎_elim (λ k. two_lines lines m n cause other h k) (λ k. absurd (line_not_sound lines m cause k.0 h)) g)

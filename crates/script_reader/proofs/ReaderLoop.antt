@@ -18,7 +18,8 @@ use Rattle.script_reader.proofs.Tied.{IsTied-after, counted_after}
 
 -- ---- numbered lines
 
-pub numbered-append : {B : Type 0} (form : List ℕ → Option B) (n : ℕ) (xs ys : List (List ℕ)) → numbered form n (xs ++ ys) ≡ numbered form n xs ++ numbered form (n + length xs) ys
+pub numbered-append : {B : Type 0} (form : List ℕ → Option B) (n : ℕ) (xs ys : List (List ℕ))
+    → numbered form n (xs ++ ys) ≡ numbered form n xs ++ numbered form (n + length xs) ys
 numbered-append form n [] ys = ap (λ k. numbered form k ys) (omega arith)
 numbered-append {B} form n (x ∷ xs) ys =
     let k : n + 1 + length xs ≡ n + suc (length xs) = omega arith in
@@ -29,11 +30,13 @@ numbered-append {B} form n (x ∷ xs) ys =
     onto None ps bs cs e = e
     onto (Some x) ps bs cs e = ap (λ l. x ∷ l) e
 
-pub one_line : {B : Type 0} (form : List ℕ → Option B) (first n : ℕ) (done : List (List ℕ)) (line : List ℕ) (found : B) → n ≡ first + length done → form line ≡ Some found → numbered form first (done ++ line ∷ []) ≡ numbered form first done ++ (n, found) ∷ []
+pub one_line : {B : Type 0} (form : List ℕ → Option B) (first n : ℕ) (done : List (List ℕ)) (line : List ℕ) (found : B)
+    → n ≡ first + length done → form line ≡ Some found → numbered form first (done ++ line ∷ []) ≡ numbered form first done ++ (n, found) ∷ []
 one_line form first n done line found count is =
     numbered-append form first done (line ∷ []) ∙ ap (λ m. numbered form first done ++ numbered form m (line ∷ [])) (sym count) ∙ rw is refl
 
-pub no_line : {B : Type 0} (form : List ℕ → Option B) (first : ℕ) (done : List (List ℕ)) (line : List ℕ) → form line ≡ None → numbered form first (done ++ line ∷ []) ≡ numbered form first done
+pub no_line : {B : Type 0} (form : List ℕ → Option B) (first : ℕ) (done : List (List ℕ)) (line : List ℕ)
+    → form line ≡ None → numbered form first (done ++ line ∷ []) ≡ numbered form first done
 no_line form first done line is = numbered-append form first done (line ∷ []) ∙ rw is (append-nil _)
 
 backwards-push : (xs : List (ℕ × Line)) (x : ℕ × Line) → backwards (xs ++ x ∷ []) ≡ x.1 ∷ backwards xs
@@ -54,9 +57,17 @@ pub record IsReading (lines done rest : List (List ℕ)) (number : ℕ) (s : Sta
   pub counted : count is_command (backwards (script_of done)) ≡ length (all_commands (plan_of (reverse (backwards (script_of done)))))
 
 pub starts : (lines : List (List ℕ)) → IsReading lines [] lines 1 (state_of [])
-starts lines = record { split = refl; placed = refl; sound = tt; state = refl; tied = record { closed = λ e. refl; within = λ e. cc; bare = refl; version = refl }; counted = refl }
+starts lines = record {
+  split = refl;
+  placed = refl;
+  sound = tt;
+  state = refl;
+  tied = record { closed = λ e. refl; within = λ e. cc; bare = refl; version = refl };
+  counted = refl;
+}
 
-skips : (lines : List (List ℕ)) (line : List ℕ) (done rest : List (List ℕ)) (n : ℕ) (s : State) → IsReading lines done (line ∷ rest) n s → form_of line ≡ None → IsReading lines (done ++ line ∷ []) rest (n + 1) s
+skips : (lines : List (List ℕ)) (line : List ℕ) (done rest : List (List ℕ)) (n : ℕ) (s : State)
+    → IsReading lines done (line ∷ rest) n s → form_of line ≡ None → IsReading lines (done ++ line ∷ []) rest (n + 1) s
 skips lines line done rest n s h is =
     let same = sym (no_line form_of 1 done line is) in
     record {
@@ -68,11 +79,13 @@ skips lines line done rest n s h is =
       counted = subst (λ l. count is_command (backwards l) ≡ length (all_commands (plan_of (reverse (backwards l))))) same h.counted;
     }
 
-takes : (lines : List (List ℕ)) (line : List ℕ) (done rest : List (List ℕ)) (n : ℕ) (s s' : State) (form : Line) → IsReading lines done (line ∷ rest) n s → form_of line ≡ Some form → cause_in s form ≡ None → s' ≡ after s form → IsReading lines (done ++ line ∷ []) rest (n + 1) s'
+takes : (lines : List (List ℕ)) (line : List ℕ) (done rest : List (List ℕ)) (n : ℕ) (s s' : State) (form : Line) → IsReading lines done (line ∷ rest) n s
+    → form_of line ≡ Some form → cause_in s form ≡ None → s' ≡ after s form → IsReading lines (done ++ line ∷ []) rest (n + 1) s'
 takes lines line done rest n s s' form h is clean now =
     let before = backwards (script_of done) in
     let known : cause_in (state_of before) form ≡ None = ap (λ x. cause_in x form) (sym h.state) ∙ clean in
-    let more : form ∷ before ≡ backwards (script_of (done ++ line ∷ [])) = sym (ap backwards (one_line form_of 1 n done line form h.placed is) ∙ backwards-push (script_of done) (n, form)) in
+    let more : form ∷ before ≡ backwards (script_of (done ++ line ∷ [])) =
+    sym (ap backwards (one_line form_of 1 n done line form h.placed is) ∙ backwards-push (script_of done) (n, form)) in
     let next : state_of (form ∷ before) ≡ after (state_of before) form = after_is before form known in
     let counted = counted_after before form (subst IsTied h.state h.tied) known h.counted ∙ ap (λ (x : State). length (all_commands x.plan)) (sym next) in
     record {
@@ -85,11 +98,14 @@ takes lines line done rest n s s' form h is clean now =
     }
 
 -- the line stands behind the lines that are read
-stands : (lines : List (List ℕ)) (line : List ℕ) (done rest : List (List ℕ)) (n : ℕ) (s : State) (form : Line) → IsReading lines done (line ∷ rest) n s → form_of line ≡ Some form → script_of lines ≡ script_of done ++ (n, form) ∷ numbered form_of (n + 1) rest
+stands : (lines : List (List ℕ)) (line : List ℕ) (done rest : List (List ℕ)) (n : ℕ) (s : State) (form : Line)
+    → IsReading lines done (line ∷ rest) n s → form_of line ≡ Some form → script_of lines ≡ script_of done ++ (n, form) ∷ numbered form_of (n + 1) rest
 stands lines line done rest n s form h is =
-    ap script_of h.split ∙ numbered-append form_of 1 done (line ∷ rest) ∙ ap (λ m. script_of done ++ numbered form_of m (line ∷ rest)) (sym h.placed) ∙ rw is refl
+    ap script_of h.split ∙ numbered-append form_of 1 done (line ∷ rest)
+    ∙ ap (λ m. script_of done ++ numbered form_of m (line ∷ rest)) (sym h.placed) ∙ rw is refl
 
-faults : (lines : List (List ℕ)) (line : List ℕ) (done rest : List (List ℕ)) (n : ℕ) (s : State) (form : Line) (cause : ScriptCause) → IsReading lines done (line ∷ rest) n s → form_of line ≡ Some form → cause_in s form ≡ Some cause → IsFaultAtLine lines n cause
+faults : (lines : List (List ℕ)) (line : List ℕ) (done rest : List (List ℕ)) (n : ℕ) (s : State) (form : Line) (cause : ScriptCause)
+    → IsReading lines done (line ∷ rest) n s → form_of line ≡ Some form → cause_in s form ≡ Some cause → IsFaultAtLine lines n cause
 faults lines line done rest n s form cause h is met =
     let before = backwards (script_of done) in (
       script_of done,
@@ -100,7 +116,8 @@ faults lines line done rest n s form cause h is met =
       cause_is before form h.counted ∙ ap (λ x. cause_in x form) (sym h.state) ∙ met,
     )
 
-runs_out : (lines : List (List ℕ)) (line : List ℕ) (done rest : List (List ℕ)) (n : ℕ) (s : State) (form : Line) → IsReading lines done (line ∷ rest) n s → form_of line ≡ Some form → cause_in s form ≡ None → IsCleanUpToLine lines n
+runs_out : (lines : List (List ℕ)) (line : List ℕ) (done rest : List (List ℕ)) (n : ℕ) (s : State) (form : Line)
+    → IsReading lines done (line ∷ rest) n s → form_of line ≡ Some form → cause_in s form ≡ None → IsCleanUpToLine lines n
 runs_out lines line done rest n s form h is clean =
     let before = backwards (script_of done) in (
       script_of done,
@@ -111,7 +128,8 @@ runs_out lines line done rest n s form h is clean =
     )
 
 -- one more line
-pub reads : (lines : List (List ℕ)) (line : List ℕ) (done rest : List (List ℕ)) (n : ℕ) (s s' : State) (form : Option Line) (x : Unit {0}) → form_of line ≡ form → IsReading lines done (line ∷ rest) n s → ReadsForm s form (Ok x) s' → IsReading lines (done ++ line ∷ []) rest (n + 1) s'
+pub reads : (lines : List (List ℕ)) (line : List ℕ) (done rest : List (List ℕ)) (n : ℕ) (s s' : State) (form : Option Line) (x : Unit {0})
+    → form_of line ≡ form → IsReading lines done (line ∷ rest) n s → ReadsForm s form (Ok x) s' → IsReading lines (done ++ line ∷ []) rest (n + 1) s'
 reads lines line done rest n s s' None x is h e = subst (IsReading lines (done ++ line ∷ []) rest (n + 1)) (sym e) (skips lines line done rest n s h is)
 reads lines line done rest n s s' (Some form) x is h e = takes lines line done rest n s s' form h is e.0 e.1
 
@@ -120,7 +138,8 @@ abbrev RefusesAt : List (List ℕ) → ℕ → ScriptCause → Type 0
 RefusesAt lines number cause = ((cause ≡ NoMemory) × IsCleanUpTo lines number) ⊎ IsFaultOfLines lines number cause
 
 -- a line with a fault
-pub stops : (lines : List (List ℕ)) (line : List ℕ) (done rest : List (List ℕ)) (n : ℕ) (s s' : State) (form : Option Line) (cause : ScriptCause) → form_of line ≡ form → IsReading lines done (line ∷ rest) n s → ReadsForm s form (Err cause) s' → RefusesAt lines n cause
+pub stops : (lines : List (List ℕ)) (line : List ℕ) (done rest : List (List ℕ)) (n : ℕ) (s s' : State) (form : Option Line) (cause : ScriptCause)
+    → form_of line ≡ form → IsReading lines done (line ∷ rest) n s → ReadsForm s form (Err cause) s' → RefusesAt lines n cause
 stops lines line done rest n s s' None cause is h e = absurd e
 stops lines line done rest n s s' (Some form) NoMemory is h e = inl (refl, inl (runs_out lines line done rest n s form h is e))
 stops lines line done rest n s s' (Some form) NoHeader is h e = inr (inl (faults lines line done rest n s form NoHeader h is e))
@@ -152,7 +171,8 @@ ends_well lines done n s plan h e =
 at_end : (lines done : List (List ℕ)) (n : ℕ) (s : State) → IsReading lines done [] n s → n ≡ length lines + 1
 at_end lines done n s h = let len = ap length (all_read lines done n s h) in let count = h.placed in omega (arith, len, count)
 
-ends_badly : (lines done : List (List ℕ)) (n : ℕ) (s : State) (cause : ScriptCause) → IsReading lines done [] n s → end_cause_in s ≡ Some cause → IsFaultOfLines lines n cause
+ends_badly : (lines done : List (List ℕ)) (n : ℕ) (s : State) (cause : ScriptCause)
+    → IsReading lines done [] n s → end_cause_in s ≡ Some cause → IsFaultOfLines lines n cause
 ends_badly lines done n s cause h e =
     let all = sym (all_read lines done n s h) in
     inr (
@@ -170,7 +190,8 @@ runs_out_at_end lines done n s h e =
       at_end lines done n s h,
     )
 
-pub stops_at_end : (lines done : List (List ℕ)) (n : ℕ) (s : State) (cause : ScriptCause) → IsReading lines done [] n s → Ends s (Err cause) → RefusesAt lines n cause
+pub stops_at_end : (lines done : List (List ℕ)) (n : ℕ) (s : State) (cause : ScriptCause)
+    → IsReading lines done [] n s → Ends s (Err cause) → RefusesAt lines n cause
 stops_at_end lines done n s NoMemory h e = inl (refl, runs_out_at_end lines done n s h e)
 stops_at_end lines done n s NoHeader h e = inr (ends_badly lines done n s NoHeader h e)
 stops_at_end lines done n s UnknownWord h e = inr (ends_badly lines done n s UnknownWord h e)
@@ -185,7 +206,8 @@ stops_at_end lines done n s LimitPassed h e = inr (ends_badly lines done n s Lim
 stops_at_end lines done n s TooManyInCommon h e = inr (ends_badly lines done n s TooManyInCommon h e)
 stops_at_end lines done n s BadStep h e = inr (ends_badly lines done n s BadStep h e)
 
-pub answers_at_end : (text : List ℕ) (done : List (List ℕ)) (n : ℕ) (s : State) (given : Result LabPlan ScriptCause) (result : Result LabPlan ScriptFault) → IsReading (text_lines text) done [] n s → Ends s given
+pub answers_at_end : (text : List ℕ) (done : List (List ℕ)) (n : ℕ) (s : State) (given : Result LabPlan ScriptCause) (result : Result LabPlan ScriptFault)
+    → IsReading (text_lines text) done [] n s → Ends s given
     → MatchResult result (λ plan. given ≡ Ok plan) (λ fault. (given ≡ Err fault.cause) × (fault.line ≡ n)) → Answers text result
 answers_at_end text done n s given (Ok plan) h e is = ends_well (text_lines text) done n s plan h (subst (Ends s) is e)
 answers_at_end text done n s given (Err fault) h e is =

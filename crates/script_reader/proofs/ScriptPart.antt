@@ -48,16 +48,20 @@ fits text done rest number s h =
 other : (line : List ℕ) (rest : List (List ℕ)) → is_steps_line line ≡ false → script_part (line ∷ rest) ≡ line ∷ script_part rest
 other line rest is = rw is refl
 
-pub goes_on : (lines : List (List ℕ)) (line : List ℕ) (done rest : List (List ℕ)) (n : ℕ) (s s' : State) (x : Unit {0}) → IsAt lines done (line ∷ rest) n s → is_steps_line line ≡ false → ReadsForm s (form_of line) (Ok x) s' → IsAt lines (done ++ line ∷ []) rest (n + 1) s'
+pub goes_on : (lines : List (List ℕ)) (line : List ℕ) (done rest : List (List ℕ)) (n : ℕ) (s s' : State) (x : Unit {0})
+    → IsAt lines done (line ∷ rest) n s → is_steps_line line ≡ false → ReadsForm s (form_of line) (Ok x) s' → IsAt lines (done ++ line ∷ []) rest (n + 1) s'
 goes_on lines line done rest n s s' x h is e =
     record {
       split = h.split ∙ sym (append_assoc done (line ∷ []) rest);
-      reading = reads (script_part lines) line done (script_part rest) n s s' (form_of line) x refl (subst (λ l. IsReading (script_part lines) done l n s) (other line rest is) h.reading) e;
+      reading = reads (script_part lines) line done (script_part rest) n s s' (form_of line) x refl
+          (subst (λ l. IsReading (script_part lines) done l n s) (other line rest is) h.reading) e;
     }
 
-pub fails : (lines : List (List ℕ)) (line : List ℕ) (done rest : List (List ℕ)) (n : ℕ) (s s' : State) (cause : ScriptCause) → IsAt lines done (line ∷ rest) n s → is_steps_line line ≡ false → ReadsForm s (form_of line) (Err cause) s' → Refuses (script_part lines) (record { line = n; cause = cause })
+pub fails : (lines : List (List ℕ)) (line : List ℕ) (done rest : List (List ℕ)) (n : ℕ) (s s' : State) (cause : ScriptCause) → IsAt lines done (line ∷ rest) n s
+    → is_steps_line line ≡ false → ReadsForm s (form_of line) (Err cause) s' → Refuses (script_part lines) (record { line = n; cause = cause })
 fails lines line done rest n s s' cause h is e =
-    stops (script_part lines) line done (script_part rest) n s s' (form_of line) cause refl (subst (λ l. IsReading (script_part lines) done l n s) (other line rest is) h.reading) e
+    stops (script_part lines) line done (script_part rest) n s s' (form_of line) cause refl
+    (subst (λ l. IsReading (script_part lines) done l n s) (other line rest is) h.reading) e
 
 -- ---- the end of the script part
 
@@ -73,7 +77,8 @@ dropped (x ∷ done) line rest = rw (add-suc-one (length done)) (dropped done li
     add-suc-one : (n : ℕ) → suc n + 1 ≡ suc (n + 1)
     add-suc-one n = omega arith
 
-reading_ends : (lines done rest : List (List ℕ)) (n : ℕ) (s : State) → IsAt lines done rest n s → script_part rest ≡ [] → IsReading (script_part lines) done [] n s
+reading_ends : (lines done rest : List (List ℕ)) (n : ℕ) (s : State)
+    → IsAt lines done rest n s → script_part rest ≡ [] → IsReading (script_part lines) done [] n s
 reading_ends lines done rest n s h none = subst (λ l. IsReading (script_part lines) done l n s) none h.reading
 
 at_first : (lines done rest : List (List ℕ)) (n : ℕ) (s : State) → IsAt lines done rest n s → script_part rest ≡ [] → n + 1 ≡ first_step lines
@@ -85,7 +90,8 @@ at_first lines done rest n s h none =
 pub steps_none : (line : List ℕ) (rest : List (List ℕ)) → is_steps_line line ≡ true → script_part (line ∷ rest) ≡ []
 steps_none line rest is = rw is refl
 
-pub rest_behind : (lines : List (List ℕ)) (line : List ℕ) (done rest : List (List ℕ)) (n : ℕ) (s : State) → IsAt lines done (line ∷ rest) n s → is_steps_line line ≡ true → IsRest lines rest n
+pub rest_behind : (lines : List (List ℕ)) (line : List ℕ) (done rest : List (List ℕ)) (n : ℕ) (s : State)
+    → IsAt lines done (line ∷ rest) n s → is_steps_line line ≡ true → IsRest lines rest n
 rest_behind lines line done rest n s h is =
     let none = steps_none line rest is in
     let all = all_read (script_part lines) done n s (reading_ends lines done (line ∷ rest) n s h none) in
@@ -102,10 +108,12 @@ rest_none lines done n s h =
       first_is = at_first lines done [] n s h refl;
     }
 
-pub ends_well_at : (lines done rest : List (List ℕ)) (n : ℕ) (s : State) (plan : LabPlan) → IsAt lines done rest n s → script_part rest ≡ [] → Ends s (Ok plan) → LinesMean (script_part lines) plan
+pub ends_well_at : (lines done rest : List (List ℕ)) (n : ℕ) (s : State) (plan : LabPlan)
+    → IsAt lines done rest n s → script_part rest ≡ [] → Ends s (Ok plan) → LinesMean (script_part lines) plan
 ends_well_at lines done rest n s plan h none e = ends_well (script_part lines) done n s plan (reading_ends lines done rest n s h none) e
 
-pub ends_badly_at : (lines done rest : List (List ℕ)) (n : ℕ) (s : State) (cause : ScriptCause) → IsAt lines done rest n s → script_part rest ≡ [] → Ends s (Err cause) → Refuses (script_part lines) (record { line = n; cause = cause })
+pub ends_badly_at : (lines done rest : List (List ℕ)) (n : ℕ) (s : State) (cause : ScriptCause) → IsAt lines done rest n s
+    → script_part rest ≡ [] → Ends s (Err cause) → Refuses (script_part lines) (record { line = n; cause = cause })
 ends_badly_at lines done rest n s cause h none e = stops_at_end (script_part lines) done n s cause (reading_ends lines done rest n s h none) e
 
 -- ---- the texts
@@ -117,7 +125,8 @@ few_up_to (line ∷ lines) =
     ⊎_elim (λ is. rw is (omega arith)) (λ is. rw is (omega (arith, more))) (cases_Bool (is_steps_line line))
 
 -- the numbers of the lines behind the script part fit
-pub room : (text : List ℕ) (rest : List (List ℕ)) (first : ℕ) → rest ≡ steps_part (text_lines text) → first ≡ first_step (text_lines text) → first + length rest ≤ length text + 2
+pub room : (text : List ℕ) (rest : List (List ℕ)) (first : ℕ) → rest ≡ steps_part (text_lines text)
+    → first ≡ first_step (text_lines text) → first + length rest ≤ length text + 2
 room text rest first is at =
     let lines = text_lines text in
     let few = few_lines text in
@@ -125,8 +134,12 @@ room text rest first is at =
     let len = ap length is ∙ length-drop (length (script_part lines) + 1) lines in
     omega (arith, few, part, len, at)
 
-pub meant : (text : List ℕ) (plan : LabPlan) (rest : List (List ℕ)) (first : ℕ) (steps : List StepLine) → LinesMean (script_part (text_lines text)) plan → rest ≡ steps_part (text_lines text) → first ≡ first_step (text_lines text) → AreSteps plan first rest steps → StepsMean text plan steps
-meant text plan rest first steps is_plan is at are = (is_plan, subst (λ l. AreSteps plan (first_step (text_lines text)) l steps) is (subst (λ n. AreSteps plan n rest steps) at are))
+pub meant : (text : List ℕ) (plan : LabPlan) (rest : List (List ℕ)) (first : ℕ) (steps : List StepLine) → LinesMean (script_part (text_lines text)) plan
+    → rest ≡ steps_part (text_lines text) → first ≡ first_step (text_lines text) → AreSteps plan first rest steps → StepsMean text plan steps
+meant text plan rest first steps is_plan is at are =
+    (is_plan, subst (λ l. AreSteps plan (first_step (text_lines text)) l steps) is (subst (λ n. AreSteps plan n rest steps) at are))
 
-pub refused : (text : List ℕ) (plan : LabPlan) (rest : List (List ℕ)) (first : ℕ) (fault : ScriptFault) → LinesMean (script_part (text_lines text)) plan → rest ≡ steps_part (text_lines text) → first ≡ first_step (text_lines text) → RefusesSteps plan first rest fault → StepsRefuse text fault
-refused text plan rest first fault is_plan is at bad = inr (plan, is_plan, subst (λ l. RefusesSteps plan (first_step (text_lines text)) l fault) is (subst (λ n. RefusesSteps plan n rest fault) at bad))
+pub refused : (text : List ℕ) (plan : LabPlan) (rest : List (List ℕ)) (first : ℕ) (fault : ScriptFault) → LinesMean (script_part (text_lines text)) plan
+    → rest ≡ steps_part (text_lines text) → first ≡ first_step (text_lines text) → RefusesSteps plan first rest fault → StepsRefuse text fault
+refused text plan rest first fault is_plan is at bad =
+    inr (plan, is_plan, subst (λ l. RefusesSteps plan (first_step (text_lines text)) l fault) is (subst (λ n. RefusesSteps plan n rest fault) at bad))

@@ -22,7 +22,8 @@ pub begins : (plan : LabPlan) (first : ℕ) (lines : List (List ℕ)) → IsList
 begins plan first lines = record { split = refl; counted = omega arith; are = refl; few = omega arith }
 
 -- the number of the next line fits
-pub fits : (plan : LabPlan) (first : ℕ) (lines : List (List ℕ)) (line : List ℕ) (done rest : List (List ℕ)) (number : ℕ) (steps : List StepLine) → IsListing plan first lines done (line ∷ rest) number steps → number + 1 ≤ first + length lines
+pub fits : (plan : LabPlan) (first : ℕ) (lines : List (List ℕ)) (line : List ℕ) (done rest : List (List ℕ)) (number : ℕ) (steps : List StepLine)
+    → IsListing plan first lines done (line ∷ rest) number steps → number + 1 ≤ first + length lines
 fits plan first lines line done rest number steps h =
     let all = ap length h.split in
     let sum = length-append done (line ∷ rest) in
@@ -30,10 +31,12 @@ fits plan first lines line done rest number steps h =
     omega (arith, all, sum, count)
 
 -- the line stands behind the lines that are read
-stands : (plan : LabPlan) (first : ℕ) (lines : List (List ℕ)) (line : List ℕ) (done rest : List (List ℕ)) (n : ℕ) (steps : List StepLine) (found : Option Step) → IsListing plan first lines done (line ∷ rest) n steps → step_in plan line ≡ Some found
+stands : (plan : LabPlan) (first : ℕ) (lines : List (List ℕ)) (line : List ℕ) (done rest : List (List ℕ)) (n : ℕ) (steps : List StepLine) (found : Option Step)
+    → IsListing plan first lines done (line ∷ rest) n steps → step_in plan line ≡ Some found
     → list_of plan first lines ≡ map placed steps ++ (n, found) ∷ list_of plan (n + 1) rest
 stands plan first lines line done rest n steps found h is =
-    ap (list_of plan first) h.split ∙ numbered-append (step_in plan) first done (line ∷ rest) ∙ (λ i. h.are i ++ list_of plan (sym h.counted i) (line ∷ rest)) ∙ rw is refl
+    ap (list_of plan first) h.split ∙ numbered-append (step_in plan) first done (line ∷ rest)
+    ∙ (λ i. h.are i ++ list_of plan (sym h.counted i) (line ∷ rest)) ∙ rw is refl
 
 few_more : (steps : List StepLine) (step : StepLine) → step_cause (length steps) (Some step.step) ≡ None → length (steps ++ step ∷ []) ≤ 1000000
 few_more steps step clean =
@@ -43,7 +46,9 @@ few_more steps step clean =
     (cases_Bool (nat_le 1000000 (length steps)))
 
 -- one more line
-pub lists : (plan : LabPlan) (first : ℕ) (lines : List (List ℕ)) (line : List ℕ) (done rest : List (List ℕ)) (n : ℕ) (steps steps' : List StepLine) (form : Option (Option Step)) (x : Unit {0}) → step_in plan line ≡ form → IsListing plan first lines done (line ∷ rest) n steps → ReadsStep steps n form (Ok x) steps'
+pub lists : (plan : LabPlan) (first : ℕ) (lines : List (List ℕ)) (line : List ℕ) (done rest : List (List ℕ))
+    (n : ℕ) (steps steps' : List StepLine) (form : Option (Option Step)) (x : Unit {0}) → step_in plan line ≡ form
+    → IsListing plan first lines done (line ∷ rest) n steps → ReadsStep steps n form (Ok x) steps'
     → IsListing plan first lines (done ++ line ∷ []) rest (n + 1) steps'
 lists plan first lines line done rest n steps steps' None x is h e =
     record {
@@ -58,22 +63,29 @@ lists plan first lines line done rest n steps steps' (Some (Some step)) x is h e
     record {
       split = h.split ∙ sym (append_assoc done (line ∷ []) rest);
       counted = counts first n done line h.counted;
-      are = one_line (step_in plan) first n done line (Some step) h.counted is ∙ ap (λ l. l ++ (n, Some step) ∷ []) h.are ∙ sym (map-append placed steps (more ∷ [])) ∙ ap (map placed) (sym e.1);
+      are = one_line (step_in plan) first n done line (Some step) h.counted is ∙ ap (λ l. l ++ (n, Some step) ∷ []) h.are
+          ∙ sym (map-append placed steps (more ∷ [])) ∙ ap (map placed) (sym e.1);
       few = subst (λ (s : List StepLine). length s ≤ 1000000) (sym e.1) (few_more steps more e.0);
     }
 
 abbrev RefusesAt : LabPlan → ℕ → List (List ℕ) → ℕ → ScriptCause → Type 0
 RefusesAt plan first lines number cause = ((cause ≡ NoMemory) × AreCleanUpTo plan first lines number) ⊎ IsFaultInSteps plan first lines number cause
 
-faulty : (plan : LabPlan) (first : ℕ) (lines : List (List ℕ)) (line : List ℕ) (done rest : List (List ℕ)) (n : ℕ) (steps : List StepLine) (found : Option Step) (cause : ScriptCause) → IsListing plan first lines done (line ∷ rest) n steps → step_in plan line ≡ Some found → step_cause (length steps) found ≡ Some cause
+faulty : (plan : LabPlan) (first : ℕ) (lines : List (List ℕ)) (line : List ℕ) (done rest : List (List ℕ))
+    (n : ℕ) (steps : List StepLine) (found : Option Step) (cause : ScriptCause) → IsListing plan first lines done (line ∷ rest) n steps
+    → step_in plan line ≡ Some found → step_cause (length steps) found ≡ Some cause
     → RefusesAt plan first lines n cause
-faulty plan first lines line done rest n steps found cause h is e = inr (steps, found, list_of plan (n + 1) rest, stands plan first lines line done rest n steps found h is, h.few, e)
+faulty plan first lines line done rest n steps found cause h is e =
+    inr (steps, found, list_of plan (n + 1) rest, stands plan first lines line done rest n steps found h is, h.few, e)
 
 -- a line with a fault
-pub stops : (plan : LabPlan) (first : ℕ) (lines : List (List ℕ)) (line : List ℕ) (done rest : List (List ℕ)) (n : ℕ) (steps steps' : List StepLine) (form : Option (Option Step)) (cause : ScriptCause) → step_in plan line ≡ form → IsListing plan first lines done (line ∷ rest) n steps → ReadsStep steps n form (Err cause) steps'
+pub stops : (plan : LabPlan) (first : ℕ) (lines : List (List ℕ)) (line : List ℕ) (done rest : List (List ℕ))
+    (n : ℕ) (steps steps' : List StepLine) (form : Option (Option Step)) (cause : ScriptCause) → step_in plan line ≡ form
+    → IsListing plan first lines done (line ∷ rest) n steps → ReadsStep steps n form (Err cause) steps'
     → RefusesAt plan first lines n cause
 stops plan first lines line done rest n steps steps' None cause is h e = absurd e
-stops plan first lines line done rest n steps steps' (Some found) NoMemory is h e = inl (refl, (steps, found, list_of plan (n + 1) rest, stands plan first lines line done rest n steps found h is, h.few, e))
+stops plan first lines line done rest n steps steps' (Some found) NoMemory is h e =
+    inl (refl, (steps, found, list_of plan (n + 1) rest, stands plan first lines line done rest n steps found h is, h.few, e))
 stops plan first lines line done rest n steps steps' (Some found) NoHeader is h e = faulty plan first lines line done rest n steps found NoHeader h is e
 stops plan first lines line done rest n steps steps' (Some found) UnknownWord is h e = faulty plan first lines line done rest n steps found UnknownWord h is e
 stops plan first lines line done rest n steps steps' (Some found) BadName is h e = faulty plan first lines line done rest n steps found BadName h is e
@@ -82,11 +94,14 @@ stops plan first lines line done rest n steps steps' (Some found) JobTwice is h 
 stops plan first lines line done rest n steps steps' (Some found) NotInSession is h e = faulty plan first lines line done rest n steps found NotInSession h is e
 stops plan first lines line done rest n steps steps' (Some found) NotInJob is h e = faulty plan first lines line done rest n steps found NotInJob h is e
 stops plan first lines line done rest n steps steps' (Some found) EmptySession is h e = faulty plan first lines line done rest n steps found EmptySession h is e
-stops plan first lines line done rest n steps steps' (Some found) SessionNotClosed is h e = faulty plan first lines line done rest n steps found SessionNotClosed h is e
+stops plan first lines line done rest n steps steps' (Some found) SessionNotClosed is h e =
+    faulty plan first lines line done rest n steps found SessionNotClosed h is e
 stops plan first lines line done rest n steps steps' (Some found) LimitPassed is h e = faulty plan first lines line done rest n steps found LimitPassed h is e
-stops plan first lines line done rest n steps steps' (Some found) TooManyInCommon is h e = faulty plan first lines line done rest n steps found TooManyInCommon h is e
+stops plan first lines line done rest n steps steps' (Some found) TooManyInCommon is h e =
+    faulty plan first lines line done rest n steps found TooManyInCommon h is e
 stops plan first lines line done rest n steps steps' (Some found) BadStep is h e = faulty plan first lines line done rest n steps found BadStep h is e
 
 -- the end
-pub ends : (plan : LabPlan) (first : ℕ) (lines done : List (List ℕ)) (n : ℕ) (steps : List StepLine) → IsListing plan first lines done [] n steps → AreSteps plan first lines steps
+pub ends : (plan : LabPlan) (first : ℕ) (lines done : List (List ℕ)) (n : ℕ) (steps : List StepLine)
+    → IsListing plan first lines done [] n steps → AreSteps plan first lines steps
 ends plan first lines done n steps h = (ap (list_of plan first) (h.split ∙ append-nil done) ∙ h.are, h.few)

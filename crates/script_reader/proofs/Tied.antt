@@ -40,7 +40,9 @@ within_session plan patience inside =
 bare_session : (plan : LabPlan) (patience : Option ℕ) → 0 < length plan.jobs → is_bare (with_session patience plan) ≡ true
 bare_session plan patience inside =
     let new : SessionPlan = record { patience = patience; commands = [] } in
-    let last : last_session (with_session patience plan) ≡ new = ap (λ (job : JobPlan). get_or job.sessions (length job.sessions - 1) no_session) (job_with_session plan patience inside) ∙ last_pushed (last_job plan).sessions new no_session in
+    let last : last_session (with_session patience plan) ≡ new =
+    ap (λ (job : JobPlan). get_or job.sessions (length job.sessions - 1) no_session) (job_with_session plan patience inside)
+    ∙ last_pushed (last_job plan).sessions new no_session in
     rw (within_session plan patience inside) (ap (λ (session : SessionPlan). length session.commands == 0) last)
 
 -- ---- one more job
@@ -57,7 +59,8 @@ has_last : (jobs : List JobPlan) → 0 < length (get_or jobs (length jobs - 1) n
 has_last [] h = h
 has_last (x ∷ jobs) h = omega arith
 
-job_with_command : (plan : LabPlan) (name : List ℕ) (verb : Verb) → has_session plan ≡ true → last_job (with_command name verb plan) ≡ in_last_session (instrument_number name plan) verb (last_job plan)
+job_with_command : (plan : LabPlan) (name : List ℕ) (verb : Verb) → has_session plan ≡ true
+    → last_job (with_command name verb plan) ≡ in_last_session (instrument_number name plan) verb (last_job plan)
 job_with_command plan name verb h = last_changed (in_last_session (instrument_number name plan) verb) plan.jobs no_job (has_last plan.jobs (above _ h))
 
 within_command : (plan : LabPlan) (name : List ℕ) (verb : Verb) → has_session plan ≡ true → has_session (with_command name verb plan) ≡ true
@@ -74,7 +77,8 @@ bare_command : (plan : LabPlan) (name : List ℕ) (verb : Verb) → has_session 
 bare_command plan name verb h =
     let i = instrument_number name plan in
     let last : last_session (with_command name verb plan) ≡ and_command i verb (last_session plan) =
-    ap (λ (job : JobPlan). get_or job.sessions (length job.sessions - 1) no_session) (job_with_command plan name verb h) ∙ last_changed (and_command i verb) (last_job plan).sessions no_session (above _ h) in
+    ap (λ (job : JobPlan). get_or job.sessions (length job.sessions - 1) no_session) (job_with_command plan name verb h)
+    ∙ last_changed (and_command i verb) (last_job plan).sessions no_session (above _ h) in
     let sum = length-append (last_session plan).commands ((i, verb) ∷ []) in
     let grown = ap (λ (session : SessionPlan). length session.commands) last in
     rw (within_command plan name verb h) (no_zero _ (omega (arith, sum, grown)))
@@ -88,7 +92,8 @@ in_job s rest e =
 
 pub in_session : (s : State) (name : List ℕ) (verb : VerbText) → IsTied s → cause_in s (Command name verb) ≡ None → has_session s.plan ≡ true
 in_session s name verb h e =
-    let rest = at (not (is_name name)) BadName (at (has (λ number. not (is_number number)) (verb_number verb)) BadNumber (at (is_past_limit name s.plan) LimitPassed None)) in
+    let rest = at (not (is_name name)) BadName
+    (at (has (λ number. not (is_number number)) (verb_number verb)) BadNumber (at (is_past_limit name s.plan) LimitPassed None)) in
     let first = none s.fresh NoHeader (at (not s.in_session) NotInSession rest) e in
     h.within (not-false _ (none (not s.in_session) NotInSession rest first.1).0)
 
@@ -108,10 +113,20 @@ IsTied-after s (PatientSession number) h e =
     let first = none s.fresh NoHeader (at (not (is_two s.version)) UnknownWord (session_cause s last)) e in
     let two = none (not (is_two s.version)) UnknownWord (session_cause s last) first.1 in
     let inside = in_job s last two.1 in
-    record { closed = λ is. cc; within = λ is. within_session s.plan (Some (number_of number)) inside; bare = sym (bare_session s.plan (Some (number_of number)) inside); version = h.version }
+    record {
+      closed = λ is. cc;
+      within = λ is. within_session s.plan (Some (number_of number)) inside;
+      bare = sym (bare_session s.plan (Some (number_of number)) inside);
+      version = h.version;
+    }
 IsTied-after s (Command name verb) h e =
     let session = in_session s name verb h e in
-    record { closed = λ is. refl; within = λ is. within_command s.plan name (verb_of verb) session; bare = sym (bare_command s.plan name (verb_of verb) session); version = h.version }
+    record {
+      closed = λ is. refl;
+      within = λ is. within_command s.plan name (verb_of verb) session;
+      bare = sym (bare_command s.plan name (verb_of verb) session);
+      version = h.version;
+    }
 IsTied-after s End h e =
     let last = at s.bare EmptySession None in
     let first = none s.fresh NoHeader (at (not s.in_session) NotInSession last) e in
@@ -122,7 +137,8 @@ IsTied-after s Unknown h e = let first = (none s.fresh NoHeader (Some UnknownWor
 
 -- ---- the number of commands
 
-flat_on_last : {A B : Type 0} (k : ℕ) (f : A → List B) (change : A → A) (xs : List A) (d : A) → 0 < length xs → length (f (change (get_or xs (length xs - 1) d))) ≡ length (f (get_or xs (length xs - 1) d)) + k
+flat_on_last : {A B : Type 0} (k : ℕ) (f : A → List B) (change : A → A) (xs : List A) (d : A) → 0 < length xs
+    → length (f (change (get_or xs (length xs - 1) d))) ≡ length (f (get_or xs (length xs - 1) d)) + k
     → length (flat_map f (on_last change xs)) ≡ length (flat_map f xs) + k
 flat_on_last k f change [] d inside e = absurd (omega arith)
 flat_on_last k f change (x ∷ []) d inside e =
@@ -139,7 +155,8 @@ flat_on_last k f change (x ∷ y ∷ xs) d inside e =
 abbrev commands_of_job : JobPlan → List (ℕ × Verb)
 commands_of_job job = flat_map (λ (session : SessionPlan). session.commands) job.sessions
 
-one_command : (plan : LabPlan) (name : List ℕ) (verb : Verb) → has_session plan ≡ true → length (all_commands (with_command name verb plan)) ≡ length (all_commands plan) + 1
+one_command : (plan : LabPlan) (name : List ℕ) (verb : Verb) → has_session plan ≡ true
+    → length (all_commands (with_command name verb plan)) ≡ length (all_commands plan) + 1
 one_command plan name verb h =
     let i = instrument_number name plan in
     flat_on_last 1 commands_of_job (in_last_session i verb) plan.jobs no_job (has_last plan.jobs (above _ h))
@@ -157,19 +174,23 @@ flat_pushed f (y ∷ xs) x e =
 no_command : (plan : LabPlan) (patience : Option ℕ) → 0 < length plan.jobs → length (all_commands (with_session patience plan)) ≡ length (all_commands plan)
 no_command plan patience inside =
     let grown = flat_on_last 0 commands_of_job (and_session patience) plan.jobs no_job inside
-    (let e = flat_pushed (λ (session : SessionPlan). session.commands) (last_job plan).sessions (record { patience = patience; commands = [] }) refl in omega (arith, e)) in
+    (let e = flat_pushed (λ (session : SessionPlan). session.commands) (last_job plan).sessions
+    (record { patience = patience; commands = [] }) refl in omega (arith, e)) in
     omega (arith, grown)
 
-counted_header : (version : Version) (before : List Line) → not (is_empty before) ≡ false → count is_command before ≡ length (all_commands (after (state_of before) (Header version)).plan)
+counted_header : (version : Version) (before : List Line) → not (is_empty before) ≡ false
+    → count is_command before ≡ length (all_commands (after (state_of before) (Header version)).plan)
 counted_header One [] e = refl
 counted_header Two [] e = refl
 counted_header version (x ∷ before) e = cc
 
 -- the command lines are the plan's commands
-pub counted_after : (before : List Line) (line : Line) → IsTied (state_of before) → cause_in (state_of before) line ≡ None → count is_command before ≡ length (all_commands (plan_of (reverse before)))
+pub counted_after : (before : List Line) (line : Line) → IsTied (state_of before)
+    → cause_in (state_of before) line ≡ None → count is_command before ≡ length (all_commands (plan_of (reverse before)))
     → count is_command (line ∷ before) ≡ length (all_commands (after (state_of before) line).plan)
 counted_after before (Header version) h e counted = counted_header version before (none (not (is_empty before)) UnknownWord None e).0
-counted_after before (Job name) h e counted = counted ∙ sym (flat_pushed commands_of_job (plan_of (reverse before)).jobs (record { name = name; sessions = [] }) refl)
+counted_after before (Job name) h e counted =
+    counted ∙ sym (flat_pushed commands_of_job (plan_of (reverse before)).jobs (record { name = name; sessions = [] }) refl)
 counted_after before Session h e counted =
     let s = state_of before in
     let first = none s.fresh NoHeader (session_cause s (many_sessions s)) e in

@@ -71,38 +71,50 @@ module _ (names : List (List ℕ)) (h : AreInstruments names) (known i : ℕ) (m
 
   -- the next instrument comes to the names
   named_more : (if nat_lt i known then take known names else take known names ++ get_or names i [] ∷ []) ≡ take (max known (suc i)) names
-  named_more = elim (cases_lt i known) as (λ _. (if nat_lt i known then take known names else take known names ++ get_or names i [] ∷ []) ≡ take (max known (suc i)) names) [
-    | inl below ↦ let same : known ≡ max known (suc i) = omega arith in ap (λ b. if b then take known names else take known names ++ get_or names i [] ∷ []) (less i known below) ∙ ap (λ n. take n names) same
-    | inr above ↦
-        let same : known ≡ i = omega arith in
-        let next : i + 1 ≡ max known (suc i) = omega arith in
-        ap (λ b. if b then take known names else take known names ++ get_or names i [] ∷ []) (not_less i known above) ∙ ap (λ n. take n names ++ get_or names i [] ∷ []) same ∙ sym (take_more names i [] there) ∙ ap (λ n. take n names) next
-  ]
+  named_more =
+      elim (cases_lt i known)
+      as (λ _. (if nat_lt i known then take known names else take known names ++ get_or names i [] ∷ []) ≡ take (max known (suc i)) names) [
+        | inl below ↦ let same : known ≡ max known (suc i) = omega arith in
+            ap (λ b. if b then take known names else take known names ++ get_or names i [] ∷ []) (less i known below) ∙ ap (λ n. take n names) same
+        | inr above ↦
+            let same : known ≡ i = omega arith in
+            let next : i + 1 ≡ max known (suc i) = omega arith in
+            ap (λ b. if b then take known names else take known names ++ get_or names i [] ∷ []) (not_less i known above)
+            ∙ ap (λ n. take n names ++ get_or names i [] ∷ []) same ∙ sym (take_more names i [] there) ∙ ap (λ n. take n names) next
+      ]
 
   pub command_more : (verb : Verb) (front : List JobPlan) (job : List ℕ) (sessions : List SessionPlan) (session : SessionPlan)
-      → with_command (get_or names i []) verb (draft names known (inside front job sessions session)) ≡ draft names (max known (suc i)) (inside front job sessions (and_command i verb session))
+      → with_command (get_or names i []) verb (draft names known (inside front job sessions session))
+      ≡ draft names (max known (suc i)) (inside front job sessions (and_command i verb session))
   command_more verb front job sessions session =
       let jobs = inside front job sessions session in
-      let changed : on_last (in_last_session (instrument_number (get_or names i []) (draft names known jobs)) verb) jobs ≡ inside front job sessions (and_command i verb session) =
+      let changed : on_last (in_last_session (instrument_number (get_or names i []) (draft names known jobs)) verb) jobs
+      ≡ inside front job sessions (and_command i verb session) =
       ap (λ n. on_last (in_last_session n verb) jobs) (number_is jobs) ∙ on_last-push (in_last_session i verb) front (job_with job (sessions ++ session ∷ []))
       ∙ ap (λ l. front ++ job_with job l ∷ []) (on_last-push (and_command i verb) sessions session) in
-      let grown : (if is_instrument (get_or names i []) (draft names known jobs) then take known names else take known names ++ get_or names i [] ∷ []) ≡ take (max known (suc i)) names =
+      let grown : (if is_instrument (get_or names i []) (draft names known jobs) then take known names else take known names ++ get_or names i [] ∷ [])
+      ≡ take (max known (suc i)) names =
       ap (λ b. if b then take known names else take known names ++ get_or names i [] ∷ []) (is_there jobs) ∙ named_more in
       λ j. record { version = 2; jobs = changed j; instruments = grown j }
 
-  pub room : (jobs : List JobPlan) → length (all_commands (draft names known jobs)) < 100000 → is_past_limit (get_or names i []) (draft names known jobs) ≡ false
+  pub room : (jobs : List JobPlan) → length (all_commands (draft names known jobs)) < 100000
+      → is_past_limit (get_or names i []) (draft names known jobs) ≡ false
   room jobs few =
       let first = not_at_most 100000 (length (all_commands (draft names known jobs))) few in
-      let second : (not (nat_lt i known) && nat_le 56 (length (take known names))) ≡ false = elim (cases_lt i known) as (λ _. (not (nat_lt i known) && nat_le 56 (length (take known names))) ≡ false) [
+      let second : (not (nat_lt i known) && nat_le 56 (length (take known names))) ≡ false =
+      elim (cases_lt i known) as (λ _. (not (nat_lt i known) && nat_le 56 (length (take known names))) ≡ false) [
         | inl below ↦ ap (λ b. not b && nat_le 56 (length (take known names))) (less i known below)
-        | inr above ↦ let bound = h.few in (λ j. not (not_less i known above j) && not_at_most 56 (length (take known names)) (let len = length-take-le known names most in omega (arith, len, bound)) j)
+        | inr above ↦ let bound = h.few in
+            (λ j. not (not_less i known above j) && not_at_most 56 (length (take known names))
+            (let len = length-take-le known names most in omega (arith, len, bound)) j)
       ] in
       (λ j. first j || (not (is_there jobs j) && nat_le 56 (length (take known names)))) ∙ second
 
 -- ---- one more session
 
 pub session_more : (names : List (List ℕ)) (known : ℕ) (patience : Option ℕ) (front : List JobPlan) (job : List ℕ) (sessions : List SessionPlan)
-    → with_session patience (draft names known (front ++ job_with job sessions ∷ [])) ≡ draft names known (inside front job sessions (record { patience = patience; commands = [] }))
+    → with_session patience (draft names known (front ++ job_with job sessions ∷ []))
+    ≡ draft names known (inside front job sessions (record { patience = patience; commands = [] }))
 session_more names known patience front job sessions = ap (draft names known) (on_last-push (and_session patience) front (job_with job sessions))
 
 -- ---- how many commands there are
@@ -113,12 +125,14 @@ session_commands sessions = flat_map (λ (session : SessionPlan). session.comman
 abbrev pub job_commands : List JobPlan → List (ℕ × Verb)
 job_commands jobs = flat_map (λ (job : JobPlan). session_commands job.sessions) jobs
 
-pub size_one : (front : List JobPlan) (job : List ℕ) (sessions : List SessionPlan) → length (job_commands (front ++ job_with job sessions ∷ [])) ≡ length (job_commands front) + length (session_commands sessions)
+pub size_one : (front : List JobPlan) (job : List ℕ) (sessions : List SessionPlan)
+    → length (job_commands (front ++ job_with job sessions ∷ [])) ≡ length (job_commands front) + length (session_commands sessions)
 size_one front job sessions =
     let whole = ap length (flat_map-append (λ (j : JobPlan). session_commands j.sessions) front (job_with job sessions ∷ [])) in
     omega (arith, whole, length-append (job_commands front) (job_commands (job_with job sessions ∷ [])), length-append (session_commands sessions) [])
 
-pub size_more : (sessions : List SessionPlan) (session : SessionPlan) → length (session_commands (sessions ++ session ∷ [])) ≡ length (session_commands sessions) + length session.commands
+pub size_more : (sessions : List SessionPlan) (session : SessionPlan)
+    → length (session_commands (sessions ++ session ∷ [])) ≡ length (session_commands sessions) + length session.commands
 size_more sessions session =
     let whole = ap length (flat_map-append (λ (s : SessionPlan). s.commands) sessions (session ∷ [])) in
     omega (arith, whole, length-append (session_commands sessions) (session_commands (session ∷ [])), length-append session.commands [])

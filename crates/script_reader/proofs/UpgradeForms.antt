@@ -81,7 +81,8 @@ pub patience_form : (n : ℕ) → n ≤ 999999 → form_of (codes "session patie
 unfolding line_with
 patience_form n small =
     ap line_in (fields_more (codes "session") (codes "patience " ++ decimal n) refl (omega arith)
-    ∙ ap (λ l. codes "session" ∷ l) (fields_more (codes "patience") (decimal n) refl (omega arith) ∙ ap (λ l. codes "patience" ∷ l) (fields_one (decimal n) (dark_decimal n small) (some_digit n small))))
+    ∙ ap (λ l. codes "session" ∷ l) (fields_more (codes "patience") (decimal n) refl (omega arith)
+    ∙ ap (λ l. codes "patience" ∷ l) (fields_one (decimal n) (dark_decimal n small) (some_digit n small))))
 
 pub end_form : form_of (codes "end") ≡ Some End
 unfolding line_with
@@ -111,17 +112,20 @@ command_form name line others h e = ap line_in e ∙ (λ i. if h.first i then No
 
 pub read_form : (name : List ℕ) → NameParts name → form_of (name ++ codes " read") ≡ Some (Command name Reads)
 read_form name h =
-    command_form name (name ++ codes " read") (codes "read" ∷ []) h (fields_more name (codes "read") h.dark h.some ∙ ap (λ l. name ∷ l) (fields_one (codes "read") refl (omega arith)))
+    command_form name (name ++ codes " read") (codes "read" ∷ []) h (fields_more name (codes "read") h.dark h.some
+    ∙ ap (λ l. name ∷ l) (fields_one (codes "read") refl (omega arith)))
 
 pub set_form : (name : List ℕ) (n : ℕ) → NameParts name → n ≤ 999999 → form_of (name ++ (codes " set " ++ decimal n)) ≡ Some (Command name (Sets (decimal n)))
 set_form name n h small =
     command_form name (name ++ (codes " set " ++ decimal n)) (codes "set" ∷ decimal n ∷ []) h (fields_more name (codes "set " ++ decimal n) h.dark h.some
-    ∙ ap (λ l. name ∷ l) (fields_more (codes "set") (decimal n) refl (omega arith) ∙ ap (λ l. codes "set" ∷ l) (fields_one (decimal n) (dark_decimal n small) (some_digit n small))))
+    ∙ ap (λ l. name ∷ l) (fields_more (codes "set") (decimal n) refl (omega arith)
+    ∙ ap (λ l. codes "set" ∷ l) (fields_one (decimal n) (dark_decimal n small) (some_digit n small))))
 
 pub add_form : (name : List ℕ) (n : ℕ) → NameParts name → n ≤ 999999 → form_of (name ++ (codes " add " ++ decimal n)) ≡ Some (Command name (Adds (decimal n)))
 add_form name n h small =
     command_form name (name ++ (codes " add " ++ decimal n)) (codes "add" ∷ decimal n ∷ []) h (fields_more name (codes "add " ++ decimal n) h.dark h.some
-    ∙ ap (λ l. name ∷ l) (fields_more (codes "add") (decimal n) refl (omega arith) ∙ ap (λ l. codes "add" ∷ l) (fields_one (decimal n) (dark_decimal n small) (some_digit n small))))
+    ∙ ap (λ l. name ∷ l) (fields_more (codes "add") (decimal n) refl (omega arith)
+    ∙ ap (λ l. codes "add" ∷ l) (fields_one (decimal n) (dark_decimal n small) (some_digit n small))))
 
 -- ---- these lines have no line end within
 

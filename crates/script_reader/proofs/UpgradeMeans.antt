@@ -45,7 +45,8 @@ writes_both : (a b : List ℕ) (xs ys : List Line) → Writes a xs → Writes b 
 writes_both a b xs ys h k =
     record {
       texts = h.texts ++ k.texts;
-      split = λ rest. ap text_lines (append_assoc a b rest) ∙ h.split (b ++ rest) ∙ ap (λ l. h.texts ++ l) (k.split rest) ∙ sym (append_assoc h.texts k.texts (text_lines rest));
+      split = λ rest. ap text_lines (append_assoc a b rest) ∙ h.split (b ++ rest)
+          ∙ ap (λ l. h.texts ++ l) (k.split rest) ∙ sym (append_assoc h.texts k.texts (text_lines rest));
       forms_are = map-append form_of h.texts k.texts ∙ (λ i. h.forms_are i ++ k.forms_are i) ∙ sym (map-append Some xs ys);
     }
 
@@ -64,47 +65,62 @@ command_form name (Set n) h fits = set_form name n h fits
 command_form name (Add n) h fits = add_form name n h fits
 command_form name Read h fits = read_form name h
 
-command_written : (plan : LabPlan) → AreInstruments plan.instruments → (command : ℕ × Verb) → CanSay plan.instruments command → Writes (command_text plan command) (line_of_command plan.instruments command ∷ [])
+command_written : (plan : LabPlan) → AreInstruments plan.instruments → (command : ℕ × Verb)
+    → CanSay plan.instruments command → Writes (command_text plan command) (line_of_command plan.instruments command ∷ [])
 command_written plan h command can =
     let name = get_or plan.instruments command.0 [] in
     let parts = name_parts name (h.each command.0 [] can.0) in
     let form = Command name (spelled command.1) in
-    let whole : command_shown name command.1 ++ 10 ∷ [] ≡ command_text plan command = ap (λ l. l ++ 10 ∷ []) (sym (append_assoc name (codes " ") (verb_text command.1))) in
+    let whole : command_shown name command.1 ++ 10 ∷ [] ≡ command_text plan command =
+    ap (λ l. l ++ 10 ∷ []) (sym (append_assoc name (codes " ") (verb_text command.1))) in
     subst (λ t. Writes t (form ∷ [])) whole
-    (writes_one (command_shown name command.1) form (shown_behind name (codes " " ++ verb_text command.1) (dark_shown name parts.dark) (verb_shown command.1 can.1)) (command_form name command.1 parts can.1))
+    (writes_one (command_shown name command.1)
+    form (shown_behind name (codes " " ++ verb_text command.1) (dark_shown name parts.dark) (verb_shown command.1 can.1))
+    (command_form name command.1 parts can.1))
 
-commands_written : (plan : LabPlan) → AreInstruments plan.instruments → (commands : List (ℕ × Verb)) → AllByRecursion (CanSay plan.instruments) commands → Writes (commands_text plan commands) (map (line_of_command plan.instruments) commands)
+commands_written : (plan : LabPlan) → AreInstruments plan.instruments → (commands : List (ℕ × Verb))
+    → AllByRecursion (CanSay plan.instruments) commands → Writes (commands_text plan commands) (map (line_of_command plan.instruments) commands)
 commands_written plan h [] all = writes_none
 commands_written plan h (command ∷ commands) all =
-    writes_both (command_text plan command) (commands_text plan commands) (line_of_command plan.instruments command ∷ []) (map (line_of_command plan.instruments) commands)
+    writes_both (command_text plan command) (commands_text plan commands)
+    (line_of_command plan.instruments command ∷ []) (map (line_of_command plan.instruments) commands)
     (command_written plan h command all.0) (commands_written plan h commands all.1)
 
 begin_written : (patience : Option ℕ) → ForSome patience (λ n. n ≤ 999999) → Writes (session_line patience) (first_line patience ∷ [])
 begin_written None fits = writes_one (codes "session") Session refl session_form
 begin_written (Some n) fits =
     let small = fits n refl in
-    writes_one (codes "session patience " ++ decimal n) (PatientSession (decimal n)) (shown_behind (codes "session patience ") (decimal n) refl (shown_decimal n small)) (patience_form n small)
+    writes_one (codes "session patience " ++ decimal n) (PatientSession (decimal n))
+    (shown_behind (codes "session patience ") (decimal n) refl (shown_decimal n small)) (patience_form n small)
 
-session_written : (plan : LabPlan) → AreInstruments plan.instruments → (session : SessionPlan) → CanRun plan.instruments session → Writes (session_text plan session) (lines_of_session plan.instruments session)
+session_written : (plan : LabPlan) → AreInstruments plan.instruments → (session : SessionPlan)
+    → CanRun plan.instruments session → Writes (session_text plan session) (lines_of_session plan.instruments session)
 session_written plan h session can =
     let lines = map (line_of_command plan.instruments) session.commands in
-    let begun = writes_both (session_line session.patience) (commands_text plan session.commands) (first_line session.patience ∷ []) lines (begin_written session.patience can.patience) (commands_written plan h session.commands can.commands) in
-    writes_both (session_line session.patience ++ commands_text plan session.commands) (codes "end\n") (first_line session.patience ∷ lines) (End ∷ []) begun (writes_one (codes "end") End refl end_form)
+    let begun = writes_both (session_line session.patience) (commands_text plan session.commands) (first_line session.patience ∷ []) lines
+    (begin_written session.patience can.patience) (commands_written plan h session.commands can.commands) in
+    writes_both (session_line session.patience ++ commands_text plan session.commands) (codes "end\n")
+    (first_line session.patience ∷ lines) (End ∷ []) begun (writes_one (codes "end") End refl end_form)
 
-sessions_written : (plan : LabPlan) → AreInstruments plan.instruments → (sessions : List SessionPlan) → AllByRecursion (CanRun plan.instruments) sessions → Writes (flat_map (session_text plan) sessions) (flat_map (lines_of_session plan.instruments) sessions)
+sessions_written : (plan : LabPlan) → AreInstruments plan.instruments → (sessions : List SessionPlan) → AllByRecursion (CanRun plan.instruments) sessions
+    → Writes (flat_map (session_text plan) sessions) (flat_map (lines_of_session plan.instruments) sessions)
 sessions_written plan h [] all = writes_none
 sessions_written plan h (session ∷ sessions) all =
-    writes_both (session_text plan session) (flat_map (session_text plan) sessions) (lines_of_session plan.instruments session) (flat_map (lines_of_session plan.instruments) sessions)
+    writes_both (session_text plan session) (flat_map (session_text plan) sessions)
+    (lines_of_session plan.instruments session) (flat_map (lines_of_session plan.instruments) sessions)
     (session_written plan h session all.0) (sessions_written plan h sessions all.1)
 
-job_written : (plan : LabPlan) → AreInstruments plan.instruments → (job : JobPlan) → CanBegin plan.instruments job → Writes (job_text plan job) (lines_of_job plan.instruments job)
+job_written : (plan : LabPlan) → AreInstruments plan.instruments → (job : JobPlan)
+    → CanBegin plan.instruments job → Writes (job_text plan job) (lines_of_job plan.instruments job)
 job_written plan h job can =
     let parts = name_parts job.name can.is_name in
     writes_both (name_line job.name) (flat_map (session_text plan) job.sessions) (Job job.name ∷ []) (flat_map (lines_of_session plan.instruments) job.sessions)
-    (writes_one (codes "job " ++ job.name) (Job job.name) (shown_behind (codes "job ") job.name refl (dark_shown job.name parts.dark)) (job_form job.name parts))
+    (writes_one (codes "job " ++ job.name) (Job job.name)
+    (shown_behind (codes "job ") job.name refl (dark_shown job.name parts.dark)) (job_form job.name parts))
     (sessions_written plan h job.sessions can.sessions)
 
-jobs_written : (plan : LabPlan) → AreInstruments plan.instruments → (jobs : List JobPlan) → AllByRecursion (CanBegin plan.instruments) jobs → Writes (flat_map (job_text plan) jobs) (flat_map (lines_of_job plan.instruments) jobs)
+jobs_written : (plan : LabPlan) → AreInstruments plan.instruments → (jobs : List JobPlan)
+    → AllByRecursion (CanBegin plan.instruments) jobs → Writes (flat_map (job_text plan) jobs) (flat_map (lines_of_job plan.instruments) jobs)
 jobs_written plan h [] all = writes_none
 jobs_written plan h (job ∷ jobs) all =
     writes_both (job_text plan job) (flat_map (job_text plan) jobs) (lines_of_job plan.instruments job) (flat_map (lines_of_job plan.instruments) jobs)
@@ -122,9 +138,11 @@ plan_written plan h =
 
 -- ---- reading them
 
-read_all : (lines done texts more : List (List ℕ)) (forms : List Line) (n : ℕ) (s t : State) → map form_of texts ≡ map Some forms → AreTaken s forms t → IsReading lines done (texts ++ more) n s
+read_all : (lines done texts more : List (List ℕ)) (forms : List Line) (n : ℕ) (s t : State)
+    → map form_of texts ≡ map Some forms → AreTaken s forms t → IsReading lines done (texts ++ more) n s
     → (m : ℕ) × IsReading lines (done ++ texts) more m t
-read_all lines done [] more [] n s t e taken h = (n, subst (λ d. IsReading lines d more n t) (sym (append-nil done)) (subst (IsReading lines done more n) taken h))
+read_all lines done [] more [] n s t e taken h =
+    (n, subst (λ d. IsReading lines d more n t) (sym (append-nil done)) (subst (IsReading lines done more n) taken h))
 read_all lines done [] more (form ∷ forms) n s t e taken h = absurd (cc)
 read_all lines done (text ∷ texts) more [] n s t e taken h = absurd (cc)
 read_all lines done (text ∷ texts) more (form ∷ forms) n s t e taken h =

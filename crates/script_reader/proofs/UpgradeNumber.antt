@@ -54,7 +54,8 @@ no_leading_zero : (n : ℕ) → n ≤ 999999 → leads (decimal n) ≡ true
 no_leading_zero zero small = ap leads (decimal_digit 0 (omega arith))
 no_leading_zero (suc n) small =
     let above : 48 < get_or (decimal (suc n)) 0 0 = first_decimal (suc n) (omega arith) (omega arith) in
-    let other : (get_or (decimal (suc n)) 0 0 == 48) ≡ false = false_from_ne_true _ (λ e. let same = (Decides-eqb (get_or (decimal (suc n)) 0 0) 48).0 e in omega (arith, same, above)) in
+    let other : (get_or (decimal (suc n)) 0 0 == 48) ≡ false =
+    false_from_ne_true _ (λ e. let same = (Decides-eqb (get_or (decimal (suc n)) 0 0) 48).0 e in omega (arith, same, above)) in
     ap (λ b. not b || length (decimal (suc n)) == 1) other
 
 pub decimal_is_number : (n : ℕ) → n ≤ 999999 → is_number (decimal n) ≡ true

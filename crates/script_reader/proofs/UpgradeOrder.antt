@@ -37,7 +37,8 @@ two_filters p q r both (x ∷ xs) =
     ⊎_elim
     (λ is.
     let same : p x ≡ r x = sym (ap (λ b. b && p x) is) ∙ both x in
-    ap (λ b. filter p (cond b (x ∷ filter q xs) (filter q xs))) is ∙ ap (λ b. cond b (x ∷ filter p (filter q xs)) (filter p (filter q xs))) same ∙ ap (λ l. cond (r x) (x ∷ l) l) rest)
+    ap (λ b. filter p (cond b (x ∷ filter q xs) (filter q xs))) is
+    ∙ ap (λ b. cond b (x ∷ filter p (filter q xs)) (filter p (filter q xs))) same ∙ ap (λ l. cond (r x) (x ∷ l) l) rest)
     (λ is.
     let gone : r x ≡ false = sym (both x) ∙ ap (λ b. b && p x) is in
     ap (λ b. filter p (cond b (x ∷ filter q xs) (filter q xs))) is ∙ rest ∙ sym (ap (λ b. cond b (x ∷ filter r xs) (filter r xs)) gone))
@@ -59,7 +60,8 @@ from_known k command commands h = rw h (two_filters (nat_le k) (λ other. not (o
 from_new : (k : ℕ) (command : ℕ × Verb) (commands : List (ℕ × Verb)) → command.0 ≡ k → from k (command ∷ commands) ≡ k ∷ from (suc k) commands
 from_new k command commands e =
     let new : nat_le k command.0 ≡ true = at_most k command.0 (omega arith) in
-    rw new (λ i. e i ∷ ((λ j. filter (nat_le k) (filter (λ other. not (other == e j)) (firsts (map (λ (c : ℕ × Verb). c.0) commands)))) ∙ two_filters (nat_le k) (λ other. not (other == k)) (nat_le (suc k)) (λ x. from_next k x) _) i)
+    rw new (λ i. e i ∷ ((λ j. filter (nat_le k) (filter (λ other. not (other == e j)) (firsts (map (λ (c : ℕ × Verb). c.0) commands))))
+    ∙ two_filters (nat_le k) (λ other. not (other == k)) (nat_le (suc k)) (λ x. from_next k x) _) i)
 
 -- the first that isn't known is the next
 next_is : (k m : ℕ) (command : ℕ × Verb) (commands : List (ℕ × Verb)) → nat_le k command.0 ≡ true → from k (command ∷ commands) ≡ range_with_len k m
@@ -98,9 +100,11 @@ all_kept (x ∷ xs) =
     let least : nat_le 0 x ≡ true = at_most 0 x (omega arith) in
     λ i. cond (least i) (x ∷ all_kept xs i) (all_kept xs i)
 
-pub in_order_all : (m : ℕ) (commands : List (ℕ × Verb)) → firsts (map (λ (command : ℕ × Verb). command.0) commands) ≡ range_with_len 0 m → InOrder 0 commands × (known_after 0 commands ≡ m)
+pub in_order_all : (m : ℕ) (commands : List (ℕ × Verb))
+    → firsts (map (λ (command : ℕ × Verb). command.0) commands) ≡ range_with_len 0 m → InOrder 0 commands × (known_after 0 commands ≡ m)
 in_order_all m commands e = let all = in_order_from 0 m commands (all_kept _ ∙ e) in (all.0, all.1 ∙ omega arith)
 
-pub known_within : (known count : ℕ) (commands : List (ℕ × Verb)) → known ≤ count → AllByRecursion (λ (command : ℕ × Verb). command.0 < count) commands → known_after known commands ≤ count
+pub known_within : (known count : ℕ) (commands : List (ℕ × Verb)) → known ≤ count
+    → AllByRecursion (λ (command : ℕ × Verb). command.0 < count) commands → known_after known commands ≤ count
 known_within known count [] most all = most
 known_within known count (command ∷ commands) most all = known_within (max known (suc command.0)) count commands (let here = all.0 in omega arith) all.1

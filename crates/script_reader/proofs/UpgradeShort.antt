@@ -49,9 +49,11 @@ module _ (plan : LabPlan) (h : AreInstruments plan.instruments) where
       let few = (name_parts name (h.each command.0 [] can.0)).few in
       omega (arith, few, verb_short command.1 can.1, length-append name (codes " "), in_row (name ++ codes " ") (verb_text command.1) (codes "\n"))
 
-  commands_short : (commands : List (ℕ × Verb)) → AllByRecursion (CanSay plan.instruments) commands → length (commands_text plan commands) ≤ 28 * length commands
+  commands_short : (commands : List (ℕ × Verb)) → AllByRecursion (CanSay plan.instruments) commands
+      → length (commands_text plan commands) ≤ 28 * length commands
   commands_short [] all = omega arith
-  commands_short (command ∷ commands) all = omega (arith, command_short command all.0, commands_short commands all.1, length-append (command_text plan command) (commands_text plan commands))
+  commands_short (command ∷ commands) all =
+      omega (arith, command_short command all.0, commands_short commands all.1, length-append (command_text plan command) (commands_text plan commands))
 
   session_short : (session : SessionPlan) → CanRun plan.instruments session → length (session_text plan session) ≤ 28 + 28 * length session.commands
   session_short session can =
@@ -59,7 +61,8 @@ module _ (plan : LabPlan) (h : AreInstruments plan.instruments) where
       let commands = commands_short session.commands can.commands in
       omega (arith, line, commands, in_row (session_line session.patience) (commands_text plan session.commands) (codes "end\n"))
 
-  sessions_short : (sessions : List SessionPlan) → AllByRecursion (CanRun plan.instruments) sessions → length (flat_map (session_text plan) sessions) ≤ 28 * length sessions + 28 * length (session_commands sessions)
+  sessions_short : (sessions : List SessionPlan) → AllByRecursion (CanRun plan.instruments) sessions
+      → length (flat_map (session_text plan) sessions) ≤ 28 * length sessions + 28 * length (session_commands sessions)
   sessions_short [] all = omega arith
   sessions_short (session ∷ sessions) all =
       let texts = length-append (session_text plan session) (flat_map (session_text plan) sessions) in
@@ -73,7 +76,8 @@ module _ (plan : LabPlan) (h : AreInstruments plan.instruments) where
       let sessions = sessions_short job.sessions can.sessions in
       omega (arith, line, sessions, can.few, length-append (name_line job.name) (flat_map (session_text plan) job.sessions))
 
-  jobs_short : (jobs : List JobPlan) → AllByRecursion (CanBegin plan.instruments) jobs → length (flat_map (job_text plan) jobs) ≤ 28021 * length jobs + 28 * length (job_commands jobs)
+  jobs_short : (jobs : List JobPlan) → AllByRecursion (CanBegin plan.instruments) jobs
+      → length (flat_map (job_text plan) jobs) ≤ 28021 * length jobs + 28 * length (job_commands jobs)
   jobs_short [] all = omega arith
   jobs_short (job ∷ jobs) all =
       let texts = length-append (job_text plan job) (flat_map (job_text plan) jobs) in

@@ -83,7 +83,8 @@ first_line line rest shown =
     let size = line_len_is line rest shown in
     let cut : line ++ 10 ∷ rest ≡ (line ++ 10 ∷ []) ++ rest = sym (append_assoc line (10 ∷ []) rest) in
     some_lines (line ++ 10 ∷ rest) (omega (arith, whole)) ∙ (λ i. take (size i) (cut i) ∷ lines_of (drop (size i) (cut i)))
-    ∙ (λ i. take_at (line ++ 10 ∷ []) rest (suc (length line)) (omega (arith, own)) i ∷ lines_of (drop_at (line ++ 10 ∷ []) rest (suc (length line)) (omega (arith, own)) i))
+    ∙ (λ i. take_at (line ++ 10 ∷ []) rest (suc (length line)) (omega (arith, own)) i ∷ lines_of
+    (drop_at (line ++ 10 ∷ []) rest (suc (length line)) (omega (arith, own)) i))
 
 last_shown : (line : List ℕ) (k : ℕ) → list_all is_shown line ≡ true → k < length line → (get_or line k 0 == 13) ≡ false
 last_shown [] k shown inside = absurd (omega arith)

@@ -48,14 +48,17 @@ alone line _ = Unknown
 -- `NAME read`, `NAME set N` or `NAME add N`
 abbrev pub command_line : List ℕ → List (List ℕ) → Line
 command_line name (verb ∷ []) = if bytes_eq verb (codes "read") then Command name Reads else Unknown
-command_line name (verb ∷ number ∷ []) = if bytes_eq verb (codes "set") then Command name (Sets number) else (if bytes_eq verb (codes "add") then Command name (Adds number) else Unknown)
+command_line name (verb ∷ number ∷ []) =
+    if bytes_eq verb (codes "set") then Command name (Sets number) else (if bytes_eq verb (codes "add") then Command name (Adds number) else Unknown)
 command_line name _ = Unknown
 
 -- the line with this first field and these others
 unfoldable pub line_with : List ℕ → List (List ℕ) → Line
 line_with first others =
-    if bytes_eq first (codes "lab") then lab_line others else (if bytes_eq first (codes "job") then job_line others else (if bytes_eq first (codes "session") then session_line others
-    else (if bytes_eq first (codes "end") then alone End others else (if bytes_eq first (codes "steps") then alone Steps others else (if bytes_eq first (codes "patience") then Unknown
+    if bytes_eq first (codes "lab") then lab_line others
+    else (if bytes_eq first (codes "job") then job_line others else (if bytes_eq first (codes "session") then session_line others
+    else (if bytes_eq first (codes "end") then alone End others
+    else (if bytes_eq first (codes "steps") then alone Steps others else (if bytes_eq first (codes "patience") then Unknown
     else command_line first others)))))
 
 -- a line without fields, and one whose first field begins with #, is skipped

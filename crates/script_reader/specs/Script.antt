@@ -54,7 +54,8 @@ abbrev pub passes_limit : List Line → Line → Bool
 passes_limit before (Job name) = nat_le 32 (count is_job_line before)
 passes_limit before Session = nat_le 1000 (count is_session (up_to_next is_job_line before))
 passes_limit before (PatientSession number) = nat_le 1000 (count is_session (up_to_next is_job_line before))
-passes_limit before (Command name verb) = nat_le 100000 (count is_command before) || (not (is_instrument_there before name) && nat_le 56 (instrument_count before))
+passes_limit before (Command name verb) =
+    nat_le 100000 (count is_command before) || (not (is_instrument_there before name) && nat_le 56 (instrument_count before))
 passes_limit before _ = false
 
 -- the line has no form of its script: a second header, a patience in version 1, steps
@@ -88,7 +89,8 @@ meets_at_end before _ = false
 
 -- the order of the causes within a line
 abbrev pub causes : List ScriptCause
-causes = NoHeader ∷ UnknownWord ∷ SessionNotClosed ∷ NotInJob ∷ NotInSession ∷ BadName ∷ BadNumber ∷ JobTwice ∷ EmptySession ∷ LimitPassed ∷ TooManyInCommon ∷ []
+causes = NoHeader ∷ UnknownWord ∷ SessionNotClosed ∷ NotInJob ∷ NotInSession
+    ∷ BadName ∷ BadNumber ∷ JobTwice ∷ EmptySession ∷ LimitPassed ∷ TooManyInCommon ∷ []
 
 -- the first cause that the line meets, and that the end meets
 abbrev pub cause_at : List Line → Line → Option ScriptCause

@@ -34,7 +34,13 @@ version_number One = 1
 version_number Two = 2
 
 abbrev pub state_of : List Line → State
-state_of before = record { fresh = is_empty before; version = header_version before; in_session = is_open before; bare = has_no_command before; plan = plan_of (reverse before) }
+state_of before = record {
+  fresh = is_empty before;
+  version = header_version before;
+  in_session = is_open before;
+  bare = has_no_command before;
+  plan = plan_of (reverse before);
+}
 
 -- what holds between two lines
 pub record IsTied (s : State) : Type 0 where
@@ -56,11 +62,15 @@ many_sessions s = at (nat_le 1000 (length (last_job s.plan).sessions)) LimitPass
 -- the cause that the next line meets
 abbrev pub cause_in : State → Line → Option ScriptCause
 cause_in s (Header version) = at (not s.fresh) UnknownWord None
-cause_in s (Job name) = at s.fresh NoHeader (at s.in_session SessionNotClosed (at (not (is_name name)) BadName (at (is_job name s.plan) JobTwice (at (nat_le 32 (length s.plan.jobs)) LimitPassed None))))
+cause_in s (Job name) =
+    at s.fresh NoHeader (at s.in_session SessionNotClosed
+    (at (not (is_name name)) BadName (at (is_job name s.plan) JobTwice (at (nat_le 32 (length s.plan.jobs)) LimitPassed None))))
 cause_in s Session = at s.fresh NoHeader (session_cause s (many_sessions s))
-cause_in s (PatientSession number) = at s.fresh NoHeader (at (not (is_two s.version)) UnknownWord (session_cause s (at (not (is_number number)) BadNumber (many_sessions s))))
+cause_in s (PatientSession number) =
+    at s.fresh NoHeader (at (not (is_two s.version)) UnknownWord (session_cause s (at (not (is_number number)) BadNumber (many_sessions s))))
 cause_in s (Command name verb) =
-    at s.fresh NoHeader (at (not s.in_session) NotInSession (at (not (is_name name)) BadName (at (has (λ number. not (is_number number)) (verb_number verb)) BadNumber (at (is_past_limit name s.plan) LimitPassed None))))
+    at s.fresh NoHeader (at (not s.in_session) NotInSession (at (not (is_name name)) BadName
+    (at (has (λ number. not (is_number number)) (verb_number verb)) BadNumber (at (is_past_limit name s.plan) LimitPassed None))))
 cause_in s End = at s.fresh NoHeader (at (not s.in_session) NotInSession (at s.bare EmptySession None))
 cause_in s Steps = at s.fresh NoHeader (Some UnknownWord)
 cause_in s Unknown = at s.fresh NoHeader (Some UnknownWord)

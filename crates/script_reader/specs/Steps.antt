@@ -27,7 +27,8 @@ edge_between plan a b = position (λ (pair : ℕ × ℕ). (pair.0 == min a b) &&
 
 -- a job by its name, and its edge to another
 abbrev pub edge_named : LabPlan → List ℕ → List ℕ → Option (ℕ × ℕ)
-edge_named plan name other = option_and_then (λ j. option_and_then (λ k. option_map (λ e. (j, e)) (edge_between plan j k)) (job_named plan other)) (job_named plan name)
+edge_named plan name other =
+    option_and_then (λ j. option_and_then (λ k. option_map (λ e. (j, e)) (edge_between plan j k)) (job_named plan other)) (job_named plan name)
 
 -- the bottle of the edge whose instrument has this name
 abbrev pub bottle_named : LabPlan → ℕ → List ℕ → Option ℕ
@@ -66,7 +67,8 @@ job_event word j =
 
 -- of a job at one of its edges
 unfoldable pub edge_event : List ℕ → ℕ → ℕ → Option Step
-edge_event word j e = event_with word ((codes "look", Look j e) ∷ (codes "askfork", AskFork j e) ∷ (codes "givefork", GiveFork j e) ∷ (codes "soil", Soil j e) ∷ [])
+edge_event word j e =
+    event_with word ((codes "look", Look j e) ∷ (codes "askfork", AskFork j e) ∷ (codes "givefork", GiveFork j e) ∷ (codes "soil", Soil j e) ∷ [])
 
 -- of a job with bottles of one of its edges
 unfoldable pub bottle_event : List ℕ → ℕ → ℕ → ℕ → Option Step
@@ -87,11 +89,13 @@ edge_step plan word (name ∷ other ∷ []) = option_and_then (λ p. edge_event 
 edge_step plan word _ = None
 
 abbrev pub bottle_step : LabPlan → List ℕ → List (List ℕ) → Option Step
-bottle_step plan word (name ∷ other ∷ bottle ∷ more) = option_and_then (λ p. option_and_then (bottle_event word p.0 p.1) (bottle_set plan p.1 (bottle ∷ more))) (edge_named plan name other)
+bottle_step plan word (name ∷ other ∷ bottle ∷ more) =
+    option_and_then (λ p. option_and_then (bottle_event word p.0 p.1) (bottle_set plan p.1 (bottle ∷ more))) (edge_named plan name other)
 bottle_step plan word _ = None
 
 abbrev pub glance_step : LabPlan → List ℕ → List (List ℕ) → Option Step
-glance_step plan word (name ∷ other ∷ []) = option_and_then (λ j. option_and_then (λ k. if j == k then None else glance_event word j k) (job_named plan other)) (job_named plan name)
+glance_step plan word (name ∷ other ∷ []) =
+    option_and_then (λ j. option_and_then (λ k. if j == k then None else glance_event word j k) (job_named plan other)) (job_named plan name)
 glance_step plan word _ = None
 
 abbrev pub or_else : {A : Type 0} → Option A → Option A → Option A
@@ -100,7 +104,8 @@ or_else (Some x) other = Some x
 
 -- the step with this word and these names, where there is one
 unfoldable pub step_with : LabPlan → List ℕ → List (List ℕ) → Option Step
-step_with plan word names = or_else (job_step plan word names) (or_else (edge_step plan word names) (or_else (bottle_step plan word names) (glance_step plan word names)))
+step_with plan word names =
+    or_else (job_step plan word names) (or_else (edge_step plan word names) (or_else (bottle_step plan word names) (glance_step plan word names)))
 
 -- a line of a step list, where it isn't skipped: its step, where it has one
 abbrev pub step_among : LabPlan → List (List ℕ) → Option (Option Step)
@@ -159,7 +164,8 @@ AreCleanUpTo plan first lines number =
     × (list_of plan first lines ≡ map placed front ++ (number, found) ∷ back) × (length front ≤ 1000000) × (step_cause (length front) found ≡ None)
 
 abbrev pub RefusesSteps : LabPlan → ℕ → List (List ℕ) → ScriptFault → Type 0
-RefusesSteps plan first lines fault = ((fault.cause ≡ NoMemory) × AreCleanUpTo plan first lines fault.line) ⊎ IsFaultInSteps plan first lines fault.line fault.cause
+RefusesSteps plan first lines fault =
+    ((fault.cause ≡ NoMemory) × AreCleanUpTo plan first lines fault.line) ⊎ IsFaultInSteps plan first lines fault.line fault.cause
 
 -- what the reader answers at a line of a step list, and the steps that it has then
 abbrev pub ReadsStep : List StepLine → ℕ → Option (Option Step) → Result (Unit {0}) ScriptCause → List StepLine → Type 0

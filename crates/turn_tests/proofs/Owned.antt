@@ -20,8 +20,10 @@ fresh_owned b zero = tt
 fresh_owned b (suc n) = each-append (Owns b) (fresh_desks b.table b.plan n) (fresh_desk b.table b.plan n ∷ []) (fresh_owned b n) ((refl, refl), tt)
 
 -- the desks that a bench opens with are its own
-pub opened_owned : (b : BenchView) (plan : LabPlan) (desks : List DeskView) → b.plan ≡ plan → desks ≡ fresh_desks b.table plan (length plan.jobs) → Each (Owns b) desks
-opened_owned b plan desks is are = subst (Each (Owns b)) (sym (are ∙ ap (λ (p : LabPlan). fresh_desks b.table p (length plan.jobs)) (sym is))) (fresh_owned b (length plan.jobs))
+pub opened_owned : (b : BenchView) (plan : LabPlan) (desks : List DeskView) → b.plan ≡ plan
+    → desks ≡ fresh_desks b.table plan (length plan.jobs) → Each (Owns b) desks
+opened_owned b plan desks is are =
+    subst (Each (Owns b)) (sym (are ∙ ap (λ (p : LabPlan). fresh_desks b.table p (length plan.jobs)) (sym is))) (fresh_owned b (length plan.jobs))
 
 -- what holds of each holds of the last, and of those before it
 pub each_last : (P : DeskView → Type 0) (a : List DeskView) (x : DeskView) → Each P (a ++ x ∷ []) → Each P a × P x

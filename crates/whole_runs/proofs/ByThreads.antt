@@ -32,7 +32,8 @@ use Rattle.whole_runs.proofs.Ends.{shows, not_retired}
 takes : (t : TableId) (plan : LabPlan) (h : List Event) (j n : ℕ) → TurnsSince n (fresh_desk t plan j) h → TakesTurns plan h j n
 takes t plan h j n s = taken plan h j n s.waited s.groups s.grouped (ap but_glances s.events ∙ s.all) (subst (Stands s.groups) (sym s.goes_on) s.unbroken)
 
-module _ (law : TurnsInHistory) (b : BenchView) (turns : ℕ) (desks : List DeskView) (c : ClosedView) (driven : Driven b turns (opened b) desks) (end : IsEnd b.plan desks c) where
+module _ (law : TurnsInHistory) (b : BenchView) (turns : ℕ) (desks : List DeskView)
+    (c : ClosedView) (driven : Driven b turns (opened b) desks) (end : IsEnd b.plan desks c) where
   -- where a job isn't retired in the history, the desks say so
   desks_too : retired_after b.plan (the_opening b.plan) end.history ≡ false → all_retired desks ≡ false
   desks_too so = by (all_retired desks) refl where
@@ -43,8 +44,15 @@ module _ (law : TurnsInHistory) (b : BenchView) (turns : ℕ) (desks : List Desk
 
   takes_turns : TakeTurns b.plan end.history turns (retired_after b.plan (the_opening b.plan) end.history)
   takes_turns j inside =
-      let found = each_any (λ (e : DeskView). Any (λ (d : DeskView). (e.job ≡ d.job) × ((n : ℕ) × (n ≤ turns) × (all_retired desks ≡ false → n ≡ turns) × TurnsSince n d end.history)) (opened b)) (λ (e : DeskView). e.job ≡ j) desks (law b turns (opened b) desks c driven end) (driven.all.every j inside) in
-      let (k, (same, (n, most, full, since))) = fresh_one b.table b.plan (length b.plan.jobs) (λ (d : DeskView). (found.0.job ≡ d.job) × ((n : ℕ) × (n ≤ turns) × (all_retired desks ≡ false → n ≡ turns) × TurnsSince n d end.history)) found.1 in
+      let found =
+      each_any
+      (λ (e : DeskView). Any
+      (λ (d : DeskView). (e.job ≡ d.job) × ((n : ℕ) × (n ≤ turns) × (all_retired desks ≡ false → n ≡ turns) × TurnsSince n d end.history))
+      (opened b)) (λ (e : DeskView). e.job ≡ j) desks (law b turns (opened b) desks c driven end) (driven.all.every j inside) in
+      let (k, (same, (n, most, full, since))) =
+      fresh_one b.table b.plan (length b.plan.jobs)
+      (λ (d : DeskView). (found.0.job ≡ d.job) × ((n : ℕ) × (n ≤ turns) × (all_retired desks ≡ false → n ≡ turns) × TurnsSince n d end.history))
+      found.1 in
       (n, most, (λ so. full (desks_too so)), subst (λ i. TakesTurns b.plan end.history i n) (sym same ∙ found.2) (takes b.table b.plan end.history k n since))
 
   pub ran_by_turns : IsRunByTurns b.plan turns c
@@ -58,7 +66,8 @@ module _ (law : TurnsInHistory) (b : BenchView) (turns : ℕ) (desks : List Desk
   }
 
 -- where there was memory, the desks were driven
-pub driven : (b : BenchView) (turns : ℕ) (old new : List DeskView) (ended : Ended) → ended ≢ reasons.NoMemory → Threaded b turns old ended new → Driven b turns old new
+pub driven : (b : BenchView) (turns : ℕ) (old new : List DeskView) (ended : Ended)
+    → ended ≢ reasons.NoMemory → Threaded b turns old ended new → Driven b turns old new
 driven b turns old new reasons.NoMemory other t = absurd (other refl)
 driven b turns old new reasons.AllRetired other t = t.0
 driven b turns old new reasons.Limit other t = t.0

@@ -40,8 +40,10 @@ module _ (plan : LabPlan) (desks : List DeskView) (c : ClosedView) (end : IsEnd 
 
   -- the logs are whole but for their ends, so their entries are of the plan's jobs
   pub entries_of_plan : HasWholeLogs → IsOpening plan (the_opening plan) → HasEntriesOfPlan c
-  entries_of_plan whole is_opening = subst (λ (p : LabPlan). (i : ℕ) → i < length p.instruments → All (λ (entry : Entry). entry.job < length p.jobs) (log_in c i).entries) (sym end.plan)
-      (λ i inside. subst (All (λ (entry : Entry). entry.job < length plan.jobs)) (sym (ap (λ (l : LogView). l.entries) (end.logs i inside))) (entries_are plan i _ (whole_at_end whole is_opening i)))
+  entries_of_plan whole is_opening =
+      subst (λ (p : LabPlan). (i : ℕ) → i < length p.instruments → All (λ (entry : Entry). entry.job < length p.jobs) (log_in c i).entries) (sym end.plan)
+      (λ i inside. subst (All (λ (entry : Entry). entry.job < length plan.jobs))
+      (sym (ap (λ (l : LogView). l.entries) (end.logs i inside))) (entries_are plan i _ (whole_at_end whole is_opening i)))
 
 -- ---- all jobs are retired
 
@@ -50,7 +52,9 @@ all_in_range f zero start holds = refl
 all_in_range f (suc n) start holds = λ i. holds start (omega arith) i && all_in_range f n (start + 1) (λ k less. holds k (omega (arith, less))) i
 
 pub retired_where : (plan : LabPlan) (h : List Event) → AreRetired plan h → retired_after plan (the_opening plan) h ≡ true
-retired_where plan h are = all_in_range (λ j. is_retired ((shown_after plan (the_opening plan) h).drinking j)) (length plan.jobs) 0 (λ j less. ap is_retired (are j (omega (arith, less))))
+retired_where plan h are =
+    all_in_range (λ j. is_retired ((shown_after plan (the_opening plan) h).drinking j))
+    (length plan.jobs) 0 (λ j less. ap is_retired (are j (omega (arith, less))))
 
 not_both : (b : Bool) → b ≡ true → b ≢ false
 not_both b is so = let both : true ≡ false = sym is ∙ so in absurd (cc)

@@ -42,12 +42,14 @@ first_starts : (h : List Event) (desks : List DeskView) → Each (λ (d : DeskVi
 first_starts h [] each = (h, refl)
 first_starts h (d ∷ desks) each = each.0
 
-module _ (b : BenchView) (desks : List DeskView) (c : ClosedView) (end : IsEnd b.plan desks c) (all : HasAll b.plan desks) (whole : Each (λ (d : DeskView). events_by d.job (first_front desks) ≡ d.deeds) desks) where
+module _ (b : BenchView) (desks : List DeskView) (c : ClosedView) (end : IsEnd b.plan desks c)
+    (all : HasAll b.plan desks) (whole : Each (λ (d : DeskView). events_by d.job (first_front desks) ≡ d.deeds) desks) where
   -- each job did in all what it did in the first desk's front
   same_by : (j : ℕ) → j < length b.plan.jobs → events_by j end.history ≡ events_by j (first_front desks)
   same_by j inside =
       let found = each_any (λ (d : DeskView). events_by d.job end.history ≡ events_by d.job (first_front desks)) (λ (d : DeskView). d.job ≡ j) desks
-      (zip_each (λ (d : DeskView). events_by d.job end.history ≡ d.deeds) (λ (d : DeskView). events_by d.job (first_front desks) ≡ d.deeds) (λ (d : DeskView). events_by d.job end.history ≡ events_by d.job (first_front desks)) (λ d p q. p ∙ sym q) desks end.records whole)
+      (zip_each (λ (d : DeskView). events_by d.job end.history ≡ d.deeds) (λ (d : DeskView). events_by d.job (first_front desks) ≡ d.deeds)
+      (λ (d : DeskView). events_by d.job end.history ≡ events_by d.job (first_front desks)) (λ d p q. p ∙ sym q) desks end.records whole)
       (all.every j inside) in
       subst (λ i. events_by i end.history ≡ events_by i (first_front desks)) found.2 found.1
 
@@ -55,13 +57,17 @@ module _ (b : BenchView) (desks : List DeskView) (c : ClosedView) (end : IsEnd b
   same_history =
       let (more, goes_on) = first_starts end.history desks end.fronts in
       let none : (j : ℕ) → j < length b.plan.jobs → events_by j more ≡ [] = λ j inside. append_cancel (events_by j (first_front desks)) (events_by j more) []
-      (sym (filter-append (is_by j) (first_front desks) more) ∙ (sym (ap (events_by j) goes_on) ∙ (same_by j inside ∙ sym (append-nil (events_by j (first_front desks)))))) in
-      let nobody : Each (λ (x : Event). actor x < length b.plan.jobs) more = each_later (λ (x : Event). actor x < length b.plan.jobs) (first_front desks) more (subst (Each (λ (x : Event). actor x < length b.plan.jobs)) goes_on end.nobody_else) in
+      (sym (filter-append (is_by j) (first_front desks) more)
+      ∙ (sym (ap (events_by j) goes_on) ∙ (same_by j inside ∙ sym (append-nil (events_by j (first_front desks)))))) in
+      let nobody : Each (λ (x : Event). actor x < length b.plan.jobs) more =
+      each_later (λ (x : Event). actor x < length b.plan.jobs) (first_front desks) more
+      (subst (Each (λ (x : Event). actor x < length b.plan.jobs)) goes_on end.nobody_else) in
       goes_on ∙ (ap (λ l. first_front desks ++ l) (nothing_more (length b.plan.jobs) more nobody none) ∙ append-nil (first_front desks))
 
 -- ---- the run
 
-module _ (plan : LabPlan) (limit : ℕ) (ended : Ended) (n : ℕ) (h : List Event) (r : RanRounds plan limit (fresh_players (length plan.jobs)) [] ended n h) (not_quiet : ended ≢ reasons.Quiet) where
+module _ (plan : LabPlan) (limit : ℕ) (ended : Ended) (n : ℕ) (h : List Event)
+    (r : RanRounds plan limit (fresh_players (length plan.jobs)) [] ended n h) (not_quiet : ended ≢ reasons.Quiet) where
   full : (x : Ended) → ended ≡ x → Why plan h x r.idle n limit → retired_after plan (the_opening plan) h ≡ false → n ≡ limit
   full reasons.AllRetired is why so = absurd (not_retired plan h so why)
   full reasons.Quiet is why so = absurd (not_quiet is)
@@ -70,7 +76,8 @@ module _ (plan : LabPlan) (limit : ℕ) (ended : Ended) (n : ℕ) (h : List Even
 
   pub rounds_are_turns : TakeTurns plan h limit (retired_after plan (the_opening plan) h)
   rounds_are_turns j inside =
-      let t = turns_in_rounds plan j (fresh_players (length plan.jobs)) r.players_then n r.idle h (players_once plan) (fresh_player (length plan.jobs) j inside) r.rounds in
+      let t = turns_in_rounds plan j (fresh_players (length plan.jobs)) r.players_then n r.idle h
+      (players_once plan) (fresh_player (length plan.jobs) j inside) r.rounds in
       (n, r.most, (λ so. full ended refl r.why so), taken plan h j n t.waited t.groups t.grouped t.together t.unbroken)
 
 pub ran_in_rounds : DrivesFromOpening → NeverEndsQuiet → (b : BenchView) (limit : ℕ) (ended : Ended) (n : ℕ) (desks : List DeskView) (c : ClosedView)
@@ -78,7 +85,8 @@ pub ran_in_rounds : DrivesFromOpening → NeverEndsQuiet → (b : BenchView) (li
 ran_in_rounds drives never b limit ended n desks c drove all end =
     let not_quiet : ended ≢ reasons.Quiet = never b limit ended n desks drove in
     let r : RanRounds b.plan limit (fresh_players (length b.plan.jobs)) [] ended n end.history =
-    subst (RanRounds b.plan limit (fresh_players (length b.plan.jobs)) [] ended n) (sym (same_history b desks c end all drove.company.whole)) (drives b limit ended n desks drove) in
+    subst (RanRounds b.plan limit (fresh_players (length b.plan.jobs)) [] ended n)
+    (sym (same_history b desks c end all drove.company.whole)) (drives b limit ended n desks drove) in
     record {
       by_turns = record {
         of_plan = end.plan;

@@ -27,10 +27,12 @@ stands_flat [] = tt
 stands_flat (g ∷ gs) = ([], flat gs, refl, stands_flat gs)
 
 -- turns as groups are turns one after another
-pub taken : (plan : LabPlan) (h : List Event) (j n : ℕ) (waited : Waited) (groups : List (List Event)) → AreGrouped plan j n no_wait (the_opening plan) groups waited → but_glances (events_by j h) ≡ flat groups → Stands groups h → TakesTurns plan h j n
+pub taken : (plan : LabPlan) (h : List Event) (j n : ℕ) (waited : Waited) (groups : List (List Event))
+    → AreGrouped plan j n no_wait (the_opening plan) groups waited → but_glances (events_by j h) ≡ flat groups → Stands groups h → TakesTurns plan h j n
 taken plan h j n waited groups grouped together unbroken = record {
   waited = waited;
-  turns = subst (λ events. AreTurns plan j n no_wait (the_opening plan) events waited) (sym together) (groups_are_turns plan j n no_wait (the_opening plan) groups waited grouped);
+  turns = subst (λ events. AreTurns plan j n no_wait (the_opening plan) events waited)
+      (sym together) (groups_are_turns plan j n no_wait (the_opening plan) groups waited grouped);
   groups = groups;
   grouped = grouped;
   together = together;
@@ -83,7 +85,8 @@ module _ (plan : LabPlan) (j : ℕ) where
   plays_one w x x' h g r is t =
       let s : State = known_in plan h j in
       let turn : IsTurnBy plan j (waited_in w (session s j)) s t.visits t.acts t.events =
-      subst (λ (z : ℕ × Waited). IsTurnBy plan z.0 (waited_in z.1 (session (known_in plan h z.0) z.0)) (known_in plan h z.0) t.visits t.acts t.events) (λ i. (is.0 i, is.1 i)) t.turn in
+      subst (λ (z : ℕ × Waited). IsTurnBy plan z.0 (waited_in z.1 (session (known_in plan h z.0) z.0)) (known_in plan h z.0) t.visits t.acts t.events)
+      (λ i. (is.0 i, is.1 i)) t.turn in
       let mine : events_by j t.events ≡ t.events = only_mine j t.events (turn_by plan j _ _ t.visits t.acts t.events turn) in
       let together : t.events ≡ flat (turn_groups j t.visits t.acts) = turn.events_are ∙ sym (flat_turn j t.visits t.acts) in
       let after : x' ≡ record { job = j; waited = waited_next plan j w s t.events } =
@@ -102,7 +105,8 @@ module _ (plan : LabPlan) (j : ℕ) where
 
   -- ---- one round
 
-  round_none : (players players' : List Player) (idle : Bool) (h g : List Event) → Each (λ (i : ℕ). i ≢ j) (jobs_in players) → Round plan players idle h g players' → IsNoneIn h g
+  round_none : (players players' : List Player) (idle : Bool) (h g : List Event)
+      → Each (λ (i : ℕ). i ≢ j) (jobs_in players) → Round plan players idle h g players' → IsNoneIn h g
   round_none [] players' idle h g apart is = record { more = []; grows = is.0 ∙ sym (append-nil h); still = ap (events_by j) is.0 }
   round_none (x ∷ players) players' idle h g apart (r, m, x', later, rest, t, more, idle_is, players_are) =
       let a = plays_none x x' h m r apart.0 t in
@@ -114,7 +118,8 @@ module _ (plan : LabPlan) (j : ℕ) where
   apart_from i (k ∷ js) (inl h) e = λ q. e.0 (h ∙ sym q)
   apart_from i (k ∷ js) (inr h) e = apart_from i js h e.1
 
-  round_turn : (w : Waited) (players players' : List Player) (idle : Bool) (h g : List Event) → Distinct (jobs_in players) → Any (IsOf w) players → Round plan players idle h g players' → IsTurnIn w h g players'
+  round_turn : (w : Waited) (players players' : List Player) (idle : Bool) (h g : List Event)
+      → Distinct (jobs_in players) → Any (IsOf w) players → Round plan players idle h g players' → IsTurnIn w h g players'
   round_turn w [] players' idle h g apart any is = absurd any
   round_turn w (x ∷ players) players' idle h g apart (inl same) (r, m, x', later, rest, t, more, idle_is, players_are) =
       let a = plays_one w x x' h m r same t in
@@ -128,7 +133,8 @@ module _ (plan : LabPlan) (j : ℕ) where
         own = b.still ∙ a.own;
         turn = a.turn;
         stands = stands_more (turn_groups j a.visits a.acts) a.more b.more a.stands;
-        then = subst (Any (IsOf (waited_next plan j w (known_in plan h j) a.events))) (sym players_are) (elim a.then [ inl here ↦ inl here | inr none ↦ absurd none ]);
+        then = subst (Any (IsOf (waited_next plan j w (known_in plan h j) a.events)))
+            (sym players_are) (elim a.then [ inl here ↦ inl here | inr none ↦ absurd none ]);
       }
   round_turn w (x ∷ players) players' idle h g apart (inr any) (r, m, x', later, rest, t, more, idle_is, players_are) =
       let a = plays_none x x' h m r (apart_from x.job (jobs_in players) (is_among w players any) apart.0) t in
@@ -158,7 +164,8 @@ module _ (plan : LabPlan) (j : ℕ) where
     pub unbroken : Stands groups h
     pub then : Any (IsOf waited) players'
 
-  one_more_turn : (n : ℕ) (m h : List Event) (middle players' : List Player) (a : TurnsIn n m middle) → IsTurnIn a.waited m h players' → TurnsIn (suc n) h players'
+  one_more_turn : (n : ℕ) (m h : List Event) (middle players' : List Player) (a : TurnsIn n m middle)
+      → IsTurnIn a.waited m h players' → TurnsIn (suc n) h players'
   one_more_turn n m h middle players' a b =
       let s : State = the_opening plan in
       let k : State = known_in plan m j in
@@ -171,12 +178,14 @@ module _ (plan : LabPlan) (j : ℕ) where
         groups = a.groups ++ gs;
         grouped = subst (λ (z : ℕ). AreGrouped plan j z no_wait s (a.groups ++ gs) next) (add-one n)
             (grouped-append plan j n 1 no_wait a.waited next s a.groups gs a.grouped (subst (λ (z : State). AreGrouped plan j 1 a.waited z gs next) known one));
-        together = ap but_glances b.own ∙ (but-append (events_by j m) b.events ∙ ((λ i. a.together i ++ but_turn plan j _ k b.visits b.acts b.events b.turn i) ∙ sym (flat-append a.groups gs)));
+        together = ap but_glances b.own ∙ (but-append (events_by j m) b.events
+            ∙ ((λ i. a.together i ++ but_turn plan j _ k b.visits b.acts b.events b.turn i) ∙ sym (flat-append a.groups gs)));
         unbroken = subst (Stands (a.groups ++ gs)) (sym b.grows) (stands-append a.groups gs m b.more a.unbroken b.stands);
         then = b.then;
       }
 
-  pub turns_in_rounds : (players players' : List Player) (n : ℕ) (idle : Bool) (h : List Event) → Distinct (jobs_in players) → Any (IsOf no_wait) players → Rounds plan players n idle [] h players' → TurnsIn n h players'
+  pub turns_in_rounds : (players players' : List Player) (n : ℕ) (idle : Bool) (h : List Event) → Distinct (jobs_in players)
+      → Any (IsOf no_wait) players → Rounds plan players n idle [] h players' → TurnsIn n h players'
   turns_in_rounds players players' zero idle h apart any is = record {
     waited = no_wait;
     groups = [];
@@ -187,4 +196,5 @@ module _ (plan : LabPlan) (j : ℕ) where
   }
   turns_in_rounds players players' (suc n) idle h apart any (m, before, middle, rounds, going, last) =
       let a = turns_in_rounds players middle n before m apart any rounds in
-      one_more_turn n m h middle players' a (round_turn a.waited middle players' idle m h (subst Distinct (sym (rounds_jobs plan players middle n before [] m rounds)) apart) a.then last)
+      one_more_turn n m h middle players' a
+      (round_turn a.waited middle players' idle m h (subst Distinct (sym (rounds_jobs plan players middle n before [] m rounds)) apart) a.then last)

@@ -34,7 +34,9 @@ module _ {A : Type 0} where
 
   each_swap : (P : A → Type 0) (l : List A) (i j : ℕ) → i < length l → j < length l → Each P l → Each P (swap l i j)
   each_swap P [] i j h k e = e
-  each_swap P (y ∷ l) i j h k e = each_but P (set (y ∷ l) i (get_or (y ∷ l) j y)) j (get_or (y ∷ l) i y) (each_but P (y ∷ l) i (get_or (y ∷ l) j y) e (each_get P (y ∷ l) j y k e)) (each_get P (y ∷ l) i y h e)
+  each_swap P (y ∷ l) i j h k e =
+      each_but P (set (y ∷ l) i (get_or (y ∷ l) j y)) j (get_or (y ∷ l) i y)
+      (each_but P (y ∷ l) i (get_or (y ∷ l) j y) e (each_get P (y ∷ l) j y k e)) (each_get P (y ∷ l) i y h e)
 
   pub each_perm : (P : A → Type 0) (xs ys : List A) → IsPermutation xs ys → Each P xs → Each P ys
   each_perm P xs ys perm all = IsPermutation-keeps xs (Each P) all (λ l i j h k e. each_swap P l i j h k e) ys perm
@@ -81,18 +83,26 @@ none_times m (j ∷ js) e = ap (λ (b : Bool). (if b then 1 else 0) + times m js
 
 times_none : (m : ℕ) (js : List ℕ) → times m js ≡ 0 → Each (λ (k : ℕ). k ≢ m) js
 times_none m [] e = tt
-times_none m (j ∷ js) e = ((λ is. let q : times m (j ∷ js) ≡ 1 + times m js = ap (λ (b : Bool). (if b then 1 else 0) + times m js) (eq-eqb j m is) in absurd (omega arith)), times_none m js (omega arith))
+times_none m (j ∷ js) e = (
+  (λ is. let q : times m (j ∷ js) ≡ 1 + times m js = ap (λ (b : Bool). (if b then 1 else 0) + times m js) (eq-eqb j m is) in absurd (omega arith)),
+  times_none m js (omega arith),
+)
 
 distinct_times : (js : List ℕ) → Distinct js → (m : ℕ) → times m js ≤ 1
 distinct_times [] d m = omega arith
 distinct_times (j ∷ js) d m = ⊎_elim
-    (λ (is : j ≡ m). let q : times m (j ∷ js) ≡ 1 + times m js = ap (λ (b : Bool). (if b then 1 else 0) + times m js) (eq-eqb j m is) in let n = none_times m js (subst (λ z. Each (λ (k : ℕ). k ≢ z) js) is d.0) in omega arith)
-    (λ (other : j ≢ m). let q : times m (j ∷ js) ≡ 0 + times m js = ap (λ (b : Bool). (if b then 1 else 0) + times m js) (ne_eqb j m other) in let n = distinct_times js d.1 m in omega arith) (cases_eq j m)
+    (λ (is : j ≡ m). let q : times m (j ∷ js) ≡ 1 + times m js = ap (λ (b : Bool). (if b then 1 else 0) + times m js)
+    (eq-eqb j m is) in let n = none_times m js (subst (λ z. Each (λ (k : ℕ). k ≢ z) js) is d.0) in omega arith)
+    (λ (other : j ≢ m). let q : times m (j ∷ js) ≡ 0 + times m js = ap (λ (b : Bool). (if b then 1 else 0) + times m js) (ne_eqb j m other) in
+    let n = distinct_times js d.1 m in
+    omega arith) (cases_eq j m)
 
 times_distinct : (js : List ℕ) → ((m : ℕ) → times m js ≤ 1) → Distinct js
 times_distinct [] f = tt
 times_distinct (j ∷ js) f = (
-  times_none j js (let q : times j (j ∷ js) ≡ 1 + times j js = ap (λ (b : Bool). (if b then 1 else 0) + times j js) (eq-eqb j j refl) in let l = f j in omega arith),
+  times_none j js (let q : times j (j ∷ js) ≡ 1 + times j js = ap (λ (b : Bool). (if b then 1 else 0) + times j js) (eq-eqb j j refl) in
+      let l = f j in
+      omega arith),
   times_distinct js (λ m. let l = f m in omega arith),
 )
 
@@ -106,7 +116,10 @@ job_of d = d.job
 
 ascends : (l : List DeskView) → IsNonDecreasingBy job_of l → Distinct (jobs_of l) → Ascending (jobs_of l)
 ascends [] rises apart = tt
-ascends (d ∷ l) rises apart = (above l (each_index (λ (e : DeskView). d.job ≤ e.job) l d (λ k h. rises 0 (suc k) d (omega arith) (omega arith))) apart.0, ascends l (λ i j x le lt. rises (suc i) (suc j) x (omega arith) (omega arith)) apart.1) where
+ascends (d ∷ l) rises apart = (
+  above l (each_index (λ (e : DeskView). d.job ≤ e.job) l d (λ k h. rises 0 (suc k) d (omega arith) (omega arith))) apart.0,
+  ascends l (λ i j x le lt. rises (suc i) (suc j) x (omega arith) (omega arith)) apart.1,
+) where
   above : (l : List DeskView) → Each (λ (e : DeskView). d.job ≤ e.job) l → Each (λ (k : ℕ). k ≢ d.job) (jobs_of l) → Each (λ (k : ℕ). d.job < k) (jobs_of l)
   above [] a b = tt
   above (e ∷ l) a b = (let le : d.job ≤ e.job = a.0 in let ne : e.job ≢ d.job = b.0 in omega arith, above l a.1 b.1)
@@ -114,14 +127,19 @@ ascends (d ∷ l) rises apart = (above l (each_index (λ (e : DeskView). d.job �
 pairs_from : (R : DeskView → DeskView → Type 0) (old new : List DeskView) → Pairs R old new → FromOne R old new
 pairs_from R [] new is = subst (FromOne R []) (sym is) tt
 pairs_from R (d ∷ old) [] never = absurd never
-pairs_from R (d ∷ old) (e ∷ new) t = (inl t.0, each_map (λ (x : DeskView). Any (λ (y : DeskView). R y x) old) (λ (x : DeskView). Any (λ (y : DeskView). R y x) (d ∷ old)) (λ x h. inr h) new (pairs_from R old new t.1))
+pairs_from R (d ∷ old) (e ∷ new) t = (
+  inl t.0,
+  each_map (λ (x : DeskView). Any (λ (y : DeskView). R y x) old)
+      (λ (x : DeskView). Any (λ (y : DeskView). R y x) (d ∷ old)) (λ x h. inr h) new (pairs_from R old new t.1),
+)
 
 pairs_jobs : (n : ℕ) (old new : List DeskView) → Pairs (TookUpTo n) old new → jobs_of new ≡ jobs_of old
 pairs_jobs n [] new is = ap jobs_of is
 pairs_jobs n (d ∷ old) [] never = absurd never
 pairs_jobs n (d ∷ old) (e ∷ new) t = λ i. t.0.2.grew.job i ∷ pairs_jobs n old new t.1 i
 
-met_from : (R : DeskView → DeskView → Type 0) → ((d m e : DeskView) (l : List DeskView) → R d m → Hears m l e → R d e) → (old mid new : List DeskView) → Met mid new → FromOne R old mid → FromOne R old new
+met_from : (R : DeskView → DeskView → Type 0) → ((d m e : DeskView) (l : List DeskView) → R d m → Hears m l e → R d e)
+    → (old mid new : List DeskView) → Met mid new → FromOne R old mid → FromOne R old new
 met_from R f old [] new is t = subst (FromOne R old) (sym is) tt
 met_from R f old (m ∷ mid) new (e, is, h) t = subst (FromOne R old) (sym is) (any_more old t.0, t.1) where
   any_more : (old : List DeskView) → Any (λ (d : DeskView). R d m) old → Any (λ (d : DeskView). R d e) old
@@ -145,18 +163,23 @@ all_by plan old new all perm = record {
 
 -- ---- from the sort before to the meeting after
 
-module _ (b : BenchView) (turns : ℕ) (old mid back sorted new : List DeskView) (owned : Each (Owns b) old) (all : HasAll b.plan old) (first : IsPermutation old mid) where
+module _ (b : BenchView) (turns : ℕ) (old mid back sorted new : List DeskView)
+    (owned : Each (Owns b) old) (all : HasAll b.plan old) (first : IsPermutation old mid) where
   pub own_mid : Each (Owns b) mid
   own_mid = each_perm (Owns b) old mid first owned
 
   module _ (t : Worked turns mid back) (last : IsPermutation back sorted) where
     pub own_sorted : Each (Owns b) sorted
-    own_sorted = each_perm (Owns b) back sorted last (pairs_each (TookUpTo turns) (Owns b) (Owns b) (λ d e a o. (a.2.grew.table ∙ o.0, a.2.grew.plan ∙ o.1)) mid back t.took own_mid)
+    own_sorted = each_perm (Owns b) back sorted last
+        (pairs_each (TookUpTo turns) (Owns b) (Owns b) (λ d e a o. (a.2.grew.table ∙ o.0, a.2.grew.plan ∙ o.1)) mid back t.took own_mid)
 
     all_sorted : HasAll b.plan sorted
-    all_sorted = all_by b.plan back sorted (all_by b.plan mid back (all_by b.plan old mid all (IsPermutation-map job_of old mid first)) (same_jobs (sym (pairs_jobs turns mid back t.took)))) (IsPermutation-map job_of back sorted last) where
-      same_jobs : jobs_of mid ≡ jobs_of back → IsPermutation (jobs_of mid) (jobs_of back)
-      same_jobs is = subst (IsPermutation (jobs_of mid)) is (IsPermutation-refl (jobs_of mid))
+    all_sorted =
+        all_by b.plan back
+        sorted (all_by b.plan mid back (all_by b.plan old mid all (IsPermutation-map job_of old mid first))
+        (same_jobs (sym (pairs_jobs turns mid back t.took)))) (IsPermutation-map job_of back sorted last) where
+          same_jobs : jobs_of mid ≡ jobs_of back → IsPermutation (jobs_of mid) (jobs_of back)
+          same_jobs is = subst (IsPermutation (jobs_of mid)) is (IsPermutation-refl (jobs_of mid))
 
     pub apart_sorted : Distinct (jobs_of sorted)
     apart_sorted = all_sorted.once
@@ -171,10 +194,12 @@ module _ (b : BenchView) (turns : ℕ) (old mid back sorted new : List DeskView)
         once = subst Distinct (sym knows.jobs) all_sorted.once;
       }
 
-      from_old : (R : DeskView → DeskView → Type 0) → ((d m e : DeskView) (l : List DeskView) → R d m → Hears m l e → R d e) → Pairs R mid back → FromOne R old new
+      from_old : (R : DeskView → DeskView → Type 0)
+          → ((d m e : DeskView) (l : List DeskView) → R d m → Hears m l e → R d e) → Pairs R mid back → FromOne R old new
       from_old R f q = met_from R f old sorted new met
           (each_perm (λ (e : DeskView). Any (λ (d : DeskView). R d e) old) back sorted last
-          (each_map (λ (e : DeskView). Any (λ (d : DeskView). R d e) mid) (λ (e : DeskView). Any (λ (d : DeskView). R d e) old) (λ e any. any_among (λ (d : DeskView). R d e) mid old (each_in old mid first) any) back (pairs_from R mid back q)))
+          (each_map (λ (e : DeskView). Any (λ (d : DeskView). R d e) mid) (λ (e : DeskView). Any (λ (d : DeskView). R d e) old)
+          (λ e any. any_among (λ (d : DeskView). R d e) mid old (each_in old mid first) any) back (pairs_from R mid back q)))
 
       -- the history that the first desk has seen at the end
       abbrev F : List Event
@@ -184,13 +209,18 @@ module _ (b : BenchView) (turns : ℕ) (old mid back sorted new : List DeskView)
       all_seen : Any (λ (e : DeskView). AllRetired e.plan e.front) back → AllRetired b.plan F
       all_seen any = any_each (λ (e : DeskView). AllRetired e.plan e.front) (λ (e : DeskView). Owns b e × StartsWith F e.front) (AllRetired b.plan F) sorted
           (λ e done q j inside. let is : AllRetired b.plan e.front = subst (λ (p : LabPlan). AllRetired p e.front) q.0.1 done in
-          subst (λ (h : List Event). AllRetired b.plan h) (sym q.1.1) (λ k l. retired_on b.plan k e.front q.1.0 (subst (IsHistory b.plan) q.1.1 knows.company.legal) (is k l)) j inside)
+          subst (λ (h : List Event). AllRetired b.plan h) (sym q.1.1)
+          (λ k l. retired_on b.plan k e.front q.1.0 (subst (IsHistory b.plan) q.1.1 knows.company.legal) (is k l)) j inside)
           (any_perm (λ (e : DeskView). AllRetired e.plan e.front) back sorted last any)
-          (zip_each (Owns b) (λ (e : DeskView). StartsWith F e.front) (λ (e : DeskView). Owns b e × StartsWith F e.front) (λ e o s. (o, s)) sorted own_sorted knows.starts)
+          (zip_each (Owns b) (λ (e : DeskView). StartsWith F e.front)
+          (λ (e : DeskView). Owns b e × StartsWith F e.front) (λ e o s. (o, s)) sorted own_sorted knows.starts)
 
       full : all_retired new ≡ false → FromOne (TookTurns turns) old new
-      full not_all = ⊎_elim (λ (q : Pairs (TookTurns turns) mid back). from_old (TookTurns turns) (λ d m e l r h. took_then turns d m e r (grows.hearing_alone m e l h)) q)
-          (λ (any : Any (λ (e : DeskView). AllRetired e.plan e.front) back). let w : true ≡ false = sym (then_retired b F new knows.company (all_of b.plan new all_new) (all_seen any)) ∙ not_all in absurd (cc)) t.full
+      full not_all =
+          ⊎_elim (λ (q : Pairs (TookTurns turns) mid back). from_old (TookTurns turns) (λ d m e l r h. took_then turns d m e r (grows.hearing_alone m e l h)) q)
+          (λ (any : Any (λ (e : DeskView). AllRetired e.plan e.front) back). let w : true
+          ≡ false = sym (then_retired b F new knows.company (all_of b.plan new all_new) (all_seen any)) ∙ not_all in
+          absurd (cc)) t.full
 
       pub driven : Driven b turns old new
       driven = record {
@@ -203,4 +233,10 @@ module _ (b : BenchView) (turns : ℕ) (old mid back sorted new : List DeskView)
 
 -- no desks at all
 pub driven_none : (b : BenchView) (turns : ℕ) → HasAll b.plan [] → Driven b turns [] []
-driven_none b turns all = record { order = tt; all = all; took = tt; full = λ _. tt; company = record { own = tt; rest = tt; legal = tt; starts = tt; whole = tt } }
+driven_none b turns all = record {
+  order = tt;
+  all = all;
+  took = tt;
+  full = λ _. tt;
+  company = record { own = tt; rest = tt; legal = tt; starts = tt; whole = tt };
+}

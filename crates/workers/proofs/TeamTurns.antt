@@ -55,7 +55,8 @@ module _ (R : DeskView → DeskView → Type 0) where
   pairs_map S f (d ∷ old) [] never = absurd never
   pairs_map S f (d ∷ old) (e ∷ new) t = (f d e t.0, pairs_map S f old new t.1)
 
-  pub pairs_then : (S T : DeskView → DeskView → Type 0) → ((d m e : DeskView) → R d m → S m e → T d e) → (old mid new : List DeskView) → Pairs R old mid → Pairs S mid new → Pairs T old new
+  pub pairs_then : (S T : DeskView → DeskView → Type 0) → ((d m e : DeskView) → R d m → S m e → T d e)
+      → (old mid new : List DeskView) → Pairs R old mid → Pairs S mid new → Pairs T old new
   pairs_then S T f [] mid new is t = let P : List DeskView → Type 0 = λ z. Pairs S z new in subst P is t
   pairs_then S T f (d ∷ old) [] new never t = absurd never
   pairs_then S T f (d ∷ old) (m ∷ mid) [] s never = absurd never
@@ -73,14 +74,19 @@ module _ (R : DeskView → DeskView → Type 0) where
   Ahead (suc k) (d ∷ old) [] = ⊥
   Ahead (suc k) (d ∷ old) (e ∷ new) = R d e × Ahead k old new
 
-  ahead_next : (k : ℕ) (old new : List DeskView) (x y : DeskView) → k < length new → x ≡ get_or new k x → R x y → Ahead k old new → Ahead (suc k) old (set new k y)
+  ahead_next : (k : ℕ) (old new : List DeskView) (x y : DeskView) → k < length new
+      → x ≡ get_or new k x → R x y → Ahead k old new → Ahead (suc k) old (set new k y)
   ahead_next k old [] x y inside is r a = absurd (omega arith)
   ahead_next zero [] (e ∷ new) x y inside is r a = absurd (cc)
-  ahead_next zero (d ∷ old) (e ∷ new) x y inside is r a = let h : e ≡ d = ap (λ l. get_or l 0 e) a in let t : new ≡ old = cc in (subst (λ z. R z y) (is ∙ h) r, t)
+  ahead_next zero (d ∷ old) (e ∷ new) x y inside is r a =
+      let h : e ≡ d = ap (λ l. get_or l 0 e) a in
+      let t : new ≡ old = cc in
+      (subst (λ z. R z y) (is ∙ h) r, t)
   ahead_next (suc k) [] (e ∷ new) x y inside is r a = absurd (cc)
   ahead_next (suc k) (d ∷ old) (e ∷ new) x y inside is r a = (a.0, ahead_next k old new x y (omega arith) is r a.1)
 
-  pub ahead_more : (k : ℕ) (old new : List DeskView) (x y : DeskView) → k < length new → x ≡ get_or new k x → R x y → Ahead k old new → Ahead (k + 1) old (set new k y)
+  pub ahead_more : (k : ℕ) (old new : List DeskView) (x y : DeskView) → k < length new
+      → x ≡ get_or new k x → R x y → Ahead k old new → Ahead (k + 1) old (set new k y)
   ahead_more k old new x y inside is r a = subst (λ n. Ahead n old (set new k y)) (sym (add-one k)) (ahead_next k old new x y inside is r a)
 
   pub ahead_all : (k : ℕ) (old new : List DeskView) → k ≡ length old → Ahead k old new → Pairs R old new
@@ -91,7 +97,8 @@ module _ (R : DeskView → DeskView → Type 0) where
   ahead_all (suc k) (d ∷ old) (e ∷ new) is a = (a.0, ahead_all k old new (omega arith) a.1)
 
   -- a desk that isn't there yet is as it was
-  pub ahead_at : (P : DeskView → Type 0) (k : ℕ) (old new : List DeskView) (x : DeskView) → k < length new → x ≡ get_or new k x → Each P old → Ahead k old new → P x
+  pub ahead_at : (P : DeskView → Type 0) (k : ℕ) (old new : List DeskView) (x : DeskView)
+      → k < length new → x ≡ get_or new k x → Each P old → Ahead k old new → P x
   ahead_at P zero old [] x inside is all a = absurd (omega arith)
   ahead_at P zero [] (e ∷ new) x inside is all a = absurd (cc)
   ahead_at P zero (d ∷ old) (e ∷ new) x inside is all a = let h : e ≡ d = ap (λ l. get_or l 0 e) a in subst P (sym (is ∙ h)) all.0
@@ -114,7 +121,8 @@ none_took (d ∷ l) = (took_none d, none_took l)
 -- ---- a worker's rounds
 
 -- a round, after which the first glances at all others
-module _ (n : ℕ) (old mid new : List DeskView) (x y : DeskView) (t : Pairs (TookTurns n) old mid) (s : Pairs (TookTurns 1) mid new) (some : 0 < length new) (is : x ≡ get_or new 0 x) where
+module _ (n : ℕ) (old mid new : List DeskView) (x y : DeskView) (t : Pairs (TookTurns n) old mid)
+    (s : Pairs (TookTurns 1) mid new) (some : 0 < length new) (is : x ≡ get_or new 0 x) where
   pub round_took : (r : Bool) → Glanced x r y → Pairs (TookTurns (n + 1)) old (set new 0 y)
   round_took r g = first old new (pairs_then (TookTurns n) (TookTurns 1) (TookTurns (n + 1)) (λ d m e a b. took_more n d m e a b) old mid new t s) some is where
     first : (old new : List DeskView) → Pairs (TookTurns (n + 1)) old new → 0 < length new → x ≡ get_or new 0 x → Pairs (TookTurns (n + 1)) old (set new 0 y)
@@ -154,7 +162,8 @@ pub worked_both : (turns : ℕ) (a a' b b' : List DeskView) → Worked turns a a
 worked_both turns a a' b b' s t = let Seen : DeskView → Type 0 = λ e. AllRetired e.plan e.front in record {
   took = pairs-append (TookUpTo turns) a a' b b' s.took t.took;
   full = ⊎_elim
-      (λ (f : Pairs (TookTurns turns) a a'). ⊎_elim (λ (g : Pairs (TookTurns turns) b b'). inl (pairs-append (TookTurns turns) a a' b b' f g)) (λ (g : Any Seen b'). inr (any_right Seen a' b' g)) t.full)
+      (λ (f : Pairs (TookTurns turns) a a'). ⊎_elim (λ (g : Pairs (TookTurns turns) b b'). inl (pairs-append (TookTurns turns) a a' b b' f g))
+      (λ (g : Any Seen b'). inr (any_right Seen a' b' g)) t.full)
       (λ (f : Any Seen a'). inr (any_left Seen a' b' f)) s.full;
 }
 
@@ -199,12 +208,15 @@ chunks_from turns size (suc fuel) (d ∷ old) new some few same each =
         next : (n : ℕ) → suc n * size ≡ size + n * size
         next n = omega arith
 
-      later : (n : ℕ) → Worked turns (slice_chunk (d ∷ old) size (suc n)) (slice_chunk new size (suc n)) → Worked turns (slice_chunk (drop size (d ∷ old)) size n) (slice_chunk (drop size new) size n)
-      later n w = subst (λ (z : List DeskView × List DeskView). Worked turns (take size z.0) (take size z.1)) (λ i. (sym (at (d ∷ old)) i, sym (at new) i)) w where
-        at : (l : List DeskView) → drop (n * size) (drop size l) ≡ drop (suc n * size) l
-        at l = drop-drop (n * size) size l ∙ ap (λ k. drop k l) next where
-          next : size + n * size ≡ suc n * size
-          next = omega arith
+      later : (n : ℕ) → Worked turns (slice_chunk (d ∷ old) size (suc n)) (slice_chunk new size (suc n))
+          → Worked turns (slice_chunk (drop size (d ∷ old)) size n) (slice_chunk (drop size new) size n)
+      later n w =
+          subst (λ (z : List DeskView × List DeskView). Worked turns (take size z.0) (take size z.1)) (λ i. (sym (at (d ∷ old)) i, sym (at new) i)) w where
+            at : (l : List DeskView) → drop (n * size) (drop size l) ≡ drop (suc n * size) l
+            at l = drop-drop (n * size) size l ∙ ap (λ k. drop k l) next where
+              next : size + n * size ≡ suc n * size
+              next = omega arith
 
-pub chunks_worked : (turns size : ℕ) (old new : List DeskView) → 0 < size → length new ≡ length old → ((n : ℕ) → n * size < length old → Worked turns (slice_chunk old size n) (slice_chunk new size n)) → Worked turns old new
+pub chunks_worked : (turns size : ℕ) (old new : List DeskView) → 0 < size → length new ≡ length old
+    → ((n : ℕ) → n * size < length old → Worked turns (slice_chunk old size n) (slice_chunk new size n)) → Worked turns old new
 chunks_worked turns size old new some same each = chunks_from turns size (length old) old new some (omega arith) same each

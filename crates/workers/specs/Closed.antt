@@ -24,7 +24,10 @@ pub record TurnsSince (n : ℕ) (d : DeskView) (history : List Event) : Type 0 w
   pub goes_on : history ≡ d.front ++ more
   pub unbroken : Stands groups more
 
--- Of desks that workers drove and a bench that was then closed with them: each job took whole turns in the history, at most so many, and so many where not all are retired
+-- Of desks that workers drove and a bench that was then closed with them: each job took whole turns in the history, at most so many, and so many where not all
+-- are retired
 abbrev pub TurnsInHistory : Type 0
 TurnsInHistory = (b : BenchView) (turns : ℕ) (old new : List DeskView) (c : ClosedView) → Driven b turns old new → (end : IsEnd b.plan new c)
-    → Each (λ (e : DeskView). Any (λ (d : DeskView). (e.job ≡ d.job) × ((n : ℕ) × (n ≤ turns) × (all_retired new ≡ false → n ≡ turns) × TurnsSince n d end.history)) old) new
+    → Each
+    (λ (e : DeskView). Any
+    (λ (d : DeskView). (e.job ≡ d.job) × ((n : ℕ) × (n ≤ turns) × (all_retired new ≡ false → n ≡ turns) × TurnsSince n d end.history)) old) new

@@ -33,7 +33,8 @@ abbrev pub Ascending : List ℕ → Type 0
 Ascending [] = Unit {0}
 Ascending (j ∷ js) = Each (λ (k : ℕ). j < k) js × Ascending js
 
--- Every desk came back, in ascending order of the jobs. Each took whole turns, and all that were asked for where not every desk is retired. The first has seen all records whole
+-- Every desk came back, in ascending order of the jobs. Each took whole turns, and all that were asked for where not every desk is retired. The first has seen
+-- all records whole
 pub record Driven (b : BenchView) (turns : ℕ) (old new : List DeskView) : Type 0 where
   pub order : Ascending (jobs_of new)
   pub all : HasAll b.plan new

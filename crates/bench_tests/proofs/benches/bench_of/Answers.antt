@@ -7,4 +7,5 @@ use Rattle.bench_tests.proofs.benches.bench_of.Goals as goal
 
 pub returns : goal.returns
 returns g c = let b : BenchView = c.in-Ok.made.0 in
-    subst (Each (Owns b)) (sym c.in-Ok.ensures.1) (subst (λ (p : LabPlan). Each (Owns b) (fresh_desks b.table p (length p.jobs))) c.in-Ok.ensures.0 (opened b (length b.plan.jobs)))
+    subst (Each (Owns b)) (sym c.in-Ok.ensures.1)
+    (subst (λ (p : LabPlan). Each (Owns b) (fresh_desks b.table p (length p.jobs))) c.in-Ok.ensures.0 (opened b (length b.plan.jobs)))

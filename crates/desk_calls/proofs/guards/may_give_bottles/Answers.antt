@@ -3,4 +3,6 @@ use Rattle.desk_calls.proofs.Subsets.{may_give}
 use Rattle.desk_calls.proofs.guards.may_give_bottles.Goals as goal
 
 pub returns-then-set-ne0 : goal.returns-then-set-ne0
-returns-then-set-ne0 g0 c = may_give c.args.desk.now.plan (known c.args.desk.now) c.args.desk.now.job c.args.edge c.args.set c.all_gifts.result c.requires.edge c.all_gifts.ensures c.if-set-ne0.true
+returns-then-set-ne0 g0 c =
+    may_give c.args.desk.now.plan (known c.args.desk.now) c.args.desk.now.job c.args.edge
+    c.args.set c.all_gifts.result c.requires.edge c.all_gifts.ensures c.if-set-ne0.true

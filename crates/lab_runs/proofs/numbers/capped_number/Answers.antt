@@ -15,4 +15,5 @@ loop-byte-preserved c =
     let xs = c.args.word.now in
     let i = c.loop-byte.byte-index in
     let more = ap (value_after 0) (take_more xs i 0 c.loop-byte-test.true) ∙ value_more 0 (take i xs) (get_or xs i 0) in
-    capped (value_after 0 (take i xs)) (value_after 0 (take (i + 1) xs)) c.loop-byte.number c.min-number.result (get_or xs i 0 - 48) c.loop-byte.invariant more c.min-number.ensures
+    capped (value_after 0 (take i xs)) (value_after 0 (take (i + 1) xs)) c.loop-byte.number c.min-number.result
+    (get_or xs i 0 - 48) c.loop-byte.invariant more c.min-number.ensures

@@ -59,15 +59,19 @@ pub returns-then-number-from-clause-number : goal.returns-then-number-from-claus
 unfolding number_within
 returns-then-number-from-clause-number c =
     let word = c.args.word.now in
-    let small = below c.args.least (number_of word) c.capped_number-number.result c.requires.0 c.capped_number-number.ensures (omega (arith, c.if-number-from.true, c.from.ensures)) in
+    let small = below c.args.least (number_of word) c.capped_number-number.result c.requires.0 c.capped_number-number.ensures
+    (omega (arith, c.if-number-from.true, c.from.ensures)) in
     no_number _ (number_of word) (second_fails (are_digits word) _ (first_fails _ _ (lt-leb c.args.least (number_of word) small)))
 
 pub returns-then-from-number-clause-number : goal.returns-then-from-number-clause-number
 unfolding number_within
 returns-then-from-number-clause-number c =
     let word = c.args.word.now in
-    let large = above c.args.most (number_of word) c.capped_number-number.result c.capped_number-number.ensures (omega (arith, c.if-from-number.true, c.from-2.ensures)) in
-    no_number _ (number_of word) (second_fails (are_digits word) _ (second_fails (nat_le c.args.least (number_of word)) _ (lt-leb (number_of word) c.args.most large)))
+    let large =
+    above c.args.most (number_of word) c.capped_number-number.result c.capped_number-number.ensures
+    (omega (arith, c.if-from-number.true, c.from-2.ensures)) in
+    no_number _ (number_of word)
+    (second_fails (are_digits word) _ (second_fails (nat_le c.args.least (number_of word)) _ (lt-leb (number_of word) c.args.most large)))
 
 pub returns-clause-number : goal.returns-clause-number
 unfolding number_within

@@ -6,5 +6,8 @@ pub returns-in_err-read_piece-clause-most : goal.returns-in_err-read_piece-claus
 returns-in_err-read_piece-clause-most g c =
     let (front, within, well) = c.loop-source.invariant in
     let (piece, few, taken) = c.read_piece.ensures.most in
-    let before = c.loop-source.bytes in
-    (before.items ++ piece, omega (arith, length-append before.items piece, before.ok.0, few, within, c.loop-source-test.true), Consumes-trans _ _ _ _ _ front taken)
+    let before = c.loop-source.bytes in (
+      before.items ++ piece,
+      omega (arith, length-append before.items piece, before.ok.0, few, within, c.loop-source-test.true),
+      Consumes-trans _ _ _ _ _ front taken,
+    )

@@ -5,7 +5,8 @@ use Rattle.lab_runs.proofs.replaying.take_steps.Goals as goal
 
 pub offset_bounds-steps-place : goal.offset_bounds-steps-place
 offset_bounds-steps-place g c =
-    let inside : c.in-Err.place < length c.args.steps.now = omega (arith, c.in-Err.ensures.0.inside, step_events_length c.args.world.now.plan c.args.world.now.state c.args.steps.now) in
+    let inside : c.in-Err.place < length c.args.steps.now =
+    omega (arith, c.in-Err.ensures.0.inside, step_events_length c.args.world.now.plan c.args.world.now.state c.args.steps.now) in
     search rules
 
 pub bounds-steps-place-in-Err : goal.bounds-steps-place-in-Err
@@ -16,5 +17,6 @@ bounds-steps-place g c = omega (arith, c.in-Err.ensures.0.inside, step_events_le
 
 pub returns-in-Err : goal.returns-in-Err
 returns-in-Err g c =
-    let inside : c.in-Err.place < length c.args.steps.now = omega (arith, c.in-Err.ensures.0.inside, step_events_length c.args.world.now.plan c.args.world.now.state c.args.steps.now) in
+    let inside : c.in-Err.place < length c.args.steps.now =
+    omega (arith, c.in-Err.ensures.0.inside, step_events_length c.args.world.now.plan c.args.world.now.state c.args.steps.now) in
     (c.in-Err.place, c.in-Err.ensures.0, line_at c.args.steps.now c.in-Err.place c.index-steps-place.result inside)

@@ -9,7 +9,8 @@ use Rattle.lab_runs.proofs.running.upgrade.Goals as goal
 
 pub returns-in_err-plan-clause-answer : goal.returns-in_err-plan-clause-answer
 returns-in_err-plan-clause-answer g c =
-    ends_with Upgrades ScriptRefuses _ _ _ c.from_residual.result (Script c.in_err-plan.field-0.0) c.from_residual.ensures.1 (c.in_err-plan.ensures, Keeps-refl _)
+    ends_with Upgrades ScriptRefuses _ _ _ c.from_residual.result
+    (Script c.in_err-plan.field-0.0) c.from_residual.ensures.1 (c.in_err-plan.ensures, Keeps-refl _)
 
 pub returns-in_err-send_script-clause-answer : goal.returns-in_err-send_script-clause-answer
 returns-in_err-send_script-clause-answer g c =
@@ -22,7 +23,8 @@ returns-in_err-send_script-clause-answer g c =
       short = c.upgrade_is_short.ensures plan c.jobs.ensures.plan;
       ends = refl;
     } in
-    ends_with Upgrades ScriptRefuses _ _ _ c.from_residual-in_err-send_script.result Write c.from_residual-in_err-send_script.ensures.1 (script_text plan, Finished, upgrades, c.in_err-send_script.ensures.0)
+    ends_with Upgrades ScriptRefuses _ _ _ c.from_residual-in_err-send_script.result Write c.from_residual-in_err-send_script.ensures.1
+    (script_text plan, Finished, upgrades, c.in_err-send_script.ensures.0)
 
 pub returns-clause-answer : goal.returns-clause-answer
 returns-clause-answer g c =

@@ -11,7 +11,8 @@ use Rattle.lab_runs.proofs.sharing.by_workers.Goals as goal
 
 pub returns-in_err-plan-clause-answer : goal.returns-in_err-plan-clause-answer
 returns-in_err-plan-clause-answer g c =
-    ends_with (RunsByTurns c.args.turns) ScriptRefuses _ _ _ c.from_residual.result (Script c.in_err-plan.field-0.0) c.from_residual.ensures.1 (c.in_err-plan.ensures, Keeps-refl _)
+    ends_with (RunsByTurns c.args.turns) ScriptRefuses _ _ _ c.from_residual.result
+    (Script c.in_err-plan.field-0.0) c.from_residual.ensures.1 (c.in_err-plan.ensures, Keeps-refl _)
 
 pub returns-in_err-send_report-clause-answer : goal.returns-in_err-send_report-clause-answer
 returns-in_err-send_report-clause-answer g c =
@@ -20,7 +21,8 @@ returns-in_err-send_report-clause-answer g c =
     ends_with (RunsByTurns c.args.turns) ScriptRefuses _ _ _ c.from_residual-in_err-send_report.result Write c.from_residual-in_err-send_report.ensures.1 (
       report_of run.plan (shown_in run),
       outcome,
-      runs_by_turns c.one_report.ensures c.holds_of_every_run.ensures c.args.input.now c.in_ok-plan.plan c.args.turns run outcome c.in_ok-plan.ensures refl c.in_ok-run.ensures,
+      runs_by_turns c.one_report.ensures c.holds_of_every_run.ensures c.args.input.now
+          c.in_ok-plan.plan c.args.turns run outcome c.in_ok-plan.ensures refl c.in_ok-run.ensures,
       c.in_err-send_report.ensures.0,
     )
 
@@ -28,6 +30,7 @@ pub returns-clause-answer : goal.returns-clause-answer
 returns-clause-answer g c =
     let run = c.in_ok-run.run' in (
       report_of run.plan (shown_in run),
-      runs_by_turns c.one_report.ensures c.holds_of_every_run.ensures c.args.input.now c.in_ok-plan.plan c.args.turns run c.outcome_of.result c.in_ok-plan.ensures c.outcome_of.ensures c.in_ok-run.ensures,
+      runs_by_turns c.one_report.ensures c.holds_of_every_run.ensures c.args.input.now c.in_ok-plan.plan
+          c.args.turns run c.outcome_of.result c.in_ok-plan.ensures c.outcome_of.ensures c.in_ok-run.ensures,
       c.in_ok-send_report.ensures.0,
     )

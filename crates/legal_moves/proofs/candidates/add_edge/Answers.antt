@@ -12,10 +12,12 @@ loop-bottle-preserved g c =
     let k = c.loop-bottle.bottle in
     let small : k < n = omega arith in
     let inside : k < length (range_with_len 0 n) = omega (arith, small, length-range_with_len 0 n) in
-    adds_more (bottle_moves c.args.job c.args.edge) (range_with_len 0 n) k k _ _ _ inside (number_at n k small) c.loop-bottle.invariant c.in_ok-add_bottle.ensures
+    adds_more (bottle_moves c.args.job c.args.edge) (range_with_len 0 n) k k _ _ _ inside
+    (number_at n k small) c.loop-bottle.invariant c.in_ok-add_bottle.ensures
 
 pub returns : goal.returns
 returns g c =
     let n = length (bottles c.args.plan.now c.args.edge) in
     let past : length (range_with_len 0 n) ≤ c.loop-bottle.bottle = omega (arith, length-range_with_len 0 n) in
-    adds_all (bottle_moves c.args.job c.args.edge) (range_with_len 0 n) c.loop-bottle.bottle _ (fork_moves c.args.job c.args.edge) _ past c.loop-bottle.invariant
+    adds_all (bottle_moves c.args.job c.args.edge) (range_with_len 0 n) c.loop-bottle.bottle _
+    (fork_moves c.args.job c.args.edge) _ past c.loop-bottle.invariant

@@ -5,4 +5,5 @@ use Rattle.legal_moves.specs.Moves.{fork_moves, bottle_moves}
 use Rattle.legal_moves.proofs.candidates.add_edge.Given as goal
 
 abbrev pub invariant-loop-bottle : goal.invariant-loop-bottle
-invariant-loop-bottle g l = l.moves.items ≡ (l.fn.moves.items ++ fork_moves l.job l.edge) ++ flat_map (bottle_moves l.job l.edge) (take l.bottle (range_with_len 0 (length (bottles l.plan l.edge))))
+invariant-loop-bottle g l = l.moves.items ≡ (l.fn.moves.items ++ fork_moves l.job l.edge)
+    ++ flat_map (bottle_moves l.job l.edge) (take l.bottle (range_with_len 0 (length (bottles l.plan l.edge))))

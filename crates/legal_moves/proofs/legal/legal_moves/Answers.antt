@@ -13,7 +13,8 @@ use Rattle.legal_moves.proofs.legal.legal_moves.Goals.{then-enabled+in_ok-push, 
 
 pub event_of-event-requires : goal.event_of-event-requires
 event_of-event-requires g c =
-    of_plan_at c.args.world.now.plan _ c.loop-step.step-index c.step-item.result (c.deref-step-items.ensures.value ∙ c.in_ok-all.ensures ∙ ap all_moves c.plan.ensures.plan) c.loop-step-test.true c.step-item.is
+    of_plan_at c.args.world.now.plan _ c.loop-step.step-index c.step-item.result
+    (c.deref-step-items.ensures.value ∙ c.in_ok-all.ensures ∙ ap all_moves c.plan.ensures.plan) c.loop-step-test.true c.step-item.is
 
 pub loop-step-preserved : goal.loop-step-preserved
 loop-step-preserved g c =
@@ -28,14 +29,18 @@ loop-step-preserved g c =
           let grown : c.if-enabled.moves.items ≡ c.loop-step.moves.items ++ x ∷ [] = cc (b.in_ok-push.ensures.items, b.moves-is) in
           let may : IsLegalNow w.plan w.state x = subst (May w.plan w.state) c.event_of-event.ensures (c.enabled.ensures.0 b.if-enabled.true) in
           record {
-            kept = subst (Keeps (IsLegalNow w.plan w.state) (take (i + 1) (all_moves w.plan))) (sym grown) (keeps_more (IsLegalNow w.plan w.state) (all_moves w.plan) c.loop-step.moves.items i x inside is may c.loop-step.invariant.kept);
-            of_plan = subst (All (IsStepOf w.plan)) (sym grown) (All-push (IsStepOf w.plan) c.loop-step.moves.items x c.loop-step.invariant.of_plan (of_plan_at w.plan (all_moves w.plan) i x refl inside is));
+            kept = subst (Keeps (IsLegalNow w.plan w.state) (take (i + 1) (all_moves w.plan))) (sym grown)
+                (keeps_more (IsLegalNow w.plan w.state) (all_moves w.plan) c.loop-step.moves.items i x inside is may c.loop-step.invariant.kept);
+            of_plan = subst (All (IsStepOf w.plan)) (sym grown)
+                (All-push (IsStepOf w.plan) c.loop-step.moves.items x c.loop-step.invariant.of_plan (of_plan_at w.plan (all_moves w.plan) i x refl inside is));
           }
       | else-enabled b ↦
           let kept : c.if-enabled.moves.items ≡ c.loop-step.moves.items = cc (b.moves-is) in
-          let no : ¬ IsLegalNow w.plan w.state x = λ may. false≢true (sym b.if-enabled.false ∙ c.enabled.ensures.1 (subst (May w.plan w.state) (sym c.event_of-event.ensures) may)) in
+          let no : ¬ IsLegalNow w.plan w.state x =
+          λ may. false≢true (sym b.if-enabled.false ∙ c.enabled.ensures.1 (subst (May w.plan w.state) (sym c.event_of-event.ensures) may)) in
           record {
-            kept = subst (Keeps (IsLegalNow w.plan w.state) (take (i + 1) (all_moves w.plan))) (sym kept) (keeps_less (IsLegalNow w.plan w.state) (all_moves w.plan) c.loop-step.moves.items i x inside is no c.loop-step.invariant.kept);
+            kept = subst (Keeps (IsLegalNow w.plan w.state) (take (i + 1) (all_moves w.plan))) (sym kept)
+                (keeps_less (IsLegalNow w.plan w.state) (all_moves w.plan) c.loop-step.moves.items i x inside is no c.loop-step.invariant.kept);
             of_plan = subst (All (IsStepOf w.plan)) (sym kept) c.loop-step.invariant.of_plan;
           }
     ]

@@ -18,7 +18,9 @@ pub returns : goal.returns
 returns g c =
     let w = c.args.world.now in
     let ranks : (order : List ℕ) → IsRanking c.jobs.result c.deref.result.now order → IsRankingOf w.plan w.state order =
-    λ order ranked. ranks_by_precedence w.plan w.state c.in_ok-pairs.pairs.items order c.in_ok-pairs.ensures.pairs (world_acyclic w.plan w.state w.counts c.plan.ensures.reached)
+    λ order ranked. ranks_by_precedence w.plan w.state c.in_ok-pairs.pairs.items order c.in_ok-pairs.ensures.pairs
+    (world_acyclic w.plan w.state w.counts c.plan.ensures.reached)
     (subst (λ (pairs : List (ℕ × ℕ)). IsRanking (length w.plan.jobs) pairs order) c.deref.ensures.value
     (subst (λ jobs. IsRanking jobs c.deref.result.now order) (c.jobs.ensures.jobs ∙ ap (λ (p : LabPlan). length p.jobs) c.plan.ensures.plan) ranked)) in
-    IfOk-weaker c.ranking.result (λ order. IsRanking c.jobs.result c.deref.result.now order.items) (λ order. IsRankingOf w.plan w.state order.items) (λ order. ranks order.items) c.ranking.ensures
+    IfOk-weaker c.ranking.result (λ order. IsRanking c.jobs.result c.deref.result.now order.items)
+    (λ order. IsRankingOf w.plan w.state order.items) (λ order. ranks order.items) c.ranking.ensures

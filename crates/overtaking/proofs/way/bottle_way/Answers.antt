@@ -10,5 +10,6 @@ loop-bottle-preserved g c = λ k below. elim (cases_lt k c.loop-bottle.bottle) [
   | inr past ↦
       let w = c.args.world.now in
       let last : c.loop-bottle.bottle ≡ k = omega arith in
-      subst (HasNoBottleWayOf w.plan w.state c.args.job c.args.edge) last (no_bottle_of w.plan w.state c.args.job c.args.edge c.loop-bottle.bottle (omega (arith, c.loop-bottle-test.true, c.bottles-bottle-end.ensures.few)) c.in_default.ensures.none)
+      subst (HasNoBottleWayOf w.plan w.state c.args.job c.args.edge) last (no_bottle_of w.plan w.state c.args.job c.args.edge c.loop-bottle.bottle
+      (omega (arith, c.loop-bottle-test.true, c.bottles-bottle-end.ensures.few)) c.in_default.ensures.none)
 ]

@@ -10,4 +10,5 @@ pub returns-then-not-is_up_to_date-clause-leads_on : goal.returns-then-not-is_up
 returns-then-not-is_up_to_date-clause-leads_on g c =
     let w = c.args.world.now in
     subst (λ (seen : EdgeState). IsWayOn w.plan w.state (Look c.args.job c.args.edge seen)) (sym c.edge.ensures)
-    (world_look w.plan w.state w.counts c.args.job c.args.edge c.plan.ensures.reached c.requires (λ fresh. false≢true (sym c.if-not-is_up_to_date.true ∙ c.is_up_to_date.ensures.1 fresh)))
+    (world_look w.plan w.state w.counts c.args.job c.args.edge c.plan.ensures.reached c.requires (λ fresh. false≢true (sym c.if-not-is_up_to_date.true
+    ∙ c.is_up_to_date.ensures.1 fresh)))

@@ -5,7 +5,8 @@ use Rattle.interleaving.proofs.OwnEdges.{own_at, at_own_edges}
 use Rattle.refused_steps.proofs.marks.missing_bottle.Goals as goal
 
 pub missing_at-requires-clause-own : goal.missing_at-requires-clause-own
-missing_at-requires-clause-own g c = own_at _ _ _ _ _ (c.edges_of-own.ensures ∙ ap (λ p. edges_of p c.args.job) c.plan.ensures.plan) c.loop-edge-test.true c.edge-item.is
+missing_at-requires-clause-own g c =
+    own_at _ _ _ _ _ (c.edges_of-own.ensures ∙ ap (λ p. edges_of p c.args.job) c.plan.ensures.plan) c.loop-edge-test.true c.edge-item.is
 
 pub returns : goal.returns
 returns g c =

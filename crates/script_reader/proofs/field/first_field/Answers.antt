@@ -20,7 +20,8 @@ unfolding is_in
 not_gap b e = search rules
 
 -- no byte of the front passes the test, so each has the property
-front_all : (test : ℕ → Bool) (P : ℕ → Type 0) (line : List ℕ) (n : ℕ) → ((b : ℕ) → (test b ≡ true → ⊥) → P b) → n ≤ length line → Nowhere (Passes test line) 0 n → All P (take n line)
+front_all : (test : ℕ → Bool) (P : ℕ → Type 0) (line : List ℕ) (n : ℕ) → ((b : ℕ) → (test b ≡ true → ⊥) → P b)
+    → n ≤ length line → Nowhere (Passes test line) 0 n → All P (take n line)
 front_all test P line n each le none =
     All-from_get_or P (take n line) 0 (λ i lt.
     let less : i < n = omega (arith, lt, length-take-le n line le) in
@@ -40,7 +41,8 @@ not_both true a b = search rules
 not_both false a b = search rules
 
 -- the byte at n is of the field, so a gap at e past it comes later
-comes_later : (line rest : List ℕ) (n e : ℕ) → rest ≡ drop n line → not_in (32 ∷ 9 ∷ []) (slice_index line n) ≡ true → is_in (32 ∷ 9 ∷ []) (slice_index rest e) ≡ true → 0 < e
+comes_later : (line rest : List ℕ) (n e : ℕ) → rest ≡ drop n line
+    → not_in (32 ∷ 9 ∷ []) (slice_index line n) ≡ true → is_in (32 ∷ 9 ∷ []) (slice_index rest e) ≡ true → 0 < e
 comes_later line rest n zero at a b =
     absurd (not_both _ a (subst (λ x. is_in (32 ∷ 9 ∷ []) x ≡ true) (ap (λ l. slice_index l 0) at ∙ first_of_drop line n) b))
 comes_later line rest n (suc e) at a b = search rules

@@ -33,6 +33,7 @@ loop-byte-preserved c =
     let small = digit (get_or xs i 0) (all_at is_digit xs i digits inside) in
     let power : 10 ^ (i + 1) ≡ 10 * 10 ^ i = ap (λ k. 10 ^ k) (add-one i) ∙ pow-succ' 10 i in
     record {
-      value = ap (λ n. 10 * n + (get_or xs i 0 - 48)) c.loop-byte.invariant.value ∙ sym (value_more 0 (take i xs) (get_or xs i 0)) ∙ sym (ap (value_after 0) (take_more xs i 0 inside));
+      value = ap (λ n. 10 * n + (get_or xs i 0 - 48)) c.loop-byte.invariant.value
+          ∙ sym (value_more 0 (take i xs) (get_or xs i 0)) ∙ sym (ap (value_after 0) (take_more xs i 0 inside));
       small = omega arith;
     }

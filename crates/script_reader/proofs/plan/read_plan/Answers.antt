@@ -15,8 +15,10 @@ loop-line-preserved g c =
     let done = map (λ (l : Bor (List ℕ)). l.now) c.loop-line.yielded in
     let before = subst (λ rest. IsReading lines done rest c.loop-line.number c.loop-line.reader) c.in-Some.ensures.steps c.loop-line.invariant in
     let read = subst (λ r. ReadsForm c.loop-line.reader (form_of line) r c.read.new.self) c.in_ok-at_line.ensures c.read.ensures in
-    let more = reads lines line done c.next.new.self c.loop-line.number c.loop-line.reader c.read.new.self (form_of line) c.in_ok-at_line.field-0 refl before read in
-    subst (λ ls. IsReading lines ls c.next.new.self (c.loop-line.number + 1) c.read.new.self) (sym (map-append (λ (l : Bor (List ℕ)). l.now) c.loop-line.yielded (c.in-Some.line ∷ []))) more
+    let more =
+    reads lines line done c.next.new.self c.loop-line.number c.loop-line.reader c.read.new.self (form_of line) c.in_ok-at_line.field-0 refl before read in
+    subst (λ ls. IsReading lines ls c.next.new.self (c.loop-line.number + 1) c.read.new.self)
+    (sym (map-append (λ (l : Bor (List ℕ)). l.now) c.loop-line.yielded (c.in-Some.line ∷ []))) more
 
 pub returns-in_err-at_line : goal.returns-in_err-at_line
 returns-in_err-at_line g c =

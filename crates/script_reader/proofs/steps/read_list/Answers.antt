@@ -17,8 +17,10 @@ loop-line-preserved g c =
     let steps = c.loop-line.steps.items in
     let before = subst (λ rest. IsListing plan first lines done rest c.loop-line.number steps) c.in-Some.ensures.steps c.loop-line.invariant in
     let read = subst (λ r. ReadsStep steps c.loop-line.number (step_in plan line) r c.read_step.new.steps.items) c.in_ok-at_line.ensures c.read_step.ensures in
-    let more = lists plan first lines line done c.next.new.self c.loop-line.number steps c.read_step.new.steps.items (step_in plan line) c.in_ok-at_line.field-0 refl before read in
-    subst (λ ls. IsListing plan first lines ls c.next.new.self (c.loop-line.number + 1) c.read_step.new.steps.items) (sym (map-append (λ (l : Bor (List ℕ)). l.now) c.loop-line.yielded (c.in-Some.line ∷ []))) more
+    let more = lists plan first lines line done c.next.new.self c.loop-line.number steps c.read_step.new.steps.items
+    (step_in plan line) c.in_ok-at_line.field-0 refl before read in
+    subst (λ ls. IsListing plan first lines ls c.next.new.self (c.loop-line.number + 1) c.read_step.new.steps.items)
+    (sym (map-append (λ (l : Bor (List ℕ)). l.now) c.loop-line.yielded (c.in-Some.line ∷ []))) more
 
 pub overflow_add-number : goal.overflow_add-number
 overflow_add-number g c =
@@ -42,7 +44,10 @@ returns-in_err-at_line g c =
     let steps = c.loop-line.steps.items in
     let before = subst (λ rest. IsListing plan first lines done rest c.loop-line.number steps) c.in-Some.ensures.steps c.loop-line.invariant in
     let fault = c.in_err-at_line.field-0.0 in
-    let read = subst (λ r. ReadsStep steps c.loop-line.number (step_in plan line) r c.read_step.new.steps.items) c.in_err-at_line.ensures.0 c.read_step.ensures in
-    let bad = stops plan first lines line done c.next.new.self c.loop-line.number steps c.read_step.new.steps.items (step_in plan line) fault.cause refl before read in
+    let read =
+    subst (λ r. ReadsStep steps c.loop-line.number (step_in plan line) r c.read_step.new.steps.items) c.in_err-at_line.ensures.0 c.read_step.ensures in
+    let bad =
+    stops plan first lines line done c.next.new.self c.loop-line.number steps c.read_step.new.steps.items
+    (step_in plan line) fault.cause refl before read in
     let p = err_from_is_err_and c.from_residual.result c.from_residual.ensures.1 in
     rw (p.1, p.2) (subst (λ n. RefusesSteps plan first lines (record { line = n; cause = fault.cause })) (sym c.in_err-at_line.ensures.1) bad)

@@ -12,7 +12,8 @@ returns-then-is_steps_line g c =
     let lines = text_lines c.args.text.now in
     let line = c.in-Some.line.now in
     let done = c.loop-line.invariant.0 in
-    let before : IsAt lines done (line ∷ c.next.new.self) c.loop-line.number c.loop-line.reader = subst (λ l. IsAt lines done l c.loop-line.number c.loop-line.reader) c.in-Some.ensures.steps c.loop-line.invariant.1 in
+    let before : IsAt lines done (line ∷ c.next.new.self) c.loop-line.number c.loop-line.reader =
+    subst (λ l. IsAt lines done l c.loop-line.number c.loop-line.reader) c.in-Some.ensures.steps c.loop-line.invariant.1 in
     let is = sym c.is_steps_line.ensures ∙ c.if-is_steps_line.true in
     let rest = rest_behind lines line done c.next.new.self c.loop-line.number c.loop-line.reader before is in
     let none = steps_none line c.next.new.self is in
@@ -22,14 +23,16 @@ returns-then-is_steps_line g c =
       ap text_lines h.1 ∙ c.as_bytes.ensures ∙ rest.rest_is,
       h.2 ∙ rest.first_is,
     ))
-    (λ fault h. subst (λ n. Refuses (script_part lines) (record { line = n; cause = fault.cause })) (sym h.1) (ends_badly_at lines done (line ∷ c.next.new.self) c.loop-line.number c.loop-line.reader fault.cause before none h.0))
+    (λ fault h. subst (λ n. Refuses (script_part lines) (record { line = n; cause = fault.cause })) (sym h.1)
+    (ends_badly_at lines done (line ∷ c.next.new.self) c.loop-line.number c.loop-line.reader fault.cause before none h.0))
 
 pub returns-in_err-at_line : goal.returns-in_err-at_line
 returns-in_err-at_line g c =
     let lines = text_lines c.args.text.now in
     let line = c.in-Some.line.now in
     let done = c.loop-line.invariant.0 in
-    let before : IsAt lines done (line ∷ c.next.new.self) c.loop-line.number c.loop-line.reader = subst (λ l. IsAt lines done l c.loop-line.number c.loop-line.reader) c.in-Some.ensures.steps c.loop-line.invariant.1 in
+    let before : IsAt lines done (line ∷ c.next.new.self) c.loop-line.number c.loop-line.reader =
+    subst (λ l. IsAt lines done l c.loop-line.number c.loop-line.reader) c.in-Some.ensures.steps c.loop-line.invariant.1 in
     let isnt = sym c.is_steps_line.ensures ∙ c.if-is_steps_line.false in
     let fault = c.in_err-at_line.field-0.0 in
     let read = subst (λ r. ReadsForm c.loop-line.reader (form_of line) r c.read.new.self) c.in_err-at_line.ensures.0 c.read.ensures in
@@ -42,7 +45,8 @@ loop-line-preserved g c =
     let lines = text_lines c.args.text.now in
     let line = c.in-Some.line.now in
     let done = c.loop-line.invariant.0 in
-    let before : IsAt lines done (line ∷ c.next.new.self) c.loop-line.number c.loop-line.reader = subst (λ l. IsAt lines done l c.loop-line.number c.loop-line.reader) c.in-Some.ensures.steps c.loop-line.invariant.1 in
+    let before : IsAt lines done (line ∷ c.next.new.self) c.loop-line.number c.loop-line.reader =
+    subst (λ l. IsAt lines done l c.loop-line.number c.loop-line.reader) c.in-Some.ensures.steps c.loop-line.invariant.1 in
     let isnt = sym c.is_steps_line.ensures ∙ c.if-is_steps_line.false in
     let read = subst (λ r. ReadsForm c.loop-line.reader (form_of line) r c.read.new.self) c.in_ok-at_line.ensures c.read.ensures in
     (done ++ line ∷ [], goes_on lines line done c.next.new.self c.loop-line.number c.loop-line.reader c.read.new.self c.in_ok-at_line.field-0 before isnt read)
@@ -51,7 +55,8 @@ pub returns : goal.returns
 returns g c =
     let lines = text_lines c.args.text.now in
     let done = c.loop-line.invariant.0 in
-    let before : IsAt lines done [] c.loop-line.number c.loop-line.reader = subst (λ l. IsAt lines done l c.loop-line.number c.loop-line.reader) c.in_default.ensures.steps.0 c.loop-line.invariant.1 in
+    let before : IsAt lines done [] c.loop-line.number c.loop-line.reader =
+    subst (λ l. IsAt lines done l c.loop-line.number c.loop-line.reader) c.in_default.ensures.steps.0 c.loop-line.invariant.1 in
     let rest = rest_none lines done c.loop-line.number c.loop-line.reader before in
     MatchResult-weaker c.end_script-2.result c.end_script-2.ensures
     (λ part h. (
@@ -59,4 +64,5 @@ returns g c =
       ap text_lines h.1 ∙ c.as_bytes-2.ensures ∙ c.in_default.ensures.steps.1 ∙ rest.rest_is,
       h.2 ∙ rest.first_is,
     ))
-    (λ fault h. subst (λ n. Refuses (script_part lines) (record { line = n; cause = fault.cause })) (sym h.1) (ends_badly_at lines done [] c.loop-line.number c.loop-line.reader fault.cause before refl h.0))
+    (λ fault h. subst (λ n. Refuses (script_part lines) (record { line = n; cause = fault.cause })) (sym h.1)
+    (ends_badly_at lines done [] c.loop-line.number c.loop-line.reader fault.cause before refl h.0))

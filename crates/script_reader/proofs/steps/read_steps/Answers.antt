@@ -20,4 +20,5 @@ returns-in_err-steps-clause-meaning g c =
     rw (p.1, p.2) (refused c.args.text.now part.plan (text_lines part.rest.now) part.first c.in_err-steps.field-0.0 h.0 h.1 h.2 c.in_err-steps.ensures)
 
 pub returns-clause-own : goal.returns-clause-own
-returns-clause-own g c = own_steps c.in_ok-plan.field-0.plan c.in_ok-plan.field-0.first (text_lines c.in_ok-plan.field-0.rest.now) c.in_ok-steps.steps.items c.in_ok-steps.ensures.0
+returns-clause-own g c =
+    own_steps c.in_ok-plan.field-0.plan c.in_ok-plan.field-0.first (text_lines c.in_ok-plan.field-0.rest.now) c.in_ok-steps.steps.items c.in_ok-steps.ensures.0

@@ -9,8 +9,19 @@ use Rattle.workers.proofs.driving.threads.Goals as goal
 
 -- where there are no jobs, nobody has a turn
 no_desks : (b : BenchView) (turns : ℕ) (l : List DeskView) → (length l == 0) ≡ true → HasAll b.plan l → Driven b turns l l × (all_retired l ≡ true)
-no_desks b turns [] none all = (record { order = tt; all = all; took = tt; full = λ h. absurd (false≢true (sym h)); company = record { own = tt; rest = tt; legal = tt; starts = tt; whole = tt } }, refl)
+no_desks b turns [] none all = (
+  record {
+    order = tt;
+    all = all;
+    took = tt;
+    full = λ h. absurd (false≢true (sym h));
+    company = record { own = tt; rest = tt; legal = tt; starts = tt; whole = tt };
+  },
+  refl,
+)
 no_desks b turns (d ∷ l) none all = absurd (grind (arith, nat_tests))
 
 pub returns-then-is_empty : goal.returns-then-is_empty
-returns-then-is_empty g c = no_desks c.args.bench.now c.args.turns c.args.desks.items (ap (λ n. n == 0) (sym c.args.desks.ok.0) ∙ (sym c.is_empty.ensures ∙ c.if-is_empty.true)) c.requires.all
+returns-then-is_empty g c =
+    no_desks c.args.bench.now c.args.turns c.args.desks.items
+    (ap (λ n. n == 0) (sym c.args.desks.ok.0) ∙ (sym c.is_empty.ensures ∙ c.if-is_empty.true)) c.requires.all

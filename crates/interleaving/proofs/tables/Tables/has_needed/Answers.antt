@@ -15,6 +15,7 @@ returns-then-not-has_needed_at g c = (
 
 pub returns : goal.returns
 returns g c = (
-  λ t. at_own_edges c.args.self.now.plan c.args.job c.own_edges-own.result.now c.loop-edge.edge-index (HasNeededAt c.args.self.now.plan c.args.self.now.state c.args.job) c.own_edges-own.ensures c.loop-edge-test.false c.loop-edge.invariant,
+  λ t. at_own_edges c.args.self.now.plan c.args.job c.own_edges-own.result.now c.loop-edge.edge-index
+      (HasNeededAt c.args.self.now.plan c.args.self.now.state c.args.job) c.own_edges-own.ensures c.loop-edge-test.false c.loop-edge.invariant,
   λ all. refl,
 )

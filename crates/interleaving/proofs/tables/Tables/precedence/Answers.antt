@@ -10,12 +10,14 @@ pub loop-edge-preserved : goal.loop-edge-preserved
 loop-edge-preserved g c =
     let s = c.args.self.now in
     subst (ArePairsBelow s.plan s.state _) (sym c.in_ok-push.ensures.items)
-    (pairs_more s.plan s.state c.loop-edge.edge c.loop-edge.pairs.items c.order.result c.loop-edge.invariant c.order.ensures.precedes c.order.ensures.no_other c.order.ensures.jobs)
+    (pairs_more s.plan s.state c.loop-edge.edge c.loop-edge.pairs.items c.order.result
+    c.loop-edge.invariant c.order.ensures.precedes c.order.ensures.no_other c.order.ensures.jobs)
 
 pub returns-clause-by_edge : goal.returns-clause-by_edge
 returns-clause-by_edge g c =
     let s = c.args.self.now in
-    by_edge_of s.plan s.state c.loop-edge.edge c.loop-edge.pairs.items c.loop-edge.invariant (omega (arith, c.edges-edges.ensures.edges, ap (λ p. length (edges p)) c.plan.ensures.plan, c.loop-edge-test.false, c.loop-edge.far-edge))
+    by_edge_of s.plan s.state c.loop-edge.edge c.loop-edge.pairs.items c.loop-edge.invariant
+    (omega (arith, c.edges-edges.ensures.edges, ap (λ p. length (edges p)) c.plan.ensures.plan, c.loop-edge-test.false, c.loop-edge.far-edge))
 
 pub returns-clause-pairs : goal.returns-clause-pairs
 returns-clause-pairs g c =

@@ -22,7 +22,9 @@ loop-edge-preserved g c = λ k below on. elim (cases_lt k c.loop-edge.edge-index
       let s = c.args.self.now in
       let own = c.own_edges-own.result.now in
       let last : k ≡ c.loop-edge.edge-index = omega arith in
-      let item : slice_index_or own k 0 ≡ c.edge-item.result = subst (λ n. slice_index_or own n 0 ≡ c.edge-item.result) (sym last) (get_default own c.loop-edge.edge-index c.edge-item.result c.loop-edge-test.true ∙ sym c.edge-item.is) in
+      let item : slice_index_or own k 0 ≡ c.edge-item.result =
+      subst (λ n. slice_index_or own n 0 ≡ c.edge-item.result) (sym last) (get_default own c.loop-edge.edge-index c.edge-item.result c.loop-edge-test.true
+      ∙ sym c.edge-item.is) in
       let is = c.order.ensures.no_other c.args.a c.args.b (subst (λ e. PrecedesOn s.plan s.state e c.args.a c.args.b) item on) in
       false≢true (sym c.if-eq.false ∙ (c.eq.ensures ∙ both_equal _ _ _ _ (sym is.0) (sym is.1)))
 ]
@@ -31,5 +33,6 @@ pub returns : goal.returns
 returns g c =
     let s = c.args.self.now in (
       λ t. absurd (false≢true t),
-      λ p. absurd (at_own_edges s.plan c.args.a c.own_edges-own.result.now c.loop-edge.edge-index (λ e. ¬ PrecedesOn s.plan s.state e c.args.a c.args.b) c.own_edges-own.ensures c.loop-edge-test.false c.loop-edge.invariant p.0 (precedes_own _ _ _ _ _ p.1) p.1),
+      λ p. absurd (at_own_edges s.plan c.args.a c.own_edges-own.result.now c.loop-edge.edge-index (λ e. ¬ PrecedesOn s.plan s.state e c.args.a c.args.b)
+          c.own_edges-own.ensures c.loop-edge-test.false c.loop-edge.invariant p.0 (precedes_own _ _ _ _ _ p.1) p.1),
     )

@@ -11,4 +11,5 @@ returns-clause-by_edge g c =
 
 pub returns-clause-pairs : goal.returns-clause-pairs
 returns-clause-pairs g c =
-    subst (λ (w : WorldView). (a b : ℕ) → IsAmong c.in_ok-precedence.field-0.items a b ↔ Precedes w.plan w.state a b) c.self.view_is c.in_ok-precedence.ensures.pairs
+    subst (λ (w : WorldView). (a b : ℕ) → IsAmong c.in_ok-precedence.field-0.items a b ↔ Precedes w.plan w.state a b)
+    c.self.view_is c.in_ok-precedence.ensures.pairs

@@ -8,5 +8,6 @@ loop-event-preserved g c =
     let stepped = c.in_default.ensures in
     record {
       done_all = omega arith;
-      led = leads_more _ _ c.step.new.self c.args.events.now c.loop-event.event-index c.event-item.result (omega arith) c.event-item.is kept.led stepped.0 stepped.1 stepped.2;
+      led = leads_more _ _ c.step.new.self c.args.events.now c.loop-event.event-index c.event-item.result
+          (omega arith) c.event-item.is kept.led stepped.0 stepped.1 stepped.2;
     }

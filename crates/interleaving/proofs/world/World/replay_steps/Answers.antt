@@ -10,9 +10,11 @@ returns-in-Err g c =
     let lines = c.args.steps.now in
     let events = events_of w.plan w.state (steps_of lines) in
     let kept = c.loop-line.invariant in
-    let is = event_here w.plan w.state lines c.loop-line.line-index c.line-item.result c.loop-line.self.state c.event_of-event.result c.loop-line-test.true c.line-item.is kept.led.run.leads c.event_of-event.ensures in
+    let is = event_here w.plan w.state lines c.loop-line.line-index c.line-item.result c.loop-line.self.state
+    c.event_of-event.result c.loop-line-test.true c.line-item.is kept.led.run.leads c.event_of-event.ensures in
     let inside : c.loop-line.line-index < length events = omega (arith, step_events_length w.plan w.state lines, c.loop-line-test.true) in
-    stops_here w c.loop-line.self c.step.new.self events c.loop-line.line-index c.loop-line.done c.event_of-event.result kept.done_all inside is kept.led c.in-Err.ensures.0 c.in-Err.ensures.1
+    stops_here w c.loop-line.self c.step.new.self events c.loop-line.line-index c.loop-line.done
+    c.event_of-event.result kept.done_all inside is kept.led c.in-Err.ensures.0 c.in-Err.ensures.1
 
 pub loop-line-preserved : goal.loop-line-preserved
 loop-line-preserved g c =
@@ -20,12 +22,14 @@ loop-line-preserved g c =
     let lines = c.args.steps.now in
     let events = events_of w.plan w.state (steps_of lines) in
     let kept = c.loop-line.invariant in
-    let is = event_here w.plan w.state lines c.loop-line.line-index c.line-item.result c.loop-line.self.state c.event_of-event.result c.loop-line-test.true c.line-item.is kept.led.run.leads c.event_of-event.ensures in
+    let is = event_here w.plan w.state lines c.loop-line.line-index c.line-item.result c.loop-line.self.state
+    c.event_of-event.result c.loop-line-test.true c.line-item.is kept.led.run.leads c.event_of-event.ensures in
     let inside : c.loop-line.line-index < length events = omega (arith, step_events_length w.plan w.state lines, c.loop-line-test.true) in
     let stepped = c.in_default.ensures in
     record {
       done_all = omega arith;
-      led = leads_more w c.loop-line.self c.step.new.self events c.loop-line.line-index c.event_of-event.result inside is kept.led stepped.0 stepped.1 stepped.2;
+      led =
+          leads_more w c.loop-line.self c.step.new.self events c.loop-line.line-index c.event_of-event.result inside is kept.led stepped.0 stepped.1 stepped.2;
     }
 
 pub returns : goal.returns
@@ -34,5 +38,7 @@ returns g c =
     let lines = c.args.steps.now in
     let events = events_of w.plan w.state (steps_of lines) in
     let kept = c.loop-line.invariant in
-    let count = step_events_length w.plan w.state lines in
-    (omega (arith, count, kept.done_all, c.loop-line-test.false, c.loop-line.auto), leads_all w c.loop-line.self events c.loop-line.line-index kept.led (omega (arith, count, c.loop-line-test.false)))
+    let count = step_events_length w.plan w.state lines in (
+      omega (arith, count, kept.done_all, c.loop-line-test.false, c.loop-line.auto),
+      leads_all w c.loop-line.self events c.loop-line.line-index kept.led (omega (arith, count, c.loop-line-test.false)),
+    )

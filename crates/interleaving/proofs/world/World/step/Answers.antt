@@ -16,6 +16,8 @@ invariant_of-self-2 g c =
     let old = c.self.inside.tables in
     let counts = c.self.inside.tally in
     let legal = c.in_ok-step.ensures.0 in
-    let counted : GoOnBy counts (c.args.event ∷ []) c.count.new.self = subst (GoOnBy counts (c.args.event ∷ [])) (sym c.count.ensures) (goes_on c.args.event counts (can_count _ _ _ c.args.event c.self.invariant legal.may)) in
+    let counted : GoOnBy counts (c.args.event ∷ []) c.count.new.self =
+    subst (GoOnBy counts (c.args.event ∷ [])) (sym c.count.ensures)
+    (goes_on c.args.event counts (can_count _ _ _ c.args.event c.self.invariant legal.may)) in
     subst (λ plan. IsReachedWith plan c.step.new.self.state c.count.new.self) (sym c.in_ok-step.ensures.1)
     (reached_with old.plan old.state c.step.new.self.state counts c.count.new.self c.args.event c.self.invariant legal counted)
