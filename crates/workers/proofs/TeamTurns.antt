@@ -14,7 +14,8 @@ use Rattle.session_layer.specs.Grown.{Grew, TookTurns}
 use Rattle.session_layer.proofs.Grows as grows
 use Rattle.session_layer.specs.Retired.{AllRetired, Glanced, glances}
 use Rattle.session_layer.proofs.Glances.{glances_none}
-use Rattle.workers.specs.Team.{TookUpTo, Pairs, Worked}
+use Rattle.std.proofs.lemmas.Bool.{false≢true}
+use Rattle.workers.specs.Team.{LookedOut, TookUpTo, Pairs, Worked}
 
 -- ---- one desk
 
@@ -33,6 +34,9 @@ took_then n d m e a t = subst (λ k. TookTurns k d e) (none_more n) (grows.turns
 
 pub took_glanced : (n : ℕ) (d m e : DeskView) (r : Bool) → TookTurns n d m → Glanced m r e → TookTurns n d e
 took_glanced n d m e r a t = took_then n d m e a (grows.glances_alone m e (glances m.job t.saw) t.grew (glances_none m.job t.saw) t.clock)
+
+pub took_looked : (n : ℕ) (d m e : DeskView) (r : Bool) → TookTurns n d m → LookedOut m r e → TookTurns n d e
+took_looked n d m e r a t = elim t [ inl g ↦ took_glanced n d m e r a g | inr same ↦ subst (TookTurns n d) (sym same.0) a ]
 
 pub took_owns : (b : BenchView) (n : ℕ) (d e : DeskView) → TookTurns n d e → Owns b d → Owns b e
 took_owns b n d e t o = (t.grew.table ∙ o.0, t.grew.plan ∙ o.1)
@@ -123,22 +127,22 @@ none_took (d ∷ l) = (took_none d, none_took l)
 -- a round, after which the first glances at all others
 module _ (n : ℕ) (old mid new : List DeskView) (x y : DeskView) (t : Pairs (TookTurns n) old mid)
     (s : Pairs (TookTurns 1) mid new) (some : 0 < length new) (is : x ≡ get_or new 0 x) where
-  pub round_took : (r : Bool) → Glanced x r y → Pairs (TookTurns (n + 1)) old (set new 0 y)
+  pub round_took : (r : Bool) → LookedOut x r y → Pairs (TookTurns (n + 1)) old (set new 0 y)
   round_took r g = first old new (pairs_then (TookTurns n) (TookTurns 1) (TookTurns (n + 1)) (λ d m e a b. took_more n d m e a b) old mid new t s) some is where
     first : (old new : List DeskView) → Pairs (TookTurns (n + 1)) old new → 0 < length new → x ≡ get_or new 0 x → Pairs (TookTurns (n + 1)) old (set new 0 y)
     first old [] p h e = absurd (omega arith)
     first [] (z ∷ new) p h e = absurd (cc)
-    first (d ∷ old) (z ∷ new) p h e = (took_glanced (n + 1) d z y r p.0 (subst (λ v. Glanced v r y) e g), p.1)
+    first (d ∷ old) (z ∷ new) p h e = (took_looked (n + 1) d z y r p.0 (subst (λ v. LookedOut v r y) e g), p.1)
 
   any_set : (P : DeskView → Type 0) (l : List DeskView) → 0 < length l → P y → Any P (set l 0 y)
   any_set P [] h p = absurd (omega arith)
   any_set P (z ∷ l) h p = inl p
 
   -- a worker that saw all retired
-  pub worked_early : (turns : ℕ) → n < turns → Glanced x true y → Worked turns old (set new 0 y)
+  pub worked_early : (turns : ℕ) → n < turns → LookedOut x true y → Worked turns old (set new 0 y)
   worked_early turns l g = record {
     took = pairs_map (TookTurns (n + 1)) (TookUpTo turns) (λ d e a. (n + 1, (omega arith), a)) old (set new 0 y) (round_took true g);
-    full = inr (any_set (λ (e : DeskView). AllRetired e.plan e.front) new some (g.done refl));
+    full = inr (any_set (λ (e : DeskView). AllRetired e.plan e.front) new some (elim g [ inl seen ↦ seen.done refl | inr same ↦ absurd (false≢true (sym same.1)) ]));
   }
 
 -- a worker that used all its turns

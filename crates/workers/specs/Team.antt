@@ -5,10 +5,14 @@ use Rattle.edge_rule.specs.DeskView.{DeskView, BenchView}
 use Rattle.edge_rule.specs.Company.{jobs_of}
 use Rattle.edge_rule.specs.Ending.{Any, HasAll}
 use Rattle.session_layer.specs.Grown.{TookTurns}
-use Rattle.session_layer.specs.Retired.{AllRetired}
+use Rattle.session_layer.specs.Retired.{AllRetired, Glanced}
 use Rattle.rounds.specs.Company.{first_front, Company, all_retired}
 use Rattle.rounds.specs.declared.ended.Ended.{Ended}
 use Rattle.rounds.specs.declared.ended.Ended.TheVariants as Ends
+
+-- the desk glanced at all others, and answers whether all jobs are retired; or it did nothing, and answers no
+abbrev pub LookedOut : DeskView → Bool → DeskView → Type 0
+LookedOut d r e = Glanced d r e ⊎ ((e ≡ d) × (r ≡ false))
 
 -- the desk took at most so many turns
 abbrev pub TookUpTo : ℕ → DeskView → DeskView → Type 0

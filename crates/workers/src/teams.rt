@@ -5,7 +5,7 @@ ghost use Rattle.std.specs.Fork.{AcceptsAt, ChangesAt};
 ghost use Rattle.locality.specs.Lists.{Each};
 ghost use Rattle.edge_rule.specs.DeskView.{Owns};
 ghost use Rattle.session_layer.specs.Grown.{TookTurns};
-ghost use Rattle.workers.specs.Team.{Pairs, Worked};
+ghost use Rattle.workers.specs.Team.{LookedOut, Pairs, Worked};
 
 use crate::gate::Gate;
 use edge_rule::{Bench, Desk};
@@ -32,6 +32,15 @@ fn team_round<A: Allocator, G: Gate>(
     idle
 }
 
+// Whether the desk saw that all jobs are retired. It looks at the others once its own job is: a look takes a word away from
+// the worker that writes it.
+fn saw_all_retired<A: Allocator>(bench: &Bench<A>, desk: &mut Desk<A>) -> bool
+    requires own { Owns bench.now desk.old }
+    ensures { LookedOut desk.old result desk.new }
+{
+    desk.retired() && all_retired(bench, desk)
+}
+
 // A worker: one turn of each desk a round, until the turns are used, or the first desk saw after a round that all jobs are retired.
 fn work<A: Allocator, G: Gate>(bench: &Bench<A>, gate: &G, turns: u32, desks: &mut [Desk<A>])
     requires some { 0 < length desks.old }
@@ -40,7 +49,7 @@ fn work<A: Allocator, G: Gate>(bench: &Bench<A>, gate: &G, turns: u32, desks: &m
 {
     for number in 0..turns {
         let idle = team_round(bench, gate, desks, u64::from(number) + 1);
-        if all_retired(bench, &mut desks[0]) {
+        if saw_all_retired(bench, &mut desks[0]) {
             return;
         }
         if idle {
