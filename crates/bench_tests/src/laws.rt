@@ -6,6 +6,7 @@ fn laws_of_locality() {
     locality::laws::changes_one_seat();
     locality::laws::changes_one_edge();
     locality::laws::changes_one_log();
+    locality::laws::groups_change_one_seat_and_edge();
     locality::laws::reads_alike();
     locality::laws::entry_reads_alike();
     locality::laws::knows_itself();
@@ -14,6 +15,7 @@ fn laws_of_locality() {
     locality::laws::leads_on();
     locality::laws::is_legal_in_parts();
     locality::laws::after_every_history();
+    locality::laws::have_their_words();
     locality::laws::stays_retired();
     locality::laws::holds_what_it_reaches();
     locality::laws::keeps_reached_log();

@@ -1,9 +1,7 @@
 //! Where calls may be made, by what the desk knows.
-ghost use Rattle.std.specs.Prelude.{◌≡◌, ◌↔◌, IsTrue, IsSome};
-ghost use Rattle.lab_plan.specs.LabPlan.{patience};
-ghost use Rattle.legal_steps.specs.declared.phase.Drinking.TheVariants.{Thirsty};
+ghost use Rattle.std.specs.Prelude.{◌≡◌, ◌↔◌, IsTrue};
 ghost use Rattle.legal_steps.specs.declared.event.Event.TheVariants.{GiveBottles, AskBottles, Withdraw};
-ghost use Rattle.legal_steps.specs.State.{IsOwn, session as session_at, drinking as drinking_at};
+ghost use Rattle.legal_steps.specs.State.{IsOwn};
 ghost use Rattle.legal_steps.specs.Legal.{May};
 ghost use Rattle.one_history.specs.PhaseEvents.{event_of};
 ghost use Rattle.edge_rule.specs.DeskView.{Owns, known};
@@ -12,7 +10,6 @@ use dining_layer::{may_hunger, may_leave, may_sit};
 use drinking_layer::{all_gifts, all_wishes, may_drink};
 use edge_rule::{Bench, Desk, PhaseEvent};
 use lab_plan::EdgeNo;
-use legal_steps::Drinking;
 use session_layer::{may_quit, may_retire, may_thirst};
 use std::alloc::Allocator;
 
@@ -44,24 +41,12 @@ pub fn may_give_bottles<A: Allocator>(
     set != 0 && set & all_gifts(bench, desk, edge) == set
 }
 
-// Whether the session has a patience.
-fn has_patience<A: Allocator>(bench: &Bench<A>, desk: &Desk<A>) -> bool
-    requires own { Owns bench.now desk.now }
-    requires thirsty { drinking_at (known desk.now) desk.now.job ≡ Thirsty }
-    ensures { IsTrue result ↔ IsSome (patience desk.now.plan desk.now.job (session_at (known desk.now) desk.now.job)) }
-{
-    let phase = desk.phase();
-    let job = desk.job();
-    let plan = bench.plan();
-    plan.patience(job, phase.session).is_some()
-}
-
 /// Whether the session may be given up: the job is thirsty, and the session has a patience.
 pub fn may_withdraw<A: Allocator>(bench: &Bench<A>, desk: &Desk<A>) -> bool
     requires own { Owns bench.now desk.now }
     ensures { IsTrue result ↔ May desk.now.plan (known desk.now) (Withdraw desk.now.job) }
 {
-    desk.phase().drinking == Drinking::Thirsty && has_patience(bench, desk)
+    desk.phase().may_withdraw(bench.plan(), desk.job())
 }
 
 /// Whether the job may store this phase.

@@ -1,5 +1,6 @@
 //! What a job has at hand at an edge.
 ghost use Rattle.std.specs.Prelude.{◌≡◌, ◌≤◌, length};
+ghost use Rattle.lab_plan.specs.Limits.{most_bottles};
 ghost use Rattle.lab_plan.specs.LabPlan.{bottles};
 ghost use Rattle.legal_steps.specs.State.{IsOwn, end_of, edge as edge_at, phase as phase_at};
 ghost use Rattle.edge_word.specs.Words.{IsOfBottles};
@@ -29,7 +30,7 @@ pub fn at_edge<A: Allocator>(bench: &Bench<A>, desk: &Desk<A>, edge: EdgeNo) -> 
     ensures here { result.here ≡ end_of desk.now.plan desk.now.job edge }
     ensures seen { result.seen ≡ edge_at (known desk.now) edge }
     ensures fits { IsOfBottles (length (bottles desk.now.plan edge)) result.seen }
-    ensures few { length (bottles desk.now.plan edge) ≤ 28 }
+    ensures few { length (bottles desk.now.plan edge) ≤ most_bottles }
     ensures known { IsKnown desk.now.plan (known desk.now) desk.now.job }
 {
     let job = desk.job();

@@ -5,7 +5,7 @@ ghost use Rattle.legal_steps.specs.State.{IsOwn};
 ghost use Rattle.legal_steps.specs.Legal.{May};
 ghost use Rattle.edge_rule.specs.DeskView.{Owns, known};
 ghost use Rattle.turns.specs.Due.{AreForkMoves, forks_alone};
-ghost use Rattle.dining_layer.specs.Forks.{forks_due, gives_fork as gives_fork_now, wants_fork as wants_fork_now, asks_fork as asks_fork_now, soils as soils_now};
+ghost use Rattle.dining_layer.specs.Forks.{AreForksDue};
 
 use crate::edges::at_edge;
 use edge_rule::{Bench, Desk};
@@ -14,44 +14,18 @@ use lab_plan::EdgeNo;
 use legal_steps::{Dining, EdgeState, End};
 use std::alloc::Allocator;
 
-fn gives_fork(dining: Dining, here: End, seen: EdgeState) -> bool
-    ensures { result ≡ gives_fork_now dining here seen }
-{
-    dining != Dining::Eating && seen.fork == here && seen.dirty && seen.token == here
-}
-
-fn wants_fork(dining: Dining, here: End, seen: EdgeState) -> bool
-    ensures { result ≡ wants_fork_now dining here seen }
-{
-    dining == Dining::Hungry && seen.fork != here && seen.token == here
-}
-
-fn asks_fork(dining: Dining, here: End, seen: EdgeState) -> bool
-    ensures { result ≡ asks_fork_now dining here seen }
-{
-    if gives_fork(dining, here, seen) {
-        dining == Dining::Hungry
-    } else {
-        wants_fork(dining, here, seen)
-    }
-}
-
-fn soils(dining: Dining, here: End, seen: EdgeState) -> bool
-    ensures { result ≡ soils_now dining here seen }
-{
-    dining == Dining::Eating && seen.fork == here && !seen.dirty
-}
-
 /// The fork moves that are due at this end of an edge that was seen so.
 pub fn due_forks(dining: Dining, here: End, seen: EdgeState) -> EdgeMoves
-    ensures { result ≡ forks_due dining here seen }
+    ensures { AreForksDue dining here seen result }
 {
+    let give_fork = seen.gives_fork(here, dining);
+    let left = if give_fork { seen.fork_given() } else { seen };
     EdgeMoves {
-        give_fork: gives_fork(dining, here, seen),
+        give_fork,
         give_bottles: 0,
-        ask_fork: asks_fork(dining, here, seen),
+        ask_fork: left.wants_fork(here, dining),
         ask_bottles: 0,
-        soil: soils(dining, here, seen),
+        soil: left.soils(here, dining),
     }
 }
 
@@ -73,7 +47,7 @@ pub fn may_give<A: Allocator>(bench: &Bench<A>, desk: &Desk<A>, edge: EdgeNo) ->
     ensures { IsTrue result ↔ May desk.now.plan (known desk.now) (GiveFork desk.now.job edge) }
 {
     let at = at_edge(bench, desk, edge);
-    gives_fork(at.phase.dining, at.here, at.seen)
+    at.seen.gives_fork(at.here, at.phase.dining)
 }
 
 /// Whether the fork may be asked for, by the word last seen.
@@ -83,7 +57,7 @@ pub fn may_ask<A: Allocator>(bench: &Bench<A>, desk: &Desk<A>, edge: EdgeNo) -> 
     ensures { IsTrue result ↔ May desk.now.plan (known desk.now) (AskFork desk.now.job edge) }
 {
     let at = at_edge(bench, desk, edge);
-    wants_fork(at.phase.dining, at.here, at.seen)
+    at.seen.wants_fork(at.here, at.phase.dining)
 }
 
 /// Whether the fork may be soiled, by the word last seen.
@@ -93,5 +67,5 @@ pub fn may_soil<A: Allocator>(bench: &Bench<A>, desk: &Desk<A>, edge: EdgeNo) ->
     ensures { IsTrue result ↔ May desk.now.plan (known desk.now) (Soil desk.now.job edge) }
 {
     let at = at_edge(bench, desk, edge);
-    soils(at.phase.dining, at.here, at.seen)
+    at.seen.soils(at.here, at.phase.dining)
 }

@@ -7,7 +7,7 @@ ghost use Rattle.edge_rule.specs.DeskView.{Owns, known};
 ghost use Rattle.dining_layer.specs.Tries.{StoresFirst};
 
 use edge_rule::{Bench, Desk, PhaseEvent, store_phase};
-use legal_steps::{Dining, Drinking};
+use legal_steps::Dining;
 use std::alloc::Allocator;
 
 // Whether each own edge has a fork mark.
@@ -31,10 +31,7 @@ pub fn may_leave<A: Allocator>(bench: &Bench<A>, desk: &Desk<A>) -> bool
     requires own { Owns bench.now desk.now }
     ensures { IsTrue result ↔ May desk.now.plan (known desk.now) (Leave desk.now.job) }
 {
-    let phase = desk.phase();
-    phase.dining == Dining::Eating
-        && phase.drinking != Drinking::Thirsty
-        && is_marked_all(bench, desk)
+    desk.phase().may_leave() && is_marked_all(bench, desk)
 }
 
 /// Whether a meal may start: the job is hungry, and has a fork mark on each own edge.
@@ -50,8 +47,7 @@ pub fn may_hunger<A: Allocator>(bench: &Bench<A>, desk: &Desk<A>) -> bool
     requires own { Owns bench.now desk.now }
     ensures { IsTrue result ↔ May desk.now.plan (known desk.now) (Hunger desk.now.job) }
 {
-    let phase = desk.phase();
-    phase.dining == Dining::Thinking && phase.drinking == Drinking::Thirsty
+    desk.phase().may_hunger()
 }
 
 /// Does the first that is legal of Leave, Sit and Hunger, and answers it.

@@ -1,6 +1,5 @@
 -- Moves with the bottles that are given and asked for.
-use Rattle.std.proofs.Common.{◌≡◌, ◌<◌, ℕ, length, refl, sym, ap, subst, arith}
-use Rattle.lab_plan.specs.LabPlan.{LabPlan, edges}
+use Rattle.std.proofs.Common.{◌≡◌, ◌<◌, ℕ, length, refl, sym, subst, arith}
 use Rattle.legal_steps.specs.State.{IsOwn, phase, edge, end_of}
 use Rattle.edge_word.specs.declared.moves.EdgeMoves.{EdgeMoves}
 use Rattle.edge_rule.specs.DeskView.{DeskView, known}

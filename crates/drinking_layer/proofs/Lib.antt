@@ -1,4 +1,3 @@
-pub mod Needed
 pub mod BottleMoves
 pub mod AddedSets
 pub mod AllAtOnce

@@ -1,16 +1,14 @@
 //! Which bottles a job needs, gives and asks for on an edge, by the edge as it was seen and the own phase.
-ghost use Rattle.std.specs.Prelude.{◌≡◌, ◌↔◌, ℕ, ◌<◌, ◌≤◌, IsTrue, length};
-ghost use Rattle.std.specs.Int.{bit_at};
-ghost use Rattle.lab_plan.specs.LabPlan.{edges, bottles};
-ghost use Rattle.legal_steps.specs.State.{Has, IsOfEdge, IsInSession, drinking as drinking_at, session as session_at};
-ghost use Rattle.legal_steps.specs.Legal.{instrument_of};
+ghost use Rattle.std.specs.Prelude.{◌≡◌, ◌↔◌, ◌<◌, IsTrue, length};
+ghost use Rattle.lab_plan.specs.LabPlan.{edges};
+ghost use Rattle.lab_plan.specs.NeededBottles.{AreNamed};
+ghost use Rattle.legal_steps.specs.State.{IsInSession, drinking as drinking_at, session as session_at};
 ghost use Rattle.edge_rule.specs.DeskView.{Owns, known};
-ghost use Rattle.edge_rule.specs.NeededBottles.{AreNamed};
 ghost use Rattle.drinking_layer.specs.Local.{gifts as gifts_of, wishes as wishes_of, has_instruments as holds_instruments, tokens_at as tokens_of};
 ghost use Rattle.drinking_layer.specs.Bottles.{AreNeededNow};
 
 use edge_rule::{Bench, Desk};
-use lab_plan::{EdgeNo, InstrumentNo, Plan};
+use lab_plan::{EdgeNo, Plan};
 use legal_steps::{Drinking, EdgeState, End, JobState};
 use std::alloc::Allocator;
 
@@ -22,41 +20,6 @@ fn is_in_session(drinking: Drinking) -> bool
         || drinking == Drinking::Reaching
 }
 
-// Whether the instrument is in the set.
-#[tactic(auto, using(crate::proofs::Needed::tested_member))]
-fn is_member(set: u64, instrument: InstrumentNo) -> bool
-    requires { instrument < 56 }
-    ensures { IsTrue result ↔ bit_at set instrument ≡ 1 }
-{
-    set >> instrument.0 & 1 == 1
-}
-
-// Whether the instrument of the bottle is in the set.
-#[tactic(auto, using(crate::proofs::Needed::small_instrument))]
-fn is_bottle_in<A: Allocator>(plan: &Plan<A>, edge: EdgeNo, bottle: u32, instruments: u64) -> bool
-    requires is_edge { edge < length (edges plan.now) }
-    requires is_bottle { bottle < length (bottles plan.now edge) }
-    ensures { IsTrue result ↔ bit_at instruments (instrument_of plan.now edge bottle) ≡ 1 }
-{
-    let _ = plan.jobs();
-    is_member(instruments, plan.instrument_of(edge, bottle))
-}
-
-// The bottles of the edge whose instruments are in the set.
-fn bottles_in<A: Allocator>(plan: &Plan<A>, edge: EdgeNo, instruments: u64) -> u32
-    requires { edge < length (edges plan.now) }
-    ensures of_edge { IsOfEdge plan.now edge result }
-    ensures just { (k : ℕ) → k < length (bottles plan.now edge) → Has result k ↔ (bit_at instruments (instrument_of plan.now edge k) ≡ 1) }
-{
-    let mut set = 0u32;
-    for bottle in 0..plan.bottles(edge) {
-        if is_bottle_in(plan, edge, bottle, instruments) {
-            set |= 1 << bottle;
-        }
-    }
-    set
-}
-
 // The bottles of the edge that the job's session needs.
 fn named_bottles<A: Allocator>(bench: &Bench<A>, desk: &Desk<A>, edge: EdgeNo) -> u32
     requires own { Owns bench.now desk.now }
@@ -64,9 +27,8 @@ fn named_bottles<A: Allocator>(bench: &Bench<A>, desk: &Desk<A>, edge: EdgeNo) -
     requires in_session { IsInSession (drinking_at (known desk.now) desk.now.job) }
     ensures { AreNamed desk.now.plan desk.now.job (session_at (known desk.now) desk.now.job) edge result }
 {
-    let plan = bench.plan();
     let phase = desk.phase();
-    bottles_in(plan, edge, plan.needs(desk.job(), phase.session))
+    bench.plan().needed_bottles(desk.job(), phase.session, edge)
 }
 
 /// Notes which bottles of the edge the job's session needs, where it is in one, so that they are reckoned once a session.
@@ -82,6 +44,7 @@ pub fn note_needed<A: Allocator>(bench: &Bench<A>, desk: &mut Desk<A>, edge: Edg
 }
 
 // The bottles of the edge that the job needs now.
+#[tactic(auto, unfolding(legal_steps::specs::State::Has))]
 pub(crate) fn needed_bottles<A: Allocator>(bench: &Bench<A>, desk: &Desk<A>, edge: EdgeNo) -> u32
     requires own { Owns bench.now desk.now }
     requires edge { edge < length (edges desk.now.plan) }

@@ -16,9 +16,9 @@ use Rattle.legal_steps.specs.declared.phase.Drinking.TheVariants.{Drinking as Dr
 use Rattle.legal_steps.specs.declared.event.Event.{Event}
 use Rattle.legal_steps.specs.declared.event.Event.TheVariants.{Reach, Act}
 use Rattle.legal_steps.specs.State.{Seat, State, seat, phase, drinking, log, no_edge}
-use Rattle.legal_steps.specs.Legal.{May, IsJob, next_command, next_entry}
+use Rattle.legal_steps.specs.Legal.{May, IsJob, next_command, entry_after, next_entry}
 use Rattle.legal_steps.specs.Opening.{the_opening}
-use Rattle.legal_steps.specs.WholeLogs.{ended_sessions}
+use Rattle.legal_steps.specs.WholeLogs.{ended_sessions, log_with_room}
 use Rattle.legal_steps.proofs.LogRun.{IsLogged, logged}
 use Rattle.legal_steps.proofs.AppendLaw.{act_appends_logged, within_limits_logged, next_value}
 use Rattle.legal_steps.proofs.ReachedLaws.{the_opening_is_acyclic}
@@ -27,9 +27,9 @@ use Rattle.one_history.specs.declared.board.Hand.{Hand}
 use Rattle.one_history.specs.declared.board.View.{View}
 use Rattle.edge_rule.specs.declared.desk.Desk.TheInside.{Inside}
 use Rattle.edge_rule.specs.declared.bench.Bench.TheInside as bench_fields
-use Rattle.edge_rule.specs.Filling.{entry_after, IsAtCommand}
+use Rattle.plan_logs.specs.Logs.{IsAtCommand}
 use Rattle.locality.specs.History.{learned_all, known_by, state_after, events_by, IsHistory}
-use Rattle.one_history.specs.Rule.{phase_place, word_count, log_view, Kept}
+use Rattle.one_history.specs.Rule.{phase_place, word_count, Kept}
 use Rattle.one_history.specs.Grow.{hand_in, adding, mine, Does, own_phase, next_instrument, reached, acted}
 use Rattle.edge_rule.specs.DeskView.{DeskView, Owns, Adds, Commanded, known}
 use Rattle.edge_rule.specs.declared.counts.Counts.{Counts}
@@ -58,19 +58,15 @@ pub first_value : {A : Type 0} (l : List (ℕ × A)) (i : ℕ) (a b : A) → l �
 first_value {A} l i a b e f = ap (λ (z : List (ℕ × A)). (get_or {A = ℕ × A} z 0 (i, a)).1) (sym f ∙ e)
 
 -- the entry, by the phase and the log
-pub entry_is : (plan : LabPlan) (s : State) (j : ℕ) → next_entry plan s j ≡ entry_after plan j (phase s j) (log s (next_command plan s j).0)
-unfolding next_entry entry_after
-entry_is plan s j = refl
-
--- which reads neither what the job dines nor what it drinks
-pub entry_reaching : (plan : LabPlan) (j : ℕ) (x : JobState) (l : List Entry) → entry_after plan j (record x { drinking = Reaching }) l ≡ entry_after plan j x l
-unfolding entry_after
-entry_reaching plan j x l = refl
+pub entry_is : (plan : LabPlan) (s : State) (j : ℕ) (x : JobState) (l : List Entry) → phase s j ≡ x → log s (next_command plan s j).0 ≡ l
+    → entry_after plan j x.session x.position l ≡ next_entry plan s j
+unfolding next_entry
+entry_is plan s j x l is_x is_l = λ k. entry_after plan j (sym is_x k).session (sym is_x k).position (sym is_l k)
 
 -- what a reaching job's Act finds, after a history
 pub takes_entry : (plan : LabPlan) (h : List Event) (j : ℕ) → IsPlan plan → IsHistory plan h → IsJob plan j → drinking (state_after plan h) j ≡ Reaching
     → (let s : State = state_after plan h in let i : ℕ = (next_command plan s j).0 in
-    MayAppend (log_view plan s i) (next_entry plan s j) × IsWithinLimits (next_entry plan s j))
+    MayAppend (log_with_room plan s i) (next_entry plan s j) × IsWithinLimits (next_entry plan s j))
 takes_entry plan h j is legal job reaching =
     let all : IsLogged plan (state_after plan h) (ended_sessions plan (the_opening plan) h) =
     logged plan (the_opening plan) h is (the_opening_is_acyclic plan).0 legal in (
@@ -97,7 +93,7 @@ module _ {A : Type 0} (b : bench_fields.Inside A) (d : Inside A) (is_bench : IsB
 
   at_own : IsAtCommand cp cj d.phase
   at_own =
-      let x = desk_seat d ok in
+      let x = (desk_seat d ok).phase_within in
       let drinks : d.phase.drinking ≡ Drinks = sym (ap (λ (z : JobState). z.drinking) (own_is b d is_bench ok owns)) ∙ ready.1 in
       record {
         is_job = ok.at_rest.inside;
@@ -169,7 +165,7 @@ module _ {A : Type 0} (b : bench_fields.Inside A) (d : Inside A) (is_bench : IsB
 
     -- the log in hand
     abbrev pub taken : LogView
-    taken = log_view cp u (next_instrument cv)
+    taken = log_with_room cp u (next_instrument cv)
 
     pub in_hand : (k : ℕ) → k ≡ (command_at b.plan.now d.job d.phase.session d.phase.position).0 → s1.me.1 ≡ (k, taken) ∷ []
     in_hand k is = t.1 ∙ (λ r. (sym (slot_known k is) r, taken) ∷ ok.empty r)
@@ -184,16 +180,17 @@ module _ {A : Type 0} (b : bench_fields.Inside A) (d : Inside A) (is_bench : IsB
     is_plan : IsPlan cp
     is_plan = subst IsPlan (sym owns.1) is_bench.is_plan
 
-    entry_u : (y : LogView) (entry : Entry) → y ≡ taken → entry ≡ entry_after b.plan.now d.job d.phase y.entries → entry ≡ next_entry cp u cj
-    entry_u y entry is is_entry = is_entry ∙ ((λ k. entry_after (plan_known b d is_bench ok owns k) (sym ok.job k) d.phase (is k).entries)
-        ∙ (sym (entry_reaching cp cj d.phase (log u (next_instrument cv)))
-        ∙ ((λ k. entry_after cp cj (sym phase_u k) (log u (sym next_u k))) ∙ sym (entry_is cp u cj))))
+    entry_u : (y : LogView) (entry : Entry) → y ≡ taken → entry ≡ entry_after b.plan.now d.job d.phase.session d.phase.position y.entries
+        → entry ≡ next_entry cp u cj
+    entry_u y entry is is_entry = is_entry
+        ∙ ((λ k. entry_after (plan_known b d is_bench ok owns k) (sym ok.job k) d.phase.session d.phase.position (is k).entries)
+        ∙ entry_is cp u cj (record d.phase { drinking = Reaching }) (log u (next_instrument cv)) phase_u (ap (log u) next_u))
 
-    takes_u : MayAppend (log_view cp u (next_command cp u cj).0) (next_entry cp u cj) × IsWithinLimits (next_entry cp u cj)
+    takes_u : MayAppend (log_with_room cp u (next_command cp u cj).0) (next_entry cp u cj) × IsWithinLimits (next_entry cp u cj)
     takes_u = takes_entry cp v1.front cj is_plan t.0.legal ok.at_rest.inside (ap (λ (z : JobState). z.drinking) phase_u)
 
     module _ (k : ℕ) (y : LogView) (entry : Entry) (is_k : k ≡ (command_at b.plan.now d.job d.phase.session d.phase.position).0)
-        (at_slot : s1.me.1 ≡ (k, y) ∷ rest s1.me.1) (is_entry : entry ≡ entry_after b.plan.now d.job d.phase y.entries) where
+        (at_slot : s1.me.1 ≡ (k, y) ∷ rest s1.me.1) (is_entry : entry ≡ entry_after b.plan.now d.job d.phase.session d.phase.position y.entries) where
       same_log : y ≡ taken
       same_log = is_taken k y is_k at_slot
 
@@ -201,14 +198,14 @@ module _ {A : Type 0} (b : bench_fields.Inside A) (d : Inside A) (is_bench : IsB
       entry_next = entry_u y entry same_log is_entry
 
       pub may_append : MayAppend y entry
-      may_append = subst (λ (z : LogView × Entry). MayAppend z.0 z.1) (λ r. ((ap (log_view cp u) next_u ∙ sym same_log) r, sym entry_next r)) takes_u.0
+      may_append = subst (λ (z : LogView × Entry). MayAppend z.0 z.1) (λ r. ((ap (log_with_room cp u) next_u ∙ sym same_log) r, sym entry_next r)) takes_u.0
 
       pub within_limits : IsWithinLimits entry
       within_limits = subst IsWithinLimits (sym entry_next) takes_u.1
 
       pub on_dial : entry.value ≡ turned entry.verb (dial y.entries)
       on_dial = subst (λ (z : LogView × Entry). z.1.value ≡ turned z.1.verb (dial z.0.entries))
-          (λ r. ((ap (log_view cp u) next_u ∙ sym same_log) r, sym entry_next r)) (next_value cp u cj)
+          (λ r. ((ap (log_with_room cp u) next_u ∙ sym same_log) r, sym entry_next r)) (next_value cp u cj)
 
       abbrev pub ActsAt : ℕ → ℕ → List (ℕ × LogView) → Type 0
       ActsAt i n c = (s1.table_id ≡ b.table.shared.table_id) × (i < b.table.shared.table_id.words)
@@ -231,8 +228,8 @@ module _ {A : Type 0} (b : bench_fields.Inside A) (d : Inside A) (is_bench : IsB
           let may1 : May cp (mine v1) (Act (hand_in v1).job) =
           (subst (λ (q : ℕ). q < length cp.jobs) (sym job1) here, ap (λ (q : JobState). q.drinking) phase1) in
           let slot1 : k ≡ next_instrument v1 = slot_known k is_k ∙ sym next_one in
-          let z_is : z ≡ with_log_entry (log_view cp u k) (next_entry cp u (hand_in v1).job) =
-          is_z ∙ (λ r. with_log_entry ((same_log ∙ ap (log_view cp u) (sym (slot_known k is_k))) r) ((entry_next ∙ ap (next_entry cp u) (sym job1)) r)) in
+          let z_is : z ≡ with_log_entry (log_with_room cp u k) (next_entry cp u (hand_in v1).job) =
+          is_z ∙ (λ r. with_log_entry ((same_log ∙ ap (log_with_room cp u) (sym (slot_known k is_k))) r) ((entry_next ∙ ap (next_entry cp u) (sym job1)) r)) in
           let whole1 : events_by (hand_in v1).job v1.front ≡ (hand_in v1).deeds = rests1.whole in
           let n_is : n ≡ phase_word_of (record (own_phase v1) { drinking = Drinks; position = (own_phase v1).position + 1 }) =
           is_n ∙ ap (λ (q : JobState). phase_word_of (record q { drinking = Drinks; position = q.position + 1 })) (sym phase1) in

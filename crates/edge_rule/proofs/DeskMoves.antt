@@ -1,9 +1,5 @@
 -- A desk after moves on an edge, and after a phase was stored.
-use Rattle.std.proofs.Common.{◌≡◌, ◌≢◌, ℕ, zero, suc, ◌/◌, ◌<◌, ◌≤◌, ◌==◌, not, if◌then◌else◌, eqb, Bool, true, false, List, [], ◌∷◌, length, get_or, set, replicate, bit_xor, bit_and, refl, sym, ap, ◌∙◌, subst, inl, inr, arith, length-set, set-set, get_or-set_same}
-use Rattle.std.proofs.lemmas.List.{set-get_or}
-use Rattle.std.proofs.lemmas.Bool.{cases_eq}
-use Rattle.std.proofs.lemmas.Bool.Decides.{nat_tests}
-use Rattle.std.specs.Int.Bits.{xor_zero_r, and_zero_r}
+use Rattle.std.proofs.Common.{◌≡◌, ◌≢◌, ℕ, ◌/◌, ◌<◌, ◌≤◌, if◌then◌else◌, eqb, Bool, false, List, [], ◌∷◌, length, get_or, set, replicate, refl, sym, ap, ◌∙◌, subst, arith}
 use mathlib.Core.Option.{none}
 use prog.Atomic.{either}
 use Rattle.atomic_table.specs.Table.{step, Allows}
@@ -14,18 +10,16 @@ use Rattle.instrument_log.specs.InstrumentLog.{LogView}
 use Rattle.legal_steps.specs.declared.edge_state.EdgeState.{EdgeState}
 use Rattle.legal_steps.specs.declared.phase.JobState.{JobState}
 use Rattle.legal_steps.specs.declared.phase.Drinking.TheVariants.{Reaching}
-use Rattle.legal_steps.specs.declared.event.Event.{Event}
-use Rattle.legal_steps.specs.declared.event.Event.TheVariants.{AskFork, GiveFork, Soil, AskBottles, GiveBottles}
 use Rattle.legal_steps.specs.State.{Seat, State, IsOwn, edge, seat, phase, no_edge}
-use Rattle.legal_steps.specs.Legal.{May, after}
-use Rattle.legal_steps.specs.Run.{IsLegalFrom, after_all}
+use Rattle.legal_steps.specs.Legal.{May}
+use Rattle.legal_steps.specs.Run.{IsLegalFrom}
 use Rattle.edge_word.specs.declared.moves.EdgeMoves.{EdgeMoves}
 use Rattle.edge_word.specs.Words.{word_of, IsOfBottles}
 use Rattle.edge_word.specs.Phases.{phase_word_of, phase_of, FitsPhaseWord}
-use Rattle.edge_word.specs.Moves.{on, events_of, after_moves, moves_of_words, AreOfBottles}
+use Rattle.edge_word.specs.Moves.{events_of, after_moves, fork_mark_after, bottle_marks_after, moves_of_words, AreOfBottles}
 use Rattle.edge_word.proofs.WordBits.{no_two_edges}
 use Rattle.edge_word.proofs.WordLemmas.{IsOfBottles-28, AreOfBottles-28}
-use Rattle.edge_word.proofs.MoveLaws.{moves_lead, read_back, stays_of_its_bottles, legal_moves_are_of_the_edge}
+use Rattle.edge_word.proofs.MoveLaws.{read_back, stays_of_its_bottles, legal_moves_are_of_the_edge}
 use Rattle.edge_word.proofs.PhaseLemmas.{phase_of-phase_word_of}
 use Rattle.one_history.specs.declared.board.View.{View}
 use Rattle.one_history.specs.declared.phase_event.PhaseEvent.{PhaseEvent}
@@ -33,139 +27,22 @@ use Rattle.one_history.specs.declared.phase_event.PhaseEvent.TheVariants as phas
 use Rattle.edge_rule.specs.declared.desk.Desk.TheInside.{Inside}
 use Rattle.edge_rule.specs.declared.bench.Bench.TheInside as bench_fields
 use Rattle.one_history.specs.PhaseEvents.{event_of, phase_after, clears}
-use Rattle.edge_rule.specs.Filling.{fork_mark_after, bottle_marks_after}
 use Rattle.edge_rule.specs.Counting.{counts_of, counted, AreFew}
 use Rattle.edge_rule.proofs.CountsKept.{moves_uncounted, counts_grow, counts_whole, few_in}
-use Rattle.locality.specs.History.{actor, learned, learned_all, state_after}
+use Rattle.locality.specs.History.{learned, learned_all, state_after}
 use Rattle.one_history.specs.Rule.{edge_place, phase_place, Kept}
-use Rattle.locality.specs.Lists.{Each}
 use Rattle.one_history.specs.Grow.{hand_in, mine, seen_state, Grows, Does, tried, phase_event, own_phase, stored}
 use Rattle.edge_rule.specs.DeskView.{DeskView, Owns, Adds, known, shown}
 use Rattle.edge_rule.specs.DeskInside.{seat_view, view_of, kept, fixed, AreOfPlan, IsDesk}
 use Rattle.edge_rule.specs.BenchInside.{bench_of, IsBench}
 use Rattle.edge_rule.proofs.StillEdges.{none_still}
-use Rattle.locality.proofs.Frame.{own_seat, as_many_seats, learned_seat}
+use Rattle.locality.proofs.Frame.{learned_seat}
 use Rattle.locality.specs.Changes.{seat_after}
-use Rattle.locality.proofs.Local.{each_move}
-use Rattle.locality.proofs.Few.{few_commands}
+use Rattle.locality.proofs.Groups.{moved_seat, moved_edges}
+use Rattle.legal_steps.proofs.FewCommands.{few_commands}
 use Rattle.one_history.proofs.Trying.{tries}
 use Rattle.one_history.proofs.Storing.{by_job, told_back, stores}
 use Rattle.edge_rule.proofs.DeskSteps.{got, led, hand_grown, mine_seats, mine_edges, desk_seat, desk_edges, desk_grows, desk_keeps, of_plan_set, noted_but, not_settled, framed, plan_known, seat_adds}
-
--- ---- the state after moves, as lists
-
--- an event of j on e leaves the other edges, and is learned as it is done
-pub record Moves (plan : LabPlan) (j e : ℕ) (event : Event) : Type 0 where
-  pub by : actor event ≡ j
-  pub edges_are : (s : State) → e < length s.edges → (after plan s event).edges ≡ set s.edges e (edge (after plan s event) e)
-  pub as_many : (s : State) → length (after plan s event).edges ≡ length s.edges
-  pub learns : (s : State) → learned plan s event ≡ after plan s event
-
-one_set : (l : List EdgeState) (e : ℕ) (x : EdgeState) → e < length l → set l e x ≡ set l e (get_or (set l e x) e no_edge)
-one_set l e x h = ap (set l e) (sym (get_or-set_same l e x no_edge h))
-
-each_moves : (plan : LabPlan) (j e : ℕ) (m : EdgeMoves) → Each (Moves plan j e) (events_of m j e)
-each_moves plan j e m = each_move plan j e (Moves plan j e) m
-    (record { by = refl; edges_are = λ s h. one_set s.edges e _ h; as_many = λ s. length-set s.edges e _; learns = λ s. refl })
-    (record { by = refl; edges_are = λ s h. one_set s.edges e _ h; as_many = λ s. length-set s.edges e _; learns = λ s. refl })
-    (record { by = refl; edges_are = λ s h. one_set s.edges e _ h; as_many = λ s. length-set s.edges e _; learns = λ s. refl })
-    (record { by = refl; edges_are = λ s h. one_set s.edges e _ h; as_many = λ s. length-set s.edges e _; learns = λ s. refl })
-    (record { by = refl; edges_are = λ s h. one_set s.edges e _ h; as_many = λ s. length-set s.edges e _; learns = λ s. refl })
-
-learned_moves : (plan : LabPlan) (j e : ℕ) (s : State) (g : List Event) → Each (Moves plan j e) g → learned_all plan s g ≡ after_all plan s g
-learned_moves plan j e s [] m = refl
-learned_moves plan j e s (x ∷ g) m = ap (λ t. learned_all plan t g) (m.0.learns s) ∙ learned_moves plan j e (after plan s x) g m.1
-
-edges_moved : (plan : LabPlan) (j e : ℕ) (s : State) (g : List Event) → e < length s.edges
-    → Each (Moves plan j e) g → (after_all plan s g).edges ≡ set s.edges e (edge (after_all plan s g) e)
-edges_moved plan j e s [] h m = sym (set-get_or s.edges e no_edge)
-edges_moved plan j e s (x ∷ g) h m =
-    let n = m.0.as_many s in
-    edges_moved plan j e (after plan s x) g (omega arith) m.1
-    ∙ (ap (λ (l : List EdgeState). set l e (edge (after_all plan (after plan s x) g) e)) (m.0.edges_are s h) ∙ set-set s.edges e _ _)
-
-abbrev pub seat_all : LabPlan → Seat → List Event → Seat
-seat_all plan x [] = x
-seat_all plan x (event ∷ events) = seat_all plan (seat_after plan x event) events
-
-seat_moved : (plan : LabPlan) (j e : ℕ) (s : State) (g : List Event) → j < length s.seats
-    → Each (Moves plan j e) g → seat (after_all plan s g) j ≡ seat_all plan (seat s j) g
-seat_moved plan j e s [] h m = refl
-seat_moved plan j e s (x ∷ g) h m =
-    let n = as_many_seats plan s x in
-    seat_moved plan j e (after plan s x) g (omega arith) m.1
-    ∙ ap (λ (y : Seat). seat_all plan y g)
-    (subst (λ i. i < length s.seats → seat (after plan s x) i ≡ seat_after plan (seat s i) x) m.0.by (own_seat plan s x) h)
-
--- ---- the marks after moves
-
-module _ (plan : LabPlan) (j e : ℕ) where
-  skip_ask : (x : Seat) (b : Bool) (rest : List Event) → seat_all plan x (on b (AskFork j e) rest) ≡ seat_all plan x rest
-  skip_ask x false rest = refl
-  skip_ask x true rest = refl
-
-  skip_tokens : (x : Seat) (asked : ℕ) (b : Bool) (rest : List Event) → seat_all plan x (on b (AskBottles j e asked) rest) ≡ seat_all plan x rest
-  skip_tokens x asked false rest = refl
-  skip_tokens x asked true rest = refl
-
-  give_bottles : (x : Seat) (given : ℕ) (rest : List Event) → seat_all plan x (on (not (given == 0)) (GiveBottles j e given) rest)
-      ≡ seat_all plan (record x { bottle_marks = set x.bottle_marks e (bit_xor (get_or x.bottle_marks e 0) (bit_and (get_or x.bottle_marks e 0) given)) }) rest
-  give_bottles x given rest = elim (cases_eq given 0) [
-    | inl nought ↦ rw nought (ap (λ (l : List ℕ). seat_all plan (record x { bottle_marks = l }) rest)
-        (sym (set-get_or x.bottle_marks e 0) ∙ ap (set x.bottle_marks e) (sym (xor_zero_r (get_or x.bottle_marks e 0))
-        ∙ ap (bit_xor (get_or x.bottle_marks e 0)) (sym (and_zero_r (get_or x.bottle_marks e 0))))))
-    | inr some ↦ let f : (given == 0) ≡ false = grind (arith, nat_tests) in rw f refl
-  ]
-
-  forks : (x : Seat) (soil given : Bool) (l : List Event) → seat_all plan x (on given (GiveFork j e) (on soil (Soil j e) [])) ≡ record x {
-    fork_marks = set x.fork_marks e (if soil then true else if given then false else get_or x.fork_marks e false);
-  }
-  forks x false false l = λ i. record x { fork_marks = sym (set-get_or x.fork_marks e false) i }
-  forks x false true l = refl
-  forks x true false l = refl
-  forks x true true l = λ i. record x { fork_marks = set-set x.fork_marks e false true i }
-
-  -- the group on the seat
-  pub marks_moved : (m : EdgeMoves) (x : Seat) → seat_all plan x (events_of m j e)
-      ≡ record {
-        phase = x.phase;
-        fork_marks = set x.fork_marks e (fork_mark_after m (get_or x.fork_marks e false));
-        bottle_marks = set x.bottle_marks e (bottle_marks_after m (get_or x.bottle_marks e 0));
-      }
-  marks_moved m x = given_first m.give_fork where
-    later : (y : Seat) → seat_all plan y (on (not (m.give_bottles == 0)) (GiveBottles j e m.give_bottles)
-        (on m.ask_fork (AskFork j e) (on (not (m.ask_bottles == 0)) (AskBottles j e m.ask_bottles) (on m.soil (Soil j e) []))))
-        ≡ seat_all plan (record y { bottle_marks = set y.bottle_marks e (bottle_marks_after m (get_or y.bottle_marks e 0)) }) (on m.soil (Soil j e) [])
-    later y = give_bottles y m.give_bottles _ ∙ (skip_ask _ m.ask_fork _ ∙ skip_tokens _ m.ask_bottles (not (m.ask_bottles == 0)) _)
-
-    given_first : (b : Bool)
-        → seat_all plan x (on b (GiveFork j e) (on (not (m.give_bottles == 0)) (GiveBottles j e m.give_bottles)
-        (on m.ask_fork (AskFork j e) (on (not (m.ask_bottles == 0)) (AskBottles j e m.ask_bottles) (on m.soil (Soil j e) [])))))
-        ≡ record {
-          phase = x.phase;
-          fork_marks = set x.fork_marks e (if m.soil then true else if b then false else get_or x.fork_marks e false);
-          bottle_marks = set x.bottle_marks e (bottle_marks_after m (get_or x.bottle_marks e 0));
-        }
-    given_first false = later x ∙ forks (record x { bottle_marks = set x.bottle_marks e (bottle_marks_after m (get_or x.bottle_marks e 0)) }) m.soil false []
-    given_first true = later (record x { fork_marks = set x.fork_marks e false })
-        ∙ forks (record x { bottle_marks = set x.bottle_marks e (bottle_marks_after m (get_or x.bottle_marks e 0)) }) m.soil true []
-
--- what a job knows after moves
-pub moved_seat : (plan : LabPlan) (j e : ℕ) (m : EdgeMoves) (s : State) → j < length s.seats
-    → seat (learned_all plan s (events_of m j e)) j
-    ≡ record {
-      phase = (seat s j).phase;
-      fork_marks = set (seat s j).fork_marks e (fork_mark_after m (get_or (seat s j).fork_marks e false));
-      bottle_marks = set (seat s j).bottle_marks e (bottle_marks_after m (get_or (seat s j).bottle_marks e 0));
-    }
-moved_seat plan j e m s h = ap (λ t. seat t j) (learned_moves plan j e s (events_of m j e) (each_moves plan j e m))
-    ∙ (seat_moved plan j e s (events_of m j e) h (each_moves plan j e m) ∙ marks_moved plan j e m (seat s j))
-
-pub moved_edges : (plan : LabPlan) (j e : ℕ) (m : EdgeMoves) (s : State) → e < length s.edges
-    → (learned_all plan s (events_of m j e)).edges ≡ set s.edges e (after_moves m (edge s e))
-moved_edges plan j e m s h =
-    ap (λ (t : State). t.edges) (learned_moves plan j e s (events_of m j e) (each_moves plan j e m))
-    ∙ (edges_moved plan j e s (events_of m j e) h (each_moves plan j e m) ∙ ap (set s.edges e) (moves_lead m (edge s e) plan s j e h refl))
 
 -- ---- an exchange
 
@@ -354,13 +231,13 @@ module _ {A : Type 0} (b : bench_fields.Inside A) (d : Inside A) (is_bench : IsB
 
   pub desk_session : d.phase.session ≤ 1000
   desk_session =
-      let x = (desk_seat d ok).session_there in
+      let x = (desk_seat d ok).phase_within.session_there in
       let few = is_bench.is_plan.draft.few_sessions sj in
       let same : length (sessions sp sj) ≡ length (sessions b.table.shared.key sj) = ap (λ (z : LabPlan). length (sessions z sj)) owns.1 in
       omega arith
 
   pub desk_position : d.phase.position ≤ 100000
-  desk_position = let x = (desk_seat d ok).position_there in let few = few_commands b.table.shared.key sj d.phase.session is_bench.is_plan in
+  desk_position = let x = (desk_seat d ok).phase_within.position_there in let few = few_commands b.table.shared.key sj d.phase.session is_bench.is_plan in
       let same : length (commands sp sj d.phase.session) ≡ length (commands b.table.shared.key sj d.phase.session) =
       ap (λ (z : LabPlan). length (commands z sj d.phase.session)) owns.1 in
       omega arith

@@ -12,7 +12,7 @@ use Rattle.edge_rule.specs.declared.desk.Desk.TheInside.{Inside}
 use Rattle.legal_steps.specs.declared.phase.Drinking.TheVariants.{Reaching}
 use Rattle.legal_steps.specs.State.{Seat, State, edge, phase, seat, drinking}
 use Rattle.locality.specs.History.{actor, state_after, events_by, known_by}
-use Rattle.one_history.specs.Rule.{phase_place, log_view, Spelled, Held, Kept}
+use Rattle.one_history.specs.Rule.{phase_place, Spelled, Held, Kept}
 use Rattle.locality.specs.Lists.{StartsWith, Each}
 use Rattle.one_history.specs.Seating.{glued}
 use Rattle.edge_rule.specs.DeskView.{DeskView, known}
@@ -33,6 +33,7 @@ use Rattle.legal_steps.specs.Fitting.{Fits}
 use Rattle.legal_steps.specs.Legal.{May, after}
 use Rattle.legal_steps.specs.Opening.{the_opening}
 use Rattle.legal_steps.specs.Run.{IsLegalFrom}
+use Rattle.legal_steps.specs.WholeLogs.{log_with_room}
 use Rattle.legal_steps.proofs.FitsLaw.{own_is_job}
 use Rattle.locality.proofs.Few.{phase_fits}
 use Rattle.locality.proofs.Histories.{history_fits, edge_fits}
@@ -156,8 +157,8 @@ module _ (p : LabPlan) where
             ∙ state_of-word_of (edge w e) (IsOfBottles-28 (length (bottles p e)) (edge w e) (k.is_plan.few_bottles e l) (edges_fit w e fit l)).bottles_fit;
         phases = λ j l. (λ i. phase_of (get_or c.words (phase_place (same i) j) 0))
             ∙ (ap phase_of (spelled.phase_words j l) ∙ phase_of-phase_word_of (phase w j) (phase_fits p w j k.is_plan fit l));
-        logs = λ i l. gets c.logs i (log_view p w i) (empty_log 0) (elim (k.homes.slots i l) [
-          | inl q ↦ f.4 i (log_view p w i) q
+        logs = λ i l. gets c.logs i (log_with_room p w i) (empty_log 0) (elim (k.homes.slots i l) [
+          | inl q ↦ f.4 i (log_with_room p w i) q
           | inr q ↦ absurd (none_reaches h desks q.1.0 q.1.1.job (all.every q.1.0 q.1.1.job) plans records rests q.1.1.reaching)
         ]);
         counts = λ j l. counted_at h c.counts desks j (all.every j l) records counted;

@@ -11,7 +11,6 @@ pub mod Endings
 pub mod ClosedWords
 pub mod GlancedDesks
 pub mod Rosters
-pub mod RoomLemmas
 pub mod OpenedDesks
 pub mod Knowledge
 pub mod LookedEdges

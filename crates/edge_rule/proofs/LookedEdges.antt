@@ -1,7 +1,6 @@
 -- Right after a look at an edge, its marks are those that the word seen sets.
-use Rattle.std.proofs.Common.{◌≡◌, ℕ, ◌<◌, false, List, [], ◌∷◌, ◌++◌, length, get_or, set, refl, sym, ap, ◌∙◌, subst, arith, length-set, get_or-set_same}
-use Rattle.lab_plan.specs.LabPlan.{LabPlan, edges}
-use Rattle.legal_steps.specs.declared.edge_state.EdgeState.{EdgeState}
+use Rattle.std.proofs.Common.{◌≡◌, ℕ, ◌<◌, false, [], ◌∷◌, ◌++◌, length, get_or, sym, ap, ◌∙◌, arith, length-set, get_or-set_same}
+use Rattle.lab_plan.specs.LabPlan.{edges}
 use Rattle.legal_steps.specs.declared.event.Event.{Event}
 use Rattle.legal_steps.specs.declared.event.Event.TheVariants.{Look}
 use Rattle.legal_steps.specs.State.{Seat, State, seat, edge, no_edge, end_of, bottles_at}

@@ -1,10 +1,11 @@
 -- Notes of needed bottles.
-use Rattle.std.proofs.Common.{◌≡◌, ◌≢◌, ℕ, zero, suc, ◌<◌, List, [], ◌∷◌, length, get_or, set, replicate, refl, sym, ap, ◌∙◌, subst, inl, inr, arith, length-set, get_or-set_same, get_or-set_other}
+use Rattle.std.proofs.Common.{◌≡◌, ℕ, zero, suc, ◌<◌, List, length, get_or, set, replicate, refl, sym, ap, ◌∙◌, subst, inl, inr, arith, length-set, get_or-set_same, get_or-set_other}
 use Rattle.std.proofs.lemmas.List.{length-replicate}
 use Rattle.std.proofs.lemmas.Bool.{cases_eq}
 use Rattle.lab_plan.specs.LabPlan.{LabPlan, edges}
+use Rattle.lab_plan.specs.NeededBottles.{AreNamed}
 use Rattle.edge_rule.specs.declared.needed.Needed.{Needed}
-use Rattle.edge_rule.specs.NeededBottles.{AreNamed, AreNeeded, nothing_noted}
+use Rattle.edge_rule.specs.NeededBottles.{AreNeeded, nothing_noted}
 
 none_noted : (n e : ℕ) → get_or (replicate n nothing_noted) e nothing_noted ≡ nothing_noted
 none_noted zero e = refl

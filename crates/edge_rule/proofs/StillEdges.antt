@@ -1,14 +1,13 @@
 -- What is noted stays true: of a calm edge where neither the edge nor its marks change, nor how the job dines and drinks; of phase acts where the job's seat
 -- doesn't.
-use Rattle.std.proofs.Common.{◌≡◌, ◌≢◌, ℕ, zero, suc, ◌<◌, Bool, true, false, List, [], ◌∷◌, length, get_or, set, replicate, refl, sym, ap, ◌∙◌, subst, inl, inr, arith, length-set, get_or-set_same, get_or-set_other}
+use Rattle.std.proofs.Common.{◌≡◌, ◌≢◌, ℕ, zero, suc, ◌<◌, Bool, true, false, List, length, get_or, set, replicate, refl, sym, ap, ◌∙◌, subst, inl, inr, arith, length-set, get_or-set_same, get_or-set_other}
 use Rattle.std.proofs.lemmas.List.{length-replicate}
 use Rattle.std.proofs.lemmas.Bool.{cases_eq, false≢true}
 use Rattle.lab_plan.specs.LabPlan.{LabPlan, edges}
 use Rattle.legal_steps.specs.declared.edge_state.EdgeState.{EdgeState}
-use Rattle.legal_steps.specs.declared.phase.JobState.{JobState}
 use Rattle.legal_steps.specs.State.{Seat, State, seat, edge, phase, fork_mark, bottle_marks, no_edge, end_of, bottles_at}
 use Rattle.legal_steps.specs.Legal.{fork_mark_seen}
-use Rattle.turns.specs.Due.{IsCalm, but_position}
+use Rattle.turns.specs.Due.{but_position}
 use Rattle.turns.specs.Acts.{IsSettled}
 use Rattle.turns.proofs.Calm.{stays_calm}
 use Rattle.locality.proofs.Reading.{may_same}

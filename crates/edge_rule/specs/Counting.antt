@@ -1,5 +1,6 @@
 -- What a job has done, as it is counted event by event.
 use Rattle.std.specs.Prelude.{ℕ, ◌+◌, ◌≤◌, List}
+use Rattle.lab_plan.specs.Limits.{most_sessions}
 use Rattle.legal_steps.specs.declared.event.Event.{Event}
 use Rattle.legal_steps.specs.Run.{meals_of, sessions_done_of, withdrawn_of}
 use Rattle.one_history.specs.declared.phase_event.PhaseEvent.{PhaseEvent}
@@ -25,8 +26,8 @@ counted Quit x = record x { sessions_done = x.sessions_done + 1 }
 counted Retire x = x
 counted Withdraw x = record x { withdrawn = x.withdrawn + 1 }
 
--- no count is above 1000
+-- each count is at most as many as a job may have sessions
 pub record AreFew (x : Counts) : Type 0 where
-  pub few_meals : x.meals ≤ 1000
-  pub few_sessions : x.sessions_done ≤ 1000
-  pub few_withdrawn : x.withdrawn ≤ 1000
+  pub few_meals : x.meals ≤ most_sessions
+  pub few_sessions : x.sessions_done ≤ most_sessions
+  pub few_withdrawn : x.withdrawn ≤ most_sessions

@@ -5,10 +5,11 @@ use Rattle.lab_plan.specs.IsPlan.{IsPlan}
 use Rattle.legal_steps.specs.declared.phase.Drinking.TheVariants.{Reaching}
 use Rattle.legal_steps.specs.State.{edge, phase, drinking}
 use Rattle.legal_steps.specs.declared.event.Event.{Event}
+use Rattle.legal_steps.specs.WholeLogs.{log_with_room}
 use Rattle.one_history.specs.declared.board.Hand.{Hand}
 use Rattle.one_history.specs.declared.board.View.{View}
 use Rattle.locality.specs.History.{actor, state_after, IsHistory, events_by}
-use Rattle.one_history.specs.Rule.{hand, log_view}
+use Rattle.one_history.specs.Rule.{hand}
 use Rattle.locality.specs.Lists.{StartsWith, Each}
 use Rattle.edge_rule.specs.DeskView.{DeskView, known}
 use Rattle.edge_rule.specs.ClosedView.{ClosedView, edge_in, phase_in, log_in, counts_in}
@@ -65,5 +66,5 @@ pub record IsEnd (p : LabPlan) (desks : List DeskView) (c : ClosedView) : Type 0
   pub fronts : Each (λ (d : DeskView). StartsWith history d.front) desks
   pub edges : (e : ℕ) → e < length (edges p) → edge_in c e ≡ edge (state_after p history) e
   pub phases : (j : ℕ) → j < length p.jobs → phase_in c j ≡ phase (state_after p history) j
-  pub logs : (i : ℕ) → i < length p.instruments → log_in c i ≡ log_view p (state_after p history) i
+  pub logs : (i : ℕ) → i < length p.instruments → log_in c i ≡ log_with_room p (state_after p history) i
   pub counts : (j : ℕ) → j < length p.jobs → counts_in c j ≡ counts_of j history

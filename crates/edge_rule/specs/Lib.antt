@@ -4,7 +4,6 @@ pub mod CalmEdges
 pub mod NeededBottles
 pub mod DeskInside
 pub mod BenchInside
-pub mod Filling
 pub mod Company
 pub mod Ending
 pub mod ClosedView

@@ -1,72 +1,26 @@
 //! Commands: the log of an instrument leaves its slot, gets an entry and goes back.
-ghost use Rattle.std.specs.Prelude.{◌≡◌, ◌<◌, ◌≤◌, ◌+◌, ◌∷◌, [], length};
+ghost use Rattle.std.specs.Prelude.{◌≡◌};
 ghost use Rattle.lab_plan.specs.LabPlan.{command_at};
-ghost use Rattle.instrument_log.specs.Dial.{turned, dial};
-ghost use Rattle.instrument_log.specs.Entries.{IsWithinLimits};
-ghost use Rattle.instrument_log.specs.InstrumentLog.{MayAppend, with_entry};
 ghost use Rattle.legal_steps.specs.declared.event.Event.TheVariants.{Reach};
 ghost use Rattle.legal_steps.specs.Legal.{May};
-ghost use Rattle.edge_rule.specs.Filling.{entry_after, IsAtCommand};
+ghost use Rattle.plan_logs.specs.Logs.{IsAtCommand};
 ghost use Rattle.edge_rule.specs.DeskView.{Owns, Commanded, known};
 
 use crate::bench::Bench;
 use crate::desk::Desk;
 use crate::words::{packed_phase, phase_place};
-use instrument_log::{Entry, InstrumentLog, turned};
-use lab_plan::{InstrumentNo, JobNo, Plan, Verb};
+use instrument_log::Entry;
+use lab_plan::{JobNo, Plan};
 use legal_steps::{Drinking, JobState};
 use one_history::board::{Acts, Reaches};
+use plan_logs::{next_command, next_entry, push};
 use std::alloc::Allocator;
-
-fn next_command<A: Allocator>(plan: &Plan<A>, job: JobNo, phase: JobState) -> (InstrumentNo, Verb)
-    requires { IsAtCommand plan.now job phase }
-    ensures { result ≡ command_at plan.now job phase.session phase.position }
-{
-    plan.commands(job, phase.session)[phase.position as usize]
-}
 
 fn slot_of<A: Allocator>(plan: &Plan<A>, job: JobNo, phase: JobState) -> usize
     requires { IsAtCommand plan.now job phase }
     ensures { result ≡ (command_at plan.now job phase.session phase.position).0 }
 {
     next_command(plan, job, phase).0.0 as usize
-}
-
-// The entry of the next command, where the dial is at this value.
-#[tactic(auto, unfolding(crate::specs::Filling::entry_after))]
-fn next_entry<A: Allocator>(
-    plan: &Plan<A>,
-    job: JobNo,
-    phase: JobState,
-    log: &InstrumentLog<A>,
-) -> Entry
-    requires { IsAtCommand plan.now job phase }
-    ensures { result ≡ entry_after plan.now job phase log.now.entries }
-{
-    let (_, verb) = next_command(plan, job, phase);
-    let place = plan.place(job, phase.session, phase.position);
-    Entry {
-        job,
-        session: phase.session,
-        place: place.place,
-        length: place.length,
-        verb,
-        value: turned(verb, log.value()),
-    }
-}
-
-// Adds an entry to a log that takes it.
-#[tactic(auto, using(locality::proofs::Few::not_refused))]
-fn push<A: Allocator>(log: &mut InstrumentLog<A>, entry: &Entry)
-    requires may { MayAppend log.old entry.now }
-    requires within_limits { IsWithinLimits entry.now }
-    requires on_dial { entry.now.value ≡ turned entry.now.verb (dial log.old.entries) }
-    ensures { log.new ≡ with_entry log.old entry.now }
-{
-    match log.append(*entry) {
-        Ok(()) => (),
-        Err(_) => unreachable!(),
-    }
 }
 
 /// Reaches for the log of the next command's instrument, and acts: adds the command's entry, which it answers.

@@ -16,7 +16,6 @@ mod needed;
 mod opening;
 mod readers;
 mod refusals;
-mod rooms;
 mod roster;
 mod steps;
 mod telling;

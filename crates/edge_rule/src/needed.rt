@@ -1,9 +1,9 @@
 //! What a desk notes of the bottles that sessions need.
 ghost use Rattle.std.specs.Prelude.{◌≡◌, ◌<◌, length, IfSome};
 ghost use Rattle.lab_plan.specs.LabPlan.{edges};
+ghost use Rattle.lab_plan.specs.NeededBottles.{AreNamed};
 ghost use Rattle.legal_steps.specs.State.{session as session_at};
 ghost use Rattle.edge_rule.specs.DeskView.{known};
-ghost use Rattle.edge_rule.specs.NeededBottles.{AreNamed};
 
 use crate::desk::Desk;
 use crate::words::number;

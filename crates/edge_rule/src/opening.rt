@@ -13,13 +13,13 @@ use crate::counts::NO_COUNTS;
 use crate::desk::Desk;
 use crate::needed::NOTHING_NOTED;
 use crate::refusals::OpenError;
-use crate::rooms::empty_logs;
 use atomic_table::{Seat, Table};
 use edge_word::EdgeWord;
 use instrument_log::InstrumentLog;
 use lab_plan::{EdgeNo, JobNo, Plan};
 use legal_steps::{Dining, Drinking, JobState};
 use one_history::board::{Board, Deals, View};
+use plan_logs::empty_logs;
 use std::alloc::{AllocError, Allocator};
 
 // The words of THE opening.

@@ -1,5 +1,6 @@
 //! What a desk and a bench answer without a step.
 ghost use Rattle.std.specs.Prelude.{◌≡◌, ◌↔◌, ◌<◌, ◌≤◌, length, IsTrue};
+ghost use Rattle.lab_plan.specs.Limits.{most_bottles};
 ghost use Rattle.lab_plan.specs.LabPlan.{edges, bottles};
 ghost use Rattle.legal_steps.specs.State.{IsOwn, edge as edge_at, phase as phase_at, fork_mark as fork_mark_at, bottle_marks as bottle_marks_at, drinking as drinking_at};
 ghost use Rattle.legal_steps.specs.declared.phase.Drinking.TheVariants.{Retired};
@@ -153,7 +154,7 @@ impl<A: Allocator> Desk<A> {
 
 /// The state of an edge that its word spells.
 pub fn unpacked_edge(word: EdgeWord) -> EdgeState
-    requires { IsOfBottles 28 word }
+    requires { IsOfBottles most_bottles word }
     ensures { result ≡ word }
 {
     state_of(word)

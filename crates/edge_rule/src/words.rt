@@ -1,5 +1,6 @@
 //! Words as they are read and written.
-ghost use Rattle.std.specs.Prelude.{◌≡◌, ◌<◌, ◌≤◌, ◌^◌, length, slice_index_or, bit_xor, bit_and, IsTrue, ◌↔◌, true};
+ghost use Rattle.std.specs.Prelude.{◌≡◌, ◌+◌, ◌<◌, ◌≤◌, ◌^◌, length, slice_index_or, bit_xor, bit_and, IsTrue, ◌↔◌, true};
+ghost use Rattle.lab_plan.specs.Limits.{most_sessions, most_bottles};
 ghost use Rattle.lab_plan.specs.LabPlan.{edges, bottles};
 ghost use Rattle.legal_steps.specs.declared.edge_state.EdgeState.{EdgeState};
 ghost use Rattle.legal_steps.specs.State.{IsOwn, end_of, bottles_at};
@@ -9,9 +10,8 @@ ghost use Rattle.edge_word.specs.Words.{word_of, IsOfBottles};
 ghost use Rattle.edge_word.specs.Phases.{phase_word_of, FitsPhaseWord};
 ghost use Rattle.one_history.specs.PhaseEvents.{phase_after as next_phase, clears as clears_marks};
 ghost use Rattle.one_history.specs.Rule.{phase_place as place_of};
-ghost use Rattle.edge_rule.specs.Filling.{fork_mark_after as mark_after, bottle_marks_after as marks_after};
 
-use edge_word::{EdgeMoves, EdgeWord, PhaseWord};
+use edge_word::{EdgeWord, PhaseWord};
 use lab_plan::{EdgeNo, JobNo, Plan};
 use legal_steps::{Dining, Drinking, EdgeState, End, JobState};
 use one_history::PhaseEvent;
@@ -44,7 +44,7 @@ pub(crate) fn unpacked<A: Allocator>(plan: &Plan<A>, edge: EdgeNo, word: u64) ->
 
 // The state of an edge that a word spells.
 pub(crate) fn state_of(word: EdgeWord) -> EdgeState
-    requires { IsOfBottles 28 word }
+    requires { IsOfBottles most_bottles word }
     ensures { result ≡ word }
 {
     let bits = word.pack();
@@ -86,25 +86,6 @@ pub(crate) fn marks_of<A: Allocator>(
     )
 }
 
-// The marks for an edge after moves on it.
-pub(crate) fn fork_mark_after(moves: EdgeMoves, old: bool) -> bool
-    ensures { result ≡ mark_after moves old }
-{
-    if moves.soil {
-        true
-    } else if moves.give_fork {
-        false
-    } else {
-        old
-    }
-}
-
-pub(crate) fn bottle_marks_after(moves: EdgeMoves, old: u32) -> u32
-    ensures { result ≡ marks_after moves old }
-{
-    old ^ (old & moves.give_bottles)
-}
-
 // Where the word of a job's phase is.
 pub(crate) fn phase_place<A: Allocator>(plan: &Plan<A>, job: JobNo) -> usize
     ensures { result ≡ place_of plan.now job }
@@ -121,42 +102,18 @@ pub(crate) fn packed_phase(phase: JobState) -> u64
 
 // The phase after an event.
 pub(crate) fn phase_after(what: PhaseEvent, phase: JobState) -> JobState
-    requires { phase.session ≤ 1000 }
+    requires { phase.session ≤ most_sessions }
     ensures phase { result ≡ next_phase what phase }
-    ensures few { result.session ≤ 1001 }
+    ensures few { result.session ≤ most_sessions + 1 }
 {
     match what {
-        PhaseEvent::Thirst => JobState {
-            drinking: Drinking::Thirsty,
-            session: phase.session + 1,
-            position: 0,
-            ..phase
-        },
-        PhaseEvent::Hunger => JobState {
-            dining: Dining::Hungry,
-            ..phase
-        },
-        PhaseEvent::Sit => JobState {
-            dining: Dining::Eating,
-            ..phase
-        },
-        PhaseEvent::Leave => JobState {
-            dining: Dining::Thinking,
-            ..phase
-        },
-        PhaseEvent::Drink => JobState {
-            drinking: Drinking::Drinking,
-            ..phase
-        },
-        PhaseEvent::Retire => JobState {
-            drinking: Drinking::Retired,
-            ..phase
-        },
-        PhaseEvent::Quit | PhaseEvent::Withdraw => JobState {
-            drinking: Drinking::Tranquil,
-            position: 0,
-            ..phase
-        },
+        PhaseEvent::Thirst => phase.in_next_session(),
+        PhaseEvent::Hunger => phase.with_dining(Dining::Hungry),
+        PhaseEvent::Sit => phase.with_dining(Dining::Eating),
+        PhaseEvent::Leave => phase.with_dining(Dining::Thinking),
+        PhaseEvent::Drink => phase.with_drinking(Drinking::Drinking),
+        PhaseEvent::Retire => phase.with_drinking(Drinking::Retired),
+        PhaseEvent::Quit | PhaseEvent::Withdraw => phase.out_of_session(),
     }
 }
 

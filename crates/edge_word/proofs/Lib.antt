@@ -7,3 +7,4 @@ pub mod MoveLaws
 pub mod MoveFrame
 pub mod TableLaw
 pub mod OpeningWords
+pub mod GroupLengths

@@ -67,11 +67,11 @@ give_bottles_only : (plan : LabPlan) (s : State) (j e set : ℕ) (b : Bool) → 
 give_bottles_only plan s j e set false h = unchanged j e s
 give_bottles_only plan s j e set true h = both_written s j e _ _ h refl
 
-ask_fork_only : (plan : LabPlan) (s : State) (j e : ℕ) (b : Bool) → ChangesOnly j e s (after_if plan b (AskFork j e) s)
+pub ask_fork_only : (plan : LabPlan) (s : State) (j e : ℕ) (b : Bool) → ChangesOnly j e s (after_if plan b (AskFork j e) s)
 ask_fork_only plan s j e false = unchanged j e s
 ask_fork_only plan s j e true = edge_written s j e _
 
-ask_bottles_only : (plan : LabPlan) (s : State) (j e set : ℕ) (b : Bool) → ChangesOnly j e s (after_if plan b (AskBottles j e set) s)
+pub ask_bottles_only : (plan : LabPlan) (s : State) (j e set : ℕ) (b : Bool) → ChangesOnly j e s (after_if plan b (AskBottles j e set) s)
 ask_bottles_only plan s j e set false = unchanged j e s
 ask_bottles_only plan s j e set true = edge_written s j e _
 

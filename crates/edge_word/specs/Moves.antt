@@ -1,11 +1,11 @@
 -- The moves of one job on one edge, as events of the core, as the change of an edge, and as the bits that change.
-use Rattle.std.specs.Prelude.{◌≡◌, ◌≢◌, ℕ, ◌^◌, ◌<◌, Bool, true, false, not, ◌&&◌, ◌==◌, List, [], ◌∷◌, length, bit_xor}
+use Rattle.std.specs.Prelude.{◌≡◌, ◌≢◌, ℕ, ◌^◌, ◌<◌, Bool, true, false, not, ◌&&◌, ◌==◌, List, [], ◌∷◌, length, bit_xor, bit_and, slice_index_or, slice_set, if◌then◌else◌}
 use Rattle.lab_plan.specs.LabPlan.{LabPlan}
 use Rattle.legal_steps.specs.declared.end.End.{End}
 use Rattle.legal_steps.specs.declared.edge_state.EdgeState.{EdgeState}
 use Rattle.legal_steps.specs.declared.event.Event.{Event}
 use Rattle.legal_steps.specs.declared.event.Event.TheVariants.{AskFork, GiveFork, Soil, AskBottles, GiveBottles}
-use Rattle.legal_steps.specs.State.{State, edge, seat, phase, opposite}
+use Rattle.legal_steps.specs.State.{State, Seat, edge, seat, phase, opposite}
 use Rattle.legal_steps.specs.Legal.{is_at, fork_asked, fork_given, fork_soiled, bottles_asked, bottles_given}
 use Rattle.legal_steps.specs.Run.{after_all}
 use Rattle.edge_word.specs.Words.{state_of, word_of_fields, flag_bit}
@@ -38,6 +38,10 @@ events_of m j e =
     on m.give_fork (GiveFork j e) (on (not (m.give_bottles == 0)) (GiveBottles j e m.give_bottles)
     (on m.ask_fork (AskFork j e) (on (not (m.ask_bottles == 0)) (AskBottles j e m.ask_bottles) (on m.soil (Soil j e) []))))
 
+-- nothing is to be done
+abbrev pub is_nothing : EdgeMoves → Bool
+is_nothing m = not m.give_fork && (m.give_bottles == 0) && not m.ask_fork && (m.ask_bottles == 0) && not m.soil
+
 -- the edge after a change, or without it
 abbrev pub when : Bool → (EdgeState → EdgeState) → EdgeState → EdgeState
 when false f x = x
@@ -47,6 +51,22 @@ when true f x = f x
 abbrev pub after_moves : EdgeMoves → EdgeState → EdgeState
 after_moves m x =
     when m.soil fork_soiled (bottles_asked m.ask_bottles (when m.ask_fork fork_asked (bottles_given m.give_bottles (when m.give_fork fork_given x))))
+
+-- the mark of the fork of their edge after the moves: soiling sets it, giving clears it
+abbrev pub fork_mark_after : EdgeMoves → Bool → Bool
+fork_mark_after m old = if m.soil then true else if m.give_fork then false else old
+
+-- and the marks of its bottles: those of the bottles that are given are cleared
+abbrev pub bottle_marks_after : EdgeMoves → ℕ → ℕ
+bottle_marks_after m old = bit_xor old (bit_and old m.give_bottles)
+
+-- the seat of the job that does the moves, on edge e
+abbrev pub seat_with_moves : EdgeMoves → ℕ → Seat → Seat
+seat_with_moves m e x = record {
+  phase = x.phase;
+  fork_marks = slice_set x.fork_marks e (fork_mark_after m (slice_index_or x.fork_marks e false));
+  bottle_marks = slice_set x.bottle_marks e (bottle_marks_after m (slice_index_or x.bottle_marks e 0));
+}
 
 -- the sets name bottles of an edge that has n
 pub record AreOfBottles (n : ℕ) (m : EdgeMoves) : Type 0 where

@@ -1,6 +1,7 @@
 -- The tables of both words: of an edge word bit by bit, of a phase word field by field.
 use Rattle.std.specs.Prelude.{◌≡◌, ℕ, ◌+◌, ◌/◌, ◌%◌, ◌^◌, ◌<◌, ◌≤◌}
 use Rattle.std.specs.Int.{bit_at}
+use Rattle.lab_plan.specs.Limits.{most_bottles}
 use Rattle.legal_steps.specs.declared.edge_state.EdgeState.{EdgeState}
 use Rattle.legal_steps.specs.declared.phase.JobState.{JobState}
 use Rattle.edge_word.specs.Words.{end_bit, flag_bit}
@@ -12,8 +13,8 @@ pub record Spells (n w : ℕ) (x : EdgeState) : Type 0 where
   pub dirty : bit_at w 1 ≡ flag_bit x.dirty
   pub token : bit_at w 2 ≡ end_bit x.token
   pub zero : bit_at w 3 ≡ 0
-  pub bottles : (k : ℕ) → k < 28 → bit_at w (4 + k) ≡ bit_at x.bottles k
-  pub bottle_tokens : (k : ℕ) → k < 28 → bit_at w (32 + k) ≡ bit_at x.bottle_tokens k
+  pub bottles : (k : ℕ) → k < most_bottles → bit_at w (4 + k) ≡ bit_at x.bottles k
+  pub bottle_tokens : (k : ℕ) → k < most_bottles → bit_at w (32 + k) ≡ bit_at x.bottle_tokens k
   pub top : (i : ℕ) → 60 ≤ i → bit_at w i ≡ 0
   pub no_other_bottle : (k : ℕ) → n ≤ k → (bit_at x.bottles k ≡ 0) × (bit_at x.bottle_tokens k ≡ 0)
 

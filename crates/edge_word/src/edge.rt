@@ -1,5 +1,6 @@
 // The word of an edge.
 ghost use Rattle.std.specs.Prelude.{◌≡◌, ◌≢◌, ℕ, ◌%◌, ◌^◌, ◌<◌, ◌≤◌, [], ◌∷◌, IfSome, IfNone, IsTrue, ◌↔◌};
+ghost use Rattle.lab_plan.specs.Limits.{most_bottles};
 ghost use Rattle.legal_steps.specs.declared.edge_state.EdgeState.{EdgeState};
 ghost use Rattle.legal_steps.specs.declared.event.Event.TheVariants.{AskFork, GiveFork, Soil, AskBottles, GiveBottles};
 ghost use Rattle.legal_steps.specs.State.{bottle_end};
@@ -30,7 +31,8 @@ pub struct EdgeWord {
 }
 
 impl Model for EdgeWord {
-    ghost use Rattle.legal_steps.specs.declared.edge_state.EdgeState.{EdgeState};
+    ghost use Rattle.lab_plan.specs.Limits.{most_bottles};
+ghost use Rattle.legal_steps.specs.declared.edge_state.EdgeState.{EdgeState};
     ghost use Rattle.std.proofs.Common.{ap};
     ghost use Rattle.edge_word.specs.Words.{word_of, state_of, IsEdgeWord};
     ghost use Rattle.edge_word.specs.WordCodec.{word_of-state_of};
@@ -64,11 +66,11 @@ const NO_FLIP: Flips = Flips {
     bottle_tokens: 0,
 };
 
-/// Whether the set is not empty and names only bottles of an edge that has so many, at most 28.
+/// Whether the set is not empty and names only bottles of an edge that has so many.
 pub fn is_bottle_set(set: u32, bottles: u32) -> bool
-    requires few { bottles ≤ 28 }
+    requires few { bottles ≤ most_bottles }
     ensures is_set { IsTrue result ↔ IsSetOf bottles set }
-    ensures fits_words { IsTrue result → IsSetOf 28 set }
+    ensures fits_words { IsTrue result → IsSetOf most_bottles set }
 {
     set != 0 && (set >> bottles) == 0
 }
@@ -86,7 +88,7 @@ fn end_of(word: u64) -> End
 
 /// Bit 3, and the bits of bottles that the edge lacks, added up.
 fn stray_bits_of(word: u64, bottles: u32) -> u64
-    requires { bottles ≤ 28 }
+    requires { bottles ≤ most_bottles }
     ensures { result ≡ stray_bits word bottles }
 {
     let set = (word >> 4) & 0xfff_ffff;
@@ -109,7 +111,7 @@ impl EdgeWord {
     /// The word of an edge with so many bottles in THE opening: fork and bottles at the lower job, the fork dirty,
     /// every request token at the higher.
     pub fn opening(bottles: u32) -> EdgeWord
-        requires few { bottles ≤ 28 }
+        requires few { bottles ≤ most_bottles }
         ensures { result ≡ opening_edge bottles }
     {
         EdgeWord {
@@ -120,7 +122,7 @@ impl EdgeWord {
     /// The edge that a word spells, or None exactly where a bit is set that must be zero.
     pub fn unpack(word: u64, bottles: u32) -> Option<EdgeWord>
         requires some_bottle { 1 ≤ bottles }
-        requires few { bottles ≤ 28 }
+        requires few { bottles ≤ most_bottles }
         ensures spelled { IfSome result (λ x. (word_of x ≡ word) × IsOfBottles bottles x) }
         ensures refused { IfNone result ((x : EdgeState) → IsOfBottles bottles x → word_of x ≢ word) }
     {
@@ -163,19 +165,19 @@ impl EdgeWord {
         end_of(self.word >> 2)
     }
 
-    /// The end of bottle `k`, below 28; the lower for a bottle that the edge lacks.
+    /// The end of bottle `k`; the lower for a bottle that the edge lacks.
     #[tactic(auto, using(crate::proofs::WordBits::bottle_read))]
     pub fn bottle_end(self, k: u32) -> End
-        requires { k < 28 }
+        requires { k < most_bottles }
         ensures { result ≡ bottle_end self.bottles k }
     {
         end_of(self.word >> (4 + k))
     }
 
-    /// The end of the request token of bottle `k`, below 28; the lower for a bottle that the edge lacks.
+    /// The end of the request token of bottle `k`; the lower for a bottle that the edge lacks.
     #[tactic(auto, using(crate::proofs::WordBits::token_read))]
     pub fn bottle_token_end(self, k: u32) -> End
-        requires { k < 28 }
+        requires { k < most_bottles }
         ensures { result ≡ bottle_end self.bottle_tokens k }
     {
         end_of(self.word >> (32 + k))
@@ -228,7 +230,7 @@ impl EdgeWord {
     /// The word after a request for a set of bottles: their tokens are at the other end. That the set is
     /// of the edge is told by `is_bottle_set`.
     pub fn asked_bottles(self, set: u32) -> EdgeWord
-        requires of_edge { IsSetOf 28 set }
+        requires of_edge { IsSetOf most_bottles set }
         ensures edge { result ≡ bottles_asked set self }
         ensures event { Lead (λ j e. AskBottles j e set ∷ []) self result }
     {
@@ -241,7 +243,7 @@ impl EdgeWord {
     /// The word after a set of bottles was given: they are at the other end. That the set is of the edge
     /// is told by `is_bottle_set`.
     pub fn given_bottles(self, set: u32) -> EdgeWord
-        requires of_edge { IsSetOf 28 set }
+        requires of_edge { IsSetOf most_bottles set }
         ensures edge { result ≡ bottles_given set self }
         ensures event { Lead (λ j e. GiveBottles j e set ∷ []) self result }
     {
@@ -254,7 +256,7 @@ impl EdgeWord {
     /// The word after a group of moves, in their order. That their sets are of the edge is told by
     /// `EdgeMoves::are_of_bottles`.
     pub fn moved(self, moves: EdgeMoves) -> EdgeWord
-        requires of_edge { AreOfBottles 28 moves }
+        requires of_edge { AreOfBottles most_bottles moves }
         ensures edge { result ≡ after_moves moves self }
         ensures events { Lead (events_of moves) self result }
     {

@@ -1,5 +1,5 @@
 // What holds of all words. Each law is the contract of a function that does nothing.
-ghost use Rattle.edge_word.specs.WordLaws.{HasTheBitsOfTheTable, HasTheFieldsOfTheTable, NoTwoEdgesShareAWord, NoTwoPhasesShareAWord, OpensAsTheOpening, MovesAreEvents, MovesChangeOnlyTheirEdge, StaysOfItsBottles, LegalMovesAreOfTheEdge, MovesAreReadBack};
+ghost use Rattle.edge_word.specs.WordLaws.{HasTheBitsOfTheTable, HasTheFieldsOfTheTable, NoTwoEdgesShareAWord, NoTwoPhasesShareAWord, OpensAsTheOpening, OpensAtZero, MovesAreEvents, MovesChangeOnlyTheirEdge, StaysOfItsBottles, LegalMovesAreOfTheEdge, LegalGroupsAreShort, MovesAreReadBack};
 
 /// The word of an edge is the one number that has the bits of the table at `EdgeWord`.
 pub fn bits_of_the_table()
@@ -29,6 +29,11 @@ pub fn opens_as_the_opening()
     ensures { OpensAsTheOpening }
 {}
 
+/// In THE opening each phase word is 0: a job before its first event thinks, is tranquil, and is in no session.
+pub fn opens_at_zero()
+    ensures { OpensAtZero }
+{}
+
 /// The edge after a group of moves is the edge after the events of the group, one after another.
 #[tactic(auto, using(crate::proofs::MoveLaws::moves_lead))]
 pub fn moves_are_events()
@@ -50,6 +55,12 @@ pub fn stays_of_its_bottles()
 #[tactic(auto, using(crate::proofs::MoveLaws::legal_moves_are_of_the_edge))]
 pub fn legal_moves_are_of_the_edge()
     ensures { LegalMovesAreOfTheEdge }
+{}
+
+/// Where each move of a group is legal after the ones before it, and there is one, the group has one to four events: who
+/// asks for a fork is hungry, and who soils one eats.
+pub fn legal_groups_are_short()
+    ensures { LegalGroupsAreShort }
 {}
 
 /// Where each move of a group is legal after the ones before it, the group is read back from the two words

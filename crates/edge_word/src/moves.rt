@@ -1,5 +1,5 @@
 // The moves that one job does on one edge in one step.
-ghost use Rattle.std.specs.Prelude.{◌≤◌, IsTrue, ◌↔◌};
+ghost use Rattle.std.specs.Prelude.{◌≡◌, ◌≤◌, IsTrue, ◌↔◌};
 
 /// Moves of one job on one edge, done at once in the order of the fields. Bit `k` of a set stands for bottle `k`
 /// of the edge; an empty set is no move.
@@ -18,14 +18,47 @@ pub struct EdgeMoves {
 }
 
 impl EdgeMoves {
-    ghost use Rattle.edge_word.specs.Moves.{AreOfBottles};
+    ghost use Rattle.lab_plan.specs.Limits.{most_bottles};
+    ghost use Rattle.edge_word.specs.Moves.{AreOfBottles, is_nothing, fork_mark_after, bottle_marks_after};
 
-    /// Whether both sets name only bottles of an edge that has so many, at most 28.
+    /// Whether there is no move.
+    pub fn is_empty(&self) -> bool
+        ensures { result ≡ is_nothing self.now }
+    {
+        !self.give_fork
+            && self.give_bottles == 0
+            && !self.ask_fork
+            && self.ask_bottles == 0
+            && !self.soil
+    }
+
+    /// Whether both sets name only bottles of an edge that has so many.
     pub fn are_of_bottles(self, bottles: u32) -> bool
-        requires few { bottles ≤ 28 }
+        requires few { bottles ≤ most_bottles }
         ensures are { IsTrue result ↔ AreOfBottles bottles self }
-        ensures fit_words { IsTrue result → AreOfBottles 28 self }
+        ensures fit_words { IsTrue result → AreOfBottles most_bottles self }
     {
         (self.give_bottles >> bottles) == 0 && (self.ask_bottles >> bottles) == 0
+    }
+    /// The mark for the fork of their edge after the moves, where it was `old` before: soiling the fork sets it, and
+    /// giving the fork clears it.
+    pub fn fork_mark(self, old: bool) -> bool
+        ensures { result ≡ fork_mark_after self old }
+    {
+        if self.soil {
+            true
+        } else if self.give_fork {
+            false
+        } else {
+            old
+        }
+    }
+
+    /// The marks for the bottles of their edge after the moves, where they were `old` before: those of bottles that are
+    /// given are cleared.
+    pub fn bottle_marks(self, old: u32) -> u32
+        ensures { result ≡ bottle_marks_after self old }
+    {
+        old ^ (old & self.give_bottles)
     }
 }

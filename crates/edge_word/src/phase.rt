@@ -67,7 +67,7 @@ fn is_phase_word(word: u64) -> bool
 }
 
 impl PhaseWord {
-    /// The word of a phase. Sessions of a plan are at most 1000, so they fit.
+    /// The word of a phase. The sessions of a job are few enough to fit (`lab_plan::limits`).
     pub fn new(phase: JobState) -> PhaseWord
         requires fits { phase.session < 2 ^ 24 }
         ensures { result ≡ phase }

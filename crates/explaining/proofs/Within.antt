@@ -10,7 +10,8 @@ use Rattle.refused_steps.specs.declared.cause.Cause.TheVariants.{NotNeeded, Bott
 use Rattle.refused_steps.specs.Causes.{Fails}
 use Rattle.explaining.specs.CauseTexts.{NamesWithin, job_of}
 
-pub names_within : (plan : LabPlan) (s : State) (step : Step) (cause : Cause) → IsStepOf plan step → Fails plan s (event_of s step) cause → NamesWithin plan step cause
+pub names_within : (plan : LabPlan) (s : State) (step : Step) (cause : Cause) → IsStepOf plan step → Fails plan s (event_of s step) cause
+    → NamesWithin plan step cause
 names_within plan s (AskBottles j e set) (NotNeeded k) of f = record { is_edge = of.1; is_bottle = f.0.is_bottle }
 names_within plan s (AskBottles j e set) (BottleHere k) of f = record { is_edge = of.1; is_bottle = f.0.is_bottle }
 names_within plan s (AskBottles j e set) (BottleTokenThere k) of f = record { is_edge = of.1; is_bottle = f.0.is_bottle }

@@ -6,7 +6,7 @@ use Rattle.legal_steps.specs.declared.event.Event.{Event}
 use Rattle.legal_steps.specs.declared.event.Step.{Step}
 use Rattle.legal_steps.specs.declared.event.StepLine.{StepLine}
 use Rattle.legal_steps.specs.State.{State}
-use Rattle.legal_steps.specs.Steps.{event_of, events_of}
+use Rattle.legal_steps.specs.Steps.{event_of, step_events}
 use Rattle.legal_steps.specs.Opening.{the_opening}
 use Rattle.legal_steps.specs.Run.{Runs, StopsAt}
 use Rattle.refused_steps.specs.declared.cause.Cause.{Cause}
@@ -59,7 +59,7 @@ pub record TellsEnd (plan : LabPlan) (s : State) (steps : ℕ) (text : List ℕ)
 
 -- the events of the steps, from THE opening
 abbrev pub events_from_opening : LabPlan → List StepLine → List Event
-events_from_opening plan lines = events_of plan (the_opening plan) (map (λ line. line.step) lines)
+events_from_opening plan lines = step_events plan (the_opening plan) (map (λ line. line.step) lines)
 
 -- the first step that isn't legal stands in this line, and is told of
 pub record TellsRefusal (plan : LabPlan) (lines : List StepLine) (number : ℕ) (text : List ℕ) : Type 0 where

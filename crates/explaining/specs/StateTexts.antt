@@ -52,7 +52,8 @@ done_text position = codes ", commands done: " ++ decimal position ++ codes "\n"
 
 -- `JOB: DINING, DRINKING, session S of N, commands done: P`
 unfoldable pub phase_line : LabPlan → State → ℕ → List ℕ
-phase_line plan s j = job_name plan j ++ codes ": " ++ doing_text (phase s j) ++ session_text (session s j) (length (sessions plan j)) ++ done_text (position s j)
+phase_line plan s j = job_name plan j ++ codes ": " ++ doing_text (phase s j) ++ session_text (session s j) (length (sessions plan j))
+    ++ done_text (position s j)
 
 -- where a thing and its request token are, and whether the job has a mark for it: `PLACE, token PLACE, MARK`
 unfoldable pub places_text : End → End → End → List ℕ
@@ -74,7 +75,8 @@ bottle_head plan j e k = codes "  bottle of " ++ bottle_name plan e k ++ codes "
 
 unfoldable pub bottle_line : LabPlan → State → ℕ → ℕ → ℕ → List ℕ
 bottle_line plan s j e k =
-    bottle_head plan j e k ++ places_text (end_of plan j e) (bottle_end (edge s e).bottles k) (bottle_end (edge s e).bottle_tokens k) ++ marks_text (bit_at (bottle_marks s j e) k == 1)
+    bottle_head plan j e k ++ places_text (end_of plan j e) (bottle_end (edge s e).bottles k) (bottle_end (edge s e).bottle_tokens k)
+    ++ marks_text (bit_at (bottle_marks s j e) k == 1)
 
 -- an edge: its fork and its bottles
 unfoldable pub edge_text : LabPlan → State → ℕ → ℕ → List ℕ

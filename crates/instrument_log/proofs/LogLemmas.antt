@@ -9,13 +9,13 @@ use Rattle.instrument_log.specs.Parts.{open_entry, if_open, unfinished_of}
 use Rattle.instrument_log.specs.InstrumentLog.{LogView, IsLog, MayAppend, with_entry}
 use Rattle.instrument_log.specs.Packed.{entries_of, IsKept}
 use Rattle.instrument_log.proofs.EntryLemmas.{entry_of-entry_bytes}
-use Rattle.instrument_log.proofs.WholeLemmas.{IsWholeButEnd-empty, IsWholeButEnd-push}
+use Rattle.instrument_log.proofs.WholeLemmas.{IsPartsButEnd-empty, IsPartsButEnd-push}
 use Rattle.instrument_log.proofs.PartLemmas.{dial-push, open_entry-push, HasDialValues-push, unfinished_of-push-le}
 
 pub IsLog-push : (log : LogView) (entry : Entry) → IsLog log → MayAppend log entry → IsWithinLimits entry
     → entry.value ≡ turned entry.verb (dial log.entries) → IsLog (with_entry log entry)
 IsLog-push log entry kept may within value = record {
-  whole_but_end = IsWholeButEnd-push log.entries entry kept.whole_but_end may.follows within.place_to;
+  whole_but_end = IsPartsButEnd-push log.entries entry kept.whole_but_end may.follows within.place_to;
   on_dial = HasDialValues-push log.entries entry kept.on_dial value;
   within_limits = All-push IsWithinLimits log.entries entry kept.within_limits within;
   fits_room = omega (arith, length-append log.entries (entry ∷ []), may.has_room);
@@ -50,7 +50,7 @@ pub IsKept-empty : (room : ℕ) → IsKept [] room None 0
 unfolding open_entry dial
 IsKept-empty room = record {
   is_log = record {
-    whole_but_end = IsWholeButEnd-empty;
+    whole_but_end = IsPartsButEnd-empty;
     on_dial = λ k entry got. cc;
     within_limits = λ k d inside. absurd (omega arith);
     fits_room = omega arith;

@@ -7,7 +7,7 @@ use Rattle.std.proofs.lemmas.List.Concat.{flat_map-append}
 use Rattle.std.specs.List.{flat_map, All}
 use Rattle.std.specs.Option.{MatchOption}
 use Rattle.instrument_log.specs.declared.entry.Entry.{Entry}
-use Rattle.instrument_log.specs.Parts.{open_entry, IsNextPlace, Follows, IsAtPlace, IsPartUpTo, IsPart, IsWholeButEnd}
+use Rattle.instrument_log.specs.Parts.{open_entry, IsNextPlace, Follows, IsAtPlace, IsPartUpTo, IsPart, IsPartsButEnd}
 use Rattle.instrument_log.proofs.PartLemmas.{slice_get-push, open_entry-push}
 
 -- a part that goes on by its next place
@@ -52,18 +52,18 @@ IsPartUpTo-follows None entry rest first none = subst (λ xs. IsPartUpTo entry (
 IsPartUpTo-follows (Some before) entry rest next part = IsPartUpTo-push before entry rest next part
 
 -- the last part is unfinished, or finished now
-IsWholeButEnd-ending : (entries : List Entry) (entry : Entry) (parts : List (List Entry)) (rest : List Entry)
+IsPartsButEnd-ending : (entries : List Entry) (entry : Entry) (parts : List (List Entry)) (rest : List Entry)
     → entries ≡ flat_map (λ part. part) parts ++ rest → All IsPart parts → IsPartUpTo entry (rest ++ entry ∷ []) → entry.place ≤ entry.length
     → (b : Bool) → nat_lt entry.place entry.length ≡ b
-    → open_entry (entries ++ entry ∷ []) ≡ (if b then Some entry else None) → IsWholeButEnd (entries ++ entry ∷ [])
-IsWholeButEnd-ending entries entry parts rest joined whole part within true open_now is = record {
+    → open_entry (entries ++ entry ∷ []) ≡ (if b then Some entry else None) → IsPartsButEnd (entries ++ entry ∷ [])
+IsPartsButEnd-ending entries entry parts rest joined whole part within true open_now is = record {
   parts = parts;
   rest = rest ++ entry ∷ [];
   joined = ap (λ xs. xs ++ entry ∷ []) joined ∙ append_assoc _ rest (entry ∷ []);
   whole = whole;
   ending = rw is part;
 }
-IsWholeButEnd-ending entries entry parts rest joined whole part within false closed is = record {
+IsPartsButEnd-ending entries entry parts rest joined whole part within false closed is = record {
   parts = parts ++ (rest ++ entry ∷ []) ∷ [];
   rest = [];
   joined =
@@ -82,12 +82,12 @@ IsWholeButEnd-ending entries entry parts rest joined whole part within false clo
   ending = rw is refl;
 }
 
-pub IsWholeButEnd-push : (entries : List Entry) (entry : Entry) → IsWholeButEnd entries
-    → Follows entries entry → entry.place ≤ entry.length → IsWholeButEnd (entries ++ entry ∷ [])
-IsWholeButEnd-push entries entry log follows within =
+pub IsPartsButEnd-push : (entries : List Entry) (entry : Entry) → IsPartsButEnd entries
+    → Follows entries entry → entry.place ≤ entry.length → IsPartsButEnd (entries ++ entry ∷ [])
+IsPartsButEnd-push entries entry log follows within =
     let part = IsPartUpTo-follows (open_entry entries) entry log.rest follows log.ending in
-    IsWholeButEnd-ending entries entry log.parts log.rest log.joined log.whole part within _ refl (open_entry-push entries entry)
+    IsPartsButEnd-ending entries entry log.parts log.rest log.joined log.whole part within _ refl (open_entry-push entries entry)
 
-pub IsWholeButEnd-empty : IsWholeButEnd []
+pub IsPartsButEnd-empty : IsPartsButEnd []
 unfolding open_entry
-IsWholeButEnd-empty = record { parts = []; rest = []; joined = refl; whole = λ k d inside. absurd (omega arith); ending = refl }
+IsPartsButEnd-empty = record { parts = []; rest = []; joined = refl; whole = λ k d inside. absurd (omega arith); ending = refl }

@@ -1,21 +1,22 @@
 -- The limits of a log's entries, and the 16 bytes that spell one.
-use Rattle.std.specs.Prelude.{ℕ, zero, suc, ◌≤◌, ◌+◌, ◌*◌, List, ◌++◌, slice_index_or}
+use Rattle.std.specs.Prelude.{ℕ, zero, suc, ◌<◌, ◌≤◌, ◌+◌, ◌*◌, List, ◌++◌, slice_index_or}
 use Rattle.std.specs.Int.{bytes_low_first}
 use Rattle.lab_plan.specs.declared.verb.Verb.{Verb}
 use Rattle.lab_plan.specs.declared.verb.Verb.TheVariants.{Set, Add, Read}
+use Rattle.lab_plan.specs.Limits.{most_jobs, most_sessions, most_commands, largest_number}
 use Rattle.lab_plan.specs.Verbs.{verb_number, Fits}
 use Rattle.instrument_log.specs.declared.entry.Entry.{Entry}
 
 -- an entry within the limits of a plan
 pub record IsWithinLimits (entry : Entry) : Type 0 where
-  pub job_within : entry.job ≤ 31
+  pub job_within : entry.job < most_jobs
   pub session_from : 1 ≤ entry.session
-  pub session_to : entry.session ≤ 1000
-  pub length_to : entry.length ≤ 100000
+  pub session_to : entry.session ≤ most_sessions
+  pub length_to : entry.length ≤ most_commands
   pub place_from : 1 ≤ entry.place
   pub place_to : entry.place ≤ entry.length
   pub verb_fits : Fits entry.verb
-  pub value_to : entry.value ≤ 999999
+  pub value_to : entry.value ≤ largest_number
 
 -- the byte that says which verb it is
 abbrev pub verb_code : Verb → ℕ

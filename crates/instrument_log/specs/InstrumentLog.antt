@@ -6,7 +6,7 @@ use Rattle.instrument_log.specs.declared.refusal.LogRefusal.{LogRefusal}
 use Rattle.instrument_log.specs.declared.refusal.LogRefusal.TheVariants.{NotNextPlace, NotFirstPlace, NoRoom}
 use Rattle.instrument_log.specs.Entries.{IsWithinLimits}
 use Rattle.instrument_log.specs.Dial.{HasDialValues}
-use Rattle.instrument_log.specs.Parts.{open_entry, IsNextPlace, Follows, IsWholeButEnd}
+use Rattle.instrument_log.specs.Parts.{open_entry, IsNextPlace, Follows, IsPartsButEnd}
 
 -- the entries of a log in order, and how many it has room for
 pub record LogView : Type 0 where
@@ -23,7 +23,7 @@ with_entry log entry = record log { entries = log.entries ++ entry ∷ [] }
 
 -- what a log's type keeps
 pub record IsLog (log : LogView) : Type 0 where
-  pub whole_but_end : IsWholeButEnd log.entries
+  pub whole_but_end : IsPartsButEnd log.entries
   pub on_dial : HasDialValues log.entries
   pub within_limits : All IsWithinLimits log.entries
   pub fits_room : length log.entries ≤ log.room

@@ -1,5 +1,6 @@
 -- How a log is kept.
 use Rattle.std.specs.Prelude.{◌≡◌, ℕ, ◌≤◌, List, length, map, Option}
+use Rattle.lab_plan.specs.Limits.{largest_number}
 use Rattle.instrument_log.specs.declared.entry.Entry.{Entry}
 use Rattle.instrument_log.specs.Entries.{entry_bytes, entry_of}
 use Rattle.instrument_log.specs.Dial.{dial}
@@ -17,4 +18,4 @@ pub record IsKept (packed : List (List ℕ)) (room : ℕ) (open_last : Option En
   pub open_is : open_last ≡ open_entry (entries_of packed)
   pub counted : unfinished_of (entries_of packed) ≤ length packed
   pub value_is : value ≡ dial (entries_of packed)
-  pub value_to : value ≤ 999999
+  pub value_to : value ≤ largest_number

@@ -47,7 +47,7 @@ pub record IsPart (entries : List Entry) : Type 0 where
   pub up_to_last : IsPartUpTo last entries
 
 -- a log is whole but for its end: parts, one after another, and then the beginning of one more, or nothing
-pub record IsWholeButEnd (entries : List Entry) : Type 0 where
+pub record IsPartsButEnd (entries : List Entry) : Type 0 where
   pub parts : List (List Entry)
   pub rest : List Entry
   pub joined : entries ≡ flat_map (λ part. part) parts ++ rest

@@ -1,5 +1,6 @@
 // How a command turns a dial.
 ghost use Rattle.std.specs.Prelude.{◌≡◌, ◌≤◌};
+ghost use Rattle.lab_plan.specs.Limits.{largest_number};
 ghost use Rattle.lab_plan.specs.Verbs.{Fits};
 ghost use Rattle.instrument_log.specs.Dial.{turned};
 
@@ -9,7 +10,7 @@ use lab_plan::Verb;
 #[tactic(auto, unfolding(crate::specs::Dial::turned))]
 pub fn turned(verb: Verb, value: u32) -> u32
     ensures turned { result ≡ turned verb value }
-    ensures fits { Fits verb → value ≤ 999999 → result ≤ 999999 }
+    ensures fits { Fits verb → value ≤ largest_number → result ≤ largest_number }
 {
     match verb {
         Verb::Set(number) => number,

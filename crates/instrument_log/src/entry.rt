@@ -1,12 +1,12 @@
 // An entry of a log.
 ghost use Rattle.std.specs.Prelude.{◌≡◌, IsTrue, ◌↔◌};
 
-use lab_plan::{JobNo, Verb};
+use lab_plan::{JobNo, LARGEST_NUMBER, MOST_COMMANDS, MOST_JOBS, MOST_SESSIONS, Verb};
 
 /// What one command left in the log of its instrument.
 ///
-/// Within the limits of a plan the job is at most 31, the session from 1 to 1000, the place from 1 to
-/// the length, the length at most 100000, and the verb's number and the value are at most 999999.
+/// Within the limits of a plan (`lab_plan::limits`) the session and the place are counted from 1, and the place is
+/// at most the length.
 #[derive(Clone, Copy, PartialEq, Eq, Debug)]
 pub struct Entry {
     pub job: JobNo,
@@ -28,14 +28,14 @@ impl Entry {
     pub fn is_within_limits(&self) -> bool
         ensures { IsTrue result ↔ IsWithinLimits self.now }
     {
-        byte_of_job(self.job) <= 31
+        (byte_of_job(self.job) as usize) < MOST_JOBS
             && 1 <= self.session
-            && self.session <= 1000
-            && self.length <= 100_000
+            && self.session <= MOST_SESSIONS
+            && self.length <= MOST_COMMANDS
             && 1 <= self.place
             && self.place <= self.length
             && self.verb.fits()
-            && self.value <= 999_999
+            && self.value <= LARGEST_NUMBER
     }
 }
 

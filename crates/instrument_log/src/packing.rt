@@ -28,8 +28,8 @@ pub fn pack_entry(entry: Entry) -> [u8; 16]
 }
 
 /// The entry that the bytes are packed from, where it is one within the limits. There is none exactly
-/// where the job is above 31, the session 0 or above 1000, the length above 100000, the place 0 or above
-/// the length, the verb above 2, its number or the value above 999999, or a read has a number.
+/// where the job, the session, the length, the verb's number or the value is past its limit (`lab_plan::limits`), the session
+/// or the place is 0, the place above the length, the verb above 2, or a read has a number.
 pub fn unpack_entry(bytes: [u8; 16]) -> Option<Entry>
     ensures spelled { IfSome result (λ entry. (entry_bytes entry ≡ bytes) × IsWithinLimits entry) }
     ensures refused { IfNone result ((entry : Entry) → IsWithinLimits entry → entry_bytes entry ≢ bytes) }

@@ -4,8 +4,7 @@ use Rattle.std.proofs.lemmas.Bool.{cases_eq}
 use Rattle.lab_plan.specs.LabPlan.{LabPlan}
 use Rattle.legal_steps.specs.declared.phase.JobState.{JobState}
 use Rattle.legal_steps.specs.State.{Seat}
-use Rattle.legal_steps.specs.Fitting.{IsSeatOf}
-use Rattle.interleaving.specs.Phases.{IsPhaseOf}
+use Rattle.legal_steps.specs.Fitting.{IsPhaseOf, IsSeatOf}
 
 -- what holds at place k of a list with a new element at place n: the new one where they are the same, the old one elsewhere
 pub set_cases : {X : Type 0} (P : ℕ → X → Type 0) (xs : List X) (n : ℕ) (x d : X) (k : ℕ) → n < length xs
@@ -23,8 +22,5 @@ seat_with_phase plan j x phase h p = record {
   fork_marks_there = h.fork_marks_there;
   bottle_marks_there = h.bottle_marks_there;
   bottle_marks_fit = h.bottle_marks_fit;
-  session_there = p.session_there;
-  begun = p.begun;
-  position_there = p.position_there;
-  command_left = p.command_left;
+  phase_within = p;
 }

@@ -1,12 +1,8 @@
 pub mod FitLemmas
-pub mod OwnEdges
 pub mod BottleLemmas
-pub mod FewCommands
 pub mod LogLemmas
-pub mod NeedsLemmas
 pub mod CountLemmas
 pub mod WorldLemmas
-pub mod RoomLemmas
 pub mod OpeningTables
 pub mod StepsLemmas
 pub mod PrecedenceLemmas

@@ -1,37 +1,18 @@
 -- The logs of a state and their room.
-use Rattle.std.proofs.Common.{◌≡◌, ◌≢◌, ℕ, zero, suc, ◌<◌, List, [], ◌∷◌, ◌++◌, length, map, slice_index_or, slice_set, length-set, arith, refl, sym, ap, ◌∙◌, subst}
-use Rattle.std.specs.Prelude.{Option, Some, None}
-use Rattle.std.specs.Option.{MatchOption}
+use Rattle.std.proofs.Common.{◌≡◌, ℕ, zero, suc, ◌+◌, ◌<◌, List, [], ◌∷◌, ◌++◌, length, map, replicate, slice_index_or, slice_set, length-set, arith, refl, sym, ap, ◌∙◌, subst}
+use Rattle.std.specs.List.{range_with_len}
+use Rattle.std.proofs.lemmas.List.FromFn.{get_or-map-range_with_len, length-map-range_with_len}
 use Rattle.lab_plan.specs.LabPlan.{LabPlan}
 use Rattle.instrument_log.specs.declared.entry.Entry.{Entry}
-use Rattle.instrument_log.specs.declared.refusal.LogRefusal.{LogRefusal}
-use Rattle.instrument_log.specs.declared.refusal.LogRefusal.TheVariants.{NotNextPlace, NotFirstPlace, NoRoom}
-use Rattle.instrument_log.specs.InstrumentLog.{LogView, MayAppend, IsRefused, empty_log, with_entry as with_log_entry}
-use Rattle.instrument_log.specs.Parts.{open_entry, IsNextPlace}
+use Rattle.instrument_log.specs.InstrumentLog.{LogView, empty_log, with_entry as with_log_entry}
 use Rattle.legal_steps.specs.declared.edge_state.EdgeState.{EdgeState}
 use Rattle.legal_steps.specs.State.{State, Seat, Setting}
 use Rattle.legal_steps.specs.Fitting.{Fits}
 use Rattle.legal_steps.specs.Legal.{with_entry}
-use Rattle.legal_steps.specs.WholeLogs.{room_of}
-use Rattle.interleaving.specs.Rooms.{log_at, log_with_room, HasRooms}
+use Rattle.legal_steps.specs.WholeLogs.{room_of, log_with_room}
+use Rattle.interleaving.specs.Rooms.{log_at, HasRooms}
 use Rattle.legal_steps.proofs.FitsWrites.{fits_with_log}
 use Rattle.interleaving.proofs.FitLemmas.{set_cases}
-
-not_next : (last : Option Entry) (entry : Entry) → MatchOption last (entry.place ≡ 1) (λ before. IsNextPlace before entry)
-    → MatchOption last ⊥ (λ before. ¬ IsNextPlace before entry) → ⊥
-not_next None entry h r = r
-not_next (Some before) entry h r = r h
-
-not_first : (last : Option Entry) (entry : Entry) → MatchOption last (entry.place ≡ 1) (λ before. IsNextPlace before entry)
-    → MatchOption last (entry.place ≢ 1) (λ before. ⊥) → ⊥
-not_first None entry h r = r h
-not_first (Some before) entry h r = r
-
--- a log refuses no entry that it may append
-pub not_refused : (log : LogView) (entry : Entry) (refusal : LogRefusal) → MayAppend log entry → IsRefused log entry refusal → ⊥
-not_refused log entry NotNextPlace may refused = not_next (open_entry log.entries) entry may.follows refused
-not_refused log entry NotFirstPlace may refused = not_first (open_entry log.entries) entry may.follows refused
-not_refused log entry NoRoom may refused = omega (arith, may.has_room, refused.1)
 
 -- the entries of the log of an instrument
 pub entries_at : (logs : List LogView) (i : ℕ) → slice_index_or (map (λ (l : LogView). l.entries) logs) i [] ≡ (log_at logs i).entries
@@ -87,3 +68,14 @@ rooms_pushed plan logs i old new entry rooms inside was is k below =
     set_cases (λ n (l : LogView). l.room ≡ room_of plan n) logs i new (empty_log 0) k
     inside (ap (λ (l : LogView). l.room) (is ∙ ap (λ l. with_log_entry l entry) was) ∙ rooms i inside)
     (λ _. rooms k (omega (arith, below, length-set {A = LogView})))
+
+-- ---- the logs of an opening
+
+pub have_rooms : (plan : LabPlan) (n : ℕ) → HasRooms plan (map (λ i. empty_log (room_of plan i)) (range_with_len 0 n))
+have_rooms plan n i below =
+    let f : ℕ → LogView = λ k. empty_log (room_of plan k) in
+    ap (λ (l : LogView). l.room) (get_or-map-range_with_len f 0 n i i (empty_log 0) (omega (arith, below, length-map-range_with_len f 0 n)) (omega arith))
+
+pub are_empty : (plan : LabPlan) (a n : ℕ) → map (λ (l : LogView). l.entries) (map (λ i. empty_log (room_of plan i)) (range_with_len a n)) ≡ replicate n []
+are_empty plan a zero = refl
+are_empty plan a (suc n) = ap (λ (xs : List (List Entry)). [] ∷ xs) (are_empty plan (a + 1) n)

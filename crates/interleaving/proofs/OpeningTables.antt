@@ -20,10 +20,10 @@ use Rattle.legal_steps.specs.Opening.{AreChoices, chosen_edge, opening_of, idle_
 use Rattle.legal_steps.specs.Precedence.{IsAcyclic, Precedes}
 use Rattle.legal_steps.proofs.OpeningChoices.{opening_edge, opening_of_choices}
 use Rattle.legal_steps.proofs.OpeningLemmas.{fits_opening}
+use Rattle.legal_steps.proofs.ReachedLemmas.{reached_opening}
 use Rattle.interleaving.specs.Counting.{no_counts, counts_of}
 use Rattle.interleaving.specs.World.{IsReachedWith, WorldView}
-use Rattle.interleaving.proofs.LogLemmas.{shown}
-use Rattle.interleaving.proofs.RoomLemmas.{are_empty}
+use Rattle.interleaving.proofs.LogLemmas.{shown, are_empty}
 
 chosen_length : (plan : LabPlan) (choices : List EndChoice) → length (opening_of plan choices).edges ≡ length choices
 chosen_length plan choices = length-map (enumerate_from 0 choices) _ ∙ length-enumerate_from 0 choices
@@ -62,12 +62,7 @@ none_counted n k below = get_or-replicate n k no_counts no_counts below
 pub reached_at_start : (plan : LabPlan) (s : State) → IsPlan plan → IsOpening plan s
     → IsAcyclic plan s → IsReachedWith plan s (replicate (length plan.jobs) no_counts)
 reached_at_start plan s is_plan opens acyclic = record {
-  is_plan = is_plan;
-  opening = s;
-  is_opening = opens;
-  acyclic = acyclic;
-  events = [];
-  run = record { legal = tt; leads = refl };
+  reached = reached_opening plan s is_plan opens acyclic;
   counted = record { one_each = length-replicate (length plan.jobs) no_counts; counted = λ k below. none_counted (length plan.jobs) k below };
 }
 

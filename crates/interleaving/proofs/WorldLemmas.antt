@@ -6,11 +6,13 @@ use Rattle.std.proofs.lemmas.Option.{slice_get_read}
 use Rattle.lab_plan.specs.LabPlan.{LabPlan}
 use Rattle.legal_steps.specs.declared.event.Event.{Event}
 use Rattle.legal_steps.specs.declared.event.Event.TheVariants.{Act, Sit, Quit, Withdraw}
-use Rattle.legal_steps.specs.State.{State}
+use Rattle.legal_steps.specs.State.{State, phase}
+use Rattle.legal_steps.specs.Fitting.{IsPhaseOf}
 use Rattle.legal_steps.specs.Legal.{May, IsLegal}
 use Rattle.legal_steps.specs.Run.{StopsAt}
 use Rattle.legal_steps.specs.Reached.{IsReached}
-use Rattle.legal_steps.proofs.RunLemmas.{runs_push, runs_more}
+use Rattle.legal_steps.proofs.ReachedLemmas.{reached_fits, reached_legal}
+use Rattle.legal_steps.proofs.RunLemmas.{runs_more}
 use Rattle.legal_steps.proofs.AppendLaw.{act_appends, next_within_limits}
 use Rattle.legal_steps.proofs.MealLaw.{meals_few}
 use Rattle.legal_steps.proofs.CountLaw.{done_few}
@@ -19,9 +21,6 @@ use Rattle.interleaving.specs.Step.{TakesEntry}
 use Rattle.interleaving.specs.Counting.{GoOnBy, CanCount, HasFewCounts}
 use Rattle.interleaving.specs.World.{WorldView, IsReachedWith, LeadsTo}
 use Rattle.interleaving.proofs.CountLemmas.{goes_on_none, goes_on_push, counts_push}
-
-pub is_reached : (plan : LabPlan) (s : State) (counts : List Counts) → IsReachedWith plan s counts → IsReached plan s
-is_reached plan s counts h = record { is_plan = h.is_plan; opening = h.opening; is_opening = h.is_opening; acyclic = h.acyclic; events = h.events; run = h.run }
 
 -- in a reached state the log of a legal Act takes its entry
 pub takes_entry : (plan : LabPlan) (s : State) (event : Event) → IsReached plan s → TakesEntry plan s event
@@ -34,10 +33,11 @@ takes_entry plan s event reached = tt
 few_counts : (plan : LabPlan) (s : State) (counts : List Counts) (j : ℕ) → IsReachedWith plan s counts → j < length plan.jobs → HasFewCounts j counts
 few_counts plan s counts j h job =
     let is = h.counted.counted j job in
-    let done = done_few plan h.opening h.events j h.is_plan h.is_opening h.run.legal in
+    let r = h.reached in
+    let done = done_few plan r.opening r.events j r.is_plan r.is_opening r.run.legal in
     record {
       is_job = omega (arith, job, h.counted.one_each);
-      few_meals = omega (arith, ap (λ (x : Counts). x.meals) is, meals_few plan h.opening h.events j h.is_plan h.is_opening h.run.legal);
+      few_meals = omega (arith, ap (λ (x : Counts). x.meals) is, meals_few plan r.opening r.events j r.is_plan r.is_opening r.run.legal);
       few_sessions = omega (arith, ap (λ (x : Counts). x.sessions_done) is, done);
       few_withdrawn = omega (arith, ap (λ (x : Counts). x.withdrawn) is, done);
     }
@@ -53,14 +53,14 @@ can_count plan s counts event h may = tt
 pub reached_with : (plan : LabPlan) (s s' : State) (counts counts' : List Counts) (event : Event)
     → IsReachedWith plan s counts → IsLegal plan s event s' → GoOnBy counts (event ∷ []) counts' → IsReachedWith plan s' counts'
 reached_with plan s s' counts counts' event h step more = record {
-  is_plan = h.is_plan;
-  opening = h.opening;
-  is_opening = h.is_opening;
-  acyclic = h.acyclic;
-  events = h.events ++ event ∷ [];
-  run = runs_push plan h.opening s s' h.events event h.run step;
-  counted = counts_push plan h.events event counts counts' h.counted more;
+  reached = reached_legal plan s event s' h.reached step;
+  counted = counts_push plan h.reached.events event counts counts' h.counted more;
 }
+
+-- a job of a reached world stands within its plan
+pub world_phase : (plan : LabPlan) (s : State) (counts : List Counts) (j : ℕ)
+    → IsReachedWith plan s counts → j < length plan.jobs → IsPhaseOf plan j (phase s j)
+world_phase plan s counts j h job = ((reached_fits plan s h.reached).seats_fit j job).phase_within
 
 -- ---- replays
 

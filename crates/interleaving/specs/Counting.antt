@@ -1,5 +1,6 @@
 -- What each job has done, as it is counted event by event.
 use Rattle.std.specs.Prelude.{◌≡◌, ℕ, ◌+◌, ◌<◌, ◌≤◌, List, length, slice_index_or, slice_set}
+use Rattle.lab_plan.specs.Limits.{most_sessions}
 use Rattle.lab_plan.specs.LabPlan.{LabPlan}
 use Rattle.legal_steps.specs.declared.event.Event.{Event}
 use Rattle.legal_steps.specs.declared.event.Event.TheVariants.{Sit, Quit, Withdraw}
@@ -41,12 +42,12 @@ counted (Quit j) counts = let x = count_at counts j in slice_set counts j (recor
 counted (Withdraw j) counts = let x = count_at counts j in slice_set counts j (record x { withdrawn = x.withdrawn + 1 })
 counted _ counts = counts
 
--- its job has counts, which are at most 1000 each
+-- its job has counts, each at most as many as a job may have sessions
 pub record HasFewCounts (j : ℕ) (counts : List Counts) : Type 0 where
   pub is_job : j < length counts
-  pub few_meals : (count_at counts j).meals ≤ 1000
-  pub few_sessions : (count_at counts j).sessions_done ≤ 1000
-  pub few_withdrawn : (count_at counts j).withdrawn ≤ 1000
+  pub few_meals : (count_at counts j).meals ≤ most_sessions
+  pub few_sessions : (count_at counts j).sessions_done ≤ most_sessions
+  pub few_withdrawn : (count_at counts j).withdrawn ≤ most_sessions
 
 abbrev pub CanCount : Event → List Counts → Type 0
 CanCount (Sit j) counts = HasFewCounts j counts

@@ -1,5 +1,4 @@
 pub mod Pairs
-pub mod Phases
 pub mod Rooms
 pub mod Step
 pub mod Counting

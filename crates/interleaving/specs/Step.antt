@@ -8,7 +8,7 @@ use Rattle.legal_steps.specs.declared.event.Event.TheVariants.{Act}
 use Rattle.legal_steps.specs.declared.event.NotLegal.{NotLegal}
 use Rattle.legal_steps.specs.State.{State, Setting}
 use Rattle.legal_steps.specs.Legal.{May, IsLegal, next_command, next_entry}
-use Rattle.interleaving.specs.Rooms.{log_with_room}
+use Rattle.legal_steps.specs.WholeLogs.{log_with_room}
 
 -- the log of the next command's instrument takes the entry of the next command
 pub record TakesNext (plan : LabPlan) (s : State) (j : ℕ) : Type 0 where

@@ -1,14 +1,12 @@
 -- Worlds: a plan, a state of its bench that is reached from an opening, and what each job has done since.
 use Rattle.std.specs.Prelude.{◌≡◌, ℕ, List, [], ◌∷◌, length, take, Result, Ok, Err}
 use Rattle.lab_plan.specs.LabPlan.{LabPlan}
-use Rattle.lab_plan.specs.IsPlan.{IsPlan}
 use Rattle.legal_steps.specs.declared.event.Event.{Event}
 use Rattle.legal_steps.specs.declared.event.NotLegal.{NotLegal}
 use Rattle.legal_steps.specs.State.{State}
 use Rattle.legal_steps.specs.Legal.{May, IsLegal}
 use Rattle.legal_steps.specs.Run.{Runs, StopsAt}
-use Rattle.legal_steps.specs.Opening.{IsOpening}
-use Rattle.legal_steps.specs.Precedence.{IsAcyclic}
+use Rattle.legal_steps.specs.Reached.{IsReached}
 use Rattle.interleaving.specs.declared.counts.Counts.{Counts}
 use Rattle.interleaving.specs.Counting.{GoOnBy, AreCountsOf}
 
@@ -18,15 +16,10 @@ pub record WorldView : Type 0 where
   pub state : State
   pub counts : List Counts
 
--- a legal list of events leads from an acyclic opening state to this one, and the counts are its counts
+-- the state is reached, and the counts are those of the events that lead there
 pub record IsReachedWith (plan : LabPlan) (s : State) (counts : List Counts) : Type 0 where
-  pub is_plan : IsPlan plan
-  pub opening : State
-  pub is_opening : IsOpening plan opening
-  pub acyclic : IsAcyclic plan opening
-  pub events : List Event
-  pub run : Runs plan opening events s
-  pub counted : AreCountsOf plan events counts
+  pub reached : IsReached plan s
+  pub counted : AreCountsOf plan reached.events counts
 
 -- from one world to the next by a legal list of events
 pub record LeadsTo (old : WorldView) (events : List Event) (new : WorldView) : Type 0 where

@@ -7,13 +7,14 @@ ghost use Rattle.legal_steps.specs.declared.event.Event.TheVariants.{Act};
 ghost use Rattle.legal_steps.specs.declared.phase.Drinking.TheVariants.{Reaching};
 ghost use Rattle.legal_steps.specs.State.{drinking, log as log_at};
 ghost use Rattle.legal_steps.specs.Legal.{IsJob, May, after, next_command, next_entry, with_entry};
-ghost use Rattle.interleaving.specs.Rooms.{log_with_room};
+ghost use Rattle.legal_steps.specs.WholeLogs.{log_with_room};
 ghost use Rattle.interleaving.specs.Step.{TakesNext};
 
 use crate::tables::Tables;
-use instrument_log::{Entry, turned};
+use instrument_log::Entry;
 use lab_plan::{InstrumentNo, JobNo, Verb};
 use legal_steps::{Drinking, JobState};
+use plan_logs::{next_command, next_entry};
 use std::alloc::Allocator;
 
 impl<'a, A: Allocator> Tables<'a, A> {
@@ -29,8 +30,7 @@ impl<'a, A: Allocator> Tables<'a, A> {
         ensures command { result ≡ next_command self.now.plan self.now.state job }
         ensures there { result.0 < length self.now.plan.instruments }
     {
-        let phase = self.phase(job);
-        self.plan().commands(job, phase.session)[phase.position as usize]
+        next_command(self.plan(), job, self.phase(job))
     }
 
     // The entry of the next command of a reaching job.
@@ -39,17 +39,8 @@ impl<'a, A: Allocator> Tables<'a, A> {
         requires { May self.now.plan self.now.state (Act job) }
         ensures { result ≡ next_entry self.now.plan self.now.state job }
     {
-        let phase = self.phase(job);
-        let (instrument, verb) = self.next_command(job);
-        let place = self.plan().place(job, phase.session, phase.position);
-        Entry {
-            job,
-            session: phase.session,
-            place: place.place,
-            length: place.length,
-            verb,
-            value: turned(verb, self.log(instrument).value()),
-        }
+        let (instrument, _) = self.next_command(job);
+        next_entry(self.plan(), job, self.phase(job), self.log(instrument))
     }
 
     #[tactic(auto, unfolding(legal_steps::specs::Legal::next_entry))]

@@ -8,7 +8,7 @@ ghost use Rattle.legal_steps.specs.Legal.{IsJob, IsBottleSet, MayAskBottle, MayG
 use crate::bottles::{bottle_end, has};
 use crate::tables::Tables;
 use lab_plan::{EdgeNo, JobNo};
-use legal_steps::{Drinking, EdgeState};
+use legal_steps::Drinking;
 use std::alloc::Allocator;
 
 impl<'a, A: Allocator> Tables<'a, A> {
@@ -20,27 +20,20 @@ impl<'a, A: Allocator> Tables<'a, A> {
         set != 0 && set < 1u32 << self.bottles(edge)
     }
 
-    // Whether the job may ask for the bottle.
-    pub(crate) fn may_ask_bottle(&self, job: JobNo, edge: EdgeNo, bottle: u32) -> bool
-        requires own { IsOwn self.now.plan job edge }
-        requires is_bottle { bottle < length (bottles self.now.plan edge) }
-        ensures { IsTrue result ↔ MayAskBottle self.now.plan self.now.state job edge bottle }
-    {
-        let here = self.own_end(job, edge);
-        let state = self.edge(edge);
-        self.needs_bottle(job, edge, bottle)
-            && bottle_end(state.bottles, bottle) != here
-            && bottle_end(state.bottle_tokens, bottle) == here
-    }
-
     // Whether the job may ask for each bottle of the set.
     pub(crate) fn may_ask_all(&self, job: JobNo, edge: EdgeNo, set: u32) -> bool
         requires own { IsOwn self.now.plan job edge }
         requires set { IsOfEdge self.now.plan edge set }
         ensures { IsTrue result ↔ ((k : ℕ) → Has set k → MayAskBottle self.now.plan self.now.state job edge k) }
     {
+        let here = self.own_end(job, edge);
+        let state = self.edge(edge);
+        let needed = self.needed_bottles(job, edge);
         for bottle in 0..self.bottles(edge) {
-            if has(set, bottle) && !self.may_ask_bottle(job, edge, bottle) {
+            let may = has(needed, bottle)
+                && bottle_end(state.bottles, bottle) != here
+                && bottle_end(state.bottle_tokens, bottle) == here;
+            if has(set, bottle) && !may {
                 return false;
             }
         }
@@ -62,39 +55,21 @@ impl<'a, A: Allocator> Tables<'a, A> {
         ensures state { self.new.state ≡ after self.old.plan self.old.state (AskBottles job edge set) }
         ensures plan { self.new.plan ≡ self.old.plan }
     {
-        let state = self.edge(edge);
-        self.set_edge(
-            edge,
-            EdgeState {
-                bottle_tokens: state.bottle_tokens ^ set,
-                ..state
-            },
-        );
+        self.set_edge(edge, self.edge(edge).bottles_asked(set));
     }
 
-    // Whether the job keeps the bottle: it needs it, and drinks or has the fork.
-    pub(crate) fn keeps_bottle(&self, job: JobNo, edge: EdgeNo, bottle: u32) -> bool
-        requires own { IsOwn self.now.plan job edge }
-        requires is_bottle { bottle < length (bottles self.now.plan edge) }
-        ensures few { bottle < 28 }
-        ensures keeps { IsTrue result ↔ (Needs self.now.plan self.now.state job (instrument_of self.now.plan edge bottle) × (IsDrinking (phase_at self.now.state job) ⊎ Here self.now.plan job edge (fork self.now.state edge))) }
+    // The bottles of the edge that the job keeps: those that it needs, while it drinks or has the fork.
+    #[tactic(auto, using(crate::proofs::BottleLemmas::has_none))]
+    fn kept_bottles(&self, job: JobNo, edge: EdgeNo) -> u32
+        requires { IsOwn self.now.plan job edge }
+        ensures { (k : ℕ) → k < length (bottles self.now.plan edge) → Has result k ↔ (Needs self.now.plan self.now.state job (instrument_of self.now.plan edge k) × (IsDrinking (phase_at self.now.state job) ⊎ Here self.now.plan job edge (fork self.now.state edge))) }
     {
-        let here = self.own_end(job, edge);
-        let fork_here = self.edge(edge).fork == here;
-        self.needs_bottle(job, edge, bottle) && (self.is_drinking(job) || fork_here)
-    }
-
-    // Whether the job may give the bottle.
-    pub(crate) fn may_give_bottle(&self, job: JobNo, edge: EdgeNo, bottle: u32) -> bool
-        requires own { IsOwn self.now.plan job edge }
-        requires is_bottle { bottle < length (bottles self.now.plan edge) }
-        ensures { IsTrue result ↔ MayGiveBottle self.now.plan self.now.state job edge bottle }
-    {
-        let here = self.own_end(job, edge);
-        let state = self.edge(edge);
-        !self.keeps_bottle(job, edge, bottle)
-            && bottle_end(state.bottles, bottle) == here
-            && bottle_end(state.bottle_tokens, bottle) == here
+        let fork_here = self.edge(edge).fork == self.own_end(job, edge);
+        if self.is_drinking(job) || fork_here {
+            self.needed_bottles(job, edge)
+        } else {
+            0
+        }
     }
 
     // Whether the job may give each bottle of the set.
@@ -103,8 +78,14 @@ impl<'a, A: Allocator> Tables<'a, A> {
         requires set { IsOfEdge self.now.plan edge set }
         ensures { IsTrue result ↔ ((k : ℕ) → Has set k → MayGiveBottle self.now.plan self.now.state job edge k) }
     {
+        let here = self.own_end(job, edge);
+        let state = self.edge(edge);
+        let kept = self.kept_bottles(job, edge);
         for bottle in 0..self.bottles(edge) {
-            if has(set, bottle) && !self.may_give_bottle(job, edge, bottle) {
+            let stays = has(kept, bottle)
+                || bottle_end(state.bottles, bottle) != here
+                || bottle_end(state.bottle_tokens, bottle) != here;
+            if has(set, bottle) && stays {
                 return false;
             }
         }
@@ -123,15 +104,8 @@ impl<'a, A: Allocator> Tables<'a, A> {
         ensures state { self.new.state ≡ after self.old.plan self.old.state (GiveBottles job edge set) }
         ensures plan { self.new.plan ≡ self.old.plan }
     {
-        let state = self.edge(edge);
         let marks = self.bottle_marks(job, edge);
-        self.set_edge(
-            edge,
-            EdgeState {
-                bottles: state.bottles ^ set,
-                ..state
-            },
-        );
+        self.set_edge(edge, self.edge(edge).bottles_given(set));
         self.set_bottle_marks(job, edge, marks ^ (marks & set));
     }
 }

@@ -16,11 +16,11 @@ pub struct Counts {
 }
 
 #[derive(Drop)]
-pub(crate) struct Tally<A: Allocator = Global> {
+pub(crate) struct JobCounts<A: Allocator = Global> {
     counts: Vec<Counts, A>,
 }
 
-impl<A: Allocator> Model for Tally<A> {
+impl<A: Allocator> Model for JobCounts<A> {
     ghost use Rattle.std.specs.Prelude.{List};
     ghost use Rattle.interleaving.specs.declared.counts.Counts.{Counts};
 
@@ -29,9 +29,9 @@ impl<A: Allocator> Model for Tally<A> {
     ghost view = { λ t. t.counts.items };
 }
 
-impl<A: Allocator> Tally<A> {
+impl<A: Allocator> JobCounts<A> {
     // No counts yet, of so many jobs.
-    pub(crate) fn new(alloc: A, jobs: usize) -> Result<Tally<A>, AllocError>
+    pub(crate) fn new(alloc: A, jobs: usize) -> Result<JobCounts<A>, AllocError>
         ensures { IfOk result (λ tally. tally ≡ replicate jobs no_counts) }
     {
         let mut counts = Vec::new(alloc);
@@ -42,7 +42,7 @@ impl<A: Allocator> Tally<A> {
                 withdrawn: 0,
             })?;
         }
-        Ok(Tally { counts })
+        Ok(JobCounts { counts })
     }
 
     pub(crate) fn at(&self, job: JobNo) -> Counts

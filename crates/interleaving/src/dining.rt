@@ -1,12 +1,11 @@
 // Hunger, forks and meals.
-ghost use Rattle.std.specs.Prelude.{◌≡◌, ℕ, ◌<◌, ◌↔◌, IsTrue, length};
-ghost use Rattle.lab_plan.specs.LabPlan.{edges};
+ghost use Rattle.std.specs.Prelude.{◌≡◌, ◌↔◌, IsTrue};
 ghost use Rattle.legal_steps.specs.declared.event.Event.TheVariants.{AskFork, GiveFork, Soil, Hunger, Sit, Leave};
-ghost use Rattle.legal_steps.specs.Legal.{IsJob, IsMarkedAll, May, after};
+ghost use Rattle.legal_steps.specs.Legal.{May, after};
 
 use crate::tables::Tables;
 use lab_plan::{EdgeNo, JobNo};
-use legal_steps::{Dining, Drinking, EdgeState, JobState};
+use legal_steps::Dining;
 use std::alloc::Allocator;
 
 impl<'a, A: Allocator> Tables<'a, A> {
@@ -17,8 +16,7 @@ impl<'a, A: Allocator> Tables<'a, A> {
             return false;
         }
         let here = self.own_end(job, edge);
-        let state = self.edge(edge);
-        self.phase(job).dining == Dining::Hungry && state.fork != here && state.token == here
+        self.edge(edge).wants_fork(here, self.phase(job).dining)
     }
 
     pub(crate) fn ask_fork(&mut self, job: JobNo, edge: EdgeNo)
@@ -26,15 +24,7 @@ impl<'a, A: Allocator> Tables<'a, A> {
         ensures state { self.new.state ≡ after self.old.plan self.old.state (AskFork job edge) }
         ensures plan { self.new.plan ≡ self.old.plan }
     {
-        let here = self.own_end(job, edge);
-        let state = self.edge(edge);
-        self.set_edge(
-            edge,
-            EdgeState {
-                token: here.other(),
-                ..state
-            },
-        );
+        self.set_edge(edge, self.edge(edge).fork_asked());
     }
 
     pub(crate) fn may_give_fork(&self, job: JobNo, edge: EdgeNo) -> bool
@@ -44,11 +34,7 @@ impl<'a, A: Allocator> Tables<'a, A> {
             return false;
         }
         let here = self.own_end(job, edge);
-        let state = self.edge(edge);
-        self.phase(job).dining != Dining::Eating
-            && state.fork == here
-            && state.dirty
-            && state.token == here
+        self.edge(edge).gives_fork(here, self.phase(job).dining)
     }
 
     pub(crate) fn give_fork(&mut self, job: JobNo, edge: EdgeNo)
@@ -56,16 +42,9 @@ impl<'a, A: Allocator> Tables<'a, A> {
         ensures state { self.new.state ≡ after self.old.plan self.old.state (GiveFork job edge) }
         ensures plan { self.new.plan ≡ self.old.plan }
     {
-        let here = self.own_end(job, edge);
-        let state = self.edge(edge);
-        self.set_edge(
-            edge,
-            EdgeState {
-                fork: here.other(),
-                dirty: false,
-                ..state
-            },
-        );
+        // the job is one of the plan's, as this call ensures
+        let _ = self.own_end(job, edge);
+        self.set_edge(edge, self.edge(edge).fork_given());
         self.set_fork_mark(job, edge, false);
     }
 
@@ -76,8 +55,7 @@ impl<'a, A: Allocator> Tables<'a, A> {
             return false;
         }
         let here = self.own_end(job, edge);
-        let state = self.edge(edge);
-        self.phase(job).dining == Dining::Eating && state.fork == here && !state.dirty
+        self.edge(edge).soils(here, self.phase(job).dining)
     }
 
     pub(crate) fn soil(&mut self, job: JobNo, edge: EdgeNo)
@@ -85,27 +63,16 @@ impl<'a, A: Allocator> Tables<'a, A> {
         ensures state { self.new.state ≡ after self.old.plan self.old.state (Soil job edge) }
         ensures plan { self.new.plan ≡ self.old.plan }
     {
-        let here = self.own_end(job, edge);
-        let state = self.edge(edge);
-        self.set_edge(
-            edge,
-            EdgeState {
-                fork: here,
-                dirty: true,
-                ..state
-            },
-        );
+        // the job is one of the plan's, as this call ensures
+        let _ = self.own_end(job, edge);
+        self.set_edge(edge, self.edge(edge).fork_soiled());
         self.set_fork_mark(job, edge, true);
     }
 
     pub(crate) fn may_hunger(&self, job: JobNo) -> bool
         ensures { IsTrue result ↔ May self.now.plan self.now.state (Hunger job) }
     {
-        if !self.is_job(job) {
-            return false;
-        }
-        let phase = self.phase(job);
-        phase.dining == Dining::Thinking && phase.drinking == Drinking::Thirsty
+        self.is_job(job) && self.phase(job).may_hunger()
     }
 
     pub(crate) fn hunger(&mut self, job: JobNo)
@@ -113,14 +80,7 @@ impl<'a, A: Allocator> Tables<'a, A> {
         ensures state { self.new.state ≡ after self.old.plan self.old.state (Hunger job) }
         ensures plan { self.new.plan ≡ self.old.plan }
     {
-        let phase = self.phase(job);
-        self.set_phase(
-            job,
-            JobState {
-                dining: Dining::Hungry,
-                ..phase
-            },
-        );
+        self.set_phase(job, self.phase(job).with_dining(Dining::Hungry));
     }
 
     pub(crate) fn may_sit(&self, job: JobNo) -> bool
@@ -140,13 +100,7 @@ impl<'a, A: Allocator> Tables<'a, A> {
     pub(crate) fn may_leave(&self, job: JobNo) -> bool
         ensures { IsTrue result ↔ May self.now.plan self.now.state (Leave job) }
     {
-        if !self.is_job(job) {
-            return false;
-        }
-        let phase = self.phase(job);
-        phase.dining == Dining::Eating
-            && phase.drinking != Drinking::Thirsty
-            && self.is_marked_all(job)
+        self.is_job(job) && self.phase(job).may_leave() && self.is_marked_all(job)
     }
 
     pub(crate) fn leave(&mut self, job: JobNo)

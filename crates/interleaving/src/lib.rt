@@ -11,7 +11,6 @@ mod needs;
 mod opening;
 mod precedence;
 mod refusal;
-mod rooms;
 mod seat;
 mod seeing;
 mod stepping;

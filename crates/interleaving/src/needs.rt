@@ -1,13 +1,12 @@
 // What a job needs: marks on its edges, and bottles.
 ghost use Rattle.std.specs.Prelude.{◌≡◌, ℕ, ◌<◌, ◌≤◌, ◌↔◌, IsTrue, length};
-ghost use Rattle.std.specs.List.{All, Contains};
-ghost use Rattle.lab_plan.specs.LabPlan.{edges, edges_of, bottles, sessions, session_names};
+ghost use Rattle.lab_plan.specs.LabPlan.{edges, edges_of, bottles};
 ghost use Rattle.legal_steps.specs.State.{IsOwn, IsInSession, IsDrinking, Has, phase as phase_at};
 ghost use Rattle.legal_steps.specs.Legal.{IsJob, IsMarkedAll, HasNeeded, HasNeededAt, Needs, instrument_of};
 
 use crate::bottles::has;
 use crate::tables::Tables;
-use lab_plan::{EdgeNo, InstrumentNo, JobNo};
+use lab_plan::{EdgeNo, JobNo};
 use legal_steps::Drinking;
 use std::alloc::Allocator;
 
@@ -41,30 +40,18 @@ impl<'a, A: Allocator> Tables<'a, A> {
         self.plan().bottles(edge)
     }
 
-    // Whether the session names the instrument.
-    #[tactic(auto, using(crate::proofs::NeedsLemmas::tested_bit))]
-    fn names(&self, job: JobNo, session: u32, instrument: InstrumentNo) -> bool
-        requires is_job { IsJob self.now.plan job }
-        requires begun { 1 ≤ session }
-        requires is_session { session ≤ length (sessions self.now.plan job) }
-        requires is_instrument { instrument < 56 }
-        ensures { result ≡ session_names self.now.plan job session instrument }
-    {
-        self.plan().needs(job, session) >> instrument.0 & 1 == 1
-    }
-
-    // Whether the job needs the bottle of the edge: it is in a session that names its instrument.
-    #[tactic(auto, using(crate::proofs::NeedsLemmas::small_instrument, crate::proofs::NeedsLemmas::few_bottles))]
-    pub(crate) fn needs_bottle(&self, job: JobNo, edge: EdgeNo, bottle: u32) -> bool
+    // The bottles of the edge that the job needs: none where it is in no session.
+    #[tactic(auto, unfolding(legal_steps::specs::State::Has), using(crate::proofs::BottleLemmas::has_none))]
+    pub(crate) fn needed_bottles(&self, job: JobNo, edge: EdgeNo) -> u32
         requires is_job { IsJob self.now.plan job }
         requires is_edge { edge < length (edges self.now.plan) }
-        requires is_bottle { bottle < length (bottles self.now.plan edge) }
-        ensures few { bottle < 28 }
-        ensures needs { IsTrue result ↔ Needs self.now.plan self.now.state job (instrument_of self.now.plan edge bottle) }
+        ensures { (k : ℕ) → k < length (bottles self.now.plan edge) → Has result k ↔ Needs self.now.plan self.now.state job (instrument_of self.now.plan edge k) }
     {
         let phase = self.phase(job);
-        let instrument = self.plan().instrument_of(edge, bottle);
-        is_in_session(phase.drinking) && self.names(job, phase.session, instrument)
+        if !is_in_session(phase.drinking) {
+            return 0;
+        }
+        self.plan().needed_bottles(job, phase.session, edge)
     }
 
     // Whether each needed bottle of the edge is marked.
@@ -73,9 +60,10 @@ impl<'a, A: Allocator> Tables<'a, A> {
         requires is_edge { edge < length (edges self.now.plan) }
         ensures { IsTrue result ↔ HasNeededAt self.now.plan self.now.state job edge }
     {
+        let needed = self.needed_bottles(job, edge);
         let marks = self.bottle_marks(job, edge);
         for bottle in 0..self.bottles(edge) {
-            if self.needs_bottle(job, edge, bottle) && !has(marks, bottle) {
+            if has(needed, bottle) && !has(marks, bottle) {
                 return false;
             }
         }

@@ -1,7 +1,7 @@
 // Steps as they are written in a list: what a look or a glance sees is what is there.
 ghost use Rattle.std.specs.Prelude.{◌≡◌, map};
 ghost use Rattle.std.specs.List.{All};
-ghost use Rattle.legal_steps.specs.Steps.{IsStepOf, event_of, events_of};
+ghost use Rattle.legal_steps.specs.Steps.{IsStepOf, event_of, step_events};
 ghost use Rattle.interleaving.specs.World.{Replays};
 
 use crate::world::World;
@@ -39,7 +39,7 @@ impl<'a, A: Allocator> World<'a, A> {
     /// the error's, and the world stands before it.
     pub fn replay_steps(&mut self, steps: &[StepLine]) -> Result<usize, (usize, NotLegal)>
         requires { All (λ line. IsStepOf self.old.plan line.step) steps.now }
-        ensures { Replays self.old (events_of self.old.plan self.old.state (map (λ line. line.step) steps.now)) result self.new }
+        ensures { Replays self.old (step_events self.old.plan self.old.state (map (λ line. line.step) steps.now)) result self.new }
     {
         let mut done = 0;
         for line in steps {

@@ -3,21 +3,21 @@ ghost use Rattle.std.specs.Prelude.{◌≡◌, ℕ, ◌<◌, ◌≤◌, ◌↔�
 ghost use Rattle.lab_plan.specs.LabPlan.{edges};
 ghost use Rattle.legal_steps.specs.State.{IsOwn, IsOfEdge, end_of, edge as edge_at, phase as phase_at, seat, fork_mark as fork_mark_at, bottle_marks as bottle_marks_at, log as log_at};
 ghost use Rattle.legal_steps.specs.Legal.{IsJob, with_edge, with_seat, with_phase, with_fork_mark, with_bottle_marks, turned_to, with_entry};
-ghost use Rattle.legal_steps.specs.Fitting.{Fits};
+ghost use Rattle.legal_steps.specs.Fitting.{Fits, IsPhaseOf};
 ghost use Rattle.legal_steps.specs.Opening.{AreChoices, opening_of, the_opening};
 ghost use Rattle.lab_plan.specs.IsPlan.{IsPlan};
-ghost use Rattle.interleaving.specs.Phases.{IsPhaseOf};
-ghost use Rattle.interleaving.specs.Rooms.{log_with_room};
+ghost use Rattle.lab_plan.specs.Limits.{most_commands};
+ghost use Rattle.legal_steps.specs.WholeLogs.{log_with_room};
 ghost use Rattle.instrument_log.specs.Dial.{turned, dial};
 ghost use Rattle.instrument_log.specs.Entries.{IsWithinLimits};
 ghost use Rattle.instrument_log.specs.InstrumentLog.{MayAppend};
 
 use crate::opening::{chosen_edges, idle_seats, lower_choices};
-use crate::rooms::empty_logs;
 use crate::seat::JobSeat;
 use instrument_log::{Entry, InstrumentLog};
 use lab_plan::{EdgeNo, InstrumentNo, JobNo, Plan};
 use legal_steps::{Dining, EdgeState, End, EndChoice, JobState};
+use plan_logs::{empty_logs, push};
 use std::alloc::{AllocError, Allocator, Global};
 use std::marker::Model;
 
@@ -123,12 +123,12 @@ impl<'a, A: Allocator> Tables<'a, A> {
         self.edges[edge.0 as usize]
     }
 
-    #[tactic(auto, using(crate::proofs::FewCommands::few_commands))]
+    #[tactic(auto, using(legal_steps::proofs::FewCommands::few_commands))]
     pub(crate) fn phase(&self, job: JobNo) -> JobState
         requires { IsJob self.now.plan job }
         ensures phase { result ≡ phase_at self.now.state job }
         ensures fits { IsPhaseOf self.now.plan job result }
-        ensures few { result.position ≤ 100000 }
+        ensures few { result.position ≤ most_commands }
     {
         self.seats[job.0 as usize].phase()
     }
@@ -242,9 +242,6 @@ impl<'a, A: Allocator> Tables<'a, A> {
         ensures plan { self.new.plan ≡ self.old.plan }
     {
         let log = &mut self.logs[instrument.0 as usize];
-        match log.append(entry) {
-            Ok(()) => (),
-            Err(_) => unreachable!(),
-        }
+        push(log, &entry);
     }
 }

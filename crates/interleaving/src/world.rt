@@ -4,15 +4,16 @@ ghost use Rattle.cycles.specs.Cycles.{IsAmong, AreBelow};
 ghost use Rattle.lab_plan.specs.LabPlan.{edges};
 ghost use Rattle.legal_steps.specs.State.{IsOwn, edge as edge_at, phase as phase_at, fork_mark as fork_mark_at, bottle_marks as bottle_marks_at};
 ghost use Rattle.legal_steps.specs.Legal.{IsJob, May};
+ghost use Rattle.legal_steps.specs.Fitting.{IsPhaseOf};
 ghost use Rattle.interleaving.specs.Pairs.{IsPrecedenceByEdge};
-ghost use Rattle.interleaving.specs.Rooms.{log_with_room};
+ghost use Rattle.legal_steps.specs.WholeLogs.{log_with_room};
 ghost use Rattle.interleaving.specs.Counting.{count_at};
 ghost use Rattle.interleaving.specs.World.{IsReachedWith, Steps, Replays};
 ghost use Rattle.interleaving.specs.Start.{at_start, IsStartRefused};
 ghost use Rattle.legal_steps.specs.Opening.{AreChoices, opening_of, the_opening};
 ghost use Rattle.legal_steps.specs.Precedence.{IsAcyclic, Precedes};
 
-use crate::counts::Tally;
+use crate::counts::JobCounts;
 use crate::opening::are_choices;
 use crate::refusal::StartRefusal;
 use crate::tables::Tables;
@@ -31,7 +32,7 @@ use std::marker::Model;
 #[derive(Drop)]
 pub struct World<'a, A: Allocator = Global> {
     tables: Tables<'a, A>,
-    tally: Tally<A>,
+    tally: JobCounts<A>,
 }
 
 impl<'a, A: Allocator> Model for World<'a, A> {
@@ -60,7 +61,7 @@ impl<'a, A: Allocator + Copy> World<'a, A> {
             return Err(StartRefusal::BadChoices);
         }
         let tables = Tables::opened(alloc, plan, choices)?;
-        let tally = Tally::new(alloc, plan.jobs())?;
+        let tally = JobCounts::new(alloc, plan.jobs())?;
         let pairs = tables.precedence(alloc)?;
         match cycle_in(alloc, plan.jobs(), &pairs)? {
             Some(_) => Err(StartRefusal::Cycle),
@@ -74,7 +75,7 @@ impl<'a, A: Allocator + Copy> World<'a, A> {
         ensures { IfOk result (λ world. world ≡ at_start plan.now (the_opening plan.now)) }
     {
         let tables = Tables::opening(alloc, plan)?;
-        let tally = Tally::new(alloc, plan.jobs())?;
+        let tally = JobCounts::new(alloc, plan.jobs())?;
         Ok(World { tables, tally })
     }
 }
@@ -130,7 +131,8 @@ impl<'a, A: Allocator> World<'a, A> {
     /// How far the job is.
     pub fn job(&self, job: JobNo) -> JobState
         requires { IsJob self.now.plan job }
-        ensures { result ≡ phase_at self.now.state job }
+        ensures phase { result ≡ phase_at self.now.state job }
+        ensures fits { IsPhaseOf self.now.plan job result }
     {
         self.tables.phase(job)
     }

@@ -8,7 +8,8 @@ use Rattle.std.proofs.lemmas.List.Elements.{Contains-push_cases}
 use Rattle.std.proofs.lemmas.Option.{slice_get-get_or, slice_get_within, get_or_from_slice_get}
 use Rattle.std.specs.List.{range_with_len}
 use Rattle.std.proofs.lemmas.List.FromFn.{get_or-map-range_with_len}
-use Rattle.lab_plan.specs.PairTables.{IsNumber, AreNumbers, edges_at}
+use Rattle.lab_plan.specs.LabPlan.{pairs_with}
+use Rattle.lab_plan.specs.PairTables.{IsNumber, AreNumbers}
 use Rattle.lab_plan.proofs.Alike.{read_alike}
 
 -- one more pair, another than the one in question
@@ -62,8 +63,8 @@ numbers_none pairs numbers n is a b a_below b_below =
 
 -- the list of a job
 pub list_at : (pairs : List (ℕ × ℕ)) (lists : List (List ℕ)) (j : ℕ) (d : List ℕ)
-    → lists ≡ map (edges_at pairs) (range_with_len 0 32) → j < 32 → slice_index_or lists j d ≡ edges_at pairs j
-list_at pairs lists j d is below = ap (λ ls. slice_index_or ls j d) is ∙ get_or-map-range_with_len (edges_at pairs) 0 32 j j d below (zero-add j)
+    → lists ≡ map (pairs_with pairs) (range_with_len 0 32) → j < 32 → slice_index_or lists j d ≡ pairs_with pairs j
+list_at pairs lists j d is below = ap (λ ls. slice_index_or ls j d) is ∙ get_or-map-range_with_len (pairs_with pairs) 0 32 j j d below (zero-add j)
 
 pub found_is : (pairs : List (ℕ × ℕ)) (pair : ℕ × ℕ) (number : Option ℕ) → IsNumber pairs pair number → IfSome number (λ e. slice_get pairs e ≡ Some pair)
 found_is pairs pair None is = tt

@@ -5,8 +5,7 @@ use Rattle.std.proofs.lemmas.List.{get_or_push, get_or_append_left}
 use Rattle.std.proofs.lemmas.List.Sums.{count_by_more_yes, count_by_more_no}
 use Rattle.lab_plan.specs.declared.verb.Verb.{Verb}
 use Rattle.lab_plan.specs.declared.verb.Verb.TheVariants.{Read}
-use Rattle.lab_plan.specs.LabPlan.{count_on}
-use Rattle.lab_plan.specs.SessionTables.{place_in}
+use Rattle.lab_plan.specs.LabPlan.{count_on, place_in}
 
 -- the parts of the first commands
 abbrev pub AreParts : List (ℕ × Verb) → ℕ → List ℕ → Type 0

@@ -9,16 +9,15 @@ use Rattle.std.proofs.lemmas.List.Elements.{filter_passes}
 use Rattle.std.proofs.lemmas.Nat.Bits.{same_from_bits, bit_at_cat_low, bit_at_above}
 use Rattle.std.proofs.lemmas.List.{length-map}
 use Rattle.lab_plan.specs.declared.verb.Verb.{Verb}
-use Rattle.lab_plan.specs.LabPlan.{LabPlan, edges, ends, edges_of, common, bottles, both_name, instrument_numbers, pairs, sessions, commands, session_names, part, place_at}
+use Rattle.lab_plan.specs.LabPlan.{LabPlan, edges, ends, edges_of, common, bottles, both_name, instrument_numbers, pairs, pairs_with, sessions, commands, session_names, part, place_at}
 use Rattle.lab_plan.specs.IsPlan.{IsPlan}
 use Rattle.lab_plan.specs.InstrumentSets.{holds}
-use Rattle.lab_plan.specs.PairTables.{edges_at}
 use Rattle.lab_plan.specs.SessionTables.{SessionTable, IsTable, AreJobTables, no_table}
 use Rattle.lab_plan.proofs.Bits.{bit_cases}
 use Rattle.lab_plan.proofs.Shared.{session-instrument}
 
-pub edges_at_is : (plan : LabPlan) (found : List (ℕ × ℕ)) (j : ℕ) → found ≡ edges plan → edges_at found j ≡ edges_of plan j
-edges_at_is plan found j is = ap (λ ps. edges_at ps j) is
+pub pairs_with_is : (plan : LabPlan) (found : List (ℕ × ℕ)) (j : ℕ) → found ≡ edges plan → pairs_with found j ≡ edges_of plan j
+pairs_with_is plan found j is = ap (λ ps. pairs_with ps j) is
 
 pub bottle_lists : (plan : LabPlan) (lists : List (List ℕ)) → lists ≡ map (common plan) (edges plan) → length lists ≡ length (edges plan)
 bottle_lists plan lists is = ap length is ∙ length-map (edges plan) (common plan)

@@ -6,6 +6,7 @@ use Rattle.std.specs.Str.{bytes_eq}
 use Rattle.lab_plan.specs.declared.verb.Verb.{Verb}
 use Rattle.lab_plan.specs.declared.refusal.PlanRefusal.{PlanRefusal}
 use Rattle.lab_plan.specs.declared.refusal.PlanRefusal.TheVariants.{LimitPassed, SessionEmpty, JobTwice, TooManyInCommon, NoMemory}
+use Rattle.lab_plan.specs.Limits.{most_jobs, most_instruments, most_sessions, most_commands, most_bottles}
 use Rattle.lab_plan.specs.LabPlan.{SessionPlan, JobPlan, LabPlan, no_session, no_job, sessions, commands, edges, common, all_commands}
 
 -- ---- what each call adds
@@ -82,21 +83,23 @@ is_job name plan = list_any (λ job. bytes_eq name job.name) plan.jobs
 
 abbrev pub job_refusal : List ℕ → LabPlan → Option PlanRefusal
 job_refusal name plan =
-    if is_bare plan then Some SessionEmpty else (if is_job name plan then Some JobTwice else (if nat_le 32 (length plan.jobs) then Some LimitPassed else None))
+    if is_bare plan then Some SessionEmpty
+    else (if is_job name plan then Some JobTwice else (if nat_le most_jobs (length plan.jobs) then Some LimitPassed else None))
 
 abbrev pub session_refusal : LabPlan → Option PlanRefusal
-session_refusal plan = if is_bare plan then Some SessionEmpty else (if nat_le 1000 (length (last_job plan).sessions) then Some LimitPassed else None)
+session_refusal plan = if is_bare plan then Some SessionEmpty else (if nat_le most_sessions (length (last_job plan).sessions) then Some LimitPassed else None)
 
 -- one more command, or the instrument that it would bring, is past a limit
 abbrev pub is_past_limit : List ℕ → LabPlan → Bool
-is_past_limit name plan = nat_le 100000 (length (all_commands plan)) || (not (is_instrument name plan) && nat_le 56 (length plan.instruments))
+is_past_limit name plan =
+    nat_le most_commands (length (all_commands plan)) || (not (is_instrument name plan) && nat_le most_instruments (length plan.instruments))
 
 abbrev pub command_refusal : List ℕ → LabPlan → Option PlanRefusal
 command_refusal name plan = if is_past_limit name plan then Some LimitPassed else None
 
--- two jobs have more than 28 instruments in common
+-- two jobs have too many instruments in common
 abbrev pub has_too_many_in_common : LabPlan → Bool
-has_too_many_in_common plan = list_any (λ pair. nat_lt 28 (length (common plan pair))) (edges plan)
+has_too_many_in_common plan = list_any (λ pair. nat_lt most_bottles (length (common plan pair))) (edges plan)
 
 abbrev pub finish_refusal : LabPlan → Option PlanRefusal
 finish_refusal plan = if is_bare plan then Some SessionEmpty else (if has_too_many_in_common plan then Some TooManyInCommon else None)

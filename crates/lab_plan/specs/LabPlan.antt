@@ -59,21 +59,33 @@ part plan j s i = count_on i (commands plan j s)
 abbrev pub command_at : LabPlan → ℕ → ℕ → ℕ → ℕ × Verb
 command_at plan j s k = slice_index_or (commands plan j s) k (0, Read)
 
--- the place of the command at a position within its session's part on its instrument, counted from 1
+-- the place of the command at a position among those on its instrument, counted from 1
+abbrev pub place_in : List (ℕ × Verb) → ℕ → ℕ
+place_in all k = count_on (slice_index_or all k (0, Read)).0 (take k all) + 1
+
+-- its place within its session's part on its instrument
 abbrev pub place_at : LabPlan → ℕ → ℕ → ℕ → ℕ
-place_at plan j s k = count_on (command_at plan j s k).0 (take k (commands plan j s)) + 1
+place_at plan j s k = place_in (commands plan j s) k
 
 -- the length of that part
 abbrev pub length_at : LabPlan → ℕ → ℕ → ℕ → ℕ
 length_at plan j s k = part plan j s (command_at plan j s k).0
 
--- a session names an instrument where one of its commands is on it: it needs its bottles
-abbrev pub session_names : LabPlan → ℕ → ℕ → ℕ → Bool
-session_names plan j s i = list_any (λ command. command.0 == i) (commands plan j s)
+-- some of the commands is on the instrument
+abbrev pub any_on : ℕ → List (ℕ × Verb) → Bool
+any_on i all = list_any (λ command. command.0 == i) all
 
--- a job names an instrument where one of its sessions does
+-- a session names an instrument where one of its commands is on it, and a job where one of its sessions does
+abbrev pub is_named_by : JobPlan → ℕ → Bool
+is_named_by job i = list_any (λ session. any_on i session.commands) job.sessions
+
+-- session s of job j names it: it needs its bottles
+abbrev pub session_names : LabPlan → ℕ → ℕ → ℕ → Bool
+session_names plan j s i = any_on i (commands plan j s)
+
+-- job j names it
 abbrev pub names : LabPlan → ℕ → ℕ → Bool
-names plan j i = list_any (λ session. list_any (λ command. command.0 == i) session.commands) (sessions plan j)
+names plan j i = is_named_by (job_at plan j) i
 
 -- both jobs name the instrument
 abbrev pub both_name : LabPlan → ℕ × ℕ → ℕ → Bool
@@ -107,9 +119,17 @@ common plan pair = filter (both_name plan pair) (instrument_numbers plan)
 abbrev pub bottles : LabPlan → ℕ → List ℕ
 bottles plan e = common plan (ends plan e)
 
+-- the job is one of the pair with this number
+abbrev pub has_end : List (ℕ × ℕ) → ℕ → ℕ → Bool
+has_end pairs j e = ((slice_index_or pairs e (0, 0)).0 == j) || ((slice_index_or pairs e (0, 0)).1 == j)
+
+-- the numbers of the pairs that a job is one of, in ascending order
+abbrev pub pairs_with : List (ℕ × ℕ) → ℕ → List ℕ
+pairs_with pairs j = filter (has_end pairs j) (range_with_len 0 (length pairs))
+
 -- the edges of a job, in ascending order
 abbrev pub edges_of : LabPlan → ℕ → List ℕ
-edges_of plan j = filter (λ e. ((ends plan e).0 == j) || ((ends plan e).1 == j)) (range_with_len 0 (length (edges plan)))
+edges_of plan j = pairs_with (edges plan) j
 
 -- all commands of a plan, in order
 abbrev pub all_commands : LabPlan → List (ℕ × Verb)

@@ -1,3 +1,4 @@
+pub mod Limits
 pub mod LabPlan
 pub mod Names
 pub mod Verbs
@@ -5,6 +6,7 @@ pub mod IsPlan
 pub mod Building
 pub mod Texts
 pub mod Upgrade
+pub mod NeededBottles
 pub mod InstrumentSets
 pub mod NamedBy
 pub mod PairTables

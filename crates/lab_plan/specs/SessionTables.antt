@@ -1,9 +1,8 @@
 -- What is kept of each session, so that its readers count nothing again.
-use Rattle.std.specs.Prelude.{◌≡◌, ℕ, ◌+◌, ◌<◌, ◌==◌, List, [], take, length, slice_index_or}
-use Rattle.std.specs.List.{list_any}
+use Rattle.std.specs.Prelude.{◌≡◌, ℕ, ◌<◌, List, [], length, slice_index_or}
 use Rattle.lab_plan.specs.declared.verb.Verb.{Verb}
-use Rattle.lab_plan.specs.declared.verb.Verb.TheVariants.{Read}
-use Rattle.lab_plan.specs.LabPlan.{SessionPlan, JobPlan, no_job, no_session, count_on}
+use Rattle.lab_plan.specs.Limits.{most_instruments}
+use Rattle.lab_plan.specs.LabPlan.{SessionPlan, JobPlan, no_job, no_session, count_on, any_on, place_in}
 use Rattle.lab_plan.specs.InstrumentSets.{holds}
 
 -- what is kept of a session: the set of what it names, how many commands it has on each instrument,
@@ -16,14 +15,10 @@ pub record SessionTable : Type 0 where
 abbrev pub no_table : SessionTable
 no_table = record { needs = 0; parts = []; places = [] }
 
--- the place of the command at a position among those on its instrument
-abbrev pub place_in : List (ℕ × Verb) → ℕ → ℕ
-place_in commands k = count_on (slice_index_or commands k (0, Read)).0 (take k commands) + 1
-
 pub record IsTable (commands : List (ℕ × Verb)) (table : SessionTable) : Type 0 where
-  pub needs : (i : ℕ) → holds table.needs i ≡ list_any (λ command. command.0 == i) commands
-  pub parts : (i : ℕ) → i < 56 → slice_index_or table.parts i 0 ≡ count_on i commands
-  pub numbered : length table.parts ≡ 56
+  pub needs : (i : ℕ) → holds table.needs i ≡ any_on i commands
+  pub parts : (i : ℕ) → i < most_instruments → slice_index_or table.parts i 0 ≡ count_on i commands
+  pub numbered : length table.parts ≡ most_instruments
   pub placed : length table.places ≡ length commands
   pub places : (k : ℕ) → k < length commands → slice_index_or table.places k 0 ≡ place_in commands k
 

@@ -1,7 +1,9 @@
 // The bottles of an edge.
-ghost use Rattle.std.specs.Prelude.{◌≡◌, ℕ, ◌^◌, ◌<◌, ◌≤◌, length, filter, map, slice_index, slice_get, Contains, IfSome, IfNone, IfOk};
+ghost use Rattle.std.specs.Prelude.{◌≡◌, ◌↔◌, ℕ, ◌^◌, ◌<◌, ◌≤◌, true, length, filter, map, slice_index, slice_index_or, slice_get, Contains, IfSome, IfNone, IfOk};
+ghost use Rattle.std.specs.Int.{bit_at};
 ghost use Rattle.std.specs.List.{range_with_len, All};
-ghost use Rattle.lab_plan.specs.InstrumentSets.{both_in};
+ghost use Rattle.lab_plan.specs.Limits.{most_instruments, most_bottles};
+ghost use Rattle.lab_plan.specs.InstrumentSets.{holds, both_in};
 ghost use Rattle.lab_plan.specs.NamedBy.{both_hold};
 ghost use Rattle.lab_plan.specs.PairTables.{IsPair};
 
@@ -32,7 +34,7 @@ impl<A: Allocator> Bottles<A> {
         second: InstrumentSet,
         instruments: u8,
     ) -> Result<Bottles<A>, AllocError>
-        requires { instruments ≤ 56 }
+        requires { instruments ≤ most_instruments }
         ensures { IfOk result (λ bottles. bottles ≡ filter (both_in first second) (range_with_len 0 instruments)) }
     {
         let mut found = Vec::new(alloc);
@@ -72,6 +74,22 @@ impl<A: Allocator> Bottles<A> {
         }
         None
     }
+
+    /// The bottles whose instruments are in the set, as a set: bit k stands for bottle k.
+    pub(crate) fn within(&self, instruments: InstrumentSet) -> u32
+        requires few { length self.now ≤ most_bottles }
+        requires numbered { All (λ i. i < 56) self.now }
+        ensures of_edge { result < 2 ^ length self.now }
+        ensures just { (k : ℕ) → k < length self.now → (bit_at result k ≡ 1) ↔ (holds instruments (slice_index_or self.now k 0) ≡ true) }
+    {
+        let mut set = 0u32;
+        for bottle in 0..self.len() as u32 {
+            if instruments.holds(self.at(bottle).0) {
+                set |= 1 << bottle;
+            }
+        }
+        set
+    }
 }
 
 /// The bottles of each edge.
@@ -80,7 +98,7 @@ pub(crate) fn bottles_of_all<A: Allocator + Copy>(
     naming: &Naming,
     pairs: &[(JobNo, JobNo)],
 ) -> Result<Vec<Bottles<A>, A>, AllocError>
-    requires instruments { naming.now.instruments ≤ 56 }
+    requires instruments { naming.now.instruments ≤ most_instruments }
     requires pairs { All IsPair pairs.now }
     ensures { IfOk result (λ all. all.items ≡ map (λ pair. filter (both_hold naming.now.sets pair) (range_with_len 0 naming.now.instruments)) pairs.now) }
 {

@@ -2,6 +2,7 @@
 ghost use Rattle.std.specs.Prelude.{◌≡◌, ℕ, ◌<◌, ◌≤◌, length, None, Some, true, IsTrue, ◌↔◌, ◌&&◌, ◌||◌, nat_le, IfOk, IfErr, OnOk};
 ghost use Rattle.std.specs.Option.{ForSome};
 ghost use Rattle.lab_plan.specs.LabPlan.{LabPlan, all_commands};
+ghost use Rattle.lab_plan.specs.Limits.{most_instruments, most_commands, largest_number};
 ghost use Rattle.lab_plan.specs.IsPlan.{IsPlan};
 ghost use Rattle.lab_plan.specs.Tables.{AreTablesOf};
 ghost use Rattle.lab_plan.specs.Names.{IsName};
@@ -9,6 +10,7 @@ ghost use Rattle.lab_plan.specs.Verbs.{Fits};
 ghost use Rattle.lab_plan.specs.Building.{empty_plan, with_job, with_session, with_command, has_session, job_refusal, session_refusal, command_refusal, finish_refusal, but_memory, Does, Finishes};
 
 use crate::draft::Draft;
+use crate::limits::{MOST_COMMANDS, MOST_INSTRUMENTS, MOST_JOBS, MOST_SESSIONS};
 use crate::naming::has_too_many_in_common;
 use crate::plan::Plan;
 use crate::refusal::PlanRefusal;
@@ -30,6 +32,7 @@ pub struct PlanBuilder<A: Allocator + Copy = Global> {
 impl<A: Allocator + Copy> Model for PlanBuilder<A> {
     ghost use Rattle.std.specs.Prelude.{◌≡◌, length, ◌≤◌};
     ghost use Rattle.lab_plan.specs.LabPlan.{LabPlan, all_commands};
+    ghost use Rattle.lab_plan.specs.Limits.{most_instruments, most_commands, largest_number};
     ghost use Rattle.lab_plan.specs.IsPlan.{IsDraft};
     ghost use Rattle.lab_plan.specs.Building.{AreClosed};
 
@@ -101,7 +104,7 @@ impl<A: Allocator + Copy> PlanBuilder<A> {
         if self.draft.is_job(name) {
             return Err(PlanRefusal::JobTwice);
         }
-        if self.draft.jobs() >= 32 {
+        if self.draft.jobs() >= MOST_JOBS {
             return Err(PlanRefusal::LimitPassed);
         }
         self.draft.add_job(self.alloc, name)?;
@@ -120,7 +123,7 @@ impl<A: Allocator + Copy> PlanBuilder<A> {
     pub fn patient_session(&mut self, patience: u32) -> Result<(), PlanRefusal>
         requires job { 0 < length self.old.jobs }
         requires version { self.old.version ≡ 2 }
-        requires number { patience ≤ 999999 }
+        requires number { patience ≤ largest_number }
         ensures { Does (session_refusal self.old) (with_session (Some patience) self.old) self.old result self.new }
     {
         self.begin(Some(patience))
@@ -128,13 +131,13 @@ impl<A: Allocator + Copy> PlanBuilder<A> {
 
     fn begin(&mut self, patience: Option<u32>) -> Result<(), PlanRefusal>
         requires job { 0 < length self.old.jobs }
-        requires patient { ForSome patience (λ n. (self.old.version ≡ 2) × (n ≤ 999999)) }
+        requires patient { ForSome patience (λ n. (self.old.version ≡ 2) × (n ≤ largest_number)) }
         ensures { Does (session_refusal self.old) (with_session patience self.old) self.old result self.new }
     {
         if self.draft.is_bare() {
             return Err(PlanRefusal::SessionEmpty);
         }
-        if self.draft.last_sessions() >= 1000 {
+        if self.draft.last_sessions() >= MOST_SESSIONS as usize {
             return Err(PlanRefusal::LimitPassed);
         }
         self.draft.begin(self.alloc, patience)?;
@@ -159,9 +162,9 @@ impl<A: Allocator + Copy> PlanBuilder<A> {
 
     /// Whether one more command is past a limit, or the instrument that it would bring.
     fn is_past_limit(&self, is_new: bool) -> bool
-        ensures { result ≡ nat_le 100000 (length (all_commands self.now)) || (is_new && nat_le 56 (length self.now.instruments)) }
+        ensures { result ≡ nat_le most_commands (length (all_commands self.now)) || (is_new && nat_le most_instruments (length self.now.instruments)) }
     {
-        self.commands >= 100_000 || is_new && self.draft.instruments() >= 56
+        self.commands >= MOST_COMMANDS || is_new && self.draft.instruments() >= MOST_INSTRUMENTS
     }
 
     /// The finished plan. A refusal hands the builder back as it was.

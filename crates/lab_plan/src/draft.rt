@@ -2,6 +2,7 @@
 ghost use Rattle.std.specs.Prelude.{◌≡◌, ℕ, ◌-◌, ◌<◌, ◌≤◌, length, take, slice_index_or, [], ◌∷◌, ◌++◌, is_ok, if◌then◌else◌, IfNone, true};
 ghost use Rattle.std.specs.List.{position};
 ghost use Rattle.std.specs.Str.{bytes_eq};
+ghost use Rattle.lab_plan.specs.Limits.{most_instruments};
 
 use crate::job::Job;
 use crate::name::Name;
@@ -131,8 +132,8 @@ impl<A: Allocator> Draft<A> {
     ) -> Result<(), AllocError>
         requires session { has_session self.old ≡ true }
         requires place { IsPlace name.now self.old place }
-        requires few { IfNone place (length self.old.instruments < 56) }
-        requires most { length self.old.instruments ≤ 56 }
+        requires few { IfNone place (length self.old.instruments < most_instruments) }
+        requires most { length self.old.instruments ≤ most_instruments }
         ensures { self.new ≡ (if is_ok result then with_command name.now verb self.old else self.old) }
     {
         match place {
@@ -144,7 +145,7 @@ impl<A: Allocator> Draft<A> {
     /// A command on an instrument that is new, whose name comes with it.
     fn push_new(&mut self, alloc: A, name: &[u8], verb: Verb) -> Result<(), AllocError>
         requires session { has_session self.old ≡ true }
-        requires few { length self.old.instruments < 56 }
+        requires few { length self.old.instruments < most_instruments }
         ensures { self.new ≡ (if is_ok result then record self.old { jobs = on_last (in_last_session (length self.old.instruments) verb) self.old.jobs; instruments = self.old.instruments ++ name.now ∷ [] } else self.old) }
     {
         let number = self.instruments() as u8;

@@ -1,10 +1,12 @@
 // The edges of a plan: their ends, the number of a pair of jobs, and the edges of each job.
 ghost use Rattle.std.specs.Prelude.{◌≡◌, ℕ, ◌+◌, ◌*◌, ◌<◌, ◌≤◌, ◌++◌, length, filter, map, slice_index_or, slice_get, Contains, IfOk, IfSome, IfNone};
 ghost use Rattle.std.specs.List.{All, range_with_len};
+ghost use Rattle.lab_plan.specs.Limits.{most_jobs, most_instruments};
 ghost use Rattle.lab_plan.specs.NamedBy.{meet, row, meeting};
-ghost use Rattle.lab_plan.specs.PairTables.{IsPair, AreNumbers, IsNumber, has_end, edges_at};
-ghost use Rattle.lab_plan.specs.LabPlan.{lower_first};
+ghost use Rattle.lab_plan.specs.PairTables.{IsPair, AreNumbers, IsNumber};
+ghost use Rattle.lab_plan.specs.LabPlan.{lower_first, has_end, pairs_with};
 
+use crate::limits::MOST_JOBS;
 use crate::naming::Naming;
 use crate::numbers::{EdgeNo, JobNo};
 use std::alloc::{AllocError, Allocator, Global};
@@ -36,7 +38,7 @@ fn has_end(pairs: &[(JobNo, JobNo)], edge: usize, job: u8) -> bool
 impl<A: Allocator> EdgeList<A> {
     fn new(alloc: A, pairs: &[(JobNo, JobNo)], job: u8) -> Result<EdgeList<A>, AllocError>
         requires { length pairs.now ≤ 496 }
-        ensures { IfOk result (λ l. l ≡ edges_at pairs.now job) }
+        ensures { IfOk result (λ l. l ≡ pairs_with pairs.now job) }
     {
         let mut edges = Vec::new(alloc);
         for e in 0..pairs.len() {
@@ -62,8 +64,8 @@ fn push_row<A: Allocator>(
     low: u8,
 ) -> Result<(), AllocError>
     requires low { low < naming.now.jobs }
-    requires jobs { naming.now.jobs ≤ 32 }
-    requires instruments { naming.now.instruments ≤ 56 }
+    requires jobs { naming.now.jobs ≤ most_jobs }
+    requires instruments { naming.now.instruments ≤ most_instruments }
     ensures { IfOk result (λ _. found.new.items ≡ found.old.items ++ filter (meet naming.now.sets naming.now.instruments) (row low naming.now.jobs)) }
 {
     for high in low + 1..naming.jobs() {
@@ -76,8 +78,8 @@ fn push_row<A: Allocator>(
 
 #[tactic(auto, using(crate::proofs::Pairs::kept_rows_more))]
 fn find_pairs<A: Allocator>(alloc: A, naming: &Naming) -> Result<Vec<(JobNo, JobNo), A>, AllocError>
-    requires jobs { naming.now.jobs ≤ 32 }
-    requires instruments { naming.now.instruments ≤ 56 }
+    requires jobs { naming.now.jobs ≤ most_jobs }
+    requires instruments { naming.now.instruments ≤ most_instruments }
     ensures found { IfOk result (λ found. found.items ≡ meeting naming.now.sets naming.now.instruments naming.now.jobs) }
     ensures few { IfOk result (λ found. length found.items ≤ 496) }
     ensures pairs { IfOk result (λ found. All IsPair found.items) }
@@ -91,9 +93,9 @@ fn find_pairs<A: Allocator>(alloc: A, naming: &Naming) -> Result<Vec<(JobNo, Job
 
 /// Where a table over pairs of jobs has this pair.
 fn slot(low: JobNo, high: JobNo) -> usize
-    ensures { result ≡ low * 32 + high }
+    ensures { result ≡ low * most_jobs + high }
 {
-    low.0 as usize * 32 + high.0 as usize
+    low.0 as usize * MOST_JOBS + high.0 as usize
 }
 
 /// The number of each pair of jobs.
@@ -119,10 +121,10 @@ fn lists_by_job<A: Allocator + Copy>(
     pairs: &[(JobNo, JobNo)],
 ) -> Result<Vec<EdgeList<A>, A>, AllocError>
     requires { length pairs.now ≤ 496 }
-    ensures { IfOk result (λ lists. lists.items ≡ map (edges_at pairs.now) (range_with_len 0 32)) }
+    ensures { IfOk result (λ lists. lists.items ≡ map (pairs_with pairs.now) (range_with_len 0 most_jobs)) }
 {
     let mut lists = Vec::new(alloc);
-    for job in 0..32 {
+    for job in 0..MOST_JOBS as u8 {
         lists.push(EdgeList::new(alloc, pairs, job)?)?;
     }
     Ok(lists)
@@ -145,7 +147,9 @@ pub(crate) struct EdgeTable<A: Allocator = Global> {
 impl<A: Allocator> Model for EdgeTable<A> {
     ghost use Rattle.std.specs.Prelude.{List, ℕ, length, ◌≤◌, ◌≡◌, map};
     ghost use Rattle.std.specs.List.{All, range_with_len};
-    ghost use Rattle.lab_plan.specs.PairTables.{IsPair, AreNumbers, edges_at};
+    ghost use Rattle.lab_plan.specs.Limits.{most_jobs};
+    ghost use Rattle.lab_plan.specs.LabPlan.{pairs_with};
+    ghost use Rattle.lab_plan.specs.PairTables.{IsPair, AreNumbers};
 
     ghost Value = { List (ℕ × ℕ) };
 
@@ -156,7 +160,7 @@ impl<A: Allocator> Model for EdgeTable<A> {
       fit : All IsPair t.pairs.items;
       places : length t.numbers.items ≡ 1024;
       numbers_are : AreNumbers t.pairs.items t.numbers.items;
-      lists_are : t.lists.items ≡ map (edges_at t.pairs.items) (range_with_len 0 32);
+      lists_are : t.lists.items ≡ map (pairs_with t.pairs.items) (range_with_len 0 most_jobs);
     } };
 }
 
@@ -164,8 +168,8 @@ impl<A: Allocator> EdgeTable<A> {
     pub(crate) fn new(alloc: A, naming: &Naming) -> Result<EdgeTable<A>, AllocError>
     where
         A: Copy,
-        requires jobs { naming.now.jobs ≤ 32 }
-        requires instruments { naming.now.instruments ≤ 56 }
+        requires jobs { naming.now.jobs ≤ most_jobs }
+        requires instruments { naming.now.instruments ≤ most_instruments }
         ensures { IfOk result (λ edges. edges ≡ meeting naming.now.sets naming.now.instruments naming.now.jobs) }
     {
         let pairs = find_pairs(alloc, naming)?;
@@ -200,8 +204,8 @@ impl<A: Allocator> EdgeTable<A> {
     }
 
     fn number(&self, low: JobNo, high: JobNo) -> Option<EdgeNo>
-        requires low { low < 32 }
-        requires high { high < 32 }
+        requires low { low < most_jobs }
+        requires high { high < most_jobs }
         ensures { IsNumber self.now (low, high) result }
     {
         self.numbers[slot(low, high)]
@@ -210,8 +214,8 @@ impl<A: Allocator> EdgeTable<A> {
     /// The edge of two jobs, in either order.
     #[tactic(auto, using(crate::proofs::PairNumbers::found_is, crate::proofs::PairNumbers::none_is))]
     pub(crate) fn edge_of(&self, a: JobNo, b: JobNo) -> Option<EdgeNo>
-        requires a { a < 32 }
-        requires b { b < 32 }
+        requires a { a < most_jobs }
+        requires b { b < most_jobs }
         ensures found { IfSome result (λ e. slice_get self.now e ≡ Some (lower_first a b)) }
         ensures none { IfNone result (¬ Contains self.now (lower_first a b)) }
     {
@@ -221,8 +225,8 @@ impl<A: Allocator> EdgeTable<A> {
 
     #[tactic(auto, using(crate::proofs::PairNumbers::list_at))]
     pub(crate) fn edges_of(&self, job: JobNo) -> &[EdgeNo]
-        requires { job < 32 }
-        ensures { result.now ≡ edges_at self.now job }
+        requires { job < most_jobs }
+        ensures { result.now ≡ pairs_with self.now job }
     {
         self.lists[job.0 as usize].as_slice()
     }

@@ -1,6 +1,8 @@
 // Sets of instruments, a bit for each.
 ghost use Rattle.std.specs.Prelude.{◌≡◌, ℕ, ◌<◌, ◌≤◌, ◌||◌, ◌==◌, length, filter};
 ghost use Rattle.std.specs.List.{All, list_any, range_with_len};
+ghost use Rattle.lab_plan.specs.Limits.{most_instruments};
+ghost use Rattle.lab_plan.specs.LabPlan.{any_on};
 ghost use Rattle.lab_plan.specs.InstrumentSets.{holds, both_in};
 
 use crate::numbers::InstrumentNo;
@@ -70,8 +72,8 @@ impl InstrumentSet {
     /// The instruments of some commands.
     #[tactic(auto, using(crate::proofs::Bits::holds_none))]
     pub(crate) fn of(commands: &[(InstrumentNo, Verb)]) -> InstrumentSet
-        requires { All (λ command. command.0 < 56) commands.now }
-        ensures { (i : ℕ) → holds result i ≡ list_any (λ command. command.0 == i) commands.now }
+        requires { All (λ command. command.0 < most_instruments) commands.now }
+        ensures { (i : ℕ) → holds result i ≡ any_on i commands.now }
     {
         let mut set = InstrumentSet::empty();
         for (instrument, _) in commands {
@@ -83,7 +85,7 @@ impl InstrumentSet {
     /// How many of the first instruments are in both sets.
     #[tactic(auto, using(crate::proofs::Ranges::count_more))]
     pub(crate) fn in_common(self, other: InstrumentSet, instruments: u8) -> u8
-        requires { instruments ≤ 56 }
+        requires { instruments ≤ most_instruments }
         ensures { result ≡ length (filter (both_in self other) (range_with_len 0 instruments)) }
     {
         let mut count = 0;
@@ -98,7 +100,7 @@ impl InstrumentSet {
     /// Whether one of the first instruments is in both sets.
     #[tactic(auto, using(crate::proofs::Ranges::any_more))]
     pub(crate) fn meets(self, other: InstrumentSet, instruments: u8) -> bool
-        requires { instruments ≤ 56 }
+        requires { instruments ≤ most_instruments }
         ensures { result ≡ list_any (both_in self other) (range_with_len 0 instruments) }
     {
         for i in 0..instruments {

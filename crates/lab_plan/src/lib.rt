@@ -8,8 +8,10 @@ mod draft;
 mod edge_table;
 mod instrument_set;
 mod job;
+pub mod limits;
 pub mod name;
 mod naming;
+mod needed;
 pub mod numbers;
 pub mod place;
 pub mod plan;
@@ -19,7 +21,10 @@ mod tables;
 pub mod verb;
 
 pub use builder::PlanBuilder;
-pub use name::is_name;
+pub use limits::{
+    LARGEST_NUMBER, MOST_BOTTLES, MOST_COMMANDS, MOST_INSTRUMENTS, MOST_JOBS, MOST_SESSIONS,
+};
+pub use name::{is_name, is_same_name};
 pub use numbers::{EdgeNo, InstrumentNo, JobNo};
 pub use place::Place;
 pub use plan::Plan;

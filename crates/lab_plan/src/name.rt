@@ -1,5 +1,5 @@
 // Names of jobs and instruments.
-ghost use Rattle.std.specs.Prelude.{◌≡◌, IfOk, true};
+ghost use Rattle.std.specs.Prelude.{◌≡◌, IfOk};
 ghost use Rattle.std.specs.List.{list_all};
 ghost use Rattle.std.specs.Str.{bytes_eq};
 ghost use Rattle.lab_plan.specs.Names.{is_letter, is_digit, is_name_byte, is_reserved, is_name};
@@ -33,7 +33,7 @@ impl<A: Allocator> Name<A> {
     pub(crate) fn is(&self, bytes: &[u8]) -> bool
         ensures { result ≡ bytes_eq bytes.now self.now }
     {
-        end_alike(bytes, &self.bytes) && bytes == self.bytes.as_slice()
+        is_same_name(bytes, &self.bytes)
     }
 
     pub(crate) fn as_bytes(&self) -> &[u8]
@@ -43,11 +43,11 @@ impl<A: Allocator> Name<A> {
     }
 }
 
-/// Whether both are of one length and end with one byte: names that share a beginning mostly differ there.
-fn end_alike(a: &[u8], b: &[u8]) -> bool
-    ensures { a.now ≡ b.now → result ≡ true }
+/// Whether both are one name. Their ends are compared first: names that share a beginning mostly differ there.
+pub fn is_same_name(a: &[u8], b: &[u8]) -> bool
+    ensures { result ≡ bytes_eq a.now b.now }
 {
-    a.len() == b.len() && a.last() == b.last()
+    a.len() == b.len() && a.last() == b.last() && a == b
 }
 
 fn is_letter(byte: u8) -> bool

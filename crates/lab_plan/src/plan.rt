@@ -35,6 +35,7 @@ impl<A: Allocator> Model for Plan<A> {
 }
 
 impl<A: Allocator> Plan<A> {
+    ghost use Rattle.lab_plan.specs.Limits.{most_instruments, most_sessions, most_bottles};
     ghost use Rattle.lab_plan.specs.LabPlan.{edges, ends, edges_of, lower_first, bottles, sessions, commands, patience, session_names, part, place_at, length_at, job_at};
     ghost use Rattle.lab_plan.specs.IsPlan.{IsPlan};
     ghost use Rattle.lab_plan.specs.Names.{IsName};
@@ -56,7 +57,7 @@ impl<A: Allocator> Plan<A> {
         self.draft.version()
     }
 
-    /// How many jobs there are, at most 32; their numbers are the ones below it.
+    /// How many jobs there are; their numbers are the ones below it.
     pub fn jobs(&self) -> usize
         ensures jobs { result ≡ length self.now.jobs }
         ensures plan { IsPlan self.now }
@@ -67,7 +68,7 @@ impl<A: Allocator> Plan<A> {
     /// How many instruments there are; their numbers are the ones below it, in order of first naming.
     pub fn instruments(&self) -> usize
         ensures instruments { result ≡ length self.now.instruments }
-        ensures few { result ≤ 56 }
+        ensures few { result ≤ most_instruments }
     {
         self.draft.instruments()
     }
@@ -112,7 +113,7 @@ impl<A: Allocator> Plan<A> {
     }
 
     /// The edges of a job, ascending.
-    #[tactic(auto, using(crate::proofs::Readers::edges_at_is))]
+    #[tactic(auto, using(crate::proofs::Readers::pairs_with_is))]
     pub fn edges_of(&self, job: JobNo) -> &[EdgeNo]
         requires { job < length self.now.jobs }
         ensures { result.now ≡ edges_of self.now job }
@@ -131,7 +132,7 @@ impl<A: Allocator> Plan<A> {
     }
 
     #[tactic(auto, using(crate::proofs::Readers::bottles_at, crate::proofs::Readers::bottle_lists))]
-    fn bottles_at(&self, edge: EdgeNo) -> &Bottles<A>
+    pub(crate) fn bottles_at(&self, edge: EdgeNo) -> &Bottles<A>
         requires { edge < length (edges self.now) }
         ensures bottles { result.now ≡ bottles self.now edge }
         ensures plan { IsPlan self.now }
@@ -145,7 +146,7 @@ impl<A: Allocator> Plan<A> {
         requires { edge < length (edges self.now) }
         ensures bottles { result ≡ length (bottles self.now edge) }
         ensures some { 1 ≤ result }
-        ensures few { result ≤ 28 }
+        ensures few { result ≤ most_bottles }
     {
         self.bottles_at(edge).len() as u32
     }
@@ -173,7 +174,7 @@ impl<A: Allocator> Plan<A> {
     pub fn sessions(&self, job: JobNo) -> u32
         requires { job < length self.now.jobs }
         ensures sessions { result ≡ length (sessions self.now job) }
-        ensures few { result ≤ 1000 }
+        ensures few { result ≤ most_sessions }
     {
         self.draft.sessions(job) as u32
     }
@@ -200,7 +201,7 @@ impl<A: Allocator> Plan<A> {
     }
 
     #[tactic(auto, using(crate::proofs::Readers::table_of, crate::proofs::Readers::job_tables_of, crate::proofs::Readers::session_tables_of))]
-    fn table(&self, job: JobNo, session: u32) -> &SessionTable<A>
+    pub(crate) fn table(&self, job: JobNo, session: u32) -> &SessionTable<A>
         requires is_job { job < length self.now.jobs }
         requires begun { 1 ≤ session }
         requires is_session { session ≤ length (sessions self.now job) }

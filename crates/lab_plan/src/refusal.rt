@@ -5,13 +5,13 @@ use std::alloc::{AllocError, AllocFailed};
 /// session, a job twice, a limit passed, too many in common, want of memory.
 #[derive(Clone, Copy, PartialEq, Eq, Debug)]
 pub enum PlanRefusal {
-    /// One more would be past a limit: 32 jobs, 56 instruments, 1000 sessions of a job, 100000 commands.
+    /// One more would be past a limit of jobs, instruments, sessions of a job, or commands (`limits`).
     LimitPassed,
     /// The session before has no command.
     SessionEmpty,
     /// A job has this name already.
     JobTwice,
-    /// Two jobs have more than 28 instruments in common.
+    /// Two jobs have more instruments in common than an edge may have bottles.
     TooManyInCommon,
     /// A growth was refused.
     NoMemory,

@@ -1,11 +1,13 @@
 // What is kept of each session: what it needs, its parts, and the place of each command in its part.
 ghost use Rattle.std.specs.Prelude.{◌≡◌, ℕ, ◌<◌, ◌≤◌, ◌-◌, length, slice_index_or, IfOk};
 ghost use Rattle.std.specs.List.{All};
+ghost use Rattle.lab_plan.specs.Limits.{most_instruments, most_commands};
 ghost use Rattle.lab_plan.specs.NamedBy.{HasSmall};
 ghost use Rattle.lab_plan.specs.SessionTables.{IsTable, AreTables, AreJobTables, no_table};
 
 use crate::instrument_set::InstrumentSet;
 use crate::job::Job;
+use crate::limits::MOST_INSTRUMENTS;
 use crate::numbers::InstrumentNo;
 use crate::verb::Verb;
 use std::alloc::{AllocError, Allocator, Global};
@@ -15,7 +17,7 @@ use std::marker::Model;
 #[derive(Drop)]
 pub(crate) struct SessionTable<A: Allocator = Global> {
     needs: InstrumentSet,
-    parts: [u32; 56],
+    parts: [u32; MOST_INSTRUMENTS],
     places: Vec<u32, A>,
 }
 
@@ -32,12 +34,12 @@ impl<A: Allocator> SessionTable<A> {
         alloc: A,
         commands: &[(InstrumentNo, Verb)],
     ) -> Result<SessionTable<A>, AllocError>
-        requires numbered { All (λ command. command.0 < 56) commands.now }
-        requires few { length commands.now ≤ 100000 }
+        requires numbered { All (λ command. command.0 < most_instruments) commands.now }
+        requires few { length commands.now ≤ most_commands }
         ensures { IfOk result (λ table. IsTable commands.now table) }
     {
         let needs = InstrumentSet::of(commands);
-        let mut parts = [0; 56];
+        let mut parts = [0; MOST_INSTRUMENTS];
         let mut places = Vec::new(alloc);
         for (instrument, _) in commands {
             let place = parts[instrument.0 as usize] + 1;
@@ -59,7 +61,7 @@ impl<A: Allocator> SessionTable<A> {
 
     /// How many of the session's commands are on the instrument.
     pub(crate) fn part(&self, instrument: InstrumentNo) -> u32
-        requires { instrument < 56 }
+        requires { instrument < most_instruments }
         ensures { result ≡ slice_index_or self.now.parts instrument 0 }
     {
         self.parts[instrument.0 as usize]

@@ -1,7 +1,9 @@
 // What a command does to an instrument's dial.
 ghost use Rattle.std.specs.Prelude.{IsTrue, ◌↔◌};
 
-/// What a command does to the dial of its instrument, whose numbers go from 0 to 999999.
+use crate::limits::LARGEST_NUMBER;
+
+/// What a command does to the dial of its instrument, whose numbers go from 0 to `LARGEST_NUMBER`.
 #[derive(Clone, Copy, PartialEq, Eq, Debug)]
 pub enum Verb {
     /// Turns the dial to this number.
@@ -20,7 +22,7 @@ impl Verb {
         ensures { IsTrue result ↔ Fits self }
     {
         match self {
-            Verb::Set(number) | Verb::Add(number) => number <= 999_999,
+            Verb::Set(number) | Verb::Add(number) => number <= LARGEST_NUMBER,
             Verb::Read => true,
         }
     }

@@ -15,7 +15,7 @@ use Rattle.report.specs.Events.{IsReportOfEvents}
 use Rattle.headline.specs.Headline.{HoldsOfEveryRun}
 use Rattle.lab_runs.specs.declared.faults.Outcome.{Outcome}
 use Rattle.lab_runs.specs.Replaying.{TakesSteps}
-use Rattle.lab_runs.specs.Runs.{run_of, outcome_of, Replays, HasIllegalStep}
+use Rattle.lab_runs.specs.Runs.{run_of, outcome_of, ReplaysScript, HasIllegalStep}
 
 -- the line of the step at a place
 pub line_at : (steps : List StepLine) (k : ℕ) (d : StepLine) → k < length steps
@@ -42,7 +42,7 @@ pub replayed : IsReportOfEvents → HoldsOfEveryRun
     → (input : List ℕ) (plan : LabPlan) (seen steps : List StepLine) (old new : WorldView) (outcome : Outcome) → IsPlan plan → seen ≡ steps
     → old ≡ at_start plan (the_opening plan) → StepsMean input plan steps
     → TakesSteps old seen (Ok tt) new → outcome ≡ outcome_of (all_retired new.plan (shown_by new))
-    → Replays input (report_of new.plan (shown_by new)) outcome
+    → ReplaysScript input (report_of new.plan (shown_by new)) outcome
 replayed law holds input plan seen steps old new outcome within same start means taken ends =
     let led : LeadsTo (at_start plan (the_opening plan)) (run_of plan seen) new = subst (λ w. TakesSteps w seen (Ok tt) new) start taken in
     let (same_report, same_end) = law plan (the_opening plan) (run_of plan seen) new led in

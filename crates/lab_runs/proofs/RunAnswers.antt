@@ -9,7 +9,7 @@ use Rattle.lab_runs.specs.declared.reading.ReadFault.TheVariants as reading
 use Rattle.lab_runs.specs.declared.faults.RunFault.{RunFault}
 use Rattle.lab_runs.specs.declared.faults.RunFault.TheVariants.{Script, Step, Read, TooLong, Write, NoMemory}
 use Rattle.lab_runs.specs.declared.faults.Outcome.{Outcome}
-use Rattle.lab_runs.specs.Taken.{IsTooLong}
+use Rattle.lab_runs.specs.Input.{IsTooLong}
 use Rattle.lab_runs.specs.Faults.{fault_of, failed_reads, reads_failed_by}
 use Rattle.lab_runs.specs.Runs.{AnswersFor, AnswersTo}
 

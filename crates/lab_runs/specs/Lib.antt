@@ -1,4 +1,4 @@
-pub mod Taken
+pub mod Input
 pub mod Faults
 pub mod Counts
 pub mod Runs

@@ -8,7 +8,7 @@ use Rattle.legal_steps.specs.declared.event.Event.{Event}
 use Rattle.legal_steps.specs.declared.event.StepLine.{StepLine}
 use Rattle.legal_steps.specs.State.{State}
 use Rattle.legal_steps.specs.Run.{IsLegalFrom, StopsAt}
-use Rattle.legal_steps.specs.Steps.{events_of}
+use Rattle.legal_steps.specs.Steps.{step_events}
 use Rattle.legal_steps.specs.Opening.{the_opening}
 use Rattle.script_reader.specs.Script.{text_lines, ScriptMeans, Refuses}
 use Rattle.script_reader.specs.Steps.{StepsMean, StepsRefuse}
@@ -19,14 +19,14 @@ use Rattle.lab_runs.specs.declared.faults.RunFault.{RunFault}
 use Rattle.lab_runs.specs.declared.faults.RunFault.TheVariants.{Script, Step, Read, TooLong, Write, NoMemory}
 use Rattle.lab_runs.specs.declared.faults.Outcome.{Outcome}
 use Rattle.lab_runs.specs.declared.faults.Outcome.TheVariants.{Finished, Unfinished}
-use Rattle.lab_runs.specs.Taken.{IsInput, IsTooLong}
+use Rattle.lab_runs.specs.Input.{IsInput, IsTooLong}
 use Rattle.lab_runs.specs.Counts.{counts_line}
 
 -- ---- the run of some steps from THE opening
 
 -- their events, one after another
 abbrev pub run_of : LabPlan → List StepLine → List Event
-run_of plan steps = events_of plan (the_opening plan) (map (λ line. line.step) steps)
+run_of plan steps = step_events plan (the_opening plan) (map (λ line. line.step) steps)
 
 -- this line's step is the first that isn't legal
 pub record StopsAtLine (plan : LabPlan) (steps : List StepLine) (line : ℕ) : Type 0 where
@@ -52,7 +52,7 @@ pub record Reports (plan : LabPlan) (history : List Event) (text : List ℕ) (ou
 -- ---- what each kind of run writes for an input, and how it ends; and which inputs it refuses
 
 -- the input is a script with steps, all legal, and the text is the report of their run
-pub record Replays (input text : List ℕ) (outcome : Outcome) : Type 0 where
+pub record ReplaysScript (input text : List ℕ) (outcome : Outcome) : Type 0 where
   pub plan : LabPlan
   pub steps : List StepLine
   pub means : StepsMean input plan steps
@@ -115,7 +115,7 @@ AnswersTo Writes Refuses left old new (Err NoMemory) = Keeps old new
 AnswersTo Writes Refuses left old new result = (input : List ℕ) × IsInput left input × AnswersFor Writes Refuses input old new result
 
 abbrev pub ReplayAnswers : Option (List ℕ) → Option (List ℕ) → Option (List ℕ) → Result Outcome RunFault → Type 0
-ReplayAnswers left old new result = AnswersTo Replays ReplayRefuses left old new result
+ReplayAnswers left old new result = AnswersTo ReplaysScript ReplayRefuses left old new result
 
 abbrev pub CheckAnswers : Option (List ℕ) → Option (List ℕ) → Option (List ℕ) → Result Outcome RunFault → Type 0
 CheckAnswers left old new result = AnswersTo Checks ScriptRefuses left old new result

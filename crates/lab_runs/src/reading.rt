@@ -1,6 +1,6 @@
 // The whole input, up to its limit.
 ghost use Rattle.std.specs.Prelude.{◌≡◌, ◌+◌, ◌-◌, ◌≤◌, vec_len, IfOk, OnOk, IfSome, IsErrOf};
-ghost use Rattle.lab_runs.specs.Taken.{ConsumesUpTo, Grows, IsTooLong};
+ghost use Rattle.lab_runs.specs.Input.{ConsumesUpTo, Grows, IsTooLong};
 ghost use Rattle.lab_runs.specs.Faults.{read_failures};
 
 use crate::source::Source;

@@ -1,8 +1,8 @@
 // What the program does with a script: replay its steps, check it, upgrade it.
 ghost use Rattle.std.specs.Prelude.{◌≡◌, ◌+◌};
-ghost use Rattle.lab_runs.specs.Taken.{ConsumesUpTo};
+ghost use Rattle.lab_runs.specs.Input.{ConsumesUpTo};
 ghost use Rattle.lab_runs.specs.Faults.{failed_reads, failed_writes};
-ghost use Rattle.lab_runs.specs.Runs.{AnswersFor, Replays, ReplayRefuses, ReplayAnswers, Checks, CheckAnswers, Upgrades, UpgradeAnswers, UpgradeIsStable, ScriptRefuses};
+ghost use Rattle.lab_runs.specs.Runs.{AnswersFor, ReplaysScript, ReplayRefuses, ReplayAnswers, Checks, CheckAnswers, Upgrades, UpgradeAnswers, UpgradeIsStable, ScriptRefuses};
 
 use crate::counting::counts_line;
 use crate::faults::{Outcome, RunFault};
@@ -25,7 +25,7 @@ fn replay<A: Allocator + Copy, W: Sink>(
     input: &[u8],
     sink: &mut W,
 ) -> Result<Outcome, RunFault>
-    ensures answer { AnswersFor Replays ReplayRefuses input.now (W.taken sink.old) (W.taken sink.new) result }
+    ensures answer { AnswersFor ReplaysScript ReplayRefuses input.now (W.taken sink.old) (W.taken sink.new) result }
     ensures reads { failed_reads result ≡ 0 }
     ensures writes { W.failures sink.new ≡ W.failures sink.old + failed_writes result }
 {

@@ -1,6 +1,6 @@
 // What the program does with a script on a shared bench: its jobs take turns, in rounds or by threads.
 ghost use Rattle.std.specs.Prelude.{◌≡◌, ◌+◌, ◌≤◌};
-ghost use Rattle.lab_runs.specs.Taken.{ConsumesUpTo};
+ghost use Rattle.lab_runs.specs.Input.{ConsumesUpTo};
 ghost use Rattle.lab_runs.specs.Faults.{failed_reads, failed_writes};
 ghost use Rattle.lab_runs.specs.Runs.{AnswersFor, ScriptRefuses};
 ghost use Rattle.lab_runs.specs.Shared.{RunsByTurns, RunsInRounds, HasOneRun, RoundsAnswer, ThreadsAnswer};

@@ -1,6 +1,6 @@
 // Which task runs what.
 ghost use Rattle.std.specs.Prelude.{◌≡◌, ◌+◌};
-ghost use Rattle.lab_runs.specs.Taken.{ConsumesUpTo};
+ghost use Rattle.lab_runs.specs.Input.{ConsumesUpTo};
 ghost use Rattle.lab_runs.specs.Faults.{failed_reads, failed_writes};
 ghost use Rattle.lab_runs.specs.Words.{MayRun};
 ghost use Rattle.lab_runs.specs.Tasks.{TaskAnswers};

@@ -4,7 +4,7 @@ use Rattle.std.specs.List.{flat_map}
 use Rattle.std.specs.Io.BufRead.{ends_with_byte}
 use Rattle.lab_plan.specs.LabPlan.{LabPlan}
 use Rattle.legal_steps.specs.declared.event.Event.{Event}
-use Rattle.legal_steps.specs.Steps.{events_of}
+use Rattle.legal_steps.specs.Steps.{step_events}
 use Rattle.legal_steps.specs.Opening.{the_opening}
 use Rattle.script_reader.specs.Script.{ScriptMeans}
 use Rattle.explaining.specs.StepTexts.{step_text}
@@ -49,7 +49,7 @@ TraceAnswers limit left old new result = AnswersTo (Traces limit) ScriptRefuses 
 -- the trace's steps, taken one after another from THE opening, are this history
 pub record ShowsRun (plan : LabPlan) (history : List Event) (report : List ℕ) : Type 0 where
   pub report_is : report ≡ report_after plan (the_opening plan) history
-  pub replayed : events_of plan (the_opening plan) (map step_of history) ≡ history
+  pub replayed : step_events plan (the_opening plan) (map step_of history) ≡ history
 
 abbrev pub TracesTheRun : Type 0
 TracesTheRun = (limit : ℕ) (input text report : List ℕ) (outcome ended : Outcome) (t : Traces limit input text outcome) →

@@ -3,7 +3,7 @@ ghost use Rattle.std.specs.Prelude.{◌≡◌, ◌+◌};
 ghost use Rattle.report.specs.Taken.{Sends};
 ghost use Rattle.timeline.specs.Timelines.{IsTimeline};
 ghost use Rattle.picture.specs.Picture.{picture_of};
-ghost use Rattle.lab_runs.specs.Taken.{ConsumesUpTo};
+ghost use Rattle.lab_runs.specs.Input.{ConsumesUpTo};
 ghost use Rattle.lab_views.specs.Pictures.{DrawsFor, PictureAnswers, failed_picture_reads, failed_picture_writes};
 
 use crate::picture_fault::{PictureFault, for_reading, for_report, for_timeline};

@@ -1,6 +1,6 @@
 // Explanations of the steps of an input.
 ghost use Rattle.std.specs.Prelude.{◌≡◌, ◌+◌};
-ghost use Rattle.lab_runs.specs.Taken.{ConsumesUpTo};
+ghost use Rattle.lab_runs.specs.Input.{ConsumesUpTo};
 ghost use Rattle.lab_runs.specs.Faults.{failed_reads, failed_writes};
 ghost use Rattle.lab_runs.specs.Runs.{AnswersFor};
 ghost use Rattle.lab_views.specs.Views.{Explains, StepsAreRefused, ExplainAnswers};

@@ -3,7 +3,7 @@ ghost use Rattle.std.specs.Prelude.{◌≡◌, ◌++◌, ◌+◌, OnOk, IfOk};
 ghost use Rattle.std.specs.List.{All};
 ghost use Rattle.std.specs.Io.BufRead.{ends_with_byte};
 ghost use Rattle.legal_steps.specs.Steps.{IsStepOf};
-ghost use Rattle.lab_runs.specs.Taken.{ConsumesUpTo};
+ghost use Rattle.lab_runs.specs.Input.{ConsumesUpTo};
 ghost use Rattle.lab_runs.specs.Faults.{failed_reads, failed_writes};
 ghost use Rattle.lab_runs.specs.Runs.{AnswersFor, ScriptRefuses};
 ghost use Rattle.round_trace.specs.StepsOf.{step_of};

@@ -8,7 +8,7 @@ use Rattle.legal_steps.specs.declared.event.Step.{Step}
 use Rattle.legal_steps.specs.State.{State, IsOwn}
 use Rattle.legal_steps.specs.Steps.{IsStepOf}
 use Rattle.legal_steps.proofs.FitsLaw.{own_is_job}
-use Rattle.interleaving.proofs.OwnEdges.{own_edges}
+use Rattle.legal_steps.proofs.OwnEdges.{own_edges}
 use Rattle.legal_moves.specs.Moves.{own_moves, fork_moves, bottle_moves, edge_moves, moves_of, all_moves, Keeps}
 
 -- what holds of each element's list holds of all

@@ -1,13 +1,11 @@
 -- What a reaching job's command finds: its entry follows in the log, there is room, and it is within the limits.
-use Rattle.std.proofs.Common.{◌≡◌, ℕ, ◌+◌, ◌-◌, ◌<◌, ◌≤◌, ◌==◌, Bool, cond, true≢false, length, List, [], ◌∷◌, ◌++◌, map, take, slice_index_or, sym, ap, subst, ◌∙◌, inl, inr, refl, arith, append_assoc}
-use Rattle.std.specs.List.{flat_map}
+use Rattle.std.proofs.Common.{◌≡◌, ℕ, ◌+◌, ◌<◌, ◌≤◌, ◌==◌, Bool, cond, true≢false, length, List, [], ◌∷◌, ◌++◌, map, take, slice_index_or, sym, ap, subst, ◌∙◌, inl, inr, refl, arith, append_assoc}
 use Rattle.std.proofs.lemmas.Bool.{eq-eqb}
 use Rattle.std.proofs.lemmas.List.{append-nil, length-append}
-use Rattle.std.proofs.lemmas.List.Sums.{count_by-le-length, get_or-le-sum_by}
-use Rattle.std.proofs.lemmas.List.Concat.{length-flat_map}
+use Rattle.std.proofs.lemmas.List.Sums.{count_by-le-length}
 use Rattle.lab_plan.specs.declared.verb.Verb.{Verb}
 use Rattle.lab_plan.specs.declared.verb.Verb.TheVariants.{Read}
-use Rattle.lab_plan.specs.LabPlan.{LabPlan, SessionPlan, JobPlan, no_session, no_job, sessions, commands, count_on, all_commands}
+use Rattle.lab_plan.specs.LabPlan.{LabPlan, commands, count_on}
 use Rattle.lab_plan.specs.IsPlan.{IsPlan}
 use Rattle.instrument_log.specs.Dial.{turned, dial}
 use Rattle.instrument_log.specs.Parts.{Follows}
@@ -18,7 +16,8 @@ use Rattle.legal_steps.specs.declared.event.Event.TheVariants.{Act}
 use Rattle.legal_steps.specs.State.{State, log, drinking, session, position}
 use Rattle.legal_steps.specs.Legal.{IsJob, after, next_command, next_entry}
 use Rattle.legal_steps.specs.Reached.{IsReached}
-use Rattle.legal_steps.specs.WholeLogs.{Line, line_of, commands_on, lines_of, parts_of, room_of, ended_sessions}
+use Rattle.legal_steps.specs.WholeLogs.{LogLine, line_of, commands_on, lines_of, parts_of, room_of, log_with_room, ended_sessions}
+use Rattle.legal_steps.proofs.FewCommands.{few_commands}
 use Rattle.legal_steps.proofs.LogBooks.{Stage, Books, books, put-same}
 use Rattle.legal_steps.proofs.LogMoves.{Can, books_after, next_of, entry_of}
 use Rattle.legal_steps.proofs.LogKept.{part_so_far, holds_next}
@@ -70,8 +69,8 @@ follows_so_far plan b ended j left joined =
           joined ∙ ap (λ own. parts_of plan i ended ++ lines_of j x.session total own) none ∙ append-nil (parts_of plan i ended) in
           follows_first (b.logs i) (entry_of plan b j) (subst IsClosed (sym closed) (parts_closed plan i ended)) (omega (arith, counted, ap length none))
       | inr more ↦
-          let front : List Line = lines_of j x.session total more.front in
-          let line : Line = line_at j x.session total (length more.front + 1) more.last in
+          let front : List LogLine = lines_of j x.session total more.front in
+          let line : LogLine = line_at j x.session total (length more.front + 1) more.last in
           let size : length done ≡ length more.front + 1 = ap length more.is ∙ length-append more.front (more.last ∷ []) in
           follows_next (b.logs i) (parts_of plan i ended ++ front) line (entry_of plan b j)
           (joined ∙ ap (λ lines. parts_of plan i ended ++ lines) (ap (lines_of j x.session total) more.is
@@ -102,7 +101,7 @@ entry_is plan s j = refl
 
 pub act_appends_logged : (plan : LabPlan) (s : State) (ended : List (ℕ × ℕ)) (j : ℕ)
     → IsPlan plan → IsLogged plan s ended → IsJob plan j → drinking s j ≡ Reaching →
-    MayAppend (record { entries = log s (next_command plan s j).0; room = room_of plan (next_command plan s j).0 }) (next_entry plan s j)
+    MayAppend (log_with_room plan s (next_command plan s j).0) (next_entry plan s j)
 act_appends_logged plan s ended j is_plan h job reaching = record {
   follows = subst (Follows (log s (next_command plan s j).0)) (entry_is plan s j) (follows_kept plan s ended j is_plan h (job, reaching));
   has_room = room_to_act plan s ended j is_plan h (job, reaching);
@@ -115,20 +114,6 @@ next_value plan s j = refl
 
 -- ---- limits
 
--- a session has no more commands than the plan
-session_commands_few : (plan : LabPlan) (j n : ℕ) → j < length plan.jobs → 1 ≤ n
-    → n ≤ length (sessions plan j) → length (commands plan j n) ≤ length (all_commands plan)
-session_commands_few plan j n job first there =
-    let of_job : JobPlan → List (ℕ × Verb) = λ x. flat_map (λ y. y.commands) x.sessions in
-    let of_session : SessionPlan → List (ℕ × Verb) = λ y. y.commands in
-    omega (
-      arith,
-      length-flat_map of_job plan.jobs,
-      get_or-le-sum_by (λ x. length (of_job x)) plan.jobs j no_job job,
-      length-flat_map of_session (sessions plan j),
-      get_or-le-sum_by (λ y. length (of_session y)) (sessions plan j) (n - 1) no_session (omega (arith, first, there)),
-    )
-
 pub within_limits_logged : (plan : LabPlan) (s : State) (ended : List (ℕ × ℕ)) (j : ℕ) → IsPlan plan
     → IsLogged plan s ended → IsJob plan j → drinking s j ≡ Reaching → IsWithinLimits (next_entry plan s j)
 within_limits_logged plan s ended j is_plan h job reaching =
@@ -136,15 +121,15 @@ within_limits_logged plan s ended j is_plan h job reaching =
     let i : ℕ = (next_of plan b j).0 in
     let all : List (ℕ × Verb) = commands plan j (session s j) in
     let left : position s j < length all = has_left plan s h.fits j job reaching in
-    let fit = h.fits.seats_fit j job in
+    let fit = (h.fits.seats_fit j job).phase_within in
     let begun : 1 ≤ session s j = fit.begun (inr (inr reaching)) in
-    let few = session_commands_few plan j (session s j) job begun fit.session_there in
+    let few = few_commands plan j (session s j) is_plan in
     let short : count_on i all ≤ length all = count_by-le-length (λ (command : ℕ × Verb). command.0 == i) all in
     subst IsWithinLimits (entry_is plan s j) (record {
       job_within = omega (arith, job, is_plan.draft.few_jobs);
       session_from = begun;
       session_to = omega (arith, fit.session_there, is_plan.draft.few_sessions j);
-      length_to = omega (arith, short, few, is_plan.draft.few_commands);
+      length_to = omega (arith, short, few);
       place_from = omega arith;
       place_to = omega (arith, more_to_do all (position s j) left);
       verb_fits = verb-fits plan b j is_plan.draft.fit left;
@@ -160,7 +145,7 @@ logged_reached plan s h =
 
 -- a reaching job's entry follows in the log of its command's instrument, and there is room for it
 pub act_appends : (plan : LabPlan) (s : State) (j : ℕ) → IsReached plan s → IsJob plan j → drinking s j ≡ Reaching →
-    MayAppend (record { entries = log s (next_command plan s j).0; room = room_of plan (next_command plan s j).0 }) (next_entry plan s j)
+    MayAppend (log_with_room plan s (next_command plan s j).0) (next_entry plan s j)
 act_appends plan s j reached job reaching = let h = logged_reached plan s reached in act_appends_logged plan s h.0 j reached.is_plan h.1 job reaching
 
 -- and it is within the limits of a log's entries

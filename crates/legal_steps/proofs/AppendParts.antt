@@ -8,7 +8,7 @@ use Rattle.lab_plan.specs.LabPlan.{LabPlan, commands}
 use Rattle.instrument_log.specs.declared.entry.Entry.{Entry}
 use Rattle.instrument_log.specs.Parts.{open_entry, IsNextPlace, Follows}
 use Rattle.instrument_log.proofs.PartLemmas.{open_entry-push}
-use Rattle.legal_steps.specs.WholeLogs.{Line, line_of, commands_on, lines_of, part_of, parts_of}
+use Rattle.legal_steps.specs.WholeLogs.{LogLine, line_of, commands_on, lines_of, part_of, parts_of}
 use Rattle.legal_steps.proofs.PartLists.{line_at, lines_of-push}
 
 -- a list is empty, or has a last element
@@ -29,16 +29,16 @@ not_empty front x e = omega (arith, ap length e, length-append front (x ∷ []))
 
 -- ---- closed: empty, or the last line is the last of its part
 
-pub record EndsClosed (lines : List Line) : Type 0 where
-  pub front : List Line
-  pub last : Line
+pub record EndsClosed (lines : List LogLine) : Type 0 where
+  pub front : List LogLine
+  pub last : LogLine
   pub is : lines ≡ front ++ last ∷ []
   pub at_length : last.2 ≡ last.3
 
-abbrev pub IsClosed : List Line → Type 0
+abbrev pub IsClosed : List LogLine → Type 0
 IsClosed lines = (lines ≡ []) ⊎ EndsClosed lines
 
-IsClosed-append : (xs ys : List Line) → IsClosed xs → IsClosed ys → IsClosed (xs ++ ys)
+IsClosed-append : (xs ys : List LogLine) → IsClosed xs → IsClosed ys → IsClosed (xs ++ ys)
 IsClosed-append xs ys hx hy = elim hy [
   | inl none ↦ subst IsClosed (sym (ap (λ rest. xs ++ rest) none ∙ append-nil xs)) hx
   | inr ends ↦ inr (record {
@@ -70,13 +70,13 @@ parts_closed plan i (own ∷ owners) =
 -- ---- from lines to entries
 
 -- the entry of the last line
-record LastEntry (entries : List Entry) (line : Line) : Type 0 where
+record LastEntry (entries : List Entry) (line : LogLine) : Type 0 where
   front : List Entry
   last : Entry
   is : entries ≡ front ++ last ∷ []
   says : line_of last ≡ line
 
-last_entry : (entries : List Entry) (front : List Line) (line : Line) → map line_of entries ≡ front ++ line ∷ [] → LastEntry entries line
+last_entry : (entries : List Entry) (front : List LogLine) (line : LogLine) → map line_of entries ≡ front ++ line ∷ [] → LastEntry entries line
 last_entry entries front line e = elim (last_cases entries) [
   | inl none ↦ absurd (not_empty front line (sym (ap (map line_of) none) ∙ e))
   | inr more ↦
@@ -99,23 +99,23 @@ open_closed entries closed = elim closed [
   | inl none ↦ ap open_entry (nothing_mapped entries none) ∙ open_none
   | inr ends ↦
       let l = last_entry entries ends.front ends.last ends.is in
-      let past : l.last.length ≤ l.last.place = omega (arith, ends.at_length, ap (λ (line : Line). line.2) l.says, ap (λ (line : Line). line.3) l.says) in
+      let past : l.last.length ≤ l.last.place = omega (arith, ends.at_length, ap (λ (line : LogLine). line.2) l.says, ap (λ (line : LogLine). line.3) l.says) in
       ap open_entry l.is ∙ open_entry-push l.front l.last ∙ ap (λ b. if b then Some l.last else None) (le-ltb l.last.place l.last.length past)
 ]
 
 -- a log whose last line is not the last of its part takes that part's next place
-pub follows_next : (entries : List Entry) (front : List Line) (line : Line) (entry : Entry) → map line_of entries ≡ front ++ line ∷ [] → line.2 < line.3 →
+pub follows_next : (entries : List Entry) (front : List LogLine) (line : LogLine) (entry : Entry) → map line_of entries ≡ front ++ line ∷ [] → line.2 < line.3 →
     entry.job ≡ line.0 → entry.session ≡ line.1 → entry.place ≡ line.2 + 1 → entry.length ≡ line.3 → Follows entries entry
 follows_next entries front line entry e more job session place total =
     let l = last_entry entries front line e in
-    let before : l.last.place < l.last.length = omega (arith, more, ap (λ (x : Line). x.2) l.says, ap (λ (x : Line). x.3) l.says) in
+    let before : l.last.place < l.last.length = omega (arith, more, ap (λ (x : LogLine). x.2) l.says, ap (λ (x : LogLine). x.3) l.says) in
     let open_is : open_entry entries ≡ Some l.last =
     ap open_entry l.is ∙ open_entry-push l.front l.last ∙ ap (λ b. if b then Some l.last else None) (lt-ltb l.last.place l.last.length before) in
     let next : IsNextPlace l.last entry = record {
-      same_job = job ∙ sym (ap (λ (x : Line). x.0) l.says);
-      same_session = session ∙ sym (ap (λ (x : Line). x.1) l.says);
-      same_length = total ∙ sym (ap (λ (x : Line). x.3) l.says);
-      next = omega (arith, place, ap (λ (x : Line). x.2) l.says);
+      same_job = job ∙ sym (ap (λ (x : LogLine). x.0) l.says);
+      same_session = session ∙ sym (ap (λ (x : LogLine). x.1) l.says);
+      same_length = total ∙ sym (ap (λ (x : LogLine). x.3) l.says);
+      next = omega (arith, place, ap (λ (x : LogLine). x.2) l.says);
     } in
     subst (λ o. MatchOption o (entry.place ≡ 1) (λ earlier. IsNextPlace earlier entry)) (sym open_is) next
 

@@ -112,7 +112,7 @@ sessions_counted plan opening events j opens legal =
 -- no job has begun more than 1000 sessions
 pub sessions_few : (plan : LabPlan) (s : State) (j : ℕ) → IsPlan plan → Fits plan s → session s j ≤ 1000
 sessions_few plan s j is_plan fit = elim (cases_lt j (length plan.jobs)) [
-  | inl job ↦ omega (arith, (fit.seats_fit j job).session_there, is_plan.draft.few_sessions j)
+  | inl job ↦ omega (arith, (fit.seats_fit j job).phase_within.session_there, is_plan.draft.few_sessions j)
   | inr past ↦
       let none : session s j ≡ 0 = ap (λ (x : Seat). x.phase.session) (get_or_past s.seats j no_seat (omega (arith, past, fit.seats_there))) in
       omega (arith, none)

@@ -70,27 +70,27 @@ fits_after plan s (GiveBottles j e set) h may =
     (fits_with_edge plan s e _ own (flipped_fit plan e _ set (h.bottles_fit e own) may.1.of_edge) (h.tokens_fit e own) h)
 fits_after plan s (Thirst j) h may = fits_with_phase plan s j _ may.0 (omega (arith, may.3)) (λ _. omega arith) (omega arith) (λ e. absurd (cc)) h
 fits_after plan s (Hunger j) h may =
-    let old = h.seats_fit j may.0 in
+    let old = (h.seats_fit j may.0).phase_within in
     fits_with_phase plan s j _ may.0 old.session_there old.begun old.position_there old.command_left h
 fits_after plan s (Sit j) h may = fits_with_seat plan s j _ may.0 (seat_fits_turned plan j _ _ (h.seats_fit j may.0)) h
 fits_after plan s (Leave j) h may = fits_with_seat plan s j _ may.0 (seat_fits_turned plan j _ _ (h.seats_fit j may.0)) h
 fits_after plan s (Drink j) h may =
-    let old = h.seats_fit j may.0 in
+    let old = (h.seats_fit j may.0).phase_within in
     fits_with_phase plan s j _ may.0 old.session_there (λ _. old.begun (inl may.1)) old.position_there (λ e. absurd (cc)) h
 fits_after plan s (Reach j) h may =
-    let old = h.seats_fit j may.0 in
+    let old = (h.seats_fit j may.0).phase_within in
     fits_with_phase plan s j _ may.0 old.session_there (λ _. old.begun (inr (inl may.1))) old.position_there (λ _. may.2) h
 fits_after plan s (Act j) h may =
-    let old = h.seats_fit j may.0 in
+    let old = (h.seats_fit j may.0).phase_within in
     fits_with_log plan _ _ _
     (fits_with_phase plan s j _ may.0 old.session_there (λ _. old.begun (inr (inr may.1))) (omega (arith, old.command_left may.1)) (λ e. absurd (cc)) h)
 fits_after plan s (Quit j) h may =
-    let old = h.seats_fit j may.0 in
+    let old = (h.seats_fit j may.0).phase_within in
     fits_with_phase plan s j _ may.0 old.session_there (λ t. absurd (not_tranquil t)) (omega arith) (λ e. absurd (cc)) h
 fits_after plan s (Retire j) h may =
-    let old = h.seats_fit j may.0 in
+    let old = (h.seats_fit j may.0).phase_within in
     fits_with_phase plan s j _ may.0 old.session_there (λ t. absurd (not_retired t)) old.position_there (λ e. absurd (cc)) h
 fits_after plan s (Glance j other seen) h may = h
 fits_after plan s (Withdraw j) h may =
-    let old = h.seats_fit j may.0 in
+    let old = (h.seats_fit j may.0).phase_within in
     fits_with_phase plan s j _ may.0 old.session_there (λ t. absurd (not_tranquil t)) (omega arith) (λ e. absurd (cc)) h

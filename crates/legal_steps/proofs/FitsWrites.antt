@@ -49,10 +49,7 @@ seat_fits_fork_mark plan j e x mark h = record {
   fork_marks_there = simp length-set h.fork_marks_there;
   bottle_marks_there = h.bottle_marks_there;
   bottle_marks_fit = h.bottle_marks_fit;
-  session_there = h.session_there;
-  begun = h.begun;
-  position_there = h.position_there;
-  command_left = h.command_left;
+  phase_within = h.phase_within;
 }
 
 pub seat_fits_bottle_marks : (plan : LabPlan) (j e : ℕ) (x : Seat) (marks : ℕ) → e < length (edges plan)
@@ -65,10 +62,7 @@ seat_fits_bottle_marks plan j e x marks inside fit h = record {
         (subst (IsOfEdge plan e) (sym (get_or-set_same x.bottle_marks e marks 0 (omega (arith, inside, h.bottle_marks_there)))) fit)
     | inr other ↦ subst (IsOfEdge plan k) (sym (get_or-set_other x.bottle_marks e k marks 0 other)) (h.bottle_marks_fit k is_edge)
   ];
-  session_there = h.session_there;
-  begun = h.begun;
-  position_there = h.position_there;
-  command_left = h.command_left;
+  phase_within = h.phase_within;
 }
 
 -- without its fork marks
@@ -77,10 +71,12 @@ seat_fits_turned plan j x dining h = record {
   fork_marks_there = simp length-replicate h.fork_marks_there;
   bottle_marks_there = h.bottle_marks_there;
   bottle_marks_fit = h.bottle_marks_fit;
-  session_there = h.session_there;
-  begun = h.begun;
-  position_there = h.position_there;
-  command_left = h.command_left;
+  phase_within = record {
+    session_there = h.phase_within.session_there;
+    begun = h.phase_within.begun;
+    position_there = h.phase_within.position_there;
+    command_left = h.phase_within.command_left;
+  };
 }
 
 -- ---- a state fits its plan after a write
@@ -129,10 +125,7 @@ fits_with_phase plan s j phase job session begun position left h =
       fork_marks_there = old.fork_marks_there;
       bottle_marks_there = old.bottle_marks_there;
       bottle_marks_fit = old.bottle_marks_fit;
-      session_there = session;
-      begun = begun;
-      position_there = position;
-      command_left = left;
+      phase_within = record { session_there = session; begun = begun; position_there = position; command_left = left };
     }) h
 
 pub fits_with_log : (plan : LabPlan) (s : State) (i : ℕ) (entries : List Entry) → Fits plan s → Fits plan (record s { logs = slice_set s.logs i entries })

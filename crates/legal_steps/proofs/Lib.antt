@@ -1,3 +1,5 @@
+pub mod OwnEdges
+pub mod FewCommands
 pub mod FitsWrites
 pub mod FitsLaw
 pub mod ForkEnds

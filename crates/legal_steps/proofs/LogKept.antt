@@ -10,14 +10,14 @@ use Rattle.legal_steps.specs.declared.phase.Drinking.{Drinking}
 use Rattle.legal_steps.specs.declared.phase.Drinking.TheVariants.{Tranquil, Thirsty, Drinking as Drinks, Reaching}
 use Rattle.legal_steps.specs.declared.event.Event.{Event}
 use Rattle.legal_steps.specs.declared.event.Event.TheVariants.{Thirst, Drink, Reach, Act, Quit, Retire, Withdraw}
-use Rattle.legal_steps.specs.WholeLogs.{Line, line_of, commands_on, lines_of, part_of, parts_of}
+use Rattle.legal_steps.specs.WholeLogs.{LogLine, line_of, commands_on, lines_of, part_of, parts_of}
 use Rattle.legal_steps.proofs.LogBooks.{Stage, Books, put-same, put-other, put-cases, is_drinking, holds_at, holds, HasOneHolder}
 use Rattle.legal_steps.proofs.LogMoves.{Can, booked, with_stage, next_of, entry_of}
 use Rattle.legal_steps.proofs.LogEnded.{IsFresh, ended_on}
 use Rattle.legal_steps.proofs.PartLists.{line_at, lines_of-push, length-commands_on, commands_on-more, names-next, parts_of-push, part_of-none}
 
 -- what the session of a job at this stage has put on the instrument so far
-abbrev pub part_so_far : LabPlan → ℕ → ℕ → Stage → List Line
+abbrev pub part_so_far : LabPlan → ℕ → ℕ → Stage → List LogLine
 part_so_far plan i j x =
     let all = commands plan j x.session in
     lines_of j x.session (length (commands_on i all)) (commands_on i (take x.position all))

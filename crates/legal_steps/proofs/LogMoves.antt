@@ -4,16 +4,15 @@ use Rattle.std.proofs.lemmas.Bool.{cases_eq, cases_lt}
 use Rattle.std.proofs.lemmas.List.{set_past}
 use Rattle.std.proofs.lemmas.List.Elements.{All-get_or}
 use Rattle.lab_plan.specs.declared.verb.Verb.{Verb}
-use Rattle.lab_plan.specs.LabPlan.{LabPlan, sessions, commands, command_at, place_at, length_at}
+use Rattle.lab_plan.specs.LabPlan.{LabPlan, sessions, commands, command_at}
 use Rattle.lab_plan.specs.IsPlan.{IsNamed}
 use Rattle.instrument_log.specs.declared.entry.Entry.{Entry}
-use Rattle.instrument_log.specs.Dial.{turned, dial}
 use Rattle.legal_steps.specs.declared.phase.Drinking.TheVariants.{Tranquil, Thirsty, Drinking as Drinks, Reaching, Retired}
 use Rattle.legal_steps.specs.declared.event.Event.{Event}
 use Rattle.legal_steps.specs.declared.event.Event.TheVariants.{Look, AskFork, GiveFork, Soil, AskBottles, GiveBottles, Thirst, Hunger, Sit, Leave, Drink, Reach, Act, Quit, Retire, Glance, Withdraw}
 use Rattle.legal_steps.specs.State.{State, Seat, seat, phase, log}
 use Rattle.legal_steps.specs.Fitting.{Fits}
-use Rattle.legal_steps.specs.Legal.{May, after, with_seat, next_command, next_entry, IsJob}
+use Rattle.legal_steps.specs.Legal.{May, after, with_seat, next_command, entry_after, next_entry, IsJob}
 use Rattle.legal_steps.proofs.LogBooks.{Stage, Books, stage_of, books, put, put-same, put-other}
 
 -- ---- where each kind is legal, as far as the books say it, and the books after it
@@ -26,16 +25,7 @@ abbrev pub next_of : LabPlan → Books → ℕ → ℕ × Verb
 next_of plan b j = command_at plan j (b.stages j).session (b.stages j).position
 
 abbrev pub entry_of : LabPlan → Books → ℕ → Entry
-entry_of plan b j =
-    let next = next_of plan b j in
-    record {
-      job = j;
-      session = (b.stages j).session;
-      place = place_at plan j (b.stages j).session (b.stages j).position;
-      length = length_at plan j (b.stages j).session (b.stages j).position;
-      verb = next.1;
-      value = turned next.1 (dial (b.logs next.0));
-    }
+entry_of plan b j = entry_after plan j (b.stages j).session (b.stages j).position (b.logs (next_of plan b j).0)
 
 abbrev pub Can : LabPlan → Books → Event → Type 0
 Can plan b (Thirst j) = IsJob plan j × ((b.stages j).drinking ≡ Tranquil) × ((b.stages j).session < length (sessions plan j))
@@ -119,7 +109,7 @@ pub next-inside : (plan : LabPlan) (s : State) (j : ℕ) → IsNamed plan → Fi
 next-inside plan s j named fit can =
     let x = phase s j in
     let P : ℕ × Verb → Type 0 = λ command. command.0 < length plan.instruments in
-    let left : x.position < length (commands plan j x.session) = (fit.seats_fit j can.0).command_left can.1 in
+    let left : x.position < length (commands plan j x.session) = (fit.seats_fit j can.0).phase_within.command_left can.1 in
     let here : P (next_command plan s j) = All-get_or P (commands plan j x.session) x.position _ left (named j x.session) in
     omega (arith, here, fit.logs_there)
 

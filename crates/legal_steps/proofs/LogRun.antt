@@ -107,12 +107,12 @@ in_session_from Retired e = absurd (cc)
 
 pub stages_fit : (plan : LabPlan) (s : State) → Fits plan s → AreStages plan (books s)
 stages_fit plan s fit j job = record {
-  session_there = (fit.seats_fit j job).session_there;
-  begun = λ h. (fit.seats_fit j job).begun (in_session_from (seat s j).phase.drinking h);
+  session_there = (fit.seats_fit j job).phase_within.session_there;
+  begun = λ h. (fit.seats_fit j job).phase_within.begun (in_session_from (seat s j).phase.drinking h);
 }
 
 pub has_left : (plan : LabPlan) (s : State) → Fits plan s → HasLeft plan (books s)
-has_left plan s fit j job reaching = (fit.seats_fit j job).command_left reaching
+has_left plan s fit j job reaching = (fit.seats_fit j job).phase_within.command_left reaching
 
 pub one_holder : (plan : LabPlan) (s : State) → IsPlan plan → IsServed plan s → HasOneHolder plan (books s)
 one_holder plan s is_plan served = one_holder_from plan s (exclusive plan s is_plan served)

@@ -25,10 +25,12 @@ idle_fits plan j = record {
   fork_marks_there = length-replicate _ _;
   bottle_marks_there = length-replicate _ _;
   bottle_marks_fit = bare_fits plan;
-  session_there = omega arith;
-  begun = λ t. absurd (not_tranquil t);
-  position_there = omega arith;
-  command_left = λ e. absurd (cc);
+  phase_within = record {
+    session_there = omega arith;
+    begun = λ t. absurd (not_tranquil t);
+    position_there = omega arith;
+    command_left = λ e. absurd (cc);
+  };
 }
 
 pub fits_opening : (plan : LabPlan) (s : State) → IsOpening plan s → Fits plan s

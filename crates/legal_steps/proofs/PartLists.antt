@@ -9,10 +9,10 @@ use Rattle.std.proofs.lemmas.List.Sums.{length-filter}
 use Rattle.std.proofs.lemmas.List.FromFn.{length-enumerate_from}
 use Rattle.lab_plan.specs.declared.verb.Verb.{Verb}
 use Rattle.lab_plan.specs.LabPlan.{LabPlan, commands, count_on, session_names}
-use Rattle.legal_steps.specs.WholeLogs.{Line, commands_on, lines_of, part_of, parts_of}
+use Rattle.legal_steps.specs.WholeLogs.{LogLine, commands_on, lines_of, part_of, parts_of}
 
 -- the line of the command with this place in a part
-abbrev pub line_at : ℕ → ℕ → ℕ → ℕ → ℕ × Verb → Line
+abbrev pub line_at : ℕ → ℕ → ℕ → ℕ → ℕ × Verb → LogLine
 line_at j session total place command = (j, session, place, total, command.1)
 
 enumerate_from-push : {X : Type 0} (n : ℕ) (xs : List X) (x : X) → enumerate_from n (xs ++ x ∷ []) ≡ enumerate_from n xs ++ (n + length xs, x) ∷ []
@@ -23,7 +23,7 @@ enumerate_from-push n (y ∷ ys) x =
 pub lines_of-push : (j session total : ℕ) (own : List (ℕ × Verb)) (command : ℕ × Verb) →
     lines_of j session total (own ++ command ∷ []) ≡ lines_of j session total own ++ line_at j session total (length own + 1) command ∷ []
 lines_of-push j session total own command =
-    let f : ℕ × (ℕ × Verb) → Line = λ numbered. (j, session, numbered.0, total, numbered.1.1) in
+    let f : ℕ × (ℕ × Verb) → LogLine = λ numbered. (j, session, numbered.0, total, numbered.1.1) in
     ap (map f) (enumerate_from-push 1 own command)
     ∙ map-append f (enumerate_from 1 own) ((1 + length own, command) ∷ [])
     ∙ ap (λ k. map f (enumerate_from 1 own) ++ line_at j session total k command ∷ []) (omega arith)
@@ -33,11 +33,11 @@ length-lines_of j session total own = length-map (enumerate_from 1 own) _ ∙ le
 
 -- the lines of a beginning are the beginning of the lines
 pub lines_of-append : (j session total : ℕ) (own more : List (ℕ × Verb))
-    → (rest : List Line) × (lines_of j session total (own ++ more) ≡ lines_of j session total own ++ rest)
+    → (rest : List LogLine) × (lines_of j session total (own ++ more) ≡ lines_of j session total own ++ rest)
 lines_of-append j session total own [] = ([], ap (lines_of j session total) (append-nil own) ∙ sym (append-nil (lines_of j session total own)))
 lines_of-append j session total own (command ∷ more) =
     let all = lines_of-append j session total (own ++ command ∷ []) more in
-    let line : Line = line_at j session total (length own + 1) command in (
+    let line : LogLine = line_at j session total (length own + 1) command in (
       line ∷ all.0,
       ap (lines_of j session total) (sym (append_assoc own (command ∷ []) more)) ∙ all.1
           ∙ ap (λ lines. lines ++ all.0) (lines_of-push j session total own command)

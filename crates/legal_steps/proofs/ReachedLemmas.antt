@@ -14,7 +14,7 @@ use Rattle.legal_steps.proofs.RunLemmas.{runs_push}
 use Rattle.legal_steps.proofs.ExclusionLaw.{exclusive}
 use Rattle.legal_steps.proofs.ReachedInvariant.{IsSound, sound_opening, sound_after_all, truthful, acyclic_after_all}
 
-pub reached_opening : (plan : LabPlan) (s : State) → IsPlan plan → IsOpening plan s → IsAcyclic plan s → IsReached plan s
+abbrev pub reached_opening : (plan : LabPlan) (s : State) → IsPlan plan → IsOpening plan s → IsAcyclic plan s → IsReached plan s
 reached_opening plan s is_plan opens acyclic = record {
   is_plan = is_plan;
   opening = s;
@@ -24,7 +24,7 @@ reached_opening plan s is_plan opens acyclic = record {
   run = record { legal = tt; leads = refl };
 }
 
-pub reached_legal : (plan : LabPlan) (s : State) (event : Event) (s' : State) → IsReached plan s → IsLegal plan s event s' → IsReached plan s'
+abbrev pub reached_legal : (plan : LabPlan) (s : State) (event : Event) (s' : State) → IsReached plan s → IsLegal plan s event s' → IsReached plan s'
 reached_legal plan s event s' h step = record {
   is_plan = h.is_plan;
   opening = h.opening;

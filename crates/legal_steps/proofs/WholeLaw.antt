@@ -11,7 +11,7 @@ use Rattle.lab_plan.specs.LabPlan.{LabPlan, commands, session_names}
 use Rattle.instrument_log.specs.declared.entry.Entry.{Entry}
 use Rattle.legal_steps.specs.declared.phase.Drinking.{Drinking}
 use Rattle.legal_steps.specs.declared.phase.Drinking.TheVariants.{Tranquil, Thirsty, Drinking as Drinks, Reaching, Retired}
-use Rattle.legal_steps.specs.WholeLogs.{Line, line_of, commands_on, lines_of, part_of, parts_of, IsSessionOf, IsBefore, IsAscending, IsBegun, IsWholeButEnd, BeginsWithParts}
+use Rattle.legal_steps.specs.WholeLogs.{LogLine, line_of, commands_on, lines_of, part_of, parts_of, IsSessionOf, IsBefore, IsAscending, IsBegun, IsWholeButEnd, BeginsWithParts}
 use Rattle.legal_steps.proofs.LogBooks.{Stage, Books, is_in_session, is_drinking, holds}
 use Rattle.legal_steps.proofs.LogEnded.{IsPast, past_before, HasEnded}
 use Rattle.legal_steps.proofs.LogKept.{IsKept, part_so_far}
@@ -29,7 +29,7 @@ naming plan i owners = filter (names_here plan i) owners
 naming-parts : (plan : LabPlan) (i : ℕ) (owners : List (ℕ × ℕ)) → parts_of plan i owners ≡ parts_of plan i (naming plan i owners)
 naming-parts plan i [] = refl
 naming-parts plan i (own ∷ owners) =
-    let f : Bool → List Line = λ b. parts_of plan i (cond b (own ∷ naming plan i owners) (naming plan i owners)) in
+    let f : Bool → List LogLine = λ b. parts_of plan i (cond b (own ∷ naming plan i owners) (naming plan i owners)) in
     elim (cases_Bool (names_here plan i own)) [
       | inl here ↦ ap (λ lines. part_of plan i own ++ lines) (naming-parts plan i owners) ∙ ap f (sym here)
       | inr none ↦ ap (λ lines. lines ++ parts_of plan i owners) (part_of-none plan i own none) ∙ naming-parts plan i owners ∙ ap f (sym none)
@@ -61,7 +61,7 @@ done_on plan i j x = commands_on i (take x.position (commands plan j x.session))
 abbrev left_on : LabPlan → ℕ → ℕ → Stage → List (ℕ × Verb)
 left_on plan i j x = commands_on i (drop x.position (commands plan j x.session))
 
-part_split : (plan : LabPlan) (i j : ℕ) (x : Stage) → (rest : List Line) × (part_of plan i (j, x.session) ≡ part_so_far plan i j x ++ rest)
+part_split : (plan : LabPlan) (i j : ℕ) (x : Stage) → (rest : List LogLine) × (part_of plan i (j, x.session) ≡ part_so_far plan i j x ++ rest)
 part_split plan i j x =
     let all : List (ℕ × Verb) = commands plan j x.session in
     let total : ℕ = length (commands_on i all) in
@@ -74,7 +74,7 @@ part_begun : (plan : LabPlan) (i j : ℕ) (x : Stage) → 0 < length (done_on pl
 part_begun plan i j x some more =
     let all : List (ℕ × Verb) = commands plan j x.session in
     let total : ℕ = length (commands_on i all) in
-    let so_far : List Line = part_so_far plan i j x in
+    let so_far : List LogLine = part_so_far plan i j x in
     let split = part_split plan i j x in
     let short = length-lines_of j x.session total (done_on plan i j x) in
     record {

@@ -2,18 +2,23 @@
 use Rattle.std.specs.Prelude.{◌≡◌, ℕ, ◌<◌, ◌≤◌, length, slice_index_or}
 use Rattle.lab_plan.specs.LabPlan.{LabPlan, edges, sessions, commands}
 use Rattle.legal_steps.specs.declared.phase.Drinking.TheVariants.{Reaching}
+use Rattle.legal_steps.specs.declared.phase.JobState.{JobState}
 use Rattle.legal_steps.specs.State.{State, Seat, IsOfEdge, IsInSession, edge, seat}
 
--- a seat fits a job of the plan: it has marks for each edge, its session is one of the job's,
--- and its position is within the session, with a command left where it reaches
+-- how far a job of the plan may be: its session is one of the job's, and its position is within the session,
+-- with a command left where it reaches
+pub record IsPhaseOf (plan : LabPlan) (j : ℕ) (phase : JobState) : Type 0 where
+  pub session_there : phase.session ≤ length (sessions plan j)
+  pub begun : IsInSession phase.drinking → 1 ≤ phase.session
+  pub position_there : phase.position ≤ length (commands plan j phase.session)
+  pub command_left : phase.drinking ≡ Reaching → phase.position < length (commands plan j phase.session)
+
+-- a seat fits a job of the plan: it has marks for each edge, and the job may be so far
 pub record IsSeatOf (plan : LabPlan) (j : ℕ) (x : Seat) : Type 0 where
   pub fork_marks_there : length x.fork_marks ≡ length (edges plan)
   pub bottle_marks_there : length x.bottle_marks ≡ length (edges plan)
   pub bottle_marks_fit : (e : ℕ) → e < length (edges plan) → IsOfEdge plan e (slice_index_or x.bottle_marks e 0)
-  pub session_there : x.phase.session ≤ length (sessions plan j)
-  pub begun : IsInSession x.phase.drinking → 1 ≤ x.phase.session
-  pub position_there : x.phase.position ≤ length (commands plan j x.phase.session)
-  pub command_left : x.phase.drinking ≡ Reaching → x.phase.position < length (commands plan j x.phase.session)
+  pub phase_within : IsPhaseOf plan j x.phase
 
 -- a state fits the plan: each of its edges, with sets of its bottles alone, a seat that fits each job, a log for each instrument
 pub record Fits (plan : LabPlan) (s : State) : Type 0 where

@@ -148,18 +148,21 @@ fork_mark_seen Hungry here x = is_at here x.fork && (not x.dirty || not (is_at h
 abbrev pub next_command : LabPlan → State → ℕ → ℕ × Verb
 next_command plan s j = command_at plan j (session s j) (position s j)
 
--- its entry: where it stands in its session's part on the instrument, and the dial after it
+-- the entry of a job's command at a position of a session, after these entries in the log of its instrument:
+-- where it stands in its session's part on the instrument, and the dial after it
+abbrev pub entry_after : LabPlan → ℕ → ℕ → ℕ → List Entry → Entry
+entry_after plan j n k entries = record {
+  job = j;
+  session = n;
+  place = place_at plan j n k;
+  length = length_at plan j n k;
+  verb = (command_at plan j n k).1;
+  value = turned (command_at plan j n k).1 (dial entries);
+}
+
+-- the entry of the job's next command
 unfoldable pub next_entry : LabPlan → State → ℕ → Entry
-next_entry plan s j =
-    let next = next_command plan s j in
-    record {
-      job = j;
-      session = session s j;
-      place = place_at plan j (session s j) (position s j);
-      length = length_at plan j (session s j) (position s j);
-      verb = next.1;
-      value = turned next.1 (dial (log s next.0));
-    }
+next_entry plan s j = entry_after plan j (session s j) (position s j) (log s (next_command plan s j).0)
 
 -- the state with one more entry at the end of log i
 abbrev pub with_entry : State → ℕ → Entry → State

@@ -1,5 +1,6 @@
 pub mod State
 pub mod Legal
+pub mod Guards
 pub mod Run
 pub mod Steps
 pub mod Precedence

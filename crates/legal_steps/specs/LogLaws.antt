@@ -1,5 +1,6 @@
 -- The laws of logs, their room, and counts: what holds after each beginning of a legal list of events.
 use Rattle.std.specs.Prelude.{◌≡◌, ℕ, ◌+◌, ◌≤◌, List, All, length, map, take}
+use Rattle.lab_plan.specs.Limits.{most_sessions}
 use Rattle.lab_plan.specs.LabPlan.{LabPlan}
 use Rattle.lab_plan.specs.IsPlan.{IsPlan}
 use Rattle.instrument_log.specs.Dial.{HasDialValues}
@@ -12,7 +13,7 @@ use Rattle.legal_steps.specs.Legal.{IsJob, next_command, next_entry}
 use Rattle.legal_steps.specs.Run.{IsLegalFrom, after_all, meals_of, sessions_done_of, withdrawn_of}
 use Rattle.legal_steps.specs.Opening.{IsOpening}
 use Rattle.legal_steps.specs.Holding.{Holds}
-use Rattle.legal_steps.specs.WholeLogs.{line_of, parts_of, IsSessionOf, IsAscending, IsWholeButEnd, BeginsWithParts, ended_sessions, room_of}
+use Rattle.legal_steps.specs.WholeLogs.{line_of, parts_of, IsSessionOf, IsAscending, IsWholeButEnd, BeginsWithParts, ended_sessions, room_of, log_with_room}
 use Rattle.legal_steps.specs.Laws.{Always}
 
 -- ---- logs
@@ -53,13 +54,13 @@ FitsItsRoom = Always (λ plan s. (i : ℕ) → length (log s i) ≤ room_of plan
 abbrev pub TakesNextEntry : Type 0
 TakesNextEntry = Always (λ plan s. (j : ℕ) → IsJob plan j → drinking s j ≡ Reaching →
     let i = (next_command plan s j).0 in
-    MayAppend (record { entries = log s i; room = room_of plan i }) (next_entry plan s j) × IsWithinLimits (next_entry plan s j))
+    MayAppend (log_with_room plan s i) (next_entry plan s j) × IsWithinLimits (next_entry plan s j))
 
 -- ---- counts
 
--- a job begins at most 1000 sessions
+-- a job begins no more sessions than a job may have
 abbrev pub HasFewSessions : Type 0
-HasFewSessions = Always (λ plan s. (j : ℕ) → session s j ≤ 1000)
+HasFewSessions = Always (λ plan s. (j : ℕ) → session s j ≤ most_sessions)
 
 -- a job has at most one meal for each session that it began
 abbrev pub HasFewMeals : Type 0

@@ -29,9 +29,9 @@ event_of s (Glance j other) = events.Glance j other (phase s other)
 event_of s (Withdraw j) = events.Withdraw j
 
 -- the events of some steps one after another from s
-abbrev pub events_of : LabPlan → State → List Step → List Event
-events_of plan s [] = []
-events_of plan s (step ∷ steps) = event_of s step ∷ events_of plan (after plan s (event_of s step)) steps
+abbrev pub step_events : LabPlan → State → List Step → List Event
+step_events plan s [] = []
+step_events plan s (step ∷ steps) = event_of s step ∷ step_events plan (after plan s (event_of s step)) steps
 
 -- the step's jobs and edges are the plan's
 abbrev pub IsStepOf : LabPlan → Step → Type 0

@@ -4,16 +4,17 @@ use Rattle.std.specs.List.{flat_map, enumerate_from, AllPairs, All}
 use Rattle.lab_plan.specs.declared.verb.Verb.{Verb}
 use Rattle.lab_plan.specs.LabPlan.{LabPlan, sessions, commands, count_on, all_commands}
 use Rattle.instrument_log.specs.declared.entry.Entry.{Entry}
+use Rattle.instrument_log.specs.InstrumentLog.{LogView}
 use Rattle.legal_steps.specs.declared.event.Event.{Event}
 use Rattle.legal_steps.specs.declared.event.Event.TheVariants.{Quit}
-use Rattle.legal_steps.specs.State.{State, session}
+use Rattle.legal_steps.specs.State.{State, session, log}
 use Rattle.legal_steps.specs.Legal.{after}
 
 -- what an entry says besides its value: job, session, place, length, verb
-abbrev pub Line : Type 0
-Line = ℕ × ℕ × ℕ × ℕ × Verb
+abbrev pub LogLine : Type 0
+LogLine = ℕ × ℕ × ℕ × ℕ × Verb
 
-abbrev pub line_of : Entry → Line
+abbrev pub line_of : Entry → LogLine
 line_of entry = (entry.job, entry.session, entry.place, entry.length, entry.verb)
 
 -- the commands on the instrument, in order
@@ -21,17 +22,17 @@ abbrev pub commands_on : ℕ → List (ℕ × Verb) → List (ℕ × Verb)
 commands_on i all = filter (λ command. command.0 == i) all
 
 -- some commands on one instrument as lines of a part, with their places from 1
-abbrev pub lines_of : ℕ → ℕ → ℕ → List (ℕ × Verb) → List Line
+abbrev pub lines_of : ℕ → ℕ → ℕ → List (ℕ × Verb) → List LogLine
 lines_of j session total own = map (λ numbered. (j, session, numbered.0, total, numbered.1.1)) (enumerate_from 1 own)
 
 -- the part of a session (job, number) on an instrument: its commands there, in order
-abbrev pub part_of : LabPlan → ℕ → ℕ × ℕ → List Line
+abbrev pub part_of : LabPlan → ℕ → ℕ × ℕ → List LogLine
 part_of plan i own =
     let there = commands_on i (commands plan own.0 own.1) in
     lines_of own.0 own.1 (length there) there
 
 -- the parts of some sessions, one after another
-abbrev pub parts_of : LabPlan → ℕ → List (ℕ × ℕ) → List Line
+abbrev pub parts_of : LabPlan → ℕ → List (ℕ × ℕ) → List LogLine
 parts_of plan i owners = flat_map (part_of plan i) owners
 
 -- a session (job, number) of the plan
@@ -49,7 +50,7 @@ abbrev pub IsAscending : List (ℕ × ℕ) → Type 0
 IsAscending owners = AllPairs IsBefore owners
 
 -- a proper, nonempty beginning of a list
-pub record IsBegun (begun all : List Line) : Type 0 where
+pub record IsBegun (begun all : List LogLine) : Type 0 where
   pub not_empty : 0 < length begun
   pub proper : length begun < length all
   pub beginning : begun ≡ take (length begun) all
@@ -58,7 +59,7 @@ pub record IsBegun (begun all : List Line) : Type 0 where
 -- then nothing or the beginning of one further part that keeps this order
 pub record IsWholeButEnd (plan : LabPlan) (i : ℕ) (entries : List Entry) : Type 0 where
   pub finished : List (ℕ × ℕ)
-  pub unfinished : List Line
+  pub unfinished : List LogLine
   pub joined : map line_of entries ≡ parts_of plan i finished ++ unfinished
   pub of_plan : All (IsSessionOf plan) finished
   pub not_empty : All (λ own. 0 < length (part_of plan i own)) finished
@@ -77,8 +78,12 @@ ended_sessions plan s (event ∷ events) = ended_by s event ++ ended_sessions pl
 
 -- the parts of these sessions stand in the log, in their order, before anything else
 abbrev pub BeginsWithParts : LabPlan → ℕ → List (ℕ × ℕ) → List Entry → Type 0
-BeginsWithParts plan i owners entries = (rest : List Line) × (map line_of entries ≡ parts_of plan i owners ++ rest)
+BeginsWithParts plan i owners entries = (rest : List LogLine) × (map line_of entries ≡ parts_of plan i owners ++ rest)
 
 -- how many commands of the plan are on the instrument: the room that its log needs
 abbrev pub room_of : LabPlan → ℕ → ℕ
 room_of plan i = count_on i (all_commands plan)
+
+-- the log of the instrument, with that room
+abbrev pub log_with_room : LabPlan → State → ℕ → LogView
+log_with_room plan s i = record { entries = log s i; room = room_of plan i }

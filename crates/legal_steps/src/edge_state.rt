@@ -1,5 +1,5 @@
 // Where the things of an edge are.
-ghost use Rattle.std.specs.Prelude.{◌≡◌, ◌<◌, length};
+ghost use Rattle.std.specs.Prelude.{◌≡◌, ◌<◌, ◌↔◌, IsTrue, length};
 ghost use Rattle.lab_plan.specs.LabPlan.{edges};
 
 use crate::end::End;
@@ -50,6 +50,86 @@ impl EdgeState {
         match here {
             End::Higher => self.bottles,
             End::Lower => ((1u32 << plan.bottles(edge)) - 1) ^ self.bottles,
+        }
+    }
+}
+
+impl EdgeState {
+    ghost use Rattle.legal_steps.specs.Guards.{GivesFork, Soils, WantsFork};
+
+    /// Whether a job at this end that dines so may ask for the fork.
+    pub fn wants_fork(self, here: End, dining: Dining) -> bool
+        ensures { IsTrue result ↔ WantsFork dining here self }
+    {
+        dining == Dining::Hungry && self.fork != here && self.token == here
+    }
+
+    /// Whether a job at this end that dines so may give the fork.
+    pub fn gives_fork(self, here: End, dining: Dining) -> bool
+        ensures { IsTrue result ↔ GivesFork dining here self }
+    {
+        dining != Dining::Eating && self.fork == here && self.dirty && self.token == here
+    }
+
+    /// Whether a job at this end that dines so may soil the fork.
+    pub fn soils(self, here: End, dining: Dining) -> bool
+        ensures { IsTrue result ↔ Soils dining here self }
+    {
+        dining == Dining::Eating && self.fork == here && !self.dirty
+    }
+}
+
+impl EdgeState {
+    ghost use Rattle.legal_steps.specs.Legal.{bottles_asked, bottles_given, fork_asked, fork_given, fork_soiled};
+
+    /// The edge after the fork was asked for.
+    pub fn fork_asked(self) -> EdgeState
+        ensures { result ≡ fork_asked self }
+    {
+        EdgeState {
+            token: self.token.other(),
+            ..self
+        }
+    }
+
+    /// The edge after the fork was given.
+    pub fn fork_given(self) -> EdgeState
+        ensures { result ≡ fork_given self }
+    {
+        EdgeState {
+            fork: self.fork.other(),
+            dirty: false,
+            ..self
+        }
+    }
+
+    /// The edge after the fork was soiled.
+    pub fn fork_soiled(self) -> EdgeState
+        ensures { result ≡ fork_soiled self }
+    {
+        EdgeState {
+            dirty: true,
+            ..self
+        }
+    }
+
+    /// The edge after these bottles were asked for.
+    pub fn bottles_asked(self, set: u32) -> EdgeState
+        ensures { result ≡ bottles_asked set self }
+    {
+        EdgeState {
+            bottle_tokens: self.bottle_tokens ^ set,
+            ..self
+        }
+    }
+
+    /// The edge after these bottles were given.
+    pub fn bottles_given(self, set: u32) -> EdgeState
+        ensures { result ≡ bottles_given set self }
+    {
+        EdgeState {
+            bottles: self.bottles ^ set,
+            ..self
         }
     }
 }

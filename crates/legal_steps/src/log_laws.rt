@@ -44,7 +44,7 @@ pub fn act_finds_room()
     ensures { TakesNextEntry }
 {}
 
-/// No job begins more than 1000 sessions.
+/// No job begins more sessions than a job may have.
 #[tactic(auto, using(crate::proofs::LogLawProofs::has_few_sessions))]
 pub fn few_sessions()
     ensures { HasFewSessions }

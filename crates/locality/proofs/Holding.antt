@@ -38,7 +38,7 @@ pub ready_holds : (plan : LabPlan) (s : State) (j : ℕ) → May plan s (Reach j
 ready_holds plan s j may = record { drinks = inl may.1; named = next_named plan s j may.2 }
 
 pub reaching_left : (plan : LabPlan) (s : State) (j i : ℕ) → Fits plan s → IsReachingFor plan s j i → position s j < length (commands plan j (session s j))
-reaching_left plan s j i fit r = (fit.seats_fit j r.job).command_left r.reaching
+reaching_left plan s j i fit r = (fit.seats_fit j r.job).phase_within.command_left r.reaching
 
 pub reaching_holds : (plan : LabPlan) (s : State) (j i : ℕ) → Fits plan s → IsReachingFor plan s j i → Holds plan s j i
 reaching_holds plan s j i fit r = record {

@@ -13,3 +13,4 @@ pub mod Entries
 pub mod Resting
 pub mod Few
 pub mod Retired
+pub mod Groups

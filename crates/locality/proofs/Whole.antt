@@ -10,7 +10,8 @@ use Rattle.legal_steps.specs.Holding.{AreTruthful, IsExclusive}
 use Rattle.legal_steps.specs.Precedence.{IsAcyclic}
 use Rattle.legal_steps.specs.Laws.{Always}
 use Rattle.legal_steps.proofs.ReachedLaws.{stays_within_plan, marks_are_truthful, has_one_holder, stays_acyclic, the_opening_is_acyclic}
-use Rattle.locality.specs.Laws.{AfterEvery}
+use Rattle.locality.specs.Laws.{AfterEvery, FitTheirWords}
+use Rattle.locality.proofs.Few.{phase_fits}
 
 whole : (P : LabPlan → State → Type 0) → Always P → AfterEvery P
 whole P always plan h is_plan legal =
@@ -31,3 +32,11 @@ acyclic_after_every plan h is_plan legal =
     let opens = the_opening_is_acyclic plan in
     subst (λ l. IsAcyclic plan (after_all plan (the_opening plan) l)) (take-length h)
     (stays_acyclic plan (the_opening plan) h (length h) is_plan opens.0 opens.1 legal)
+
+pub have_their_words : AfterEvery FitTheirWords
+have_their_words plan h is_plan legal =
+    let fits = fits_after_every plan h is_plan legal in
+    record {
+      edges_fit = λ e inside. record { bottles_fit = fits.bottles_fit e inside; tokens_fit = fits.tokens_fit e inside };
+      phases_fit = λ j job. phase_fits plan _ j is_plan fits job;
+    }

@@ -1,16 +1,20 @@
 -- For readers: what one event reads and changes, what a job knows, and what holds after every history, as statements.
-use Rattle.std.specs.Prelude.{◌≡◌, ◌≢◌, ◌⊎◌, ◌↔◌, ℕ, ◌<◌, List, [], ◌∷◌, ◌++◌, length, Some}
-use Rattle.lab_plan.specs.LabPlan.{LabPlan, edges}
+use Rattle.std.specs.Prelude.{◌≡◌, ◌≢◌, ◌⊎◌, ◌↔◌, ℕ, ◌<◌, List, [], ◌∷◌, ◌++◌, length, slice_set, Some}
+use Rattle.lab_plan.specs.LabPlan.{LabPlan, edges, bottles}
 use Rattle.lab_plan.specs.IsPlan.{IsPlan}
 use Rattle.legal_steps.specs.declared.edge_state.EdgeState.{EdgeState}
 use Rattle.legal_steps.specs.declared.event.Event.{Event}
 use Rattle.legal_steps.specs.declared.event.Event.TheVariants.{Look, Reach, Act}
 use Rattle.legal_steps.specs.declared.phase.Drinking.TheVariants.{Retired}
-use Rattle.legal_steps.specs.State.{State, edge, seat, log, drinking, position, IsInSession}
+use Rattle.legal_steps.specs.State.{State, edge, seat, log, phase, drinking, position, IsInSession}
 use Rattle.legal_steps.specs.Legal.{May, after, next_command, next_entry}
 use Rattle.legal_steps.specs.Run.{IsLegalFrom, after_all, meals_of, sessions_done_of, withdrawn_of}
 use Rattle.legal_steps.specs.Opening.{the_opening}
 use Rattle.legal_steps.specs.Holding.{Holds}
+use Rattle.edge_word.specs.declared.moves.EdgeMoves.{EdgeMoves}
+use Rattle.edge_word.specs.Moves.{events_of, after_moves, seat_with_moves}
+use Rattle.edge_word.specs.Words.{IsOfBottles}
+use Rattle.edge_word.specs.Phases.{FitsPhaseWord}
 use Rattle.locality.specs.History.{actor, events_by, known_by, IsHistory, state_after}
 use Rattle.locality.specs.Changes.{seat_after}
 use Rattle.locality.specs.Exchanges.{changed_edge, edge_after, written_log, acts_on}
@@ -51,6 +55,12 @@ pub record HasOneLogChanged (plan : LabPlan) (s : State) (event : Event) : Type 
 
 abbrev pub ChangesOneLog : Type 0
 ChangesOneLog = (plan : LabPlan) (s : State) (event : Event) → HasOneLogChanged plan s event
+
+-- a group of moves makes of the seat of its job what the group says, and of its edge; no other edge changes
+abbrev pub GroupsChangeOneSeatAndEdge : Type 0
+GroupsChangeOneSeatAndEdge = (plan : LabPlan) (s : State) (j e : ℕ) (m : EdgeMoves)
+    → (j < length s.seats → seat (after_all plan s (events_of m j e)) j ≡ seat_with_moves m e (seat s j))
+    × (e < length s.edges → (after_all plan s (events_of m j e)).edges ≡ slice_set s.edges e (after_moves m (edge s e)))
 
 -- ---- what one event reads
 
@@ -96,6 +106,11 @@ IsLegalInParts = (plan : LabPlan) (s : State) (a b : List Event)
 -- P holds of the state after every history of every plan
 abbrev pub AfterEvery : (LabPlan → State → Type 0) → Type 0
 AfterEvery P = (plan : LabPlan) (h : List Event) → IsPlan plan → IsHistory plan h → P plan (state_after plan h)
+
+-- every edge names its own bottles alone, and the numbers of every phase fit their fields: so both have their words
+pub record FitTheirWords (plan : LabPlan) (s : State) : Type 0 where
+  pub edges_fit : (e : ℕ) → e < length (edges plan) → IsOfBottles (length (bottles plan e)) (edge s e)
+  pub phases_fit : (j : ℕ) → j < length plan.jobs → FitsPhaseWord (phase s j)
 
 -- ---- what stays over legal lists
 

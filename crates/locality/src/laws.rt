@@ -3,7 +3,7 @@
 ghost use Rattle.legal_steps.specs.Fitting.{Fits};
 ghost use Rattle.legal_steps.specs.Holding.{AreTruthful, IsExclusive};
 ghost use Rattle.legal_steps.specs.Precedence.{IsAcyclic};
-ghost use Rattle.locality.specs.Laws.{AfterEvery, ChangesOneEdge, ChangesOneLog, ChangesOneSeat, CountsItself, EntryReadsAlike, HasOneEntryEach, HasOneReaching, HoldsWhatItReaches, IsLegalInParts, KeepsAll, KeepsReachedLog, KnowsItself, KnowsWhatItSaw, LeadsOn, ReadsAlike, RestsAtNoCommand, StaysRetired};
+ghost use Rattle.locality.specs.Laws.{AfterEvery, ChangesOneEdge, ChangesOneLog, ChangesOneSeat, CountsItself, EntryReadsAlike, FitTheirWords, GroupsChangeOneSeatAndEdge, HasOneEntryEach, HasOneReaching, HoldsWhatItReaches, IsLegalInParts, KeepsAll, KeepsReachedLog, KnowsItself, KnowsWhatItSaw, LeadsOn, ReadsAlike, RestsAtNoCommand, StaysRetired};
 
 /// After an event there are as many seats, edges and logs as before.
 pub fn keeps_all()
@@ -23,6 +23,11 @@ pub fn changes_one_edge()
 /// An event changes one log at most: that of an Act, which has one more entry.
 pub fn changes_one_log()
     ensures { ChangesOneLog }
+{}
+
+/// A group of moves of one job on one edge sets and clears marks of its job for that edge, and changes that edge.
+pub fn groups_change_one_seat_and_edge()
+    ensures { GroupsChangeOneSeatAndEdge }
 {}
 
 /// Whether an event is legal depends on the seat of its job, on the edge of an exchange or a look, and on how far
@@ -68,6 +73,11 @@ pub fn after_every_history()
     ensures truthful { AfterEvery AreTruthful }
     ensures exclusive { AfterEvery IsExclusive }
     ensures acyclic { AfterEvery IsAcyclic }
+{}
+
+/// After every history each edge has its word, and so has how far each job is.
+pub fn have_their_words()
+    ensures { AfterEvery FitTheirWords }
 {}
 
 /// A retired job stays retired over every legal list of events.

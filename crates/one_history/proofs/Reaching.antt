@@ -21,11 +21,11 @@ use Rattle.legal_steps.specs.Run.{IsLegalFrom}
 use Rattle.legal_steps.specs.Opening.{the_opening}
 use Rattle.legal_steps.specs.Fitting.{Fits}
 use Rattle.legal_steps.specs.Holding.{IsExclusive}
-use Rattle.legal_steps.specs.WholeLogs.{room_of}
+use Rattle.legal_steps.specs.WholeLogs.{room_of, log_with_room}
 use Rattle.edge_word.specs.Phases.{phase_word_of}
 use Rattle.one_history.specs.declared.board.View.{View}
 use Rattle.locality.specs.History.{is_by, events_by, IsHistory, known_by, state_after}
-use Rattle.one_history.specs.Rule.{phase_place, log_view, Spelled, Homed, Kept}
+use Rattle.one_history.specs.Rule.{phase_place, Spelled, Homed, Kept}
 use Rattle.locality.specs.Reaching.{IsReachingFor}
 use Rattle.one_history.specs.Grow.{hand_in, IsLed, mine, own_phase, next_instrument, reached, acted}
 use Rattle.locality.specs.Changes.{seat_after}
@@ -48,7 +48,7 @@ module _ (p : LabPlan) (w : State) (j : ℕ) (hs : List (Option LogView)) (homed
   next = (next_command p w j).0
 
   -- no one else reaches for the instrument, so its log is at home
-  at_home : Fits p w → IsPlan p → IsExclusive p w → May p w (Reach j) → get_elem? hs next ≡ some (some (log_view p w next))
+  at_home : Fits p w → IsPlan p → IsExclusive p w → May p w (Reach j) → get_elem? hs next ≡ some (some (log_with_room p w next))
   at_home fit is one may = elim (homed.slots next (next_inside p w j is may.2)) [
     | inl q ↦ q
     | inr q ↦ absurd (none_reaches p w j q.1.0 fit one may q.1.1)
@@ -80,10 +80,11 @@ module _ (p : LabPlan) (w : State) (j : ℕ) (hs : List (Option LogView)) (homed
         ];
       }
 
-  homed_back : Fits p w → IsPlan p → May p w (Act j) → Homed p (after p w (Act j)) (set hs next (some (with_log_entry (log_view p w next) (next_entry p w j))))
+  homed_back : Fits p w → IsPlan p → May p w (Act j)
+      → Homed p (after p w (Act j)) (set hs next (some (with_log_entry (log_with_room p w next) (next_entry p w j))))
   homed_back fit is may =
       let w' : State = after p w (Act j) in
-      let y : LogView = with_log_entry (log_view p w next) (next_entry p w j) in
+      let y : LogView = with_log_entry (log_with_room p w next) (next_entry p w j) in
       let deep = homed.deep in
       let own : IsReachingFor p w j next = record { job = may.0; reaching = may.1; next = refl } in
       let there = next_inside p w j is (reaching_left p w j next fit own) in
@@ -92,7 +93,7 @@ module _ (p : LabPlan) (w : State) (j : ℕ) (hs : List (Option LogView)) (homed
       record {
         deep = length-set hs next (some y) ∙ deep;
         slots = λ i l. elim (cases_eq i next) [
-          | inl same ↦ inl (subst (λ z. get_elem? (set hs next (some y)) z ≡ some (some (log_view p w' z))) (sym same)
+          | inl same ↦ inl (subst (λ z. get_elem? (set hs next (some y)) z ≡ some (some (log_with_room p w' z))) (sym same)
               (set_here hs next (some y) (omega arith)
               ∙ ap (λ (entries : List Entry). some (some (record { entries = entries; room = room_of p next }))) (sym new)))
           | inr other ↦
@@ -142,16 +143,16 @@ module _ (p : LabPlan) (slots id : ℕ) (v : View) (c : List (ℕ × LogView)) (
       let ahead : state_after (hand_in v).plan (h ++ g) ≡ after p w (Reach j) =
       ap (λ (q : LabPlan). state_after q (h ++ g)) held.0 ∙ after_all-append p (the_opening p) h g in (
         grown p v h g,
-        takes i (log_view p w i),
+        takes i (log_with_room p w i),
         at_home p w j s.homes k.homes fit k.is_plan (history_exclusive p h k.is_plan k.legal) may_now,
         appends p s k id v at led g (refl, tt) legal (set s.words (phase_place p j) n) words
             (set s.homes i none) (homed_out p w j s.homes k.homes k.is_plan inside may_now),
-        (tells p s k id v at led g (refl, tt) legal, λ r. (is_next r, log_view (sym held.0 r) (sym ahead r) (is_next r)) ∷ c),
+        (tells p s k id v at led g (refl, tt) legal, λ r. (is_next r, log_with_room (sym held.0 r) (sym ahead r) (is_next r)) ∷ c),
       )
 
   -- what is in hand is the log as it was at the Reach, with the next entry
   pub acts : (n i : ℕ) (y : LogView) → c ≡ (i, y) ∷ [] → May p (mine v) (Act j) → i ≡ next_instrument v
-      → y ≡ with_log_entry (log_view p (state_after p v.front) i) (next_entry p (state_after p v.front) j)
+      → y ≡ with_log_entry (log_with_room p (state_after p v.front) i) (next_entry p (state_after p v.front) j)
       → events_by j v.front ≡ (hand_in v).deeds → n ≡ phase_word_of (record (own_phase v) { drinking = Drinks; position = (own_phase v).position + 1 })
       → Allows (Kept p) slots id (v, c) (phase_place p j) (λ _. n) (λ _. acted (step slots (phase_place p j) n 0 none) (v, c) n)
   acts n i y is_c may is_i is_y whole is_n s k _ at _ =
@@ -183,7 +184,7 @@ module _ (p : LabPlan) (slots id : ℕ) (v : View) (c : List (ℕ × LogView)) (
       let same : log w i ≡ log u i =
       ap (λ l. log (state_after p l) i) f.front.1 ∙ log_kept p k.is_plan j i v.front more (subst (IsHistory p) f.front.1 k.legal) silent reaching_then in
       let entries : next_entry p u j ≡ next_entry p w j = next_entry_same p u w j own_then (ap (log u) reaching_then.next ∙ (sym same ∙ ap (log w) is_next)) in
-      let right : y ≡ with_log_entry (log_view p w next) (next_entry p w j) =
+      let right : y ≡ with_log_entry (log_with_room p w next) (next_entry p w j) =
       is_y ∙ (λ r. record { entries = (sym same ∙ ap (log w) is_next) r ++ entries r ∷ []; room = room_of p (is_next r) }) in
       let z : JobState = record (own_phase v) { drinking = Drinks; position = (own_phase v).position + 1 } in
       let becomes : (seat_after p (seat w j) (Act j)).phase ≡ z = ap (λ (x : Seat). (seat_after p x (Act j)).phase) own in

@@ -13,8 +13,8 @@ use Rattle.instrument_log.specs.InstrumentLog.{LogView}
 use Rattle.lab_plan.specs.IsPlan.{IsPlan}
 use Rattle.instrument_log.specs.InstrumentLog.{empty_log}
 use Rattle.legal_steps.specs.Opening.{the_opening}
-use Rattle.legal_steps.specs.WholeLogs.{room_of}
-use Rattle.one_history.specs.Rule.{hand, log_view, fresh, first_view, Spelled, Homed, Held, Sees, Kept}
+use Rattle.legal_steps.specs.WholeLogs.{room_of, log_with_room}
+use Rattle.one_history.specs.Rule.{hand, fresh, first_view, Spelled, Homed, Held, Sees, Kept}
 use Rattle.locality.specs.Lists.{StartsWith, Each}
 use Rattle.one_history.specs.Grow.{rest_hands}
 use Rattle.one_history.specs.Seating.{first_hand, dealt_left, dealt_right, note_of, glued, nothing, undealt, lent_left, returned_left, returned_right, taken_back}
@@ -205,7 +205,7 @@ module _ (p : LabPlan) where
       → ((i : ℕ) → i < length p.instruments → get_elem? xs i ≡ some (empty_log (room_of p i))) → Homed p (the_opening p) (map some xs)
   fresh_homed xs n e = record {
     deep = some_length xs ∙ n;
-    slots = λ i l. inl (some_at xs i (log_view p (the_opening p) i) (e i l
+    slots = λ i l. inl (some_at xs i (log_with_room p (the_opening p) i) (e i l
         ∙ ap (λ (y : List Entry). let z : LogView = record { entries = y; room = room_of p i } in some z) (sym (no_entries (length p.instruments) i))));
   } where
     no_entries : (n i : ℕ) → get_or (replicate n (let y : List Entry = [] in y)) i [] ≡ []

@@ -13,13 +13,14 @@ use Rattle.legal_steps.specs.declared.phase.Drinking.TheVariants.{Tranquil, Thir
 use Rattle.legal_steps.specs.declared.phase.JobState.{JobState}
 use Rattle.legal_steps.specs.State.{State, edge, phase}
 use Rattle.legal_steps.specs.Legal.{next_command}
+use Rattle.legal_steps.specs.WholeLogs.{log_with_room}
 use Rattle.edge_word.specs.Words.{word_of, IsOfBottles}
 use Rattle.edge_word.specs.Phases.{phase_word_of, phase_of, FitsPhaseWord}
 use Rattle.edge_word.specs.Moves.{events_of, moves_of_words}
 use Rattle.one_history.specs.declared.board.Hand.{Hand}
 use Rattle.one_history.specs.declared.board.View.{View}
 use Rattle.locality.specs.History.{IsHistory, state_after, events_by, known_by}
-use Rattle.one_history.specs.Rule.{hand, log_view}
+use Rattle.one_history.specs.Rule.{hand}
 use Rattle.locality.specs.Lists.{StartsWith, Each}
 
 -- ---- the hand that a seat acts with
@@ -132,7 +133,7 @@ next_instrument v = (next_command (hand_in v).plan (mine v) (hand_in v).job).0
 -- the job reaches, and has the log of its next command's instrument in hand
 abbrev pub reached : At → Sat → ℕ → Sat → Type 0
 reached st m n m' = Does m.0 (Reach (hand_in m.0).job) m'.0
-    × (m'.1 ≡ (next_instrument m.0, log_view (hand_in m.0).plan (seen_state m.0 m'.0) (next_instrument m.0)) ∷ m.1)
+    × (m'.1 ≡ (next_instrument m.0, log_with_room (hand_in m.0).plan (seen_state m.0 m'.0) (next_instrument m.0)) ∷ m.1)
 
 -- the job acts, and the log is back
 abbrev pub acted : At → Sat → ℕ → Sat → Type 0

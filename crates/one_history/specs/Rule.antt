@@ -7,8 +7,8 @@ use Rattle.lab_plan.specs.LabPlan.{LabPlan, edges}
 use Rattle.lab_plan.specs.IsPlan.{IsPlan}
 use Rattle.instrument_log.specs.InstrumentLog.{LogView}
 use Rattle.legal_steps.specs.declared.event.Event.{Event}
-use Rattle.legal_steps.specs.State.{State, edge, phase, log}
-use Rattle.legal_steps.specs.WholeLogs.{room_of}
+use Rattle.legal_steps.specs.State.{State, edge, phase}
+use Rattle.legal_steps.specs.WholeLogs.{log_with_room}
 use Rattle.edge_word.specs.Words.{word_of}
 use Rattle.edge_word.specs.Phases.{phase_word_of}
 use Rattle.one_history.specs.declared.board.Hand.{Hand}
@@ -36,12 +36,8 @@ pub record Spelled (plan : LabPlan) (s : State) (words : List ℕ) : Type 0 wher
 
 -- ---- the slots: each instrument's log, or out with the job that reaches for it
 
--- the log of an instrument, with room for all the plan's commands on it
-abbrev pub log_view : LabPlan → State → ℕ → LogView
-log_view plan s i = record { entries = log s i; room = room_of plan i }
-
 abbrev pub AtHome : LabPlan → State → List (Option LogView) → ℕ → Type 0
-AtHome plan s homes i = (get_elem? homes i ≡ some (some (log_view plan s i))) ⊎ ((get_elem? homes i ≡ some none) × ((j : ℕ) × IsReachingFor plan s j i))
+AtHome plan s homes i = (get_elem? homes i ≡ some (some (log_with_room plan s i))) ⊎ ((get_elem? homes i ≡ some none) × ((j : ℕ) × IsReachingFor plan s j i))
 
 pub record Homed (plan : LabPlan) (s : State) (homes : List (Option LogView)) : Type 0 where
   pub deep : length homes ≡ length plan.instruments

@@ -3,7 +3,7 @@ ghost use Rattle.std.specs.Prelude.{◌≡◌, ◌+◌, ◌*◌, ◌-◌, ◌≤
 ghost use Rattle.report_reader.specs.Form.{entry_text};
 ghost use Rattle.picture.specs.Boxes.{edges, edges_end, label, box_text, tick, deed, tick_text, entry_line};
 
-use crate::line::Line;
+use crate::line::{PictureLine, add_name};
 use crate::looks::add_look;
 use report_reader::EntryLine;
 use timeline::Span;
@@ -17,7 +17,7 @@ fn edges_end(is_open: bool) -> &'static [u8]
 }
 
 /// Adds the edges of a box, without the right one where it is open, at most 90 bytes.
-fn add_edges(line: &mut Line, left: usize, right: usize, is_open: bool)
+fn add_edges(line: &mut PictureLine, left: usize, right: usize, is_open: bool)
     requires { length line.old + 90 ≤ 1000 }
     ensures text { line.new ≡ line.old ++ edges left right is_open }
     ensures len { length line.new ≤ length line.old + 90 }
@@ -32,7 +32,7 @@ fn add_edges(line: &mut Line, left: usize, right: usize, is_open: bool)
 }
 
 /// Adds the names of a job and a session, at most 170 bytes.
-fn add_label(line: &mut Line, x: usize, entry: &EntryLine)
+fn add_label(line: &mut PictureLine, x: usize, entry: &EntryLine)
     requires { length line.old + 170 ≤ 1000 }
     ensures text { line.new ≡ line.old ++ label x (entry_text entry.now) }
     ensures len { length line.new ≤ length line.old + 170 }
@@ -40,7 +40,7 @@ fn add_label(line: &mut Line, x: usize, entry: &EntryLine)
     line.text(b"<text x=\"");
     line.count(x);
     line.text(b"\" y=\"17\" font-weight=\"bold\">");
-    line.name(entry.job);
+    add_name(line, entry.job);
     line.text(b"</text><text x=\"");
     line.count(x);
     line.text(b"\" y=\"29\">session ");
@@ -50,7 +50,7 @@ fn add_label(line: &mut Line, x: usize, entry: &EntryLine)
 
 /// Adds the box of an entry's session, at most 360 bytes.
 #[tactic(auto, unfolding(crate::specs::Boxes::box_text))]
-fn add_box(line: &mut Line, job: usize, span: Span, is_open: bool, entry: &EntryLine)
+fn add_box(line: &mut PictureLine, job: usize, span: Span, is_open: bool, entry: &EntryLine)
     requires { length line.old + 360 ≤ 1000 }
     ensures text { line.new ≡ line.old ++ box_text job span is_open (entry_text entry.now) }
     ensures len { length line.new ≤ length line.old + 360 }
@@ -63,7 +63,7 @@ fn add_box(line: &mut Line, job: usize, span: Span, is_open: bool, entry: &Entry
 }
 
 /// Adds the tick of an entry, at most 60 bytes.
-fn add_tick(line: &mut Line, x: usize)
+fn add_tick(line: &mut PictureLine, x: usize)
     requires { length line.old + 60 ≤ 1000 }
     ensures text { line.new ≡ line.old ++ tick x }
     ensures len { length line.new ≤ length line.old + 60 }
@@ -74,7 +74,7 @@ fn add_tick(line: &mut Line, x: usize)
 }
 
 /// Adds what an entry did and what its dial showed, at most 130 bytes.
-fn add_deed(line: &mut Line, x: usize, entry: &EntryLine)
+fn add_deed(line: &mut PictureLine, x: usize, entry: &EntryLine)
     requires { length line.old + 130 ≤ 1000 }
     ensures text { line.new ≡ line.old ++ deed x (entry_text entry.now) }
     ensures len { length line.new ≤ length line.old + 130 }
@@ -92,7 +92,7 @@ fn add_deed(line: &mut Line, x: usize, entry: &EntryLine)
 
 /// Adds the tick of an entry with what it did, at most 190 bytes.
 #[tactic(auto, unfolding(crate::specs::Boxes::tick_text))]
-fn add_tick_text(line: &mut Line, span: Span, entry: &EntryLine)
+fn add_tick_text(line: &mut PictureLine, span: Span, entry: &EntryLine)
     requires { length line.old + 190 ≤ 1000 }
     ensures text { line.new ≡ line.old ++ tick_text span (entry_text entry.now) }
     ensures len { length line.new ≤ length line.old + 190 }
@@ -109,10 +109,10 @@ pub(crate) fn entry_line(
     is_first: bool,
     is_open: bool,
     entry: &EntryLine,
-) -> Line
+) -> PictureLine
     ensures { result ≡ entry_line job span is_first is_open (entry_text entry.now) }
 {
-    let mut line = Line::new();
+    let mut line = PictureLine::new();
     if is_first {
         add_box(&mut line, job, span, is_open, entry);
     }

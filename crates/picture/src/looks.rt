@@ -2,11 +2,11 @@
 ghost use Rattle.std.specs.Prelude.{◌≡◌, ◌+◌, ◌≤◌, ◌++◌, ◌<◌, length};
 ghost use Rattle.picture.specs.Looks.{colour, dashes, look};
 
-use crate::line::Line;
+use crate::line::PictureLine;
 
 /// Adds one of eight colours, 7 bytes.
 #[tactic(auto, unfolding(crate::specs::Looks::colour))]
-fn add_colour(line: &mut Line, number: usize)
+fn add_colour(line: &mut PictureLine, number: usize)
     requires { length line.old + 7 ≤ 1000 }
     ensures text { line.new ≡ line.old ++ colour number }
     ensures len { length line.new ≡ length line.old + 7 }
@@ -25,7 +25,7 @@ fn add_colour(line: &mut Line, number: usize)
 
 /// Adds one of four looks of edges, at most 31 bytes.
 #[tactic(auto, unfolding(crate::specs::Looks::dashes))]
-fn add_dashes(line: &mut Line, number: usize)
+fn add_dashes(line: &mut PictureLine, number: usize)
     requires { length line.old + 31 ≤ 1000 }
     ensures text { line.new ≡ line.old ++ dashes number }
     ensures len { length line.new ≤ length line.old + 31 }
@@ -39,7 +39,7 @@ fn add_dashes(line: &mut Line, number: usize)
 }
 
 /// Adds the look of a job, at most 100 bytes.
-pub(crate) fn add_look(line: &mut Line, job: usize)
+pub(crate) fn add_look(line: &mut PictureLine, job: usize)
     requires { length line.old + 100 ≤ 1000 }
     ensures text { line.new ≡ line.old ++ look job }
     ensures len { length line.new ≤ length line.old + 100 }

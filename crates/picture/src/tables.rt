@@ -1,15 +1,16 @@
 // The head of the picture, the head of a row, the lines of the table of jobs, and the end.
 ghost use Rattle.std.specs.Prelude.{◌≡◌, ◌+◌, ◌*◌, ◌≤◌, ◌++◌, ◌<◌, length, max};
+ghost use Rattle.lab_plan.specs.Limits.{most_jobs, most_instruments};
 ghost use Rattle.report_reader.specs.Line.{state_word, last_word};
 ghost use Rattle.report_reader.specs.Form.{job_text};
 ghost use Rattle.picture.specs.Tables.{size_text, words_text, head_text, row_text, withdrawn_text, legend, sessions_text, meals_text, job_line, end_text};
 
-use crate::line::Line;
+use crate::line::{PictureLine, add_name};
 use crate::looks::add_look;
 use report_reader::JobLine;
 
 /// Adds the beginning of the text, at most 320 bytes.
-fn add_size(line: &mut Line, width: usize, height: usize)
+fn add_size(line: &mut PictureLine, width: usize, height: usize)
     requires { length line.old + 320 ≤ 1000 }
     ensures text { line.new ≡ line.old ++ size_text width height }
     ensures len { length line.new ≤ length line.old + 320 }
@@ -28,7 +29,7 @@ fn add_size(line: &mut Line, width: usize, height: usize)
 }
 
 /// Adds what is read aloud, at most 400 bytes.
-fn add_words(line: &mut Line, instruments: usize, jobs: usize, columns: u32)
+fn add_words(line: &mut PictureLine, instruments: usize, jobs: usize, columns: u32)
     requires { length line.old + 400 ≤ 1000 }
     ensures text { line.new ≡ line.old ++ words_text instruments jobs columns }
     ensures len { length line.new ≤ length line.old + 400 }
@@ -46,12 +47,12 @@ fn add_words(line: &mut Line, instruments: usize, jobs: usize, columns: u32)
 
 /// The head of the picture.
 #[tactic(auto, unfolding(crate::specs::Tables::head_text))]
-pub(crate) fn head_line(instruments: usize, jobs: usize, columns: u32) -> Line
-    requires few_instruments { instruments ≤ 56 }
-    requires few_jobs { jobs ≤ 32 }
+pub(crate) fn head_line(instruments: usize, jobs: usize, columns: u32) -> PictureLine
+    requires few_instruments { instruments ≤ most_instruments }
+    requires few_jobs { jobs ≤ most_jobs }
     ensures { result ≡ head_text instruments jobs columns }
 {
-    let mut line = Line::new();
+    let mut line = PictureLine::new();
     let width = (180 + 100 * columns as usize).max(700);
     let height = 110 + 70 * instruments + 20 * jobs;
     add_size(&mut line, width, height);
@@ -61,26 +62,26 @@ pub(crate) fn head_line(instruments: usize, jobs: usize, columns: u32) -> Line
 }
 
 /// The head of an instrument's row.
-pub(crate) fn row_line(number: usize, name: &[u8], columns: u32) -> Line
-    requires { number < 56 }
+pub(crate) fn row_line(number: usize, name: &[u8], columns: u32) -> PictureLine
+    requires { number < most_instruments }
     ensures { result ≡ row_text number name.now columns }
 {
-    let mut line = Line::new();
+    let mut line = PictureLine::new();
     line.text(b"<g transform=\"translate(160 ");
     line.count(30 + 70 * number);
     line.text(b")\"><path d=\"M-150 66H");
     line.count(100 * columns as usize);
     line.text(b"\" stroke=\"#ccc\"/><text x=\"-150\" y=\"38\" font-size=\"13\">");
-    line.name(name);
+    add_name(&mut line, name);
     line.text(b"</text>\n");
     line
 }
 
 /// Adds the look and the name of a job, at most 260 bytes.
-fn add_legend(line: &mut Line, instruments: usize, number: usize, job: &JobLine)
+fn add_legend(line: &mut PictureLine, instruments: usize, number: usize, job: &JobLine)
     requires room { length line.old + 260 ≤ 1000 }
-    requires few_instruments { instruments ≤ 56 }
-    requires few_jobs { number < 32 }
+    requires few_instruments { instruments ≤ most_instruments }
+    requires few_jobs { number < most_jobs }
     ensures text { line.new ≡ line.old ++ legend instruments number (job_text job.now) }
     ensures len { length line.new ≤ length line.old + 260 }
 {
@@ -89,12 +90,12 @@ fn add_legend(line: &mut Line, instruments: usize, number: usize, job: &JobLine)
     line.text(b")\"><path d=\"M0 0h24v12H0z");
     add_look(line, number);
     line.text(b"<text x=\"34\" y=\"10\">");
-    line.name(job.name);
+    add_name(line, job.name);
     line.text(b"</text>");
 }
 
 /// Adds how many sessions of all are done, at most 80 bytes.
-fn add_sessions(line: &mut Line, job: &JobLine)
+fn add_sessions(line: &mut PictureLine, job: &JobLine)
     requires { length line.old + 80 ≤ 1000 }
     ensures text { line.new ≡ line.old ++ sessions_text (job_text job.now) }
     ensures len { length line.new ≤ length line.old + 80 }
@@ -107,7 +108,7 @@ fn add_sessions(line: &mut Line, job: &JobLine)
 }
 
 /// Adds how many sessions were withdrawn, where it is told, at most 60 bytes.
-fn add_withdrawn(line: &mut Line, withdrawn: Option<u32>)
+fn add_withdrawn(line: &mut PictureLine, withdrawn: Option<u32>)
     requires { length line.old + 60 ≤ 1000 }
     ensures text { line.new ≡ line.old ++ withdrawn_text withdrawn }
     ensures len { length line.new ≤ length line.old + 60 }
@@ -127,7 +128,7 @@ fn state_word(is_retired: bool) -> &'static [u8]
 }
 
 /// Adds the meals, and whether the job is retired, at most 100 bytes.
-fn add_meals(line: &mut Line, job: &JobLine)
+fn add_meals(line: &mut PictureLine, job: &JobLine)
     requires { length line.old + 100 ≤ 1000 }
     ensures text { line.new ≡ line.old ++ meals_text (job_text job.now) }
     ensures len { length line.new ≤ length line.old + 100 }
@@ -141,12 +142,12 @@ fn add_meals(line: &mut Line, job: &JobLine)
 
 /// A line of the table of jobs.
 #[tactic(auto, unfolding(crate::specs::Tables::job_line))]
-pub(crate) fn job_line(instruments: usize, number: usize, job: &JobLine) -> Line
-    requires few_instruments { instruments ≤ 56 }
-    requires few_jobs { number < 32 }
+pub(crate) fn job_line(instruments: usize, number: usize, job: &JobLine) -> PictureLine
+    requires few_instruments { instruments ≤ most_instruments }
+    requires few_jobs { number < most_jobs }
     ensures { result ≡ job_line instruments number (job_text job.now) }
 {
-    let mut line = Line::new();
+    let mut line = PictureLine::new();
     add_legend(&mut line, instruments, number, job);
     add_sessions(&mut line, job);
     add_withdrawn(&mut line, job.withdrawn);
@@ -166,12 +167,12 @@ fn last_word(is_finished: bool) -> &'static [u8]
 }
 
 /// The last line, and the end.
-pub(crate) fn end_line(instruments: usize, jobs: usize, is_finished: bool) -> Line
-    requires few_instruments { instruments ≤ 56 }
-    requires few_jobs { jobs ≤ 32 }
+pub(crate) fn end_line(instruments: usize, jobs: usize, is_finished: bool) -> PictureLine
+    requires few_instruments { instruments ≤ most_instruments }
+    requires few_jobs { jobs ≤ most_jobs }
     ensures { result ≡ end_text instruments jobs is_finished }
 {
-    let mut line = Line::new();
+    let mut line = PictureLine::new();
     line.text(b"<text x=\"10\" y=\"");
     line.count(80 + 70 * instruments + 20 * jobs);
     line.text(b"\" font-size=\"13\">");

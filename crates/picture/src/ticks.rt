@@ -4,7 +4,7 @@ ghost use Rattle.report_reader.specs.Form.{entry_text, job_text};
 ghost use Rattle.picture.specs.Picture.{is_first, is_open, entry_at};
 
 use crate::boxes::entry_line;
-use crate::line::Line;
+use crate::line::PictureLine;
 use report_reader::{EntryLine, JobLine};
 use timeline::{Span, job_number, same_session, span_of};
 
@@ -34,16 +34,16 @@ pub(crate) fn entry_at(
     spans: &[Span],
     entries: &[EntryLine],
     place: usize,
-) -> Line
+) -> PictureLine
     requires { place < length entries.now }
     ensures { result ≡ entry_at (map job_text jobs.now) spans.now (map entry_text entries.now) place }
 {
     let entry = &entries[place];
     let Some(job) = job_number(jobs, entry.job) else {
-        return Line::new();
+        return PictureLine::new();
     };
     let Some(span) = span_of(jobs, spans, entry) else {
-        return Line::new();
+        return PictureLine::new();
     };
     entry_line(
         job,

@@ -1,6 +1,7 @@
 // The picture of a report, a line at a time.
 ghost use Rattle.std.specs.Prelude.{◌≡◌, ◌<◌, ◌≤◌, length, map, codes};
 ghost use Rattle.std.specs.List.{flat_map, range_with_len};
+ghost use Rattle.lab_plan.specs.Limits.{most_jobs, most_instruments};
 ghost use Rattle.report.specs.Taken.{Sends};
 ghost use Rattle.report_reader.specs.Form.{entry_text, job_text};
 ghost use Rattle.timeline.specs.Timelines.{IsTimeline};
@@ -37,7 +38,7 @@ fn write_log<A: Allocator, B: Allocator, W: Sink>(
     number: usize,
     sink: &mut W,
 ) -> Result<(), WriteFault>
-    requires few_instruments { length report.now.logs ≤ 56 }
+    requires few_instruments { length report.now.logs ≤ most_instruments }
     requires inside { number < length report.now.logs }
     ensures { Sends W.taken W.failures sink.old sink.new (log_at report.now timeline.now number) result }
 {
@@ -54,7 +55,7 @@ fn write_logs<A: Allocator, B: Allocator, W: Sink>(
     timeline: &Timeline<B>,
     sink: &mut W,
 ) -> Result<(), WriteFault>
-    requires { length report.now.logs ≤ 56 }
+    requires { length report.now.logs ≤ most_instruments }
     ensures { Sends W.taken W.failures sink.old sink.new (flat_map (log_at report.now timeline.now) (range_with_len 0 (length report.now.logs))) result }
 {
     for number in 0..report.logs().len() {
@@ -69,8 +70,8 @@ fn write_job<A: Allocator, W: Sink>(
     number: usize,
     sink: &mut W,
 ) -> Result<(), WriteFault>
-    requires few_instruments { length report.now.logs ≤ 56 }
-    requires few_jobs { length report.now.jobs ≤ 32 }
+    requires few_instruments { length report.now.logs ≤ most_instruments }
+    requires few_jobs { length report.now.jobs ≤ most_jobs }
     requires inside { number < length report.now.jobs }
     ensures { Sends W.taken W.failures sink.old sink.new (job_at report.now number) result }
 {
@@ -80,8 +81,8 @@ fn write_job<A: Allocator, W: Sink>(
 
 /// The table of jobs.
 fn write_jobs<A: Allocator, W: Sink>(report: &Report<'_, A>, sink: &mut W) -> Result<(), WriteFault>
-    requires few_instruments { length report.now.logs ≤ 56 }
-    requires few_jobs { length report.now.jobs ≤ 32 }
+    requires few_instruments { length report.now.logs ≤ most_instruments }
+    requires few_jobs { length report.now.jobs ≤ most_jobs }
     ensures { Sends W.taken W.failures sink.old sink.new (flat_map (job_at report.now) (range_with_len 0 (length report.now.jobs))) result }
 {
     for number in 0..report.jobs().len() {

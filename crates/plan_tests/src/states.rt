@@ -1,7 +1,7 @@
 // That each law can be called, and the answers of the functions that have one.
 use crate::plans::{Line, plan_of};
 use lab_plan::{EdgeNo, JobNo, Plan, PlanBuilder, Verb};
-use legal_steps::{Dining, EdgeState, End, laws, log_laws};
+use legal_steps::{Dining, Drinking, EdgeState, End, JobState, laws, log_laws};
 use std::alloc::Allocator;
 use std::process::Abort;
 
@@ -46,6 +46,62 @@ fn fork_marks_of_looks(rt: HostRuntime) {
             assert!(rt; state.fork_mark(here, Dining::Eating) == eating);
         }
     }
+}
+
+#[test]
+fn guards_of_a_fork(rt: HostRuntime) {
+    let there = edge(End::Higher, false, End::Lower, 0);
+    assert!(rt; there.wants_fork(End::Lower, Dining::Hungry));
+    assert!(rt; !there.wants_fork(End::Lower, Dining::Thinking));
+    assert!(rt; !there.wants_fork(End::Higher, Dining::Hungry));
+    let claimed = edge(End::Lower, true, End::Lower, 0);
+    assert!(rt; claimed.gives_fork(End::Lower, Dining::Thinking));
+    assert!(rt; claimed.gives_fork(End::Lower, Dining::Hungry));
+    assert!(rt; !claimed.gives_fork(End::Lower, Dining::Eating));
+    assert!(rt; !claimed.gives_fork(End::Higher, Dining::Thinking));
+    let clean = edge(End::Lower, false, End::Lower, 0);
+    assert!(rt; !clean.gives_fork(End::Lower, Dining::Thinking));
+    assert!(rt; clean.soils(End::Lower, Dining::Eating));
+    assert!(rt; !clean.soils(End::Lower, Dining::Hungry));
+    assert!(rt; !claimed.soils(End::Lower, Dining::Eating));
+}
+
+#[test]
+fn edges_after_exchanges(rt: HostRuntime) {
+    let state = edge(End::Lower, true, End::Lower, 0b011);
+    assert!(rt; state.fork_asked() == edge(End::Lower, true, End::Higher, 0b011));
+    assert!(rt; state.fork_given() == edge(End::Higher, false, End::Lower, 0b011));
+    assert!(rt; state.fork_given().fork_soiled() == edge(End::Higher, true, End::Lower, 0b011));
+    assert!(rt; state.bottles_given(0b110) == edge(End::Lower, true, End::Lower, 0b101));
+    let asked = EdgeState {
+        bottle_tokens: 0b110,
+        ..state
+    };
+    assert!(rt; state.bottles_asked(0b110) == asked);
+    assert!(rt; asked.bottles_asked(0b110) == state);
+}
+
+#[test]
+fn phases_after_events(rt: HostRuntime) {
+    let idle = JobState {
+        dining: Dining::Thinking,
+        drinking: Drinking::Tranquil,
+        session: 4,
+        position: 0,
+    };
+    let thirsty = JobState {
+        drinking: Drinking::Thirsty,
+        session: 5,
+        ..idle
+    };
+    assert!(rt; idle.in_next_session() == thirsty);
+    assert!(rt; idle.with_drinking(Drinking::Thirsty).session == 4);
+    assert!(rt; thirsty.with_dining(Dining::Hungry).dining == Dining::Hungry);
+    let done = JobState {
+        position: 3,
+        ..thirsty.with_drinking(Drinking::Drinking)
+    };
+    assert!(rt; done.out_of_session() == JobState { session: 5, ..idle });
 }
 
 /// Two jobs with three bottles on their edge.

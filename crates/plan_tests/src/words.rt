@@ -180,15 +180,36 @@ fn sets_are_of_an_edge(rt: HostRuntime) {
 }
 
 #[test]
+fn marks_after_moves(rt: HostRuntime) {
+    let given = EdgeMoves {
+        give_fork: true,
+        give_bottles: 6,
+        ..NO_MOVE
+    };
+    let soiled = EdgeMoves {
+        soil: true,
+        ..given
+    };
+    assert!(rt; !given.fork_mark(true));
+    assert!(rt; soiled.fork_mark(false));
+    assert!(rt; NO_MOVE.fork_mark(true));
+    assert!(rt; !NO_MOVE.fork_mark(false));
+    assert_eq!(rt; given.bottle_marks(7), 1);
+    assert_eq!(rt; NO_MOVE.bottle_marks(5), 5);
+}
+
+#[test]
 fn laws_of_words() {
     laws::bits_of_the_table();
     laws::fields_of_the_table();
     laws::one_word_for_each_edge();
     laws::one_word_for_each_phase();
     laws::opens_as_the_opening();
+    laws::opens_at_zero();
     laws::moves_are_events();
     laws::moves_change_only_their_edge();
     laws::stays_of_its_bottles();
     laws::legal_moves_are_of_the_edge();
+    laws::legal_groups_are_short();
     laws::moves_are_read_back();
 }

@@ -13,7 +13,7 @@ use Rattle.locality.specs.History.{learned, learned_all}
 use Rattle.locality.specs.Changes.{seat_after}
 use Rattle.locality.proofs.Frame.{learned_seat, learned_seats, learned_edges}
 use Rattle.turns.specs.Turn.{Visit}
-use Rattle.turns.proofs.OwnEdges.{In}
+use Rattle.legal_steps.proofs.OwnEdges.{In}
 use Rattle.quiet.specs.LastLooks.{seen_next, seen_after}
 
 abbrev pub looks : ℕ → List Visit → List Event

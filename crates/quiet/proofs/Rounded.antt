@@ -20,7 +20,7 @@ use Rattle.turns.specs.Acts.{Counts, AreFirst, AreActs, whole_act}
 use Rattle.turns.specs.Turn.{Visit}
 use Rattle.turns.specs.Turns.{is_glance, but_glances}
 use Rattle.turns.specs.Laws.{LeavesCalm}
-use Rattle.turns.proofs.OwnEdges.{In, own_edge_in}
+use Rattle.legal_steps.proofs.OwnEdges.{In, own_edge_in}
 use Rattle.turns.proofs.Idle.{idle_turn_is_calm}
 use Rattle.overtaking.specs.Stuck.{AllRetired, IsMove, IsQuiet, IsUpToDate}
 use Rattle.overtaking.proofs.NeverStuck.{quiet_is_retired}

@@ -3,7 +3,7 @@ ghost use Rattle.std.specs.Prelude.{◌≡◌};
 ghost use Rattle.legal_steps.specs.declared.event.Event.TheVariants.{Thirst, Drink, Reach, Act, Quit, Retire, Withdraw};
 ghost use Rattle.refused_steps.specs.Causes.{Explains, Fails, IsMissing};
 
-use crate::asking::{is_job, phase_of};
+use crate::asking::is_job;
 use crate::bottles::bottle_end;
 use crate::cause::Cause;
 use crate::marks::missing_bottle;
@@ -62,7 +62,7 @@ pub(crate) fn reach<A: Allocator>(world: &World<'_, A>, job: JobNo) -> Option<Ca
     if !is_job(world, job) {
         return Some(Cause::NotJob);
     }
-    let phase = phase_of(world, job);
+    let phase = world.job(job);
     if phase.drinking != Drinking::Drinking {
         return Some(Cause::NotDrinking);
     }
@@ -90,7 +90,7 @@ pub(crate) fn quit<A: Allocator>(world: &World<'_, A>, job: JobNo) -> Option<Cau
     if !is_job(world, job) {
         return Some(Cause::NotJob);
     }
-    let phase = phase_of(world, job);
+    let phase = world.job(job);
     if phase.drinking != Drinking::Drinking {
         return Some(Cause::NotDrinking);
     }
@@ -125,7 +125,7 @@ pub(crate) fn withdraw<A: Allocator>(world: &World<'_, A>, job: JobNo) -> Option
     if !is_job(world, job) {
         return Some(Cause::NotJob);
     }
-    let phase = phase_of(world, job);
+    let phase = world.job(job);
     if phase.drinking != Drinking::Thirsty {
         return Some(Cause::NotThirsty);
     }

@@ -18,7 +18,8 @@ use Rattle.report.proofs.OneReport.{one_report}
 none_and : (c : Counts) → both_counts no_counts c ≡ c
 none_and c = simp zero-add
 
-counts_from_start : (plan : LabPlan) (events : List Event) (counts : List Counts) (j : ℕ) → GoOnBy (replicate (length plan.jobs) no_counts) events counts → j < length plan.jobs
+counts_from_start : (plan : LabPlan) (events : List Event) (counts : List Counts) (j : ℕ) → GoOnBy (replicate (length plan.jobs) no_counts) events counts
+    → j < length plan.jobs
     → count_at counts j ≡ counts_of j events
 counts_from_start plan events counts j go below =
     let n = length plan.jobs in
@@ -27,7 +28,8 @@ counts_from_start plan events counts j go below =
 
 -- ---- after the events
 
-shows_alike : (plan : LabPlan) (opening : State) (events : List Event) (world : WorldView) → LeadsTo (at_start plan opening) events world → ShowsAlike plan (shown_by world) (shown_after plan opening events)
+shows_alike : (plan : LabPlan) (opening : State) (events : List Event) (world : WorldView) → LeadsTo (at_start plan opening) events world
+    → ShowsAlike plan (shown_by world) (shown_after plan opening events)
 shows_alike plan opening events world led = record {
   log = λ i below. ap (λ s. log s i) led.run.leads;
   drinking = λ j below. ap (λ s. drinking s j) led.run.leads;

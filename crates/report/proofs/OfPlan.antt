@@ -10,11 +10,11 @@ use Rattle.instrument_log.specs.declared.entry.Entry.{Entry}
 use Rattle.legal_steps.specs.State.{State, log}
 use Rattle.legal_steps.specs.Run.{after_all}
 use Rattle.legal_steps.specs.Reached.{IsReached}
-use Rattle.legal_steps.specs.WholeLogs.{Line, line_of, commands_on, part_of, parts_of, IsSessionOf, IsWholeButEnd}
+use Rattle.legal_steps.specs.WholeLogs.{LogLine, line_of, commands_on, part_of, parts_of, IsSessionOf, IsWholeButEnd}
 use Rattle.legal_steps.specs.LogLaws.{HasWholeLogs}
 
 -- the line is of a job of the plan
-abbrev IsOfPlan : LabPlan → Line → Type 0
+abbrev IsOfPlan : LabPlan → LogLine → Type 0
 IsOfPlan plan line = line.0 < length plan.jobs
 
 part_is : (plan : LabPlan) (i : ℕ) (own : ℕ × ℕ) → IsSessionOf plan own → All (IsOfPlan plan) (part_of plan i own)
@@ -26,7 +26,8 @@ parts_are : (plan : LabPlan) (i : ℕ) (owners : List (ℕ × ℕ)) → All (IsS
 parts_are plan i [] all = All-nil (IsOfPlan plan)
 parts_are plan i (own ∷ owners) all =
     All-same (IsOfPlan plan) _ _ (flat_map-cons (part_of plan i) own owners)
-    (All-append (IsOfPlan plan) _ _ (part_is plan i own (All-head (IsSessionOf plan) own owners all)) (parts_are plan i owners (All-tail (IsSessionOf plan) own owners all)))
+    (All-append (IsOfPlan plan) _ _ (part_is plan i own (All-head (IsSessionOf plan) own owners all))
+    (parts_are plan i owners (All-tail (IsSessionOf plan) own owners all)))
 
 end_is : (plan : LabPlan) (i : ℕ) (entries : List Entry) (h : IsWholeButEnd plan i entries) → All (IsOfPlan plan) h.unfinished
 end_is plan i entries h = elim h.end [
@@ -46,4 +47,5 @@ entries_are plan i entries h k d inside =
 pub log_is_of_plan : HasWholeLogs → (plan : LabPlan) (s : State) → IsReached plan s → (i : ℕ) → All (λ entry. entry.job < length plan.jobs) (log s i)
 log_is_of_plan whole plan s r i =
     let same : after_all plan r.opening (take (length r.events) r.events) ≡ s = ap (after_all plan r.opening) (take-length r.events) ∙ sym r.run.leads in
-    entries_are plan i (log s i) (subst (λ x. IsWholeButEnd plan i (log x i)) same (whole plan r.opening r.events (length r.events) r.is_plan r.is_opening r.run.legal i))
+    entries_are plan i (log s i) (subst (λ x. IsWholeButEnd plan i (log x i)) same
+    (whole plan r.opening r.events (length r.events) r.is_plan r.is_opening r.run.legal i))

@@ -10,12 +10,14 @@ use Rattle.report.specs.Events.{ShowsAlike, HasOneReport}
 flat_map_same : (h k : ℕ → List ℕ) (a n : ℕ) → ((j : ℕ) → j < a + n → h j ≡ k j) → flat_map h (range_with_len a n) ≡ flat_map k (range_with_len a n)
 flat_map_same h k a zero same = refl
 flat_map_same h k a (suc n) same =
-    ap (λ x. x ++ flat_map h (range_with_len (a + 1) n)) (same a (omega arith)) ∙ ap (λ rest. k a ++ rest) (flat_map_same h k (a + 1) n (λ j below. same j (omega (arith, below))))
+    ap (λ x. x ++ flat_map h (range_with_len (a + 1) n)) (same a (omega arith))
+    ∙ ap (λ rest. k a ++ rest) (flat_map_same h k (a + 1) n (λ j below. same j (omega (arith, below))))
 
 list_all_same : (h k : ℕ → Bool) (a n : ℕ) → ((j : ℕ) → j < a + n → h j ≡ k j) → list_all h (range_with_len a n) ≡ list_all k (range_with_len a n)
 list_all_same h k a zero same = refl
 list_all_same h k a (suc n) same =
-    ap (λ x. x && list_all h (range_with_len (a + 1) n)) (same a (omega arith)) ∙ ap (λ rest. k a && rest) (list_all_same h k (a + 1) n (λ j below. same j (omega (arith, below))))
+    ap (λ x. x && list_all h (range_with_len (a + 1) n)) (same a (omega arith))
+    ∙ ap (λ rest. k a && rest) (list_all_same h k (a + 1) n (λ j below. same j (omega (arith, below))))
 
 log_same : (plan : LabPlan) (a b : Shown) (i : ℕ) → a.log i ≡ b.log i → log_text plan a i ≡ log_text plan b i
 log_same plan a b i same = ap (λ entries. instrument_line (instrument_name plan i) (length entries) ++ flat_map (entry_text plan) entries) same
@@ -35,7 +37,8 @@ tally_same plan a b j below alike =
 
 end_same : (plan : LabPlan) (a b : Shown) → ShowsAlike plan a b → all_retired plan a ≡ all_retired plan b
 end_same plan a b alike =
-    list_all_same (λ j. is_retired (a.drinking j)) (λ j. is_retired (b.drinking j)) 0 (length plan.jobs) (λ j below. ap is_retired (alike.drinking j (omega (arith, below))))
+    list_all_same (λ j. is_retired (a.drinking j)) (λ j. is_retired (b.drinking j)) 0 (length plan.jobs)
+    (λ j below. ap is_retired (alike.drinking j (omega (arith, below))))
 
 report_same : (plan : LabPlan) (a b : Shown) → ShowsAlike plan a b → report_of plan a ≡ report_of plan b
 unfolding report_of
@@ -46,7 +49,8 @@ report_same plan a b alike =
     flat_map_same (tally_text plan a) (tally_text plan b) 0 (length plan.jobs) (λ j below. tally_same plan a b j (omega (arith, below)) alike) in
     ap (λ x. header_line plan.version ++ x ++ flat_map (tally_text plan a) (jobs plan) ++ last_line (all_retired plan a)) logs
     ∙ ap (λ x. header_line plan.version ++ flat_map (log_text plan b) (instruments plan) ++ x ++ last_line (all_retired plan a)) tallies
-    ∙ ap (λ x. header_line plan.version ++ flat_map (log_text plan b) (instruments plan) ++ flat_map (tally_text plan b) (jobs plan) ++ last_line x) (end_same plan a b alike)
+    ∙ ap (λ x. header_line plan.version ++ flat_map (log_text plan b) (instruments plan) ++ flat_map (tally_text plan b) (jobs plan) ++ last_line x)
+    (end_same plan a b alike)
 
 pub one_report : HasOneReport
 one_report plan a b alike = (report_same plan a b alike, end_same plan a b alike)

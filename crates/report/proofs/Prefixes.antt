@@ -78,7 +78,8 @@ pub all_numbers : (n i : ℕ) → n ≤ i → take i (range_with_len 0 n) ≡ ra
 all_numbers n i past = take_all i (range_with_len 0 n) (omega (arith, past, length-range_with_len 0 n))
 
 -- a test of every number below n
-pub all_so_far : (p : ℕ → Bool) (n i : ℕ) → i < n → list_all p (take i (range_with_len 0 n)) ≡ true → p i ≡ true → list_all p (take (i + 1) (range_with_len 0 n)) ≡ true
+pub all_so_far : (p : ℕ → Bool) (n i : ℕ) → i < n → list_all p (take i (range_with_len 0 n)) ≡ true → p i ≡ true
+    → list_all p (take (i + 1) (range_with_len 0 n)) ≡ true
 all_so_far p n i inside before here =
     let is = sym (number_at n i inside) in
     list_all_more p (range_with_len 0 n) i 0 (number_inside n i inside) ∙ ap (λ b. b && p (slice_index_or (range_with_len 0 n) i 0)) before ∙ ap p is ∙ here
@@ -88,7 +89,8 @@ one_fails p n i inside fails = list_all_at p (range_with_len 0 n) i 0 (number_in
 
 -- ---- results
 
-pub writes_err : (a b : Option (List ℕ)) (n m : ℕ) (text : List ℕ) (r : Result (Unit {0}) WriteFault) → IsErr r → AppendsPrefix a b text → m ≡ n + 1 → Writes a b n m text r
+pub writes_err : (a b : Option (List ℕ)) (n m : ℕ) (text : List ℕ) (r : Result (Unit {0}) WriteFault) → IsErr r → AppendsPrefix a b text → m ≡ n + 1
+    → Writes a b n m text r
 writes_err a b n m text (Ok done) is p failed = absurd (false≢true is)
 writes_err a b n m text (Err fault) is p failed = (p, failed)
 

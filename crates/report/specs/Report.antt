@@ -83,4 +83,5 @@ last_line false = codes "unfinished\n"
 -- the report: the header, the instruments with their logs, the jobs, and the last line
 unfoldable pub report_of : LabPlan → Shown → List ℕ
 report_of plan shown =
-    header_line plan.version ++ flat_map (log_text plan shown) (instruments plan) ++ flat_map (tally_text plan shown) (jobs plan) ++ last_line (all_retired plan shown)
+    header_line plan.version ++ flat_map (log_text plan shown) (instruments plan) ++ flat_map (tally_text plan shown) (jobs plan)
+    ++ last_line (all_retired plan shown)

@@ -4,7 +4,7 @@
 mod header;
 mod job_tally;
 pub mod laws;
-mod line;
+pub mod line;
 mod lines;
 mod offering;
 mod script;
@@ -15,6 +15,7 @@ mod tally;
 mod world;
 
 pub use job_tally::JobTally;
+pub use line::Line;
 pub use offering::{WriteFault, offer};
 pub use script::write_script;
 pub use showing::Showing;

@@ -1,6 +1,6 @@
 // The lines of reports and scripts.
 ghost use Rattle.std.specs.Prelude.{◌≡◌, ◌+◌, ◌≤◌, ◌++◌, length, Some};
-ghost use Rattle.lab_plan.specs.Texts.{verb_text, header_line};
+ghost use Rattle.lab_plan.specs.Texts.{header_line};
 ghost use Rattle.report.specs.Report.{instrument_line, entry_line, withdrawn_text, job_line};
 ghost use Rattle.lab_plan.specs.Upgrade.{session_line, command_line, name_line};
 
@@ -9,30 +9,14 @@ use crate::line::Line;
 use instrument_log::Entry;
 use lab_plan::Verb;
 
-/// Adds a verb with its number, at most 14 bytes.
-fn add_verb(line: &mut Line, verb: Verb)
-    requires { length line.old + 14 ≤ 128 }
-    ensures text { line.new ≡ line.old ++ verb_text verb }
-    ensures len { length line.new ≤ length line.old + 14 }
-{
-    match verb {
-        Verb::Set(number) => {
-            line.text(b"set ");
-            line.number(number);
-        }
-        Verb::Add(number) => {
-            line.text(b"add ");
-            line.number(number);
-        }
-        Verb::Read => line.text(b"read"),
-    }
-}
+/// The longest line of a report or a script has fewer bytes.
+type TextLine = Line<128>;
 
 /// `lab 1` or `lab 2`.
-pub(crate) fn header_line(version: u8) -> Line
+pub(crate) fn header_line(version: u8) -> TextLine
     ensures { result ≡ header_line version }
 {
-    let mut line = Line::new();
+    let mut line = TextLine::new();
     line.text(b"lab ");
     line.number(u32::from(version));
     line.text(b"\n");
@@ -40,11 +24,11 @@ pub(crate) fn header_line(version: u8) -> Line
 }
 
 /// `instrument NAME N`, N the number of its entries.
-pub(crate) fn instrument_line(name: &[u8], entries: usize) -> Line
+pub(crate) fn instrument_line(name: &[u8], entries: usize) -> TextLine
     requires { length name.now ≤ 16 }
     ensures { result ≡ instrument_line name.now entries }
 {
-    let mut line = Line::new();
+    let mut line = TextLine::new();
     line.text(b"instrument ");
     line.text(name);
     line.text(b" ");
@@ -54,11 +38,11 @@ pub(crate) fn instrument_line(name: &[u8], entries: usize) -> Line
 }
 
 /// `JOB SESSION PLACE/LENGTH VERB = VALUE`.
-pub(crate) fn entry_line(job: &[u8], entry: &Entry) -> Line
+pub(crate) fn entry_line(job: &[u8], entry: &Entry) -> TextLine
     requires { length job.now ≤ 16 }
     ensures { result ≡ entry_line job.now entry.now }
 {
-    let mut line = Line::new();
+    let mut line = TextLine::new();
     line.text(job);
     line.text(b" ");
     line.number(entry.session);
@@ -67,7 +51,7 @@ pub(crate) fn entry_line(job: &[u8], entry: &Entry) -> Line
     line.text(b"/");
     line.number(entry.length);
     line.text(b" ");
-    add_verb(&mut line, entry.verb);
+    line.verb(entry.verb);
     line.text(b" = ");
     line.number(entry.value);
     line.text(b"\n");
@@ -75,7 +59,7 @@ pub(crate) fn entry_line(job: &[u8], entry: &Entry) -> Line
 }
 
 /// Adds ` withdrawn X` in version 2, nothing in version 1.
-fn add_withdrawn(line: &mut Line, version: u8, withdrawn: u32)
+fn add_withdrawn(line: &mut TextLine, version: u8, withdrawn: u32)
     requires { length line.old + 21 ≤ 128 }
     ensures text { line.new ≡ line.old ++ withdrawn_text version withdrawn }
     ensures len { length line.new ≤ length line.old + 21 }
@@ -87,11 +71,11 @@ fn add_withdrawn(line: &mut Line, version: u8, withdrawn: u32)
 }
 
 /// `job NAME sessions D of S meals M STATE`, in version 2 with ` withdrawn X` before the meals.
-pub(crate) fn job_line(version: u8, name: &[u8], tally: JobTally) -> Line
+pub(crate) fn job_line(version: u8, name: &[u8], tally: JobTally) -> TextLine
     requires { length name.now ≤ 16 }
     ensures { result ≡ job_line version name.now tally }
 {
-    let mut line = Line::new();
+    let mut line = TextLine::new();
     line.text(b"job ");
     line.text(name);
     line.text(b" sessions ");
@@ -111,10 +95,10 @@ pub(crate) fn job_line(version: u8, name: &[u8], tally: JobTally) -> Line
 }
 
 /// `session`, or `session patience N`.
-pub(crate) fn session_line(patience: Option<u32>) -> Line
+pub(crate) fn session_line(patience: Option<u32>) -> TextLine
     ensures { result ≡ session_line patience }
 {
-    let mut line = Line::new();
+    let mut line = TextLine::new();
     line.text(b"session");
     if let Some(number) = patience {
         line.text(b" patience ");
@@ -125,24 +109,24 @@ pub(crate) fn session_line(patience: Option<u32>) -> Line
 }
 
 /// `NAME set N`, `NAME add N` or `NAME read`.
-pub(crate) fn command_line(instrument: &[u8], verb: Verb) -> Line
+pub(crate) fn command_line(instrument: &[u8], verb: Verb) -> TextLine
     requires { length instrument.now ≤ 16 }
     ensures { result ≡ command_line instrument.now verb }
 {
-    let mut line = Line::new();
+    let mut line = TextLine::new();
     line.text(instrument);
     line.text(b" ");
-    add_verb(&mut line, verb);
+    line.verb(verb);
     line.text(b"\n");
     line
 }
 
 /// `job NAME`.
-pub(crate) fn name_line(name: &[u8]) -> Line
+pub(crate) fn name_line(name: &[u8]) -> TextLine
     requires { length name.now ≤ 16 }
     ensures { result ≡ name_line name.now }
 {
-    let mut line = Line::new();
+    let mut line = TextLine::new();
     line.text(b"job ");
     line.text(name);
     line.text(b"\n");

@@ -13,7 +13,8 @@ nothing = record { ref_ptr = (0, 0); now = [] }
 abbrev at : List (Bor (List ℕ)) → ℕ → List ℕ
 at words k = (get_or words k nothing).now
 
-pub six : (words : List (Bor (List ℕ))) → length words ≡ 6 → head_of (now words) ≡ done_of (at words 0) (at words 1) (at words 2) (at words 3) (at words 4) (at words 5)
+pub six : (words : List (Bor (List ℕ))) → length words ≡ 6
+    → head_of (now words) ≡ done_of (at words 0) (at words 1) (at words 2) (at words 3) (at words 4) (at words 5)
 six [] size = absurd (omega (arith, size))
 six (a ∷ []) size = absurd (omega (arith, size))
 six (a ∷ b ∷ []) size = absurd (omega (arith, size))
@@ -36,7 +37,8 @@ three (a ∷ b ∷ []) size = absurd (omega (arith, size))
 three (a ∷ b ∷ c ∷ []) size = refl
 three (a ∷ b ∷ c ∷ d ∷ more) size = absurd (omega (arith, size))
 
-pub nine : (words : List (Bor (List ℕ))) → length words ≡ 9 → line_of (now words) ≡ job_of (head_of (now (take 6 words))) (Some None) (tail_of (now (drop 6 words)))
+pub nine : (words : List (Bor (List ℕ))) → length words ≡ 9
+    → line_of (now words) ≡ job_of (head_of (now (take 6 words))) (Some None) (tail_of (now (drop 6 words)))
 unfolding line_of
 nine [] size = absurd (omega (arith, size))
 nine (a ∷ []) size = absurd (omega (arith, size))
@@ -50,7 +52,8 @@ nine (a ∷ b ∷ c ∷ d ∷ e ∷ f ∷ g ∷ h ∷ []) size = absurd (omega (
 nine (a ∷ b ∷ c ∷ d ∷ e ∷ f ∷ g ∷ h ∷ i ∷ []) size = refl
 nine (a ∷ b ∷ c ∷ d ∷ e ∷ f ∷ g ∷ h ∷ i ∷ j ∷ more) size = absurd (omega (arith, size))
 
-pub eleven : (words : List (Bor (List ℕ))) → length words ≡ 11 → line_of (now words) ≡ job_of (head_of (now (take 6 words))) (middle_of (now (take 2 (drop 6 words)))) (tail_of (now (drop 8 words)))
+pub eleven : (words : List (Bor (List ℕ))) → length words ≡ 11
+    → line_of (now words) ≡ job_of (head_of (now (take 6 words))) (middle_of (now (take 2 (drop 6 words)))) (tail_of (now (drop 8 words)))
 unfolding line_of
 eleven [] size = absurd (omega (arith, size))
 eleven (a ∷ []) size = absurd (omega (arith, size))
@@ -82,7 +85,8 @@ short (a ∷ b ∷ c ∷ d ∷ e ∷ f ∷ g ∷ h ∷ i ∷ j ∷ []) n9 n11 = 
 short (a ∷ b ∷ c ∷ d ∷ e ∷ f ∷ g ∷ h ∷ i ∷ j ∷ k ∷ []) n9 n11 = absurd (n11 refl)
 short (a ∷ b ∷ c ∷ d ∷ e ∷ f ∷ g ∷ h ∷ i ∷ j ∷ k ∷ l ∷ more) n9 n11 = refl
 
-pub other_short : (words : List (Bor (List ℕ))) → length words ≢ 1 → length words ≢ 2 → length words ≢ 3 → length words ≢ 6 → length words ≢ 7 → short_line (now words) ≡ None
+pub other_short : (words : List (Bor (List ℕ))) → length words ≢ 1 → length words ≢ 2 → length words ≢ 3 → length words ≢ 6 → length words ≢ 7
+    → short_line (now words) ≡ None
 unfolding short_line
 other_short [] n1 n2 n3 n6 n7 = refl
 other_short (a ∷ []) n1 n2 n3 n6 n7 = absurd (n1 refl)

@@ -36,7 +36,8 @@ stroke_at p l small =
     let none : length (decimal p) - length (decimal p) ≡ 0 = omega arith in
     let is = position_or_len_is (λ b. b == 47) whole (length (decimal p)) 0 (omega (arith, inside))
     (λ k below. ap (λ b. b == 47) (get_or_append_left (decimal p) (47 ∷ decimal l) 0 k below) ∙ digit p k small below)
-    (λ more. ap (λ b. b == 47) (get_or-append_right (decimal p) (47 ∷ decimal l) (length (decimal p)) (length (decimal p)) 0 refl (omega arith) ∙ ap (λ k. get_or (47 ∷ decimal l) k 0) none)) in
+    (λ more. ap (λ b. b == 47) (get_or-append_right (decimal p) (47 ∷ decimal l) (length (decimal p)) (length (decimal p)) 0 refl (omega arith)
+    ∙ ap (λ k. get_or (47 ∷ decimal l) k 0) none)) in
     rw is (rw ((Decides-ltb (length (decimal p)) (length whole)).1 inside) refl)
 
 part_is : (p l : ℕ) → IsSmall p → IsSmall l → part_of (decimal p ++ 47 ∷ decimal l) ≡ Some (p, l)
@@ -46,8 +47,10 @@ part_is p l ps ls =
     let front : take (length (decimal p)) whole ≡ decimal p = take_at (decimal p) (47 ∷ decimal l) (length (decimal p)) refl in
     let one : length (decimal p) + 1 ≡ length (decimal p ++ 47 ∷ []) = sym (length-append (decimal p) (47 ∷ [])) in
     let back : drop (length (decimal p) + 1) whole ≡ decimal l =
-    ap (drop (length (decimal p) + 1)) (sym (append_assoc (decimal p) (47 ∷ []) (decimal l))) ∙ drop_at (decimal p ++ 47 ∷ []) (decimal l) (length (decimal p) + 1) (sym one) in
-    ap (λ o. option_and_then (λ k. option_and_then (λ place. option_map (λ n. (place, n)) (number_of (drop (k + 1) whole))) (number_of (take k whole))) o) (stroke_at p l ps)
+    ap (drop (length (decimal p) + 1)) (sym (append_assoc (decimal p) (47 ∷ []) (decimal l)))
+    ∙ drop_at (decimal p ++ 47 ∷ []) (decimal l) (length (decimal p) + 1) (sym one) in
+    ap (λ o. option_and_then (λ k. option_and_then (λ place. option_map (λ n. (place, n)) (number_of (drop (k + 1) whole))) (number_of (take k whole))) o)
+    (stroke_at p l ps)
     ∙ (λ i. option_and_then (λ place. option_map (λ n. (place, n)) (number_of (back i))) (number_of (front i)))
     ∙ (λ i. option_and_then (λ place. option_map (λ n. (place, n)) (number l ls i)) (number p ps i))
 
@@ -59,7 +62,9 @@ unfolding entry_of
 entry_is e verb fits is =
     let told : Verb → ℕ → ℕ × ℕ → ℕ → Line = λ w s p v. Entry (record { job = e.job; session = s; place = p.0; length = p.1; verb = w; value = v }) in
     let named : is_name e.job ≡ true = fits.0 in
-    λ i. if named i && true then option_and_then (λ w. option_and_then (λ s. option_and_then (λ p. option_map (told w s p) (number e.value fits.5 i)) (part_is e.place e.length fits.2 fits.3 i)) (number e.session fits.1 i)) (is i) else None
+    λ i. if named i && true then option_and_then (λ w. option_and_then
+    (λ s. option_and_then (λ p. option_map (told w s p) (number e.value fits.5 i)) (part_is e.place e.length fits.2 fits.3 i)) (number e.session fits.1 i))
+    (is i) else None
 
 set_is : (n : ℕ) → IsSmall n → verb_of (codes "set") (decimal n) ≡ Some (Set n)
 unfolding verb_of
@@ -69,13 +74,15 @@ add_is : (n : ℕ) → IsSmall n → verb_of (codes "add") (decimal n) ≡ Some 
 unfolding verb_of
 add_is n small = ap (option_map (λ m. Add m)) (number n small)
 
-entry_line_is : (e : EntryText) (v : Verb) → v ≡ e.verb → LineFits (Entry e) → line_of (e.job ∷ decimal e.session ∷ (decimal e.place ++ 47 ∷ decimal e.length) ∷ (verb_words v ++ codes "=" ∷ decimal e.value ∷ [])) ≡ Some (Entry e)
+entry_line_is : (e : EntryText) (v : Verb) → v ≡ e.verb → LineFits (Entry e)
+    → line_of (e.job ∷ decimal e.session ∷ (decimal e.place ++ 47 ∷ decimal e.length) ∷ (verb_words v ++ codes "=" ∷ decimal e.value ∷ [])) ≡ Some (Entry e)
 unfolding line_of
 entry_line_is e (Set n) is fits = entry_is e (verb_of (codes "set") (decimal n)) fits (set_is n (subst VerbFits (sym is) fits.4) ∙ ap (λ w. Some w) is)
 entry_line_is e (Add n) is fits = entry_is e (verb_of (codes "add") (decimal n)) fits (add_is n (subst VerbFits (sym is) fits.4) ∙ ap (λ w. Some w) is)
 entry_line_is e Read is fits = entry_is e (read_of (codes "read")) fits (ap (λ w. Some w) is)
 
-done_is : (name : List ℕ) (d s : ℕ) → IsName name → IsSmall d → IsSmall s → done_of (codes "job") name (codes "sessions") (decimal d) (codes "of") (decimal s) ≡ Some (name, d, s)
+done_is : (name : List ℕ) (d s : ℕ) → IsName name → IsSmall d → IsSmall s
+    → done_of (codes "job") name (codes "sessions") (decimal d) (codes "of") (decimal s) ≡ Some (name, d, s)
 unfolding done_of
 done_is name d s named ds ss =
     let yes : is_name name ≡ true = named in
@@ -96,17 +103,21 @@ meals_is m b small =
     let told : ℕ → Bool → ℕ × Bool = λ m s. (m, s) in
     λ i. option_and_then (λ m. option_map (told m) (state_is b i)) (number m small i)
 
-job_is : (head : Option (List ℕ × ℕ × ℕ)) (withdrawn : Option (Option ℕ)) (tail : Option (ℕ × Bool)) (h : List ℕ × ℕ × ℕ) (w : Option ℕ) (t : ℕ × Bool) → head ≡ Some h → withdrawn ≡ Some w → tail ≡ Some t →
+job_is : (head : Option (List ℕ × ℕ × ℕ)) (withdrawn : Option (Option ℕ)) (tail : Option (ℕ × Bool)) (h : List ℕ × ℕ × ℕ) (w : Option ℕ) (t : ℕ × Bool)
+    → head ≡ Some h → withdrawn ≡ Some w → tail ≡ Some t →
     job_of head withdrawn tail ≡ Some (Job (record { name = h.0; done = h.1; sessions = h.2; withdrawn = w; meals = t.0; is_retired = t.1 }))
 unfolding job_of
 job_is head withdrawn tail h w t hs ws ts =
-    let told : List ℕ × ℕ × ℕ → Option ℕ → ℕ × Bool → Line = λ h w t. Job (record { name = h.0; done = h.1; sessions = h.2; withdrawn = w; meals = t.0; is_retired = t.1 }) in
+    let told : List ℕ × ℕ × ℕ → Option ℕ → ℕ × Bool → Line =
+    λ h w t. Job (record { name = h.0; done = h.1; sessions = h.2; withdrawn = w; meals = t.0; is_retired = t.1 }) in
     λ i. option_and_then (λ h. option_and_then (λ w. option_map (told h w) (ts i)) (ws i)) (hs i)
 
 job_line_is : (j : JobText) (w : Option ℕ) → w ≡ j.withdrawn → LineFits (Job j) →
-    line_of (codes "job" ∷ j.name ∷ codes "sessions" ∷ decimal j.done ∷ codes "of" ∷ decimal j.sessions ∷ (withdrawn_words w ++ codes "meals" ∷ decimal j.meals ∷ state_word j.is_retired ∷ [])) ≡ Some (Job j)
+    line_of (codes "job" ∷ j.name ∷ codes "sessions" ∷ decimal j.done ∷ codes "of" ∷ decimal j.sessions ∷ (withdrawn_words w
+    ++ codes "meals" ∷ decimal j.meals ∷ state_word j.is_retired ∷ [])) ≡ Some (Job j)
 unfolding line_of
-job_line_is j None is fits = job_is _ _ _ (j.name, j.done, j.sessions) j.withdrawn (j.meals, j.is_retired) (done_is j.name j.done j.sessions fits.0 fits.1 fits.2) (ap (λ w. Some w) is) (meals_is j.meals j.is_retired fits.4)
+job_line_is j None is fits = job_is _ _ _ (j.name, j.done, j.sessions) j.withdrawn (j.meals, j.is_retired)
+    (done_is j.name j.done j.sessions fits.0 fits.1 fits.2) (ap (λ w. Some w) is) (meals_is j.meals j.is_retired fits.4)
 job_line_is j (Some n) is fits =
     job_is _ _ _ (j.name, j.done, j.sessions) j.withdrawn (j.meals, j.is_retired) (done_is j.name j.done j.sessions fits.0 fits.1 fits.2)
     (withdrawn_is n (subst HasSmall (sym is) fits.3) ∙ ap (λ w. Some w) is) (meals_is j.meals j.is_retired fits.4)

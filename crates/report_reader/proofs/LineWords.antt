@@ -86,7 +86,8 @@ cut_at (x ∷ xs) (suc k) h = ap (λ l. x ∷ l) (cut_at xs k (omega arith))
 part_was : (word : List ℕ) (p : ℕ × ℕ) → part_of word ≡ Some p → word ≡ decimal p.0 ++ 47 ∷ decimal p.1
 unfolding part_of
 part_was word p e =
-    let at = first_had (λ k. option_and_then (λ place. option_map (λ l. (place, l)) (number_of (drop (k + 1) word))) (number_of (take k word))) (position (λ b. b == 47) word) p e in
+    let at = first_had (λ k. option_and_then (λ place. option_map (λ l. (place, l)) (number_of (drop (k + 1) word))) (number_of (take k word)))
+    (position (λ b. b == 47) word) p e in
     let k = at.0 in
     let place = first_had (λ place. option_map (λ l. (place, l)) (number_of (drop (k + 1) word))) (number_of (take k word)) p at.2 in
     let long = map_had (λ l. (place.0, l)) (number_of (drop (k + 1) word)) p place.2 in
@@ -119,20 +120,28 @@ entry_was : (job session part : List ℕ) (verb : Option Verb) (is value : List 
 unfolding entry_of
 entry_was job session part verb is value x e =
     let told : Verb → ℕ → ℕ × ℕ → ℕ → Line = λ w s p v. Entry (record { job = job; session = s; place = p.0; length = p.1; verb = w; value = v }) in
-    let k = kept (is_name job && bytes_eq is (codes "=")) (option_and_then (λ w. option_and_then (λ s. option_and_then (λ p. option_map (told w s p) (number_of value)) (part_of part)) (number_of session)) verb) x e in
-    let w = first_had (λ w. option_and_then (λ s. option_and_then (λ p. option_map (told w s p) (number_of value)) (part_of part)) (number_of session)) verb x k.1 in
+    let k = kept (is_name job && bytes_eq is (codes "="))
+    (option_and_then (λ w. option_and_then (λ s. option_and_then (λ p. option_map (told w s p) (number_of value)) (part_of part)) (number_of session))
+    verb) x e in
+    let w = first_had (λ w. option_and_then (λ s. option_and_then (λ p. option_map (told w s p) (number_of value)) (part_of part)) (number_of session)) verb x
+    k.1 in
     let s = first_had (λ s. option_and_then (λ p. option_map (told w.0 s p) (number_of value)) (part_of part)) (number_of session) x w.2 in
     let p = first_had (λ p. option_map (told w.0 s.0 p) (number_of value)) (part_of part) x s.2 in
     let v = map_had (told w.0 s.0 p.0) (number_of value) x p.2 in
-    let sign = eq is (codes "=") (and_parts (is_name job) (bytes_eq is (codes "=")) k.0).1 in
-    (w.0, w.1, (λ i. job ∷ (number_was session s.0 s.1).0 i ∷ part_was part p.0 p.1 i ∷ (verb_words w.0 ++ sign i ∷ (number_was value v.0 v.1).0 i ∷ [])) ∙ ap words_of v.2)
+    let sign = eq is (codes "=") (and_parts (is_name job) (bytes_eq is (codes "=")) k.0).1 in (
+      w.0,
+      w.1,
+      (λ i. job ∷ (number_was session s.0 s.1).0 i ∷ part_was part p.0 p.1 i ∷ (verb_words w.0 ++ sign i ∷ (number_was value v.0 v.1).0 i ∷ []))
+          ∙ ap words_of v.2,
+    )
 
 done_was : (job name word done of_word sessions : List ℕ) (h : List ℕ × ℕ × ℕ) → done_of job name word done of_word sessions ≡ Some h →
     job ∷ name ∷ word ∷ done ∷ of_word ∷ sessions ∷ [] ≡ codes "job" ∷ h.0 ∷ codes "sessions" ∷ decimal h.1 ∷ codes "of" ∷ decimal h.2 ∷ []
 unfolding done_of
 done_was job name word done of_word sessions h e =
     let told : ℕ → ℕ → List ℕ × ℕ × ℕ = λ d s. (name, d, s) in
-    let k = kept (bytes_eq job (codes "job") && is_name name && bytes_eq word (codes "sessions") && bytes_eq of_word (codes "of")) (option_and_then (λ d. option_map (told d) (number_of sessions)) (number_of done)) h e in
+    let k = kept (bytes_eq job (codes "job") && is_name name && bytes_eq word (codes "sessions") && bytes_eq of_word (codes "of"))
+    (option_and_then (λ d. option_map (told d) (number_of sessions)) (number_of done)) h e in
     let d = first_had (λ d. option_map (told d) (number_of sessions)) (number_of done) h k.1 in
     let s = map_had (told d.0) (number_of sessions) h d.2 in
     let a = bytes_eq job (codes "job") in
@@ -142,7 +151,8 @@ done_was job name word done of_word sessions h e =
     let three = and_parts (a && b && w) f k.0 in
     let two = and_parts (a && b) w three.0 in
     let one = and_parts a b two.0 in
-    (λ i. eq job (codes "job") one.0 i ∷ name ∷ eq word (codes "sessions") two.1 i ∷ (number_was done d.0 d.1).0 i ∷ eq of_word (codes "of") three.1 i ∷ (number_was sessions s.0 s.1).0 i ∷ [])
+    (λ i. eq job (codes "job") one.0 i ∷ name ∷ eq word (codes "sessions") two.1 i ∷ (number_was done d.0 d.1).0 i
+    ∷ eq of_word (codes "of") three.1 i ∷ (number_was sessions s.0 s.1).0 i ∷ [])
     ∙ ap (λ (t : List ℕ × ℕ × ℕ). codes "job" ∷ t.0 ∷ codes "sessions" ∷ decimal t.1 ∷ codes "of" ∷ decimal t.2 ∷ []) s.2
 
 withdrawn_was : (word number : List ℕ) (w : Option ℕ) → withdrawn_of word number ≡ Some w → word ∷ number ∷ [] ≡ withdrawn_words w
@@ -158,7 +168,8 @@ state_was word b e =
     (λ h. let k = kept (bytes_eq word (codes "waiting")) (Some false) b h.1 in eq word (codes "waiting") k.0 ∙ ap state_word (some_is false b k.1))
     (either (bytes_eq word (codes "retired")) (Some true) (if bytes_eq word (codes "waiting") then Some false else None) b e)
 
-meals_was : (word number state : List ℕ) (t : ℕ × Bool) → meals_of word number state ≡ Some t → word ∷ number ∷ state ∷ [] ≡ codes "meals" ∷ decimal t.0 ∷ state_word t.1 ∷ []
+meals_was : (word number state : List ℕ) (t : ℕ × Bool) → meals_of word number state ≡ Some t
+    → word ∷ number ∷ state ∷ [] ≡ codes "meals" ∷ decimal t.0 ∷ state_word t.1 ∷ []
 unfolding meals_of
 meals_was word number state t e =
     let told : ℕ → Bool → ℕ × Bool = λ m s. (m, s) in
@@ -170,10 +181,12 @@ meals_was word number state t e =
 
 job_was : (head : Option (List ℕ × ℕ × ℕ)) (withdrawn : Option (Option ℕ)) (tail : Option (ℕ × Bool)) (x : Line) → job_of head withdrawn tail ≡ Some x →
     (h : List ℕ × ℕ × ℕ) × (w : Option ℕ) × (t : ℕ × Bool) × (head ≡ Some h) × (withdrawn ≡ Some w) × (tail ≡ Some t) ×
-    (codes "job" ∷ h.0 ∷ codes "sessions" ∷ decimal h.1 ∷ codes "of" ∷ decimal h.2 ∷ (withdrawn_words w ++ codes "meals" ∷ decimal t.0 ∷ state_word t.1 ∷ []) ≡ words_of x)
+    (codes "job" ∷ h.0 ∷ codes "sessions" ∷ decimal h.1 ∷ codes "of" ∷ decimal h.2 ∷ (withdrawn_words w
+    ++ codes "meals" ∷ decimal t.0 ∷ state_word t.1 ∷ []) ≡ words_of x)
 unfolding job_of
 job_was head withdrawn tail x e =
-    let told : List ℕ × ℕ × ℕ → Option ℕ → ℕ × Bool → Line = λ h w t. Job (record { name = h.0; done = h.1; sessions = h.2; withdrawn = w; meals = t.0; is_retired = t.1 }) in
+    let told : List ℕ × ℕ × ℕ → Option ℕ → ℕ × Bool → Line =
+    λ h w t. Job (record { name = h.0; done = h.1; sessions = h.2; withdrawn = w; meals = t.0; is_retired = t.1 }) in
     let h = first_had (λ h. option_and_then (λ w. option_map (told h w) tail) withdrawn) head x e in
     let w = first_had (λ w. option_map (told h.0 w) tail) withdrawn x h.2 in
     let t = map_had (told h.0 w.0) tail x w.2 in

@@ -45,7 +45,8 @@ none_some : {X : Type 0} (x : X) → None ≡ Some x → ⊥
 none_some x e = search (rules, e)
 
 -- the parts are these lines
-lines_are : (parts : List (List ℕ)) (lines : List Line) → AllByRecursion LineFits lines → map words parts ≡ map words_of lines → map line_in parts ≡ map (λ line. Some line) lines
+lines_are : (parts : List (List ℕ)) (lines : List Line) → AllByRecursion LineFits lines → map words parts ≡ map words_of lines
+    → map line_in parts ≡ map (λ line. Some line) lines
 lines_are [] [] fits e = refl
 lines_are [] (line ∷ lines) fits e = absurd (omega (arith, ap length e))
 lines_are (part ∷ parts) [] fits e = absurd (omega (arith, ap length e))
@@ -59,11 +60,13 @@ never_met : (s : State) (found : Option Line) (line : Line) (cause : ReportCause
 never_met s None line cause is clean met = none_some line is
 never_met s (Some other) line cause is clean met = none_some cause (sym clean ∙ ap (cause_in s) (sym (some_is other line is)) ∙ met)
 
-runs_on : (front : List (List ℕ)) (part : List ℕ) (back : List (List ℕ)) (known lines : List Line) (o s t : State) (cause : ReportCause) → map line_in front ≡ map (λ line. Some line) known → Leads o known s
+runs_on : (front : List (List ℕ)) (part : List ℕ) (back : List (List ℕ)) (known lines : List Line) (o s t : State) (cause : ReportCause)
+    → map line_in front ≡ map (λ line. Some line) known → Leads o known s
     → map line_in (front ++ part ∷ back) ≡ map (λ line. Some line) lines → Leads o lines t → Meets s (line_in part) cause → ⊥
 runs_on [] part back [] [] o s t cause e k f l m = absurd (omega (arith, ap length f))
 runs_on [] part back [] (line ∷ lines) o s t cause e k f l m =
-    never_met s (line_in part) line cause (heads (line_in part) (Some line) (map line_in back) (map (λ x. Some x) lines) f).0 (subst (λ x. cause_in x line ≡ None) k l.0) m
+    never_met s (line_in part) line cause (heads (line_in part) (Some line) (map line_in back) (map (λ x. Some x) lines) f).0
+    (subst (λ x. cause_in x line ≡ None) k l.0) m
 runs_on [] part back (line ∷ known) lines o s t cause e k f l m = absurd (omega (arith, ap length e))
 runs_on (p ∷ front) part back [] lines o s t cause e k f l m = absurd (omega (arith, ap length e))
 runs_on (p ∷ front) part back (x ∷ known) [] o s t cause e k f l m = absurd (omega (arith, ap length f))
@@ -74,7 +77,8 @@ runs_on (p ∷ front) part back (x ∷ known) (y ∷ lines) o s t cause e k f l 
     runs_on front part back known lines (after o x) s t cause h.1 k.1 g.1 (subst (λ z. Leads (after o z) lines t) same l.1) m
 
 -- the same lines lead to one state
-leads_once : (known lines : List Line) (o s t : State) → map (λ line. Some line) known ≡ map (λ line. Some line) lines → Leads o known s → Leads o lines t → s ≡ t
+leads_once : (known lines : List Line) (o s t : State) → map (λ line. Some line) known ≡ map (λ line. Some line) lines → Leads o known s → Leads o lines t
+    → s ≡ t
 leads_once [] [] o s t e k l = sym k ∙ l
 leads_once [] (y ∷ lines) o s t e k l = absurd (omega (arith, ap length e))
 leads_once (x ∷ known) [] o s t e k l = absurd (omega (arith, ap length e))
@@ -87,12 +91,15 @@ no_words tail e = sym (join_with_byte-slice_split 32 tail) ∙ ap (join_with_byt
 
 pub no_report : IsNoReport
 no_report text report parts tail fault h is split refused =
-    let both = lasts (map words parts) (map words_of (lines_of report)) (words tail) ([] ∷ []) (sym (map-append words parts (tail ∷ [])) ∙ ap (map words) (sym split) ∙ is) in
+    let both = lasts (map words parts) (map words_of (lines_of report)) (words tail) ([] ∷ [])
+    (sym (map-append words parts (tail ∷ [])) ∙ ap (map words) (sym split) ∙ is) in
     let lines = lines_are parts (lines_of report) h.lines both.0 in
     let leads = report_leads report h in
     elim refused [
-      | inl bad ↦ runs_on bad.0 bad.1 bad.2 bad.6.0 (lines_of report) opening bad.3 (ended report) fault.cause bad.6.1 bad.6.2 (ap (map line_in) (sym bad.4) ∙ lines) leads bad.7
-      | inr cut ↦ over cut.0 cut.4 (leads_once cut.1.0 (lines_of report) opening cut.0 (ended report) (sym cut.1.1 ∙ lines) cut.1.2 leads) (no_words tail both.1)
+      | inl bad ↦ runs_on bad.0 bad.1 bad.2 bad.6.0 (lines_of report) opening bad.3 (ended report) fault.cause bad.6.1 bad.6.2
+          (ap (map line_in) (sym bad.4) ∙ lines) leads bad.7
+      | inr cut ↦ over cut.0 cut.4 (leads_once cut.1.0 (lines_of report) opening cut.0 (ended report) (sym cut.1.1 ∙ lines) cut.1.2 leads)
+          (no_words tail both.1)
     ]
   where
     over : (s : State) → ((tail ≡ [] → ⊥) ⊎ Ends s (Err NotWhole)) → s ≡ ended report → tail ≡ [] → ⊥

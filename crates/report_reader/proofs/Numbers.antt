@@ -22,7 +22,8 @@ pub number_is : (word : List ℕ) (n : ℕ) → n < 2 ^ 32 → word ≡ decimal 
 unfolding number_of
 number_is word n small is =
     let value : digits_value 10 word ≡ n = ap (digits_value 10) is ∙ value_back n small in
-    let same : bytes_eq word (decimal (digits_value 10 word)) ≡ true = (bytes_eq-Decides word (decimal (digits_value 10 word))).1 (is ∙ ap decimal (sym value)) in
+    let same : bytes_eq word (decimal (digits_value 10 word)) ≡ true =
+    (bytes_eq-Decides word (decimal (digits_value 10 word))).1 (is ∙ ap decimal (sym value)) in
     let fits : nat_lt (digits_value 10 word) (2 ^ 32) ≡ true = ap (λ m. nat_lt m (2 ^ 32)) value ∙ below n small in
     (λ i. if (fits i && same i) then Some (digits_value 10 word) else None) ∙ ap (λ m. Some m) value
 
@@ -34,8 +35,10 @@ pub number_was : (word : List ℕ) (n : ℕ) → number_of word ≡ Some n → (
 unfolding number_of
 number_was word n is =
     let t = taken (nat_lt (digits_value 10 word) (2 ^ 32) && bytes_eq word (decimal (digits_value 10 word))) (digits_value 10 word) n is in
-    let parts = and_parts (nat_lt (digits_value 10 word) (2 ^ 32)) (bytes_eq word (decimal (digits_value 10 word))) t.0 in
-    ((bytes_eq-Decides word (decimal (digits_value 10 word))).0 parts.1 ∙ ap decimal t.1, subst (λ m. m < 2 ^ 32) t.1 (below_back (digits_value 10 word) parts.0))
+    let parts = and_parts (nat_lt (digits_value 10 word) (2 ^ 32)) (bytes_eq word (decimal (digits_value 10 word))) t.0 in (
+      (bytes_eq-Decides word (decimal (digits_value 10 word))).0 parts.1 ∙ ap decimal t.1,
+      subst (λ m. m < 2 ^ 32) t.1 (below_back (digits_value 10 word) parts.0),
+    )
 
 none_of : (o : Option ℕ) → ((n : ℕ) → o ≡ Some n → ⊥) → o ≡ None
 none_of None h = refl

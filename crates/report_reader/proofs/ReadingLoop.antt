@@ -24,13 +24,22 @@ pub record IsReading (done : List (List ℕ)) (number : ℕ) (s : State) : Type 
   pub tied : IsTied s
 
 pub starts : IsReading [] 1 opening
-starts = record { placed = omega arith; lines = []; are = refl; leads = refl; shown = refl; tied = record { fresh = λ h. (refl, refl, refl); due = λ h. (refl, refl) } }
+starts = record {
+  placed = omega arith;
+  lines = [];
+  are = refl;
+  leads = refl;
+  shown = refl;
+  tied = record { fresh = λ h. (refl, refl, refl); due = λ h. (refl, refl) };
+}
 
-leads_on : (s : State) (lines : List Line) (t u : State) (line : Line) → Leads s lines t → cause_in t line ≡ None → u ≡ after t line → Leads s (lines ++ line ∷ []) u
+leads_on : (s : State) (lines : List Line) (t u : State) (line : Line) → Leads s lines t → cause_in t line ≡ None → u ≡ after t line
+    → Leads s (lines ++ line ∷ []) u
 leads_on s [] t u line h clean is = (subst (λ x. cause_in x line ≡ None) (sym h) clean, ap (λ x. after x line) h ∙ sym is)
 leads_on s (first ∷ lines) t u line h clean is = (h.0, leads_on (after s first) lines t u line h.1 clean is)
 
-taken : (done : List (List ℕ)) (part : List ℕ) (n : ℕ) (s u : State) (line : Line) → IsReading done n s → line_in part ≡ Some line → cause_in s line ≡ None → u ≡ after s line → IsReading (done ++ part ∷ []) (n + 1) u
+taken : (done : List (List ℕ)) (part : List ℕ) (n : ℕ) (s u : State) (line : Line) → IsReading done n s → line_in part ≡ Some line → cause_in s line ≡ None
+    → u ≡ after s line → IsReading (done ++ part ∷ []) (n + 1) u
 taken done part n s u line h is clean now =
     let g = goes s line h.tied clean in
     record {
@@ -42,31 +51,42 @@ taken done part n s u line h is clean now =
       tied = subst IsTied (sym now) g.1;
     }
 
-pub reads : (done : List (List ℕ)) (part : List ℕ) (n : ℕ) (s u : State) (found : Option Line) (x : Unit {0}) → line_in part ≡ found → IsReading done n s → Reads s found (Ok x) u → IsReading (done ++ part ∷ []) (n + 1) u
+pub reads : (done : List (List ℕ)) (part : List ℕ) (n : ℕ) (s u : State) (found : Option Line) (x : Unit {0}) → line_in part ≡ found → IsReading done n s
+    → Reads s found (Ok x) u → IsReading (done ++ part ∷ []) (n + 1) u
 reads done part n s u None x is h e = absurd e
 reads done part n s u (Some line) x is h e = taken done part n s u line h is e.0 e.1
 
 known : (done : List (List ℕ)) (n : ℕ) (s : State) → IsReading done n s → Known done s
 known done n s h = (h.lines, h.are, h.leads)
 
-at : (parts done : List (List ℕ)) (part : List ℕ) (back : List (List ℕ)) (n : ℕ) (s : State) (cause : ReportCause) → parts ≡ done ++ part ∷ back → IsReading done n s → Meets s (line_in part) cause → IsFaultAtLine parts n cause
+at : (parts done : List (List ℕ)) (part : List ℕ) (back : List (List ℕ)) (n : ℕ) (s : State) (cause : ReportCause) → parts ≡ done ++ part ∷ back
+    → IsReading done n s → Meets s (line_in part) cause → IsFaultAtLine parts n cause
 at parts done part back n s cause split h m = (done, part, back, s, split, h.placed, known done n s h, m)
 
 abbrev pub Stops : List (List ℕ) → ℕ → ReportCause → Type 0
 Stops parts n cause = (cause ≡ NoMemory) ⊎ IsFaultAtLine parts n cause
 
-pub stops : (parts done : List (List ℕ)) (part : List ℕ) (back : List (List ℕ)) (n : ℕ) (s u : State) (found : Option Line) (cause : ReportCause) → line_in part ≡ found → parts ≡ done ++ part ∷ back → IsReading done n s → Reads s found (Err cause) u → Stops parts n cause
+pub stops : (parts done : List (List ℕ)) (part : List ℕ) (back : List (List ℕ)) (n : ℕ) (s u : State) (found : Option Line) (cause : ReportCause)
+    → line_in part ≡ found → parts ≡ done ++ part ∷ back → IsReading done n s → Reads s found (Err cause) u → Stops parts n cause
 stops parts done part back n s u found NoMemory is split h e = inl refl
-stops parts done part back n s u None UnknownLine is split h e = inr (at parts done part back n s UnknownLine split h (subst (λ o. Meets s o UnknownLine) (sym is) e))
-stops parts done part back n s u None OutOfPlace is split h e = inr (at parts done part back n s OutOfPlace split h (subst (λ o. Meets s o OutOfPlace) (sym is) e))
-stops parts done part back n s u None OtherVersion is split h e = inr (at parts done part back n s OtherVersion split h (subst (λ o. Meets s o OtherVersion) (sym is) e))
+stops parts done part back n s u None UnknownLine is split h e =
+    inr (at parts done part back n s UnknownLine split h (subst (λ o. Meets s o UnknownLine) (sym is) e))
+stops parts done part back n s u None OutOfPlace is split h e =
+    inr (at parts done part back n s OutOfPlace split h (subst (λ o. Meets s o OutOfPlace) (sym is) e))
+stops parts done part back n s u None OtherVersion is split h e =
+    inr (at parts done part back n s OtherVersion split h (subst (λ o. Meets s o OtherVersion) (sym is) e))
 stops parts done part back n s u None WrongEnd is split h e = inr (at parts done part back n s WrongEnd split h (subst (λ o. Meets s o WrongEnd) (sym is) e))
 stops parts done part back n s u None NotWhole is split h e = inr (at parts done part back n s NotWhole split h (subst (λ o. Meets s o NotWhole) (sym is) e))
-stops parts done part back n s u (Some line) UnknownLine is split h e = inr (at parts done part back n s UnknownLine split h (subst (λ o. Meets s o UnknownLine) (sym is) e))
-stops parts done part back n s u (Some line) OutOfPlace is split h e = inr (at parts done part back n s OutOfPlace split h (subst (λ o. Meets s o OutOfPlace) (sym is) e))
-stops parts done part back n s u (Some line) OtherVersion is split h e = inr (at parts done part back n s OtherVersion split h (subst (λ o. Meets s o OtherVersion) (sym is) e))
-stops parts done part back n s u (Some line) WrongEnd is split h e = inr (at parts done part back n s WrongEnd split h (subst (λ o. Meets s o WrongEnd) (sym is) e))
-stops parts done part back n s u (Some line) NotWhole is split h e = inr (at parts done part back n s NotWhole split h (subst (λ o. Meets s o NotWhole) (sym is) e))
+stops parts done part back n s u (Some line) UnknownLine is split h e =
+    inr (at parts done part back n s UnknownLine split h (subst (λ o. Meets s o UnknownLine) (sym is) e))
+stops parts done part back n s u (Some line) OutOfPlace is split h e =
+    inr (at parts done part back n s OutOfPlace split h (subst (λ o. Meets s o OutOfPlace) (sym is) e))
+stops parts done part back n s u (Some line) OtherVersion is split h e =
+    inr (at parts done part back n s OtherVersion split h (subst (λ o. Meets s o OtherVersion) (sym is) e))
+stops parts done part back n s u (Some line) WrongEnd is split h e =
+    inr (at parts done part back n s WrongEnd split h (subst (λ o. Meets s o WrongEnd) (sym is) e))
+stops parts done part back n s u (Some line) NotWhole is split h e =
+    inr (at parts done part back n s NotWhole split h (subst (λ o. Meets s o NotWhole) (sym is) e))
 
 -- ---- the end
 
@@ -89,13 +109,15 @@ are_words (part ∷ parts) (line ∷ lines) e =
         rest [] = []
         rest (x ∷ xs) = xs
 
-pub ends_well : (parts : List (List ℕ)) (n : ℕ) (s : State) (report : ReportText) → IsReading parts n s → Ends s (Ok report) → map words parts ≡ map words_of (lines_of report)
+pub ends_well : (parts : List (List ℕ)) (n : ℕ) (s : State) (report : ReportText) → IsReading parts n s → Ends s (Ok report)
+    → map words parts ≡ map words_of (lines_of report)
 ends_well parts n s report h e = are_words parts h.lines h.are ∙ ap (map words_of) (sym h.shown ∙ whole s report h.tied e)
 
 pub left_over : (parts : List (List ℕ)) (tail : List ℕ) (n : ℕ) (s : State) → IsReading parts n s → (tail ≡ [] → ⊥) → IsCutOff parts tail n NotWhole
 left_over parts tail n s h more = (s, known parts n s h, h.placed, refl, inl more)
 
-pub ends_badly : (parts : List (List ℕ)) (tail : List ℕ) (n : ℕ) (s : State) (cause : ReportCause) → IsReading parts n s → Ends s (Err cause) → IsCutOff parts tail n cause
+pub ends_badly : (parts : List (List ℕ)) (tail : List ℕ) (n : ℕ) (s : State) (cause : ReportCause) → IsReading parts n s → Ends s (Err cause)
+    → IsCutOff parts tail n cause
 ends_badly parts tail n s cause h e = (s, known parts n s h, h.placed, e.0, inr (refl, e.1))
 
 pub is_nothing : (tail : List ℕ) → (length tail == 0) ≡ true → tail ≡ []
@@ -105,12 +127,15 @@ is_nothing (b ∷ tail) e = absurd (not_zero (length tail) e)
     not_zero : (n : ℕ) → (suc n == 0) ≡ true → ⊥
     not_zero n e = let is = (Decides-eqb (suc n) 0).0 e in omega (arith, is)
 
-pub answers : (parts : List (List ℕ)) (tail : List ℕ) (n : ℕ) (s : State) (given : Result ReportText ReportCause) (result : Result ReportText ReportFault) → tail ≡ [] → IsReading parts n s → Ends s given
+pub answers : (parts : List (List ℕ)) (tail : List ℕ) (n : ℕ) (s : State) (given : Result ReportText ReportCause) (result : Result ReportText ReportFault)
+    → tail ≡ [] → IsReading parts n s → Ends s given
     → MatchResult result (λ report. given ≡ Ok report) (λ fault. (given ≡ Err fault.cause) × (fault.line ≡ n)) → AnswersParts parts tail result
 answers parts tail n s given (Ok report) none h e is = (ends_well parts n s report h (subst (Ends s) is e), none)
-answers parts tail n s given (Err fault) none h e is = inr (inr (subst (λ m. IsCutOff parts tail m fault.cause) (sym is.1) (ends_badly parts tail n s fault.cause h (subst (Ends s) is.0 e))))
+answers parts tail n s given (Err fault) none h e is =
+    inr (inr (subst (λ m. IsCutOff parts tail m fault.cause) (sym is.1) (ends_badly parts tail n s fault.cause h (subst (Ends s) is.0 e))))
 
-pub fails : (parts : List (List ℕ)) (tail : List ℕ) (n : ℕ) (fault : ReportFault) → fault.line ≡ n → Stops parts n fault.cause → AnswersParts parts tail (Err fault)
+pub fails : (parts : List (List ℕ)) (tail : List ℕ) (n : ℕ) (fault : ReportFault) → fault.line ≡ n → Stops parts n fault.cause
+    → AnswersParts parts tail (Err fault)
 fails parts tail n fault is (inl none) = inl none
 fails parts tail n fault is (inr bad) = inr (inl (subst (λ m. IsFaultAtLine parts m fault.cause) (sym is) bad))
 
@@ -118,7 +143,8 @@ fails parts tail n fault is (inr bad) = inr (inl (subst (λ m. IsFaultAtLine par
 
 pub next_part : (parts : List (Bor (List ℕ))) (k : ℕ) (d : Bor (List ℕ)) → k < length parts →
     (take (k + 1) (map (λ (p : Bor (List ℕ)). p.now) parts) ≡ take k (map (λ (p : Bor (List ℕ)). p.now) parts) ++ (get_or parts k d).now ∷ [])
-    × (map (λ (p : Bor (List ℕ)). p.now) parts ≡ take k (map (λ (p : Bor (List ℕ)). p.now) parts) ++ (get_or parts k d).now ∷ drop (suc k) (map (λ (p : Bor (List ℕ)). p.now) parts))
+    × (map (λ (p : Bor (List ℕ)). p.now) parts ≡ take k (map (λ (p : Bor (List ℕ)). p.now) parts)
+    ++ (get_or parts k d).now ∷ drop (suc k) (map (λ (p : Bor (List ℕ)). p.now) parts))
 next_part parts k d inside =
     let all = map (λ (p : Bor (List ℕ)). p.now) parts in
     let below : k < length all = omega (arith, inside, length-map parts (λ (p : Bor (List ℕ)). p.now)) in
@@ -130,5 +156,6 @@ next_part parts k d inside =
     cut_at (x ∷ xs) zero d h = refl
     cut_at (x ∷ xs) (suc k) d h = ap (λ l. x ∷ l) (cut_at xs k d (omega arith))
 
-pub all_parts : (parts : List (Bor (List ℕ))) (k : ℕ) → length parts ≡ k → take k (map (λ (p : Bor (List ℕ)). p.now) parts) ≡ map (λ (p : Bor (List ℕ)). p.now) parts
+pub all_parts : (parts : List (Bor (List ℕ))) (k : ℕ) → length parts ≡ k
+    → take k (map (λ (p : Bor (List ℕ)). p.now) parts) ≡ map (λ (p : Bor (List ℕ)). p.now) parts
 all_parts parts k e = take_all k (map (λ (p : Bor (List ℕ)). p.now) parts) (omega (arith, e, length-map parts (λ (p : Bor (List ℕ)). p.now)))

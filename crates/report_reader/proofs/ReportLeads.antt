@@ -35,32 +35,39 @@ abbrev named : List ℕ → List EntryText → LogText
 named name entries = record { name = name; entries = entries }
 
 entries_lead : (version : ℕ) (done : List LogText) (name : List ℕ) (sofar entries : List EntryText) →
-    Leads (state version (done ++ named name sofar ∷ []) (length entries) []) (map (λ entry. Entry entry) entries) (state version (done ++ named name (sofar ++ entries) ∷ []) 0 [])
+    Leads (state version (done ++ named name sofar ∷ []) (length entries) []) (map (λ entry. Entry entry) entries)
+    (state version (done ++ named name (sofar ++ entries) ∷ []) 0 [])
 entries_lead version done name sofar [] = ap (λ l. state version (done ++ named name l ∷ []) 0 []) (sym (append-nil sofar))
 entries_lead version done name sofar (entry ∷ entries) =
     let log = named name sofar in
     let due : suc (length entries) - 1 ≡ length entries = omega arith in
-    let next : after (state version (done ++ log ∷ []) (suc (length entries)) []) (Entry entry) ≡ state version (done ++ named name (sofar ++ entry ∷ []) ∷ []) (length entries) [] =
+    let next : after (state version (done ++ log ∷ []) (suc (length entries)) []) (Entry entry) ≡ state version (done ++ named name (sofar ++ entry ∷ []) ∷ [])
+    (length entries) [] =
     (λ i. state version (on_last-push done log (with_entry entry) i) (due i) []) in (
       (λ i. at (false || not (is_more (length entries) i && some_log done log i)) OutOfPlace None),
       subst (λ s. Leads s (map (λ e. Entry e) entries) (state version (done ++ named name (sofar ++ entry ∷ entries) ∷ []) 0 [])) (sym next)
-          (subst (λ l. Leads (state version (done ++ named name (sofar ++ entry ∷ []) ∷ []) (length entries) []) (map (λ e. Entry e) entries) (state version (done ++ named name l ∷ []) 0 []))
+          (subst (λ l. Leads (state version (done ++ named name (sofar ++ entry ∷ []) ∷ []) (length entries) []) (map (λ e. Entry e) entries)
+          (state version (done ++ named name l ∷ []) 0 []))
           (append_assoc sofar (entry ∷ []) entries) (entries_lead version done name (sofar ++ entry ∷ []) entries)),
     )
 
 logs_lead : (version : ℕ) (done logs : List LogText) → Leads (state version done 0 []) (flat_map log_lines logs) (state version (done ++ logs) 0 [])
 logs_lead version done [] = ap (λ l. state version l 0 []) (sym (append-nil done))
 logs_lead version done (log ∷ logs) =
-    leads-append (state version done 0 []) (log_lines log) (state version (done ++ log ∷ []) 0 []) (flat_map log_lines logs) (state version (done ++ log ∷ logs) 0 [])
+    leads-append (state version done 0 []) (log_lines log) (state version (done ++ log ∷ []) 0 []) (flat_map log_lines logs)
+    (state version (done ++ log ∷ logs) 0 [])
     (refl, entries_lead version done log.name [] log.entries)
-    (subst (λ l. Leads (state version (done ++ log ∷ []) 0 []) (flat_map log_lines logs) (state version l 0 [])) (append_assoc done (log ∷ []) logs) (logs_lead version (done ++ log ∷ []) logs))
+    (subst (λ l. Leads (state version (done ++ log ∷ []) 0 []) (flat_map log_lines logs) (state version l 0 [])) (append_assoc done (log ∷ []) logs)
+    (logs_lead version (done ++ log ∷ []) logs))
 
-jobs_lead : (version : ℕ) (logs : List LogText) (done jobs : List JobText) → AllByRecursion (λ (job : JobText). is_same (is_some job.withdrawn) (is_two (Some version)) ≡ true) jobs →
+jobs_lead : (version : ℕ) (logs : List LogText) (done jobs : List JobText)
+    → AllByRecursion (λ (job : JobText). is_same (is_some job.withdrawn) (is_two (Some version)) ≡ true) jobs →
     Leads (state version logs 0 done) (map (λ job. Job job) jobs) (state version logs 0 (done ++ jobs))
 jobs_lead version logs done [] forms = ap (state version logs 0) (sym (append-nil done))
 jobs_lead version logs done (job ∷ jobs) forms = (
   (λ i. at (not (forms.0 i)) OtherVersion None),
-  subst (λ l. Leads (state version logs 0 (done ++ job ∷ [])) (map (λ j. Job j) jobs) (state version logs 0 l)) (append_assoc done (job ∷ []) jobs) (jobs_lead version logs (done ++ job ∷ []) jobs forms.1),
+  subst (λ l. Leads (state version logs 0 (done ++ job ∷ [])) (map (λ j. Job j) jobs) (state version logs 0 l)) (append_assoc done (job ∷ []) jobs)
+      (jobs_lead version logs (done ++ job ∷ []) jobs forms.1),
 )
 
 abbrev pub ended : ReportText → State
@@ -70,7 +77,9 @@ pub report_leads : (report : ReportText) → IsReport report → Leads opening (
 report_leads report h =
     let v = report.version in (
       refl,
-      leads-append (state v [] 0 []) (flat_map log_lines report.logs) (state v report.logs 0 []) (map (λ job. Job job) report.jobs ++ Last report.is_finished ∷ []) (ended report) (logs_lead v [] report.logs)
-          (leads-append (state v report.logs 0 []) (map (λ job. Job job) report.jobs) (state v report.logs 0 report.jobs) (Last report.is_finished ∷ []) (ended report) (jobs_lead v report.logs [] report.jobs h.forms)
+      leads-append (state v [] 0 []) (flat_map log_lines report.logs) (state v report.logs 0 [])
+          (map (λ job. Job job) report.jobs ++ Last report.is_finished ∷ []) (ended report) (logs_lead v [] report.logs)
+          (leads-append (state v report.logs 0 []) (map (λ job. Job job) report.jobs) (state v report.logs 0 report.jobs) (Last report.is_finished ∷ [])
+          (ended report) (jobs_lead v report.logs [] report.jobs h.forms)
           ((λ i. at (not (h.ends i)) WrongEnd None), refl)),
     )

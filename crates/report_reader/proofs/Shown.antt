@@ -39,7 +39,8 @@ pub record IsTied (s : State) : Type 0 where
 
 -- ---- one more line
 
-open_more : (logs : List LogText) (name : List ℕ) (due : ℕ) → open_lines (logs ++ record { name = name; entries = [] } ∷ []) due ≡ open_lines logs 0 ++ Instrument name due ∷ []
+open_more : (logs : List LogText) (name : List ℕ) (due : ℕ)
+    → open_lines (logs ++ record { name = name; entries = [] } ∷ []) due ≡ open_lines logs 0 ++ Instrument name due ∷ []
 open_more [] name due = ap (λ n. Instrument name n ∷ []) (omega arith)
 open_more (log ∷ []) name due =
     let none : length log.entries + 0 ≡ length log.entries = omega arith in
@@ -47,9 +48,11 @@ open_more (log ∷ []) name due =
   where
     omega-zero : (n : ℕ) → 0 + n ≡ n
     omega-zero n = omega arith
-open_more (log ∷ next ∷ logs) name due = ap (λ l. log_lines log ++ l) (open_more (next ∷ logs) name due) ∙ sym (append_assoc (log_lines log) (open_lines (next ∷ logs) 0) (Instrument name due ∷ []))
+open_more (log ∷ next ∷ logs) name due = ap (λ l. log_lines log ++ l) (open_more (next ∷ logs) name due)
+    ∙ sym (append_assoc (log_lines log) (open_lines (next ∷ logs) 0) (Instrument name due ∷ []))
 
-entry_more : (logs : List LogText) (entry : EntryText) (due : ℕ) → 0 < length logs → 0 < due → open_lines (on_last (with_entry entry) logs) (due - 1) ≡ open_lines logs due ++ Entry entry ∷ []
+entry_more : (logs : List LogText) (entry : EntryText) (due : ℕ) → 0 < length logs → 0 < due
+    → open_lines (on_last (with_entry entry) logs) (due - 1) ≡ open_lines logs due ++ Entry entry ∷ []
 entry_more [] entry due some more = absurd (omega arith)
 entry_more (log ∷ []) entry due some more =
     let size = length-append log.entries (entry ∷ []) in
@@ -57,14 +60,16 @@ entry_more (log ∷ []) entry due some more =
     (λ i. Instrument log.name (count i) ∷ map-append (λ (entry : EntryText). Entry entry) log.entries (entry ∷ []) i)
 entry_more (log ∷ next ∷ logs) entry due some more = deeper logs next (entry_more (next ∷ logs) entry due (omega arith) more)
   where
-    deeper : (logs : List LogText) (next : LogText) → open_lines (on_last (with_entry entry) (next ∷ logs)) (due - 1) ≡ open_lines (next ∷ logs) due ++ Entry entry ∷ []
+    deeper : (logs : List LogText) (next : LogText)
+        → open_lines (on_last (with_entry entry) (next ∷ logs)) (due - 1) ≡ open_lines (next ∷ logs) due ++ Entry entry ∷ []
         → open_lines (on_last (with_entry entry) (log ∷ next ∷ logs)) (due - 1) ≡ open_lines (log ∷ next ∷ logs) due ++ Entry entry ∷ []
     deeper [] next e = ap (λ l. log_lines log ++ l) e ∙ sym (append_assoc (log_lines log) (open_lines (next ∷ []) due) (Entry entry ∷ []))
     deeper (third ∷ logs) next e = ap (λ l. log_lines log ++ l) e ∙ sym (append_assoc (log_lines log) (open_lines (next ∷ third ∷ logs) due) (Entry entry ∷ []))
 
 whole_lines : (logs : List LogText) → open_lines logs 0 ≡ flat_map log_lines logs
 whole_lines [] = refl
-whole_lines (log ∷ []) = let none : length log.entries + 0 ≡ length log.entries = omega arith in (λ i. Instrument log.name (none i) ∷ sym (append-nil (map (λ (entry : EntryText). Entry entry) log.entries)) i)
+whole_lines (log ∷ []) = let none : length log.entries + 0 ≡ length log.entries = omega arith in
+    (λ i. Instrument log.name (none i) ∷ sym (append-nil (map (λ (entry : EntryText). Entry entry) log.entries)) i)
 whole_lines (log ∷ next ∷ logs) = ap (λ l. log_lines log ++ l) (whole_lines (next ∷ logs))
 
 -- ---- what a clean line says of what is known
@@ -122,7 +127,8 @@ last_on : (h a j : List Line) (x : Line) → h ++ (a ++ (j ++ x ∷ [])) ≡ (h 
 last_on h a j x =
     ap (λ l. h ++ l) (sym (append_assoc a j (x ∷ []))) ∙ sym (append_assoc h (a ++ j) (x ∷ [])) ∙ ap (λ l. (h ++ (a ++ l)) ++ x ∷ []) (sym (append-nil j))
 
-job_on : (h a : List Line) (jobs : List JobText) (job : JobText) → h ++ (a ++ (map (λ j. Job j) (jobs ++ job ∷ []) ++ [])) ≡ (h ++ (a ++ (map (λ j. Job j) jobs ++ []))) ++ Job job ∷ []
+job_on : (h a : List Line) (jobs : List JobText) (job : JobText)
+    → h ++ (a ++ (map (λ j. Job j) (jobs ++ job ∷ []) ++ [])) ≡ (h ++ (a ++ (map (λ j. Job j) jobs ++ []))) ++ Job job ∷ []
 job_on h a jobs job =
     ap (λ l. h ++ (a ++ l)) (append-nil (map (λ (j : JobText). Job j) (jobs ++ job ∷ [])) ∙ map-append (λ (j : JobText). Job j) jobs (job ∷ []))
     ∙ last_on h a (map (λ (j : JobText). Job j) jobs) (Job job)

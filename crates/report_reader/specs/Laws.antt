@@ -40,4 +40,5 @@ pub record IsReport (report : ReportText) : Type 0 where
 
 -- the law: a text that is refused, but for memory, is no report's
 abbrev pub IsNoReport : Type 0
-IsNoReport = (text : List ℕ) (report : ReportText) (parts : List (List ℕ)) (tail : List ℕ) (fault : ReportFault) → IsReport report → IsTextOf report text → text_lines text ≡ parts ++ tail ∷ [] → Refuses parts tail fault → ⊥
+IsNoReport = (text : List ℕ) (report : ReportText) (parts : List (List ℕ)) (tail : List ℕ) (fault : ReportFault) → IsReport report → IsTextOf report text
+    → text_lines text ≡ parts ++ tail ∷ [] → Refuses parts tail fault → ⊥

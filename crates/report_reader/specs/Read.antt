@@ -16,7 +16,8 @@ last_of word = if bytes_eq word (codes "finished") then Some (Last true) else (i
 -- `lab 1` or `lab 2`
 abbrev pub header_of : List ℕ → List ℕ → Option Line
 header_of word version =
-    if bytes_eq word (codes "lab") then (if bytes_eq version (codes "1") then Some (Header 1) else (if bytes_eq version (codes "2") then Some (Header 2) else None)) else None
+    if bytes_eq word (codes "lab") then (if bytes_eq version (codes "1") then Some (Header 1) else
+    (if bytes_eq version (codes "2") then Some (Header 2) else None)) else None
 
 -- `instrument NAME N`
 abbrev pub instrument_of : List ℕ → List ℕ → List ℕ → Option Line
@@ -24,12 +25,14 @@ instrument_of word name entries = if bytes_eq word (codes "instrument") && is_na
 
 -- `PLACE/LENGTH`
 unfoldable pub part_of : List ℕ → Option (ℕ × ℕ)
-part_of word = option_and_then (λ k. option_and_then (λ place. option_map (λ l. (place, l)) (number_of (drop (k + 1) word))) (number_of (take k word))) (position (λ b. b == 47) word)
+part_of word = option_and_then (λ k. option_and_then (λ place. option_map (λ l. (place, l)) (number_of (drop (k + 1) word))) (number_of (take k word)))
+    (position (λ b. b == 47) word)
 
 -- `set N` or `add N`
 unfoldable pub verb_of : List ℕ → List ℕ → Option Verb
 verb_of word number =
-    if bytes_eq word (codes "set") then option_map (λ n. Set n) (number_of number) else (if bytes_eq word (codes "add") then option_map (λ n. Add n) (number_of number) else None)
+    if bytes_eq word (codes "set") then option_map (λ n. Set n) (number_of number) else
+    (if bytes_eq word (codes "add") then option_map (λ n. Add n) (number_of number) else None)
 
 -- `read`
 abbrev pub read_of : List ℕ → Option Verb
@@ -39,7 +42,9 @@ read_of word = if bytes_eq word (codes "read") then Some Read else None
 unfoldable pub entry_of : List ℕ → List ℕ → List ℕ → Option Verb → List ℕ → List ℕ → Option Line
 entry_of job session part verb is value =
     if is_name job && bytes_eq is (codes "=")
-    then option_and_then (λ w. option_and_then (λ s. option_and_then (λ (p : ℕ × ℕ). option_map (λ v. Entry (record { job = job; session = s; place = p.0; length = p.1; verb = w; value = v })) (number_of value)) (part_of part)) (number_of session)) verb
+    then option_and_then (λ w. option_and_then (λ s. option_and_then
+    (λ (p : ℕ × ℕ). option_map (λ v. Entry (record { job = job; session = s; place = p.0; length = p.1; verb = w; value = v })) (number_of value))
+    (part_of part)) (number_of session)) verb
     else None
 
 -- `job NAME sessions D of S`
@@ -63,7 +68,9 @@ meals_of word number state = if bytes_eq word (codes "meals") then option_and_th
 
 unfoldable pub job_of : Option (List ℕ × ℕ × ℕ) → Option (Option ℕ) → Option (ℕ × Bool) → Option Line
 job_of head withdrawn tail =
-    option_and_then (λ (h : List ℕ × ℕ × ℕ). option_and_then (λ w. option_map (λ (t : ℕ × Bool). Job (record { name = h.0; done = h.1; sessions = h.2; withdrawn = w; meals = t.0; is_retired = t.1 })) tail) withdrawn) head
+    option_and_then (λ (h : List ℕ × ℕ × ℕ). option_and_then
+    (λ w. option_map (λ (t : ℕ × Bool). Job (record { name = h.0; done = h.1; sessions = h.2; withdrawn = w; meals = t.0; is_retired = t.1 })) tail)
+    withdrawn) head
 
 -- the beginning of a job's line, `withdrawn X`, and its end
 abbrev pub head_of : List (List ℕ) → Option (List ℕ × ℕ × ℕ)
@@ -95,5 +102,6 @@ line_of (word ∷ name ∷ entries ∷ []) = instrument_of word name entries
 line_of (job ∷ session ∷ part ∷ verb ∷ is ∷ value ∷ []) = entry_of job session part (read_of verb) is value
 line_of (job ∷ session ∷ part ∷ verb ∷ number ∷ is ∷ value ∷ []) = entry_of job session part (verb_of verb number) is value
 line_of (job ∷ name ∷ a ∷ done ∷ b ∷ sessions ∷ c ∷ meals ∷ state ∷ []) = job_of (done_of job name a done b sessions) (Some None) (meals_of c meals state)
-line_of (job ∷ name ∷ a ∷ done ∷ b ∷ sessions ∷ w ∷ withdrawn ∷ c ∷ meals ∷ state ∷ []) = job_of (done_of job name a done b sessions) (withdrawn_of w withdrawn) (meals_of c meals state)
+line_of (job ∷ name ∷ a ∷ done ∷ b ∷ sessions ∷ w ∷ withdrawn ∷ c ∷ meals ∷ state ∷ []) =
+    job_of (done_of job name a done b sessions) (withdrawn_of w withdrawn) (meals_of c meals state)
 line_of _ = None

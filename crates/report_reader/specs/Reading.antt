@@ -49,4 +49,5 @@ AnswersParts parts tail (Err fault) = (fault.cause ≡ NoMemory) ⊎ Refuses par
 -- what a reader answers on a text: the report whose text it is; else its fault, or that memory ran out
 abbrev pub Answers : List ℕ → Result ReportText ReportFault → Type 0
 Answers text (Ok report) = IsTextOf report text
-Answers text (Err fault) = (fault.cause ≡ NoMemory) ⊎ ((parts : List (List ℕ)) × (tail : List ℕ) × (text_lines text ≡ parts ++ tail ∷ []) × Refuses parts tail fault)
+Answers text (Err fault) = (fault.cause ≡ NoMemory)
+    ⊎ ((parts : List (List ℕ)) × (tail : List ℕ) × (text_lines text ≡ parts ++ tail ∷ []) × Refuses parts tail fault)

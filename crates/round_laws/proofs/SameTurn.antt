@@ -7,10 +7,10 @@ use Rattle.legal_steps.specs.declared.event.Event.TheVariants.{Look}
 use Rattle.legal_steps.specs.State.{State, edge}
 use Rattle.legal_steps.specs.Run.{IsLegalFrom, after_all}
 use Rattle.edge_word.specs.declared.moves.EdgeMoves.{EdgeMoves}
-use Rattle.edge_word.specs.Moves.{events_of}
+use Rattle.edge_word.specs.Moves.{events_of, is_nothing}
 use Rattle.locality.specs.History.{learned, learned_all}
 use Rattle.locality.proofs.Runs.{legal-goes_on}
-use Rattle.turns.specs.Due.{AreDue, is_nothing}
+use Rattle.turns.specs.Due.{AreDue}
 use Rattle.turns.specs.Acts.{AreActs}
 use Rattle.turns.specs.Turn.{Visit, is_done, is_lost, count, once, visit_events, visits_events, AreVisits, IsTurnBy}
 use Rattle.turns.proofs.Calm.{one_group_is_due}

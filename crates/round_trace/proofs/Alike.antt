@@ -21,7 +21,7 @@ use Rattle.locality.proofs.Local.{Alike, IsLocal, give_fork_local, ask_fork_loca
 use Rattle.turns.specs.Due.{after_if, AreDue, fork_gone, bottles_gone, fork_asked_for, all_asked_for}
 use Rattle.turns.specs.Acts.{AreFirst, Counts, order}
 use Rattle.turns.specs.Turn.{Visit, visit_events, visits_events, AreVisits, IsTurnBy}
-use Rattle.turns.proofs.OwnEdges.{own_edges}
+use Rattle.legal_steps.proofs.OwnEdges.{own_edges}
 use Rattle.round_trace.proofs.Sets.{give_one, one_given, ask_one, one_asked}
 use Rattle.round_trace.proofs.Visiting.{drinks_still}
 

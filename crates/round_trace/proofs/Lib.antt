@@ -1,4 +1,3 @@
-pub mod Reached
 pub mod Sets
 pub mod Learned
 pub mod Doing

@@ -6,7 +6,7 @@ use Rattle.legal_steps.specs.declared.event.Event.{Event}
 use Rattle.legal_steps.specs.declared.event.Event.TheVariants.{Look, AskFork, GiveFork, Soil, AskBottles, GiveBottles, Thirst, Hunger, Sit, Leave, Drink, Reach, Act, Quit, Retire, Glance, Withdraw}
 use Rattle.legal_steps.specs.State.{State}
 use Rattle.legal_steps.specs.Legal.{May, after}
-use Rattle.legal_steps.specs.Steps.{event_of, events_of, IsStepOf}
+use Rattle.legal_steps.specs.Steps.{event_of, step_events, IsStepOf}
 use Rattle.legal_steps.proofs.FitsLaw.{own_is_job}
 use Rattle.round_trace.specs.StepsOf.{step_of, StepsGiveEvents, StepsAreOfPlan}
 
@@ -53,7 +53,7 @@ pub steps_give_events : StepsGiveEvents
 steps_give_events plan s [] legal = refl
 steps_give_events plan s (x ∷ events) legal =
     let here = same_event plan s x legal.0 in
-    (λ i. here i ∷ events_of plan (after plan s (here i)) (map step_of events)) ∙ ap (λ (l : List Event). x ∷ l) (steps_give_events plan
+    (λ i. here i ∷ step_events plan (after plan s (here i)) (map step_of events)) ∙ ap (λ (l : List Event). x ∷ l) (steps_give_events plan
     (after plan s x) events legal.1)
 
 all_cons : (P : Event → Type 0) (x : Event) (xs : List Event) → P x → All P xs → All P (x ∷ xs)

@@ -8,7 +8,7 @@ use Rattle.legal_steps.specs.declared.event.Step.{Step}
 use Rattle.legal_steps.specs.declared.event.Step.TheVariants as steps
 use Rattle.legal_steps.specs.State.{State}
 use Rattle.legal_steps.specs.Run.{IsLegalFrom}
-use Rattle.legal_steps.specs.Steps.{events_of, IsStepOf}
+use Rattle.legal_steps.specs.Steps.{step_events, IsStepOf}
 
 abbrev pub step_of : Event → Step
 step_of (Look j e seen) = steps.Look j e
@@ -31,7 +31,7 @@ step_of (Withdraw j) = steps.Withdraw j
 
 -- the steps of a legal list have exactly its events, one after another, so whoever replays them has the same run
 abbrev pub StepsGiveEvents : Type 0
-StepsGiveEvents = (plan : LabPlan) (s : State) (events : List Event) → IsLegalFrom plan s events → events_of plan s (map step_of events) ≡ events
+StepsGiveEvents = (plan : LabPlan) (s : State) (events : List Event) → IsLegalFrom plan s events → step_events plan s (map step_of events) ≡ events
 
 -- and their jobs and edges are the plan's
 abbrev pub StepsAreOfPlan : Type 0

@@ -1,36 +1,22 @@
 //! The phase act of a turn.
-ghost use Rattle.std.specs.Prelude.{◌≡◌, ◌↔◌, ◌<◌, IsTrue, IfOk, IfSome, [], length};
-ghost use Rattle.legal_steps.specs.declared.phase.Drinking.TheVariants.{Thirsty};
+ghost use Rattle.std.specs.Prelude.{◌≡◌, ◌↔◌, IsTrue, IfOk, IfSome, []};
 ghost use Rattle.legal_steps.specs.declared.event.Event.TheVariants.{Withdraw};
 ghost use Rattle.legal_steps.specs.Legal.{IsJob, May};
-ghost use Rattle.turns.specs.Acts.{AreActs, Counts, IsUsedUp, whole_act};
+ghost use Rattle.turns.specs.Acts.{AreActs, Counts, whole_act};
 ghost use Rattle.round_trace.specs.Doing.{ActsDue, Does, first_events};
 
 use crate::trying::attempt;
 use interleaving::World;
 use lab_plan::JobNo;
-use legal_steps::{Drinking, Event};
+use legal_steps::Event;
 use std::alloc::{AllocError, Allocator};
-
-/// Whether the patience of the job's session is used up by this count; not where it has none.
-fn is_used_up<A: Allocator>(world: &World<A>, job: JobNo, waited: u32) -> bool
-    requires job { IsJob world.now.plan job }
-    requires withdraws { May world.now.plan world.now.state (Withdraw job) }
-    ensures { IsTrue result ↔ IsUsedUp world.now.plan world.now.state job waited }
-{
-    let session = world.job(job).session;
-    match world.plan().patience(job, session) {
-        Some(turns) => turns <= waited,
-        None => false,
-    }
-}
 
 /// Whether the job gives its session up.
 fn withdraws<A: Allocator>(world: &World<A>, job: JobNo, waited: u32) -> bool
     requires { IsJob world.now.plan job }
     ensures { IsTrue result ↔ Counts world.now.plan world.now.state job waited (Withdraw job) }
 {
-    world.enabled(Event::Withdraw(job)) && is_used_up(world, job, waited)
+    world.job(job).gives_up(world.plan(), job, waited)
 }
 
 /// The first phase act that is legal, where a session is given up only when its patience is used up by this count; of a

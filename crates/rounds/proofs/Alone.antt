@@ -8,13 +8,12 @@ use Rattle.legal_steps.specs.declared.event.Event.TheVariants.{Look}
 use Rattle.legal_steps.specs.State.{State, edge}
 use Rattle.legal_steps.specs.Opening.{the_opening}
 use Rattle.legal_steps.proofs.FitsWrites.{edge_same}
-use Rattle.edge_word.specs.Moves.{events_of}
+use Rattle.edge_word.specs.Moves.{events_of, is_nothing}
 use Rattle.locality.specs.History.{actor, is_by, events_by, known_by, state_after, IsHistory}
 use Rattle.locality.specs.Lists.{Each}
 use Rattle.locality.proofs.Runs.{only_mine, append_self, after_all-append, legal-goes_on, learned_all-append, learned_all_edges, opening_edges}
 use Rattle.edge_rule.specs.DeskView.{DeskView, Adds, IsAtRest, known, shown}
 use Rattle.edge_rule.proofs.ManyHands.{each_begin, each_end}
-use Rattle.turns.specs.Due.{is_nothing}
 use Rattle.turns.specs.Turn.{Visit, is_lost, count}
 use Rattle.session_layer.specs.Turn.{Visits, VisitsAll, Chosen}
 use Rattle.session_layer.proofs.Grows.{adds_goes, adds_rests, visit_goes, visits_go}

@@ -4,6 +4,7 @@ use Rattle.std.specs.List.{filter, filter_map, find, list_any, cons_option}
 use Rattle.std.specs.Option.{option_map}
 use Rattle.std.specs.Str.{bytes_eq}
 use Rattle.bstr.specs.Text.{lines_of, without_terminator}
+use Rattle.lab_plan.specs.Limits.{most_jobs, most_instruments, most_sessions, most_commands}
 use Rattle.lab_plan.specs.LabPlan.{LabPlan}
 use Rattle.lab_plan.specs.Names.{is_name}
 use Rattle.lab_plan.specs.Building.{has_too_many_in_common}
@@ -51,11 +52,11 @@ instrument_count before = length (instruments_of (reverse before))
 
 -- one more of its kind is past a limit: jobs, sessions of the job, commands, instruments
 abbrev pub passes_limit : List Line → Line → Bool
-passes_limit before (Job name) = nat_le 32 (count is_job_line before)
-passes_limit before Session = nat_le 1000 (count is_session (up_to_next is_job_line before))
-passes_limit before (PatientSession number) = nat_le 1000 (count is_session (up_to_next is_job_line before))
+passes_limit before (Job name) = nat_le most_jobs (count is_job_line before)
+passes_limit before Session = nat_le most_sessions (count is_session (up_to_next is_job_line before))
+passes_limit before (PatientSession number) = nat_le most_sessions (count is_session (up_to_next is_job_line before))
 passes_limit before (Command name verb) =
-    nat_le 100000 (count is_command before) || (not (is_instrument_there before name) && nat_le 56 (instrument_count before))
+    nat_le most_commands (count is_command before) || (not (is_instrument_there before name) && nat_le most_instruments (instrument_count before))
 passes_limit before _ = false
 
 -- the line has no form of its script: a second header, a patience in version 1, steps

@@ -1,6 +1,7 @@
 -- What a reader knows after some lines, and what it does at one more. The lines before stand with the nearest first.
 use Rattle.std.specs.Prelude.{ℕ, ◌≡◌, Bool, true, false, not, nat_le, nat_lt, List, reverse, Option, None, Some, Result, Ok, Err, length, if◌then◌else◌}
 use Rattle.std.specs.List.{list_any}
+use Rattle.lab_plan.specs.Limits.{most_jobs, most_sessions}
 use Rattle.lab_plan.specs.LabPlan.{LabPlan}
 use Rattle.lab_plan.specs.Names.{is_name}
 use Rattle.lab_plan.specs.Building.{empty_plan, with_job, with_session, with_command, last_job, has_session, is_bare, is_job, is_past_limit, has_too_many_in_common}
@@ -57,14 +58,14 @@ abbrev pub session_cause : State → Option ScriptCause → Option ScriptCause
 session_cause s rest = at s.in_session SessionNotClosed (at (not (nat_lt 0 (length s.plan.jobs))) NotInJob rest)
 
 abbrev pub many_sessions : State → Option ScriptCause
-many_sessions s = at (nat_le 1000 (length (last_job s.plan).sessions)) LimitPassed None
+many_sessions s = at (nat_le most_sessions (length (last_job s.plan).sessions)) LimitPassed None
 
 -- the cause that the next line meets
 abbrev pub cause_in : State → Line → Option ScriptCause
 cause_in s (Header version) = at (not s.fresh) UnknownWord None
 cause_in s (Job name) =
     at s.fresh NoHeader (at s.in_session SessionNotClosed
-    (at (not (is_name name)) BadName (at (is_job name s.plan) JobTwice (at (nat_le 32 (length s.plan.jobs)) LimitPassed None))))
+    (at (not (is_name name)) BadName (at (is_job name s.plan) JobTwice (at (nat_le most_jobs (length s.plan.jobs)) LimitPassed None))))
 cause_in s Session = at s.fresh NoHeader (session_cause s (many_sessions s))
 cause_in s (PatientSession number) =
     at s.fresh NoHeader (at (not (is_two s.version)) UnknownWord (session_cause s (at (not (is_number number)) BadNumber (many_sessions s))))

@@ -9,6 +9,6 @@ use Rattle.script_reader.specs.Script.{ScriptMeans}
 abbrev pub UpgradeMeansPlan : Type 0
 UpgradeMeansPlan = (plan : LabPlan) → IsPlan plan → ScriptMeans (script_text plan) (record plan { version = 2 })
 
--- it has at most as many bytes as 32 jobs, 1000 sessions of each and 100000 commands can take
+-- it has at most as many bytes as all jobs, sessions and commands that a plan may have can take
 abbrev pub UpgradeIsShort : Type 0
 UpgradeIsShort = (plan : LabPlan) → IsPlan plan → length (script_text plan) ≤ 3696678

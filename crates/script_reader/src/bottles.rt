@@ -1,23 +1,23 @@
 // Sets of bottles of an edge, by the names of their instruments.
 ghost use Rattle.std.specs.Prelude.{◌≡◌, ◌<◌, length, None, Some, MatchOption};
+ghost use Rattle.lab_plan.specs.Limits.{most_bottles};
 ghost use Rattle.lab_plan.specs.LabPlan.{edges, bottles};
 ghost use Rattle.script_reader.specs.Fields.{fields};
 ghost use Rattle.script_reader.specs.Steps.{bottle_named, bottle_set};
 
 use crate::field::next_field;
-use crate::name::is_same;
-use lab_plan::{EdgeNo, Plan};
+use lab_plan::{EdgeNo, Plan, is_same_name};
 use std::alloc::Allocator;
 
 /// The bottle of an edge whose instrument has this name.
 #[tactic(auto, using(crate::proofs::OfInstruments::bottle_inside))]
 fn bottle_named<A: Allocator>(plan: &Plan<A>, edge: EdgeNo, name: &[u8]) -> Option<u32>
     requires { edge < length (edges plan.now) }
-    ensures { MatchOption result (bottle_named plan.now edge name.now ≡ None) (λ k. (bottle_named plan.now edge name.now ≡ Some k) × (k < 28)) }
+    ensures { MatchOption result (bottle_named plan.now edge name.now ≡ None) (λ k. (bottle_named plan.now edge name.now ≡ Some k) × (k < most_bottles)) }
 {
     for bottle in 0..plan.bottles(edge) {
         let instrument = plan.instrument_of(edge, bottle);
-        if is_same(name, plan.instrument_name(instrument)) {
+        if is_same_name(name, plan.instrument_name(instrument)) {
             return Some(bottle);
         }
     }

@@ -37,7 +37,7 @@ pub enum ScriptCause {
     /// One more job, instrument, session, command or step than there may be.
     #[error("S10 limit passed")]
     LimitPassed,
-    /// Two jobs have more than 28 instruments in common.
+    /// Two jobs have more instruments in common than an edge may have bottles.
     #[error("S11 more than 28 instruments in common")]
     TooManyInCommon,
     /// A growth was refused.

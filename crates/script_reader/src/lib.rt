@@ -8,7 +8,6 @@ pub mod fault;
 mod field;
 mod form;
 pub mod laws;
-mod name;
 mod number;
 pub mod plan;
 mod reader;

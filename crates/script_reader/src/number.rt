@@ -1,6 +1,7 @@
 // Numbers as they are spelled in a script.
 ghost use Rattle.std.specs.Prelude.{◌≡◌, ◌≤◌, true};
 ghost use Rattle.std.specs.List.{list_all};
+ghost use Rattle.lab_plan.specs.Limits.{largest_number};
 ghost use Rattle.lab_plan.specs.Names.{is_digit};
 ghost use Rattle.script_reader.specs.Number.{is_number, number_of};
 
@@ -16,7 +17,7 @@ fn are_digits(bytes: &[u8]) -> bool
     bytes.iter().all(|byte| is_digit(*byte))
 }
 
-/// Whether the bytes spell a number from 0 to 999999, without leading zeros.
+/// Whether the bytes spell a number from 0 to the largest, without leading zeros.
 pub(crate) fn is_number(bytes: &[u8]) -> bool
     ensures { result ≡ is_number bytes.now }
 {
@@ -33,7 +34,7 @@ pub(crate) fn is_number(bytes: &[u8]) -> bool
 pub(crate) fn number_of(bytes: &[u8]) -> u32
     requires { is_number bytes.now ≡ true }
     ensures number { result ≡ number_of bytes.now }
-    ensures small { result ≤ 999999 }
+    ensures small { result ≤ largest_number }
 {
     let mut number = 0u32;
     for byte in bytes {

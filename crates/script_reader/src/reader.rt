@@ -1,5 +1,6 @@
 // Reads a script, line by line.
 ghost use Rattle.std.specs.Prelude.{◌≡◌, ◌≤◌, [], IfOk, IfErr, IsOk, MatchResult, ◌↔◌, true, false, not};
+ghost use Rattle.lab_plan.specs.Limits.{largest_number};
 ghost use Rattle.lab_plan.specs.Verbs.{Fits};
 ghost use Rattle.lab_plan.specs.Building.{empty_plan};
 ghost use Rattle.script_reader.specs.Line.{Line, Header, Job, Session, PatientSession, Command, End, Steps, Unknown, verb_number, form_of};
@@ -236,7 +237,7 @@ impl<A: Allocator + Copy> Reader<A> {
 
 /// The number, where the bytes spell one.
 fn checked_number(bytes: &[u8]) -> Result<u32, ScriptCause>
-    ensures { MatchResult result (λ n. (is_number bytes.now ≡ true) × (n ≡ number_of bytes.now) × (n ≤ 999999)) (λ cause. (is_number bytes.now ≡ false) × (cause ≡ BadNumber)) }
+    ensures { MatchResult result (λ n. (is_number bytes.now ≡ true) × (n ≡ number_of bytes.now) × (n ≤ largest_number)) (λ cause. (is_number bytes.now ≡ false) × (cause ≡ BadNumber)) }
 {
     if !is_number(bytes) {
         return Err(ScriptCause::BadNumber);

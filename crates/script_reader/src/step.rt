@@ -7,8 +7,7 @@ ghost use Rattle.script_reader.specs.Steps.{job_named, edge_between, edge_named,
 
 use crate::bottles::bottle_set;
 use crate::field::{is_blank, next_field};
-use crate::name::is_same;
-use lab_plan::{EdgeNo, JobNo, Plan};
+use lab_plan::{EdgeNo, JobNo, Plan, is_same_name};
 use legal_steps::Step;
 use std::alloc::Allocator;
 
@@ -18,7 +17,7 @@ fn job_named<A: Allocator>(plan: &Plan<A>, name: &[u8]) -> Option<JobNo>
 {
     for number in 0..plan.jobs() {
         let job = JobNo(number as u8);
-        if is_same(name, plan.job_name(job)) {
+        if is_same_name(name, plan.job_name(job)) {
             return Some(job);
         }
     }

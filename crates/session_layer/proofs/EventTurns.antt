@@ -5,11 +5,11 @@ use Rattle.legal_steps.specs.declared.event.Event.{Event}
 use Rattle.legal_steps.specs.declared.event.Event.TheVariants.{Look}
 use Rattle.legal_steps.specs.State.{State, edge}
 use Rattle.legal_steps.specs.Opening.{the_opening}
-use Rattle.edge_word.specs.Moves.{events_of}
+use Rattle.edge_word.specs.Moves.{events_of, is_nothing}
 use Rattle.locality.specs.History.{learned_all, known_by}
 use Rattle.edge_rule.specs.DeskView.{DeskView, Adds, known, shown, waited}
 use Rattle.locality.proofs.Runs.{learned_all-append}
-use Rattle.turns.specs.Due.{AreDue, is_nothing}
+use Rattle.turns.specs.Due.{AreDue}
 use Rattle.turns.specs.Acts.{AreActs}
 use Rattle.turns.specs.Turn.{Visit, count, once, is_done}
 use Rattle.session_layer.specs.Turn.{Visits, VisitsAll, DoesAll, Chosen, Took}

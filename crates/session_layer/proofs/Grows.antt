@@ -4,7 +4,7 @@ use Rattle.lab_plan.specs.LabPlan.{LabPlan}
 use Rattle.legal_steps.specs.declared.event.Event.{Event}
 use Rattle.legal_steps.specs.declared.event.Event.TheVariants.{Look, AskFork, GiveFork, Soil, AskBottles, GiveBottles, Thirst, Hunger, Sit, Leave, Drink, Reach, Act, Quit, Retire, Glance, Withdraw}
 use Rattle.legal_steps.specs.State.{State, edge, drinking}
-use Rattle.edge_word.specs.Moves.{events_of}
+use Rattle.edge_word.specs.Moves.{events_of, is_nothing}
 use Rattle.locality.specs.History.{learned, learned_all}
 use Rattle.locality.specs.Lists.{Each}
 use Rattle.locality.specs.Patience.{Waited, one_more, waited_after, is_waiting}
@@ -12,7 +12,6 @@ use Rattle.locality.proofs.Runs.{learned_all-append, each-append}
 use Rattle.locality.proofs.Local.{each_move}
 use Rattle.edge_rule.specs.declared.clock.Clock.{Clock}
 use Rattle.edge_rule.specs.DeskView.{DeskView, Adds, IsAtRest, known, shown, waited, waits, noted}
-use Rattle.turns.specs.Due.{is_nothing}
 use Rattle.turns.specs.Acts.{whole_act, AreFirst, order}
 use Rattle.turns.specs.Turn.{Visit, visit_events, visits_events, IsTurnBy}
 use Rattle.turns.specs.Turns.{AreTurns, AreGrouped, Stands, flat, but_glances, is_glance, visit_groups, visits_groups, turn_groups, waited_next}

@@ -9,13 +9,13 @@ use Rattle.legal_steps.specs.declared.edge_state.EdgeState.{EdgeState}
 use Rattle.legal_steps.specs.declared.event.Event.TheVariants.{Look}
 use Rattle.legal_steps.specs.State.{edge, drinking}
 use Rattle.edge_word.specs.declared.moves.EdgeMoves.{EdgeMoves}
-use Rattle.edge_word.specs.Moves.{events_of}
+use Rattle.edge_word.specs.Moves.{events_of, is_nothing}
 use Rattle.edge_rule.specs.DeskView.{DeskView, Adds, known, shown, waited, noted}
 use Rattle.locality.specs.Patience.{is_waiting}
 use Rattle.session_layer.specs.declared.turning.Visited.{Visited}
 use Rattle.session_layer.specs.declared.turning.Visited.TheVariants as answers
 use Rattle.session_layer.specs.declared.turning.Turned.{Turned}
-use Rattle.turns.specs.Due.{AreDue, is_nothing}
+use Rattle.turns.specs.Due.{AreDue}
 use Rattle.turns.specs.Acts.{AreActs}
 use Rattle.turns.specs.Turn.{Visit, is_done, is_lost, count, once}
 use Rattle.session_layer.specs.Turn.{Visits, VisitsAll, Chosen, IsVisited, Along, IsActed, Took, Says, done_by, lost_by}

@@ -4,13 +4,11 @@ ghost use Rattle.lab_plan.specs.LabPlan.{edges_of};
 ghost use Rattle.legal_steps.specs.State.{IsOwn, drinking};
 ghost use Rattle.edge_rule.specs.DeskView.{Owns, known};
 ghost use Rattle.locality.specs.Patience.{is_waiting};
-ghost use Rattle.turns.specs.Due.{is_nothing as are_none};
 ghost use Rattle.session_layer.specs.Turn.{IsVisited, Took};
 
 use crate::acting::act;
 use drinking_layer::{due_moves, note_needed};
 use edge_rule::{Bench, Desk, Stepped, exchange, look};
-use edge_word::EdgeMoves;
 use lab_plan::EdgeNo;
 use legal_steps::Drinking;
 use std::alloc::Allocator;
@@ -34,16 +32,6 @@ pub enum Turned {
     Idle,
 }
 
-fn is_nothing(moves: EdgeMoves) -> bool
-    ensures { result ≡ are_none moves }
-{
-    !moves.give_fork
-        && moves.give_bottles == 0
-        && !moves.ask_fork
-        && moves.ask_bottles == 0
-        && !moves.soil
-}
-
 /// Looks at the edge, and does in one exchange what is due by what it saw. Where nothing is due, the desk notes it, so that
 /// the next visit costs the look alone while neither the edge nor the own phase changes.
 pub fn visit<A: Allocator>(bench: &Bench<A>, desk: &mut Desk<A>, edge: EdgeNo) -> Visited
@@ -57,7 +45,7 @@ pub fn visit<A: Allocator>(bench: &Bench<A>, desk: &mut Desk<A>, edge: EdgeNo) -
     }
     note_needed(bench, desk, edge);
     let moves = due_moves(bench, desk, edge);
-    if is_nothing(moves) {
+    if moves.is_empty() {
         desk.note_calm(edge);
         return Visited::Calm;
     }

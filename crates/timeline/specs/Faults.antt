@@ -2,6 +2,7 @@
 use Rattle.std.specs.Prelude.{ℕ, ◌≡◌, ◌≢◌, ◌⊎◌, ◌+◌, ◌<◌, Bool, true, false, ◌&&◌}
 use Rattle.std.specs.Prelude.{◌||◌, not, nat_lt, ◌==◌, List, length, Option, None, Some, slice_get, if◌then◌else◌}
 use Rattle.std.specs.Option.{is_some}
+use Rattle.lab_plan.specs.Limits.{most_jobs, most_instruments, most_sessions, most_commands}
 use Rattle.report_reader.specs.Line.{EntryText, JobText}
 use Rattle.report_reader.specs.Report.{LogText, ReportText}
 use Rattle.timeline.specs.declared.fault.EntryCause.{EntryCause}
@@ -17,7 +18,7 @@ at test cause rest = if test then Some cause else rest
 abbrev pub entry_cause : List JobText → EntryText → Option EntryCause
 entry_cause jobs e =
     at (not (is_some (job_number jobs e.job))) causes.NoJobLine (
-    at (nat_lt 1000 e.session || nat_lt 100000 e.length) causes.LimitPassed (
+    at (nat_lt most_sessions e.session || nat_lt most_commands e.length) causes.LimitPassed (
     at (e.session == 0 || e.place == 0 || nat_lt e.length e.place) causes.NoSuchPlace None))
 
 -- an entry is of the session of the one before it, and has another length or no later place
@@ -79,7 +80,7 @@ pub record HasFault (jobs : List JobText) (logs : List LogText) (instrument entr
 
 -- what a fault says of a report; of logs that contradict each other, and of memory, nothing is said
 abbrev pub IsFaultOf : ReportText → TimelineFault → Type 0
-IsFaultOf report LimitPassed = (32 < length report.jobs) ⊎ (56 < length report.logs)
+IsFaultOf report LimitPassed = (most_jobs < length report.jobs) ⊎ (most_instruments < length report.logs)
 IsFaultOf report (JobTwice job) = (n : ℕ) × (job ≡ n + 1) × IsNamedBefore report.jobs n
 IsFaultOf report (Entry instrument entry cause) = HasFault report.jobs report.logs instrument entry cause
 IsFaultOf report Contradiction = Unit {0}

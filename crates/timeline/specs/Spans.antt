@@ -3,6 +3,7 @@ use Rattle.std.specs.Prelude.{ℕ, Bool, ◌==◌, ◌+◌, ◌*◌, ◌-◌, �
 use Rattle.std.specs.List.{position}
 use Rattle.std.specs.Option.{option_and_then}
 use Rattle.std.specs.Str.{bytes_eq}
+use Rattle.lab_plan.specs.Limits.{most_jobs, most_sessions}
 use Rattle.report_reader.specs.Line.{EntryText, JobText}
 use Rattle.timeline.specs.declared.span.Span.{Span}
 
@@ -10,10 +11,11 @@ use Rattle.timeline.specs.declared.span.Span.{Span}
 abbrev pub job_number : List JobText → List ℕ → Option ℕ
 job_number jobs name = position (λ (job : JobText). bytes_eq job.name name) jobs
 
--- where the columns of an entry's session are kept: each of at most 32 jobs has 1000 sessions
+-- where the columns of an entry's session are kept: each job has as many as it may have sessions
 unfoldable pub slot_of : List JobText → EntryText → Option ℕ
 slot_of jobs entry =
-    option_and_then (λ j. if nat_lt j 32 && nat_le 1 entry.session && nat_le entry.session 1000 then Some (1000 * j + (entry.session - 1)) else None)
+    option_and_then (λ j. if nat_lt j most_jobs && nat_le 1 entry.session && nat_le entry.session most_sessions
+    then Some (most_sessions * j + (entry.session - 1)) else None)
     (job_number jobs entry.job)
 
 -- the columns of an entry's session, where it has some

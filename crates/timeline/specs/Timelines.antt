@@ -1,6 +1,7 @@
 -- For readers: timelines of a report.
 use Rattle.std.specs.Prelude.{ℕ, ◌≡◌, ◌⊎◌, ◌+◌, ◌<◌, ◌≤◌, true, List, Some, Result, Ok, Err, length, slice_get}
 use Rattle.std.specs.List.{All}
+use Rattle.lab_plan.specs.Limits.{most_jobs, most_instruments}
 use Rattle.report_reader.specs.Line.{EntryText, JobText}
 use Rattle.report_reader.specs.Report.{LogText, ReportText}
 use Rattle.timeline.specs.declared.span.Span.{Span}
@@ -55,8 +56,8 @@ AllAgree jobs view logs = All (λ (log : LogText). Agrees jobs view log.entries)
 
 -- a timeline of a report: it has no more jobs and instruments than a lab, and every log agrees with the columns
 pub record IsTimeline (report : ReportText) (view : TimelineView) : Type 0 where
-  pub few_jobs : length report.jobs ≤ 32
-  pub few_instruments : length report.logs ≤ 56
+  pub few_jobs : length report.jobs ≤ most_jobs
+  pub few_instruments : length report.logs ≤ most_instruments
   pub agree : AllAgree report.jobs view report.logs
 
 -- what is answered for a report: a timeline of it, or a fault of it

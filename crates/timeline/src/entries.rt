@@ -6,6 +6,7 @@ ghost use Rattle.timeline.specs.Faults.{entry_cause, is_out_of_order};
 
 use crate::fault::EntryCause;
 use crate::jobs::job_number;
+use lab_plan::{MOST_COMMANDS, MOST_SESSIONS};
 use report_reader::{EntryLine, JobLine};
 
 /// Whether both are of one session.
@@ -22,7 +23,7 @@ pub(crate) fn entry_cause(jobs: &[JobLine], entry: &EntryLine) -> Option<EntryCa
     if job_number(jobs, entry.job).is_none() {
         return Some(EntryCause::NoJobLine);
     }
-    if entry.session > 1000 || entry.length > 100000 {
+    if entry.session > MOST_SESSIONS || entry.length > MOST_COMMANDS {
         return Some(EntryCause::LimitPassed);
     }
     if entry.session == 0 || entry.place == 0 || entry.length < entry.place {

@@ -7,7 +7,7 @@ pub enum EntryCause {
     /// No job line has the name.
     #[error("its job has no job line")]
     NoJobLine,
-    /// A session's number past 1000, or a length past 100000.
+    /// A session's number, or a length, past what a lab may have.
     #[error("more sessions or commands than a lab has")]
     LimitPassed,
     /// Session 0, or a place that isn't from 1 to the length.
@@ -24,7 +24,7 @@ pub enum EntryCause {
 /// Why a report has no timeline. Instruments, entries of a log and job lines are counted from 1.
 #[derive(Clone, Copy, PartialEq, Eq, Debug, Error)]
 pub enum TimelineFault {
-    /// More than 32 jobs, or more than 56 instruments.
+    /// More jobs or more instruments than a lab may have.
     #[error("more jobs or instruments than a lab has")]
     LimitPassed,
     /// Its name stands in a job line before it.

@@ -1,5 +1,6 @@
 // Faults of a report that a look at each log by itself finds.
 ghost use Rattle.std.specs.Prelude.{◌≡◌, ◌+◌, ◌<◌, ◌≤◌, true, length, map, IfSome, IfOk, IfErr};
+ghost use Rattle.lab_plan.specs.Limits.{most_jobs, most_instruments};
 ghost use Rattle.report_reader.specs.Form.{entry_text, job_text};
 ghost use Rattle.timeline.specs.Faults.{FailsAt, HasFault, IsFaultOf, IsTwice};
 
@@ -7,6 +8,7 @@ use crate::entries::{entry_cause, is_out_of_order, same_session};
 use crate::fault::{EntryCause, TimelineFault};
 use crate::jobs::job_twice;
 use crate::span::{SLOTS, slot_of};
+use lab_plan::{MOST_INSTRUMENTS, MOST_JOBS};
 use report_reader::{EntryLine, JobLine, Log, Report};
 use std::alloc::{AllocError, Allocator};
 
@@ -120,10 +122,10 @@ fn twice_fault<'a, A: Allocator + Copy>(
 
 /// Looks at the limits, at the job lines, and at each log by itself.
 pub(crate) fn check<A: Allocator>(report: &Report<'_, A>) -> Result<(), TimelineFault>
-    ensures few { IfOk result (λ done. (length report.now.jobs ≤ 32) × (length report.now.logs ≤ 56)) }
+    ensures few { IfOk result (λ done. (length report.now.jobs ≤ most_jobs) × (length report.now.logs ≤ most_instruments)) }
     ensures fault { IfErr result (λ fault. IsFaultOf report.now fault) }
 {
-    if report.jobs().len() > 32 || report.logs().len() > 56 {
+    if report.jobs().len() > MOST_JOBS || report.logs().len() > MOST_INSTRUMENTS {
         return Err(TimelineFault::LimitPassed);
     }
     if let Some(number) = job_twice(report.jobs()) {

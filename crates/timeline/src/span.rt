@@ -4,10 +4,11 @@ ghost use Rattle.report_reader.specs.Form.{entry_text, job_text};
 ghost use Rattle.timeline.specs.Spans.{slot_of, span_of};
 
 use crate::jobs::job_number;
+use lab_plan::{MOST_JOBS, MOST_SESSIONS};
 use report_reader::{EntryLine, JobLine};
 
-/// Each of 32 jobs has 1000 sessions.
-pub(crate) const SLOTS: usize = 32000;
+/// One for each session that a lab may have.
+pub(crate) const SLOTS: usize = MOST_JOBS * MOST_SESSIONS as usize;
 
 /// The columns of a session: `width` of them from `start` on, which is counted from 0.
 #[derive(Clone, Copy, PartialEq, Eq, Debug)]
@@ -16,14 +17,14 @@ pub struct Span {
     pub width: u32,
 }
 
-/// Where the columns of an entry's session are kept: each job has 1000 sessions.
+/// Where the columns of an entry's session are kept: each job has as many as it may have sessions.
 #[tactic(auto, unfolding(crate::specs::Spans::slot_of))]
 pub(crate) fn slot_of(jobs: &[JobLine], entry: &EntryLine) -> Option<usize>
     ensures { result ≡ slot_of (map job_text jobs.now) (entry_text entry.now) }
 {
     let job = job_number(jobs, entry.job)?;
-    if job < 32 && 1 <= entry.session && entry.session <= 1000 {
-        Some(1000 * job + (entry.session - 1) as usize)
+    if job < MOST_JOBS && 1 <= entry.session && entry.session <= MOST_SESSIONS {
+        Some(MOST_SESSIONS as usize * job + (entry.session - 1) as usize)
     } else {
         None
     }

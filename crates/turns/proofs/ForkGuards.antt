@@ -27,15 +27,6 @@ here_at Higher Higher h = refl
 here_at Lower Higher h = absurd (cc)
 here_at Higher Lower h = absurd (cc)
 
-pub not_at : (here x : End) → is_at here x ≡ false → x ≢ here
-not_at here x h is = false≢true (sym h ∙ here_at here x is)
-
-pub at_not : (here x : End) → x ≢ here → is_at here x ≡ false
-at_not Lower Lower h = absurd (h refl)
-at_not Higher Higher h = absurd (h refl)
-at_not Lower Higher h = refl
-at_not Higher Lower h = refl
-
 -- both parts of a test
 pub both : (a b : Bool) → (a && b) ≡ true → (a ≡ true) × (b ≡ true)
 both true b h = (refl, h)

@@ -10,13 +10,13 @@ use Rattle.legal_steps.specs.State.{State, Seat, edge, seat, phase, end_of, bott
 use Rattle.legal_steps.specs.Legal.{with_edge, with_fork_mark, with_bottle_marks, fork_mark_seen}
 use Rattle.legal_steps.proofs.FitsWrites.{edge_other, seat_same}
 use Rattle.edge_word.specs.declared.moves.EdgeMoves.{EdgeMoves}
-use Rattle.edge_word.specs.Moves.{events_of, on}
+use Rattle.edge_word.specs.Moves.{events_of, on, is_nothing}
 use Rattle.locality.specs.History.{learned, learned_all}
-use Rattle.turns.specs.Due.{IsCalm, is_nothing, but_position}
+use Rattle.turns.specs.Due.{IsCalm, but_position}
 use Rattle.turns.specs.Acts.{AreActs}
 use Rattle.turns.specs.Turn.{Visit, is_done, is_lost, count, once, visit_events, visits_events, AreVisits, IsTurnBy}
 use Rattle.turns.specs.Laws.{NothingDoneIsIdle, IdleTurnIsCalm}
-use Rattle.turns.proofs.OwnEdges.{In, Distinct, own_edge_in, own_edges_once}
+use Rattle.legal_steps.proofs.OwnEdges.{In, Distinct, own_edge_in, own_edges_once}
 use Rattle.turns.proofs.Calm.{nothing_due_is_calm, stays_calm}
 
 -- ---- nothing was done

@@ -3,6 +3,5 @@ pub mod Stages
 pub mod ForkGuards
 pub mod DueMoves
 pub mod Firsts
-pub mod OwnEdges
 pub mod Calm
 pub mod Idle

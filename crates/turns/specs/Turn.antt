@@ -6,9 +6,9 @@ use Rattle.legal_steps.specs.declared.event.Event.{Event}
 use Rattle.legal_steps.specs.declared.event.Event.TheVariants.{Look}
 use Rattle.legal_steps.specs.State.{State}
 use Rattle.edge_word.specs.declared.moves.EdgeMoves.{EdgeMoves}
-use Rattle.edge_word.specs.Moves.{events_of}
+use Rattle.edge_word.specs.Moves.{events_of, is_nothing}
 use Rattle.locality.specs.History.{learned, learned_all}
-use Rattle.turns.specs.Due.{AreDue, is_nothing}
+use Rattle.turns.specs.Due.{AreDue}
 use Rattle.turns.specs.Acts.{AreActs}
 
 -- one visit of an edge: what the look saw, the moves that this made due, and whether their exchange found another word

@@ -1,7 +1,9 @@
 // Where events are legal, also where no law of runs would tell.
-use super::{OPENED, Shown, after, counts, opened, phase, replay_steps};
-use crate::benches::{A, AB, B, IMPATIENT, STALE_MARK, TWICE, TWO};
-use interleaving::{Dining, Drinking, EdgeState, End, Event, JobState, NotLegal, Step, StepLine};
+use super::{OPENED, Shown, after, counts, opened, phase, replay_steps, walks};
+use crate::benches::{A, AB, B, IMPATIENT, STALE_MARK, TWICE, TWO, plan_of};
+use interleaving::{
+    Dining, Drinking, EdgeState, End, Event, JobState, NotLegal, Step, StepLine, World,
+};
 use lab_plan::{EdgeNo, JobNo};
 use std::alloc::Allocator;
 use std::process::Abort;
@@ -284,4 +286,63 @@ const BEYOND_THE_PLAN: [Case; 9] = [
 #[test]
 fn no_numbers_beyond_the_plan(rt: HostRuntime) -> Result<(), Fail> {
     check(&rt, rt.alloc(), TWO, &ASKED_FOR, &BEYOND_THE_PLAN)
+}
+
+// What the phase of a job allows by itself: to begin a session, to become hungry, to end a meal, to reach, to end the
+// session, to retire, to give the session up, and to do so after no turn.
+fn allows<T: Allocator>(rt: &impl Abort, world: &World<T>, job: JobNo) -> [bool; 8] {
+    let plan = world.plan();
+    assert!(rt; (job.0 as usize) < plan.jobs());
+    let phase = world.job(job);
+    [
+        phase.may_thirst(plan, job),
+        phase.may_hunger(),
+        phase.may_leave(),
+        phase.may_reach(plan, job),
+        phase.may_quit(plan, job),
+        phase.may_retire(plan, job),
+        phase.may_withdraw(plan, job),
+        phase.gives_up(plan, job, 0),
+    ]
+}
+
+// Whether the phase after these steps allows just what stands in this list, by numbers in the list above.
+fn allows_just<T: Allocator + Copy>(
+    rt: &impl Abort,
+    alloc: T,
+    script: &str,
+    steps: &[Step],
+    job: JobNo,
+    wanted: &[usize],
+) -> Result<(), Fail> {
+    let plan = plan_of(rt, alloc, script);
+    let mut world = World::opening(alloc, &plan)?;
+    assert!(rt; walks(rt, &mut world, steps));
+    let allowed = allows(rt, &world, job);
+    for number in 0..8 {
+        assert!(rt; allowed[number] == wanted.contains(&number), "{number}");
+    }
+    Ok(())
+}
+
+// After so many steps, the numbers of what job a is allowed.
+const OF_PHASES: [(usize, &[usize]); 8] = [
+    (0, &[0]),
+    (1, &[1]),
+    (7, &[]),
+    (8, &[2, 3]),
+    (10, &[2]),
+    (11, &[2, 4]),
+    (12, &[2]),
+    (13, &[0]),
+];
+
+#[test]
+fn guards_of_phases(rt: HostRuntime) -> Result<(), Fail> {
+    for (place, wanted) in OF_PHASES {
+        assert!(rt; place <= STALE_MARK.len());
+        allows_just(&rt, rt.alloc(), TWICE, &STALE_MARK[..place], A, wanted)?;
+    }
+    allows_just(&rt, rt.alloc(), TWO, &ONE_SESSION, A, &[5])?;
+    allows_just(&rt, rt.alloc(), IMPATIENT, &PATIENT[..1], B, &[1, 6, 7])
 }

@@ -55,6 +55,18 @@ pub(super) fn needs_of<A: Allocator>(
     plan.needs(JobNo(job), session)
 }
 
+pub(super) fn needed_of<A: Allocator>(
+    rt: &impl Abort,
+    plan: &Plan<A>,
+    job: u8,
+    session: u32,
+    edge: u16,
+) -> u32 {
+    assert!(rt; (job as usize) < plan.jobs() && edge < plan.edges());
+    assert!(rt; 1 <= session && session <= plan.sessions(JobNo(job)));
+    plan.needed_bottles(JobNo(job), session, EdgeNo(edge))
+}
+
 pub(super) fn part_of<A: Allocator>(
     rt: &impl Abort,
     plan: &Plan<A>,

@@ -1,7 +1,7 @@
 // Readers of a plan: each on its happy path, at the largest conflict graph and at the longest session.
 use super::asking::{
-    bottle_of, bottles_of, commands_of, edge_of, edges_of, ends_of, instrument_of, needs_of,
-    part_of, patience_of, place_of, sessions_of,
+    bottle_of, bottles_of, commands_of, edge_of, edges_of, ends_of, instrument_of, needed_of,
+    needs_of, part_of, patience_of, place_of, sessions_of,
 };
 use super::{Line, finished, name_of, plan_of, put_all};
 use lab_plan::{EdgeNo, InstrumentNo, JobNo, Place, Plan, PlanBuilder, Verb};
@@ -9,7 +9,7 @@ use std::alloc::Allocator;
 use std::process::Abort;
 
 /// Three jobs that meet in pairs, and one that is alone.
-const MEETING: [Line<'static>; 18] = [
+const MEETING: [Line<'static>; 20] = [
     Line::Job(b"mix"),
     Line::Session,
     Line::Command(b"lamp", Verb::Set(1)),
@@ -28,6 +28,8 @@ const MEETING: [Line<'static>; 18] = [
     Line::Session,
     Line::Command(b"pump", Verb::Read),
     Line::Command(b"lamp", Verb::Read),
+    Line::Session,
+    Line::Command(b"oven", Verb::Read),
 ];
 
 /// The ends of its edges.
@@ -100,6 +102,26 @@ fn check_sessions<A: Allocator>(rt: &impl Abort, plan: &Plan<A>) {
     }
 }
 
+/// A job, one of its sessions, an edge, and the bottles that are needed there: edge 1 has those of lamp and pump, and
+/// edge 2 those of lamp and oven.
+const NEEDED: [(u8, u32, u16, u32); 6] = [
+    (0, 1, 1, 0b11),
+    (0, 2, 1, 0b10),
+    (3, 2, 1, 0b00),
+    (1, 1, 2, 0b11),
+    (3, 1, 2, 0b01),
+    (3, 2, 2, 0b10),
+];
+
+fn check_needed<A: Allocator>(rt: &impl Abort, plan: &Plan<A>) {
+    for (job, session, edge, bottles) in NEEDED {
+        assert!(rt;
+            needed_of(rt, plan, job, session, edge) == bottles,
+            "{job} in {session} on {edge}"
+        );
+    }
+}
+
 /// How many of the commands of a session are on an instrument, and the places of some commands.
 fn check_places<A: Allocator>(rt: &impl Abort, plan: &Plan<A>) {
     for (instrument, part) in [(0, 3), (1, 1), (3, 0)] {
@@ -121,6 +143,7 @@ fn read_meeting<A: Allocator + Copy>(rt: &impl Abort, alloc: A) {
     check_edges(rt, &plan);
     check_bottles(rt, &plan);
     check_sessions(rt, &plan);
+    check_needed(rt, &plan);
     check_places(rt, &plan);
 }
 

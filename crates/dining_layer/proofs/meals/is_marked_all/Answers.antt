@@ -3,7 +3,7 @@ use Rattle.std.proofs.lemmas.Bool.{false≢true}
 use Rattle.lab_plan.specs.LabPlan.{edges_of}
 use Rattle.legal_steps.specs.State.{fork_mark}
 use Rattle.edge_rule.specs.DeskView.{known}
-use Rattle.turns.proofs.OwnEdges.{own_at, at_own_edges}
+use Rattle.legal_steps.proofs.OwnEdges.{own_at, at_own_edges}
 use Rattle.dining_layer.proofs.meals.is_marked_all.Goals as goal
 
 pub fork_mark-requires : goal.fork_mark-requires

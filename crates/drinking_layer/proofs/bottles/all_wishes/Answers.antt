@@ -1,4 +1,4 @@
-use Rattle.std.proofs.Common.{◌≡◌, false, ◌<◌, ℕ, length, sym, ◌∙◌, subst}
+use Rattle.std.proofs.Common.{◌≡◌, false, ◌<◌, length, sym, ◌∙◌, subst}
 use Rattle.lab_plan.specs.LabPlan.{LabPlan, edges}
 use Rattle.legal_steps.specs.State.{phase, edge, end_of}
 use Rattle.edge_rule.specs.DeskView.{DeskView, known}

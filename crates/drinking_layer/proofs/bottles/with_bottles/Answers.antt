@@ -1,4 +1,4 @@
-use Rattle.std.proofs.Common.{◌≡◌, ◌<◌, ℕ, length, sym, ◌∙◌, subst}
+use Rattle.std.proofs.Common.{◌≡◌, ◌<◌, length, sym, ◌∙◌, subst}
 use Rattle.lab_plan.specs.LabPlan.{LabPlan, edges}
 use Rattle.edge_rule.specs.DeskView.{DeskView, known}
 use Rattle.drinking_layer.specs.Local.{with_sets}

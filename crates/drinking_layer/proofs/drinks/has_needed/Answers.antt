@@ -3,7 +3,7 @@ use Rattle.std.proofs.lemmas.Bool.{false≢true}
 use Rattle.lab_plan.specs.LabPlan.{edges_of}
 use Rattle.legal_steps.specs.Legal.{HasNeededAt}
 use Rattle.edge_rule.specs.DeskView.{known}
-use Rattle.turns.proofs.OwnEdges.{own_at, at_own_edges}
+use Rattle.legal_steps.proofs.OwnEdges.{own_at, at_own_edges}
 use Rattle.drinking_layer.proofs.drinks.has_needed.Goals as goal
 
 pub has_needed_at-requires-clause-edge : goal.has_needed_at-requires-clause-edge

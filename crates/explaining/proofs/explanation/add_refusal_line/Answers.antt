@@ -11,4 +11,5 @@ returns g c =
     let plan = c.args.plan.now in
     let line = c.args.line.now in
     five _ _ _ _ _ _ (line_head line.line) (step_text plan line.step) (codes "` is not legal: ") (cause_text plan line.step c.args.cause) (codes "\n")
-    c.in_ok-add_line_head.ensures c.in_ok-add_step.ensures c.in_ok-extend_from_slice.ensures.items c.in_ok-add_cause.ensures c.in_ok-extend_from_slice-2.ensures.items
+    c.in_ok-add_line_head.ensures c.in_ok-add_step.ensures c.in_ok-extend_from_slice.ensures.items c.in_ok-add_cause.ensures
+    c.in_ok-extend_from_slice-2.ensures.items

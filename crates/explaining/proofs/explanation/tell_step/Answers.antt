@@ -20,11 +20,14 @@ returns g c =
     let second : c.add_job_state.new.out.items ≡ c.add_refusal_line.new.out.items ++ job_text w.plan w.state (job_of line.step) =
     c.in_ok-add_job_state.ensures ∙ ap (λ j. c.add_refusal_line.new.out.items ++ job_text w.plan w.state j) c.job_of.ensures in
     let done = c.add_job_state.new.out.items in
-    let last : c.add_moves.new.out.items ≡ done ++ moves_text w.plan moves = c.in_ok-add_moves.ensures ∙ ap (λ p. done ++ moves_text p c.deref.result.now) c.plan-2.ensures.plan ∙ ap (λ m. done ++ moves_text w.plan m) c.deref.ensures.value in
+    let last : c.add_moves.new.out.items ≡ done ++ moves_text w.plan moves =
+    c.in_ok-add_moves.ensures ∙ ap (λ p. done ++ moves_text p c.deref.result.now) c.plan-2.ensures.plan
+    ∙ ap (λ m. done ++ moves_text w.plan m) c.deref.ensures.value in
     record {
       cause = cause;
       fails = subst (λ event. Fails w.plan w.state event cause) c.event_of.ensures c.in-Some.ensures.explains;
       moves = moves;
       legal = c.in_ok-moves.ensures.legal;
-      told = all_three c.new-out.result.items _ _ _ (refusal_line w.plan line.line line.step cause) (job_text w.plan w.state (job_of line.step)) (moves_text w.plan moves) c.new-out.ensures.items first second last;
+      told = all_three c.new-out.result.items _ _ _ (refusal_line w.plan line.line line.step cause) (job_text w.plan w.state (job_of line.step))
+          (moves_text w.plan moves) c.new-out.ensures.items first second last;
     }

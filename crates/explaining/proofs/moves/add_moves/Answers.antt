@@ -5,4 +5,5 @@ use Rattle.explaining.proofs.moves.add_moves.Goals as goal
 
 pub returns : goal.returns
 unfolding moves_text
-returns g c = adds_all (move_line c.args.plan.now) c.args.moves.now c.loop-step.step-index _ (codes "legal now, besides looks and glances:\n") _ c.loop-step-test.false c.loop-step.invariant
+returns g c = adds_all (move_line c.args.plan.now) c.args.moves.now c.loop-step.step-index _
+    (codes "legal now, besides looks and glances:\n") _ c.loop-step-test.false c.loop-step.invariant

@@ -19,5 +19,7 @@ unfolding edge_text
 returns g c =
     let w = c.args.world.now in
     let n = length (bottles w.plan c.args.edge) in
-    let past : length (range_with_len 0 n) ≤ c.loop-bottle.bottle = omega (arith, length-range_with_len 0 n, ap (λ p. length (bottles p c.args.edge)) c.plan.ensures.plan) in
-    adds_all (bottle_line w.plan w.state c.args.job c.args.edge) (range_with_len 0 n) c.loop-bottle.bottle _ (fork_line w.plan w.state c.args.job c.args.edge) _ past c.loop-bottle.invariant
+    let past : length (range_with_len 0 n) ≤ c.loop-bottle.bottle =
+    omega (arith, length-range_with_len 0 n, ap (λ p. length (bottles p c.args.edge)) c.plan.ensures.plan) in
+    adds_all (bottle_line w.plan w.state c.args.job c.args.edge) (range_with_len 0 n) c.loop-bottle.bottle _
+    (fork_line w.plan w.state c.args.job c.args.edge) _ past c.loop-bottle.invariant

@@ -1,12 +1,13 @@
 use Rattle.std.proofs.Common.{◌≡◌, ◌<◌, ◌≤◌, length, slice_index_or, ap, subst, ◌∙◌}
 use Rattle.lab_plan.specs.LabPlan.{edges_of}
-use Rattle.interleaving.proofs.OwnEdges.{own_at}
+use Rattle.legal_steps.proofs.OwnEdges.{own_at}
 use Rattle.legal_moves.proofs.Lists.{adds_more, adds_all}
 use Rattle.explaining.specs.StateTexts.{phase_line, edge_text, job_text}
 use Rattle.explaining.proofs.states.add_job_state.Goals as goal
 
 pub add_edge-requires : goal.add_edge-requires
-add_edge-requires g c = own_at _ _ _ _ _ (c.edges_of-edge-items.ensures ∙ ap (λ p. edges_of p c.args.job) c.plan.ensures.plan) c.loop-edge-test.true c.edge-item.is
+add_edge-requires g c = own_at _ _ _ _ _ (c.edges_of-edge-items.ensures ∙ ap (λ p. edges_of p c.args.job) c.plan.ensures.plan) c.loop-edge-test.true
+    c.edge-item.is
 
 pub loop-edge-preserved : goal.loop-edge-preserved
 loop-edge-preserved g c =
@@ -24,4 +25,5 @@ returns g c =
     let w = c.args.world.now in
     let same = c.edges_of-edge-items.ensures ∙ ap (λ p. edges_of p c.args.job) c.plan.ensures.plan in
     let past : length (edges_of w.plan c.args.job) ≤ c.loop-edge.edge-index = subst (λ t. length t ≤ c.loop-edge.edge-index) same c.loop-edge-test.false in
-    adds_all (edge_text w.plan w.state c.args.job) (edges_of w.plan c.args.job) c.loop-edge.edge-index _ (phase_line w.plan w.state c.args.job) _ past c.loop-edge.invariant
+    adds_all (edge_text w.plan w.state c.args.job) (edges_of w.plan c.args.job) c.loop-edge.edge-index _
+    (phase_line w.plan w.state c.args.job) _ past c.loop-edge.invariant

@@ -3,14 +3,14 @@ use Rattle.std.proofs.KnownBytes.{Keeps-refl}
 use Rattle.report.specs.Report.{report_of, all_retired}
 use Rattle.report.specs.Worlds.{shown_by}
 use Rattle.lab_runs.specs.declared.faults.RunFault.TheVariants.{Script, Write}
-use Rattle.lab_runs.specs.Runs.{Replays, ReplayRefuses, outcome_of}
+use Rattle.lab_runs.specs.Runs.{ReplaysScript, ReplayRefuses, outcome_of}
 use Rattle.lab_runs.proofs.RunAnswers.{ends_with}
 use Rattle.lab_runs.proofs.Replayed.{stopped, replayed}
 use Rattle.lab_runs.proofs.running.replay.Goals as goal
 
 pub returns-in_err-plan-clause-answer : goal.returns-in_err-plan-clause-answer
 returns-in_err-plan-clause-answer g c =
-    ends_with Replays ReplayRefuses _ _ _ c.from_residual.result
+    ends_with ReplaysScript ReplayRefuses _ _ _ c.from_residual.result
     (Script c.in_err-plan.field-0.0) c.from_residual.ensures.1 (c.in_err-plan.ensures.meaning, Keeps-refl _)
 
 pub returns-in-Err-clause-answer : goal.returns-in-Err-clause-answer
@@ -37,5 +37,5 @@ returns-in_err-send_report-clause-answer g c =
     let replays = replayed c.report_of_events.ensures c.holds_of_every_run.ensures c.args.input.now c.in_ok-plan.plan
     c.deref.result.now c.in_ok-plan.steps.items c.in_ok-world.world world outcome c.jobs.ensures.plan
     c.deref.ensures.value c.in_ok-world.ensures c.in_ok-plan.ensures.meaning c.in_default.ensures refl in
-    ends_with Replays ReplayRefuses _ _ _ c.from_residual-in_err-send_report.result Write c.from_residual-in_err-send_report.ensures.1
+    ends_with ReplaysScript ReplayRefuses _ _ _ c.from_residual-in_err-send_report.result Write c.from_residual-in_err-send_report.ensures.1
     (report_of world.plan (shown_by world), outcome, replays, c.in_err-send_report.ensures.0)

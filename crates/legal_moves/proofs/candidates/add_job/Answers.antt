@@ -1,4 +1,4 @@
-use Rattle.interleaving.proofs.OwnEdges.{own_at}
+use Rattle.legal_steps.proofs.OwnEdges.{own_at}
 use Rattle.legal_moves.proofs.candidates.add_job.Goals as goal
 
 pub add_edge-requires : goal.add_edge-requires

@@ -16,10 +16,10 @@ returns-clause-text c =
     let e3 : c.text-2.new.self ≡ old ++ q3 = more old c.count.new.self c.text-2.new.self q2 p3 e2 c.text-2.ensures.text in
     let p4 : List ℕ = name_text c.args.entry.now.job.now in
     let q4 = q3 ++ p4 in
-    let e4 : c.name.new.self ≡ old ++ q4 = more old c.text-2.new.self c.name.new.self q3 p4 e3 c.name.ensures.text in
+    let e4 : c.add_name.new.line ≡ old ++ q4 = more old c.text-2.new.self c.add_name.new.line q3 p4 e3 c.add_name.ensures.text in
     let p5 : List ℕ = codes "</text><text x=\"" in
     let q5 = q4 ++ p5 in
-    let e5 : c.text-3.new.self ≡ old ++ q5 = more old c.name.new.self c.text-3.new.self q4 p5 e4 c.text-3.ensures.text in
+    let e5 : c.text-3.new.self ≡ old ++ q5 = more old c.add_name.new.line c.text-3.new.self q4 p5 e4 c.text-3.ensures.text in
     let p6 : List ℕ = decimal c.args.x in
     let q6 = q5 ++ p6 in
     let e6 : c.count-2.new.self ≡ old ++ q6 = more old c.text-3.new.self c.count-2.new.self q5 p6 e5 c.count-2.ensures.text in

@@ -22,6 +22,6 @@ returns-clause-text c =
     let e5 : c.text-3.new.self ≡ old ++ q5 = more old c.add_look.new.line c.text-3.new.self q4 p5 e4 c.text-3.ensures.text in
     let p6 : List ℕ = name_text c.args.job.now.name.now in
     let q6 = q5 ++ p6 in
-    let e6 : c.name.new.self ≡ old ++ q6 = more old c.text-3.new.self c.name.new.self q5 p6 e5 c.name.ensures.text in
+    let e6 : c.add_name.new.line ≡ old ++ q6 = more old c.text-3.new.self c.add_name.new.line q5 p6 e5 c.add_name.ensures.text in
     let p7 : List ℕ = codes "</text>" in
-    more old c.name.new.self c.text-4.new.self q6 p7 e6 c.text-4.ensures.text
+    more old c.add_name.new.line c.text-4.new.self q6 p7 e6 c.text-4.ensures.text

@@ -1,7 +1,7 @@
 use Rattle.std.proofs.Common.{ap, ◌∙◌}
 use Rattle.lab_plan.specs.LabPlan.{edges_of}
 use Rattle.legal_steps.specs.Legal.{HasNeededAt}
-use Rattle.interleaving.proofs.OwnEdges.{own_at, at_own_edges}
+use Rattle.legal_steps.proofs.OwnEdges.{own_at, at_own_edges}
 use Rattle.refused_steps.proofs.marks.missing_bottle.Goals as goal
 
 pub missing_at-requires-clause-own : goal.missing_at-requires-clause-own

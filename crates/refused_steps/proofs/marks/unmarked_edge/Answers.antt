@@ -1,7 +1,7 @@
 use Rattle.std.proofs.Common.{◌≡◌, true, sym, ap, ◌∙◌}
 use Rattle.lab_plan.specs.LabPlan.{edges_of}
 use Rattle.legal_steps.specs.State.{fork_mark}
-use Rattle.interleaving.proofs.OwnEdges.{own_at, at_own_edges}
+use Rattle.legal_steps.proofs.OwnEdges.{own_at, at_own_edges}
 use Rattle.refused_steps.proofs.marks.unmarked_edge.Goals as goal
 
 pub fork_mark-requires : goal.fork_mark-requires

@@ -5,7 +5,8 @@ use Rattle.report.proofs.offering.offer.Given as goal
 
 abbrev pub invariant-loop-rest : goal.invariant-loop-rest
 invariant-loop-rest g l =
-    (done : List ℕ) × (l.text ≡ done ++ l.rest) × Appends (g.W.Sink.taken l.fn.sink) (g.W.Sink.taken l.sink) done × (g.W.Sink.failures l.sink ≡ g.W.Sink.failures l.fn.sink)
+    (done : List ℕ) × (l.text ≡ done ++ l.rest) × Appends (g.W.Sink.taken l.fn.sink) (g.W.Sink.taken l.sink) done
+    × (g.W.Sink.failures l.sink ≡ g.W.Sink.failures l.fn.sink)
 
 abbrev pub decreases-loop-rest : goal.decreases-loop-rest
 decreases-loop-rest g l = length l.rest

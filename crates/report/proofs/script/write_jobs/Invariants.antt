@@ -7,4 +7,5 @@ use Rattle.report.proofs.script.write_jobs.Given as goal
 
 abbrev pub invariant-loop-job : goal.invariant-loop-job
 invariant-loop-job g l =
-    Appends (g.W.Sink.taken l.fn.sink) (g.W.Sink.taken l.sink) (flat_map (job_text l.plan) (take l.job l.plan.jobs)) × (g.W.Sink.failures l.sink ≡ g.W.Sink.failures l.fn.sink)
+    Appends (g.W.Sink.taken l.fn.sink) (g.W.Sink.taken l.sink) (flat_map (job_text l.plan) (take l.job l.plan.jobs))
+    × (g.W.Sink.failures l.sink ≡ g.W.Sink.failures l.fn.sink)

@@ -6,7 +6,8 @@ use Rattle.report.proofs.script.write_session.Goals as goal
 
 pub returns-in_err-write_session_line : goal.returns-in_err-write_session_line
 returns-in_err-write_session_line g c =
-    writes_err _ _ _ _ _ _ c.from_residual.ensures.0 (in_first _ _ _ _ (in_first _ _ _ _ c.in_err-write_session_line.ensures.0)) c.in_err-write_session_line.ensures.1
+    writes_err _ _ _ _ _ _ c.from_residual.ensures.0
+    (in_first _ _ _ _ (in_first _ _ _ _ c.in_err-write_session_line.ensures.0)) c.in_err-write_session_line.ensures.1
 
 pub returns-in_err-write_commands : goal.returns-in_err-write_commands
 returns-in_err-write_commands g c =

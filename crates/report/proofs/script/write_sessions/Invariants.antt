@@ -8,4 +8,5 @@ use Rattle.report.proofs.script.write_sessions.Given as goal
 
 abbrev pub invariant-loop-session : goal.invariant-loop-session
 invariant-loop-session g l =
-    Appends (g.W.Sink.taken l.fn.sink) (g.W.Sink.taken l.sink) (flat_map (session_text l.plan) (take l.session (sessions l.plan l.job))) × (g.W.Sink.failures l.sink ≡ g.W.Sink.failures l.fn.sink)
+    Appends (g.W.Sink.taken l.fn.sink) (g.W.Sink.taken l.sink) (flat_map (session_text l.plan) (take l.session (sessions l.plan l.job)))
+    × (g.W.Sink.failures l.sink ≡ g.W.Sink.failures l.fn.sink)

@@ -9,4 +9,5 @@ abbrev pub invariant-loop-index : goal.invariant-loop-index
 invariant-loop-index g l =
     let plan = g.R.Showing.plan l.run in
     let shown = g.R.Showing.shown l.run in
-    Appends (g.W.Sink.taken l.fn.sink) (g.W.Sink.taken l.sink) (flat_map (entry_text plan) (take l.index (shown.log l.instrument))) × (g.W.Sink.failures l.sink ≡ g.W.Sink.failures l.fn.sink)
+    Appends (g.W.Sink.taken l.fn.sink) (g.W.Sink.taken l.sink) (flat_map (entry_text plan) (take l.index (shown.log l.instrument)))
+    × (g.W.Sink.failures l.sink ≡ g.W.Sink.failures l.fn.sink)

@@ -10,4 +10,5 @@ returns g c =
     let i = c.args.instrument in
     let line = c.as_bytes.ensures ∙ c.instrument_line-line.ensures in
     let name = c.instrument_name-name.ensures.value ∙ ap (λ p. instrument_name p i) c.plan.ensures in
-    writes_same _ _ _ _ _ _ _ (line ∙ ap (λ t. instrument_line t c.entries.result) name ∙ ap (instrument_line (instrument_name plan i)) c.entries.ensures) c.offer.ensures
+    writes_same _ _ _ _ _ _ _ (line ∙ ap (λ t. instrument_line t c.entries.result) name ∙ ap (instrument_line (instrument_name plan i)) c.entries.ensures)
+    c.offer.ensures

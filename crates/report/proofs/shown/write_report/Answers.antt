@@ -25,7 +25,8 @@ unfolding report_of
 returns-in_err-write_tallies g c =
     let header = ap header_line (c.version.ensures ∙ ap (λ p. p.version) c.plan.ensures) in
     writes_err _ _ _ _ _ _ c.from_residual-in_err-write_tallies.ensures.0
-    (in_first _ _ _ _ (in_second _ _ _ _ _ (Appends-trans _ _ _ _ _ (appends_same _ _ _ _ header c.in_ok-write_header.ensures.0) c.in_ok-write_logs.ensures.0) c.in_err-write_tallies.ensures.0))
+    (in_first _ _ _ _ (in_second _ _ _ _ _ (Appends-trans _ _ _ _ _ (appends_same _ _ _ _ header c.in_ok-write_header.ensures.0) c.in_ok-write_logs.ensures.0)
+    c.in_err-write_tallies.ensures.0))
     (c.in_err-write_tallies.ensures.1 ∙ ap (λ n. n + 1) (c.in_ok-write_logs.ensures.1 ∙ c.in_ok-write_header.ensures.1))
 
 pub returns : goal.returns
@@ -33,6 +34,7 @@ unfolding report_of
 returns g c =
     let header = ap header_line (c.version.ensures ∙ ap (λ p. p.version) c.plan.ensures) in
     writes_after _ _ _ _ _ _ _ _ _
-    (Appends-trans _ _ _ _ _ (Appends-trans _ _ _ _ _ (appends_same _ _ _ _ header c.in_ok-write_header.ensures.0) c.in_ok-write_logs.ensures.0) c.in_ok-write_tallies.ensures.0)
+    (Appends-trans _ _ _ _ _ (Appends-trans _ _ _ _ _ (appends_same _ _ _ _ header c.in_ok-write_header.ensures.0) c.in_ok-write_logs.ensures.0)
+    c.in_ok-write_tallies.ensures.0)
     (c.in_ok-write_tallies.ensures.1 ∙ c.in_ok-write_logs.ensures.1 ∙ c.in_ok-write_header.ensures.1)
     (writes_same _ _ _ _ _ _ _ (ap last_line c.all_retired.ensures) c.write_last.ensures)

@@ -11,7 +11,8 @@ returns-in_err-write_tally g c =
     let i = c.loop-job.job in
     let below : i < n = omega (arith, ap (λ p. length p.jobs) c.plan.ensures) in
     writes_err _ _ _ _ _ _ c.from_residual.ensures.0
-    (each_stops (tally_text plan (g.R.Showing.shown c.args.run.now)) (range_with_len 0 n) i 0 i _ _ _ (number_inside n i below) (number_at n i below) c.loop-job.invariant.0 c.in_err-write_tally.ensures.0)
+    (each_stops (tally_text plan (g.R.Showing.shown c.args.run.now)) (range_with_len 0 n) i 0 i _ _ _ (number_inside n i below)
+    (number_at n i below) c.loop-job.invariant.0 c.in_err-write_tally.ensures.0)
     (c.in_err-write_tally.ensures.1 ∙ ap (λ k. k + 1) c.loop-job.invariant.1)
 
 pub loop-job-preserved : goal.loop-job-preserved
@@ -20,7 +21,8 @@ loop-job-preserved g c =
     let n = length plan.jobs in
     let i = c.loop-job.job in
     let below : i < n = omega (arith, ap (λ p. length p.jobs) c.plan.ensures) in (
-      each_goes (tally_text plan (g.R.Showing.shown c.args.run.now)) (range_with_len 0 n) i 0 i _ _ _ (number_inside n i below) (number_at n i below) c.loop-job.invariant.0 c.in_ok-write_tally.ensures.0,
+      each_goes (tally_text plan (g.R.Showing.shown c.args.run.now)) (range_with_len 0 n) i 0 i _ _ _ (number_inside n i below)
+          (number_at n i below) c.loop-job.invariant.0 c.in_ok-write_tally.ensures.0,
       c.in_ok-write_tally.ensures.1 ∙ c.loop-job.invariant.1,
     )
 

@@ -22,7 +22,8 @@ returns-then-words-eq11 c =
     let words = c.args.words.now in
     let tail = c.tail_of-then-words-eq11.ensures ∙ ap (λ l. tail_of (end_of l)) (take_rest words 8) in
     subst (λ o. MatchOption c.job_of-then-words-eq11.result (o ≡ None) (λ form. o ≡ Some (line_text form)))
-    (sym (eleven words c.if-words-eq11.true ∙ (λ i. job_of (sym c.head_of-head-then-words-eq11.ensures i) (sym c.middle_of-withdrawn.ensures i) (sym tail i)))) c.job_of-then-words-eq11.ensures
+    (sym (eleven words c.if-words-eq11.true ∙ (λ i. job_of (sym c.head_of-head-then-words-eq11.ensures i) (sym c.middle_of-withdrawn.ensures i) (sym tail i))))
+    c.job_of-then-words-eq11.ensures
 
 pub returns : goal.returns
 returns c =

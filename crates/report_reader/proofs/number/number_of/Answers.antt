@@ -10,7 +10,8 @@ use Rattle.report_reader.proofs.number.number_of.Goals as goal
 
 pub returns-in_default : goal.returns-in_default
 returns-in_default c =
-    sym (no_number c.args.word.now (λ n small is. c.in_default.ensures.cases.0 (IsUtf8-from_ascii _ (subst IsAscii (sym is) (IsAscii-decimal n (omega (arith, small)))))))
+    sym (no_number c.args.word.now (λ n small is. c.in_default.ensures.cases.0
+    (IsUtf8-from_ascii _ (subst IsAscii (sym is) (IsAscii-decimal n (omega (arith, small)))))))
 
 pub returns-in_default-parse : goal.returns-in_default-parse
 returns-in_default-parse c =

@@ -28,13 +28,15 @@ returns-in_err-at_line g c =
     let next = next_part c.args.parts.now k nothing c.loop-part-test.true in
     let fault = c.in_err-at_line.field-0.0 in
     let read = subst (λ r. Reads c.loop-part.reader (line_in part) r c.read.new.self) c.in_err-at_line.ensures.0 c.read.ensures in
-    let bad = stops all (take k all) part (drop (suc k) all) c.loop-part.number c.loop-part.reader c.read.new.self (line_in part) fault.cause refl next.1 c.loop-part.invariant read in
+    let bad = stops all (take k all) part (drop (suc k) all) c.loop-part.number c.loop-part.reader c.read.new.self
+    (line_in part) fault.cause refl next.1 c.loop-part.invariant read in
     let p = err_from_is_err_and c.from_residual.result c.from_residual.ensures.1 in
     rw (p.1, p.2) (fails all c.args.tail.now c.loop-part.number fault c.in_err-at_line.ensures.1 bad)
 
 pub returns : goal.returns
 returns g c =
     let all = map (λ (p : Bor (List ℕ)). p.now) c.args.parts.now in
-    let read = subst (λ l. IsReading l c.loop-part.number c.loop-part.reader) (all_parts c.args.parts.now c.loop-part.part-index (omega arith)) c.loop-part.invariant in
+    let read = subst (λ l. IsReading l c.loop-part.number c.loop-part.reader)
+    (all_parts c.args.parts.now c.loop-part.part-index (omega arith)) c.loop-part.invariant in
     let none = is_nothing c.args.tail.now (sym c.if-not-is_empty.ensures) in
     answers all c.args.tail.now c.loop-part.number c.loop-part.reader c.finish.result c.at_line-2.result none read c.finish.ensures c.at_line-2.ensures

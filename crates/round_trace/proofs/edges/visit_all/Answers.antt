@@ -2,7 +2,7 @@ use Rattle.std.proofs.Common.{◌≡◌, ◌+◌, ◌∷◌, [], ◌++◌, ℕ, 
 use Rattle.std.proofs.lemmas.List.{take_more}
 use Rattle.lab_plan.specs.LabPlan.{LabPlan, edges_of}
 use Rattle.legal_steps.specs.State.{IsOwn}
-use Rattle.turns.proofs.OwnEdges.{own_at}
+use Rattle.legal_steps.proofs.OwnEdges.{own_at}
 use Rattle.round_trace.specs.Doing.{VisitsEdges}
 use Rattle.round_trace.proofs.Visiting.{visits_both}
 use Rattle.round_trace.proofs.edges.visit_all.Goals as goal

@@ -11,8 +11,9 @@ returns-clause-plays g c =
     turned c.args.world.now c.visit_all.new.world c.act.new.world c.args.events.now.items c.visit_all.new.events.items c.act.new.events.items x
     c.waited_in-waited.result
     c.requires.job c.requires.stands c.in_ok-visit_all.ensures c.in_ok-act.ensures
-    (c.waited_in-waited.ensures ∙ ap (λ (p : JobState). waited_in (waits x) p.session) c.job-before.ensures) _
-    (c.note.ensures ∙ (λ i. record { job = x.job; waited = waited_then (waits x) (is_waiting (c.job-before.ensures i).drinking) (c.job.ensures i) }))
+    (c.waited_in-waited.ensures ∙ ap (λ (p : JobState). waited_in (waits x) p.session) c.job-before.ensures.phase) _
+    (c.note.ensures
+    ∙ (λ i. record { job = x.job; waited = waited_then (waits x) (is_waiting (c.job-before.ensures.phase i).drinking) (c.job.ensures.phase i) }))
 
 pub returns-clause-stands : goal.returns-clause-stands
 returns-clause-stands g c =

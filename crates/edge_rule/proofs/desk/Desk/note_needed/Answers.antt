@@ -1,8 +1,8 @@
-use Rattle.std.proofs.Common.{◌<◌, length, sym, ap, subst, arith}
+use Rattle.std.proofs.Common.{◌<◌, length, ap, subst}
 use Rattle.lab_plan.specs.LabPlan.{edges}
 use Rattle.legal_steps.specs.State.{Seat, session as session_at}
 use Rattle.edge_rule.specs.DeskView.{DeskView, known}
-use Rattle.edge_rule.specs.NeededBottles.{AreNamed}
+use Rattle.lab_plan.specs.NeededBottles.{AreNamed}
 use Rattle.edge_rule.proofs.DeskSteps.{of_seat}
 use Rattle.edge_rule.proofs.NotedNeeds.{one_more}
 use Rattle.one_history.specs.Grow.{hand_in}

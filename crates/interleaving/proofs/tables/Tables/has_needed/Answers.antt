@@ -1,7 +1,7 @@
 use Rattle.std.proofs.Common.{refl}
 use Rattle.std.proofs.lemmas.Bool.{false≢true}
 use Rattle.legal_steps.specs.Legal.{HasNeededAt}
-use Rattle.interleaving.proofs.OwnEdges.{own_at, at_own_edges}
+use Rattle.legal_steps.proofs.OwnEdges.{own_at, at_own_edges}
 use Rattle.interleaving.proofs.tables.Tables.has_needed.Goals as goal
 
 pub has_needed_at-requires-clause-is_edge : goal.has_needed_at-requires-clause-is_edge

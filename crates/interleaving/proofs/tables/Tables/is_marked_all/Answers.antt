@@ -1,7 +1,7 @@
 use Rattle.std.proofs.Common.{◌≡◌, true, ◌∙◌, sym, refl}
 use Rattle.std.proofs.lemmas.Bool.{false≢true}
 use Rattle.legal_steps.specs.State.{fork_mark}
-use Rattle.interleaving.proofs.OwnEdges.{own_at, at_own_edges}
+use Rattle.legal_steps.proofs.OwnEdges.{own_at, at_own_edges}
 use Rattle.interleaving.proofs.tables.Tables.is_marked_all.Goals as goal
 
 pub fork_mark-requires-clause-is_edge : goal.fork_mark-requires-clause-is_edge

@@ -3,7 +3,7 @@ use Rattle.legal_steps.specs.State.{State, Seat, Setting, idle_phase}
 use Rattle.legal_steps.specs.Fitting.{Fits}
 use Rattle.interleaving.specs.Rooms.{HasRooms}
 use Rattle.interleaving.proofs.OpeningTables.{opening_shown, opening_fits}
-use Rattle.interleaving.proofs.RoomLemmas.{have_rooms}
+use Rattle.interleaving.proofs.LogLemmas.{have_rooms}
 use Rattle.interleaving.proofs.tables.Tables.opened.Goals as goal
 
 pub invariant_of-result : goal.invariant_of-result

@@ -2,7 +2,7 @@ use Rattle.std.proofs.Common.{◌≡◌, slice_index_or, arith, sym, ◌∙◌, 
 use Rattle.std.proofs.lemmas.Bool.{cases_lt, false≢true}
 use Rattle.legal_steps.specs.Precedence.{PrecedesOn}
 use Rattle.legal_steps.proofs.FitsLaw.{own_is_job}
-use Rattle.interleaving.proofs.OwnEdges.{own_at, at_own_edges, get_default}
+use Rattle.legal_steps.proofs.OwnEdges.{own_at, at_own_edges, get_default}
 use Rattle.interleaving.proofs.PrecedenceLemmas.{precedes_own, both_equal}
 use Rattle.interleaving.proofs.tables.Tables.precedes.Goals as goal
 

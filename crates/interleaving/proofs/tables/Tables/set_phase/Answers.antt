@@ -3,7 +3,7 @@ use Rattle.std.proofs.lemmas.List.{get_or_read}
 use Rattle.lab_plan.specs.LabPlan.{LabPlan}
 use Rattle.instrument_log.specs.InstrumentLog.{LogView}
 use Rattle.legal_steps.specs.State.{State, Seat, Setting, seat}
-use Rattle.interleaving.specs.Phases.{IsPhaseOf}
+use Rattle.legal_steps.specs.Fitting.{IsPhaseOf}
 use Rattle.legal_steps.proofs.FitsWrites.{fits_with_seat}
 use Rattle.interleaving.proofs.FitLemmas.{seat_with_phase}
 use Rattle.interleaving.proofs.tables.Tables.set_phase.Goals as goal

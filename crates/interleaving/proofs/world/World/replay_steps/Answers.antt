@@ -1,5 +1,5 @@
 use Rattle.std.proofs.Common.{◌<◌, length, arith}
-use Rattle.legal_steps.specs.Steps.{events_of}
+use Rattle.legal_steps.specs.Steps.{step_events}
 use Rattle.interleaving.proofs.StepsLemmas.{steps_of, step_events_length, event_here}
 use Rattle.interleaving.proofs.WorldLemmas.{leads_more, leads_all, stops_here}
 use Rattle.interleaving.proofs.world.World.replay_steps.Goals as goal
@@ -8,7 +8,7 @@ pub returns-in-Err : goal.returns-in-Err
 returns-in-Err g c =
     let w = c.args.self.now in
     let lines = c.args.steps.now in
-    let events = events_of w.plan w.state (steps_of lines) in
+    let events = step_events w.plan w.state (steps_of lines) in
     let kept = c.loop-line.invariant in
     let is = event_here w.plan w.state lines c.loop-line.line-index c.line-item.result c.loop-line.self.state
     c.event_of-event.result c.loop-line-test.true c.line-item.is kept.led.run.leads c.event_of-event.ensures in
@@ -20,7 +20,7 @@ pub loop-line-preserved : goal.loop-line-preserved
 loop-line-preserved g c =
     let w = c.args.self.now in
     let lines = c.args.steps.now in
-    let events = events_of w.plan w.state (steps_of lines) in
+    let events = step_events w.plan w.state (steps_of lines) in
     let kept = c.loop-line.invariant in
     let is = event_here w.plan w.state lines c.loop-line.line-index c.line-item.result c.loop-line.self.state
     c.event_of-event.result c.loop-line-test.true c.line-item.is kept.led.run.leads c.event_of-event.ensures in
@@ -36,7 +36,7 @@ pub returns : goal.returns
 returns g c =
     let w = c.args.self.now in
     let lines = c.args.steps.now in
-    let events = events_of w.plan w.state (steps_of lines) in
+    let events = step_events w.plan w.state (steps_of lines) in
     let kept = c.loop-line.invariant in
     let count = step_events_length w.plan w.state lines in (
       omega (arith, count, kept.done_all, c.loop-line-test.false, c.loop-line.auto),

@@ -1,12 +1,12 @@
 use Rattle.std.proofs.Common.{[], ◌∷◌, sym, subst}
 use Rattle.interleaving.specs.Counting.{GoOnBy}
 use Rattle.interleaving.specs.World.{IsReachedWith}
-use Rattle.interleaving.proofs.WorldLemmas.{is_reached, takes_entry, can_count, reached_with}
+use Rattle.interleaving.proofs.WorldLemmas.{takes_entry, can_count, reached_with}
 use Rattle.interleaving.proofs.CountLemmas.{goes_on}
 use Rattle.interleaving.proofs.world.World.step.Goals as goal
 
 pub step-requires : goal.step-requires
-step-requires g c = takes_entry _ _ c.args.event (is_reached _ _ _ c.self.invariant)
+step-requires g c = takes_entry _ _ c.args.event c.self.invariant.reached
 
 pub count-requires : goal.count-requires
 count-requires g c = can_count _ _ _ c.args.event c.self.invariant c.in_ok-step.ensures.0.may

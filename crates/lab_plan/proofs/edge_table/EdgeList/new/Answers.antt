@@ -1,5 +1,5 @@
 use Rattle.std.proofs.Common.{sym, ◌∙◌}
-use Rattle.lab_plan.specs.PairTables.{has_end}
+use Rattle.lab_plan.specs.LabPlan.{has_end}
 use Rattle.lab_plan.proofs.Ranges.{kept_yes, kept_no}
 use Rattle.lab_plan.proofs.edge_table.EdgeList.new.Goals as goal
 use Rattle.lab_plan.proofs.edge_table.EdgeList.new.Goals.{then-has_end+in_ok-push, else-has_end}
