@@ -9,7 +9,7 @@ use Rattle.legal_steps.specs.declared.phase.Drinking.TheVariants.{Thirsty}
 use Rattle.legal_steps.specs.State.{State, IsOwn, IsOfEdge, Has, drinking}
 use Rattle.legal_steps.specs.Legal.{May, MayGiveBottle, MayAskBottle, IsBottleSet}
 use Rattle.turns.specs.Due.{IsGreatest}
-use Rattle.turns.proofs.Sets.{subset, member_below}
+use Rattle.legal_steps.proofs.BottleSets.{subset, member_below}
 use Rattle.drinking_layer.proofs.AllAtOnce.{may_ask_all}
 
 module _ (plan : LabPlan) (s : State) (j e set all : ℕ) where

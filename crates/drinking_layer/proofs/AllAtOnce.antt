@@ -14,7 +14,7 @@ use Rattle.edge_rule.specs.declared.calls.Stepped.TheVariants as stepped
 use Rattle.locality.specs.Patience.{is_waiting}
 use Rattle.edge_rule.specs.DeskView.{DeskView, known, Tried as SteppedTo}
 use Rattle.turns.specs.Due.{IsGreatest}
-use Rattle.turns.proofs.Sets.{has_none, member_below, empty_set}
+use Rattle.legal_steps.proofs.BottleSets.{has_none, member_below, empty_set}
 use Rattle.dining_layer.specs.declared.answers.Tried.TheVariants.{NotLegal}
 use Rattle.dining_layer.specs.Tries.{tried_as}
 use Rattle.dining_layer.proofs.Trying.{one_move}

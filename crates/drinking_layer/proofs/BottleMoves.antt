@@ -15,7 +15,7 @@ use Rattle.edge_word.specs.declared.moves.EdgeMoves.{EdgeMoves}
 use Rattle.edge_word.specs.Moves.{when}
 use Rattle.turns.specs.Due.{fork_gone, fork_asked_for, IsGreatest}
 use Rattle.drinking_layer.specs.Local.{NeedsIn, has_instruments, is_thirsty, without, tokens_at, kept, gifts, wishes}
-use Rattle.turns.proofs.Sets.{has_and, has_without, has_none, at_end, at_end_fits, without_fits}
+use Rattle.legal_steps.proofs.BottleSets.{has_and, has_without, has_none, at_end, at_end_fits, without_fits}
 use Rattle.turns.proofs.ForkGuards.{at_here, here_at}
 use Rattle.turns.proofs.Stages.{Stage, stage_one, stage_three, edge_one, edge_two, edge_three}
 

@@ -1,5 +1,5 @@
 //! Which bottles a job needs, gives and asks for on an edge, by the edge as it was seen and the own phase.
-ghost use Rattle.std.specs.Prelude.{◌≡◌, ◌↔◌, ◌<◌, IsTrue, length};
+ghost use Rattle.std.specs.Prelude.{◌≡◌, ◌<◌, length};
 ghost use Rattle.lab_plan.specs.LabPlan.{edges};
 ghost use Rattle.lab_plan.specs.NeededBottles.{AreNamed};
 ghost use Rattle.legal_steps.specs.State.{IsInSession, drinking as drinking_at, session as session_at};
@@ -11,14 +11,6 @@ use edge_rule::{Bench, Desk};
 use lab_plan::{EdgeNo, Plan};
 use legal_steps::{Drinking, EdgeState, End, JobState};
 use std::alloc::Allocator;
-
-fn is_in_session(drinking: Drinking) -> bool
-    ensures { IsTrue result ↔ IsInSession drinking }
-{
-    drinking == Drinking::Thirsty
-        || drinking == Drinking::Drinking
-        || drinking == Drinking::Reaching
-}
 
 // The bottles of the edge that the job's session needs.
 fn named_bottles<A: Allocator>(bench: &Bench<A>, desk: &Desk<A>, edge: EdgeNo) -> u32
@@ -37,7 +29,7 @@ pub fn note_needed<A: Allocator>(bench: &Bench<A>, desk: &mut Desk<A>, edge: Edg
     requires edge { edge < length (edges desk.old.plan) }
     ensures { desk.new ≡ desk.old }
 {
-    if is_in_session(desk.phase().drinking) && desk.needed(edge).is_none() {
+    if desk.phase().is_in_session() && desk.needed(edge).is_none() {
         let bottles = named_bottles(bench, desk, edge);
         desk.note_needed(edge, bottles);
     }
@@ -50,7 +42,7 @@ pub(crate) fn needed_bottles<A: Allocator>(bench: &Bench<A>, desk: &Desk<A>, edg
     requires edge { edge < length (edges desk.now.plan) }
     ensures { AreNeededNow desk.now edge result }
 {
-    if !is_in_session(desk.phase().drinking) {
+    if !desk.phase().is_in_session() {
         return 0;
     }
     match desk.needed(edge) {

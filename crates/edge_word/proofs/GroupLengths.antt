@@ -65,6 +65,7 @@ one_at_least false true false true true v w x y z some = omega arith
 one_at_least false true false true false v w x y z some = absurd (false≢true (sym some))
 
 pub legal_groups_are_short : LegalGroupsAreShort
-legal_groups_are_short = λ plan s j e m legal some.
-    (one_at_least m.give_fork (m.give_bottles == 0) m.ask_fork (m.ask_bottles == 0) m.soil _ _ _ _ _ some,
-      at_most_four plan s j e m m.ask_fork m.soil legal refl refl)
+legal_groups_are_short = λ plan s j e m legal some. (
+  one_at_least m.give_fork (m.give_bottles == 0) m.ask_fork (m.ask_bottles == 0) m.soil _ _ _ _ _ some,
+  at_most_four plan s j e m m.ask_fork m.soil legal refl refl,
+)

@@ -32,7 +32,7 @@ pub struct EdgeWord {
 
 impl Model for EdgeWord {
     ghost use Rattle.lab_plan.specs.Limits.{most_bottles};
-ghost use Rattle.legal_steps.specs.declared.edge_state.EdgeState.{EdgeState};
+    ghost use Rattle.legal_steps.specs.declared.edge_state.EdgeState.{EdgeState};
     ghost use Rattle.std.proofs.Common.{ap};
     ghost use Rattle.edge_word.specs.Words.{word_of, state_of, IsEdgeWord};
     ghost use Rattle.edge_word.specs.WordCodec.{word_of-state_of};

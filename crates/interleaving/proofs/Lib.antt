@@ -1,5 +1,4 @@
 pub mod FitLemmas
-pub mod BottleLemmas
 pub mod LogLemmas
 pub mod CountLemmas
 pub mod WorldLemmas

@@ -59,7 +59,7 @@ impl<'a, A: Allocator> Tables<'a, A> {
     }
 
     // The bottles of the edge that the job keeps: those that it needs, while it drinks or has the fork.
-    #[tactic(auto, using(crate::proofs::BottleLemmas::has_none))]
+    #[tactic(auto, using(legal_steps::proofs::BottleSets::has_none))]
     fn kept_bottles(&self, job: JobNo, edge: EdgeNo) -> u32
         requires { IsOwn self.now.plan job edge }
         ensures { (k : ℕ) → k < length (bottles self.now.plan edge) → Has result k ↔ (Needs self.now.plan self.now.state job (instrument_of self.now.plan edge k) × (IsDrinking (phase_at self.now.state job) ⊎ Here self.now.plan job edge (fork self.now.state edge))) }
@@ -98,7 +98,7 @@ impl<'a, A: Allocator> Tables<'a, A> {
         self.owns(job, edge) && self.is_bottle_set(edge, set) && self.may_give_all(job, edge, set)
     }
 
-    #[tactic(auto, using(std::proofs::lemmas::Nat::xor_lt, crate::proofs::BottleLemmas::cleared_below))]
+    #[tactic(auto, using(std::proofs::lemmas::Nat::xor_lt, legal_steps::proofs::BottleSets::without_fits))]
     pub(crate) fn give_bottles(&mut self, job: JobNo, edge: EdgeNo, set: u32)
         requires { May self.old.plan self.old.state (GiveBottles job edge set) }
         ensures state { self.new.state ≡ after self.old.plan self.old.state (GiveBottles job edge set) }

@@ -1,13 +1,13 @@
 // What a job needs: marks on its edges, and bottles.
 ghost use Rattle.std.specs.Prelude.{◌≡◌, ℕ, ◌<◌, ◌≤◌, ◌↔◌, IsTrue, length};
+ghost use Rattle.lab_plan.specs.Limits.{most_bottles};
 ghost use Rattle.lab_plan.specs.LabPlan.{edges, edges_of, bottles};
-ghost use Rattle.legal_steps.specs.State.{IsOwn, IsInSession, IsDrinking, Has, phase as phase_at};
+ghost use Rattle.legal_steps.specs.State.{IsOwn, IsDrinking, Has, phase as phase_at};
 ghost use Rattle.legal_steps.specs.Legal.{IsJob, IsMarkedAll, HasNeeded, HasNeededAt, Needs, instrument_of};
 
 use crate::bottles::has;
 use crate::tables::Tables;
 use lab_plan::{EdgeNo, JobNo};
-use legal_steps::Drinking;
 use std::alloc::Allocator;
 
 impl<'a, A: Allocator> Tables<'a, A> {
@@ -35,20 +35,20 @@ impl<'a, A: Allocator> Tables<'a, A> {
     pub(crate) fn bottles(&self, edge: EdgeNo) -> u32
         requires { edge < length (edges self.now.plan) }
         ensures len { result ≡ length (bottles self.now.plan edge) }
-        ensures few { result ≤ 28 }
+        ensures few { result ≤ most_bottles }
     {
         self.plan().bottles(edge)
     }
 
     // The bottles of the edge that the job needs: none where it is in no session.
-    #[tactic(auto, unfolding(legal_steps::specs::State::Has), using(crate::proofs::BottleLemmas::has_none))]
+    #[tactic(auto, unfolding(legal_steps::specs::State::Has), using(legal_steps::proofs::BottleSets::has_none))]
     pub(crate) fn needed_bottles(&self, job: JobNo, edge: EdgeNo) -> u32
         requires is_job { IsJob self.now.plan job }
         requires is_edge { edge < length (edges self.now.plan) }
         ensures { (k : ℕ) → k < length (bottles self.now.plan edge) → Has result k ↔ Needs self.now.plan self.now.state job (instrument_of self.now.plan edge k) }
     {
         let phase = self.phase(job);
-        if !is_in_session(phase.drinking) {
+        if !phase.is_in_session() {
             return 0;
         }
         self.plan().needed_bottles(job, phase.session, edge)
@@ -89,15 +89,6 @@ impl<'a, A: Allocator> Tables<'a, A> {
         requires { IsJob self.now.plan job }
         ensures { IsTrue result ↔ IsDrinking (phase_at self.now.state job) }
     {
-        let phase = self.phase(job);
-        phase.drinking == Drinking::Drinking || phase.drinking == Drinking::Reaching
+        self.phase(job).is_drinking()
     }
-}
-
-fn is_in_session(drinking: Drinking) -> bool
-    ensures { IsTrue result ↔ IsInSession drinking }
-{
-    drinking == Drinking::Thirsty
-        || drinking == Drinking::Drinking
-        || drinking == Drinking::Reaching
 }

@@ -8,6 +8,7 @@ use Rattle.std.proofs.lemmas.Nat.{or_lt}
 use Rattle.std.proofs.lemmas.Nat.Bits.{bit_at_set_same, bit_at_set_other, bit_at_above}
 use Rattle.std.proofs.lemmas.List.Elements.{All-filter}
 use Rattle.std.proofs.lemmas.List.FromFn.{get_or-range_with_len, length-range_with_len}
+use Rattle.lab_plan.specs.Limits.{most_instruments}
 use Rattle.lab_plan.specs.LabPlan.{LabPlan, bottles, common, ends, both_name, instrument_numbers, commands}
 use Rattle.lab_plan.specs.IsPlan.{IsPlan}
 use Rattle.lab_plan.specs.InstrumentSets.{holds}
@@ -55,7 +56,7 @@ unfolding common
 below_all plan e =
     All-filter (both_name plan (ends plan e)) (λ i. i < length plan.instruments) (instrument_numbers plan) (numbers_below (length plan.instruments))
 
-pub small_instruments : (plan : LabPlan) (e : ℕ) → IsPlan plan → All (λ i. i < 56) (bottles plan e)
+pub small_instruments : (plan : LabPlan) (e : ℕ) → IsPlan plan → All (λ i. i < most_instruments) (bottles plan e)
 small_instruments plan e is k d inside = omega (arith, below_all plan e k d inside, is.draft.few_instruments)
 
 pub are_named : (plan : LabPlan) (j s e set : ℕ) (table : SessionTable) → IsTable (commands plan j s) table → set < 2 ^ length (bottles plan e)

@@ -71,7 +71,7 @@ place_at plan j s k = place_in (commands plan j s) k
 abbrev pub length_at : LabPlan → ℕ → ℕ → ℕ → ℕ
 length_at plan j s k = part plan j s (command_at plan j s k).0
 
--- some of the commands is on the instrument
+-- one of the commands is on the instrument
 abbrev pub any_on : ℕ → List (ℕ × Verb) → Bool
 any_on i all = list_any (λ command. command.0 == i) all
 

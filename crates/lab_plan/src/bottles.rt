@@ -78,7 +78,7 @@ impl<A: Allocator> Bottles<A> {
     /// The bottles whose instruments are in the set, as a set: bit k stands for bottle k.
     pub(crate) fn within(&self, instruments: InstrumentSet) -> u32
         requires few { length self.now ≤ most_bottles }
-        requires numbered { All (λ i. i < 56) self.now }
+        requires numbered { All (λ i. i < most_instruments) self.now }
         ensures of_edge { result < 2 ^ length self.now }
         ensures just { (k : ℕ) → k < length self.now → (bit_at result k ≡ 1) ↔ (holds instruments (slice_index_or self.now k 0) ≡ true) }
     {

@@ -14,7 +14,7 @@ use Rattle.legal_steps.specs.Legal.{May, after, with_edge, with_seat, with_phase
 use Rattle.legal_steps.proofs.FitsWrites.{seat_same, seat_cases, edge_cases}
 use Rattle.legal_steps.proofs.FitsLaw.{own_is_job}
 use Rattle.legal_steps.proofs.ForkEnds.{one_at_end}
-use Rattle.legal_steps.proofs.BottleSets.{bottle_end_stays, has_cleared, has_bottles_at}
+use Rattle.legal_steps.proofs.BottleSets.{bottle_end_stays, has_without, at_end}
 
 -- a bottle mark says that the bottle is here; a drinking job has every bottle that its session names
 pub record IsServed (plan : LabPlan) (s : State) : Type 0 where
@@ -124,7 +124,7 @@ served_after plan s (Look j e seen) fit h may =
     let job = own_is_job plan j e may.0 in
     looks plan s j e (bottles_at plan e (end_of plan j e) seen) _ (omega (arith, fit.seats_there, job))
     (omega (arith, may.0.is_edge, (fit.seats_fit j job).bottle_marks_there)) refl refl
-    (λ k small set. ap (λ (y : EdgeState). bottle_end y.bottles k) (sym may.1) ∙ has_bottles_at plan e k (end_of plan j e) seen small set) h
+    (λ k small set. ap (λ (y : EdgeState). bottle_end y.bottles k) (sym may.1) ∙ (at_end plan e (end_of plan j e) seen k small).0 set) h
 served_after plan s (AskFork j e) fit h may = other_edge plan s e _ (omega (arith, may.0.is_edge, fit.edges_there)) refl h
 served_after plan s (GiveFork j e) fit h may =
     other_seat plan (with_edge s e _) j _ (omega (arith, fit.seats_there, own_is_job plan j e may.0)) refl
@@ -141,13 +141,13 @@ served_after plan s (GiveBottles j e set) fit h may =
     let inside : j < length s.seats = omega (arith, fit.seats_there, job) in
     let there : e < length (seat s j).bottle_marks = omega (arith, may.0.is_edge, (fit.seats_fit j job).bottle_marks_there) in
     let s1 = with_seat s j x in
-    let h1 = looks plan s j e left x inside there refl refl (λ k small set'. h.marked j e k may.0 small (has_cleared marks set k set').0) h in
+    let h1 = looks plan s j e left x inside there refl refl (λ k small set'. h.marked j e k may.0 small ((has_without marks set k).0 set').0) h in
     let now : seat s1 j ≡ x = seat_same s j x inside in
     let own_marks : bottle_marks s1 j e ≡ left =
     ap (λ (y : Seat). slice_index_or y.bottle_marks e 0) now ∙ get_or-set_same (seat s j).bottle_marks e left 0 there in
     gives plan s1 e set _ (omega (arith, may.0.is_edge, fit.edges_there)) refl
     (λ a k own small member mark. elim (cases_eq a j) [
-      | inl same ↦ (has_cleared marks set k (subst (λ n. Has n k) own_marks (subst (λ n. Has (bottle_marks s1 n e) k) same mark))).1 member
+      | inl same ↦ ((has_without marks set k).0 (subst (λ n. Has n k) own_marks (subst (λ n. Has (bottle_marks s1 n e) k) same mark))).1 member
       | inr other ↦ other (one_at_end plan a j e own may.0 (sym (h1.marked a e k own small mark) ∙ (may.2 k member).bottle_here))
     ])
     (λ a k own small member drinks named. elim (cases_eq a j) [

@@ -1,17 +1,85 @@
--- Sets of bottles, bit by bit.
-use Rattle.std.proofs.Common.{◌≡◌, ◌⊎◌, ℕ, zero, suc, ◌^◌, ◌<◌, length, slice_index_or, replicate, arith, refl, inl, inr}
-use Rattle.std.proofs.lemmas.Bool.{cases_eq, cases_lt}
+-- Sets of bottles, bit by bit. Every crate above takes its lemmas on sets from here.
+use Rattle.std.proofs.Common.{◌≡◌, ◌↔◌, ◌⊎◌, ◌-◌, ◌==◌, ℕ, zero, suc, min, length, slice_index_or, replicate, if◌then◌else◌, ◌+◌, ◌%◌, ◌^◌, ◌<◌, bit_and, bit_xor, arith, refl, inl, inr, sym, ap, ◌∙◌}
 use Rattle.std.specs.Int.{bit_at}
-use Rattle.std.specs.Prelude.{bit_xor, bit_and}
-use Rattle.std.proofs.lemmas.Nat.Bits.{bit_at_xor, bit_at_and, bit_at-lt, bit_at_ones, bit_at_above, bit_at-zero}
+use Rattle.std.proofs.lemmas.Bool.{cases_lt}
+use Rattle.std.proofs.lemmas.Nat.{xor_lt, and_le_l, pow_pos}
+use Rattle.std.proofs.Math.Pow.{ones_lt}
+use Rattle.std.proofs.lemmas.Nat.Bits.{bit_at_above, bit_at_and, bit_at_xor, bit_at-lt, bit_at-zero, bit_at_ones, same_from_bits, same_from_bits_below}
 use Rattle.lab_plan.specs.LabPlan.{LabPlan, bottles}
+use Rattle.lab_plan.proofs.Bits.{bit_cases}
 use Rattle.legal_steps.specs.declared.end.End.{End}
 use Rattle.legal_steps.specs.declared.end.End.TheVariants.{Lower, Higher}
 use Rattle.legal_steps.specs.declared.edge_state.EdgeState.{EdgeState}
-use Rattle.legal_steps.specs.State.{Has, opposite, bottle_end, bottles_at, all_bottles}
+use Rattle.legal_steps.specs.State.{Has, IsOfEdge, opposite, bottle_end, bottles_at}
 
-pub bit_cases : (n k : ℕ) → (bit_at n k ≡ 0) ⊎ (bit_at n k ≡ 1)
-bit_cases n k = let low = bit_at-lt n k in elim (cases_eq (bit_at n k) 0) [ inl h ↦ inl h | inr h ↦ inr (omega arith) ]
+-- ---- members
+
+-- the empty set has no member, and a set without members is empty
+pub has_none : (k : ℕ) → ¬ Has 0 k
+unfolding Has
+has_none k h = let z = bit_at-zero k in absurd (omega (arith, z, h))
+
+-- the members of a set below 2 ^ n are below n
+pub member_below : (set n k : ℕ) → set < 2 ^ n → Has set k → k < n
+unfolding Has
+member_below set n k below member = elim (cases_lt k n) [ inl h ↦ h | inr h ↦ absurd (omega (arith, bit_at_above set n k below h, member)) ]
+
+pub empty_set : (n set : ℕ) → set < 2 ^ n → ((k : ℕ) → k < n → ¬ Has set k) → set ≡ 0
+unfolding Has
+empty_set n set below none = same_from_bits_below n set 0 below (pow_pos n) (λ k l. elim (bit_cases set k) [
+  | inl b0 ↦ b0 ∙ sym (bit_at-zero k)
+  | inr b1 ↦ absurd (none k l b1)
+])
+
+pub has_and : (a b k : ℕ) → Has (bit_and a b) k ↔ (Has a k × Has b k)
+unfolding Has
+has_and a b k = let e = bit_at_and a b k in let la = bit_at-lt a k in let lb = bit_at-lt b k in
+    (λ h. (omega (arith, e, h, la, lb), omega (arith, e, h, la, lb)), λ q. let p = q.0 in let r = q.1 in omega (arith, e, p, r))
+
+-- the members of a set that are not in the other
+abbrev pub without : ℕ → ℕ → ℕ
+without a b = bit_xor a (bit_and a b)
+
+pub has_without : (a b k : ℕ) → Has (without a b) k ↔ (Has a k × ¬ Has b k)
+unfolding Has
+has_without a b k =
+    let e : bit_at (without a b) k ≡ (bit_at a k + min (bit_at a k) (bit_at b k)) % 2 =
+    bit_at_xor a (bit_and a b) k ∙ ap (λ z. (bit_at a k + z) % 2) (bit_at_and a b k) in
+    elim (bit_cases a k) [
+      | inl a0 ↦ elim (bit_cases b k) [
+        | inl b0 ↦ let z : bit_at (without a b) k ≡ 0 = e ∙ (λ i. (a0 i + min (a0 i) (b0 i)) % 2) in
+            (λ h. absurd (omega (arith, h, z)), λ q. let p = q.0 in absurd (omega (arith, p, a0)))
+        | inr b1 ↦ let z : bit_at (without a b) k ≡ 0 = e ∙ (λ i. (a0 i + min (a0 i) (b1 i)) % 2) in
+            (λ h. absurd (omega (arith, h, z)), λ q. let p = q.0 in absurd (omega (arith, p, a0)))
+      ]
+      | inr a1 ↦ elim (bit_cases b k) [
+        | inl b0 ↦ let z : bit_at (without a b) k ≡ 1 = e ∙ (λ i. (a1 i + min (a1 i) (b0 i)) % 2) in (λ h. (a1, λ r. absurd (omega (arith, r, b0))), λ q. z)
+        | inr b1 ↦ let z : bit_at (without a b) k ≡ 0 = e ∙ (λ i. (a1 i + min (a1 i) (b1 i)) % 2) in (λ h. absurd (omega (arith, h, z)), λ q. absurd (q.1 b1))
+      ]
+    ]
+
+pub without_fits : (n a b : ℕ) → a < 2 ^ n → without a b < 2 ^ n
+without_fits n a b h = xor_lt n a (bit_and a b) h (omega (arith, h, and_le_l a b))
+
+-- a set within another
+pub subset : (a b : ℕ) → (bit_and a b ≡ a) ↔ ((k : ℕ) → Has a k → Has b k)
+unfolding Has
+subset a b = (
+  λ e k h. ((has_and a b k).0 (ap (λ z. bit_at z k) e ∙ h)).1,
+  λ all. same_from_bits (bit_and a b) a (λ k. elim (bit_cases a k) [
+    | inl a0 ↦ let e = bit_at_and a b k in omega (arith, e, a0)
+    | inr a1 ↦ let e = bit_at_and a b k in let q = all k a1 in omega (arith, e, a1, q)
+  ]),
+)
+
+-- nothing is marked in a list of empty sets
+pub no_marks : (n e k : ℕ) → Has (slice_index_or (replicate n 0) e 0) k → ⊥
+unfolding Has
+no_marks zero e k h = absurd (omega (arith, bit_at-zero k, h))
+no_marks (suc n) zero k h = absurd (omega (arith, bit_at-zero k, h))
+no_marks (suc n) (suc e) k h = no_marks n e k h
+
+-- ---- the ends of bottles
 
 -- a bottle of the set changes its end, and another stays
 pub bottle_end_flips : (b set k : ℕ) → Has set k → bottle_end (bit_xor b set) k ≡ opposite (bottle_end b k)
@@ -28,32 +96,39 @@ bottle_end_stays b set k other = elim (bit_cases set k) [
   | inl h ↦ elim (bit_cases b k) [ inl g ↦ rw (bit_at_xor b set k, h, g) refl | inr g ↦ rw (bit_at_xor b set k, h, g) refl ]
 ]
 
--- a mark is left where the bottle isn't given
-pub has_cleared : (marks set k : ℕ) → Has (bit_xor marks (bit_and marks set)) k → Has marks k × (Has set k → ⊥)
-unfolding Has
-has_cleared marks set k h = elim (bit_cases marks k) [
-  | inl m ↦ absurd (omega (arith, h, bit_at_xor marks (bit_and marks set) k, bit_at_and marks set k, m))
-  | inr m ↦ (m, λ g. omega (arith, h, bit_at_xor marks (bit_and marks set) k, bit_at_and marks set k, m, g))
+end_bits : (set k : ℕ) → (bottle_end set k ≡ Higher) ↔ Has set k
+unfolding Has bottle_end
+end_bits set k = elim (bit_cases set k) [
+  | inl no_bit ↦ let z : (if bit_at set k == 0 then Lower else Higher) ≡ Lower = ap (λ n. if n == 0 then Lower else Higher) no_bit in
+      (λ h. let q : Lower ≡ Higher = sym z ∙ h in absurd (cc), λ h. absurd (omega (arith, no_bit, h)))
+  | inr one ↦ (λ h. one, λ h. ap (λ n. if n == 0 then Lower else Higher) one)
 ]
 
--- what a look marks is here
-pub has_bottles_at : (plan : LabPlan) (e k : ℕ) (here : End) (x : EdgeState)
-    → k < length (bottles plan e) → Has (bottles_at plan e here x) k → bottle_end x.bottles k ≡ here
-unfolding Has bottles_at bottle_end
-has_bottles_at plan e k Higher x inside h = rw h refl
-has_bottles_at plan e k Lower x inside h = elim (bit_cases x.bottles k) [
-  | inl g ↦ rw g refl
-  | inr g ↦ absurd (omega (arith, h, bit_at_xor (all_bottles plan e) x.bottles k, bit_at_ones (length (bottles plan e)) k inside, g))
+end_none : (set k : ℕ) → (bottle_end set k ≡ Lower) ↔ (¬ Has set k)
+unfolding Has bottle_end
+end_none set k = elim (bit_cases set k) [
+  | inl no_bit ↦ (λ h r. absurd (omega (arith, no_bit, r)), λ h. ap (λ n. if n == 0 then Lower else Higher) no_bit)
+  | inr one ↦ let z : (if bit_at set k == 0 then Lower else Higher) ≡ Higher = ap (λ n. if n == 0 then Lower else Higher) one in
+      (λ h. let q : Lower ≡ Higher = sym h ∙ z in absurd (cc), λ h. absurd (h one))
 ]
 
--- the members of a set below 2 ^ n are below n
-pub has_below : (set n k : ℕ) → set < 2 ^ n → Has set k → k < n
+has_rest : (n set k : ℕ) → k < n → Has (bit_xor (2 ^ n - 1) set) k ↔ (¬ Has set k)
 unfolding Has
-has_below set n k below member = elim (cases_lt k n) [ inl h ↦ h | inr h ↦ absurd (omega (arith, bit_at_above set n k below h, member)) ]
+has_rest n set k l = let e : bit_at (bit_xor (2 ^ n - 1) set) k ≡ (1 + bit_at set k) % 2 = bit_at_xor (2 ^ n - 1) set k
+    ∙ ap (λ z. (z + bit_at set k) % 2) (bit_at_ones n k l) in
+    elim (bit_cases set k) [
+      | inl no_bit ↦ (λ h r. absurd (omega (arith, no_bit, r)), λ h. e ∙ ap (λ z. (1 + z) % 2) no_bit)
+      | inr one ↦ let z : bit_at (bit_xor (2 ^ n - 1) set) k ≡ 0 = e ∙ ap (λ z. (1 + z) % 2) one in (λ h r. absurd (omega (arith, h, z)), λ h. absurd (h one))
+    ]
 
--- nothing is marked in a list of empty sets
-pub no_marks : (n e k : ℕ) → Has (slice_index_or (replicate n 0) e 0) k → ⊥
-unfolding Has
-no_marks zero e k h = absurd (omega (arith, bit_at-zero k, h))
-no_marks (suc n) zero k h = absurd (omega (arith, bit_at-zero k, h))
-no_marks (suc n) (suc e) k h = no_marks n e k h
+-- the bottles at an end
+pub at_end : (plan : LabPlan) (e : ℕ) (here : End) (x : EdgeState) (k : ℕ)
+    → k < length (bottles plan e) → Has (bottles_at plan e here x) k ↔ (bottle_end x.bottles k ≡ here)
+unfolding bottles_at
+at_end plan e Higher x k l = let b = end_bits x.bottles k in (b.1, b.0)
+at_end plan e Lower x k l = let b = end_none x.bottles k in let r = has_rest (length (bottles plan e)) x.bottles k l in (λ h. b.1 (r.0 h), λ h. r.1 (b.0 h))
+
+pub at_end_fits : (plan : LabPlan) (e : ℕ) (here : End) (x : EdgeState) → IsOfEdge plan e x.bottles → IsOfEdge plan e (bottles_at plan e here x)
+unfolding bottles_at
+at_end_fits plan e Higher x h = h
+at_end_fits plan e Lower x h = xor_lt (length (bottles plan e)) (2 ^ length (bottles plan e) - 1) x.bottles (ones_lt (length (bottles plan e))) h

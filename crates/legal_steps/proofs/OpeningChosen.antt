@@ -13,7 +13,7 @@ use Rattle.legal_steps.specs.declared.edge_state.EdgeState.{EdgeState}
 use Rattle.legal_steps.specs.declared.edge_state.EndChoice.{EndChoice}
 use Rattle.legal_steps.specs.State.{State, Seat, IsOfEdge, all_bottles, edge, opposite, bottle_end, no_edge}
 use Rattle.legal_steps.specs.Opening.{IsOpening, AreChoices, chosen_edge, opening_of}
-use Rattle.legal_steps.proofs.BottleSets.{bit_cases}
+use Rattle.lab_plan.proofs.Bits.{bit_cases}
 use Rattle.legal_steps.proofs.OpeningChoices.{opening_edge, opening_of_choices, tokens_opposite}
 
 -- two sets with a bottle at one end agree on its bit

@@ -45,6 +45,24 @@ pub struct JobState {
     pub position: u32,
 }
 
+impl JobState {
+    ghost use Rattle.legal_steps.specs.State.{IsDrinking, IsInSession};
+
+    /// Whether the job is in a session: it is thirsty, drinks or reaches.
+    pub fn is_in_session(self) -> bool
+        ensures { IsTrue result ↔ IsInSession self.drinking }
+    {
+        self.drinking == Drinking::Thirsty || self.is_drinking()
+    }
+
+    /// Whether the job holds the instruments of its session: it drinks or reaches.
+    pub fn is_drinking(self) -> bool
+        ensures { IsTrue result ↔ IsDrinking self }
+    {
+        self.drinking == Drinking::Drinking || self.drinking == Drinking::Reaching
+    }
+}
+
 // What the guards ask of the own phase.
 impl JobState {
     ghost use Rattle.legal_steps.specs.declared.phase.Dining.TheVariants.{Eating, Thinking};

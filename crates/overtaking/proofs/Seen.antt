@@ -14,7 +14,7 @@ use Rattle.legal_steps.specs.declared.phase.Dining.TheVariants.{Hungry, Eating}
 use Rattle.legal_steps.specs.declared.edge_state.EdgeState.{EdgeState}
 use Rattle.legal_steps.specs.State.{Has, bottle_end, bottles_at, all_bottles}
 use Rattle.legal_steps.specs.Legal.{IsBottleSet, fork_mark_seen, is_at}
-use Rattle.legal_steps.proofs.BottleSets.{bit_cases}
+use Rattle.lab_plan.proofs.Bits.{bit_cases}
 
 -- ---- forks
 

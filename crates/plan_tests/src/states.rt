@@ -95,12 +95,14 @@ fn phases_after_events(rt: HostRuntime) {
         ..idle
     };
     assert!(rt; idle.in_next_session() == thirsty);
+    assert!(rt; thirsty.is_in_session() && !idle.is_in_session());
     assert!(rt; idle.with_drinking(Drinking::Thirsty).session == 4);
     assert!(rt; thirsty.with_dining(Dining::Hungry).dining == Dining::Hungry);
     let done = JobState {
         position: 3,
         ..thirsty.with_drinking(Drinking::Drinking)
     };
+    assert!(rt; done.is_in_session() && done.is_drinking() && !thirsty.is_drinking());
     assert!(rt; done.out_of_session() == JobState { session: 5, ..idle });
 }
 

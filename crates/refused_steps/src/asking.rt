@@ -2,11 +2,11 @@
 ghost use Rattle.std.specs.Prelude.{◌≡◌, ◌<◌, ◌↔◌, IsTrue, length};
 ghost use Rattle.lab_plan.specs.Limits.{most_bottles};
 ghost use Rattle.lab_plan.specs.LabPlan.{edges, bottles};
-ghost use Rattle.legal_steps.specs.State.{IsOwn, IsInSession, IsDrinking, phase as phase_at};
+ghost use Rattle.legal_steps.specs.State.{IsOwn, IsDrinking, phase as phase_at};
 ghost use Rattle.legal_steps.specs.Legal.{IsJob, Needs, instrument_of};
 
 use crate::bottles::has;
-use interleaving::{Drinking, World};
+use interleaving::World;
 use lab_plan::{EdgeNo, JobNo};
 use std::alloc::Allocator;
 
@@ -27,14 +27,6 @@ pub(crate) fn owns<A: Allocator>(world: &World<'_, A>, job: JobNo, edge: EdgeNo)
     lower == job || higher == job
 }
 
-fn is_in_session(drinking: Drinking) -> bool
-    ensures { IsTrue result ↔ IsInSession drinking }
-{
-    drinking == Drinking::Thirsty
-        || drinking == Drinking::Drinking
-        || drinking == Drinking::Reaching
-}
-
 /// Whether the job needs the bottle of the edge: it is in a session that names its instrument.
 #[tactic(auto, unfolding(legal_steps::specs::State::Has), using(lab_plan::proofs::Readers::few_bottles))]
 pub(crate) fn needs_bottle<A: Allocator>(
@@ -51,7 +43,7 @@ pub(crate) fn needs_bottle<A: Allocator>(
 {
     let plan = world.plan();
     let phase = world.job(job);
-    is_in_session(phase.drinking) && has(plan.needed_bottles(job, phase.session, edge), bottle)
+    phase.is_in_session() && has(plan.needed_bottles(job, phase.session, edge), bottle)
 }
 
 /// Whether the job drinks or reaches.
@@ -59,6 +51,5 @@ pub(crate) fn is_drinking<A: Allocator>(world: &World<'_, A>, job: JobNo) -> boo
     requires { IsJob world.now.plan job }
     ensures { IsTrue result ↔ IsDrinking (phase_at world.now.state job) }
 {
-    let phase = world.job(job);
-    phase.drinking == Drinking::Drinking || phase.drinking == Drinking::Reaching
+    world.job(job).is_drinking()
 }

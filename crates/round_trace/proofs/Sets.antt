@@ -11,7 +11,7 @@ use Rattle.legal_steps.specs.declared.phase.Drinking.TheVariants.{Tranquil, Thir
 use Rattle.legal_steps.specs.State.{State, Has, IsOwn, drinking}
 use Rattle.legal_steps.specs.Legal.{May, IsBottleSet, MayAskBottle, MayGiveBottle}
 use Rattle.turns.specs.Due.{IsGreatest}
-use Rattle.turns.proofs.Sets.{member_below, empty_set}
+use Rattle.legal_steps.proofs.BottleSets.{member_below, empty_set}
 
 itself : (k : ℕ) → Has (2 ^ k) k
 unfolding Has

@@ -15,7 +15,8 @@ use Rattle.legal_steps.specs.declared.edge_state.EdgeState.{EdgeState}
 use Rattle.legal_steps.specs.Legal.{May, MayGiveBottle, MayAskBottle, IsBottleSet, Needs}
 use Rattle.turns.specs.Due.{after_if, fork_gone, bottles_gone, fork_asked_for, all_asked_for, IsCalm, IsGreatest, but_position}
 use Rattle.turns.specs.Laws.{NothingDueIsCalm, CalmHasNothingDue, OneGroupIsDue, StaysCalm}
-use Rattle.turns.proofs.Sets.{has_none, empty_set, one_or_none}
+use Rattle.lab_plan.proofs.Bits.{bit_cases}
+use Rattle.legal_steps.proofs.BottleSets.{has_none, empty_set}
 use Rattle.turns.proofs.ForkGuards.{both, untrue, GiveAt, AskAt, SoilAt}
 
 none : (n : ℕ) → (n == 0) ≡ true → n ≡ 0
@@ -88,9 +89,9 @@ same_set : (plan : LabPlan) (e a b : ℕ) (P : ℕ → Type 0) → IsGreatest pl
 unfolding Has
 same_set plan e a b P p q =
     same_from_bits_below (length (bottles plan e)) a b p.of_edge q.of_edge
-    (λ k l. let x = p.just k l in let y = q.just k l in elim (one_or_none (bit_at a k) (bit_at-lt a k)) [
+    (λ k l. let x = p.just k l in let y = q.just k l in elim (bit_cases a k) [
       | inr a1 ↦ a1 ∙ sym (y.1 (x.0 a1))
-      | inl a0 ↦ elim (one_or_none (bit_at b k) (bit_at-lt b k)) [
+      | inl a0 ↦ elim (bit_cases b k) [
         | inl b0 ↦ a0 ∙ sym b0
         | inr b1 ↦ let z = x.1 (y.0 b1) in absurd (omega (arith, z, a0))
       ]

@@ -1,4 +1,3 @@
-pub mod Sets
 pub mod Stages
 pub mod ForkGuards
 pub mod DueMoves

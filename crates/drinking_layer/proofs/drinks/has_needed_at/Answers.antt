@@ -3,7 +3,7 @@ use Rattle.std.proofs.lemmas.Bool.Decides.{nat_tests}
 use Rattle.lab_plan.specs.LabPlan.{bottles}
 use Rattle.legal_steps.specs.State.{Has, bottle_marks}
 use Rattle.edge_rule.specs.DeskView.{DeskView, known}
-use Rattle.turns.proofs.Sets.{subset, member_below}
+use Rattle.legal_steps.proofs.BottleSets.{subset, member_below}
 use Rattle.drinking_layer.proofs.drinks.has_needed_at.Goals as goal
 
 is_equal : (a b : ℕ) → nat_eq a b ≡ true → a ≡ b

@@ -4,7 +4,7 @@ use Rattle.std.proofs.lemmas.Nat.{pow_pos}
 use Rattle.lab_plan.specs.LabPlan.{bottles}
 use Rattle.legal_steps.specs.declared.phase.JobState.{JobState}
 use Rattle.legal_steps.specs.State.{IsInSession}
-use Rattle.turns.proofs.Sets.{has_none}
+use Rattle.legal_steps.proofs.BottleSets.{has_none}
 use Rattle.drinking_layer.proofs.needs.needed_bottles.Goals as goal
 
 pub returns-then-not-is_in_session : goal.returns-then-not-is_in_session

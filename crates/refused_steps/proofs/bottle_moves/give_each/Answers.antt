@@ -1,6 +1,6 @@
 use Rattle.std.proofs.Common.{◌<◌, length, arith, ap}
 use Rattle.lab_plan.specs.LabPlan.{bottles}
-use Rattle.interleaving.proofs.BottleLemmas.{member_below}
+use Rattle.legal_steps.proofs.BottleSets.{member_below}
 use Rattle.refused_steps.proofs.bottle_moves.give_each.Goals as goal
 
 pub returns : goal.returns

@@ -1,5 +1,5 @@
 use Rattle.std.proofs.Common.{◌<◌, arith, refl}
-use Rattle.interleaving.proofs.BottleLemmas.{member_below}
+use Rattle.legal_steps.proofs.BottleSets.{member_below}
 use Rattle.interleaving.proofs.tables.Tables.may_ask_all.Goals as goal
 
 pub returns : goal.returns
