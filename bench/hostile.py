@@ -15,6 +15,7 @@ import resource
 import subprocess
 import sys
 import tempfile
+import time
 
 sys.path.insert(0, os.path.dirname(os.path.abspath(__file__)))
 import check_report
@@ -217,6 +218,18 @@ def check_refused(cases):
                 wrong.append("start %d: %r" % (number, got))
         cases.tell("%s: each of %d growths is refused (%d times want of memory is told), and each of %d starts" % (
             name, growths, none, starts), "; ".join(wrong)[:600])
+
+    # Where a thread can't be made, or none, the jobs still come to their end, and soon.
+    for name in ("threads 2 1000000000", "threads 4 1000000000", "threads 9 1000000000", "threads 32 1000000000"):
+        words = name.split()
+        _, (_, starts) = refused(words, script)
+        wrong = []
+        for number in (*range(1, starts + 1), -1):
+            begun = time.monotonic()
+            got = refused(words, script, start=number)[0]
+            if got[2] != 0 or not is_whole(words, script, got, None) or time.monotonic() - begun > 10:
+                wrong.append("start %d: %r after %d s" % (number, got, time.monotonic() - begun))
+        cases.tell("%s: each of %d starts is refused, and all" % (name, starts), "; ".join(wrong)[:600])
 
 
 def main(words):

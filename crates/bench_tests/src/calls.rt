@@ -6,20 +6,20 @@ ghost use Rattle.edge_rule.specs.DeskView.{Owns};
 use crate::benches::{bench_of, is_own, plan_of};
 use desk_calls::{
     ask_bottles, ask_fork, give_bottles, give_fork, may_ask_bottles, may_ask_fork, may_command,
-    may_give_bottles, may_give_fork, may_phase, may_soil, soil,
+    may_exchange, may_give_bottles, may_give_fork, may_phase, may_soil, soil,
 };
 use dining_layer::fork_moves;
 use drinking_layer::with_bottles;
 use edge_rule::{
     Bench, Counts, Desk, PhaseEvent, Stepped, command, exchange, glance, look, store_phase,
 };
-use edge_word::PhaseWord;
+use edge_word::{EdgeMoves, PhaseWord};
 use instrument_log::Entry;
 use lab_plan::{EdgeNo, JobNo};
 use std::alloc::Allocator;
 use std::process::Abort;
 
-// A move on an edge, or all that are due there.
+// A move on an edge, or all that are due there, or a group of moves.
 #[derive(Clone, Copy)]
 pub(crate) enum Move {
     GiveFork,
@@ -28,6 +28,7 @@ pub(crate) enum Move {
     AskBottles(u32),
     Soil,
     AllDue,
+    These(EdgeMoves),
 }
 
 // A call on a desk.
@@ -112,6 +113,11 @@ fn moved<T: Allocator>(
         Move::AllDue => {
             let forks = fork_moves(bench, desk, edge);
             let moves = with_bottles(bench, desk, edge, forks);
+            assert!(rt; may_exchange(bench, desk, edge, moves));
+            exchange(bench, desk, edge, moves)
+        }
+        Move::These(moves) => {
+            assert!(rt; may_exchange(bench, desk, edge, moves));
             exchange(bench, desk, edge, moves)
         }
     }
@@ -141,7 +147,7 @@ fn tried<T: Allocator>(
     }
 }
 
-// Whether a single move is legal by the word last seen.
+// Whether a single move, or a group of them, is legal by the word last seen.
 fn may<T: Allocator>(
     rt: &impl Abort,
     bench: &Bench<T>,
@@ -151,6 +157,9 @@ fn may<T: Allocator>(
 ) -> bool
     requires own { Owns bench.now desk.now }
 {
+    if let Move::These(moves) = what {
+        return may_exchange(bench, desk, edge, moves);
+    }
     assert!(rt; is_own(bench, desk, edge));
     match what {
         Move::GiveFork => may_give_fork(bench, desk, edge),
@@ -158,7 +167,7 @@ fn may<T: Allocator>(
         Move::AskFork => may_ask_fork(bench, desk, edge),
         Move::AskBottles(set) => may_ask_bottles(bench, desk, edge, set),
         Move::Soil => may_soil(bench, desk, edge),
-        Move::AllDue => true,
+        Move::AllDue | Move::These(_) => true,
     }
 }
 

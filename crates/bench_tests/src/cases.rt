@@ -2,6 +2,7 @@
 use crate::benches::{A, AB, AC, B, BC, C, IMPATIENT, THREE, TWICE, TWO};
 use crate::calls::{Answer, Call, Line, Move, check};
 use edge_rule::{Counts, PhaseEvent};
+use edge_word::EdgeMoves;
 use instrument_log::Entry;
 use lab_plan::Verb;
 use std::alloc::{AllocError, Global};
@@ -103,9 +104,8 @@ const BOTTLES: [Line; 19] = [
     (A, Call::Glance(B), Answer::Word(265)),
 ];
 
-/// Job b asks for fork and bottle in one exchange; a gives both and asks for them again in one. What b would do by
-/// the word that it saw finds the other word, and a look sees it.
-const AT_ONCE: [Line; 11] = [
+/// Job b asks for fork and bottle in one exchange; a gives both and asks for them again in one, which a look of b sees.
+const AT_ONCE: [Line; 10] = [
     (A, Call::Store(PhaseEvent::Thirst), Answer::Word(260)),
     (A, Call::Store(PhaseEvent::Hunger), Answer::Word(261)),
     (B, Call::Store(PhaseEvent::Thirst), Answer::Word(260)),
@@ -114,9 +114,108 @@ const AT_ONCE: [Line; 11] = [
     (B, Call::Try(Move::AllDue, AB), Answer::Word(2)),
     (A, Call::Look(AB), Answer::Word(2)),
     (A, Call::Try(Move::AllDue, AB), Answer::Word(4294967317)),
-    (B, Call::Try(Move::AllDue, AB), Answer::Found(4294967317)),
     (B, Call::Seen(AB), Answer::Word(2)),
     (B, Call::Look(AB), Answer::Word(4294967317)),
+];
+
+const NO_MOVES: EdgeMoves = EdgeMoves {
+    give_fork: false,
+    give_bottles: 0,
+    ask_fork: false,
+    ask_bottles: 0,
+    soil: false,
+};
+
+const ASK_BOTH: EdgeMoves = EdgeMoves {
+    ask_fork: true,
+    ask_bottles: 1,
+    ..NO_MOVES
+};
+
+const ASK_FORK: EdgeMoves = EdgeMoves {
+    ask_fork: true,
+    ..NO_MOVES
+};
+
+const ASK_NO_BOTTLE_OF_THE_EDGE: EdgeMoves = EdgeMoves {
+    ask_bottles: 2,
+    ..NO_MOVES
+};
+
+const GIVE_BOTTLE: EdgeMoves = EdgeMoves {
+    give_bottles: 1,
+    ..NO_MOVES
+};
+
+const GIVE_BOTH: EdgeMoves = EdgeMoves {
+    give_fork: true,
+    give_bottles: 1,
+    ..NO_MOVES
+};
+
+const GIVE_BOTH_AND_ASK: EdgeMoves = EdgeMoves {
+    ask_fork: true,
+    ..GIVE_BOTH
+};
+
+const GIVE_BOTH_AND_SOIL: EdgeMoves = EdgeMoves {
+    soil: true,
+    ..GIVE_BOTH
+};
+
+/// Groups of moves: each reason why one can't be done, and two that are.
+const IN_GROUPS: [Line; 17] = [
+    (A, Call::Store(PhaseEvent::Thirst), Answer::Word(260)),
+    (A, Call::Store(PhaseEvent::Hunger), Answer::Word(261)),
+    // a tranquil job asks for nothing
+    (B, Call::May(Move::These(ASK_BOTH), AB), Answer::Is(false)),
+    (B, Call::Store(PhaseEvent::Thirst), Answer::Word(260)),
+    (B, Call::Store(PhaseEvent::Hunger), Answer::Word(261)),
+    (B, Call::May(Move::These(ASK_BOTH), AB), Answer::Is(true)),
+    (B, Call::May(Move::These(NO_MOVES), AB), Answer::Is(false)),
+    // of two jobs there is but one edge
+    (B, Call::May(Move::These(ASK_BOTH), AC), Answer::Is(false)),
+    (
+        B,
+        Call::May(Move::These(ASK_NO_BOTTLE_OF_THE_EDGE), AB),
+        Answer::Is(false),
+    ),
+    (B, Call::Try(Move::These(ASK_BOTH), AB), Answer::Word(2)),
+    (A, Call::Look(AB), Answer::Word(2)),
+    // the fork is here
+    (A, Call::May(Move::These(ASK_FORK), AB), Answer::Is(false)),
+    // the bottle is kept as long as the fork is here
+    (
+        A,
+        Call::May(Move::These(GIVE_BOTTLE), AB),
+        Answer::Is(false),
+    ),
+    (A, Call::May(Move::These(GIVE_BOTH), AB), Answer::Is(true)),
+    // it doesn't eat
+    (
+        A,
+        Call::May(Move::These(GIVE_BOTH_AND_SOIL), AB),
+        Answer::Is(false),
+    ),
+    (
+        A,
+        Call::Try(Move::These(GIVE_BOTH_AND_ASK), AB),
+        Answer::Word(21),
+    ),
+    (B, Call::Look(AB), Answer::Word(21)),
+];
+
+/// All three bottles of an edge.
+const ASK_THREE: EdgeMoves = EdgeMoves {
+    ask_bottles: 7,
+    ..NO_MOVES
+};
+
+/// The same moves on an edge of the job, and on one of the others.
+const OF_OTHERS: [Line; 3] = [
+    (C, Call::Store(PhaseEvent::Thirst), Answer::Word(260)),
+    (C, Call::May(Move::These(ASK_THREE), BC), Answer::Is(true)),
+    (C, Call::May(Move::These(ASK_THREE), AB), Answer::Is(false)),
 ];
 
 /// Job b gives its session up. Its desk counts the turns in which the session waited, and no other.
@@ -186,6 +285,8 @@ fn worked_runs(rt: HostRuntime) {
     check(&rt, rt.alloc(), TWO, &FORKS);
     check(&rt, rt.alloc(), TWO, &BOTTLES);
     check(&rt, rt.alloc(), TWO, &AT_ONCE);
+    check(&rt, rt.alloc(), TWO, &IN_GROUPS);
+    check(&rt, rt.alloc(), THREE, &OF_OTHERS);
     check(&rt, rt.alloc(), IMPATIENT, &GIVEN_UP);
     check(&rt, rt.alloc(), TWICE, &TWO_SESSIONS);
     check(&rt, rt.alloc(), THREE, &RING);

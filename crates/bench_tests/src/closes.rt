@@ -8,6 +8,7 @@ use crate::calls::{Answer, Call, Line, Move, do_all};
 use edge_rule::{Bench, CloseCause, Closed, Counts, Desk, PhaseEvent};
 use instrument_log::{Entry, InstrumentLog};
 use lab_plan::{EdgeNo, InstrumentNo, JobNo, Plan, Verb};
+use rounds::{Ended, rounds};
 use std::alloc::Allocator;
 use std::process::Abort;
 
@@ -261,28 +262,73 @@ fn closes_with_both<'p, T: Allocator + Copy>(
     bench: Bench<'p, T>,
     first: Desk<T>,
     second: Desk<T>,
+    wanted: &Left,
 )
     requires own { Owns bench first × Owns bench second }
 {
+    let job = first.job();
     let one = with_one_more(rt, Vec::new(alloc), first);
     let (bench, one) = kept_open(rt, alloc, bench, one);
+    assert!(rt; one.len() == 1 && one[0].job() == job);
     let two = with_one_more(rt, one, second);
-    check_left(rt, &closed(rt, alloc, bench, two), &UNTOUCHED);
+    check_left(rt, &closed(rt, alloc, bench, two), wanted);
 }
 
-fn closes_in_order<T: Allocator + Copy>(rt: &impl Abort, alloc: T, is_swapped: bool) {
+/// So many rounds at most, which the jobs end before.
+fn take_turns<T: Allocator>(
+    rt: &impl Abort,
+    bench: &Bench<T>,
+    desks: &mut [Desk<T>],
+    limit: u32,
+    wanted: (Ended, u32),
+)
+    requires own { Each (Owns bench.now) desks.old }
+    ensures { Each (Owns bench.now) desks.new }
+{
+    assert!(rt; bench.has_all(desks));
+    assert!(rt; rounds(bench, desks, limit) == wanted);
+}
+
+/// The bench after so many rounds at most.
+fn closes_in_order<T: Allocator + Copy>(
+    rt: &impl Abort,
+    alloc: T,
+    is_swapped: bool,
+    limit: u32,
+    ends: (Ended, u32),
+    wanted: &Left,
+) {
     let plan = plan_of(rt, alloc, TWO);
-    let (bench, desks) = bench_of(rt, alloc, &plan);
+    let (bench, mut desks) = bench_of(rt, alloc, &plan);
+    take_turns(rt, &bench, desks.as_mut_slice(), limit, ends);
     let (a, b) = both(rt, &bench, desks);
     if is_swapped {
-        closes_with_both(rt, alloc, bench, b, a);
+        closes_with_both(rt, alloc, bench, b, a, wanted);
     } else {
-        closes_with_both(rt, alloc, bench, a, b);
+        closes_with_both(rt, alloc, bench, a, b, wanted);
     }
 }
 
+/// Job a drank first; then b had its meal, with the fork dirty and the bottle at its end, and both retired.
+const AFTER_TURNS: Left = Left {
+    edges: &[19],
+    jobs: &[(272, ONE_SESSION, true), (272, ONE_MEAL, true)],
+    entries: &[(0, 1), (1, 2)],
+};
+
+const ONE_MEAL: Counts = Counts {
+    meals: 1,
+    sessions_done: 1,
+    withdrawn: 0,
+};
+
 #[test]
 fn desk_missing_at_close(rt: HostRuntime) {
-    closes_in_order(&rt, rt.alloc(), false);
-    closes_in_order(&rt, rt.alloc(), true);
+    let alloc = rt.alloc();
+    let limit = (Ended::Limit, 0);
+    let retired = (Ended::AllRetired, 9);
+    for is_swapped in [false, true] {
+        closes_in_order(&rt, alloc, is_swapped, 0, limit, &UNTOUCHED);
+        closes_in_order(&rt, alloc, is_swapped, 100, retired, &AFTER_TURNS);
+    }
 }

@@ -40,7 +40,7 @@ fn laws_of_turns() {
     session_layer::one_turn();
     session_layer::no_turn();
     session_layer::turns_go_on();
-    session_layer::groups_are_turns();
+    session_layer::loses_in_between();
 }
 
 #[test]
@@ -49,9 +49,11 @@ fn laws_of_rounds() {
     quiet::laws::both_saw_is_both_know();
     quiet::laws::quiet_round_is_retired();
     round_laws::laws::no_quiet_end();
+    round_laws::laws::no_quiet_end_from_rest();
     round_laws::laws::one_run();
     round_laws::laws::drives_from_opening();
     round_laws::laws::never_ends_quiet();
+    round_laws::laws::never_quiet_from_rest();
     round_laws::laws::one_run_of_a_plan();
 }
 

@@ -1,4 +1,4 @@
-// Tests of the shared bench and its desks, and that each law about them can be called; over public calls alone.
+//! Tests of the shared bench and its desks, and that each law about them can be called; over public calls alone.
 #![tactic(auto)]
 
 #[cfg(test)]

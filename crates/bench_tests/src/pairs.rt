@@ -4,7 +4,7 @@ ghost use Rattle.edge_rule.specs.DeskView.{Owns};
 
 use crate::benches::{A, AB, AC, B, BC, C, THREE, TWO, bench_of, both, is_own, plan_of};
 use crate::calls::{Answer, Call, Line, Move, called, do_all};
-use edge_rule::{Bench, Desk, PhaseEvent, heed, look, meet, meet_all, tell, unpacked_edge};
+use edge_rule::{Bench, Desk, PhaseEvent, heed, look, meet, meet_all, tell};
 use lab_plan::EdgeNo;
 use legal_steps::{EdgeState, End};
 use std::alloc::Allocator;
@@ -34,9 +34,7 @@ fn edge_of<T: Allocator>(
     requires own { Owns bench.now desk.now }
 {
     assert!(rt; is_own(bench, desk, edge));
-    let plan = bench.plan();
-    let _ = plan.bottles(edge);
-    unpacked_edge(desk.seen(edge))
+    desk.seen(edge).unpacked()
 }
 
 /// Fork and bottle at the lower job, their tokens at the higher.

@@ -33,8 +33,12 @@ pub(crate) const TWICE: &str =
 pub(crate) const IMPATIENT: &str =
     "lab 2\njob a\nsession\nscale add 1\nend\njob b\nsession patience 0\nscale add 1\nend\n";
 
-// Jobs a, b and c, which add 1 on the same three instruments in one session each.
+// Jobs a, b and c, which read the same three instruments in one session each.
 pub(crate) const THREE: &str =
+    "lab 1\njob a\nsession\nlamp read\npump read\nscale read\nend\njob b\nsession\nlamp read\npump read\nscale read\nend\njob c\nsession\nlamp read\npump read\nscale read\nend\n";
+
+// The same with a command that adds 1 in place of each that reads.
+pub(crate) const THREE_ADD: &str =
     "lab 1\njob a\nsession\nlamp add 1\npump add 1\nscale add 1\nend\njob b\nsession\nlamp add 1\npump add 1\nscale add 1\nend\njob c\nsession\nlamp add 1\npump add 1\nscale add 1\nend\n";
 
 pub(crate) fn plan_of<T: Allocator + Copy>(rt: &impl Abort, alloc: T, script: &str) -> Plan<T> {

@@ -1,4 +1,4 @@
-// Tests of worlds that step, and of what a job that waits can count on, over the public calls of their crates alone.
+//! Tests of worlds that step, and of what a job that waits can count on, over the public calls of their crates alone.
 #![tactic(auto)]
 
 #[cfg(test)]

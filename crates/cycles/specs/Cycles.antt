@@ -1,4 +1,4 @@
--- Cycles of a relation among jobs.
+-- For readers: cycles of a relation among jobs.
 use Rattle.std.specs.Prelude.{ℕ, ◌<◌, ◌≤◌, List, [], ◌∷◌}
 use Rattle.std.specs.List.{All, Contains}
 

@@ -1,4 +1,4 @@
--- Rankings of jobs.
+-- For readers: rankings of jobs.
 use Rattle.std.specs.Prelude.{ℕ, ◌<◌, List, [], ◌∷◌}
 use Rattle.std.specs.List.{All, Contains}
 use Rattle.cycles.specs.Cycles.{IsAmong}

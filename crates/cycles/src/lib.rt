@@ -1,5 +1,5 @@
-// Cycles of a relation among jobs, given as pairs. A job that leads on to none that is left is on
-// no cycle: take such jobs out until there is none, and every walk among those left meets itself.
+//! Cycles of a relation among jobs, given as pairs. A job that leads on to none that is left is on
+//! no cycle: take such jobs out until there is none, and every walk among those left meets itself.
 #![tactic(auto)]
 
 mod cycle;

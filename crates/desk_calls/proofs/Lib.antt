@@ -1,1 +1,2 @@
 pub mod Subsets
+pub mod Groups

@@ -7,7 +7,7 @@ ghost use Rattle.edge_word.specs.Words.{IsOfBottles};
 ghost use Rattle.edge_rule.specs.DeskView.{Owns, known};
 ghost use Rattle.edge_rule.specs.Knowing.{IsKnown};
 
-use edge_rule::{Bench, Desk, unpacked_edge};
+use edge_rule::{Bench, Desk};
 use lab_plan::{EdgeNo, JobNo};
 use legal_steps::{EdgeState, End, JobState};
 use std::alloc::Allocator;
@@ -36,11 +36,12 @@ pub fn at_edge<A: Allocator>(bench: &Bench<A>, desk: &Desk<A>, edge: EdgeNo) -> 
     let job = desk.job();
     let plan = bench.plan();
     let here = End::of(plan, job, edge);
+    // A call for its clause alone: an edge has few bottles.
     let _ = plan.bottles(edge);
     AtEdge {
         job,
         phase: desk.phase(),
         here,
-        seen: unpacked_edge(desk.seen(edge)),
+        seen: desk.seen(edge).unpacked(),
     }
 }

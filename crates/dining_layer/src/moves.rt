@@ -75,7 +75,7 @@ pub fn dine<A: Allocator>(bench: &Bench<A>, desk: &mut Desk<A>, edge: EdgeNo) ->
     requires edge { IsOwn desk.old.plan desk.old.job edge }
     ensures { Dined desk.old edge result desk.new }
 {
-    let _ = look(bench, desk, edge);
+    look(bench, desk, edge);
     if may_give(bench, desk, edge) {
         return give(bench, desk, edge);
     }

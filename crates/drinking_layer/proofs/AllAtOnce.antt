@@ -1,6 +1,7 @@
 -- All bottles at once: whether there are some, and what an exchange of them is.
-use Rattle.std.proofs.Common.{◌≡◌, ◌≢◌, ℕ, Bool, true, false, not, [], ◌∷◌, length, refl, sym, ap, ◌∙◌, subst}
+use Rattle.std.proofs.Common.{◌≡◌, ◌≢◌, ℕ, Bool, true, false, not, ◌==◌, [], ◌∷◌, length, refl, sym, ap, ◌∙◌, subst, arith}
 use Rattle.std.proofs.lemmas.Bool.{false≢true, ne_eqb}
+use Rattle.std.proofs.lemmas.Bool.Decides.{nat_tests}
 use Rattle.lab_plan.specs.LabPlan.{LabPlan, bottles}
 use Rattle.legal_steps.specs.declared.event.Event.TheVariants.{GiveBottles, AskBottles}
 use Rattle.legal_steps.specs.declared.phase.Drinking.{Drinking}
@@ -8,7 +9,7 @@ use Rattle.legal_steps.specs.declared.phase.Drinking.TheVariants.{Tranquil, Thir
 use Rattle.legal_steps.specs.State.{State, Has, IsOwn, drinking}
 use Rattle.legal_steps.specs.Legal.{May, MayGiveBottle, MayAskBottle}
 use Rattle.edge_word.specs.declared.moves.EdgeMoves.{EdgeMoves}
-use Rattle.edge_word.specs.Moves.{on, events_of}
+use Rattle.edge_word.specs.Moves.{on, events_of, is_nothing}
 use Rattle.edge_rule.specs.declared.calls.Stepped.{Stepped}
 use Rattle.edge_rule.specs.declared.calls.Stepped.TheVariants as stepped
 use Rattle.locality.specs.Patience.{is_waiting}
@@ -26,6 +27,15 @@ waits Tranquil h = absurd (false≢true h)
 waits Drinks h = absurd (false≢true h)
 waits Reaching h = absurd (false≢true h)
 waits Retired h = absurd (false≢true h)
+
+-- a set that isn't empty is some move
+pub gives_some : (set : ℕ) → set ≢ 0
+    → is_nothing (record { give_fork = false; give_bottles = set; ask_fork = false; ask_bottles = 0; soil = false }) ≡ false
+gives_some set some = let f : (set == 0) ≡ false = grind (arith, nat_tests) in rw f refl
+
+pub asks_some : (set : ℕ) → set ≢ 0
+    → is_nothing (record { give_fork = false; give_bottles = 0; ask_fork = false; ask_bottles = set; soil = false }) ≡ false
+asks_some set some = let f : (set == 0) ≡ false = grind (arith, nat_tests) in rw f refl
 
 module _ (plan : LabPlan) (s : State) (j e set : ℕ) where
   -- a set that isn't empty may be given

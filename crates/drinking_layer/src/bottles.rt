@@ -7,7 +7,7 @@ ghost use Rattle.legal_steps.specs.Legal.{MayGiveBottle, MayAskBottle};
 ghost use Rattle.legal_steps.specs.Run.{IsLegalFrom};
 ghost use Rattle.edge_word.specs.Moves.{events_of};
 ghost use Rattle.edge_rule.specs.DeskView.{Owns, known};
-ghost use Rattle.turns.specs.Due.{AreForkMoves, AreDue, WithBottles, IsGreatest};
+ghost use Rattle.turns.specs.Due.{AreForkMoves, AreDue, WithBottles, IsGreatest, fork_gone, fork_asked_for};
 ghost use Rattle.drinking_layer.specs.Local.{with_sets as sets_added};
 
 use crate::needs::{gifts, needed_bottles, wishes};
@@ -75,6 +75,43 @@ pub fn due_moves<A: Allocator>(bench: &Bench<A>, desk: &Desk<A>, edge: EdgeNo) -
     let needed = needed_bottles(bench, desk, edge);
     let forks = due_forks(at.phase.dining, at.here, at.seen);
     with_sets(bench.plan(), edge, at, needed, forks)
+}
+
+/// The greatest sets of bottles that may be given and asked for in such a group: each after the moves of the group that
+/// come before it, whether or not those are legal.
+pub fn greatest_sets<A: Allocator>(
+    bench: &Bench<A>,
+    desk: &Desk<A>,
+    edge: EdgeNo,
+    moves: EdgeMoves,
+) -> (u32, u32)
+    requires own { Owns bench.now desk.now }
+    requires edge { IsOwn desk.now.plan desk.now.job edge }
+    ensures gifts { IsGreatest desk.now.plan edge result.0 (MayGiveBottle desk.now.plan (fork_gone desk.now.plan (known desk.now) desk.now.job edge moves) desk.now.job edge) }
+    ensures wishes { IsGreatest desk.now.plan edge result.1 (λ k. (drinking (known desk.now) desk.now.job ≡ Thirsty) × MayAskBottle desk.now.plan (fork_asked_for desk.now.plan (known desk.now) desk.now.job edge moves) desk.now.job edge k) }
+{
+    let at = at_edge(bench, desk, edge);
+    let plan = bench.plan();
+    let needed = needed_bottles(bench, desk, edge);
+    let given = gifts(
+        plan,
+        edge,
+        at.here,
+        at.phase,
+        needed,
+        at.seen,
+        moves.give_fork,
+    );
+    let asked = wishes(
+        plan,
+        edge,
+        at.here,
+        at.phase,
+        needed,
+        at.seen,
+        moves.give_bottles,
+    );
+    (given, asked)
 }
 
 /// All bottles that may be given, by the word last seen.

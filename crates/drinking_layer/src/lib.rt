@@ -1,4 +1,5 @@
-//! Bottles and drinking: which bottles a job may give and ask for on an edge by the word last seen there, always all of them at once, and calls that do so, or drink, where it is legal.
+//! Bottles and drinking: which bottles a job may give and ask for on an edge by the word last seen there, always all of them at
+//! once, and calls that do so, or drink, where it is legal.
 #![tactic(auto)]
 
 mod bottles;
@@ -6,7 +7,7 @@ mod drinks;
 mod needs;
 mod serving;
 
-pub use bottles::{all_gifts, all_wishes, due_moves, with_bottles};
+pub use bottles::{all_gifts, all_wishes, due_moves, greatest_sets, with_bottles};
 pub use drinks::{drink, may_drink};
 pub use needs::note_needed;
 pub use serving::{serve_bottles, want_bottles};

@@ -1,5 +1,5 @@
 -- What is read of a bench that was closed.
-use Rattle.std.proofs.Common.{◌≡◌, ℕ, ◌*◌, ◌<◌, length, get_or, false, sym, ap, ◌∙◌, subst, arith}
+use Rattle.std.proofs.Common.{◌≡◌, ℕ, ◌<◌, length, get_or, false, sym, ap, ◌∙◌, subst, arith}
 use mathlib.Core.Option.{some}
 use lib.ListN.{get_elem?}
 use Rattle.std.specs.Bool.{IsTrue}
@@ -33,20 +33,20 @@ module _ {A : Type 0} (c : Inside A) (y : ClosedView) (is : view_of c ≡ y) (ok
 
   -- ---- the words
 
-  pub edge_word_there : (e n : ℕ) → n ≡ e → e < length (edges y.plan) → 8 * n < slots_len c.left.words
+  pub edge_word_there : (e n : ℕ) → n ≡ edge_place e → e < length (edges y.plan) → n < slots_len c.left.words
   edge_word_there e n at inside = let l = edge_inside e inside in let wide = ok.words.wide in let long = c.left.words.ok.0 in omega arith
 
-  pub edge_spelled : (e n w : ℕ) → n ≡ e → e < length (edges y.plan) → get_elem? (slots_items c.left.words) (8 * n) ≡ some w
+  pub edge_spelled : (e n w : ℕ) → n ≡ edge_place e → e < length (edges y.plan) → get_elem? (slots_items c.left.words) n ≡ some w
       → (x : EdgeState) × (w ≡ word_of x) × IsOfBottles (length (bottles c.plan.now e)) x
   edge_spelled e n w at inside read = let spelled = ok.words.edges_fit e (edge_inside e inside) in
-      (spelled.0, sym (gets (slots_items c.left.words) (8 * n) w 0 read) ∙ (ap (λ k. get_or (slots_items c.left.words) (8 * k) 0) at ∙ spelled.1), spelled.2)
+      (spelled.0, sym (gets (slots_items c.left.words) n w 0 read) ∙ (ap (λ k. get_or (slots_items c.left.words) k 0) at ∙ spelled.1), spelled.2)
 
-  pub edge_read : (e n w : ℕ) (x : EdgeState) → n ≡ e → e < length (edges y.plan) → get_elem? (slots_items c.left.words) (8 * n) ≡ some w
+  pub edge_read : (e n w : ℕ) (x : EdgeState) → n ≡ edge_place e → e < length (edges y.plan) → get_elem? (slots_items c.left.words) n ≡ some w
       → word_of x ≡ w → IsOfBottles (length (bottles c.plan.now e)) x → x ≡ edge_in y e
   edge_read e n w x at inside read spells fits =
       let few = IsOfBottles-28 (length (bottles c.plan.now e)) x (ok.is_plan.few_bottles e (edge_inside e inside)) fits in
-      sym (state_of-word_of x few.bottles_fit) ∙ ap state_of (spells ∙ (sym (gets (slots_items c.left.words) (8 * n) w 0 read)
-      ∙ (ap (λ k. get_or (slots_items c.left.words) (8 * k) 0) at ∙ ap (λ (z : ClosedView). get_or z.words (edge_place e) 0) is)))
+      sym (state_of-word_of x few.bottles_fit) ∙ ap state_of (spells ∙ (sym (gets (slots_items c.left.words) n w 0 read)
+      ∙ (ap (λ k. get_or (slots_items c.left.words) k 0) at ∙ ap (λ (z : ClosedView). get_or z.words (edge_place e) 0) is)))
 
   pub edge_fits_there : (e : ℕ) (x : EdgeState) → IsOfBottles (length (bottles c.plan.now e)) x → IsOfBottles (length (bottles y.plan e)) x
   edge_fits_there e x fits = subst (λ (z : LabPlan). IsOfBottles (length (bottles z e)) x) plan_is fits

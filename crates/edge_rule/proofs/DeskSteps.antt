@@ -31,6 +31,8 @@ use Rattle.locality.specs.History.{events_by, learned_all, known_by, IsHistory}
 use Rattle.one_history.specs.Rule.{edge_place, word_count, Kept}
 use Rattle.locality.specs.Lists.{Each}
 use Rattle.one_history.specs.Grow.{hand_or, hand_in, rest_hands, adding, IsLed, IsMine, mine, Grows, Does, looked}
+use Rattle.one_history.specs.Groups.{with_group, all_of, StandUnbroken}
+use Rattle.one_history.proofs.Groups.{stand_in_more, with_group_stands, all_with_group}
 use Rattle.edge_rule.specs.DeskView.{DeskView, BenchView, Owns, Adds}
 use Rattle.edge_rule.specs.NeededBottles.{AreNeeded}
 use Rattle.edge_rule.specs.declared.needed.Needed.{Needed}
@@ -72,6 +74,15 @@ pub mine_grown : (v w : View) (g : List Event) → Grows v g w → mine w ≡ le
 mine_grown v w g t = ap (λ (x : Hand). known_by x.plan x.deeds) (hand_grown v w g t.hands)
     ∙ learned_all-append (hand_in v).plan (the_opening (hand_in v).plan) (hand_in v).deeds g
 
+-- its groups after one more
+groups_grown : (v w : View) (g : List Event) → AtRest v → Grows v g w
+    → (all_of (with_group (hand_in v).groups g) ≡ (hand_in v).deeds ++ g) × StandUnbroken (with_group (hand_in v).groups g) w.front
+groups_grown v w g ok t = let gs : List (List Event) = (hand_in v).groups in (
+  all_with_group gs g ∙ ap (λ (z : List Event). z ++ g) ok.groups.0,
+  subst (StandUnbroken (with_group gs g)) (sym t.front)
+      (with_group_stands gs g (v.front ++ t.between) (stand_in_more gs v.front t.between ok.groups.1)),
+)
+
 pub rest_grown : (v w : View) (g : List Event) → AtRest v → Grows v g w → AtRest w
 rest_grown v w g ok t = let x = hand_grown v w g t.hands in record {
   mine = t.hands ∙ (λ i. sym x i ∷ ap rest_hands ok.mine i);
@@ -79,6 +90,7 @@ rest_grown v w g ok t = let x = hand_grown v w g t.hands in record {
   none_told = t.none_told;
   legal = subst (λ (z : Hand). IsHistory z.plan w.front) (sym x) t.legal;
   whole = subst (λ (z : Hand). events_by z.job w.front ≡ z.deeds) (sym x) t.whole;
+  groups = subst (λ (z : Hand). (all_of z.groups ≡ z.deeds) × StandUnbroken z.groups w.front) (sym x) (groups_grown v w g ok t);
 }
 
 -- its seat fits the plan
@@ -240,6 +252,7 @@ seat_adds {k} s s' y g f t table = let v : View = s.me.0 in let w : View = s'.me
       plan = ap (λ (z : Hand). z.plan) x;
       job = ap (λ (z : Hand). z.job) x;
       deeds = ap (λ (z : Hand). z.deeds) x;
+      groups = ap (λ (z : Hand). z.groups) x;
       between = t.between;
       front = t.front;
       legal = subst (λ (z : Hand). IsHistory z.plan w.front) (sym x) t.legal;

@@ -14,6 +14,8 @@ use Rattle.legal_steps.specs.State.{Seat, State, edge, phase, seat, drinking}
 use Rattle.locality.specs.History.{actor, state_after, events_by, known_by}
 use Rattle.one_history.specs.Rule.{phase_place, Spelled, Held, Kept}
 use Rattle.locality.specs.Lists.{StartsWith, Each}
+use Rattle.one_history.specs.Groups.{StandUnbroken}
+use Rattle.one_history.proofs.Groups.{stand_in_more}
 use Rattle.one_history.specs.Seating.{glued}
 use Rattle.edge_rule.specs.DeskView.{DeskView, known}
 use Rattle.edge_rule.specs.DeskInside.{view_of, IsDesk}
@@ -22,7 +24,7 @@ use Rattle.edge_rule.specs.Counting.{no_counts, counts_of}
 use Rattle.edge_rule.specs.Company.{Distinct, jobs_of}
 use Rattle.edge_rule.specs.ClosedView.{ClosedView}
 use Rattle.edge_rule.specs.ClosedInside.{AreWords}
-use Rattle.edge_rule.specs.Ending.{hand_of, hands_of, fronts_of, gathered, Any, HasAll, Rests, AreCounted, IsEnd}
+use Rattle.edge_rule.specs.Ending.{hand_of, hands_of, fronts_of, gathered, Any, HasAll, IsInGroups, RestsInGroups, AreCounted, IsEnd}
 use Rattle.edge_rule.proofs.CountsKept.{counts_whole}
 use Rattle.edge_word.specs.Words.{state_of, IsOfBottles}
 use Rattle.edge_word.specs.Phases.{phase_of}
@@ -55,8 +57,8 @@ glued_more done d ok = λ i. record {
   told = fronts_of done ++ d.seat.me.0.front ∷ ok.at_rest.none_told i;
 }
 
-pub rests_now : {A : Type 0} (d : Inside A) → IsDesk d → Rests (view_of d)
-rests_now d ok = subst (λ (x : Seat). x.phase.drinking ≢ Reaching) (sym ok.own) ok.rests
+pub rests_now : {A : Type 0} (d : Inside A) → IsDesk d → RestsInGroups (view_of d)
+rests_now d ok = record { not_reaching = subst (λ (x : Seat). x.phase.drinking ≢ Reaching) (sym ok.own) ok.rests; in_groups = ok.at_rest.groups }
 
 pub gets : {A : Type 0} (l : List A) (i : ℕ) (x d : A) → get_elem? l i ≡ some x → get_or l i d ≡ x
 gets [] i x d e = absurd (some-ne-none x (sym e))
@@ -74,14 +76,26 @@ module _ (p : LabPlan) where
 
   -- no job with a desk at rest reaches
   none_reaches : (h : List Event) (desks : List DeskView) (j : ℕ) → j < length p.jobs → Any (λ (d : DeskView). d.job ≡ j) desks
-      → Each (λ (d : DeskView). d.plan ≡ p) desks → Each (λ (d : DeskView). events_by d.job h ≡ d.deeds) desks → Each Rests desks
+      → Each (λ (d : DeskView). d.plan ≡ p) desks → Each (λ (d : DeskView). events_by d.job h ≡ d.deeds) desks → Each RestsInGroups desks
       → drinking (state_after p h) j ≢ Reaching
   none_reaches h [] j job a plans records rests is = absurd a
   none_reaches h (d ∷ desks) j job (inl e) plans records rests is =
       let same : seat (state_after p h) j ≡ seat (known d) d.job =
       own_known p j h job ∙ (λ i. seat (known_by (sym plans.0 i) (((λ k. events_by (sym e k) h) ∙ records.0) i)) (sym e i)) in
-      rests.0 (sym (ap (λ (x : Seat). x.phase.drinking) same) ∙ is)
+      rests.0.not_reaching (sym (ap (λ (x : Seat). x.phase.drinking) same) ∙ is)
   none_reaches h (d ∷ desks) j job (inr a) plans records rests is = none_reaches h desks j job a plans.1 records.1 rests.1 is
+
+  -- the groups of each record stand in the whole history, of which its desk saw a beginning
+  all_in_groups : (h : List Event) (desks : List DeskView) → Each (λ (d : DeskView). StartsWith h d.front) desks → Each RestsInGroups desks
+      → Each (IsInGroups h) desks
+  all_in_groups h [] starts rests = tt
+  all_in_groups h (d ∷ desks) starts rests = (
+    (
+      rests.0.in_groups.0,
+      subst (StandUnbroken d.groups) (sym starts.0.1) (stand_in_more d.groups d.front starts.0.0 rests.0.in_groups.1),
+    ),
+    all_in_groups h desks starts.1 rests.1,
+  )
 
   -- every event is one of a job of the plan
   by_a_job : (s : State) (event : Event) → May p s event → actor event < length p.jobs
@@ -135,7 +149,7 @@ module _ (p : LabPlan) where
   logs_fit id v words logs f = sym f.3 ∙ f.1.0.homes.deep
 
   pub ends : (id : ℕ) (desks : List DeskView) (c : ClosedView) → c.plan ≡ p → Each (λ (d : DeskView). d.plan ≡ p) desks → HasAll p desks
-      → Each Rests desks → AreCounted c.counts desks → Final (Seen (Kept p) id (gathered desks)) c.words c.logs → IsEnd p desks c
+      → Each RestsInGroups desks → AreCounted c.counts desks → Final (Seen (Kept p) id (gathered desks)) c.words c.logs → IsEnd p desks c
   ends id desks c same plans all rests counted f =
       let k = f.1.0 in
       let h : List Event = k.history in
@@ -152,6 +166,7 @@ module _ (p : LabPlan) where
         legal = k.legal;
         records = records;
         nobody_else = all_by_jobs (the_opening p) h k.legal;
+        groups = all_in_groups h desks (all_fronts (StartsWith h) desks fits.told) rests;
         fronts = all_fronts (StartsWith h) desks fits.told;
         edges = λ e l. ap state_of (spelled.edge_words e l)
             ∙ state_of-word_of (edge w e) (IsOfBottles-28 (length (bottles p e)) (edge w e) (k.is_plan.few_bottles e l) (edges_fit w e fit l)).bottles_fit;

@@ -1,4 +1,3 @@
-pub mod WordFields
 pub mod CountsKept
 pub mod StillEdges
 pub mod NotedNeeds

@@ -79,10 +79,10 @@ opening_fits n = let some : 0 < 2 ^ n = pow_pos n in record { bottles_fit = some
 -- ---- a desk
 
 abbrev pub fresh_view : LabPlan → ℕ → View
-fresh_view plan j = record { hands = hand plan j [] ∷ []; front = []; told = [] }
+fresh_view plan j = record { hands = hand plan j ∷ []; front = []; told = [] }
 
 fresh_rests : (plan : LabPlan) (j : ℕ) → j < length plan.jobs → AtRest (fresh_view plan j)
-fresh_rests plan j job = record { mine = refl; inside = job; none_told = refl; legal = tt; whole = refl }
+fresh_rests plan j job = record { mine = refl; inside = job; none_told = refl; legal = tt; whole = refl; groups = (refl, tt) }
 
 pub fresh_is_desk : {A : Type 0} (d : Inside A) (plan : LabPlan) (j : ℕ) → d.seat.me ≡ (fresh_view plan j, []) → j < length plan.jobs
     → d.job ≡ j → d.counts ≡ counts_of j [] → kept d ≡ idle_seat plan → d.seen.items ≡ opening_edges plan (length (edges plan))

@@ -47,6 +47,7 @@ heard d news e a starts = record {
   plan = a.plan;
   job = a.job;
   deeds = a.deeds ∙ append-nil d.deeds;
+  groups = a.groups;
   more = a.between;
   front = a.front ∙ append-nil (d.front ++ a.between);
   starts = starts;

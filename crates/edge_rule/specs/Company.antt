@@ -19,6 +19,7 @@ pub record Hears (d : DeskView) (others : List DeskView) (e : DeskView) : Type 0
   pub plan : e.plan ≡ d.plan
   pub job : e.job ≡ d.job
   pub deeds : e.deeds ≡ d.deeds
+  pub groups : e.groups ≡ d.groups
   pub more : List Event
   pub front : e.front ≡ d.front ++ more
   pub legal : IsHistory e.plan e.front

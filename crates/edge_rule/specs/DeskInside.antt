@@ -12,6 +12,7 @@ use Rattle.edge_rule.specs.declared.clock.Clock.{Clock}
 use Rattle.edge_rule.specs.declared.counts.Counts.{Counts}
 use Rattle.edge_rule.specs.Counting.{counts_of}
 use Rattle.locality.specs.History.{IsHistory, events_by}
+use Rattle.one_history.specs.Groups.{all_of, StandUnbroken}
 use Rattle.one_history.specs.Grow.{hand_in, IsMine, mine}
 use Rattle.edge_rule.specs.DeskView.{DeskView}
 use Rattle.edge_rule.specs.CalmEdges.{AreStill}
@@ -27,6 +28,7 @@ seat_view k s = record {
   job = (hand_in s.me.0).job;
   front = s.me.0.front;
   deeds = (hand_in s.me.0).deeds;
+  groups = (hand_in s.me.0).groups;
   clock = k;
 }
 
@@ -52,6 +54,7 @@ pub record AtRest (v : View) : Type 0 where
   pub none_told : v.told ≡ []
   pub legal : IsHistory (hand_in v).plan v.front
   pub whole : events_by (hand_in v).job v.front ≡ (hand_in v).deeds
+  pub groups : (all_of (hand_in v).groups ≡ (hand_in v).deeds) × StandUnbroken (hand_in v).groups v.front
 
 pub record IsDesk {A : Type 0} (d : Inside A) : Type 0 where
   pub at_rest : AtRest d.seat.me.0

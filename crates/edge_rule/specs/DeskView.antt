@@ -14,14 +14,16 @@ use Rattle.locality.specs.Patience.{Waited, waited_in, waited_after, one_more}
 use Rattle.edge_rule.specs.declared.calls.Stepped.{Stepped}
 use Rattle.edge_rule.specs.declared.calls.Stepped.TheVariants.{Done, Moved}
 use Rattle.locality.specs.History.{IsHistory, state_after, events_by, known_by}
+use Rattle.one_history.specs.Groups.{with_group}
 
 pub record DeskView : Type 0 where
   pub table : TableId
   pub plan : LabPlan
   pub job : ℕ
-  -- the history so far as the desk has seen it, and the job's own events
+  -- the history so far as the desk has seen it; and the desk's record: the job's own events, and the same as the groups that were done at once
   pub front : List Event
   pub deeds : List Event
+  pub groups : List (List Event)
   pub clock : Clock
 
 pub record BenchView : Type 0 where
@@ -52,6 +54,7 @@ pub record Adds (d : DeskView) (g : List Event) (e : DeskView) : Type 0 where
   pub plan : e.plan ≡ d.plan
   pub job : e.job ≡ d.job
   pub deeds : e.deeds ≡ d.deeds ++ g
+  pub groups : e.groups ≡ with_group d.groups g
   pub clock : e.clock ≡ d.clock
   pub between : List Event
   pub front : e.front ≡ (d.front ++ between) ++ g
@@ -71,7 +74,7 @@ pub record Commanded (d : DeskView) (entry : Entry) (d' : DeskView) : Type 0 whe
   pub acts : Adds middle (Act d.job ∷ []) d'
 
 abbrev pub fresh_desk : TableId → LabPlan → ℕ → DeskView
-fresh_desk t plan j = record { table = t; plan = plan; job = j; front = []; deeds = []; clock = record { turns = 0; waited = 0; session = 0 } }
+fresh_desk t plan j = record { table = t; plan = plan; job = j; front = []; deeds = []; groups = []; clock = record { turns = 0; waited = 0; session = 0 } }
 
 -- the desks of the jobs below n, at the start
 abbrev pub fresh_desks : TableId → LabPlan → ℕ → List DeskView

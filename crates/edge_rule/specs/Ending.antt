@@ -9,7 +9,7 @@ use Rattle.legal_steps.specs.WholeLogs.{log_with_room}
 use Rattle.one_history.specs.declared.board.Hand.{Hand}
 use Rattle.one_history.specs.declared.board.View.{View}
 use Rattle.locality.specs.History.{actor, state_after, IsHistory, events_by}
-use Rattle.one_history.specs.Rule.{hand}
+use Rattle.one_history.specs.Groups.{all_of, StandUnbroken}
 use Rattle.locality.specs.Lists.{StartsWith, Each}
 use Rattle.edge_rule.specs.DeskView.{DeskView, known}
 use Rattle.edge_rule.specs.ClosedView.{ClosedView, edge_in, phase_in, log_in, counts_in}
@@ -18,7 +18,7 @@ use Rattle.edge_rule.specs.declared.counts.Counts.{Counts}
 use Rattle.edge_rule.specs.Company.{Distinct, jobs_of}
 
 abbrev pub hand_of : DeskView → Hand
-hand_of d = hand d.plan d.job d.deeds
+hand_of d = record { plan = d.plan; job = d.job; deeds = d.deeds; groups = d.groups }
 
 -- the hands and the fronts of desks, the last desk first
 abbrev pub hands_of : List DeskView → List Hand
@@ -46,22 +46,32 @@ pub record HasAll (p : LabPlan) (desks : List DeskView) : Type 0 where
   pub every : HasEach (length p.jobs) desks
   pub once : Distinct (jobs_of desks)
 
+-- a record is its groups, one after another, and in the history each of them stands unbroken, in this order
+abbrev pub IsInGroups : List Event → DeskView → Type 0
+IsInGroups h d = (all_of d.groups ≡ d.deeds) × StandUnbroken d.groups h
+
 -- a desk at rest doesn't reach for a log
 abbrev pub Rests : DeskView → Type 0
 Rests d = drinking (known d) d.job ≢ Reaching
+
+-- and its record is in groups in what it has seen
+pub record RestsInGroups (d : DeskView) : Type 0 where
+  pub not_reaching : Rests d
+  pub in_groups : IsInGroups d.front d
 
 -- the counts of each desk's record stand at its job
 abbrev pub AreCounted : List Counts → List DeskView → Type 0
 AreCounted counts desks = Each (λ (d : DeskView). slice_index_or counts d.job no_counts ≡ counts_of d.job d.deeds) desks
 
 -- There is one history, for exactly the records of these desks: it is legal from THE opening, the events of each job in it are its desk's record,
--- in order, and nothing else is in it; each desk saw a beginning of it; and it ends as the closed bench shows
+-- in order, and nothing else is in it; each group of a record stands unbroken; each desk saw a beginning of it; and it ends as the closed bench shows
 pub record IsEnd (p : LabPlan) (desks : List DeskView) (c : ClosedView) : Type 0 where
   pub is_plan : IsPlan p
   pub plan : c.plan ≡ p
   pub history : List Event
   pub legal : IsHistory p history
   pub records : Each (λ (d : DeskView). events_by d.job history ≡ d.deeds) desks
+  pub groups : Each (IsInGroups history) desks
   pub nobody_else : Each (λ (event : Event). actor event < length p.jobs) history
   pub fronts : Each (λ (d : DeskView). StartsWith history d.front) desks
   pub edges : (e : ℕ) → e < length (edges p) → edge_in c e ≡ edge (state_after p history) e

@@ -17,6 +17,7 @@ pub record Heard (d : DeskView) (news : List Event) (e : DeskView) : Type 0 wher
   pub plan : e.plan ≡ d.plan
   pub job : e.job ≡ d.job
   pub deeds : e.deeds ≡ d.deeds
+  pub groups : e.groups ≡ d.groups
   pub more : List Event
   pub front : e.front ≡ d.front ++ more
   pub starts : StartsWith e.front news

@@ -8,7 +8,7 @@ ghost use Rattle.legal_steps.specs.declared.phase.Drinking.TheVariants.{Retired}
 ghost use Rattle.edge_rule.specs.ClosedView.{edge_in, phase_in, log_in, counts_in};
 
 use crate::counts::Counts;
-use crate::words::{job_number, number, phase_place, unpacked, unpacked_phase};
+use crate::words::{edge_place, job_number, phase_place, unpacked, unpacked_phase};
 use atomic_table::Closed as Left;
 use edge_word::{EdgeWord, PhaseWord};
 use instrument_log::InstrumentLog;
@@ -82,7 +82,7 @@ impl<'p, A: Allocator> Closed<'p, A> {
         ensures edge { result ≡ edge_in self.now edge }
         ensures fits { IsOfBottles (length (bottles self.now.plan edge)) result }
     {
-        let word = self.left.word(8 * number(edge));
+        let word = self.left.word(edge_place(edge));
         unpacked(self.plan, edge, word)
     }
 

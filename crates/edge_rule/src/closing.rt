@@ -5,14 +5,14 @@ ghost use Rattle.one_history.specs.Seating.{nothing};
 ghost use Rattle.edge_rule.specs.DeskView.{Owns};
 ghost use Rattle.edge_rule.specs.Company.{Distinct, jobs_of};
 ghost use Rattle.edge_rule.specs.Counting.{no_counts, counts_of};
-ghost use Rattle.edge_rule.specs.Ending.{gathered, HasAll, Rests, IsEnd, AreCounted};
+ghost use Rattle.edge_rule.specs.Ending.{gathered, HasAll, RestsInGroups, IsEnd, AreCounted};
 
 use crate::bench::Bench;
 use crate::closed::Closed;
 use crate::counts::{Counts, NO_COUNTS};
 use crate::desk::Desk;
 use crate::refusals::{CloseCause, CloseRefused};
-use crate::words::job_number;
+use crate::words::{SOME_WORD, job_number};
 use atomic_table::Seat;
 use instrument_log::InstrumentLog;
 use one_history::board::{Board, Enters, Notes, View};
@@ -46,7 +46,7 @@ fn gather<A: Allocator>(
     requires empty { keeper.old.me ≡ (nothing, []) }
     requires own { Each (λ d. d.table ≡ table.now.shared.table_id) desks.items }
     ensures keeper { (keeper.new.table_id ≡ keeper.old.table_id) × (keeper.new.me ≡ (gathered desks.items, [])) }
-    ensures rests { Each Rests desks.items }
+    ensures rests { Each RestsInGroups desks.items }
 {
     while let Some(desk) = desks.pop() {
         let Desk { seat, .. } = desk;
@@ -66,7 +66,8 @@ fn taken_apart<'p, A: Allocator>(
     ensures { IsEnd bench.entry.plan desks.items result }
 {
     let Bench { table, plan } = bench;
-    let (_, mut keeper) = table.shared.load_new_seat::<Enters>(0);
+    // A seat comes to the table only by a step; what this one reads doesn't matter.
+    let (_, mut keeper) = table.shared.load_new_seat::<Enters>(SOME_WORD);
     gather(&table, &mut keeper, desks);
     Closed {
         left: table.close_with(keeper),

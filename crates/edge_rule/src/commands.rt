@@ -46,6 +46,7 @@ pub fn command<A: Allocator>(bench: &Bench<A>, desk: &mut Desk<A>) -> Entry
     };
     let first = packed_phase(reaching);
     let second = packed_phase(acted);
+    // The job drinks, so nobody else holds the instrument: its log is in its slot, and no lock is asked for.
     bench
         .table
         .shared
@@ -58,6 +59,7 @@ pub fn command<A: Allocator>(bench: &Bench<A>, desk: &mut Desk<A>) -> Entry
         .shared
         .store::<Acts>(&mut desk.seat, place, second);
     desk.phase = acted;
+    // Only the position is another, on which no move of an edge depends: what is noted of edges stays.
     desk.settled = false;
     entry
 }

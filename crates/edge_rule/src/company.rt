@@ -8,6 +8,7 @@ ghost use Rattle.locality.specs.Lists.{Each, StartsWith};
 
 use crate::bench::Bench;
 use crate::desk::Desk;
+use crate::words::SOME_WORD;
 use atomic_table::Seat;
 use instrument_log::InstrumentLog;
 use one_history::board::{Backs, Board, Lends, Notes, Notices, Returns, View};
@@ -30,7 +31,8 @@ fn hear<A: Allocator>(
     ensures wholes { Each (λ d. events_by d.job me.new.me.0.front ≡ d.deeds) others.old }
 {
     if others.is_empty() {
-        table.shared.load::<Notices>(me, 0);
+        // The load is there for the rule alone: what a seat has heard of becomes what it has seen only in a step.
+        table.shared.load::<Notices>(me, SOME_WORD);
         return;
     }
     let (front, later) = others.split_at_mut(1);

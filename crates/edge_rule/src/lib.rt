@@ -1,4 +1,5 @@
-//! A shared bench: one table of atomic words under one rule, with one history.
+//! A shared bench: one table of atomic words under one rule, with one history. Each step that a desk takes is atomic, and adds
+//! exactly its events to that history.
 #![tactic(auto)]
 
 mod bench;
@@ -31,7 +32,6 @@ pub use counts::Counts;
 pub use desk::Desk;
 pub use meeting::{glance, meet};
 pub use one_history::PhaseEvent;
-pub use readers::unpacked_edge;
 pub use refusals::{CloseCause, CloseRefused, OpenError};
 pub use steps::{exchange, look, store_phase};
 pub use telling::{News, heed, tell};

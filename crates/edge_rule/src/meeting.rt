@@ -37,6 +37,7 @@ fn glance_at<A: Allocator>(
     ensures does { (x : JobState) × (result ≡ phase_word_of x) × FitsPhaseWord x × Does me.old.me.0 (Glance (hand_in me.old.me.0).job (hand_in other.old.me.0).job x) me.new.me.0 }
     ensures both { StartsWith me.new.me.0.front other.old.me.0.front × (events_by (hand_in other.old.me.0).job me.new.me.0.front ≡ (hand_in other.old.me.0).deeds) }
 {
+    // With the other's hand the history that the load sees has the other's record whole; nobody acts by it meanwhile.
     let lent = table.shared.split_seat::<Lends>(other);
     table.shared.join_seat::<Notes>(me, lent);
     let found = table.shared.load::<Glances>(me, word);

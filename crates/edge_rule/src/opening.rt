@@ -13,6 +13,7 @@ use crate::counts::NO_COUNTS;
 use crate::desk::Desk;
 use crate::needed::NOTHING_NOTED;
 use crate::refusals::OpenError;
+use crate::words::{edge_place, word_count};
 use atomic_table::{Seat, Table};
 use edge_word::EdgeWord;
 use instrument_log::InstrumentLog;
@@ -26,11 +27,10 @@ use std::alloc::{AllocError, Allocator};
 fn fresh_words<A: Allocator + Copy>(alloc: A, plan: &Plan<A>) -> Result<Vec<u64, A>, AllocError>
     ensures { IfOk result (λ v. Spelled plan.now (the_opening plan.now) v.items) }
 {
-    let count = 8 * (plan.edges() as usize + plan.jobs() + 1);
-    let mut words = Vec::from_elem(alloc, 0u64, count)?;
+    let mut words = Vec::from_elem(alloc, 0u64, word_count(plan))?;
     for edge in 0..plan.edges() {
         let word = EdgeWord::opening(plan.bottles(EdgeNo(edge))).pack();
-        words[8 * edge as usize] = word;
+        words[edge_place(EdgeNo(edge))] = word;
     }
     Ok(words)
 }
@@ -124,6 +124,7 @@ fn opened<'p, A: Allocator + Copy>(
 ) -> Result<(Bench<'p, A>, Vec<Desk<A>, A>), AllocError>
     ensures { IfOk result (λ r. (r.0.plan ≡ plan.now) × (r.1.items ≡ fresh_desks r.0.table plan.now (length plan.now.jobs))) }
 {
+    // A call for its clause alone: that the plan is well formed, which the rule of the table asks for.
     let _ = plan.jobs();
     let words = fresh_words(alloc, plan)?;
     let logs = empty_logs(alloc, plan)?;

@@ -1,6 +1,5 @@
 //! What a desk and a bench answer without a step.
 ghost use Rattle.std.specs.Prelude.{◌≡◌, ◌↔◌, ◌<◌, ◌≤◌, length, IsTrue};
-ghost use Rattle.lab_plan.specs.Limits.{most_bottles};
 ghost use Rattle.lab_plan.specs.LabPlan.{edges, bottles};
 ghost use Rattle.legal_steps.specs.State.{IsOwn, edge as edge_at, phase as phase_at, fork_mark as fork_mark_at, bottle_marks as bottle_marks_at, drinking as drinking_at};
 ghost use Rattle.legal_steps.specs.declared.phase.Drinking.TheVariants.{Retired};
@@ -15,10 +14,10 @@ use crate::bench::Bench;
 use crate::clock::Clock;
 use crate::counts::Counts;
 use crate::desk::Desk;
-use crate::words::{number, state_of};
+use crate::words::number;
 use edge_word::EdgeWord;
 use lab_plan::{EdgeNo, JobNo, Plan};
-use legal_steps::{Drinking, EdgeState, JobState};
+use legal_steps::{Drinking, JobState};
 use std::alloc::Allocator;
 
 impl<'p, A: Allocator> Bench<'p, A> {
@@ -150,12 +149,4 @@ impl<A: Allocator> Desk<A> {
             session: self.phase.session,
         };
     }
-}
-
-/// The state of an edge that its word spells.
-pub fn unpacked_edge(word: EdgeWord) -> EdgeState
-    requires { IsOfBottles most_bottles word }
-    ensures { result ≡ word }
-{
-    state_of(word)
 }

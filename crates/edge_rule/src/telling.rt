@@ -6,6 +6,7 @@ ghost use Rattle.edge_rule.specs.Telling.{Heard};
 
 use crate::bench::Bench;
 use crate::desk::Desk;
+use crate::words::SOME_WORD;
 use atomic_table::Seat;
 use instrument_log::InstrumentLog;
 use one_history::board::{Notes, Notices, View};
@@ -50,5 +51,9 @@ pub fn heed<A: Allocator>(bench: &Bench<A>, desk: &mut Desk<A>, news: News<A>)
 {
     let News { seat } = news;
     bench.table.shared.join_seat::<Notes>(&mut desk.seat, seat);
-    bench.table.shared.load::<Notices>(&mut desk.seat, 0);
+    // The load is there for the rule alone: what a seat has heard of becomes what it has seen only in a step.
+    bench
+        .table
+        .shared
+        .load::<Notices>(&mut desk.seat, SOME_WORD);
 }

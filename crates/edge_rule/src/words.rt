@@ -1,6 +1,6 @@
 //! Words as they are read and written.
 ghost use Rattle.std.specs.Prelude.{◌≡◌, ◌+◌, ◌<◌, ◌≤◌, ◌^◌, length, slice_index_or, bit_xor, bit_and, IsTrue, ◌↔◌, true};
-ghost use Rattle.lab_plan.specs.Limits.{most_sessions, most_bottles};
+ghost use Rattle.lab_plan.specs.Limits.{most_sessions};
 ghost use Rattle.lab_plan.specs.LabPlan.{edges, bottles};
 ghost use Rattle.legal_steps.specs.declared.edge_state.EdgeState.{EdgeState};
 ghost use Rattle.legal_steps.specs.State.{IsOwn, end_of, bottles_at};
@@ -9,11 +9,11 @@ ghost use Rattle.legal_steps.specs.declared.phase.JobState.{JobState};
 ghost use Rattle.edge_word.specs.Words.{word_of, IsOfBottles};
 ghost use Rattle.edge_word.specs.Phases.{phase_word_of, FitsPhaseWord};
 ghost use Rattle.one_history.specs.PhaseEvents.{phase_after as next_phase, clears as clears_marks};
-ghost use Rattle.one_history.specs.Rule.{phase_place as place_of};
+ghost use Rattle.one_history.specs.Rule.{edge_place as place_of_edge, phase_place as place_of, word_count as count_of};
 
 use edge_word::{EdgeWord, PhaseWord};
 use lab_plan::{EdgeNo, JobNo, Plan};
-use legal_steps::{Dining, Drinking, EdgeState, End, JobState};
+use legal_steps::{Dining, Drinking, End, JobState};
 use one_history::PhaseEvent;
 use std::alloc::Allocator;
 
@@ -42,21 +42,6 @@ pub(crate) fn unpacked<A: Allocator>(plan: &Plan<A>, edge: EdgeNo, word: u64) ->
     }
 }
 
-// The state of an edge that a word spells.
-pub(crate) fn state_of(word: EdgeWord) -> EdgeState
-    requires { IsOfBottles most_bottles word }
-    ensures { result ≡ word }
-{
-    let bits = word.pack();
-    EdgeState {
-        fork: word.fork_end(),
-        dirty: word.dirty(),
-        token: word.token_end(),
-        bottles: ((bits >> 4) % 0x1000_0000) as u32,
-        bottle_tokens: (bits >> 32) as u32,
-    }
-}
-
 // Whether the edge was noted as calm, and the word is the one last seen.
 pub(crate) fn is_seen_again(noted: bool, last: EdgeWord, word: u64) -> bool
     ensures { IsTrue result ↔ ((noted ≡ true) × (word_of last ≡ word)) }
@@ -73,24 +58,44 @@ pub(crate) fn marks_of<A: Allocator>(
     seen: EdgeWord,
 ) -> (bool, u32)
     requires own { IsOwn plan.now job edge }
-    requires fits { IsOfBottles (length (bottles plan.now edge)) seen }
     ensures fork { result.0 ≡ fork_mark_seen dining (end_of plan.now job edge) seen }
     ensures bottles { result.1 ≡ bottles_at plan.now edge (end_of plan.now job edge) seen }
 {
-    let _ = plan.bottles(edge);
     let here = End::of(plan, job, edge);
-    let state = state_of(seen);
+    let state = seen.unpacked();
     (
         state.fork_mark(here, dining),
         state.bottles_at(plan, edge, here),
     )
 }
 
+// Words that are used stand so far apart: each has a cache line of its own, so that threads that work on neighbouring
+// words don't slow each other down.
+const STRIDE: usize = 8;
+
+// A place that every table has: that of the first edge or phase, or the spare one. Loads that are there for the rule alone
+// are loads of it.
+pub(crate) const SOME_WORD: usize = 0;
+
+// Where the word of an edge is.
+pub(crate) fn edge_place(edge: EdgeNo) -> usize
+    ensures { (result ≡ place_of_edge edge) × (result < 524288) }
+{
+    STRIDE * number(edge)
+}
+
 // Where the word of a job's phase is.
 pub(crate) fn phase_place<A: Allocator>(plan: &Plan<A>, job: JobNo) -> usize
     ensures { result ≡ place_of plan.now job }
 {
-    8 * (plan.edges() as usize + job.0 as usize)
+    STRIDE * (plan.edges() as usize + job.0 as usize)
+}
+
+// How many places a table has.
+pub(crate) fn word_count<A: Allocator>(plan: &Plan<A>) -> usize
+    ensures { result ≡ count_of plan.now }
+{
+    STRIDE * (plan.edges() as usize + plan.jobs() + 1)
 }
 
 pub(crate) fn packed_phase(phase: JobState) -> u64

@@ -1,4 +1,4 @@
--- What a phase word spells: the table of its bits, as a number and as how far a job is.
+-- For readers: what a phase word spells: the table of its bits, as a number and as how far a job is.
 use Rattle.std.specs.Prelude.{◌≡◌, ℕ, ◌+◌, ◌*◌, ◌/◌, ◌%◌, ◌^◌, ◌<◌, if◌then◌else◌, ◌==◌}
 use Rattle.legal_steps.specs.declared.phase.Dining.{Dining}
 use Rattle.legal_steps.specs.declared.phase.Dining.TheVariants.{Thinking, Hungry, Eating}

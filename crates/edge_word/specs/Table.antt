@@ -1,4 +1,4 @@
--- The tables of both words: of an edge word bit by bit, of a phase word field by field.
+-- For readers: the tables of both words: of an edge word bit by bit, of a phase word field by field.
 use Rattle.std.specs.Prelude.{◌≡◌, ℕ, ◌+◌, ◌/◌, ◌%◌, ◌^◌, ◌<◌, ◌≤◌}
 use Rattle.std.specs.Int.{bit_at}
 use Rattle.lab_plan.specs.Limits.{most_bottles}

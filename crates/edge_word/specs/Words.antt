@@ -1,4 +1,4 @@
--- What an edge word spells: the table of its bits, as a number and as the state of an edge.
+-- For readers: what an edge word spells: the table of its bits, as a number and as the state of an edge.
 use Rattle.std.specs.Prelude.{◌≡◌, ◌≢◌, ℕ, ◌+◌, ◌-◌, ◌*◌, ◌/◌, ◌%◌, ◌^◌, ◌<◌, Bool, true, false, not, if◌then◌else◌, ◌==◌}
 use Rattle.legal_steps.specs.declared.end.End.{End}
 use Rattle.legal_steps.specs.declared.end.End.TheVariants.{Lower, Higher}

@@ -9,19 +9,38 @@ ghost use Rattle.edge_word.specs.Words.{word_of, end_at, stray_bits, opening_edg
 ghost use Rattle.edge_word.specs.Moves.{mask, flipped, after_moves, events_of, Lead, AreOfBottles};
 
 use crate::moves::EdgeMoves;
-use legal_steps::End;
+use legal_steps::{EdgeState, End};
 use std::marker::Model;
+
+// The places of the fields in a word.
+const FORK: u32 = 0;
+
+const DIRTY: u32 = 1;
+
+const TOKEN: u32 = 2;
+
+const ZERO: u32 = 3;
+
+const BOTTLES: u32 = 4;
+
+const BOTTLE_TOKENS: u32 = 32;
+
+// The fork is at the lower end and dirty, and its token at the higher.
+const DIRTY_AND_ASKABLE: u64 = (1 << TOKEN) + (1 << DIRTY);
+
+// As many bits as an edge has bottles at most.
+const ALL_BOTTLES: u64 = 0xfff_ffff;
 
 /// The state of an edge in one word. Ends are 0 at the lower job and 1 at the higher.
 ///
 /// | bits | meaning |
 /// |---|---|
-/// | 0 | end of the fork |
-/// | 1 | 1 where the fork is dirty |
-/// | 2 | end of the fork's request token |
-/// | 3 | zero |
-/// | 4 to 31 | bit `4 + k`: end of bottle `k` |
-/// | 32 to 59 | bit `32 + k`: end of the request token of bottle `k` |
+/// | `FORK`, 0 | end of the fork |
+/// | `DIRTY`, 1 | 1 where the fork is dirty |
+/// | `TOKEN`, 2 | end of the fork's request token |
+/// | `ZERO`, 3 | zero |
+/// | 4 to 31 | bit `BOTTLES + k`: end of bottle `k` |
+/// | 32 to 59 | bit `BOTTLE_TOKENS + k`: end of the request token of bottle `k` |
 /// | 60 to 63 | zero |
 ///
 /// Bits of bottles that the edge lacks are zero.
@@ -91,9 +110,9 @@ fn stray_bits_of(word: u64, bottles: u32) -> u64
     requires { bottles ≤ most_bottles }
     ensures { result ≡ stray_bits word bottles }
 {
-    let set = (word >> 4) & 0xfff_ffff;
-    let tokens = word >> 32;
-    (word >> 3 & 1) + (set >> bottles) + (tokens >> bottles)
+    let set = (word >> BOTTLES) & ALL_BOTTLES;
+    let tokens = word >> BOTTLE_TOKENS;
+    (word >> ZERO & 1) + (set >> bottles) + (tokens >> bottles)
 }
 
 /// The bits of the things that change.
@@ -103,8 +122,8 @@ fn mask_of(flips: Flips) -> u64
     requires tokens { flips.bottle_tokens < 2 ^ 28 }
     ensures { result ≡ mask flips }
 {
-    let low = ((flips.token as u64) << 2) + ((flips.dirty as u64) << 1) + flips.fork as u64;
-    ((flips.bottle_tokens as u64) << 32) + ((flips.bottles as u64) << 4) + low
+    let low = ((flips.token as u64) << TOKEN) + ((flips.dirty as u64) << DIRTY) + flips.fork as u64;
+    ((flips.bottle_tokens as u64) << BOTTLE_TOKENS) + ((flips.bottles as u64) << BOTTLES) + low
 }
 
 impl EdgeWord {
@@ -115,7 +134,7 @@ impl EdgeWord {
         ensures { result ≡ opening_edge bottles }
     {
         EdgeWord {
-            word: (((1u64 << bottles) - 1) << 32) + 6,
+            word: (((1u64 << bottles) - 1) << BOTTLE_TOKENS) + DIRTY_AND_ASKABLE,
         }
     }
 
@@ -146,7 +165,7 @@ impl EdgeWord {
     pub fn fork_end(self) -> End
         ensures { result ≡ self.fork }
     {
-        end_of(self.word)
+        end_of(self.word >> FORK)
     }
 
     /// Whether the fork is dirty.
@@ -154,7 +173,7 @@ impl EdgeWord {
     pub fn dirty(self) -> bool
         ensures { result ≡ self.dirty }
     {
-        (self.word >> 1) & 1 != 0
+        (self.word >> DIRTY) & 1 != 0
     }
 
     /// The end of the fork's request token.
@@ -162,7 +181,7 @@ impl EdgeWord {
     pub fn token_end(self) -> End
         ensures { result ≡ self.token }
     {
-        end_of(self.word >> 2)
+        end_of(self.word >> TOKEN)
     }
 
     /// The end of bottle `k`; the lower for a bottle that the edge lacks.
@@ -171,7 +190,7 @@ impl EdgeWord {
         requires { k < most_bottles }
         ensures { result ≡ bottle_end self.bottles k }
     {
-        end_of(self.word >> (4 + k))
+        end_of(self.word >> (BOTTLES + k))
     }
 
     /// The end of the request token of bottle `k`; the lower for a bottle that the edge lacks.
@@ -180,7 +199,22 @@ impl EdgeWord {
         requires { k < most_bottles }
         ensures { result ≡ bottle_end self.bottle_tokens k }
     {
-        end_of(self.word >> (32 + k))
+        end_of(self.word >> (BOTTLE_TOKENS + k))
+    }
+
+    /// The state that the word spells.
+    #[tactic(auto, unfolding(crate::specs::Words::state_of))]
+    pub fn unpacked(self) -> EdgeState
+        ensures { result ≡ self }
+    {
+        let dirty = self.dirty();
+        EdgeState {
+            fork: self.fork_end(),
+            dirty,
+            token: self.token_end(),
+            bottles: ((self.word >> BOTTLES) & ALL_BOTTLES) as u32,
+            bottle_tokens: (self.word >> BOTTLE_TOKENS) as u32,
+        }
     }
 
     fn flipped(self, flips: Flips) -> EdgeWord

@@ -1,4 +1,4 @@
-// What is promised of a run, in one place: all that holds of every list of events that is legal from THE opening.
+//! Laws alone: what is promised of a run, in one place: all that holds of every list of events that is legal from THE opening.
 #![tactic(auto)]
 
 ghost use Rattle.headline.specs.Headline.{HoldsOfEveryRun};

@@ -1,4 +1,4 @@
--- The limits of a log's entries, and the 16 bytes that spell one.
+-- For readers: the limits of a log's entries, and the 16 bytes that spell one.
 use Rattle.std.specs.Prelude.{ℕ, zero, suc, ◌<◌, ◌≤◌, ◌+◌, ◌*◌, List, ◌++◌, slice_index_or}
 use Rattle.std.specs.Int.{bytes_low_first}
 use Rattle.lab_plan.specs.declared.verb.Verb.{Verb}

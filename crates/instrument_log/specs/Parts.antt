@@ -1,4 +1,4 @@
--- The parts of a log. A part is what one session of a job leaves on the instrument: its places from 1 to their length, in order.
+-- For readers: the parts of a log. A part is what one session of a job leaves on the instrument: its places from 1 to their length, in order.
 use Rattle.std.specs.Prelude.{◌≡◌, ℕ, ◌+◌, ◌≤◌, List, [], ◌++◌, length, All, slice_get, Option, Some, None, nat_lt, if◌then◌else◌}
 use Rattle.std.specs.List.{last_or, flat_map}
 use Rattle.std.specs.Option.{option_and_then, option_map_or, MatchOption}

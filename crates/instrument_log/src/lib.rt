@@ -1,5 +1,5 @@
-// The log of one instrument, whose type keeps it made of parts: the entries of one job's session one after
-// another, only the last part perhaps unfinished, and each value following from the one before.
+//! The log of one instrument, whose type keeps it made of parts: the entries of one job's session one after
+//! another, only the last part perhaps unfinished, and each value following from the one before.
 #![tactic(auto)]
 
 pub mod dial;

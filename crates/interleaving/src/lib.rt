@@ -1,4 +1,4 @@
-// The core: a world, a state of a plan's bench that steps by one legal event at a time.
+//! The core: a world, a state of a plan's bench that steps by one legal event at a time.
 #![tactic(auto)]
 
 mod acting;

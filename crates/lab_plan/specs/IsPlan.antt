@@ -1,4 +1,4 @@
--- What every plan keeps.
+-- For readers: what every plan keeps.
 use Rattle.std.specs.Prelude.{◌≡◌, ◌≢◌, ◌⊎◌, ℕ, ◌<◌, ◌≤◌, length, map}
 use Rattle.std.specs.List.{All, AllPairs, range_with_len}
 use Rattle.std.specs.Option.{ForSome}

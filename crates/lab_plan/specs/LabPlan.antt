@@ -1,4 +1,4 @@
--- Plans, and what follows from them: the edges of the conflict graph, their bottles, and what a session needs.
+-- For readers: plans, and what follows from them: the edges of the conflict graph, their bottles, and what a session needs.
 use Rattle.std.specs.Prelude.{ℕ, Bool, List, [], ◌∷◌, ◌+◌, ◌-◌, ◌==◌, ◌&&◌, ◌||◌, not, length, take, map, filter, min, max, Option, None, slice_index_or}
 use Rattle.std.specs.List.{count_by, list_any, flat_map, range_with_len}
 use Rattle.lab_plan.specs.declared.verb.Verb.{Verb}

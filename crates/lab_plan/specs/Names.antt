@@ -1,4 +1,4 @@
--- Names of jobs and instruments.
+-- For readers: names of jobs and instruments.
 use Rattle.std.specs.Prelude.{ℕ, Bool, ◌&&◌, ◌||◌, not, nat_le, List, [], ◌∷◌, ◌==◌, length, slice_index, codes, IsTrue}
 use Rattle.std.specs.List.{list_all, list_any}
 use Rattle.std.specs.Str.{bytes_eq}

@@ -1,4 +1,4 @@
--- How a command and the names of a plan are written.
+-- For readers: how a command and the names of a plan are written.
 use Rattle.std.specs.Prelude.{ℕ, List, [], ◌++◌, codes, decimal, slice_index_or}
 use Rattle.lab_plan.specs.declared.verb.Verb.{Verb}
 use Rattle.lab_plan.specs.declared.verb.Verb.TheVariants.{Set, Add, Read}

@@ -1,4 +1,4 @@
--- The upgraded script of a plan: the text of version 2 that means it.
+-- For readers: the upgraded script of a plan: the text of version 2 that means it.
 use Rattle.std.specs.Prelude.{ℕ, List, ◌++◌, Option, None, Some, codes, decimal}
 use Rattle.std.specs.List.{flat_map}
 use Rattle.lab_plan.specs.declared.verb.Verb.{Verb}

@@ -1,4 +1,4 @@
--- What a command does to an instrument's dial.
+-- For readers: what a command does to an instrument's dial.
 use Rattle.std.specs.Prelude.{ℕ, ◌≤◌}
 use Rattle.lab_plan.specs.Limits.{largest_number}
 use Rattle.lab_plan.specs.declared.verb.Verb.{Verb}

@@ -1,5 +1,5 @@
-// Plans of a laboratory: names, jobs with their sessions of commands, and what follows from them,
-// the edges of the conflict graph and their bottles.
+//! Plans of a laboratory: names, jobs with their sessions of commands, and what follows from them,
+//! the edges of the conflict graph and their bottles.
 #![tactic(auto)]
 
 mod bottles;

@@ -13,7 +13,7 @@ use Rattle.report.specs.Report.{report_of, all_retired}
 use Rattle.report.specs.Worlds.{shown_by}
 use Rattle.report.specs.Events.{IsReportOfEvents}
 use Rattle.headline.specs.Headline.{HoldsOfEveryRun}
-use Rattle.lab_runs.specs.declared.faults.Outcome.{Outcome}
+use Rattle.lab_program.specs.declared.faults.Outcome.{Outcome}
 use Rattle.lab_runs.specs.Replaying.{TakesSteps}
 use Rattle.lab_runs.specs.Runs.{run_of, outcome_of, ReplaysScript, HasIllegalStep}
 

@@ -1,4 +1,4 @@
--- The counts of a plan, as one line.
+-- For readers: the counts of a plan, as one line.
 use Rattle.std.specs.Prelude.{ℕ, List, ◌++◌, length, codes, decimal}
 use Rattle.std.specs.List.{sum_by}
 use Rattle.lab_runs.specs.declared.counting.PlanCounts.{PlanCounts}

@@ -1,9 +1,6 @@
-pub mod Input
-pub mod Faults
 pub mod Counts
 pub mod Runs
 pub mod Replaying
-pub mod Numbers
 pub mod Words
 pub mod Tasks
 pub mod Shared

@@ -1,6 +1,5 @@
--- What the runs of the program answer, and what has gone out then.
-use Rattle.std.specs.Prelude.{◌≡◌, ℕ, ◌≤◌, List, length, Bool, true, false, map, slice_get, Option, Some, Result, Ok, Err}
-use Rattle.std.specs.Io.KnownBytes.{Keeps, Appends}
+-- For readers: what the runs of the program write for an input, and which inputs they refuse.
+use Rattle.std.specs.Prelude.{◌≡◌, ℕ, ◌≤◌, List, length, Bool, true, false, map, slice_get, Option, Some, Result}
 use Rattle.lab_plan.specs.LabPlan.{LabPlan}
 use Rattle.lab_plan.specs.IsPlan.{IsPlan}
 use Rattle.lab_plan.specs.Upgrade.{script_text}
@@ -10,16 +9,15 @@ use Rattle.legal_steps.specs.State.{State}
 use Rattle.legal_steps.specs.Run.{IsLegalFrom, StopsAt}
 use Rattle.legal_steps.specs.Steps.{step_events}
 use Rattle.legal_steps.specs.Opening.{the_opening}
-use Rattle.script_reader.specs.Script.{text_lines, ScriptMeans, Refuses}
+use Rattle.script_reader.specs.Script.{ScriptMeans}
 use Rattle.script_reader.specs.Steps.{StepsMean, StepsRefuse}
 use Rattle.report.specs.Events.{report_after, retired_after}
-use Rattle.report.specs.Taken.{AppendsPrefix}
 use Rattle.headline.specs.Headline.{HoldsOf}
-use Rattle.lab_runs.specs.declared.faults.RunFault.{RunFault}
-use Rattle.lab_runs.specs.declared.faults.RunFault.TheVariants.{Script, Step, Read, TooLong, Write, NoMemory}
-use Rattle.lab_runs.specs.declared.faults.Outcome.{Outcome}
-use Rattle.lab_runs.specs.declared.faults.Outcome.TheVariants.{Finished, Unfinished}
-use Rattle.lab_runs.specs.Input.{IsInput, IsTooLong}
+use Rattle.lab_program.specs.declared.faults.RunFault.{RunFault}
+use Rattle.lab_program.specs.declared.faults.RunFault.TheVariants.{Script, Step}
+use Rattle.lab_program.specs.declared.faults.Outcome.{Outcome}
+use Rattle.lab_program.specs.declared.faults.Outcome.TheVariants.{Finished, Unfinished}
+use Rattle.lab_program.specs.Answers.{ScriptRefuses, AnswersTo}
 use Rattle.lab_runs.specs.Counts.{counts_line}
 
 -- ---- the run of some steps from THE opening
@@ -90,29 +88,7 @@ pub record Upgrades (input text : List ℕ) (outcome : Outcome) : Type 0 where
 abbrev pub UpgradeIsStable : Type 0
 UpgradeIsStable = (input text again : List ℕ) (first second : Outcome) → Upgrades input text first → Upgrades text again second → again ≡ text
 
-abbrev pub ScriptRefuses : List ℕ → RunFault → Type 0
-ScriptRefuses input (Script fault) = Refuses (text_lines input) fault
-ScriptRefuses input _ = ⊥
-
 -- ---- what a run answers
-
--- for an input: Ok means that the text went out, and a write fault that a prefix of it did; else nothing did
-abbrev pub AnswersFor : (List ℕ → List ℕ → Outcome → Type 0) → (List ℕ → RunFault → Type 0)
-    → List ℕ → Option (List ℕ) → Option (List ℕ) → Result Outcome RunFault → Type 0
-AnswersFor Writes Refuses input old new (Ok outcome) = (text : List ℕ) × Writes input text outcome × Appends old new text
-AnswersFor Writes Refuses input old new (Err Write) = (text : List ℕ) × (outcome : Outcome) × Writes input text outcome × AppendsPrefix old new text
-AnswersFor Writes Refuses input old new (Err NoMemory) = Keeps old new
-AnswersFor Writes Refuses input old new (Err Read) = ⊥
-AnswersFor Writes Refuses input old new (Err TooLong) = ⊥
-AnswersFor Writes Refuses input old new (Err fault) = Refuses input fault × Keeps old new
-
--- for a source: what it had left was the input, or it was not read, or too long
-abbrev pub AnswersTo : (List ℕ → List ℕ → Outcome → Type 0) → (List ℕ → RunFault → Type 0)
-    → Option (List ℕ) → Option (List ℕ) → Option (List ℕ) → Result Outcome RunFault → Type 0
-AnswersTo Writes Refuses left old new (Err Read) = Keeps old new
-AnswersTo Writes Refuses left old new (Err TooLong) = IsTooLong left × Keeps old new
-AnswersTo Writes Refuses left old new (Err NoMemory) = Keeps old new
-AnswersTo Writes Refuses left old new result = (input : List ℕ) × IsInput left input × AnswersFor Writes Refuses input old new result
 
 abbrev pub ReplayAnswers : Option (List ℕ) → Option (List ℕ) → Option (List ℕ) → Result Outcome RunFault → Type 0
 ReplayAnswers left old new result = AnswersTo ReplaysScript ReplayRefuses left old new result

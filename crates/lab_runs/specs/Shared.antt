@@ -10,13 +10,14 @@ use Rattle.rounds.specs.declared.ended.Ended.TheVariants.{Quiet}
 use Rattle.round_laws.specs.OneRun.{RanRounds}
 use Rattle.round_laws.specs.FromOpening.{fresh_players}
 use Rattle.whole_runs.specs.Turns.{TakeTurns}
-use Rattle.lab_runs.specs.declared.faults.RunFault.{RunFault}
-use Rattle.lab_runs.specs.declared.faults.Outcome.{Outcome}
-use Rattle.lab_runs.specs.Runs.{Reports, ScriptRefuses, AnswersTo}
+use Rattle.lab_program.specs.declared.faults.RunFault.{RunFault}
+use Rattle.lab_program.specs.declared.faults.Outcome.{Outcome}
+use Rattle.lab_program.specs.Answers.{ScriptRefuses, AnswersTo}
+use Rattle.lab_runs.specs.Runs.{Reports}
 
 -- Whatever the schedule: the input is a script and means a plan, and the text is the report of one list of events of this plan, each legal after the ones
 -- before it from THE opening on. The headline holds of it (Reports). The events of each job are whole turns, one after another, at most so many;
--- and so many, where not every job is retired
+-- and so many, where not every job is retired. In a turn all is done that is due, but for an exchange that found its edge another than the look saw it
 pub record RunsByTurns (turns : ℕ) (input text : List ℕ) (outcome : Outcome) : Type 0 where
   pub plan : LabPlan
   pub means : ScriptMeans input plan

@@ -1,9 +1,9 @@
--- What each task answers.
+-- For readers: what each task answers.
 use Rattle.std.specs.Prelude.{ℕ, List, Option, Result}
 use Rattle.lab_runs.specs.declared.words.Task.{Task}
 use Rattle.lab_runs.specs.declared.words.Task.TheVariants.{Rounds, Threads, Replay, Check, Upgrade}
-use Rattle.lab_runs.specs.declared.faults.RunFault.{RunFault}
-use Rattle.lab_runs.specs.declared.faults.Outcome.{Outcome}
+use Rattle.lab_program.specs.declared.faults.RunFault.{RunFault}
+use Rattle.lab_program.specs.declared.faults.Outcome.{Outcome}
 use Rattle.lab_runs.specs.Runs.{ReplayAnswers, CheckAnswers, UpgradeAnswers}
 use Rattle.lab_runs.specs.Shared.{RoundsAnswer, ThreadsAnswer}
 

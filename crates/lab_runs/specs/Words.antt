@@ -1,11 +1,11 @@
--- The words of the command line, the program's own name first.
-use Rattle.std.specs.Prelude.{◌≡◌, ◌⊎◌, ◌≤◌, ℕ, Bool, true, false, List, [], ◌∷◌, Option, None, Some, Result, Ok, Err, codes, if◌then◌else◌}
+-- For readers: the words of the command line, the program's own name first.
+use Rattle.std.specs.Prelude.{◌≤◌, ℕ, List, [], ◌∷◌, Option, None, Some, Result, codes, if◌then◌else◌}
 use Rattle.std.specs.Str.{bytes_eq}
 use Rattle.lab_runs.specs.declared.words.Task.{Task}
 use Rattle.lab_runs.specs.declared.words.Task.TheVariants.{Rounds, Threads, Replay, Check, Upgrade}
-use Rattle.lab_runs.specs.declared.words.NoTask.{NoTask}
-use Rattle.lab_runs.specs.declared.words.NoTask.TheVariants.{Help, Refused, NoMemory}
-use Rattle.lab_runs.specs.Numbers.{number_within}
+use Rattle.lab_program.specs.declared.words.NoTask.{NoTask}
+use Rattle.lab_program.specs.Numbers.{number_within}
+use Rattle.lab_program.specs.Words.{WordsGive}
 
 -- the task that one word names
 unfoldable pub task_named : List ℕ → Option Task
@@ -46,20 +46,5 @@ abbrev pub MayRun : Task → Type 0
 MayRun (Threads workers turns) = (1 ≤ workers) × (workers ≤ 32)
 MayRun _ = Unit
 
--- `--help` is the one word
-abbrev pub asks_for_help : List (List ℕ) → Bool
-asks_for_help (name ∷ word ∷ []) = bytes_eq word (codes "--help")
-asks_for_help _ = false
-
--- words that ask for a task give it, `--help` gives the help or the want of memory for its text, and all others are refused
 abbrev pub AnswersWords : List (List ℕ) → Result Task NoTask → Type 0
-AnswersWords words (Ok task) = task_of words ≡ Some task
-AnswersWords words (Err (Help text)) = asks_for_help words ≡ true
-AnswersWords words (Err NoMemory) = asks_for_help words ≡ true
-AnswersWords words (Err Refused) = (task_of words ≡ None) × (asks_for_help words ≡ false)
-
--- the status where the words gave no task: 0 for help that was printed and 4 where it wasn't, 2 for words that are refused, 5 for want of memory
-abbrev pub EndsWithoutTask : NoTask → ℕ → Type 0
-EndsWithoutTask (Help text) status = (status ≡ 0) ⊎ (status ≡ 4)
-EndsWithoutTask Refused status = status ≡ 2
-EndsWithoutTask NoMemory status = status ≡ 5
+AnswersWords words result = WordsGive task_of words result

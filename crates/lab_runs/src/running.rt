@@ -1,17 +1,16 @@
 // What the program does with a script: replay its steps, check it, upgrade it.
 ghost use Rattle.std.specs.Prelude.{◌≡◌, ◌+◌};
-ghost use Rattle.lab_runs.specs.Input.{ConsumesUpTo};
-ghost use Rattle.lab_runs.specs.Faults.{failed_reads, failed_writes};
-ghost use Rattle.lab_runs.specs.Runs.{AnswersFor, ReplaysScript, ReplayRefuses, ReplayAnswers, Checks, CheckAnswers, Upgrades, UpgradeAnswers, UpgradeIsStable, ScriptRefuses};
+ghost use Rattle.lab_program.specs.Input.{ConsumesUpTo};
+ghost use Rattle.lab_program.specs.Faults.{failed_reads, failed_writes};
+ghost use Rattle.lab_program.specs.Answers.{AnswersFor, ScriptRefuses};
+ghost use Rattle.lab_runs.specs.Runs.{ReplaysScript, ReplayRefuses, ReplayAnswers, Checks, CheckAnswers, Upgrades, UpgradeAnswers, UpgradeIsStable};
 
 use crate::counting::counts_line;
-use crate::faults::{Outcome, RunFault};
-use crate::reading::read_input;
 use crate::replaying::take_steps;
-use crate::sending::{outcome_of, send_report, send_script, send_text};
-use crate::source::Source;
+use crate::sending::{outcome_of, send_report, send_script};
 use headline::holds_of_every_run;
 use interleaving::World;
+use lab_program::{Outcome, RunFault, Source, read_input, send_text};
 use report::Sink;
 use report::laws::report_of_events;
 use script_reader::laws::one_meaning;

@@ -1,34 +1,14 @@
-// What a run writes, a text and then a flush, and how it ends.
-ghost use Rattle.std.specs.Prelude.{◌≡◌, []};
+// What a run writes, a report or a script and then a flush, and how it ends.
+ghost use Rattle.std.specs.Prelude.{◌≡◌};
 ghost use Rattle.lab_plan.specs.Upgrade.{script_text};
 ghost use Rattle.report.specs.Taken.{Sends};
 ghost use Rattle.report.specs.Report.{report_of, all_retired};
 ghost use Rattle.lab_runs.specs.Runs.{outcome_of};
 
-use crate::faults::Outcome;
 use lab_plan::Plan;
-use report::{Failed, Showing, Sink, WriteFault, all_retired, offer, write_report, write_script};
+use lab_program::{Outcome, pass_on};
+use report::{Showing, Sink, WriteFault, all_retired, write_report, write_script};
 use std::alloc::Allocator;
-
-/// Passes on what the sink took.
-fn pass_on<W: Sink>(sink: &mut W) -> Result<(), WriteFault>
-    ensures { Sends W.taken W.failures sink.old sink.new [] result }
-{
-    match sink.flush() {
-        Ok(()) => Ok(()),
-        Err(Failed) => Err(WriteFault),
-    }
-}
-
-/// Sends a text.
-pub(crate) fn send_text<W: Sink>(text: &[u8], sink: &mut W) -> Result<(), WriteFault>
-    ensures { Sends W.taken W.failures sink.old sink.new text.now result }
-{
-    match offer(sink, text) {
-        Ok(()) => pass_on(sink),
-        Err(fault) => Err(fault),
-    }
-}
 
 /// Sends the report of a run.
 pub(crate) fn send_report<S: Showing<P>, P: Allocator, W: Sink>(

@@ -1,15 +1,13 @@
 // What the program does with a script on a shared bench: its jobs take turns, in rounds or by threads.
 ghost use Rattle.std.specs.Prelude.{◌≡◌, ◌+◌, ◌≤◌};
-ghost use Rattle.lab_runs.specs.Input.{ConsumesUpTo};
-ghost use Rattle.lab_runs.specs.Faults.{failed_reads, failed_writes};
-ghost use Rattle.lab_runs.specs.Runs.{AnswersFor, ScriptRefuses};
+ghost use Rattle.lab_program.specs.Input.{ConsumesUpTo};
+ghost use Rattle.lab_program.specs.Faults.{failed_reads, failed_writes};
+ghost use Rattle.lab_program.specs.Answers.{AnswersFor, ScriptRefuses};
 ghost use Rattle.lab_runs.specs.Shared.{RunsByTurns, RunsInRounds, HasOneRun, RoundsAnswer, ThreadsAnswer};
 
-use crate::faults::{Outcome, RunFault};
-use crate::reading::read_input;
 use crate::sending::{outcome_of, send_report};
-use crate::source::Source;
 use headline::holds_of_every_run;
+use lab_program::{Outcome, RunFault, Source, read_input};
 use report::Sink;
 use report::laws::one_report;
 use round_laws::laws::one_run;
@@ -17,7 +15,7 @@ use script_reader::laws::one_meaning;
 use script_reader::read_plan;
 use std::alloc::Allocator;
 use std::thread::Threads;
-use whole_runs::{by_rounds, by_threads};
+use whole_runs::{AtEnd, by_rounds, by_threads};
 use workers::Gate;
 
 /// Runs the script of an input in rounds.
@@ -36,8 +34,9 @@ fn in_rounds<A: Allocator + Copy, W: Sink>(
     holds_of_every_run();
     let plan = read_plan(alloc, input)?;
     let run = by_rounds(alloc, &plan, limit)?;
-    send_report(&run, sink)?;
-    Ok(outcome_of(&run))
+    let end = AtEnd { closed: &run };
+    send_report(&end, sink)?;
+    Ok(outcome_of(&end))
 }
 
 /// Runs a script on one thread, in rounds: each round has one turn of each job, in the order of the script. It ends once all
@@ -84,8 +83,9 @@ fn by_workers<X: Threads + Sync, A: Allocator + Copy + Send + Sync, W: Sink, G: 
     holds_of_every_run();
     let plan = read_plan(alloc, input)?;
     let run = by_threads(rt, alloc, &plan, workers, turns, gate)?;
-    send_report(&run, sink)?;
-    Ok(outcome_of(&run))
+    let end = AtEnd { closed: &run };
+    send_report(&end, sink)?;
+    Ok(outcome_of(&end))
 }
 
 /// Runs a script by 1 to 32 worker threads: worker `w` takes the turns of the jobs whose number is `w` modulo the workers, at

@@ -1,27 +1,27 @@
 // Which task runs what.
 ghost use Rattle.std.specs.Prelude.{◌≡◌, ◌+◌};
-ghost use Rattle.lab_runs.specs.Input.{ConsumesUpTo};
-ghost use Rattle.lab_runs.specs.Faults.{failed_reads, failed_writes};
+ghost use Rattle.lab_program.specs.Input.{ConsumesUpTo};
+ghost use Rattle.lab_program.specs.Faults.{failed_reads, failed_writes};
 ghost use Rattle.lab_runs.specs.Words.{MayRun};
 ghost use Rattle.lab_runs.specs.Tasks.{TaskAnswers};
 
-use crate::faults::{Outcome, RunFault};
 use crate::running::{run_check, run_replay, run_upgrade};
 use crate::sharing::{run_rounds, run_threads};
-use crate::source::Source;
 use crate::words::Task;
+use lab_program::{Outcome, RunFault, Source};
 use report::Sink;
 use std::alloc::Allocator;
 use std::thread::Threads;
-use workers::NoGate;
+use workers::Gate;
 
-/// Runs a task over a source and a sink. Only a task by threads starts any.
-pub fn run_task<X: Threads + Sync, A: Allocator + Copy + Send + Sync, R: Source, W: Sink>(
+/// Runs a task over a source and a sink. Only a task by threads starts any, and its turns alone pass the gate.
+pub fn run_task<X: Threads + Sync, A: Allocator + Copy + Send + Sync, R: Source, W: Sink, G: Gate>(
     task: Task,
     rt: &X,
     alloc: A,
     source: &mut R,
     sink: &mut W,
+    gate: &G,
 ) -> Result<Outcome, RunFault>
     requires { MayRun task }
     ensures answer { TaskAnswers task (R.left source.old) (W.taken sink.old) (W.taken sink.new) result }
@@ -32,7 +32,7 @@ pub fn run_task<X: Threads + Sync, A: Allocator + Copy + Send + Sync, R: Source,
     match task {
         Task::Rounds { limit } => run_rounds(alloc, source, sink, limit),
         Task::Threads { workers, turns } => {
-            run_threads(rt, alloc, source, sink, workers, turns, &NoGate)
+            run_threads(rt, alloc, source, sink, workers, turns, gate)
         }
         Task::Replay => run_replay(alloc, source, sink),
         Task::Check => run_check(alloc, source, sink),

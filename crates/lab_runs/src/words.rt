@@ -1,10 +1,9 @@
 // The words of the command line.
 ghost use Rattle.std.specs.Prelude.{◌≡◌, map, IfOk, IfSome};
-ghost use Rattle.lab_runs.specs.Words.{AnswersWords, MayRun, task_named, rounds_of, threads_of, task_of, asks_for_help};
+ghost use Rattle.lab_runs.specs.Words.{AnswersWords, MayRun, task_named, rounds_of, threads_of, task_of};
 
-use crate::numbers::number_within;
-use clap::{Arg, ArgAction, Command};
-use std::alloc::{AllocError, Global};
+use lab_program::{NoTask, Word, asks_for_help, bytes, help, number_within};
+use std::alloc::Global;
 use std::convert::AsStr;
 
 /// What the words ask for.
@@ -22,33 +21,50 @@ pub enum Task {
     Upgrade,
 }
 
-/// Why the words gave no task.
-#[derive(Debug, Drop)]
-pub enum NoTask {
-    /// `--help` alone was asked for, and this is its text.
-    Help(String),
-    /// The words are none that the program knows.
-    Refused,
-    /// A growth was refused.
-    NoMemory,
-}
-
-impl From<AllocError> for NoTask {
-    ghost use Rattle.std.specs.Prelude.{◌≡◌};
-    ghost use Rattle.lab_runs.specs.declared.words.NoTask.TheVariants as reasons;
-
-    ghost from_gives = { λ _ reason. reason ≡ reasons.NoMemory };
-
-    fn from(_error: AllocError) -> NoTask {
-        NoTask::NoMemory
-    }
-}
+/// The program's name.
+pub const PROGRAM: &str = "labrun";
 
 /// The most rounds, or turns of a job, that words can ask for.
 const MOST_TURNS: u32 = 1_000_000_000;
 
 /// The most workers.
 const MOST_WORKERS: u32 = 32;
+
+/// What the program does.
+const ABOUT: &str = "Runs command scripts on the simulated instruments of a shared laboratory";
+
+const ROUNDS: Word = Word {
+    name: "rounds",
+    values: "N",
+    about: "run a script on one thread, one turn of each job a round, at most N rounds, print the report",
+};
+
+const THREADS: Word = Word {
+    name: "threads",
+    values: "W N",
+    about: "run a script by W worker threads, at most N turns of each job, print the report",
+};
+
+const REPLAY: Word = Word {
+    name: "replay",
+    values: "",
+    about: "read a script and its steps, take each step where it is legal, print the report",
+};
+
+const CHECK: Word = Word {
+    name: "check",
+    values: "",
+    about: "read a script and print its counts",
+};
+
+const UPGRADE: Word = Word {
+    name: "upgrade",
+    values: "",
+    about: "read a script of either version and print it in version 2",
+};
+
+/// The words, as the help shows them.
+const WORDS: [Word; 5] = [ROUNDS, THREADS, REPLAY, CHECK, UPGRADE];
 
 /// What stands below the table of words in the help.
 const AFTER_HELP: &str =
@@ -69,71 +85,19 @@ Statuses:
 Example: two jobs take turns on a scale, and each turns its dial on by 1
   printf 'lab 1\\njob a\\nsession\\nscale add 1\\nend\\njob b\\nsession\\nscale add 1\\nend\\n' | labrun";
 
-fn word<'a>(alloc: Global, name: &'a str, about: &'a str) -> Command<'a> {
-    Command::new(alloc, name)
-        .about(about)
-        .disable_help_flag(true)
-}
-
-/// The table of words, which the help shows.
-fn command<'a>(alloc: Global) -> Result<Command<'a>, AllocError> {
-    let help = Arg::new(alloc, "help")
-        .long("help")
-        .action(ArgAction::Help)
-        .help("print this help");
-    let rounds = word(
-        alloc,
-        "rounds N",
-        "run a script on one thread, one turn of each job a round, at most N rounds, print the report",
-    );
-    let threads = word(
-        alloc,
-        "threads W N",
-        "run a script by W worker threads, at most N turns of each job, print the report",
-    );
-    let replay = word(
-        alloc,
-        "replay",
-        "read a script and its steps, take each step where it is legal, print the report",
-    );
-    let check = word(alloc, "check", "read a script and print its counts");
-    let upgrade = word(
-        alloc,
-        "upgrade",
-        "read a script of either version and print it in version 2",
-    );
-    Command::new(alloc, "labrun")
-        .about("Runs command scripts on the simulated instruments of a shared laboratory")
-        .after_help(AFTER_HELP)
-        .disable_help_subcommand(true)
-        .disable_help_flag(true)
-        .arg(help)?
-        .subcommand(rounds)?
-        .subcommand(threads)?
-        .subcommand(replay)?
-        .subcommand(check)?
-        .subcommand(upgrade)
-}
-
-/// The text of the help.
-fn help(alloc: Global) -> Result<String, AllocError> {
-    let mut labrun = command(alloc)?;
-    labrun.render_help()
-}
-
 /// The task that one word names.
 #[tactic(auto, unfolding(crate::specs::Words::task_named))]
 fn task_named(word: &[u8]) -> Option<Task>
     ensures named { result ≡ task_named word.now }
     ensures task { IfSome result MayRun }
 {
-    if word == b"replay".as_slice() {
+    if REPLAY.is(word) {
         return Some(Task::Replay);
     }
-    if word == b"check".as_slice() {
+    if CHECK.is(word) {
         return Some(Task::Check);
     }
-    if word == b"upgrade".as_slice() {
+    if UPGRADE.is(word) {
         return Some(Task::Upgrade);
     }
     None
@@ -145,7 +109,7 @@ fn rounds_of(word: &[u8], limit: &[u8]) -> Option<Task>
     ensures named { result ≡ rounds_of word.now limit.now }
     ensures task { IfSome result MayRun }
 {
-    if word != b"rounds".as_slice() {
+    if !ROUNDS.is(word) {
         return None;
     }
     let limit = number_within(limit, 0, MOST_TURNS)?;
@@ -158,18 +122,12 @@ fn threads_of(word: &[u8], workers: &[u8], turns: &[u8]) -> Option<Task>
     ensures named { result ≡ threads_of word.now workers.now turns.now }
     ensures task { IfSome result MayRun }
 {
-    if word != b"threads".as_slice() {
+    if !THREADS.is(word) {
         return None;
     }
     let workers = number_within(workers, 1, MOST_WORKERS)?;
     let turns = number_within(turns, 0, MOST_TURNS)?;
     Some(Task::Threads { workers, turns })
-}
-
-fn bytes<S: AsStr>(word: &S) -> &[u8]
-    ensures { result.now ≡ S.text word.now }
-{
-    word.as_str().as_bytes()
 }
 
 /// The task that the words of a command line ask for, the program's own name first.
@@ -186,16 +144,6 @@ fn task_of<S: AsStr>(words: &[S]) -> Option<Task>
     }
 }
 
-/// Whether `--help` is the one word behind the program's own name.
-fn asks_for_help<S: AsStr>(words: &[S]) -> bool
-    ensures { result ≡ asks_for_help (map S.text words.now) }
-{
-    match words {
-        [_, word] => bytes(word) == b"--help".as_slice(),
-        _ => false,
-    }
-}
-
 /// The task that the words of a command line ask for, the program's own name first. `--help` as the one
 /// word more asks for the help, and for its text alone memory is taken. All other words are refused.
 pub fn read_words<S: AsStr>(alloc: Global, words: &[S]) -> Result<Task, NoTask>
@@ -208,5 +156,6 @@ pub fn read_words<S: AsStr>(alloc: Global, words: &[S]) -> Result<Task, NoTask>
     if !asks_for_help(words) {
         return Err(NoTask::Refused);
     }
-    Err(NoTask::Help(help(alloc)?))
+    let text = help(alloc, PROGRAM, ABOUT, WORDS.as_slice(), AFTER_HELP)?;
+    Err(NoTask::Help(text))
 }

@@ -4,7 +4,7 @@ use Rattle.lab_plan.specs.LabPlan.{LabPlan}
 use Rattle.legal_steps.specs.declared.event.StepLine.{StepLine}
 use Rattle.script_reader.specs.Steps.{StepsMean}
 use Rattle.explaining.specs.Explanations.{Tells}
-use Rattle.lab_runs.specs.declared.faults.Outcome.TheVariants.{Finished}
+use Rattle.lab_program.specs.declared.faults.Outcome.TheVariants.{Finished}
 use Rattle.lab_views.specs.Views.{Explains}
 
 pub explained : (input : List ℕ) (plan : LabPlan) (seen steps : List StepLine) (refused : Option ℕ) (sent text : List ℕ) → seen ≡ steps → sent ≡ text → StepsMean input plan steps → Tells plan seen refused text → Explains input sent Finished

@@ -1,4 +1,9 @@
 pub mod Views
 pub mod Words
 pub mod Pictures
+pub mod Tables
 pub mod Traces
+pub mod Printed
+pub mod Waits
+pub mod Gantts
+pub mod Arranged

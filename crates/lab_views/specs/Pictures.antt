@@ -12,9 +12,9 @@ use Rattle.timeline.specs.declared.fault.TimelineFault.TheVariants as faults
 use Rattle.timeline.specs.Faults.{IsFaultOf}
 use Rattle.timeline.specs.Timelines.{TimelineView, IsTimeline}
 use Rattle.picture.specs.Picture.{picture_of}
-use Rattle.lab_runs.specs.declared.reading.ReadFault.{ReadFault}
-use Rattle.lab_runs.specs.declared.reading.ReadFault.TheVariants as reading
-use Rattle.lab_runs.specs.Input.{IsInput, IsTooLong}
+use Rattle.lab_program.specs.declared.reading.ReadFault.{ReadFault}
+use Rattle.lab_program.specs.declared.reading.ReadFault.TheVariants as reading
+use Rattle.lab_program.specs.Input.{IsInput, IsTooLong}
 use Rattle.lab_views.specs.declared.picture_fault.PictureFault.{PictureFault}
 use Rattle.lab_views.specs.declared.picture_fault.PictureFault.TheVariants.{Report, Timeline, Read, TooLong, Write, NoMemory}
 

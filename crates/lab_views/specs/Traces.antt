@@ -1,44 +1,44 @@
 -- For readers: what `trace N` writes for a script: the script with the steps of its run by rounds.
-use Rattle.std.specs.Prelude.{◌≡◌, ℕ, List, [], ◌++◌, codes, Option, Result, map, if◌then◌else◌}
+use Rattle.std.specs.Prelude.{◌≡◌, ◌≤◌, ℕ, Bool, ◌&&◌, nat_le, List, ◌++◌, length, Option, Result, map}
 use Rattle.std.specs.List.{flat_map}
-use Rattle.std.specs.Io.BufRead.{ends_with_byte}
 use Rattle.lab_plan.specs.LabPlan.{LabPlan}
 use Rattle.legal_steps.specs.declared.event.Event.{Event}
 use Rattle.legal_steps.specs.Steps.{step_events}
 use Rattle.legal_steps.specs.Opening.{the_opening}
+use Rattle.script_reader.specs.declared.fault.ScriptCause.{ScriptCause}
 use Rattle.script_reader.specs.Script.{ScriptMeans}
-use Rattle.explaining.specs.StepTexts.{step_text}
-use Rattle.report.specs.Events.{report_after}
+use Rattle.script_reader.specs.Steps.{StepsMean, StepsFault}
+use Rattle.written_steps.specs.StepLists.{script_head, step_line, steps_behind}
+use Rattle.report.specs.Events.{report_after, retired_after}
 use Rattle.round_trace.specs.StepsOf.{step_of}
 use Rattle.round_trace.specs.Traces.{IsRunByRounds}
-use Rattle.lab_runs.specs.declared.faults.RunFault.{RunFault}
-use Rattle.lab_runs.specs.declared.faults.Outcome.{Outcome}
-use Rattle.lab_runs.specs.declared.faults.Outcome.TheVariants.{Finished}
-use Rattle.lab_runs.specs.Runs.{ScriptRefuses, AnswersTo}
+use Rattle.lab_program.specs.declared.faults.RunFault.{RunFault}
+use Rattle.lab_program.specs.declared.faults.Outcome.{Outcome}
+use Rattle.lab_program.specs.Answers.{ScriptRefuses, AnswersTo}
+use Rattle.lab_runs.specs.Runs.{outcome_of, ReplaysScript, HasIllegalStep}
 use Rattle.lab_runs.specs.Shared.{RunsInRounds}
 
--- the bytes of the script as they were read, with an end for a last line that lacks it, and the line `steps`
-unfoldable pub script_head : List ℕ → List ℕ
-script_head input = input ++ (if ends_with_byte 10 input then [] else codes "\n") ++ codes "steps\n"
-
 -- the step of each event, on a line of its own
-unfoldable pub step_line : LabPlan → Event → List ℕ
-step_line plan event = step_text plan (step_of event) ++ codes "\n"
-
 abbrev pub step_lines : LabPlan → List Event → List ℕ
-step_lines plan events = flat_map (step_line plan) events
+step_lines plan events = flat_map (λ event. step_line plan (step_of event)) events
 
 unfoldable pub trace_text : LabPlan → List ℕ → List Event → List ℕ
 trace_text plan input events = script_head input ++ step_lines plan events
 
--- The input is a script, the history is that of its run by at most so many rounds, and the text has the script and the steps of this history
+-- a replay reads so much: 1000000 steps, in 16777216 bytes
+abbrev pub is_replayable : List Event → List ℕ → Bool
+is_replayable history text = nat_le (length history) 1000000 && nat_le (length text) 16777216
+
+-- The input is a script, the history is that of its run by at most so many rounds, and the text has the script and the steps of this history. Where these
+-- are at most 1000000, the text is read as the script's plan and exactly these steps; it is Finished where a replay reads it, and else Unfinished
 pub record Traces (limit : ℕ) (input text : List ℕ) (outcome : Outcome) : Type 0 where
   pub plan : LabPlan
   pub means : ScriptMeans input plan
   pub history : List Event
   pub run : IsRunByRounds plan limit history
   pub written : text ≡ trace_text plan input history
-  pub ends : outcome ≡ Finished
+  pub read_back : length history ≤ 1000000 → StepsMean text plan (steps_behind input (map step_of history))
+  pub ends : outcome ≡ outcome_of (is_replayable history text)
 
 abbrev pub TraceAnswers : ℕ → Option (List ℕ) → Option (List ℕ) → Option (List ℕ) → Result Outcome RunFault → Type 0
 TraceAnswers limit left old new result = AnswersTo (Traces limit) ScriptRefuses left old new result
@@ -47,10 +47,23 @@ TraceAnswers limit left old new result = AnswersTo (Traces limit) ScriptRefuses 
 
 -- a trace and a run in rounds of the same input, with the same number: the report that is printed is that of the trace's history, and the events of
 -- the trace's steps, taken one after another from THE opening, are this history
-pub record ShowsRun (plan : LabPlan) (history : List Event) (report : List ℕ) : Type 0 where
+pub record ShowsRun (plan : LabPlan) (history : List Event) (report : List ℕ) (ended : Outcome) : Type 0 where
   pub report_is : report ≡ report_after plan (the_opening plan) history
+  pub ended_is : ended ≡ outcome_of (retired_after plan (the_opening plan) history)
   pub replayed : step_events plan (the_opening plan) (map step_of history) ≡ history
 
 abbrev pub TracesTheRun : Type 0
 TracesTheRun = (limit : ℕ) (input text report : List ℕ) (outcome ended : Outcome) (t : Traces limit input text outcome) →
-    RunsInRounds limit input report ended → ShowsRun t.plan t.history report
+    RunsInRounds limit input report ended → ShowsRun t.plan t.history report ended
+
+-- ---- a replay of a trace is the run by rounds
+
+-- where the trace's steps aren't too many, whatever a replay reports of its text is what the run by rounds reports of the script, and no step is refused
+pub record ReplaysAsRounds (text report : List ℕ) (ended : Outcome) : Type 0 where
+  pub replayed : (again : List ℕ) (said : Outcome) → ReplaysScript text again said → (again ≡ report) × (said ≡ ended)
+  pub all_legal : (line : ℕ) → ¬ HasIllegalStep text line
+  pub no_fault : (number : ℕ) (cause : ScriptCause) → ¬ StepsFault text number cause
+
+abbrev pub TraceIsReplayed : Type 0
+TraceIsReplayed = (limit : ℕ) (input text report : List ℕ) (outcome ended : Outcome) (t : Traces limit input text outcome) → length t.history ≤ 1000000
+    → RunsInRounds limit input report ended → ReplaysAsRounds text report ended

@@ -4,11 +4,11 @@ use Rattle.lab_plan.specs.LabPlan.{LabPlan}
 use Rattle.legal_steps.specs.declared.event.StepLine.{StepLine}
 use Rattle.script_reader.specs.Steps.{StepsMean, StepsRefuse}
 use Rattle.explaining.specs.Explanations.{Tells}
-use Rattle.lab_runs.specs.declared.faults.RunFault.{RunFault}
-use Rattle.lab_runs.specs.declared.faults.RunFault.TheVariants.{Script}
-use Rattle.lab_runs.specs.declared.faults.Outcome.{Outcome}
-use Rattle.lab_runs.specs.declared.faults.Outcome.TheVariants.{Finished}
-use Rattle.lab_runs.specs.Runs.{AnswersTo}
+use Rattle.lab_program.specs.declared.faults.RunFault.{RunFault}
+use Rattle.lab_program.specs.declared.faults.RunFault.TheVariants.{Script}
+use Rattle.lab_program.specs.declared.faults.Outcome.{Outcome}
+use Rattle.lab_program.specs.declared.faults.Outcome.TheVariants.{Finished}
+use Rattle.lab_program.specs.Answers.{AnswersTo}
 
 -- the input is a script with steps, and the text tells of the first that isn't legal, or of their end
 pub record Explains (input text : List ℕ) (outcome : Outcome) : Type 0 where

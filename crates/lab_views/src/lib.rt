@@ -1,19 +1,26 @@
-// What `labview` does, over any source and any sink: a script or a report is read whole, and what is written and answered
-// is settled by its bytes.
+//! What `labview` does, over any source and any sink: a script or a report is read whole, and what is written and answered is
+//! settled by its bytes.
 #![tactic(auto)]
 
+mod drawing_gantt;
 mod ending;
 pub mod laws;
 mod picture_fault;
 mod picturing;
+mod reordering;
 mod running;
-mod sending;
+mod tabulating;
+mod telling_waits;
 mod tracing;
 mod words;
 
-pub use ending::{end, end_picture, end_without_view};
+pub use drawing_gantt::run_gantt;
+pub use ending::{end_arranged, end_picture, end_trace};
 pub use picture_fault::{PictureFault, status_of_picture};
 pub use picturing::run_picture;
+pub use reordering::run_arrange;
 pub use running::run_explain;
+pub use tabulating::run_table;
+pub use telling_waits::run_waits;
 pub use tracing::run_trace;
-pub use words::{View, read_words};
+pub use words::{PROGRAM, View, read_words};

@@ -2,7 +2,7 @@
 ghost use Rattle.std.specs.Prelude.{◌≡◌};
 ghost use Rattle.lab_views.specs.Pictures.{status_of_picture, for_report, for_timeline, for_reading};
 
-use lab_runs::ReadFault;
+use lab_program::ReadFault;
 use report_reader::{ReportCause, ReportFault};
 use thiserror::Error;
 use timeline::TimelineFault;

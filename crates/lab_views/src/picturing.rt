@@ -3,12 +3,11 @@ ghost use Rattle.std.specs.Prelude.{◌≡◌, ◌+◌};
 ghost use Rattle.report.specs.Taken.{Sends};
 ghost use Rattle.timeline.specs.Timelines.{IsTimeline};
 ghost use Rattle.picture.specs.Picture.{picture_of};
-ghost use Rattle.lab_runs.specs.Input.{ConsumesUpTo};
+ghost use Rattle.lab_program.specs.Input.{ConsumesUpTo};
 ghost use Rattle.lab_views.specs.Pictures.{DrawsFor, PictureAnswers, failed_picture_reads, failed_picture_writes};
 
 use crate::picture_fault::{PictureFault, for_reading, for_report, for_timeline};
-use crate::sending::pass_on;
-use lab_runs::{Source, read_input};
+use lab_program::{Source, pass_on, read_input};
 use picture::write_picture;
 use report::{Sink, WriteFault};
 use report_reader::{Report, read_report};

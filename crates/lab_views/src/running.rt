@@ -1,13 +1,12 @@
 // Explanations of the steps of an input.
 ghost use Rattle.std.specs.Prelude.{◌≡◌, ◌+◌};
-ghost use Rattle.lab_runs.specs.Input.{ConsumesUpTo};
-ghost use Rattle.lab_runs.specs.Faults.{failed_reads, failed_writes};
-ghost use Rattle.lab_runs.specs.Runs.{AnswersFor};
+ghost use Rattle.lab_program.specs.Input.{ConsumesUpTo};
+ghost use Rattle.lab_program.specs.Faults.{failed_reads, failed_writes};
+ghost use Rattle.lab_program.specs.Answers.{AnswersFor};
 ghost use Rattle.lab_views.specs.Views.{Explains, StepsAreRefused, ExplainAnswers};
 
-use crate::sending::send_text;
 use explaining::explain;
-use lab_runs::{Outcome, RunFault, Source, read_input};
+use lab_program::{Outcome, RunFault, Source, read_input, send_text};
 use report::Sink;
 use script_reader::read_steps;
 use std::alloc::Allocator;

@@ -3,16 +3,17 @@ ghost use Rattle.std.specs.Prelude.{◌≡◌, ◌++◌, ◌+◌, OnOk, IfOk};
 ghost use Rattle.std.specs.List.{All};
 ghost use Rattle.std.specs.Io.BufRead.{ends_with_byte};
 ghost use Rattle.legal_steps.specs.Steps.{IsStepOf};
-ghost use Rattle.lab_runs.specs.Input.{ConsumesUpTo};
-ghost use Rattle.lab_runs.specs.Faults.{failed_reads, failed_writes};
-ghost use Rattle.lab_runs.specs.Runs.{AnswersFor, ScriptRefuses};
+ghost use Rattle.lab_program.specs.Input.{ConsumesUpTo};
+ghost use Rattle.lab_program.specs.Faults.{failed_reads, failed_writes};
+ghost use Rattle.lab_program.specs.Answers.{AnswersFor, ScriptRefuses};
+ghost use Rattle.written_steps.specs.StepLists.{script_head, step_line};
 ghost use Rattle.round_trace.specs.StepsOf.{step_of};
-ghost use Rattle.lab_views.specs.Traces.{step_line, step_lines, script_head, trace_text, Traces, TraceAnswers};
+ghost use Rattle.lab_runs.specs.Runs.{outcome_of};
+ghost use Rattle.lab_views.specs.Traces.{step_lines, trace_text, is_replayable, Traces, TraceAnswers};
 
-use crate::sending::send_text;
 use explaining::add_step;
 use lab_plan::Plan;
-use lab_runs::{Outcome, RunFault, Source, read_input};
+use lab_program::{INPUT_LIMIT, Outcome, RunFault, Source, read_input, send_text};
 use legal_steps::Event;
 use report::Sink;
 use round_trace::laws::steps_are_of_plan;
@@ -20,37 +21,44 @@ use round_trace::{step_of, trace};
 use script_reader::read_plan;
 use std::alloc::{AllocError, Allocator};
 
-/// Whether the last line has its end.
-fn ends_line(text: &[u8]) -> bool
-    ensures { result ≡ ends_with_byte 10 text.now }
+/// The most steps that a replay reads.
+const MOST_STEPS: usize = 1_000_000;
+
+/// Whether this byte is the last.
+fn ends_with(text: &[u8], byte: u8) -> bool
+    ensures { result ≡ ends_with_byte byte text.now }
 {
     match text {
         [] => false,
-        [.., last] => *last == b'\n',
+        [.., last] => *last == byte,
     }
 }
 
-/// The script as it was read, with an end for its last line, and the line `steps`.
-#[tactic(auto, unfolding(crate::specs::Traces::script_head))]
+/// The script as it was read, with an end for its last line, and the line `steps`. A carriage return at the very end belongs to its
+/// line, so a space keeps it from the line's end.
+#[tactic(auto, unfolding(written_steps::specs::StepLists::script_head))]
 fn add_head<A: Allocator>(out: &mut Vec<u8, A>, input: &[u8]) -> Result<(), AllocError>
     ensures { OnOk result (out.new.items ≡ out.old.items ++ script_head input.now) }
 {
     out.extend_from_slice(input)?;
-    if !ends_line(input) {
+    if !ends_with(input, b'\n') {
+        if ends_with(input, b'\r') {
+            out.extend_from_slice(b" ")?;
+        }
         out.extend_from_slice(b"\n")?;
     }
     out.extend_from_slice(b"steps\n")
 }
 
 /// The step of an event, on a line of its own.
-#[tactic(auto, unfolding(crate::specs::Traces::step_line))]
+#[tactic(auto, unfolding(written_steps::specs::StepLists::step_line))]
 fn add_line<A: Allocator, B: Allocator>(
     out: &mut Vec<u8, A>,
     plan: &Plan<B>,
     event: &Event,
 ) -> Result<(), AllocError>
     requires { IsStepOf plan.now (step_of event.now) }
-    ensures { OnOk result (out.new.items ≡ out.old.items ++ step_line plan.now event.now) }
+    ensures { OnOk result (out.new.items ≡ out.old.items ++ step_line plan.now (step_of event.now)) }
 {
     add_step(out, plan, &step_of(event))?;
     out.extend_from_slice(b"\n")
@@ -88,6 +96,17 @@ fn text_of<A: Allocator, B: Allocator>(
     Ok(text)
 }
 
+/// Whether a replay reads the trace.
+fn outcome_for(events: &[Event], text: &[u8]) -> Outcome
+    ensures { result ≡ outcome_of (is_replayable events.now text.now) }
+{
+    if events.len() <= MOST_STEPS && text.len() <= INPUT_LIMIT {
+        Outcome::Finished
+    } else {
+        Outcome::Unfinished
+    }
+}
+
 /// Writes the trace of an input.
 fn trace_input<A: Allocator + Copy, W: Sink>(
     alloc: A,
@@ -101,16 +120,20 @@ fn trace_input<A: Allocator + Copy, W: Sink>(
 {
     steps_are_of_plan();
     let plan = read_plan(alloc, input)?;
+    // (asked for its clause that the plan keeps every limit, so that its names are told apart when they are read back)
+    let _ = plan.jobs();
     let events = trace(alloc, &plan, limit)?;
     let text = text_of(alloc, &plan, input, &events)?;
+    let outcome = outcome_for(&events, &text);
     send_text(&text, sink)?;
-    Ok(Outcome::Finished)
+    Ok(outcome)
 }
 
 /// Reads a script and writes it again, with the line `steps` and the steps of its run by at most so many rounds behind it.
 ///
-/// The input is at most 16777216 bytes, and its last line may lack its end. A long run has more steps than a replay reads:
-/// 1000000 of them, or 16777216 bytes. The outcome is Finished, whether or not all jobs are retired then.
+/// The input is at most 16777216 bytes, and its last line may lack its end. The outcome is Finished where a replay reads the trace: it has
+/// at most 1000000 steps, in 16777216 bytes. A longer one goes out whole, and the outcome is Unfinished. Whether all jobs are retired then
+/// makes no difference.
 pub fn run_trace<A: Allocator + Copy, R: Source, W: Sink>(
     alloc: A,
     source: &mut R,

@@ -1,11 +1,9 @@
 // The words of the command line.
 ghost use Rattle.std.specs.Prelude.{◌≡◌, map};
-ghost use Rattle.lab_runs.specs.Words.{asks_for_help};
-ghost use Rattle.lab_views.specs.Words.{AnswersWords, trace_of, view_named, view_of};
+ghost use Rattle.lab_views.specs.Words.{AnswersWords, view_named, view_of, view_of_rounds, view_over};
 
-use clap::{Arg, ArgAction, Command};
-use lab_runs::{NoTask, number_within};
-use std::alloc::{AllocError, Global};
+use lab_program::{NoTask, Word, asks_for_help, bytes, help, number_within};
+use std::alloc::Global;
 use std::convert::AsStr;
 
 /// What the words ask for.
@@ -15,12 +13,71 @@ pub enum View {
     Explain,
     /// Draw a picture of a report.
     Picture,
+    /// Write the table of a report's logs.
+    Table,
+    /// Write a script with its jobs in another order.
+    Arrange,
     /// Write a script with the steps of its run by rounds, at most so many.
     Trace { limit: u32 },
+    /// Tell who waited in a script's run by rounds, at most so many, and for how long.
+    Waits { limit: u32 },
+    /// Draw a script's run by rounds, at most so many, as a picture over time.
+    Gantt { limit: u32 },
 }
+
+/// The program's name.
+pub const PROGRAM: &str = "labview";
 
 /// The most rounds that words can ask for.
 const MOST_ROUNDS: u32 = 1_000_000_000;
+
+/// What the program does.
+const ABOUT: &str = "Shows and explains the runs of labrun";
+
+const EXPLAIN: Word = Word {
+    name: "explain",
+    values: "",
+    about: "read a script and its steps, tell why the first that isn't legal is refused, and what is legal there",
+};
+
+const PICTURE: Word = Word {
+    name: "picture",
+    values: "",
+    about: "read a report of labrun, and draw its timeline as SVG",
+};
+
+const TABLE: Word = Word {
+    name: "table",
+    values: "",
+    about: "read a report of labrun, and write its logs as comma-separated values",
+};
+
+const TRACE: Word = Word {
+    name: "trace",
+    values: "N",
+    about: "read a script, write it with the steps of its run by at most N rounds, for labrun replay",
+};
+
+const WAITS: Word = Word {
+    name: "waits",
+    values: "N",
+    about: "read a script, tell who waits in its run by at most N rounds, and for how long",
+};
+
+const GANTT: Word = Word {
+    name: "gantt",
+    values: "N",
+    about: "read a script, and draw its run by at most N rounds over time, as SVG",
+};
+
+const ARRANGE: Word = Word {
+    name: "arrange",
+    values: "",
+    about: "read a script, write it with its jobs in an order in which chains at the start are short",
+};
+
+/// The words, as the help shows them.
+const WORDS: [Word; 7] = [EXPLAIN, PICTURE, TABLE, TRACE, WAITS, GANTT, ARRANGE];
 
 /// What stands below the table of words in the help.
 const AFTER_HELP: &str = "N is a number from 0 to 1000000000, in plain digits.
@@ -29,78 +86,58 @@ The input comes from standard input, at most 16777216 bytes. What is printed goe
 standard output, and a fault in one line to standard error.
 
 Statuses:
-  0  explain: done, whether the steps are legal or not; picture, trace, --help: done
+  0  explain: done, whether the steps are legal or not; picture, table, trace, waits, gantt, arrange, --help: done
   1  the script or the report is refused; the fault names its line or place
   2  the command line is refused
+  3  trace: longer than a replay reads; arrange: the script went out as it was
   4  reading or writing failed, or the input is longer than 16777216 bytes
   5  no memory";
-
-/// The table of words, which the help shows.
-fn command<'a>(alloc: Global) -> Result<Command<'a>, AllocError> {
-    let help = Arg::new(alloc, "help")
-        .long("help")
-        .action(ArgAction::Help)
-        .help("print this help");
-    let explain = Command::new(alloc, "explain")
-        .about(
-            "read a script and its steps, tell why the first that isn't legal is refused, and what is legal there",
-        )
-        .disable_help_flag(true);
-    let picture = Command::new(alloc, "picture")
-        .about("read a report of labrun, and draw its timeline as SVG")
-        .disable_help_flag(true);
-    let trace = Command::new(alloc, "trace N")
-        .about(
-            "read a script, write it with the steps of its run by at most N rounds, for labrun replay",
-        )
-        .disable_help_flag(true);
-    Command::new(alloc, "labview")
-        .about("Shows and explains the runs of labrun")
-        .after_help(AFTER_HELP)
-        .disable_help_subcommand(true)
-        .disable_help_flag(true)
-        .arg(help)?
-        .subcommand(explain)?
-        .subcommand(picture)?
-        .subcommand(trace)
-}
-
-/// The text of the help.
-fn help(alloc: Global) -> Result<String, AllocError> {
-    let mut labview = command(alloc)?;
-    labview.render_help()
-}
 
 /// The view that one word names.
 #[tactic(auto, unfolding(crate::specs::Words::view_named))]
 fn view_named(word: &[u8]) -> Option<View>
     ensures { result ≡ view_named word.now }
 {
-    if word == b"explain".as_slice() {
+    if EXPLAIN.is(word) {
         return Some(View::Explain);
     }
-    if word == b"picture".as_slice() {
+    if PICTURE.is(word) {
         return Some(View::Picture);
+    }
+    if TABLE.is(word) {
+        return Some(View::Table);
+    }
+    if ARRANGE.is(word) {
+        return Some(View::Arrange);
     }
     None
 }
 
-/// The trace that two words ask for.
-#[tactic(auto, unfolding(crate::specs::Words::trace_of))]
-fn trace_of(word: &[u8], limit: &[u8]) -> Option<View>
-    ensures { result ≡ trace_of word.now limit.now }
+/// The view that a word and a number of rounds name.
+#[tactic(auto, unfolding(crate::specs::Words::view_over))]
+fn view_over(word: &[u8], limit: u32) -> Option<View>
+    ensures { result ≡ view_over word.now limit }
 {
-    if word != b"trace".as_slice() {
-        return None;
+    if TRACE.is(word) {
+        return Some(View::Trace { limit });
     }
-    let limit = number_within(limit, 0, MOST_ROUNDS)?;
-    Some(View::Trace { limit })
+    if WAITS.is(word) {
+        return Some(View::Waits { limit });
+    }
+    if GANTT.is(word) {
+        return Some(View::Gantt { limit });
+    }
+    None
 }
 
-fn bytes<S: AsStr>(word: &S) -> &[u8]
-    ensures { result.now ≡ S.text word.now }
+/// The view of a run by rounds that two words ask for.
+fn view_of_rounds(word: &[u8], limit: &[u8]) -> Option<View>
+    ensures { result ≡ view_of_rounds word.now limit.now }
 {
-    word.as_str().as_bytes()
+    match number_within(limit, 0, MOST_ROUNDS) {
+        Some(limit) => view_over(word, limit),
+        None => None,
+    }
 }
 
 /// The view that the words of a command line ask for, the program's own name first.
@@ -109,18 +146,8 @@ fn view_of<S: AsStr>(words: &[S]) -> Option<View>
 {
     match words {
         [_, word] => view_named(bytes(word)),
-        [_, word, limit] => trace_of(bytes(word), bytes(limit)),
+        [_, word, limit] => view_of_rounds(bytes(word), bytes(limit)),
         _ => None,
-    }
-}
-
-/// Whether `--help` is the one word behind the program's own name.
-fn asks_for_help<S: AsStr>(words: &[S]) -> bool
-    ensures { result ≡ asks_for_help (map S.text words.now) }
-{
-    match words {
-        [_, word] => bytes(word) == b"--help".as_slice(),
-        _ => false,
     }
 }
 
@@ -135,5 +162,6 @@ pub fn read_words<S: AsStr>(alloc: Global, words: &[S]) -> Result<View, NoTask>
     if !asks_for_help(words) {
         return Err(NoTask::Refused);
     }
-    Err(NoTask::Help(help(alloc)?))
+    let text = help(alloc, PROGRAM, ABOUT, WORDS.as_slice(), AFTER_HELP)?;
+    Err(NoTask::Help(text))
 }

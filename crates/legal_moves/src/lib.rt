@@ -1,4 +1,4 @@
-// What could be done next: the moves of each job that are legal in a world.
+//! What could be done next: exactly the moves of each job that are legal in a world.
 #![tactic(auto)]
 
 mod candidates;

@@ -1,4 +1,4 @@
--- Sets of bottles, bit by bit. Every crate above takes its lemmas on sets from here.
+-- Sets of bottles, bit by bit: the lemmas on sets that crates above take.
 use Rattle.std.proofs.Common.{◌≡◌, ◌↔◌, ◌⊎◌, ◌-◌, ◌==◌, ℕ, zero, suc, min, length, slice_index_or, replicate, if◌then◌else◌, ◌+◌, ◌%◌, ◌^◌, ◌<◌, bit_and, bit_xor, arith, refl, inl, inr, sym, ap, ◌∙◌}
 use Rattle.std.specs.Int.{bit_at}
 use Rattle.std.proofs.lemmas.Bool.{cases_lt}

@@ -1,4 +1,4 @@
--- Instruments that are held, and marks that are true.
+-- For readers: instruments that are held, and marks that are true.
 use Rattle.std.specs.Prelude.{◌≡◌, ℕ, ◌<◌, true, length}
 use Rattle.lab_plan.specs.LabPlan.{LabPlan, bottles, session_names}
 use Rattle.legal_steps.specs.declared.phase.Dining.TheVariants.{Eating}

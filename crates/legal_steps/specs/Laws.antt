@@ -1,4 +1,4 @@
--- The laws of marks, instruments, things and precedence: what holds after each beginning of a legal list of events.
+-- For readers: the laws of marks, instruments, things and precedence: what holds after each beginning of a legal list of events.
 use Rattle.std.specs.Prelude.{◌≡◌, ◌↔◌, ℕ, List, take}
 use Rattle.lab_plan.specs.LabPlan.{LabPlan}
 use Rattle.lab_plan.specs.IsPlan.{IsPlan}

@@ -1,4 +1,4 @@
--- The 17 kinds of event: where each is legal, and the state after it.
+-- For readers: the 17 kinds of event: where each is legal, and the state after it.
 use Rattle.std.specs.Prelude.{◌≡◌, ◌≢◌, ◌⊎◌, ℕ, ◌+◌, ◌<◌, ◌≤◌, Bool, true, false, not, ◌&&◌, ◌||◌, List, [], ◌∷◌, ◌++◌, length, replicate, slice_index_or, slice_set, bit_xor, bit_and, IsSome}
 use Rattle.lab_plan.specs.declared.verb.Verb.{Verb}
 use Rattle.lab_plan.specs.LabPlan.{LabPlan, bottles, sessions, commands, patience, session_names, command_at, place_at, length_at}

@@ -1,4 +1,4 @@
--- The laws of logs, their room, and counts: what holds after each beginning of a legal list of events.
+-- For readers: the laws of logs, their room, and counts: what holds after each beginning of a legal list of events.
 use Rattle.std.specs.Prelude.{◌≡◌, ℕ, ◌+◌, ◌≤◌, List, All, length, map, take}
 use Rattle.lab_plan.specs.Limits.{most_sessions}
 use Rattle.lab_plan.specs.LabPlan.{LabPlan}

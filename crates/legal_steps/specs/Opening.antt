@@ -1,4 +1,4 @@
--- Opening states.
+-- For readers: opening states.
 use Rattle.std.specs.Prelude.{◌≡◌, ℕ, ◌<◌, true, false, List, [], length, map, replicate, bit_xor, slice_index_or}
 use Rattle.std.specs.List.{enumerate_from}
 use Rattle.lab_plan.specs.LabPlan.{LabPlan, edges, bottles}

@@ -1,4 +1,4 @@
--- Precedence among jobs, and its cycles.
+-- For readers: precedence among jobs, and its cycles.
 use Rattle.std.specs.Prelude.{◌≡◌, ◌⊎◌, ℕ, ◌<◌, true, length}
 use Rattle.lab_plan.specs.LabPlan.{LabPlan, edges}
 pub use Rattle.cycles.specs.Cycles.{LeadsBackTo, IsCycleOf, HasNoCycle}

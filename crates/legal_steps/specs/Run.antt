@@ -1,4 +1,4 @@
--- Runs: lists of events, each legal after the ones before; and what is counted in them.
+-- For readers: runs: lists of events, each legal after the ones before; and what is counted in them.
 use Rattle.std.specs.Prelude.{◌≡◌, ℕ, ◌<◌, Bool, false, List, [], ◌∷◌, length, take, ◌==◌, Some, slice_get}
 use Rattle.std.specs.List.{count_by}
 use Rattle.lab_plan.specs.LabPlan.{LabPlan}

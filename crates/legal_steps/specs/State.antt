@@ -1,4 +1,4 @@
--- The state of a bench: where the things of each edge are, what each job does and knows, and each instrument's log.
+-- For readers: the state of a bench: where the things of each edge are, what each job does and knows, and each instrument's log.
 use Rattle.std.specs.Prelude.{◌≡◌, ◌⊎◌, ℕ, ◌-◌, ◌^◌, ◌<◌, Bool, true, false, List, [], length, slice_index_or, bit_xor, if◌then◌else◌, ◌==◌}
 use Rattle.std.specs.Int.{bit_at}
 use Rattle.lab_plan.specs.LabPlan.{LabPlan, edges, ends, bottles}

@@ -1,4 +1,4 @@
--- Lists of steps: what a look or a glance sees is what is there when its turn comes.
+-- For readers: lists of steps: what a look or a glance sees is what is there when its turn comes.
 use Rattle.std.specs.Prelude.{◌<◌, List, [], ◌∷◌, length}
 use Rattle.lab_plan.specs.LabPlan.{LabPlan, edges}
 use Rattle.legal_steps.specs.declared.event.Event.{Event}

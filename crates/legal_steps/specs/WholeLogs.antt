@@ -1,4 +1,4 @@
--- Whole logs: the parts of sessions one after another, save at most one unfinished last.
+-- For readers: whole logs: the parts of sessions one after another, save at most one unfinished last.
 use Rattle.std.specs.Prelude.{◌≡◌, ◌⊎◌, ℕ, ◌<◌, ◌≤◌, List, [], ◌∷◌, ◌++◌, length, map, filter, take, ◌==◌}
 use Rattle.std.specs.List.{flat_map, enumerate_from, AllPairs, All}
 use Rattle.lab_plan.specs.declared.verb.Verb.{Verb}

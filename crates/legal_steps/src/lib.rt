@@ -1,5 +1,5 @@
-// The state of a bench, its 17 kinds of atomic step, where each is legal and what it changes;
-// and the laws: what holds after every list of legal steps.
+//! The state of a bench, its 17 kinds of atomic step, where each is legal and what it changes;
+//! and the laws: what holds after every list of legal steps.
 #![tactic(auto)]
 
 pub mod edge_state;

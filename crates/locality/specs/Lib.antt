@@ -1,4 +1,5 @@
 pub mod History
+pub mod AtTheEnd
 pub mod Lists
 pub mod Changes
 pub mod Exchanges

@@ -1,5 +1,4 @@
-// What one event changes and reads, what a job knows by its own events, and what stays over legal lists.
-// Each law is the contract of a function that does nothing.
+//! What one event changes and reads, what a job knows by its own events, and what stays over legal lists.
 ghost use Rattle.legal_steps.specs.Fitting.{Fits};
 ghost use Rattle.legal_steps.specs.Holding.{AreTruthful, IsExclusive};
 ghost use Rattle.legal_steps.specs.Precedence.{IsAcyclic};

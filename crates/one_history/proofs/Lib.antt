@@ -1,3 +1,4 @@
+pub mod Groups
 pub mod Keeps
 pub mod Looking
 pub mod Trying

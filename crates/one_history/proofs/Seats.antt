@@ -174,7 +174,7 @@ module _ (p : LabPlan) where
   pub takes_back : (id : ℕ) (v : View) (other : ℕ) (w : View) → Joins (Kept p) id v other w (taken_back v w) nothing
   takes_back id v other w = joins id v other w (taken_back v w) refl (λ h f t. (f, each_front (StartsWith h) v.told (w.front ∷ w.told) t))
 
-  pub undealt_next : (j : ℕ) → j < length p.jobs → (undealt p j).hands ≡ hand p j [] ∷ fresh p (suc j) (length p.jobs - suc j)
+  pub undealt_next : (j : ℕ) → j < length p.jobs → (undealt p j).hands ≡ hand p j ∷ fresh p (suc j) (length p.jobs - suc j)
   undealt_next j l = let e : length p.jobs - j ≡ suc (length p.jobs - suc j) = omega arith in ap (fresh p j) e
 
   pub dealt_next : (j : ℕ) → j < length p.jobs → dealt_left (undealt p j) ≡ undealt p (j + 1)

@@ -20,6 +20,7 @@ use Rattle.edge_word.specs.Moves.{events_of, moves_of_words}
 use Rattle.one_history.specs.declared.board.Hand.{Hand}
 use Rattle.one_history.specs.declared.board.View.{View}
 use Rattle.locality.specs.History.{IsHistory, state_after, events_by, known_by}
+use Rattle.one_history.specs.Groups.{with_group}
 use Rattle.one_history.specs.Rule.{hand}
 use Rattle.locality.specs.Lists.{StartsWith, Each}
 
@@ -29,7 +30,7 @@ abbrev pub no_plan : LabPlan
 no_plan = record { version = 0; jobs = []; instruments = [] }
 
 abbrev pub hand_or : List Hand → Hand
-hand_or [] = hand no_plan 0 []
+hand_or [] = hand no_plan 0
 hand_or (x ∷ xs) = x
 
 -- the first job that the view acts for
@@ -40,8 +41,9 @@ abbrev pub rest_hands : List Hand → List Hand
 rest_hands [] = []
 rest_hands (x ∷ xs) = xs
 
+-- the hand after a step that did this group
 abbrev pub adding : Hand → List Event → Hand
-adding x g = hand x.plan x.job (x.deeds ++ g)
+adding x g = record x { deeds = x.deeds ++ g; groups = with_group x.groups g }
 
 -- the view acts for one job, and maybe for others that were lent
 abbrev pub IsLed : View → Type 0

@@ -1,3 +1,4 @@
+pub mod Groups
 pub mod Rule
 pub mod Grow
 pub mod Seating

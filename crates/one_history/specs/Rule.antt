@@ -45,13 +45,14 @@ pub record Homed (plan : LabPlan) (s : State) (homes : List (Option LogView)) : 
 
 -- ---- the views
 
-abbrev pub hand : LabPlan → ℕ → List Event → Hand
-hand plan j deeds = record { plan = plan; job = j; deeds = deeds }
+-- a hand that has done nothing
+abbrev pub hand : LabPlan → ℕ → Hand
+hand plan j = record { plan = plan; job = j; deeds = []; groups = [] }
 
--- a hand for each of n jobs from j on, none of which has done anything
+-- one for each of n jobs from j on
 abbrev pub fresh : LabPlan → ℕ → ℕ → List Hand
 fresh plan j zero = []
-fresh plan j (suc n) = hand plan j [] ∷ fresh plan (suc j) n
+fresh plan j (suc n) = hand plan j ∷ fresh plan (suc j) n
 
 abbrev pub first_view : LabPlan → View
 first_view plan = record { hands = fresh plan 0 (length plan.jobs); front = []; told = [] }

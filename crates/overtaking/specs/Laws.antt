@@ -1,4 +1,4 @@
--- The laws of waiting: over every list of events that is legal from an opening state, for every plan.
+-- For readers: the laws of waiting: over every list of events that is legal from an opening state, for every plan.
 use Rattle.std.specs.Prelude.{◌≡◌, ℕ, ◌≤◌, List, take, Some, slice_get}
 use Rattle.lab_plan.specs.LabPlan.{LabPlan}
 use Rattle.legal_steps.specs.declared.event.Event.{Event}

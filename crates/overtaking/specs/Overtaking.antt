@@ -1,4 +1,4 @@
--- Overtaking: the meals that a neighbour begins between a job's request for a fork and the job's next meal.
+-- For readers: overtaking: the meals that a neighbour begins between a job's request for a fork and the job's next meal.
 use Rattle.std.specs.Prelude.{ℕ, ◌+◌, List, [], ◌∷◌, drop, if◌then◌else◌}
 use Rattle.lab_plan.specs.LabPlan.{LabPlan}
 use Rattle.legal_steps.specs.declared.event.Event.{Event}

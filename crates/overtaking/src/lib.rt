@@ -1,5 +1,5 @@
-// What a job that waits can count on: between its request for a fork and its next meal the neighbour begins at
-// most one meal, and while a job is left that isn't retired, some event leads on.
+//! What a job that waits can count on: between its request for a fork and its next meal the neighbour begins at
+//! most one meal, and while a job is left that isn't retired, some event leads on.
 #![tactic(auto)]
 
 pub mod laws;

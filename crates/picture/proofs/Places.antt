@@ -18,14 +18,14 @@ pub nth_spelled : (entries : List EntryLine) (k : ℕ) (d : EntryLine) → k < l
 nth_spelled entries k d inside = get_or-map entry_text entries k d no_entry inside
 
 -- an entry without a job line is not drawn
-pub nothing_drawn : (jobs : List JobText) (spans : List Span) (entries : List EntryLine) (k : ℕ) (d : EntryLine) → k < length entries
-    → job_number jobs (slice_index_or entries k d).job.now ≡ None → entry_at jobs spans (map entry_text entries) k ≡ []
+pub nothing_drawn : (jobs : List JobText) (columns : ℕ) (spans : List Span) (entries : List EntryLine) (k : ℕ) (d : EntryLine) → k < length entries
+    → job_number jobs (slice_index_or entries k d).job.now ≡ None → entry_at jobs columns spans (map entry_text entries) k ≡ []
 unfolding entry_at
-nothing_drawn jobs spans entries k d inside none =
+nothing_drawn jobs columns spans entries k d inside none =
     let texts = map entry_text entries in
     let e = entry_of texts k in
     let missing : job_number jobs e.job ≡ None = ap (λ (x : EntryText). job_number jobs x.job) (nth_spelled entries k d inside) ∙ none in
-    ap (λ o. in_columns o (span_of jobs spans e) (is_first texts k) (is_open texts k) e) missing
+    ap (λ o. in_columns columns o (span_of jobs spans e) (is_first texts k) (is_open texts k) e) missing
 
 -- the log with a number
 pub the_log : (logs others : List LogText) (i : ℕ) (log : LogText) → logs ≡ others → i < length logs → log ≡ slice_index_or logs i log
@@ -35,6 +35,6 @@ the_log logs others i log same inside is =
 
 -- its row
 pub row_whole : (report : ReportText) (view : TimelineView) (i : ℕ) (log : LogText) → log ≡ slice_index_or report.logs i no_log
-    → row_text i log.name view.columns ++ entries_text report.jobs view.spans log.entries ++ codes "</g>\n" ≡ log_at report view i
+    → row_text i log.name view.columns ++ entries_text report.jobs view.columns view.spans log.entries ++ codes "</g>\n" ≡ log_at report view i
 unfolding log_at
-row_whole report view i log is = ap (λ (l : LogText). row_text i l.name view.columns ++ entries_text report.jobs view.spans l.entries ++ codes "</g>\n") is
+row_whole report view i log is = ap (λ (l : LogText). row_text i l.name view.columns ++ entries_text report.jobs view.columns view.spans l.entries ++ codes "</g>\n") is

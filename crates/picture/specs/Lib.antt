@@ -1,4 +1,5 @@
 pub mod Looks
+pub mod Columns
 pub mod Boxes
 pub mod Tables
 pub mod Picture

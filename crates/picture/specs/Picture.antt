@@ -32,17 +32,17 @@ abbrev pub is_open : List EntryText → ℕ → Bool
 is_open entries k = let last = entry_of entries (length entries - 1) in nat_lt last.place last.length && is_same_session last (entry_of entries k)
 
 -- what is drawn of the entry with this number
-unfoldable pub entry_at : List JobText → List Span → List EntryText → ℕ → List ℕ
-entry_at jobs spans entries k =
-    let e = entry_of entries k in in_columns (job_number jobs e.job) (span_of jobs spans e) (is_first entries k) (is_open entries k) e
+unfoldable pub entry_at : List JobText → ℕ → List Span → List EntryText → ℕ → List ℕ
+entry_at jobs columns spans entries k =
+    let e = entry_of entries k in in_columns columns (job_number jobs e.job) (span_of jobs spans e) (is_first entries k) (is_open entries k) e
 
-abbrev pub entries_text : List JobText → List Span → List EntryText → List ℕ
-entries_text jobs spans entries = flat_map (entry_at jobs spans entries) (range_with_len 0 (length entries))
+abbrev pub entries_text : List JobText → ℕ → List Span → List EntryText → List ℕ
+entries_text jobs columns spans entries = flat_map (entry_at jobs columns spans entries) (range_with_len 0 (length entries))
 
 -- the row of an instrument: its name, and its entries
 unfoldable pub log_at : ReportText → TimelineView → ℕ → List ℕ
 log_at report view i =
-    let log = slice_index_or report.logs i no_log in row_text i log.name view.columns ++ entries_text report.jobs view.spans log.entries ++ codes "</g>\n"
+    let log = slice_index_or report.logs i no_log in row_text i log.name view.columns ++ entries_text report.jobs view.columns view.spans log.entries ++ codes "</g>\n"
 
 -- a line of the table of jobs
 abbrev pub job_at : ReportText → ℕ → List ℕ

@@ -1,11 +1,12 @@
 -- The head of the picture, the head of a row, the line of a job in the table below, and the end.
-use Rattle.std.specs.Prelude.{ℕ, Bool, ◌+◌, ◌*◌, max, List, [], ◌++◌, codes, decimal, Option, None, Some}
+use Rattle.std.specs.Prelude.{ℕ, Bool, ◌+◌, ◌*◌, max, List, [], ◌++◌, codes, decimal, Option, None, Some, if◌then◌else◌}
 use Rattle.report_reader.specs.Line.{JobText, state_word, last_word}
 use Rattle.picture.specs.Looks.{name_text, look}
+use Rattle.picture.specs.Columns.{has_room, left_of}
 
 -- how wide and how high a picture is
 abbrev pub width : ℕ → ℕ
-width columns = max 700 (180 + 100 * columns)
+width columns = max 700 (180 + left_of columns columns)
 
 abbrev pub height : ℕ → ℕ → ℕ
 height instruments jobs = 110 + 70 * instruments + 20 * jobs
@@ -29,10 +30,14 @@ unfoldable pub head_text : ℕ → ℕ → ℕ → List ℕ
 head_text instruments jobs columns =
     size_text (width columns) (height instruments jobs) ++ words_text instruments jobs columns ++ codes "<rect width=\"100%\" height=\"100%\" fill=\"#fff\"/>\n"
 
+-- edges of narrow boxes are thin
+abbrev pub thin : ℕ → List ℕ
+thin columns = if has_room columns then [] else codes " stroke-width=\"0.4\""
+
 -- the head of an instrument's row
 abbrev pub row_text : ℕ → List ℕ → ℕ → List ℕ
 row_text number name columns =
-    codes "<g transform=\"translate(160 " ++ decimal (30 + 70 * number) ++ codes ")\"><path d=\"M-150 66H" ++ decimal (100 * columns)
+    codes "<g transform=\"translate(160 " ++ decimal (30 + 70 * number) ++ codes ")\"" ++ thin columns ++ codes "><path d=\"M-150 66H" ++ decimal (left_of columns columns)
     ++ codes "\" stroke=\"#ccc\"/><text x=\"-150\" y=\"38\" font-size=\"13\">" ++ name_text name ++ codes "</text>\n"
 
 -- how many sessions were withdrawn

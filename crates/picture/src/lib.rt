@@ -2,6 +2,7 @@
 #![tactic(auto)]
 
 mod boxes;
+mod columns;
 mod line;
 mod looks;
 mod tables;

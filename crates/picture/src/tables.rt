@@ -3,8 +3,9 @@ ghost use Rattle.std.specs.Prelude.{◌≡◌, ◌+◌, ◌*◌, ◌≤◌, ◌+
 ghost use Rattle.lab_plan.specs.Limits.{most_jobs, most_instruments};
 ghost use Rattle.report_reader.specs.Line.{state_word, last_word};
 ghost use Rattle.report_reader.specs.Form.{job_text};
-ghost use Rattle.picture.specs.Tables.{size_text, words_text, head_text, row_text, withdrawn_text, legend, sessions_text, meals_text, job_line, end_text};
+ghost use Rattle.picture.specs.Tables.{size_text, words_text, thin, head_text, row_text, withdrawn_text, legend, sessions_text, meals_text, job_line, end_text};
 
+use crate::columns::{has_room, left_of};
 use crate::line::{PictureLine, add_name};
 use crate::looks::add_look;
 use report_reader::JobLine;
@@ -53,12 +54,24 @@ pub(crate) fn head_line(instruments: usize, jobs: usize, columns: u32) -> Pictur
     ensures { result ≡ head_text instruments jobs columns }
 {
     let mut line = PictureLine::new();
-    let width = (180 + 100 * columns as usize).max(700);
+    let width = (180 + left_of(columns, columns as usize)).max(700);
     let height = 110 + 70 * instruments + 20 * jobs;
     add_size(&mut line, width, height);
     add_words(&mut line, instruments, jobs, columns);
     line.text(b"<rect width=\"100%\" height=\"100%\" fill=\"#fff\"/>\n");
     line
+}
+
+/// How thick edges are in a row.
+fn thin(columns: u32) -> &'static [u8]
+    ensures text { result.now ≡ thin columns }
+    ensures len { length result.now ≤ 19 }
+{
+    if has_room(columns) {
+        b""
+    } else {
+        b" stroke-width=\"0.4\""
+    }
 }
 
 /// The head of an instrument's row.
@@ -69,8 +82,10 @@ pub(crate) fn row_line(number: usize, name: &[u8], columns: u32) -> PictureLine
     let mut line = PictureLine::new();
     line.text(b"<g transform=\"translate(160 ");
     line.count(30 + 70 * number);
-    line.text(b")\"><path d=\"M-150 66H");
-    line.count(100 * columns as usize);
+    line.text(b")\"");
+    line.text(thin(columns));
+    line.text(b"><path d=\"M-150 66H");
+    line.count(left_of(columns, columns as usize));
     line.text(b"\" stroke=\"#ccc\"/><text x=\"-150\" y=\"38\" font-size=\"13\">");
     add_name(&mut line, name);
     line.text(b"</text>\n");

@@ -31,12 +31,13 @@ fn is_open(entries: &[EntryLine], place: usize) -> bool
 #[tactic(auto, unfolding(crate::specs::Picture::entry_at), using(crate::proofs::Places::nth_spelled))]
 pub(crate) fn entry_at(
     jobs: &[JobLine],
+    columns: u32,
     spans: &[Span],
     entries: &[EntryLine],
     place: usize,
 ) -> PictureLine
     requires { place < length entries.now }
-    ensures { result ≡ entry_at (map job_text jobs.now) spans.now (map entry_text entries.now) place }
+    ensures { result ≡ entry_at (map job_text jobs.now) columns spans.now (map entry_text entries.now) place }
 {
     let entry = &entries[place];
     let Some(job) = job_number(jobs, entry.job) else {
@@ -47,6 +48,7 @@ pub(crate) fn entry_at(
     };
     entry_line(
         job,
+        columns,
         span,
         is_first(entries, place),
         is_open(entries, place),

@@ -18,14 +18,15 @@ use timeline::{Span, Timeline};
 /// The entries of a log.
 fn write_entries<W: Sink>(
     jobs: &[JobLine],
+    columns: u32,
     spans: &[Span],
     entries: &[EntryLine],
     sink: &mut W,
 ) -> Result<(), WriteFault>
-    ensures { Sends W.taken W.failures sink.old sink.new (entries_text (map job_text jobs.now) spans.now (map entry_text entries.now)) result }
+    ensures { Sends W.taken W.failures sink.old sink.new (entries_text (map job_text jobs.now) columns spans.now (map entry_text entries.now)) result }
 {
     for place in 0..entries.len() {
-        let line = entry_at(jobs, spans, entries, place);
+        let line = entry_at(jobs, columns, spans, entries, place);
         offer(sink, line.as_bytes())?;
     }
     Ok(())
@@ -43,9 +44,16 @@ fn write_log<A: Allocator, B: Allocator, W: Sink>(
     ensures { Sends W.taken W.failures sink.old sink.new (log_at report.now timeline.now number) result }
 {
     let log = &report.logs()[number];
-    let head = row_line(number, log.name(), timeline.columns());
+    let columns = timeline.columns();
+    let head = row_line(number, log.name(), columns);
     offer(sink, head.as_bytes())?;
-    write_entries(report.jobs(), timeline.spans(), log.entries(), sink)?;
+    write_entries(
+        report.jobs(),
+        columns,
+        timeline.spans(),
+        log.entries(),
+        sink,
+    )?;
     offer(sink, b"</g>\n")
 }
 

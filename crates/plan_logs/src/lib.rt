@@ -1,4 +1,4 @@
-// The logs of a plan: empty, with room for all of the plan's commands; and the entry that a command adds to one.
+//! The logs of a plan: one for each instrument, empty, with room for all of its commands; and the entry that a command adds to one.
 #![tactic(auto)]
 
 pub mod commands;

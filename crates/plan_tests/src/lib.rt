@@ -1,4 +1,4 @@
-// Tests of plans, logs, pairs of jobs, states and packed words, over the public calls of their crates alone.
+//! Tests of plans, logs, pairs of jobs, states and packed words, over the public calls of their crates alone.
 #![tactic(auto)]
 
 #[cfg(test)]

@@ -8,6 +8,7 @@ use std::process::Abort;
 
 mod asking;
 mod limits;
+mod logged;
 mod memory;
 mod reading;
 

@@ -213,3 +213,33 @@ fn laws_of_words() {
     laws::legal_groups_are_short();
     laws::moves_are_read_back();
 }
+
+#[test]
+fn a_group_is_empty_where_it_has_no_move(rt: HostRuntime) {
+    assert!(rt; NO_MOVE.is_empty());
+    let each = [
+        EdgeMoves {
+            give_fork: true,
+            ..NO_MOVE
+        },
+        EdgeMoves {
+            give_bottles: 1,
+            ..NO_MOVE
+        },
+        EdgeMoves {
+            ask_fork: true,
+            ..NO_MOVE
+        },
+        EdgeMoves {
+            ask_bottles: 2,
+            ..NO_MOVE
+        },
+        EdgeMoves {
+            soil: true,
+            ..NO_MOVE
+        },
+    ];
+    for moves in each {
+        assert!(rt; !moves.is_empty());
+    }
+}

@@ -5,10 +5,10 @@ use Rattle.legal_steps.specs.declared.event.Event.{Event}
 use Rattle.legal_steps.specs.declared.phase.Drinking.TheVariants.{Reaching}
 use Rattle.legal_steps.specs.State.{IsOwn, edge, drinking}
 use Rattle.legal_steps.specs.Legal.{IsJob}
+use Rattle.locality.specs.AtTheEnd.{AllRetired, BothKnow}
 use Rattle.locality.specs.History.{events_by, IsHistory, state_after, known_by}
 use Rattle.turns.specs.Turn.{IsIdleTurn}
 use Rattle.turns.specs.Turns.{but_glances}
-use Rattle.overtaking.specs.Stuck.{AllRetired}
 use Rattle.quiet.specs.LastLooks.{last_seen}
 
 -- the events of job j in the history, its Glances left out, end with an idle turn, by whatever count of its turns
@@ -18,11 +18,6 @@ pub record EndsIdle (plan : LabPlan) (h : List Event) (j : ℕ) : Type 0 where
   pub waited : ℕ
   pub events : but_glances (events_by j h) ≡ before ++ idle
   pub turn : IsIdleTurn plan j waited (known_by plan before) idle
-
--- both ends of every edge know the same of it
-abbrev pub BothKnow : LabPlan → List Event → Type 0
-BothKnow plan h = (e : ℕ) → e < length (edges plan)
-    → edge (known_by plan (events_by (ends plan e).0 h)) e ≡ edge (known_by plan (events_by (ends plan e).1 h)) e
 
 -- both ends of every edge saw the same word last
 abbrev pub BothSaw : LabPlan → List Event → Type 0
@@ -46,4 +41,4 @@ BothSawIsBothKnow = (plan : LabPlan) (h : List Event) → IsHistory plan h → (
 
 -- in a quiet round all jobs are retired
 abbrev pub QuietRoundIsRetired : Type 0
-QuietRoundIsRetired = (plan : LabPlan) (h : List Event) → IsQuietRound plan h → AllRetired plan (state_after plan h)
+QuietRoundIsRetired = (plan : LabPlan) (h : List Event) → IsQuietRound plan h → AllRetired plan h

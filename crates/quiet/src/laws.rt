@@ -1,4 +1,4 @@
-// The law of the quiet round, and what an idle turn leaves a job with. Each law is the contract of a function that does nothing.
+//! The law of the quiet round, and what an idle turn leaves a job with.
 ghost use Rattle.quiet.specs.QuietRound.{BothSawIsBothKnow, IdleJobKnowsWhatItSaw, QuietRoundIsRetired};
 
 /// After an idle turn, what a job knows of each of its edges is the word that its last look at it saw.

@@ -1,5 +1,5 @@
-// Why a step is refused: the part of its guard that fails. Each part of the guard of each of the 17 kinds
-// of event has a cause of its own.
+//! Why a step is refused: the part of its guard that fails. Each part of the guard of each of the 17 kinds
+//! of event has a cause of its own.
 #![tactic(auto)]
 
 mod asking;

@@ -1,4 +1,3 @@
 pub mod Prefixes
-pub mod OfPlan
 pub mod OneReport
 pub mod EventReport

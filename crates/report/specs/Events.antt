@@ -1,4 +1,4 @@
--- The report as a function of a plan and a list of events that is legal from an opening state.
+-- For readers: the report as a function of a plan and a list of events that is legal from an opening state.
 use Rattle.std.specs.Prelude.{◌≡◌, ◌<◌, ℕ, Bool, List, length}
 use Rattle.lab_plan.specs.LabPlan.{LabPlan}
 use Rattle.legal_steps.specs.declared.event.Event.{Event}

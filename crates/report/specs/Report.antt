@@ -1,4 +1,4 @@
--- The report of a run: a function of its plan and of what is shown at its end.
+-- For readers: the report of a run: a function of its plan and of what is shown at its end.
 use Rattle.std.specs.Prelude.{ℕ, Bool, true, false, ◌==◌, List, [], ◌++◌, length, codes, decimal, if◌then◌else◌}
 use Rattle.std.specs.List.{flat_map, range_with_len, list_all}
 use Rattle.lab_plan.specs.LabPlan.{LabPlan, sessions}

@@ -1,4 +1,4 @@
-// The report of a run, and the upgraded script of a plan: what is printed is a function of what is shown.
+//! The report of a run, and the upgraded script of a plan: what is printed is a function of what is shown.
 #![tactic(auto)]
 
 mod header;

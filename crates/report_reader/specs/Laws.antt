@@ -1,4 +1,4 @@
--- Which reports there are, and that a text is refused only where it is none's.
+-- For readers: which reports there are, and that a text is refused only where it is none's.
 use Rattle.std.specs.Prelude.{ℕ, ◌≡◌, ◌^◌, ◌<◌, true, List, [], ◌∷◌, ◌++◌, Option, None, Some, ◌⊎◌}
 use Rattle.std.specs.List.{AllByRecursion}
 use Rattle.std.specs.Option.{is_some}

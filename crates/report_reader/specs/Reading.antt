@@ -1,4 +1,4 @@
--- What a reader answers on a text.
+-- For readers: what a reader answers on a text.
 use Rattle.std.specs.Prelude.{ℕ, ◌≡◌, ◌+◌, List, [], ◌∷◌, ◌++◌, Option, None, Some, Result, Ok, Err, length, map, ◌⊎◌}
 use Rattle.report_reader.specs.declared.fault.ReportCause.{ReportCause}
 use Rattle.report_reader.specs.declared.fault.ReportCause.TheVariants.{UnknownLine, NotWhole, NoMemory}

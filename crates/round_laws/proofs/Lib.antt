@@ -4,3 +4,4 @@ pub mod QuietEnd
 pub mod SameTurn
 pub mod SameRun
 pub mod Opened
+pub mod Rested

@@ -20,7 +20,8 @@ use Rattle.edge_rule.specs.Company.{Distinct}
 use Rattle.rounds.specs.declared.ended.Ended.{Ended}
 use Rattle.rounds.specs.declared.ended.Ended.TheVariants.{Quiet}
 use Rattle.rounds.specs.Company.{first_front}
-use Rattle.rounds.specs.Rounds.{Player, player_of, players_of, Rounds, AreRetired, BothKnow, Why}
+use Rattle.locality.specs.AtTheEnd.{AllRetired, BothKnow}
+use Rattle.rounds.specs.Rounds.{Player, player_of, players_of, Rounds, Why}
 use Rattle.round_laws.specs.QuietEnd.{jobs_in, HasAllPlayers}
 use Rattle.round_laws.specs.OneRun.{RanRounds}
 use Rattle.round_laws.specs.FromOpening.{opened, fresh_players, DrivesFromOpening, NeverEndsQuiet, OneRunOfAPlan}
@@ -144,8 +145,8 @@ drives_from_opening b limit ended n desks d =
       why = d.why;
     }
 
-quiet_or : (x : Ended) (plan : LabPlan) (h : List Event) (idle : Bool) (n limit : ℕ)
-    → x ≡ Quiet → Why plan h x idle n limit → ¬ AreRetired plan h × (idle ≡ true) × BothKnow plan h
+pub quiet_or : (x : Ended) (plan : LabPlan) (h : List Event) (idle : Bool) (n limit : ℕ)
+    → x ≡ Quiet → Why plan h x idle n limit → ¬ AllRetired plan h × (idle ≡ true) × BothKnow plan h
 quiet_or x plan h idle n limit is why = subst (λ z. Why plan h z idle n limit) is why
 
 pub never_ends_quiet : NeverEndsQuiet

@@ -1,4 +1,4 @@
--- Rounds from the opening don't end because nothing is left to do.
+-- Rounds don't end because nothing is left to do.
 use Rattle.std.proofs.Common.{◌≡◌, ℕ, zero, suc, Bool, true, false, if◌then◌else◌, List, [], ◌∷◌, ◌++◌, map, refl, sym, ap, ◌∙◌, subst}
 use Rattle.std.proofs.lemmas.Bool.{false≢true}
 use Rattle.lab_plan.specs.LabPlan.{LabPlan}
@@ -20,7 +20,7 @@ use Rattle.quiet.proofs.Rounded.{known_but, quiet_round_is_retired}
 use Rattle.edge_rule.specs.Ending.{Any}
 use Rattle.edge_rule.specs.Company.{Distinct}
 use Rattle.rounds.specs.Rounds.{known_in}
-use Rattle.round_laws.specs.QuietEnd.{jobs_in, NoQuietEnd}
+use Rattle.round_laws.specs.QuietEnd.{jobs_in, NoQuietEnd, NoQuietEndFromRest}
 use Rattle.round_laws.proofs.InRounds.{OneTurn, round_one, rounds_jobs, rounds_rest}
 
 but_append : (a b : List Event) → but_glances (a ++ b) ≡ but_glances a ++ but_glances b
@@ -51,17 +51,22 @@ ends_idle plan j h g q =
       turn = subst (λ (s : State). IsIdleTurn plan j q.waited s q.events) (sym known) idle;
     }
 
-pub no_quiet_end : NoQuietEnd
-no_quiet_end plan players players' zero h all apart legal is both = absurd (false≢true (sym is.1))
-no_quiet_end plan players players' (suc n) h all apart legal (m, before, middle, rounds, going, last) both =
-    let same : jobs_in middle ≡ jobs_in players = rounds_jobs plan players middle n before [] m rounds in
+pub no_quiet_end_from_rest : NoQuietEndFromRest
+no_quiet_end_from_rest plan players players' zero start h all apart rest legal is both = absurd (false≢true (sym is.1))
+no_quiet_end_from_rest plan players players' (suc n) start h all apart rest legal (m, before, middle, rounds, going, last) both =
+    let same : jobs_in middle ≡ jobs_in players = rounds_jobs plan players middle n before start m rounds in
     quiet_round_is_retired plan h (record {
       legal = legal;
       idle = λ j job. ends_idle plan j m h
           (round_one plan j middle players' true m h (subst Distinct (sym same) apart) (subst (Any (λ (i : ℕ). i ≡ j)) (sym same) (all j job)) last);
-      none_reaches = λ j job reaching. rounds_rest plan j job players players' (suc n) true [] h apart (all j job) (m, before, middle, rounds, going, last)
-          (λ e. (let begins : Tranquil ≡ Reaching = sym (ap (λ x. x.drinking)
-          (opening_phase plan (the_opening plan) j (the_opening_is_acyclic plan).0)) ∙ e in cc))
+      none_reaches = λ j job reaching. rounds_rest plan j job players players' (suc n) true start h apart (all j job) (m, before, middle, rounds, going, last)
+          (λ e. rest j job (ap (λ (x : Seat). x.phase.drinking) (own_known plan j start job) ∙ e))
           (ap (λ (x : Seat). x.phase.drinking) (sym (own_known plan j h job)) ∙ reaching);
       both_know = both;
     })
+
+pub no_quiet_end : NoQuietEnd
+no_quiet_end plan players players' n h all apart legal rounds both =
+    no_quiet_end_from_rest plan players players' n [] h all apart
+    (λ j job e. let begins : Tranquil ≡ Reaching = sym (ap (λ x. x.drinking)
+    (opening_phase plan (the_opening plan) j (the_opening_is_acyclic plan).0)) ∙ e in cc) legal rounds both

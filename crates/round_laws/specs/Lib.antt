@@ -1,3 +1,4 @@
 pub mod QuietEnd
 pub mod OneRun
 pub mod FromOpening
+pub mod FromRest

@@ -1,7 +1,14 @@
-// The laws of rounds. Each is the contract of a function that does nothing.
+//! The laws of rounds.
 ghost use Rattle.round_laws.specs.FromOpening.{DrivesFromOpening, NeverEndsQuiet, OneRunOfAPlan};
+ghost use Rattle.round_laws.specs.FromRest.{NeverQuietFromRest};
 ghost use Rattle.round_laws.specs.OneRun.{OneRun};
-ghost use Rattle.round_laws.specs.QuietEnd.{NoQuietEnd};
+ghost use Rattle.round_laws.specs.QuietEnd.{NoQuietEnd, NoQuietEndFromRest};
+
+/// Rounds don't end because nothing is left to do, wherever they began with no job reaching for a log: where the last round was
+/// idle and both ends of every edge know the same of it, all jobs are retired.
+pub fn no_quiet_end_from_rest()
+    ensures { NoQuietEndFromRest }
+{}
 
 /// Rounds from the opening don't end because nothing is left to do: where the last round was idle and both ends of every
 /// edge know the same of it, all jobs are retired.
@@ -28,4 +35,9 @@ pub fn never_ends_quiet()
 /// After `open`, `rounds` has one outcome for a plan and a limit: one reason, one number of rounds and one history.
 pub fn one_run_of_a_plan()
     ensures { OneRunOfAPlan }
+{}
+
+/// `rounds` never ends because it is quiet, whatever the desks did before: `are_at_rest` of `rounds` says of them what the law asks.
+pub fn never_quiet_from_rest()
+    ensures { NeverQuietFromRest }
 {}

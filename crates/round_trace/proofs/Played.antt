@@ -12,7 +12,8 @@ use Rattle.locality.specs.Patience.{no_wait}
 use Rattle.locality.proofs.Runs.{each-append}
 use Rattle.session_layer.specs.declared.turning.Turned.{Turned}
 use Rattle.rounds.specs.Rounds as rounds
-use Rattle.rounds.specs.Rounds.{Plays, Round, Rounds, AreRetired, IsOver, is_idle, no_player}
+use Rattle.locality.specs.AtTheEnd.{AllRetired}
+use Rattle.rounds.specs.Rounds.{Plays, Round, Rounds, IsOver, is_idle, no_player}
 use Rattle.rounds.proofs.Lists.{take_set, drop_set, get_set, take_snoc, drop_next, get_same}
 use Rattle.rounds.proofs.Snoc.{round-snoc}
 use Rattle.round_laws.specs.QuietEnd.{jobs_in}
@@ -113,17 +114,17 @@ module _ (plan : LabPlan) where
         (rounds_jobs plan all players n idle [] h rounds_were)) (to_jobs (length plan.jobs) all (fresh_jobs (length plan.jobs) (length plan.jobs)
         (omega arith))))
 
-    pub not_over : IsHistory plan h → ¬ AreRetired plan h → ¬ IsOver plan idle h
+    pub not_over : IsHistory plan h → ¬ AllRetired plan h → ¬ IsOver plan idle h
     not_over legal other (inl retired) = other retired
     not_over legal other (inr quiet) = other (no_quiet_end plan all players n h (all_players plan) (players_once plan) legal (subst
         (λ b. Rounds plan all n b [] h players) quiet.0 rounds_were) quiet.1)
 
-    pub round_more : (players' : List rounds.Player) (idle' : Bool) (g : List Event) → IsHistory plan h → ¬ AreRetired plan h →
+    pub round_more : (players' : List rounds.Player) (idle' : Bool) (g : List Event) → IsHistory plan h → ¬ AllRetired plan h →
         Round plan players idle' h g players' → Rounds plan all (n + 1) idle' [] g players'
     round_more players' idle' g legal other round = subst (λ m. Rounds plan all m idle' [] g players') (sym (add-one n))
         (h, idle, players, rounds_were, not_over legal other, round)
 
-    pub ran : (limit : ℕ) (retired : Bool) → IsHistory plan h → n ≤ limit → (retired ≡ true) ↔ AreRetired plan h → (retired ≡ false → n ≡ limit) →
+    pub ran : (limit : ℕ) (retired : Bool) → IsHistory plan h → n ≤ limit → (retired ≡ true) ↔ AllRetired plan h → (retired ≡ false → n ≡ limit) →
         (m : ℕ) × RanRounds plan limit all [] (why_ended retired) m h
     ran limit true legal most test end =
         (n, record { idle = idle; players_then = players; legal = legal; rounds = rounds_were; most = most; why = test.0 refl })
@@ -144,6 +145,6 @@ module _ (plan : LabPlan) where
 
 -- the test of a world is that of its history
 pub retired_in : (plan : LabPlan) (w : WorldView) (h : List Event) (b : Bool) → StandsAt w h → w.plan ≡ plan → (b ≡ true) ↔ ((j : ℕ) →
-    j < length w.plan.jobs → drinking w.state j ≡ Retired) → (b ≡ true) ↔ AreRetired plan h
+    j < length w.plan.jobs → drinking w.state j ≡ Retired) → (b ≡ true) ↔ AllRetired plan h
 retired_in plan w h b at same test = subst (λ (z : LabPlan × State). (b ≡ true) ↔ ((j : ℕ) → j < length z.0.jobs →
     drinking z.1 j ≡ Retired)) (λ i. (same i, (at.led ∙ ap (λ (p : LabPlan). state_after p h) same) i)) test

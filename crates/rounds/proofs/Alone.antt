@@ -1,22 +1,20 @@
 -- A desk whose job alone did anything: nothing came between its steps, and no exchange was lost.
-use Rattle.std.proofs.Common.{◌≡◌, ◌≢◌, ℕ, ◌+◌, Bool, true, false, not, ◌&&◌, if◌then◌else◌, List, [], ◌∷◌, ◌++◌, length, refl, sym, ap, ◌∙◌, subst, arith, append_assoc, append-nil}
+use Rattle.std.proofs.Common.{◌≡◌, ◌≢◌, ℕ, ◌+◌, Bool, true, false, not, ◌&&◌, if◌then◌else◌, List, [], ◌∷◌, ◌++◌, refl, sym, ap, ◌∙◌, subst, append_assoc, append-nil}
 use Rattle.std.proofs.lemmas.List.Elements.{filter-append}
-use Rattle.lab_plan.specs.LabPlan.{edges}
 use Rattle.legal_steps.specs.declared.edge_state.EdgeState.{EdgeState}
 use Rattle.legal_steps.specs.declared.event.Event.{Event}
 use Rattle.legal_steps.specs.declared.event.Event.TheVariants.{Look}
 use Rattle.legal_steps.specs.State.{State, edge}
 use Rattle.legal_steps.specs.Opening.{the_opening}
-use Rattle.legal_steps.proofs.FitsWrites.{edge_same}
 use Rattle.edge_word.specs.Moves.{events_of, is_nothing}
-use Rattle.locality.specs.History.{actor, is_by, events_by, known_by, state_after, IsHistory}
+use Rattle.locality.specs.History.{actor, is_by, events_by, state_after, IsHistory}
 use Rattle.locality.specs.Lists.{Each}
-use Rattle.locality.proofs.Runs.{only_mine, append_self, after_all-append, legal-goes_on, learned_all-append, learned_all_edges, opening_edges}
+use Rattle.locality.proofs.Runs.{only_mine, append_self, after_all-append, legal-goes_on}
 use Rattle.edge_rule.specs.DeskView.{DeskView, Adds, IsAtRest, known, shown}
 use Rattle.edge_rule.proofs.ManyHands.{each_begin, each_end}
 use Rattle.turns.specs.Turn.{Visit, is_lost, count}
 use Rattle.session_layer.specs.Turn.{Visits, VisitsAll, Chosen}
-use Rattle.session_layer.proofs.Grows.{adds_goes, adds_rests, visit_goes, visits_go}
+use Rattle.session_layer.proofs.Grows.{look_known, adds_goes, adds_rests, visit_goes, visits_go}
 use Rattle.rounds.proofs.Lists.{append_cancel}
 
 -- all of these events are the job's
@@ -33,7 +31,7 @@ still d e more rest a is alone = is ∙ (ap (λ z. d.front ++ z) none ∙ append
   none = sym (only_mine d.job more alone)
       ∙ append_self (events_by d.job d.front) (events_by d.job more) (sym (filter-append (is_by d.job) d.front more) ∙ (ap (events_by d.job) (sym is) ∙ whole))
 
--- after a look, the edge is as it was seen, in the history and by the record
+-- after a look, the edge is as it was seen in the history
 module _ (d m : DeskView) (e : ℕ) (x : EdgeState) (a : Adds d (Look d.job e x ∷ []) m) where
   abbrev before : List Event
   before = d.front ++ a.between
@@ -45,13 +43,6 @@ module _ (d m : DeskView) (e : ℕ) (x : EdgeState) (a : Adds d (Look d.job e x 
   look_shown = let last = legal-goes_on m.plan (the_opening m.plan) before (Look d.job e x ∷ []) looks in
       ap (λ (h : List Event). edge (state_after m.plan h) e) a.front
       ∙ (ap (λ (s : State). edge s e) (after_all-append m.plan (the_opening m.plan) before (Look d.job e x ∷ [])) ∙ sym last.0.1)
-
-  pub look_known : edge (known m) e ≡ x
-  look_known = let last = legal-goes_on m.plan (the_opening m.plan) before (Look d.job e x ∷ []) looks in let s : State = known_by m.plan d.deeds in
-      let long : length s.edges ≡ length (edges m.plan) = learned_all_edges m.plan (the_opening m.plan) d.deeds ∙ opening_edges m.plan in
-      let inside = last.0.0.is_edge in
-      ap (λ (h : List Event). edge (known_by m.plan h) e) a.deeds
-      ∙ (ap (λ (s : State). edge s e) (learned_all-append m.plan (the_opening m.plan) d.deeds (Look d.job e x ∷ [])) ∙ edge_same s e x (omega arith))
 
 -- an exchange isn't lost
 tried_alone : (d m : DeskView) (v : Visit) (d' : DeskView) (more : List Event) (b c : Bool) → is_nothing v.moves ≡ b

@@ -16,7 +16,8 @@ use Rattle.edge_rule.specs.Ending.{Any}
 use Rattle.rounds.specs.declared.ended.Ended.{Ended}
 use Rattle.rounds.specs.declared.ended.Ended.TheVariants as reasons
 use Rattle.rounds.specs.Company.{AllOf, Company, all_retired, seen_by, IsAgreed}
-use Rattle.rounds.specs.Rounds.{Player, players_of, known_in, AreRetired, BothKnow, IsOver, Rounds, Why, Played}
+use Rattle.locality.specs.AtTheEnd.{AllRetired, BothKnow}
+use Rattle.rounds.specs.Rounds.{Player, players_of, known_in, IsOver, Rounds, Why, Played}
 use Rattle.session_layer.specs.Retired.{has_retired, is_retired}
 use Rattle.rounds.proofs.Lists.{zip_each}
 
@@ -60,12 +61,12 @@ module _ (b : BenchView) (h : List Event) (desks : List DeskView) (c : Company b
   find_job j P (d ∷ l) (inl is) e = subst P is e.0
   find_job j P (d ∷ l) (inr more) e = find_job j P l more e.1
 
-  pub retired_then : all_retired desks ≡ true → AreRetired b.plan h
+  pub retired_then : all_retired desks ≡ true → AllRetired b.plan h
   retired_then e j inside = find_job j (λ i. drinking (state_after b.plan h) i ≡ Retired) desks (all j inside)
       (zip_each IsNow (λ (d : DeskView). is_retired d ≡ true) (λ (d : DeskView). drinking (state_after b.plan h) d.job ≡ Retired)
       (λ d now is. sym (drinks d now) ∙ gone_is (drinking (known d) d.job) is) desks nows (retired_each desks e))
 
-  pub then_retired : AreRetired b.plan h → all_retired desks ≡ true
+  pub then_retired : AllRetired b.plan h → all_retired desks ≡ true
   then_retired are = each_retired desks
       (zip_each IsNow IsNow (λ (d : DeskView). is_retired d ≡ true) (λ d now _. ap has_retired (drinks d now ∙ are d.job now.1)) desks nows nows)
 
@@ -108,7 +109,7 @@ module _ (b : BenchView) (limit : ℕ) (players : List Player) (h g : List Event
     why = why;
   }
 
-  not_retired : all_retired desks ≡ false → ¬ AreRetired b.plan g
+  not_retired : all_retired desks ≡ false → ¬ AllRetired b.plan g
   not_retired r are = let both : true ≡ false = sym (then_retired b g desks joint all are) ∙ r in absurd (cc)
 
   -- it isn't over

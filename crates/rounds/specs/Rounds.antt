@@ -1,10 +1,10 @@
--- Rounds of turns, as the history has them.
-use Rattle.std.specs.Prelude.{Bool, true, false, ◌&&◌, ◌≡◌, ℕ, zero, suc, ◌+◌, ◌<◌, ◌≤◌, ◌⊎◌, List, [], ◌∷◌, ◌++◌, length, map}
-use Rattle.lab_plan.specs.LabPlan.{LabPlan, edges, ends}
+-- For readers: rounds of turns, as the history has them.
+use Rattle.std.specs.Prelude.{Bool, true, false, ◌&&◌, ◌≡◌, ℕ, zero, suc, ◌+◌, ◌≤◌, ◌⊎◌, List, [], ◌∷◌, ◌++◌, map}
+use Rattle.lab_plan.specs.LabPlan.{LabPlan}
 use Rattle.legal_steps.specs.declared.event.Event.{Event}
-use Rattle.legal_steps.specs.declared.phase.Drinking.TheVariants.{Retired}
-use Rattle.legal_steps.specs.State.{State, edge, session, drinking}
-use Rattle.locality.specs.History.{events_by, known_by, state_after}
+use Rattle.legal_steps.specs.State.{State, session}
+use Rattle.locality.specs.History.{events_by, known_by}
+use Rattle.locality.specs.AtTheEnd.{AllRetired, BothKnow}
 use Rattle.locality.specs.Lists.{StartsWith}
 use Rattle.locality.specs.Patience.{Waited, waited_in, no_wait}
 use Rattle.edge_rule.specs.DeskView.{DeskView, BenchView, waits}
@@ -67,17 +67,9 @@ Round plan (x ∷ players) idle h h' players' =
     (r : Turned) × (m : List Event) × (x' : Player) × (later : Bool) × (rest : List Player) × Plays plan x h r m x' × Round plan players later m h' rest
     × (idle ≡ (is_idle r && later)) × (players' ≡ x' ∷ rest)
 
--- every job is retired after the history
-abbrev pub AreRetired : LabPlan → List Event → Type 0
-AreRetired plan h = (j : ℕ) → j < length plan.jobs → drinking (state_after plan h) j ≡ Retired
-
--- both ends of every edge know the same of it: after idle turns, what they saw last
-abbrev pub BothKnow : LabPlan → List Event → Type 0
-BothKnow plan h = (e : ℕ) → e < length (edges plan) → edge (known_in plan h (ends plan e).0) e ≡ edge (known_in plan h (ends plan e).1) e
-
 -- nothing more is to come: all jobs are retired, or the last round was quiet; idle says that there was one, all of whose turns were idle
 abbrev pub IsOver : LabPlan → Bool → List Event → Type 0
-IsOver plan idle h = AreRetired plan h ⊎ ((idle ≡ true) × BothKnow plan h)
+IsOver plan idle h = AllRetired plan h ⊎ ((idle ≡ true) × BothKnow plan h)
 
 -- so many rounds, none of which came after all was over; idle says whether there was a last one, all of whose turns were idle
 abbrev pub Rounds : LabPlan → List Player → ℕ → Bool → List Event → List Event → List Player → Type 0
@@ -88,8 +80,8 @@ Rounds plan players (suc n) idle h h' players' =
 
 -- why rounds ended after n of them
 abbrev pub Why : LabPlan → List Event → Ended → Bool → ℕ → ℕ → Type 0
-Why plan h reasons.AllRetired idle n limit = AreRetired plan h
-Why plan h reasons.Quiet idle n limit = ¬ AreRetired plan h × (idle ≡ true) × BothKnow plan h
+Why plan h reasons.AllRetired idle n limit = AllRetired plan h
+Why plan h reasons.Quiet idle n limit = ¬ AllRetired plan h × (idle ≡ true) × BothKnow plan h
 Why plan h reasons.Limit idle n limit = ¬ IsOver plan idle h × (n ≡ limit)
 Why plan h reasons.NoMemory idle n limit = ⊥
 

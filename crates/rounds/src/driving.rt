@@ -40,6 +40,7 @@ fn play<A: Allocator>(
         }
         let (idle, later) = round(bench, desks, last);
         last = later;
+        // A turn may be idle by a word that its neighbour has exchanged since: so both ends must have seen one word.
         quiet = idle && is_agreed(bench, desks);
     }
     if all_retired(desks) {
@@ -66,9 +67,11 @@ pub fn rounds<A: Allocator>(bench: &Bench<A>, desks: &mut [Desk<A>], limit: u32)
         return (Ended::AllRetired, 0);
     }
     are_at_rest(desks);
+    // Each desk has seen a beginning of the one history. The first is to see as much of it as any, with every record whole.
     meet_all(bench, desks);
     let news = tell(bench, &mut desks[0]);
     let (ended, number, last) = play(bench, desks, limit, news);
+    // It hears of all turns. That nobody else acted between them is known only when all meet again.
     heed(bench, &mut desks[0], last);
     meet_all(bench, desks);
     (ended, number)

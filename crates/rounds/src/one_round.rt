@@ -28,6 +28,7 @@ fn turn_at<A: Allocator>(
     ensures plays { IsWhole result.1.front desks.new → IsWhole news.front desks.old × Plays bench.now.plan (slice_index_or (players_of desks.old) place no_player) news.front result.0 result.1.front (slice_index_or (players_of desks.new) place no_player) }
 {
     let desk = &mut desks[place];
+    // What the desks before it have done comes first, so that its own turn stands behind all of that in one history.
     heed(bench, desk, news);
     let turned = turn(bench, desk);
     let later = tell(bench, desk);

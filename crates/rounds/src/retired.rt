@@ -2,6 +2,7 @@
 ghost use Rattle.std.specs.Prelude.{◌≡◌};
 ghost use Rattle.locality.specs.Lists.{Each};
 ghost use Rattle.edge_rule.specs.DeskView.{IsAtRest};
+ghost use Rattle.edge_rule.specs.Ending.{Rests};
 ghost use Rattle.session_layer.specs.Retired.{is_retired};
 ghost use Rattle.rounds.specs.Company.{all_retired};
 
@@ -25,13 +26,16 @@ pub fn all_retired<A: Allocator>(desks: &[Desk<A>]) -> bool
     }
 }
 
-/// Does nothing; a caller knows then of each desk that it is at rest.
+/// Does nothing: each desk is at rest and reaches for no log, since its type keeps that. This says so of all at once, to callers
+/// whose own contracts rest on it.
 pub fn are_at_rest<A: Allocator>(desks: &[Desk<A>])
-    ensures { Each IsAtRest desks.now }
+    ensures rest { Each IsAtRest desks.now }
+    ensures none_reaches { Each Rests desks.now }
 {
     match desks {
         [] => (),
         [desk, others @ ..] => {
+            // What the desk's type keeps is told by its calls alone.
             let _ = desk.job();
             are_at_rest(others)
         }

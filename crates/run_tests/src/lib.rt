@@ -1,4 +1,4 @@
-// Tests of whole runs by their bytes, and of words, faults and statuses.
+//! Tests of whole runs by their bytes, and of words, faults and statuses.
 #![tactic(auto)]
 
 #[cfg(test)]

@@ -2,7 +2,8 @@
 ghost use Rattle.std.specs.Prelude.{◌≡◌, true};
 ghost use Rattle.lab_runs.specs.Words.{MayRun};
 
-use lab_runs::{FromRead, Outcome, RunFault, Task, run_task};
+use lab_program::{FromRead, Outcome, RunFault};
+use lab_runs::{NoGate, Task, run_task};
 use report::ToWrite;
 use std::alloc::{AllocError, Global};
 use std::io::{self, ErrorKind, Read, Write};
@@ -11,6 +12,7 @@ use std::thread::Threads;
 
 mod ends;
 mod examples;
+mod gates;
 mod in_rounds;
 mod memory;
 mod replays;
@@ -22,18 +24,19 @@ mod threads;
 /// Two jobs, each of which adds 1 on the scale in its one session: nine lines.
 const TWO_ADD: &str = "lab 1\njob a\nsession\nscale add 1\nend\njob b\nsession\nscale add 1\nend\n";
 
-/// A reader of a text, at most `most` bytes a call, that is interrupted once `calls` calls are used.
+/// A reader of a text, at most `most` bytes a call, that fails with `error` once `calls` calls are used.
 #[derive(Drop)]
 struct Pieces<'a> {
     rest: &'a [u8],
     most: usize,
     calls: usize,
+    error: ErrorKind,
 }
 
 impl Read for &mut Pieces<'_> {
     fn read(&mut self, buffer: &mut [u8]) -> io::Result<usize> {
         if self.calls == 0 {
-            return Err(io::Error::from(ErrorKind::Interrupted));
+            return Err(io::Error::from(self.error));
         }
         self.calls -= 1;
         let count = self.rest.len().min(buffer.len()).min(self.most);
@@ -89,20 +92,14 @@ fn may_run(task: &Task) -> bool
     }
 }
 
-/// A run over a text, by calls of the reader and of the writer.
-fn told_at<R: Threads + Abort + Sync>(
+/// A run over a reader, by calls of the writer.
+fn told_from<R: Threads + Abort + Sync>(
     rt: &R,
     alloc: Global,
     task: Task,
-    text: &[u8],
-    reads: Calls,
+    mut pieces: Pieces<'_>,
     writes: Calls,
 ) -> Told {
-    let mut pieces = Pieces {
-        rest: text,
-        most: reads.0,
-        calls: reads.1,
-    };
     let mut slow = Slow {
         bytes: Vec::new(alloc),
         most: writes.0,
@@ -111,8 +108,26 @@ fn told_at<R: Threads + Abort + Sync>(
     let mut source = FromRead::new(&mut pieces);
     let mut sink = ToWrite::new(&mut slow);
     assert!(rt; may_run(&task));
-    let answer = run_task(task, rt, alloc, &mut source, &mut sink);
+    let answer = run_task(task, rt, alloc, &mut source, &mut sink, &NoGate);
     (slow.bytes, answer)
+}
+
+/// A run over a text, by calls of the reader, which is interrupted behind them, and of the writer.
+fn told_at<R: Threads + Abort + Sync>(
+    rt: &R,
+    alloc: Global,
+    task: Task,
+    text: &[u8],
+    reads: Calls,
+    writes: Calls,
+) -> Told {
+    let pieces = Pieces {
+        rest: text,
+        most: reads.0,
+        calls: reads.1,
+        error: ErrorKind::Interrupted,
+    };
+    told_from(rt, alloc, task, pieces, writes)
 }
 
 /// A run over a text that comes whole and a writer that takes all.

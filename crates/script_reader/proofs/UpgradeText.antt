@@ -67,7 +67,7 @@ line_len_is (b ∷ line) rest shown =
     no_feed : (b : ℕ) → is_shown b ≡ true → (b == 10) ≡ false
     no_feed b h = grind (arith, nat_tests, h)
 
-some_lines : (bytes : List ℕ) → 0 < length bytes → lines_of bytes ≡ take (line_len bytes) bytes ∷ lines_of (drop (line_len bytes) bytes)
+pub some_lines : (bytes : List ℕ) → 0 < length bytes → lines_of bytes ≡ take (line_len bytes) bytes ∷ lines_of (drop (line_len bytes) bytes)
 unfolding lines_from
 some_lines [] some = absurd (omega arith)
 some_lines (b ∷ bytes) some =

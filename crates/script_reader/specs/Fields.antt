@@ -1,4 +1,4 @@
--- The fields of a line.
+-- For readers: the fields of a line.
 use Rattle.std.specs.Prelude.{◌≡◌, ◌≢◌, ◌⊎◌, ◌<◌, ℕ, Bool, true, false, ◌||◌, List, [], ◌∷◌, ◌++◌, ◌==◌, All, length, slice_index}
 use Rattle.std.specs.List.{filter, slice_split}
 

@@ -1,4 +1,4 @@
--- The forms of a line that isn't skipped.
+-- For readers: the forms of a line that isn't skipped.
 use Rattle.std.specs.Prelude.{ℕ, Bool, true, false, List, [], ◌∷◌, Option, None, Some, ◌==◌, codes, if◌then◌else◌, slice_index}
 use Rattle.std.specs.Str.{bytes_eq}
 use Rattle.script_reader.specs.declared.form.Version.{Version}

@@ -1,4 +1,4 @@
--- Numbers as they are spelled in a script.
+-- For readers: numbers as they are spelled in a script.
 use Rattle.std.specs.Prelude.{ℕ, ◌+◌, ◌-◌, ◌*◌, Bool, ◌&&◌, ◌||◌, not, nat_le, List, [], ◌∷◌, ◌==◌, length, slice_index}
 use Rattle.std.specs.List.{list_all}
 use Rattle.lab_plan.specs.Names.{is_digit}

@@ -1,4 +1,4 @@
--- What a script means, and its first fault. The lines before a line stand with the nearest first.
+-- For readers: what a script means, and its first fault. The lines before a line stand with the nearest first.
 use Rattle.std.specs.Prelude.{ℕ, ◌≡◌, ◌+◌, Bool, true, false, ◌||◌, ◌&&◌, not, nat_le, List, [], ◌∷◌, ◌++◌, Option, None, Some, length, map, reverse, ◌⊎◌, Result, Ok, Err}
 use Rattle.std.specs.List.{filter, filter_map, find, list_any, cons_option}
 use Rattle.std.specs.Option.{option_map}

@@ -1,6 +1,6 @@
-// Scripts and step lists. A script's meaning is a relation between the lines of a text and a plan,
-// and its fault is the first line that meets a cause, with the first cause that it meets; the reader
-// goes over the lines once, with a state that says all that the lines before say.
+//! Scripts and step lists. A script's meaning is a relation between the lines of a text and a plan,
+//! and its fault is the first line that meets a cause, with the first cause that it meets; the reader
+//! goes over the lines once, with a state that says all that the lines before say.
 #![tactic(auto)]
 
 mod bottles;

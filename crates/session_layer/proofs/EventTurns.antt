@@ -1,5 +1,5 @@
 -- What a desk did in a turn, by its record alone.
-use Rattle.std.proofs.Common.{◌≡◌, ◌≢◌, ℕ, ◌+◌, Bool, true, false, not, ◌&&◌, map, arith, if◌then◌else◌, List, [], ◌∷◌, ◌++◌, refl, sym, ap, ◌∙◌, subst, append_assoc, append-nil}
+use Rattle.std.proofs.Common.{◌≡◌, ◌≢◌, ℕ, Bool, true, false, if◌then◌else◌, List, [], ◌∷◌, ◌++◌, refl, sym, ap, ◌∙◌, subst, append_assoc, append-nil}
 use Rattle.lab_plan.specs.LabPlan.{LabPlan}
 use Rattle.legal_steps.specs.declared.event.Event.{Event}
 use Rattle.legal_steps.specs.declared.event.Event.TheVariants.{Look}
@@ -11,12 +11,12 @@ use Rattle.edge_rule.specs.DeskView.{DeskView, Adds, known, shown, waited}
 use Rattle.locality.proofs.Runs.{learned_all-append}
 use Rattle.turns.specs.Due.{AreDue}
 use Rattle.turns.specs.Acts.{AreActs}
-use Rattle.turns.specs.Turn.{Visit, count, once, is_done}
+use Rattle.turns.specs.Turn.{Visit}
 use Rattle.session_layer.specs.Turn.{Visits, VisitsAll, DoesAll, Chosen, Took}
 use Rattle.turns.specs.Turn.{visit_events, visits_events, AreVisits, IsTurnBy}
-use Rattle.session_layer.specs.Turn.{TookIsTurn, IdleIsIdle, MovedDidNothing}
+use Rattle.session_layer.specs.Turn.{TookIsTurn, IdleIsIdle}
 use Rattle.session_layer.specs.declared.turning.Turned.{Turned}
-use Rattle.session_layer.specs.declared.turning.Turned.TheVariants.{Moved, Idle}
+use Rattle.session_layer.specs.declared.turning.Turned.TheVariants.{Idle}
 use Rattle.turns.proofs.Idle.{no_events, nothing_done_is_idle}
 
 -- the record grew by these events
@@ -80,7 +80,7 @@ turn_by d r d' t = let a = visits_did d t.visits t.visited t.all in record {
   events_are = refl;
 }
 
-deeds_then : (d : DeskView) (r : Turned) (d' : DeskView) (t : Took d r d') → d'.deeds ≡ d.deeds ++ (visits_events d.job t.visits ++ t.acts)
+pub deeds_then : (d : DeskView) (r : Turned) (d' : DeskView) (t : Took d r d') → d'.deeds ≡ d.deeds ++ (visits_events d.job t.visits ++ t.acts)
 deeds_then d r d' t =
     ap (λ (z : DeskView). z.deeds) t.noted_is
     ∙ (did_then d t.visited t.acted (visits_events d.job t.visits) t.acts
@@ -95,31 +95,3 @@ idle_is_idle = λ d d' t. (
   nothing_done_is_idle d.plan d.job (waited d) (known d) t.visits t.acts (visits_events d.job t.visits ++ t.acts) (turn_by d Idle d' t) t.says.0 t.says.1,
   deeds_then d Idle d' t,
 )
-
--- a visit that did nothing is a look
-not_done : (nothing lost : Bool) (n : ℕ) (events : List Event) → (if not nothing && not lost then 1 else 0) + n ≡ 0
-    → (nothing ≡ true → events ≡ []) → (if lost then [] else events) ≡ []
-not_done nothing true n events h none = refl
-not_done true false n events h none = none refl
-not_done false false n events h none = absurd (omega (arith, h))
-
-looks_alone : (j : ℕ) (vs : List Visit) → count is_done vs ≡ 0 → visits_events j vs ≡ map (λ (v : Visit). Look j v.edge v.saw) vs
-looks_alone j [] h = refl
-looks_alone j (v ∷ vs) h =
-    λ i. Look j v.edge v.saw ∷ not_done (is_nothing v.moves) v.lost (count is_done vs) (events_of v.moves j v.edge) h (no_events v.moves j v.edge) i
-    ++ looks_alone j vs (omega (arith, h)) i
-
-none_at_all : (acts : List Event) → once acts ≡ 0 → acts ≡ []
-none_at_all [] h = refl
-none_at_all (x ∷ acts) h = absurd (omega (arith, h))
-
-pub moved_did_nothing : MovedDidNothing
-moved_did_nothing = λ d d' t. let none = t.says.0 in let z : visits_events d.job t.visits ++ t.acts ≡ map (λ (v : Visit). Look d.job v.edge v.saw) t.visits =
-    ap (λ l. visits_events d.job t.visits ++ l) (none_at_all t.acts (omega (arith, none)))
-    ∙ (append-nil (visits_events d.job t.visits) ∙ looks_alone d.job t.visits (omega (arith, none))) in
-    record {
-      visits = t.visits;
-      edges = t.edges;
-      looks = deeds_then d Moved d' t ∙ ap (λ l. d.deeds ++ l) z;
-      lost = t.says.1;
-    }

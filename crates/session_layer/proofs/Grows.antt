@@ -1,47 +1,78 @@
--- How a desk grows over turns: the groups of a turn stand unbroken in what the desk saw.
-use Rattle.std.proofs.Common.{◌≡◌, ◌≢◌, ℕ, zero, suc, ◌+◌, ◌<◌, Bool, true, false, if◌then◌else◌, List, [], ◌∷◌, ◌++◌, length, map, refl, sym, ap, ◌∙◌, subst, arith, inl, inr, append_assoc, append-nil}
-use Rattle.lab_plan.specs.LabPlan.{LabPlan}
+-- How a desk grows over turns: the groups of a turn stand unbroken in what the desk saw, and what was lost, was lost to another word.
+use Rattle.std.proofs.Common.{◌≡◌, ◌≢◌, ℕ, zero, suc, ◌+◌, ◌<◌, Bool, true, false, not, ◌&&◌, if◌then◌else◌, List, [], ◌∷◌, ◌++◌, length, map, refl, sym, ap, ◌∙◌, subst, arith, inl, inr, append_assoc, append-nil}
+use Rattle.lab_plan.specs.LabPlan.{LabPlan, edges}
+use Rattle.legal_steps.specs.declared.edge_state.EdgeState.{EdgeState}
 use Rattle.legal_steps.specs.declared.event.Event.{Event}
 use Rattle.legal_steps.specs.declared.event.Event.TheVariants.{Look, AskFork, GiveFork, Soil, AskBottles, GiveBottles, Thirst, Hunger, Sit, Leave, Drink, Reach, Act, Quit, Retire, Glance, Withdraw}
 use Rattle.legal_steps.specs.State.{State, edge, drinking}
+use Rattle.legal_steps.specs.Run.{after_all}
+use Rattle.legal_steps.specs.Opening.{the_opening}
+use Rattle.legal_steps.proofs.FitsWrites.{edge_same}
 use Rattle.edge_word.specs.Moves.{events_of, is_nothing}
-use Rattle.locality.specs.History.{learned, learned_all}
+use Rattle.locality.specs.History.{IsHistory, state_after, known_by, learned, learned_all}
 use Rattle.locality.specs.Lists.{Each}
 use Rattle.locality.specs.Patience.{Waited, one_more, waited_after, is_waiting}
-use Rattle.locality.proofs.Runs.{learned_all-append, each-append}
+use Rattle.locality.proofs.Runs.{after_all-append, legal-goes_on, learned_all-append, learned_all_edges, opening_edges, each-append}
 use Rattle.locality.proofs.Local.{each_move}
 use Rattle.edge_rule.specs.declared.clock.Clock.{Clock}
 use Rattle.edge_rule.specs.DeskView.{DeskView, Adds, IsAtRest, known, shown, waited, waits, noted}
 use Rattle.turns.specs.Acts.{whole_act, AreFirst, order}
-use Rattle.turns.specs.Turn.{Visit, visit_events, visits_events, IsTurnBy}
-use Rattle.turns.specs.Turns.{AreTurns, AreGrouped, Stands, flat, but_glances, is_glance, visit_groups, visits_groups, turn_groups, waited_next}
+use Rattle.turns.specs.Turn.{Visit, is_lost, visit_events, visits_events, IsTurnBy}
+use Rattle.turns.specs.Turns.{Group, Did, Lost, AreGrouped, Stands, flat, but_glances, is_glance, visit_groups, visits_groups, turn_groups, waited_next}
 use Rattle.session_layer.specs.declared.turning.Turned.{Turned}
 use Rattle.session_layer.specs.Turn.{Visits, VisitsAll, DoesAll, Chosen, Took}
-use Rattle.session_layer.specs.Grown.{Grew, TookTurns, turns_after, OneTurn, GlancesAlone, HearingAlone, TurnsGoOn, GroupsAreTurns}
+use Rattle.session_layer.specs.Grown.{Grew, TookTurns, turns_after, OneTurn, GlancesAlone, HearingAlone, TurnsGoOn}
 use Rattle.turns.proofs.Idle.{no_events}
 use Rattle.session_layer.proofs.EventTurns.{known_then, visits_did}
 
 -- ---- groups that stand
 
-pub stands_later : (gs : List (List Event)) (a b : List Event) → Stands gs b → Stands gs (a ++ b)
-stands_later [] a b s = tt
-stands_later (g ∷ gs) a b (before, after, is, rest) = (a ++ before, after, ap (λ z. a ++ z) is ∙ sym (append_assoc a before (g ++ after)), rest)
+module _ (plan : LabPlan) where
+  -- the state after both parts
+  pub after_both : (s : State) (h a b : List Event) → h ≡ a ++ b → after_all plan s h ≡ after_all plan (after_all plan s a) b
+  after_both s h a b is = ap (after_all plan s) is ∙ after_all-append plan s a b
 
-pub stands-append : (gs hs : List (List Event)) (a b : List Event) → Stands gs a → Stands hs b → Stands (gs ++ hs) (a ++ b)
-stands-append [] hs a b s t = stands_later hs a b t
-stands-append (g ∷ gs) hs a b (before, after, is, rest) t = (
-  before,
-  after ++ b,
-  ap (λ z. z ++ b) is ∙ (append_assoc before (g ++ after) b ∙ ap (λ z. before ++ z) (append_assoc g after b)),
-  stands-append gs hs after b rest t,
-)
+  pub stands_later : (s : State) (gs : List Group) (a b : List Event) → Stands plan (after_all plan s a) gs b → Stands plan s gs (a ++ b)
+  stands_later s [] a b t = tt
+  stands_later s (Did g ∷ gs) a b (before, after, is, rest) = (
+    a ++ before,
+    after,
+    ap (λ z. a ++ z) is ∙ sym (append_assoc a before (g ++ after)),
+    subst (λ (z : State). Stands plan z gs after) (sym (after_both s ((a ++ before) ++ g) a (before ++ g) (append_assoc a before g))) rest,
+  )
+  stands_later s (Lost e saw ∷ gs) a b (before, after, is, other, rest) = (
+    a ++ before,
+    after,
+    ap (λ z. a ++ z) is ∙ sym (append_assoc a before after),
+    subst (λ (z : State). edge z e ≢ saw) (sym (after_all-append plan s a before)) other,
+    subst (λ (z : State). Stands plan z gs after) (sym (after_all-append plan s a before)) rest,
+  )
 
-pub stands_more : (gs : List (List Event)) (a b : List Event) → Stands gs a → Stands gs (a ++ b)
-stands_more gs a b s = subst (λ z. Stands z (a ++ b)) (append-nil gs) (stands-append gs [] a b s tt)
+  pub stands-append : (s : State) (gs hs : List Group) (a b : List Event)
+      → Stands plan s gs a → Stands plan (after_all plan s a) hs b → Stands plan s (gs ++ hs) (a ++ b)
+  stands-append s [] hs a b t u = stands_later s hs a b u
+  stands-append s (Did g ∷ gs) hs a b (before, after, is, rest) u = (
+    before,
+    after ++ b,
+    ap (λ z. z ++ b) is ∙ (append_assoc before (g ++ after) b ∙ ap (λ z. before ++ z) (append_assoc g after b)),
+    stands-append (after_all plan s (before ++ g)) gs hs after b rest
+        (subst (λ (z : State). Stands plan z hs b) (after_both s a (before ++ g) after (is ∙ sym (append_assoc before g after))) u),
+  )
+  stands-append s (Lost e saw ∷ gs) hs a b (before, after, is, other, rest) u = (
+    before,
+    after ++ b,
+    ap (λ z. z ++ b) is ∙ append_assoc before after b,
+    other,
+    stands-append (after_all plan s before) gs hs after b rest (subst (λ (z : State). Stands plan z hs b) (after_both s a before after is) u),
+  )
 
-pub flat-append : (a b : List (List Event)) → flat (a ++ b) ≡ flat a ++ flat b
+  pub stands_more : (s : State) (gs : List Group) (a b : List Event) → Stands plan s gs a → Stands plan s gs (a ++ b)
+  stands_more s gs a b t = subst (λ z. Stands plan s z (a ++ b)) (append-nil gs) (stands-append s gs [] a b t tt)
+
+pub flat-append : (a b : List Group) → flat (a ++ b) ≡ flat a ++ flat b
 flat-append [] b = refl
-flat-append (g ∷ a) b = ap (λ z. g ++ z) (flat-append a b) ∙ sym (append_assoc g (flat a) (flat b))
+flat-append (Did g ∷ a) b = ap (λ z. g ++ z) (flat-append a b) ∙ sym (append_assoc g (flat a) (flat b))
+flat-append (Lost e saw ∷ a) b = flat-append a b
 
 -- ---- how a desk grows
 
@@ -105,47 +136,73 @@ grew_noted d events e thirsty g = record {
 pub known_grown : (d e : DeskView) (events : List Event) → Grew d events e → known e ≡ learned_all d.plan (known d) events
 known_grown d e events g = known_then d e events (record { plan = g.plan; job = g.job; deeds = g.deeds })
 
+-- and what was seen of the history
+pub shown_grown : (d e : DeskView) (events : List Event) (g : Grew d events e) → shown e ≡ after_all d.plan (shown d) g.more
+shown_grown d e events g = (λ i. state_after (g.plan i) (g.front i)) ∙ after_all-append d.plan (the_opening d.plan) d.front g.more
+
 -- the desk did these groups, in the middle of a turn
-pub record Goes (d : DeskView) (groups : List (List Event)) (e : DeskView) : Type 0 where
+pub record Goes (d : DeskView) (groups : List Group) (e : DeskView) : Type 0 where
   pub grew : Grew d (flat groups) e
   pub clock : e.clock ≡ d.clock
-  pub stands : Stands groups grew.more
+  pub stands : Stands d.plan (shown d) groups grew.more
 
-pub adds_goes : (d : DeskView) (g : List Event) (e : DeskView) → Adds d g e → Goes d (g ∷ []) e
+pub adds_goes : (d : DeskView) (g : List Event) (e : DeskView) → Adds d g e → Goes d (Did g ∷ []) e
 adds_goes d g e a = record {
   grew = grew_as d g (g ++ []) e (sym (append-nil g)) (adds_grew d g e a);
   clock = a.clock;
   stands = (a.between, [], ap (λ z. a.between ++ z) (sym (append-nil g)), tt);
 }
 
+-- an exchange found another word than the one that its look saw
+lost_goes : (d : DeskView) (n : ℕ) (saw : EdgeState) (e : DeskView) → Adds d [] e
+    → edge (shown e) n ≢ edge (known d) n → edge (known d) n ≡ saw → Goes d (Lost n saw ∷ []) e
+lost_goes d n saw e a other is = record {
+  grew = adds_grew d [] e a;
+  clock = a.clock;
+  stands = (a.between, [], refl, (λ same. other (there ∙ (same ∙ sym is))), tt);
+} where
+  there : edge (shown e) n ≡ edge (after_all d.plan (shown d) a.between) n
+  there = ap (λ (s : State). edge s n) (shown_grown d e [] (adds_grew d [] e a) ∙ ap (after_all d.plan (shown d)) (append-nil a.between))
+
 goes_none : (d e : DeskView) → e ≡ d → Goes d [] e
 goes_none d e is = subst (Goes d []) (sym is) (record { grew = grew_none d; clock = refl; stands = tt })
 
 -- a group with nothing in it
-goes_empty : (d e : DeskView) → e ≡ d → Goes d ([] ∷ []) e
-goes_empty d e is = subst (Goes d ([] ∷ [])) (sym is) (record { grew = grew_none d; clock = refl; stands = ([], [], refl, tt) })
+goes_empty : (d e : DeskView) → e ≡ d → Goes d (Did [] ∷ []) e
+goes_empty d e is = subst (Goes d (Did [] ∷ [])) (sym is) (record { grew = grew_none d; clock = refl; stands = ([], [], refl, tt) })
 
-goes_then : (d m e : DeskView) (a b : List (List Event)) → Goes d a m → Goes m b e → Goes d (a ++ b) e
+goes_then : (d m e : DeskView) (a b : List Group) → Goes d a m → Goes m b e → Goes d (a ++ b) e
 goes_then d m e a b s t = record {
   grew = grew_as d (flat a ++ flat b) (flat (a ++ b)) e (sym (flat-append a b)) (grew_then d m e (flat a) (flat b) s.grew t.grew);
   clock = t.clock ∙ s.clock;
-  stands = stands-append a b s.grew.more t.grew.more s.stands t.stands;
+  stands = stands-append d.plan (shown d) a b s.grew.more t.grew.more s.stands
+      (subst (λ (z : LabPlan × State). Stands z.0 z.1 b t.grew.more) (λ i. (s.grew.plan i, shown_grown d m (flat a) s.grew i)) t.stands);
 }
 
 -- ---- one turn
 
-tried : (d : DeskView) (v : Visit) (e : DeskView) (b c : Bool) → is_nothing v.moves ≡ b → v.lost ≡ c
+-- after a look, the edge is as it was seen, by the record
+pub look_known : (d m : DeskView) (e : ℕ) (x : EdgeState) → Adds d (Look d.job e x ∷ []) m → edge (known m) e ≡ x
+look_known d m e x a =
+    let before : List Event = d.front ++ a.between in
+    let last = legal-goes_on m.plan (the_opening m.plan) before (Look d.job e x ∷ []) (subst (IsHistory m.plan) a.front a.legal) in
+    let s : State = known_by m.plan d.deeds in
+    let long : length s.edges ≡ length (edges m.plan) = learned_all_edges m.plan (the_opening m.plan) d.deeds ∙ opening_edges m.plan in
+    let inside = last.0.0.is_edge in
+    ap (λ (h : List Event). edge (known_by m.plan h) e) a.deeds
+    ∙ (ap (λ (s : State). edge s e) (learned_all-append m.plan (the_opening m.plan) d.deeds (Look d.job e x ∷ [])) ∙ edge_same s e x (omega arith))
+
+tried : (d : DeskView) (v : Visit) (e : DeskView) (b c : Bool) → is_nothing v.moves ≡ b → edge (known d) v.edge ≡ v.saw
     → Chosen b (e ≡ d) (Chosen c (Adds d [] e × (edge (shown e) v.edge ≢ edge (known d) v.edge)) (Adds d (events_of v.moves d.job v.edge) e))
-    → Goes d ((if c then [] else events_of v.moves d.job v.edge) ∷ []) e
-tried d v e true true is lost t = goes_empty d e t
-tried d v e true false is lost t = subst (λ g. Goes d (g ∷ []) e) (sym (no_events v.moves d.job v.edge is)) (goes_empty d e t)
-tried d v e false true is lost t = adds_goes d [] e t.0
-tried d v e false false is lost t = adds_goes d (events_of v.moves d.job v.edge) e t
+    → Goes d ((if not b && c then Lost v.edge v.saw else Did (events_of v.moves d.job v.edge)) ∷ []) e
+tried d v e true c is saw t = subst (λ g. Goes d (Did g ∷ []) e) (sym (no_events v.moves d.job v.edge is)) (goes_empty d e t)
+tried d v e false true is saw t = lost_goes d v.edge v.saw e t.0 t.1 saw
+tried d v e false false is saw t = adds_goes d (events_of v.moves d.job v.edge) e t
 
 pub visit_goes : (d : DeskView) (v : Visit) (e : DeskView) → Visits d v e → Goes d (visit_groups d.job v) e
-visit_goes d v e t = subst (λ j. Goes d ((Look d.job v.edge v.saw ∷ []) ∷ (if v.lost then [] else events_of v.moves j v.edge) ∷ []) e) t.look.job
-    (goes_then d t.looked e ((Look d.job v.edge v.saw ∷ []) ∷ []) _ (adds_goes d _ t.looked t.look)
-    (tried t.looked v e (is_nothing v.moves) v.lost refl refl t.tries))
+visit_goes d v e t = subst (λ j. Goes d (Did (Look d.job v.edge v.saw ∷ []) ∷ (if is_lost v then Lost v.edge v.saw else Did (events_of v.moves j v.edge)) ∷ []) e)
+    t.look.job (goes_then d t.looked e (Did (Look d.job v.edge v.saw ∷ []) ∷ []) _ (adds_goes d _ t.looked t.look)
+    (tried t.looked v e (is_nothing v.moves) v.lost refl (look_known d t.looked v.edge v.saw t.look) t.tries))
 
 pub visits_go : (d : DeskView) (vs : List Visit) (e : DeskView) → VisitsAll d vs e → Goes d (visits_groups d.job vs) e
 visits_go d [] e is = goes_none d e is
@@ -153,26 +210,32 @@ visits_go d (v ∷ vs) e (m, first, later) = let a = visit_goes d v m first in
     subst (λ j. Goes d (visit_groups d.job v ++ visits_groups j vs) e) a.grew.job
     (goes_then d m e (visit_groups d.job v) (visits_groups m.job vs) a (visits_go m vs e later))
 
-pub acts_go : (d : DeskView) (acts : List Event) (e : DeskView) → DoesAll d acts e → Goes d (map (λ (event : Event). event ∷ []) acts) e
+pub acts_go : (d : DeskView) (acts : List Event) (e : DeskView) → DoesAll d acts e → Goes d (map (λ (event : Event). Did (event ∷ [])) acts) e
 acts_go d [] e is = goes_none d e is
 acts_go d (x ∷ xs) e (m, first, later) =
-    goes_then d m e ((x ∷ []) ∷ []) (map (λ (event : Event). event ∷ []) xs) (adds_goes d (x ∷ []) m first) (acts_go m xs e later)
+    goes_then d m e (Did (x ∷ []) ∷ []) (map (λ (event : Event). Did (event ∷ [])) xs) (adds_goes d (x ∷ []) m first) (acts_go m xs e later)
 
 module _ (j : ℕ) where
   flat_visit : (v : Visit) → flat (visit_groups j v) ≡ visit_events j v
-  flat_visit v = ap (λ z. Look j v.edge v.saw ∷ z) (append-nil (if v.lost then [] else events_of v.moves j v.edge))
+  flat_visit v = ap (λ z. Look j v.edge v.saw ∷ z) (at (is_nothing v.moves) v.lost refl) where
+    at : (b c : Bool) → is_nothing v.moves ≡ b
+        → flat ((if not b && c then Lost v.edge v.saw else Did (events_of v.moves j v.edge)) ∷ []) ≡ (if c then [] else events_of v.moves j v.edge)
+    at true true is = append-nil (events_of v.moves j v.edge) ∙ no_events v.moves j v.edge is
+    at false true is = refl
+    at true false is = append-nil (events_of v.moves j v.edge)
+    at false false is = append-nil (events_of v.moves j v.edge)
 
   flat_visits : (vs : List Visit) → flat (visits_groups j vs) ≡ visits_events j vs
   flat_visits [] = refl
   flat_visits (v ∷ vs) = flat-append (visit_groups j v) (visits_groups j vs) ∙ (λ i. flat_visit v i ++ flat_visits vs i)
 
-  flat_acts : (acts : List Event) → flat (map (λ (event : Event). event ∷ []) acts) ≡ acts
+  flat_acts : (acts : List Event) → flat (map (λ (event : Event). Did (event ∷ [])) acts) ≡ acts
   flat_acts [] = refl
   flat_acts (x ∷ xs) = ap (λ z. x ∷ z) (flat_acts xs)
 
   -- the groups of a turn are its events
   pub flat_turn : (vs : List Visit) (acts : List Event) → flat (turn_groups j vs acts) ≡ visits_events j vs ++ acts
-  flat_turn vs acts = flat-append (visits_groups j vs) (map (λ (event : Event). event ∷ []) acts) ∙ (λ i. flat_visits vs i ++ flat_acts acts i)
+  flat_turn vs acts = flat-append (visits_groups j vs) (map (λ (event : Event). Did (event ∷ [])) acts) ∙ (λ i. flat_visits vs i ++ flat_acts acts i)
 
 -- ---- a turn has no glance in it
 
@@ -228,7 +291,7 @@ took_by d r e t = let a = visits_did d t.visits t.visited t.all in record {
 }
 
 pub took_goes : (d : DeskView) (r : Turned) (e : DeskView) (t : Took d r e) → Goes d (turn_groups d.job t.visits t.acts) t.acted
-took_goes d r e t = goes_then d t.visited t.acted (visits_groups d.job t.visits) (map (λ (event : Event). event ∷ []) t.acts)
+took_goes d r e t = goes_then d t.visited t.acted (visits_groups d.job t.visits) (map (λ (event : Event). Did (event ∷ [])) t.acts)
     (visits_go d t.visits t.visited t.all) (acts_go t.visited t.acts t.acted t.does)
 
 pub one_turn : OneTurn
@@ -314,11 +377,11 @@ learned_but plan s (x ∷ xs) = at (is_glance x) refl (λ t. learned_but plan t 
   at true is rest = rest s ∙ ap (λ (z : State). learned_all plan z xs) (sym (learned_glance plan s x is))
   at false is rest = rest (learned plan s x)
 
-pub grouped-append : (plan : LabPlan) (j n k : ℕ) (w v u : Waited) (s : State) (a b : List (List Event))
+pub grouped-append : (plan : LabPlan) (j n k : ℕ) (w v u : Waited) (s : State) (a b : List Group)
     → AreGrouped plan j n w s a v → AreGrouped plan j k v (learned_all plan s (flat a)) b u → AreGrouped plan j (n + k) w s (a ++ b) u
 grouped-append plan j zero k w v u s a b (none, is) t =
-    subst (λ (z : ℕ × Waited × List (List Event)). AreGrouped plan j z.0 z.1 s (z.2 ++ b) u) (λ i. (zero_more i, is i, sym none i))
-    (subst (λ (z : List (List Event)). AreGrouped plan j k v (learned_all plan s (flat z)) b u) none t) where
+    subst (λ (z : ℕ × Waited × List Group). AreGrouped plan j z.0 z.1 s (z.2 ++ b) u) (λ i. (zero_more i, is i, sym none i))
+    (subst (λ (z : List Group). AreGrouped plan j k v (learned_all plan s (flat z)) b u) none t) where
       zero_more : k ≡ zero + k
       zero_more = omega arith
 grouped-append plan j (suc n) k w v u s a b (visits, acts, first, later, is, turn, rest) t =
@@ -361,23 +424,7 @@ turns_go_on = λ n k d m e a t.
           (subst (λ (z : LabPlan × ℕ × State). AreGrouped z.0 z.1 k (waits m.clock) z.2 t.groups (waits e.clock))
           (λ i. (a.grew.plan i, a.grew.job i, now i)) t.grouped);
       all = but-append a.events t.events ∙ ((λ i. a.all i ++ t.all i) ∙ sym (flat-append a.groups t.groups));
-      stands = stands-append a.groups t.groups a.grew.more t.grew.more a.stands t.stands;
+      stands = stands-append d.plan (shown d) a.groups t.groups a.grew.more t.grew.more a.stands
+          (subst (λ (z : LabPlan × State). Stands z.0 z.1 t.groups t.grew.more) (λ i. (a.grew.plan i, shown_grown d m a.events a.grew i)) t.stands);
       counted = t.counted ∙ (ap (turns_after k) a.counted ∙ sym (turns_after-add n k d.clock.turns));
     }
-
--- ---- the flat form
-
-pub groups_are_turns : GroupsAreTurns
-groups_are_turns = at where
-  at : (plan : LabPlan) (j n : ℕ) (w : Waited) (s : State) (groups : List (List Event)) (w' : Waited)
-      → AreGrouped plan j n w s groups w' → AreTurns plan j n w s (flat groups) w'
-  at plan j zero w s groups w' (none, is) = (ap flat none, is)
-  at plan j (suc n) w s groups w' (visits, acts, first, later, is, turn, rest) = (
-    visits,
-    acts,
-    first,
-    flat later,
-    ap flat is ∙ (flat-append (turn_groups j visits acts) later ∙ ap (λ z. z ++ flat later) (flat_turn j visits acts ∙ sym turn.events_are)),
-    turn,
-    at plan j n (waited_next plan j w s first) (learned_all plan s first) later w' rest,
-  )

@@ -1,13 +1,12 @@
 -- Whether all jobs are retired, and how one desk finds out.
-use Rattle.std.specs.Prelude.{◌≡◌, ℕ, zero, suc, ◌<◌, Bool, true, false, ◌&&◌, ◌==◌, if◌then◌else◌, List, [], ◌∷◌, ◌++◌, length, map}
-use Rattle.lab_plan.specs.LabPlan.{LabPlan}
+use Rattle.std.specs.Prelude.{◌≡◌, ℕ, zero, suc, Bool, true, false, ◌&&◌, ◌==◌, if◌then◌else◌, List, [], ◌∷◌, ◌++◌, length, map}
 use Rattle.legal_steps.specs.declared.event.Event.{Event}
 use Rattle.legal_steps.specs.declared.event.Event.TheVariants.{Glance}
 use Rattle.legal_steps.specs.declared.phase.Drinking.{Drinking}
 use Rattle.legal_steps.specs.declared.phase.Drinking.TheVariants.{Tranquil, Thirsty, Drinking as Drinks, Reaching, Retired}
 use Rattle.legal_steps.specs.declared.phase.JobState.{JobState}
 use Rattle.legal_steps.specs.State.{drinking}
-use Rattle.locality.specs.History.{state_after}
+use Rattle.locality.specs.AtTheEnd.{AllRetired}
 use Rattle.edge_rule.specs.DeskView.{DeskView, Adds, known}
 use Rattle.session_layer.specs.Grown.{Grew}
 
@@ -21,10 +20,6 @@ has_retired Reaching = false
 -- the desk's own job is retired
 abbrev pub is_retired : DeskView → Bool
 is_retired d = has_retired (drinking (known d) d.job)
-
--- every job is retired after this history
-abbrev pub AllRetired : LabPlan → List Event → Type 0
-AllRetired plan h = (j : ℕ) → j < length plan.jobs → drinking (state_after plan h) j ≡ Retired
 
 -- the jobs below n but j, in ascending order
 abbrev pub other_jobs : ℕ → ℕ → List ℕ

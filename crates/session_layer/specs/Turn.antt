@@ -13,7 +13,8 @@ use Rattle.session_layer.specs.declared.turning.Turned.{Turned}
 use Rattle.session_layer.specs.declared.turning.Turned.TheVariants.{Acted, Moved, Idle}
 use Rattle.turns.specs.Due.{AreDue}
 use Rattle.turns.specs.Acts.{AreActs}
-use Rattle.turns.specs.Turn.{Visit, is_done, is_lost, count, once, IsTurn, IsIdleTurn}
+use Rattle.turns.specs.Turn.{Visit, is_done, is_lost, count, once, AreVisits, IsTurn, IsIdleTurn}
+use Rattle.turns.specs.Turns.{Stands, visits_groups}
 
 -- P where the test is true, Q where it is false
 abbrev pub Chosen : Bool → Type 0 → Type 0 → Type 0
@@ -106,12 +107,17 @@ TookIsTurn = (d : DeskView) (r : Turned) (d' : DeskView) → Took d r d'
 abbrev pub IdleIsIdle : Type 0
 IdleIsIdle = (d d' : DeskView) → Took d Idle d' → (events : List Event) × IsIdleTurn d.plan d.job (waited d) (known d) events × (d'.deeds ≡ d.deeds ++ events)
 
--- the answer Moved is given only where looks alone were added to the record, one at each own edge, and an exchange found another word
+-- The answer Moved is given only where looks alone were added to the record, one at each own edge, and an exchange that was due by what its look saw was lost.
+-- Each that was lost found another word: what the desk saw meanwhile has a place for it after its look, where the edge is another than the look saw
 pub record OnlyLooked (d d' : DeskView) : Type 0 where
   pub visits : List Visit
   pub edges : map (λ (v : Visit). v.edge) visits ≡ edges_of d.plan d.job
   pub looks : d'.deeds ≡ d.deeds ++ map (λ (v : Visit). Look d.job v.edge v.saw) visits
+  pub due : AreVisits d.plan d.job (known d) visits
   pub lost : 0 < count is_lost visits
+  pub more : List Event
+  pub front : d'.front ≡ d.front ++ more
+  pub stand : Stands d.plan (shown d) (visits_groups d.job visits) more
 
 abbrev pub MovedDidNothing : Type 0
 MovedDidNothing = (d d' : DeskView) → Took d Moved d' → OnlyLooked d d'

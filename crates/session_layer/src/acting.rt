@@ -89,6 +89,7 @@ pub fn act<A: Allocator>(bench: &Bench<A>, desk: &mut Desk<A>, waited: u32) -> u
 {
     match phase_due(bench, desk, waited) {
         Due::Command => {
+            // The entry that it answers is in the log.
             let _ = command(bench, desk);
             1
         }

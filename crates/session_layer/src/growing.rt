@@ -1,5 +1,5 @@
 //! What holds of a desk over many turns.
-ghost use Rattle.session_layer.specs.Grown.{OneTurn, GlancesAlone, HearingAlone, TurnsGoOn, GroupsAreTurns};
+ghost use Rattle.session_layer.specs.Grown.{OneTurn, GlancesAlone, HearingAlone, TurnsGoOn, LosesInBetween};
 
 /// What `turn` does is one turn, whose groups stand unbroken in what the desk saw meanwhile.
 pub fn one_turn()
@@ -17,7 +17,7 @@ pub fn turns_go_on()
     ensures { TurnsGoOn }
 {}
 
-/// Groups of turns are turns one after another.
-pub fn groups_are_turns()
-    ensures { GroupsAreTurns }
+/// A lost exchange has its place between what the job did before it and what it did after it: there its edge is another than its look saw.
+pub fn loses_in_between()
+    ensures { LosesInBetween }
 {}

@@ -23,13 +23,14 @@ fn sees_retired<A: Allocator>(bench: &Bench<A>, desk: &mut Desk<A>, other: JobNo
     is_retired(glance(bench, desk, other).drinking())
 }
 
-/// Glances at every other job in ascending order. True exactly where the desk's job is retired and each glance saw a retired job.
-/// A retired job stays retired: so all are then.
+/// Glances at every other job in ascending order. True exactly where the desk's job is retired and each glance saw a retired job:
+/// then all are retired.
 pub fn all_retired<A: Allocator>(bench: &Bench<A>, desk: &mut Desk<A>) -> bool
     requires own { Owns bench.now desk.old }
     ensures { Glanced desk.old result desk.new }
 {
     let me = desk.job();
+    // The glances fall at different moments. A retired job stays retired, so after the last of them all are.
     let mut all = is_retired(desk.phase().drinking);
     let jobs = bench.plan().jobs();
     for k in 0..jobs {

@@ -40,6 +40,7 @@ pub fn visit<A: Allocator>(bench: &Bench<A>, desk: &mut Desk<A>, edge: EdgeNo) -
     ensures { IsVisited desk.old edge result desk.new }
 {
     let _ = look(bench, desk, edge);
+    // The note is there only while the edge's word and the own phase are those of a visit at which nothing was due.
     if desk.is_calm(edge) {
         return Visited::Calm;
     }
@@ -49,6 +50,8 @@ pub fn visit<A: Allocator>(bench: &Bench<A>, desk: &mut Desk<A>, edge: EdgeNo) -
         desk.note_calm(edge);
         return Visited::Calm;
     }
+    // The moves are due by the word just seen, and the exchange is done only if the edge has it still. It isn't tried again: what is
+    // due by the other word is a matter of the next turn's look, so no turn waits for a neighbour.
     match exchange(bench, desk, edge, moves) {
         Stepped::Done => Visited::Done,
         Stepped::Moved(_) => Visited::Lost,
@@ -66,9 +69,11 @@ pub fn turn<A: Allocator>(bench: &Bench<A>, desk: &mut Desk<A>) -> Turned
     requires own { Owns bench.now desk.old }
     ensures { Took desk.old result desk.new }
 {
+    // Whether patience is used up is decided by the count at the turn's start, whatever the turn does.
     let thirsty = is_thirsty(desk);
     let waited = desk.waited();
     let plan = bench.plan();
+    // A plan has 496 edges at most, so the two counts can't overflow.
     let _ = plan.edges();
     let own = plan.edges_of(desk.job());
     let mut done = 0u32;

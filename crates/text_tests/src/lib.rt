@@ -1,4 +1,4 @@
-// Tests of the texts that are read and written, over the public calls of their crates alone.
+//! Tests of the texts that are read and written, over the public calls of their crates alone.
 #![tactic(auto)]
 
 #[cfg(test)]

@@ -80,7 +80,7 @@ fn causes_of_refusals(rt: HostRuntime) {
 
 #[test]
 fn faults_of_scripts(rt: HostRuntime) {
-    let texts: [(&str, usize, ScriptCause); 31] = [
+    let texts: [(&str, usize, ScriptCause); 32] = [
         ("", 1, NoHeader),
         ("\n# x\n\n", 4, NoHeader),
         ("lab 1\r", 1, NoHeader),
@@ -111,6 +111,7 @@ fn faults_of_scripts(rt: HostRuntime) {
         ("lab 1\njob a\nScale read", 3, NotInSession),
         ("lab 1\nsession", 2, NotInJob),
         ("lab 1\njob a\nsession\n \t end", 4, EmptySession),
+        ("lab 1\njob a\nsession\nend\n", 4, EmptySession),
         ("lab 1\njob a\nsession\nscale read", 5, SessionNotClosed),
     ];
     for (text, line, cause) in texts {

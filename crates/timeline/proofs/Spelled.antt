@@ -1,9 +1,9 @@
 -- Lists that are read where they lie, and as they are spelled.
 use Rattle.std.proofs.Common.{◌≡◌, ℕ, Bool, true, false, not, cond, ◌+◌, ◌-◌, ◌<◌, ◌≤◌, List, [], ◌∷◌}
-use Rattle.std.proofs.Common.{Option, None, Some, length, map, slice_index_or, arith, refl, sym, ap, ◌∙◌, subst, nat_lt, nat_eq}
+use Rattle.std.proofs.Common.{Option, None, Some, length, map, slice_index_or, arith, refl, sym, ap, ◌∙◌, subst, inl, inr, nat_lt, nat_eq}
 use Rattle.std.specs.List.{position, position_or_len, prefix_len, slice_get}
 use Rattle.std.specs.Option.{option_map, option_eq}
-use Rattle.std.proofs.lemmas.Bool.{false≢true}
+use Rattle.std.proofs.lemmas.Bool.{false≢true, cases_lt}
 use Rattle.std.proofs.lemmas.Bool.Decides.{nat_tests}
 use Rattle.std.proofs.lemmas.Option.{slice_get-map, slice_get-get_or, slice_get_within}
 use Rattle.std.proofs.lemmas.List.{length-map}
@@ -17,6 +17,7 @@ use Rattle.timeline.specs.declared.fault.EntryCause.TheVariants as causes
 use Rattle.timeline.specs.Spans.{job_number, is_same_session}
 use Rattle.timeline.specs.Timelines.{EachNext}
 use Rattle.timeline.specs.Faults.{at, entry_cause, is_out_of_order, IsNamedBefore, IsOutOfOrder, IsTwice, FailsAlone, FailsAt}
+use Rattle.timeline.specs.Orders.{IsCleanAt, IsClean}
 
 prefix_mapped : {X Y : Type 0} (p : Y → Bool) (f : X → Y) (xs : List X) → prefix_len p (map f xs) ≡ prefix_len (λ x. p (f x)) xs
 prefix_mapped p f [] = refl
@@ -133,3 +134,44 @@ out_of_order entries place d e some inside fails = record {
   stands = spelled_at entry_text entries place e inside;
   fails = fails;
 }
+
+pub some_none : {X Y : Type 0} (x : X) → Some x ≡ None → Y
+some_none x e = absurd (not_none x e)
+  where
+    not_none : {X : Type 0} (x : X) → Some x ≡ None → ⊥
+    not_none x e = cc
+
+pub clean_at : (jobs : List JobText) (entries : List EntryLine) (k : ℕ) (d : EntryLine) → k < length entries
+    → entry_cause jobs (entry_text (slice_index_or entries k d)) ≡ None → (IsOutOfOrder (map entry_text entries) k → ⊥)
+    → IsCleanAt jobs (map entry_text entries) k
+clean_at jobs entries k d inside none in_order = record {
+  alone = λ cause f.
+      let at : Some (entry_text (slice_index_or entries k d)) ≡ Some f.entry = sym (spelled_at entry_text entries k d inside) ∙ f.stands in
+      let same : entry_text (slice_index_or entries k d) ≡ f.entry = cc in
+      some_none cause (sym f.fails ∙ sym (ap (entry_cause jobs) same) ∙ none);
+  in_order = in_order;
+}
+
+pub ordered_at : (entries : List EntryLine) (place : ℕ) (d e : EntryLine) → place < length entries
+    → is_out_of_order (entry_text (slice_index_or entries (place - 1) d)) (entry_text (slice_index_or entries place e)) ≡ false
+    → IsOutOfOrder (map entry_text entries) place → ⊥
+ordered_at entries place d e inside right f =
+    let before : f.place ≡ place - 1 = (let next = f.next in omega (arith, next)) in
+    let a : Some (entry_text (slice_index_or entries (place - 1) d)) ≡ Some f.before =
+    sym (spelled_at entry_text entries (place - 1) d (omega arith)) ∙ ap (slice_get (map entry_text entries)) (sym before) ∙ f.stands_before in
+    let b : Some (entry_text (slice_index_or entries place e)) ≡ Some f.entry = sym (spelled_at entry_text entries place e inside) ∙ f.stands in
+    let is_a : entry_text (slice_index_or entries (place - 1) d) ≡ f.before = cc in
+    let is_b : entry_text (slice_index_or entries place e) ≡ f.entry = cc in
+    false≢true (sym right ∙ (λ i. is_out_of_order (is_a i) (is_b i)) ∙ f.fails)
+
+pub first_clean : (jobs : List JobText) (entries : List EntryLine) (k : ℕ) → (0 < k → ⊥) → IsOutOfOrder (map entry_text entries) k → ⊥
+first_clean jobs entries k first f = let next = f.next in first (omega (arith, next))
+
+pub all_clean : (jobs : List JobText) (entries : List EntryText) (n : ℕ) → length entries ≤ n → ((k : ℕ) → k < n → IsCleanAt jobs entries k) → IsClean jobs entries
+all_clean jobs entries n past below k = elim (cases_lt k n) [
+  | inl less ↦ below k less
+  | inr more ↦ record {
+    alone = λ cause f. absurd (let inside = slice_get_within entries k f.entry f.stands in omega (arith, inside, more, past));
+    in_order = λ f. absurd (let inside = slice_get_within entries k f.entry f.stands in omega (arith, inside, more, past));
+  }
+]

@@ -1,6 +1,6 @@
--- For readers: why a report has no timeline.
+-- For readers: why a report has no timeline, and what is answered for a report.
 use Rattle.std.specs.Prelude.{ℕ, ◌≡◌, ◌≢◌, ◌⊎◌, ◌+◌, ◌<◌, Bool, true, false, ◌&&◌}
-use Rattle.std.specs.Prelude.{◌||◌, not, nat_lt, ◌==◌, List, length, Option, None, Some, slice_get, if◌then◌else◌}
+use Rattle.std.specs.Prelude.{◌||◌, not, nat_lt, ◌==◌, List, length, Option, None, Some, Result, Ok, Err, slice_get, if◌then◌else◌}
 use Rattle.std.specs.Option.{is_some}
 use Rattle.lab_plan.specs.Limits.{most_jobs, most_instruments, most_sessions, most_commands}
 use Rattle.report_reader.specs.Line.{EntryText, JobText}
@@ -10,6 +10,7 @@ use Rattle.timeline.specs.declared.fault.EntryCause.TheVariants as causes
 use Rattle.timeline.specs.declared.fault.TimelineFault.{TimelineFault}
 use Rattle.timeline.specs.declared.fault.TimelineFault.TheVariants.{LimitPassed, JobTwice, Entry, Contradiction, NoMemory}
 use Rattle.timeline.specs.Spans.{job_number, is_same_session}
+use Rattle.timeline.specs.Timelines.{TimelineView, IsTimeline}
 
 abbrev pub at : Bool → EntryCause → Option EntryCause → Option EntryCause
 at test cause rest = if test then Some cause else rest
@@ -78,10 +79,19 @@ pub record HasFault (jobs : List JobText) (logs : List LogText) (instrument entr
   pub stands : slice_get logs i ≡ Some log
   pub fails : FailsAt jobs log.entries k cause
 
--- what a fault says of a report; of logs that contradict each other, and of memory, nothing is said
+-- no columns are a timeline of the report
+abbrev pub HasNone : ReportText → Type 0
+HasNone report = (view : TimelineView) → IsTimeline report view → ⊥
+
+-- what a fault says of a report; of memory nothing is said
 abbrev pub IsFaultOf : ReportText → TimelineFault → Type 0
 IsFaultOf report LimitPassed = (most_jobs < length report.jobs) ⊎ (most_instruments < length report.logs)
 IsFaultOf report (JobTwice job) = (n : ℕ) × (job ≡ n + 1) × IsNamedBefore report.jobs n
 IsFaultOf report (Entry instrument entry cause) = HasFault report.jobs report.logs instrument entry cause
-IsFaultOf report Contradiction = Unit {0}
+IsFaultOf report Contradiction = HasNone report
 IsFaultOf report NoMemory = Unit {0}
+
+-- what is answered for a report: a timeline of it, or a fault of it
+abbrev pub Answers : ReportText → Result TimelineView TimelineFault → Type 0
+Answers report (Ok view) = IsTimeline report view
+Answers report (Err fault) = IsFaultOf report fault

@@ -1,3 +1,4 @@
 pub mod Spans
 pub mod Timelines
 pub mod Faults
+pub mod Orders

@@ -1,12 +1,10 @@
 -- For readers: timelines of a report.
-use Rattle.std.specs.Prelude.{ℕ, ◌≡◌, ◌⊎◌, ◌+◌, ◌<◌, ◌≤◌, true, List, Some, Result, Ok, Err, length, slice_get}
+use Rattle.std.specs.Prelude.{ℕ, ◌≡◌, ◌⊎◌, ◌+◌, ◌<◌, ◌≤◌, true, List, Some, length, slice_get}
 use Rattle.std.specs.List.{All}
 use Rattle.lab_plan.specs.Limits.{most_jobs, most_instruments}
 use Rattle.report_reader.specs.Line.{EntryText, JobText}
 use Rattle.report_reader.specs.Report.{LogText, ReportText}
 use Rattle.timeline.specs.declared.span.Span.{Span}
-use Rattle.timeline.specs.declared.fault.TimelineFault.{TimelineFault}
-use Rattle.timeline.specs.Faults.{IsFaultOf}
 use Rattle.timeline.specs.Spans.{span_of, is_same_session}
 
 -- the columns of each session, and how many there are
@@ -59,8 +57,3 @@ pub record IsTimeline (report : ReportText) (view : TimelineView) : Type 0 where
   pub few_jobs : length report.jobs ≤ most_jobs
   pub few_instruments : length report.logs ≤ most_instruments
   pub agree : AllAgree report.jobs view report.logs
-
--- what is answered for a report: a timeline of it, or a fault of it
-abbrev pub Answers : ReportText → Result TimelineView TimelineFault → Type 0
-Answers report (Ok view) = IsTimeline report view
-Answers report (Err fault) = IsFaultOf report fault

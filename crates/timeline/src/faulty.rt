@@ -1,8 +1,9 @@
 // Faults of a report that a look at each log by itself finds.
-ghost use Rattle.std.specs.Prelude.{◌≡◌, ◌+◌, ◌<◌, ◌≤◌, true, length, map, IfSome, IfOk, IfErr};
+ghost use Rattle.std.specs.Prelude.{◌≡◌, ◌+◌, ◌<◌, ◌≤◌, true, None, length, map, IfSome, IfOk, IfErr};
 ghost use Rattle.lab_plan.specs.Limits.{most_jobs, most_instruments};
 ghost use Rattle.report_reader.specs.Form.{entry_text, job_text};
-ghost use Rattle.timeline.specs.Faults.{FailsAt, HasFault, IsFaultOf, IsTwice};
+ghost use Rattle.timeline.specs.Faults.{FailsAt, HasFault, IsFaultOf, IsTwice, HasNone};
+ghost use Rattle.timeline.specs.Orders.{IsCleanAt, IsClean, AllClean};
 
 use crate::entries::{entry_cause, is_out_of_order, same_session};
 use crate::fault::{EntryCause, TimelineFault};
@@ -15,7 +16,8 @@ use std::alloc::{AllocError, Allocator};
 /// What is wrong with an entry of a log, counted from 0.
 fn cause_at(jobs: &[JobLine], entries: &[EntryLine], place: usize) -> Option<EntryCause>
     requires { place < length entries.now }
-    ensures { IfSome result (λ cause. FailsAt (map job_text jobs.now) (map entry_text entries.now) place cause) }
+    ensures some { IfSome result (λ cause. FailsAt (map job_text jobs.now) (map entry_text entries.now) place cause) }
+    ensures none { result ≡ None → IsCleanAt (map job_text jobs.now) (map entry_text entries.now) place }
 {
     let entry = &entries[place];
     if let Some(cause) = entry_cause(jobs, entry) {
@@ -29,7 +31,8 @@ fn cause_at(jobs: &[JobLine], entries: &[EntryLine], place: usize) -> Option<Ent
 
 /// The first entry of a log that something is wrong with, counted from 0.
 fn log_fault(jobs: &[JobLine], entries: &[EntryLine]) -> Option<(usize, EntryCause)>
-    ensures { IfSome result (λ (place, cause). FailsAt (map job_text jobs.now) (map entry_text entries.now) place cause) }
+    ensures some { IfSome result (λ (place, cause). FailsAt (map job_text jobs.now) (map entry_text entries.now) place cause) }
+    ensures none { result ≡ None → IsClean (map job_text jobs.now) (map entry_text entries.now) }
 {
     for place in 0..entries.len() {
         if let Some(cause) = cause_at(jobs, entries, place) {
@@ -94,7 +97,8 @@ fn entry_fault<'a, A: Allocator>(
     jobs: &[JobLine],
     logs: &[Log<'a, A>],
 ) -> Option<(usize, usize, EntryCause)>
-    ensures { IfSome result (λ (instrument, entry, cause). HasFault (map job_text jobs.now) logs.now instrument entry cause) }
+    ensures some { IfSome result (λ (instrument, entry, cause). HasFault (map job_text jobs.now) logs.now instrument entry cause) }
+    ensures none { result ≡ None → AllClean (map job_text jobs.now) logs.now }
 {
     for number in 0..logs.len() {
         if let Some((place, cause)) = log_fault(jobs, logs[number].entries()) {
@@ -123,6 +127,7 @@ fn twice_fault<'a, A: Allocator + Copy>(
 /// Looks at the limits, at the job lines, and at each log by itself.
 pub(crate) fn check<A: Allocator>(report: &Report<'_, A>) -> Result<(), TimelineFault>
     ensures few { IfOk result (λ done. (length report.now.jobs ≤ most_jobs) × (length report.now.logs ≤ most_instruments)) }
+    ensures clean { IfOk result (λ done. AllClean report.now.jobs report.now.logs) }
     ensures fault { IfErr result (λ fault. IsFaultOf report.now fault) }
 {
     if report.jobs().len() > MOST_JOBS || report.logs().len() > MOST_INSTRUMENTS {
@@ -143,6 +148,7 @@ pub(crate) fn check<A: Allocator>(report: &Report<'_, A>) -> Result<(), Timeline
 
 /// The fault of a report whose logs agree with no columns.
 pub(crate) fn contradiction<A: Allocator + Copy>(alloc: A, report: &Report<'_, A>) -> TimelineFault
+    requires { HasNone report.now }
     ensures { IsFaultOf report.now result }
 {
     match twice_fault(alloc, report.jobs(), report.logs()) {

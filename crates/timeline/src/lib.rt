@@ -3,10 +3,12 @@
 #![tactic(auto)]
 
 mod agreeing;
+mod behind;
 mod entries;
 mod fault;
 mod faulty;
 mod jobs;
+mod ordering;
 mod placing;
 mod span;
 pub mod timeline;

@@ -1,9 +1,14 @@
 // Timelines.
-ghost use Rattle.timeline.specs.Timelines.{Answers};
+ghost use Rattle.std.specs.Prelude.{◌≤◌, length};
+ghost use Rattle.lab_plan.specs.Limits.{most_jobs, most_instruments};
+ghost use Rattle.timeline.specs.Faults.{Answers};
+ghost use Rattle.timeline.specs.Orders.{AllClean};
 
 use crate::agreeing::all_agree;
+use crate::behind::pairs_of;
 use crate::fault::TimelineFault;
 use crate::faulty::{check, contradiction};
+use crate::ordering::order_beside;
 use crate::placing::place;
 use crate::span::Span;
 use report_reader::Report;
@@ -43,6 +48,26 @@ impl<A: Allocator> Timeline<A> {
     }
 }
 
+/// A timeline of a report by the pairs of its sessions, where these columns are none. Takes time in proportion to the report's entries
+/// times its jobs, where the sessions that have no columns among these are stuck: so `place` leaves them.
+fn slow_timeline_of<A: Allocator + Copy>(
+    alloc: A,
+    report: &Report<'_, A>,
+    spans: &[Span],
+) -> Result<Timeline<A>, TimelineFault>
+    requires { (length report.now.jobs ≤ most_jobs) × (length report.now.logs ≤ most_instruments) × AllClean report.now.jobs report.now.logs }
+    ensures { Answers report.now result }
+{
+    let Ok(pairs) = pairs_of(alloc, report.jobs(), report.logs()) else {
+        return Err(TimelineFault::NoMemory);
+    };
+    match order_beside(alloc, &pairs, spans) {
+        Ok(Some((spans, columns))) => Ok(Timeline { spans, columns }),
+        Ok(None) => Err(contradiction(alloc, report)),
+        Err(_) => Err(TimelineFault::NoMemory),
+    }
+}
+
 /// The timeline of a report. Takes time in proportion to the report's entries times its jobs, at most 32, and memory
 /// in proportion to its entries.
 pub fn timeline_of<A: Allocator + Copy>(
@@ -56,8 +81,7 @@ pub fn timeline_of<A: Allocator + Copy>(
         return Err(TimelineFault::NoMemory);
     };
     if all_agree(report.jobs(), &spans, columns, report.logs()) {
-        Ok(Timeline { spans, columns })
-    } else {
-        Err(contradiction(alloc, report))
+        return Ok(Timeline { spans, columns });
     }
+    slow_timeline_of(alloc, report, &spans)
 }

@@ -6,6 +6,8 @@ use Rattle.edge_rule.specs.DeskView.{DeskView, BenchView, Owns, fresh_desk, fres
 use Rattle.session_layer.specs.declared.turning.Turned.{Turned}
 use Rattle.session_layer.specs.Turn.{Took}
 use Rattle.session_layer.proofs.Grows as grows
+use Rattle.workers.specs.Team.{TookRest, TookUpTo}
+use Rattle.workers.proofs.TeamTurns.{took_owns, pairs_each}
 
 -- a turn leaves the bench and the plan
 pub took_owned : (b : BenchView) (d : DeskView) (r : Turned) (d' : DeskView) → Owns b d → Took d r d' → Owns b d'
@@ -29,3 +31,11 @@ opened_owned b plan desks is are =
 pub each_last : (P : DeskView → Type 0) (a : List DeskView) (x : DeskView) → Each P (a ++ x ∷ []) → Each P a × P x
 each_last P [] x p = (tt, p.0)
 each_last P (y ∷ a) x p = let q = each_last P a x p.1 in ((p.0, q.0), q.1)
+
+-- so do turns that were left
+pub rest_owned : (b : BenchView) (n : ℕ) (old new : List DeskView) → TookRest n old new → Each (Owns b) old → Each (Owns b) new
+rest_owned b n old new rest own = pairs_each (TookUpTo n) (Owns b) (Owns b) (λ d e t o. took_owns b t.0 d e t.2 o) old new rest.took own
+
+-- and the desks of both parts are all of them
+pub both_owned : (b : BenchView) (front back : List DeskView) → Each (Owns b) front → Each (Owns b) back → Each (Owns b) (front ++ back)
+both_owned b front back p q = each-append (Owns b) front back p q

@@ -1,4 +1,5 @@
 // Gates of the tests, for four jobs and two workers.
+use crossbeam_utils::atomic::AtomicCell;
 use lab_plan::JobNo;
 use std::sync::atomic::{AtomicU64, Ordering};
 use std::thread::yield_now;
@@ -128,6 +129,53 @@ impl Gate for Meeting {
             if *who == job.0 && *when == turn {
                 self.wait_for(*other, *until);
             }
+        }
+    }
+}
+
+/// How often a worker looks for the flag of the other, before it notes that it gave up.
+const LOOKS: u64 = 100_000_000;
+
+/// Before their first turns job 0 and job 1 each set a flag of their own, and wait for the other's.
+#[derive(Drop)]
+pub(crate) struct Flags {
+    set: [AtomicCell<bool>; 2],
+    given_up: AtomicCell<bool>,
+}
+
+impl Flags {
+    pub(crate) fn new() -> Flags {
+        Flags {
+            set: [AtomicCell::new(false), AtomicCell::new(false)],
+            given_up: AtomicCell::new(false),
+        }
+    }
+
+    /// Whether both flags are set, and nobody gave up.
+    pub(crate) fn both_saw(&self) -> bool {
+        self.set[0].load() && self.set[1].load() && !self.given_up.load()
+    }
+
+    fn meet(&self, own: usize, other: usize) {
+        if let (Some(own), Some(other)) = (self.set.get(own), self.set.get(other)) {
+            own.store(true);
+            for _ in 0..LOOKS {
+                if other.load() {
+                    return;
+                }
+                yield_now();
+            }
+            self.given_up.store(true);
+        }
+    }
+}
+
+impl Gate for Flags {
+    fn pass(&self, job: JobNo, turn: u64) {
+        match (job.0, turn) {
+            (0, 1) => self.meet(0, 1),
+            (1, 1) => self.meet(1, 0),
+            _ => (),
         }
     }
 }

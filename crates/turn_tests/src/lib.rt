@@ -1,4 +1,4 @@
-// Tests of jobs at a bench, over public calls alone: single calls, turns one after another, rounds, threads and their gates.
+//! Tests of jobs at a bench, over public calls alone: single calls, turns one after another, rounds, threads and their gates.
 #![tactic(auto)]
 
 #[cfg(test)]

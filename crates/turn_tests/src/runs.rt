@@ -8,10 +8,12 @@ use crate::labs::{
 };
 use edge_rule::{Bench, Closed, Desk};
 use lab_plan::{InstrumentNo, JobNo, Plan};
+use report::ToWrite;
 use rounds::{Ended, all_retired, are_at_rest, rounds};
 use std::alloc::Allocator;
 use std::process::Abort;
 use std::test::Fail;
+use whole_runs::write_report;
 
 /// The rounds of all desks of the bench.
 fn play<T: Allocator>(
@@ -243,6 +245,32 @@ fn run_ring_twice<T: Allocator + Copy>(rt: &impl Abort, alloc: T) {
 #[test]
 fn runs_are_the_same(rt: HostRuntime) {
     run_ring_twice(&rt, rt.alloc());
+}
+
+/// The report of a bench that was opened, driven and closed here, after so many rounds at most.
+fn reports<T: Allocator + Copy>(rt: &impl Abort, alloc: T, limit: u32, report: &str) {
+    let plan = plan_of(rt, alloc, TWO);
+    let (_, _, left) = by_rounds(rt, alloc, &plan, limit);
+    let mut bytes = Vec::new(alloc);
+    let mut sink = ToWrite::new(&mut bytes);
+    assert!(rt; write_report(&left, &mut sink).is_ok());
+    assert!(rt; bytes.as_slice() == report.as_bytes(), "limit {limit}");
+}
+
+#[test]
+fn report_of_a_closed_bench(rt: HostRuntime) {
+    reports(
+        &rt,
+        rt.alloc(),
+        100,
+        "lab 1\ninstrument scale 2\na 1 1/1 add 1 = 1\nb 1 1/1 add 1 = 2\njob a sessions 1 of 1 meals 0 retired\njob b sessions 1 of 1 meals 1 retired\nfinished\n",
+    );
+    reports(
+        &rt,
+        rt.alloc(),
+        0,
+        "lab 1\ninstrument scale 0\njob a sessions 0 of 1 meals 0 waiting\njob b sessions 0 of 1 meals 0 waiting\nunfinished\n",
+    );
 }
 
 fn plays_star<T: Allocator + Copy>(rt: &impl Abort, alloc: T, script: &str) {

@@ -1,19 +1,20 @@
 // Threads that drive desks: how many, through which gate, and without memory. What is asked holds of every schedule.
+ghost use Rattle.std.specs.Prelude.{◌<◌, length};
 ghost use Rattle.locality.specs.Lists.{Each};
 ghost use Rattle.edge_rule.specs.DeskView.{Owns};
 
-use crate::gates::{ALL_MEET, Counting, Meeting, THREE_FIRST};
+use crate::gates::{ALL_MEET, Counting, Flags, Meeting, THREE_FIRST};
 use crate::labs::{FOUR, NOBODY, RING, TWICE, TWO, closed, opened, plan_of, star_script};
 use edge_rule::{Bench, CloseCause, Closed, Desk};
 use instrument_log::InstrumentLog;
 use lab_plan::{EdgeNo, InstrumentNo, JobNo, Plan};
 use refusing_heap::RefusingHeap;
-use rounds::Ended;
+use rounds::{Ended, all_retired, are_at_rest};
 use std::alloc::{Allocator, Global};
 use std::process::Abort;
 use std::test::Fail;
 use std::thread::Threads;
-use workers::{Gate, NoGate, threads};
+use workers::{Gate, Halt, Muster, NoGate, Through, finish, threads, work};
 
 /// Threads on all desks of the bench, which come back in ascending order.
 fn driven<R: Threads + Abort + Sync, A: Allocator + Copy + Send + Sync, G: Gate>(
@@ -154,9 +155,88 @@ fn meets<R: Threads + Abort + Sync>(rt: &R, alloc: Global, plan: &Plan) {
 }
 
 #[test]
-fn two_workers_meet(rt: HostRuntime) {
+fn jobs_of_two_workers_meet(rt: HostRuntime) {
     let plan = plan_of(&rt, rt.alloc(), FOUR);
     meets(&rt, rt.alloc(), &plan);
+}
+
+fn sees_both_flags<R: Threads + Abort + Sync>(rt: &R, alloc: Global, plan: &Plan) {
+    let (bench, desks) = opened(rt, alloc, plan);
+    let gate = Flags::new();
+    let (_, ended) = driven(rt, alloc, &bench, desks, 2, 100_000, &gate);
+    assert!(rt; gate.both_saw());
+    assert!(rt; ended == Ended::AllRetired || ended == Ended::Limit);
+}
+
+#[test]
+fn two_workers_meet(rt: HostRuntime) {
+    let plan = plan_of(&rt, rt.alloc(), TWO);
+    sees_both_flags(&rt, rt.alloc(), &plan);
+}
+
+fn ends_early<R: Threads + Abort + Sync>(rt: &R, alloc: Global, plan: &Plan) {
+    let (bench, desks) = opened(rt, alloc, plan);
+    let (desks, ended) = driven(rt, alloc, &bench, desks, 1, 10000, &NoGate);
+    assert!(rt; ended == Ended::AllRetired);
+    turns_are(rt, desks.as_slice(), 9);
+}
+
+/// The rounds of one worker are those of one thread: both jobs are retired after the ninth.
+#[test]
+fn worker_ends_early(rt: HostRuntime) {
+    let plan = plan_of(&rt, rt.alloc(), TWO);
+    ends_early(&rt, rt.alloc(), &plan);
+}
+
+/// A team at work on turns that pass no gate.
+fn begin<A: Allocator>(bench: &Bench<A>, muster: &Muster, turns: u32, team: &mut [Desk<A>]) -> Halt
+    requires some { 0 < length team.old }
+    requires own { Each (Owns bench.now) team.old }
+    ensures { Each (Owns bench.now) team.new }
+{
+    work(bench, &Through { gate: &NoGate }, muster, turns, team)
+}
+
+/// The turns that are left of so many.
+fn take_rest<A: Allocator>(bench: &Bench<A>, taken: u32, turns: u32, desks: &mut [Desk<A>])
+    requires { Each (Owns bench.now) desks.old }
+    ensures { Each (Owns bench.now) desks.new }
+{
+    finish(bench, &Through { gate: &NoGate }, taken, turns, desks);
+}
+
+/// The desks of TWO, each of which has a team of its own; the team of the second begins once that of the first has ended. Then the turns
+/// that are left are taken.
+#[tactic(auto, using(crate::proofs::Owned::both_owned))]
+fn one_after_another(rt: &impl Abort, alloc: Global, plan: &Plan, turns: u32) {
+    let (bench, mut desks) = opened(rt, alloc, plan);
+    assert!(rt; desks.len() == 2);
+    let muster = Muster::new(2);
+    let (front, back) = desks.as_mut_slice().split_at_mut(1);
+    let first = begin(&bench, &muster, turns, front);
+    let second = begin(&bench, &muster, turns, back);
+    let most = first.taken(0).max(second.taken(0));
+    take_rest(&bench, first.taken(0), most, front);
+    take_rest(&bench, second.taken(0), most, back);
+    take_rest(&bench, most, turns, desks.as_mut_slice());
+    are_at_rest(desks.as_slice());
+    if !all_retired(desks.as_slice()) {
+        turns_are(rt, desks.as_slice(), u64::from(turns));
+        assert!(rt; turns < ENOUGH);
+    }
+    let left = closed(rt, alloc, bench, desks);
+    all_count_up(rt, &left);
+}
+
+/// So many turns are enough for the jobs of TWO, by rounds after a round that each has taken in vain.
+const ENOUGH: u32 = 12;
+
+#[test]
+fn teams_that_never_begin(rt: HostRuntime) {
+    let plan = plan_of(&rt, rt.alloc(), TWO);
+    for turns in 0..21 {
+        one_after_another(&rt, rt.alloc(), &plan, turns);
+    }
 }
 
 /// A job waits at the gate before its turn, and not after it: so a finds what b asked for in its first turn, gives it, and asks for it again.

@@ -1,4 +1,4 @@
--- Which phase act is due.
+-- For readers: which phase act is due.
 use Rattle.std.specs.Prelude.{◌≡◌, ◌⊎◌, ℕ, ◌≤◌, List, [], ◌∷◌}
 use Rattle.std.specs.Option.{ForSome}
 use Rattle.lab_plan.specs.LabPlan.{LabPlan, patience}

@@ -1,4 +1,5 @@
-//! What a job does in one turn, as definitions over its own events: which moves are due on an edge, which phase act is due, and turns one after another.
+//! Definitions and laws alone: what a job does in one turn, by its own events: which moves are due on an edge, which phase act is
+//! due, and turns one after another. Each law is the contract of a function that does nothing.
 #![tactic(auto)]
 
 mod laws;

@@ -3,16 +3,26 @@
 #![tactic(auto)]
 
 #[cfg(test)]
+mod gantts;
+#[cfg(test)]
 mod memory;
 #[cfg(test)]
+mod orders;
+#[cfg(test)]
 mod pictures;
+#[cfg(test)]
+mod printed;
 #[cfg(test)]
 mod reading;
 #[cfg(test)]
 mod stages;
+#[cfg(test)]
+mod tables;
 #[cfg(test)]
 mod telling;
 #[cfg(test)]
 mod traces;
 #[cfg(test)]
 mod views;
+#[cfg(test)]
+mod waits;

@@ -1,6 +1,9 @@
 // Memory that runs out: each growth of a view is refused in turn. That is told and nothing is written, or it is made up for.
-use lab_runs::{FromRead, status_of};
-use lab_views::{View, run_explain, run_picture, run_trace, status_of_picture};
+use lab_program::{FromRead, status_of};
+use lab_views::{
+    View, run_arrange, run_explain, run_gantt, run_picture, run_table, run_trace, run_waits,
+    status_of_picture,
+};
 use refusing_heap::RefusingHeap;
 use report::ToWrite;
 use std::alloc::Global;
@@ -15,7 +18,11 @@ fn told_without(out: Global, view: View, text: &[u8], refused: u64) -> (usize, u
     let status = match view {
         View::Explain => status_of(&run_explain(&heap, &mut source, &mut sink)),
         View::Picture => status_of_picture(&run_picture(&heap, &mut source, &mut sink)),
+        View::Table => status_of_picture(&run_table(&heap, &mut source, &mut sink)),
+        View::Arrange => status_of(&run_arrange(&heap, &mut source, &mut sink)),
         View::Trace { limit } => status_of(&run_trace(&heap, &mut source, &mut sink, limit)),
+        View::Waits { limit } => status_of(&run_waits(&heap, &mut source, &mut sink, limit)),
+        View::Gantt { limit } => status_of(&run_gantt(&heap, &mut source, &mut sink, limit)),
     };
     (bytes.len(), status, heap.growths())
 }
@@ -34,7 +41,11 @@ fn growths_of_each_view(rt: HostRuntime) {
     for (view, text) in [
         (View::Explain, STEPS),
         (View::Picture, REPORT),
+        (View::Table, REPORT),
         (View::Trace { limit: 20 }, SCRIPT),
+        (View::Waits { limit: 20 }, SCRIPT),
+        (View::Gantt { limit: 20 }, SCRIPT),
+        (View::Arrange, SCRIPT),
     ] {
         let (written, status, all) = told_without(rt.alloc(), view, text.as_bytes(), 0);
         assert!(rt; written > 0 && status == 0 && all > 0);

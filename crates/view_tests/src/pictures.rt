@@ -1,5 +1,5 @@
 // The columns of sessions, by hand, the picture by its bytes, and the faults of reports that have no timeline.
-use lab_runs::FromRead;
+use lab_program::FromRead;
 use lab_views::{PictureFault, run_picture, status_of_picture};
 use report::ToWrite;
 use report_reader::read_report;

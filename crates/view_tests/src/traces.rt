@@ -1,12 +1,17 @@
 // What `labview trace` writes, by its bytes, and that a replay of it has the report of rounds.
-use lab_runs::{FromRead, Outcome, RunFault, run_replay, run_rounds};
+use lab_program::{FromRead, Outcome, RunFault};
+use lab_runs::{run_replay, run_rounds};
 use lab_views::run_trace;
 use report::ToWrite;
 use script_reader::{ScriptCause, ScriptFault};
 use std::alloc::Global;
 use std::test::Fail;
 
-fn traced(alloc: Global, input: &[u8], limit: u32) -> (Vec<u8>, Result<Outcome, RunFault>) {
+pub(crate) fn traced(
+    alloc: Global,
+    input: &[u8],
+    limit: u32,
+) -> (Vec<u8>, Result<Outcome, RunFault>) {
     let mut bytes = Vec::new(alloc);
     let mut source = FromRead::new(input);
     let mut sink = ToWrite::new(&mut bytes);
@@ -14,7 +19,7 @@ fn traced(alloc: Global, input: &[u8], limit: u32) -> (Vec<u8>, Result<Outcome, 
     (bytes, answer)
 }
 
-fn replayed(alloc: Global, input: &[u8]) -> (Vec<u8>, Result<Outcome, RunFault>) {
+pub(crate) fn replayed(alloc: Global, input: &[u8]) -> (Vec<u8>, Result<Outcome, RunFault>) {
     let mut bytes = Vec::new(alloc);
     let mut source = FromRead::new(input);
     let mut sink = ToWrite::new(&mut bytes);
@@ -22,7 +27,11 @@ fn replayed(alloc: Global, input: &[u8]) -> (Vec<u8>, Result<Outcome, RunFault>)
     (bytes, answer)
 }
 
-fn reported(alloc: Global, input: &[u8], limit: u32) -> (Vec<u8>, Result<Outcome, RunFault>) {
+pub(crate) fn reported(
+    alloc: Global,
+    input: &[u8],
+    limit: u32,
+) -> (Vec<u8>, Result<Outcome, RunFault>) {
     let mut bytes = Vec::new(alloc);
     let mut source = FromRead::new(input);
     let mut sink = ToWrite::new(&mut bytes);

@@ -1,6 +1,6 @@
 // What `labview` writes, by its bytes, and its words.
 use crate::stages::text_at;
-use lab_runs::{FromRead, NoTask, Outcome, RunFault};
+use lab_program::{FromRead, NoTask, Outcome, RunFault};
 use lab_views::{View, read_words, run_explain};
 use report::ToWrite;
 use script_reader::{ScriptCause, ScriptFault};
@@ -85,7 +85,11 @@ Usage: labview [COMMAND]
 Commands:
   explain  read a script and its steps, tell why the first that isn't legal is refused, and what is legal there
   picture  read a report of labrun, and draw its timeline as SVG
+  table    read a report of labrun, and write its logs as comma-separated values
   trace N  read a script, write it with the steps of its run by at most N rounds, for labrun replay
+  waits N  read a script, tell who waits in its run by at most N rounds, and for how long
+  gantt N  read a script, and draw its run by at most N rounds over time, as SVG
+  arrange  read a script, write it with its jobs in an order in which chains at the start are short
 
 Options:
       --help  print this help
@@ -96,9 +100,10 @@ The input comes from standard input, at most 16777216 bytes. What is printed goe
 standard output, and a fault in one line to standard error.
 
 Statuses:
-  0  explain: done, whether the steps are legal or not; picture, trace, --help: done
+  0  explain: done, whether the steps are legal or not; picture, table, trace, waits, gantt, arrange, --help: done
   1  the script or the report is refused; the fault names its line or place
   2  the command line is refused
+  3  trace: longer than a replay reads; arrange: the script went out as it was
   4  reading or writing failed, or the input is longer than 16777216 bytes
   5  no memory
 ";
@@ -109,6 +114,8 @@ fn words(rt: HostRuntime) {
         (["labview", "explain"].as_slice(), Some(View::Explain)),
         (["", "explain"].as_slice(), Some(View::Explain)),
         (["labview", "picture"].as_slice(), Some(View::Picture)),
+        (["labview", "table"].as_slice(), Some(View::Table)),
+        (["labview", "table", "1"].as_slice(), None),
         ([].as_slice(), None),
         (["labview"].as_slice(), None),
         (["labview", ""].as_slice(), None),
@@ -128,6 +135,18 @@ fn words(rt: HostRuntime) {
             Some(View::Trace { limit: 7 }),
         ),
         (["labview", "trace", "+7"].as_slice(), None),
+        (
+            ["labview", "waits", "74"].as_slice(),
+            Some(View::Waits { limit: 74 }),
+        ),
+        (["labview", "arrange"].as_slice(), Some(View::Arrange)),
+        (["labview", "waits"].as_slice(), None),
+        (
+            ["labview", "gantt", "74"].as_slice(),
+            Some(View::Gantt { limit: 74 }),
+        ),
+        (["labview", "gantt"].as_slice(), None),
+        (["labview", "wait", "74"].as_slice(), None),
         (["labview", "trace", "1000000001"].as_slice(), None),
     ];
     for (i, (words, wanted)) in lines.into_iter().enumerate() {

@@ -13,7 +13,7 @@ use Rattle.edge_rule.specs.ClosedView.{ClosedView}
 use Rattle.edge_rule.specs.Ending.{Any, HasAll, IsEnd}
 use Rattle.report.specs.Events.{retired_after}
 use Rattle.rounds.specs.Company.{first_front, all_retired}
-use Rattle.rounds.specs.Rounds.{AreRetired}
+use Rattle.locality.specs.AtTheEnd.{AllRetired}
 use Rattle.rounds.proofs.Driven.{all_of}
 use Rattle.rounds.proofs.Reasons.{retired_then}
 use Rattle.round_laws.specs.FromOpening.{opened}
@@ -30,7 +30,8 @@ use Rattle.whole_runs.proofs.Ends.{shows, not_retired}
 
 -- since the opening
 takes : (t : TableId) (plan : LabPlan) (h : List Event) (j n : ℕ) → TurnsSince n (fresh_desk t plan j) h → TakesTurns plan h j n
-takes t plan h j n s = taken plan h j n s.waited s.groups s.grouped (ap but_glances s.events ∙ s.all) (subst (Stands s.groups) (sym s.goes_on) s.unbroken)
+takes t plan h j n s = taken plan h j n s.waited s.groups s.grouped (ap but_glances s.events ∙ s.all)
+    (subst (Stands plan (the_opening plan) s.groups) (sym s.goes_on) s.unbroken)
 
 module _ (law : TurnsInHistory) (b : BenchView) (turns : ℕ) (desks : List DeskView)
     (c : ClosedView) (driven : Driven b turns (opened b) desks) (end : IsEnd b.plan desks c) where
@@ -38,7 +39,7 @@ module _ (law : TurnsInHistory) (b : BenchView) (turns : ℕ) (desks : List Desk
   desks_too : retired_after b.plan (the_opening b.plan) end.history ≡ false → all_retired desks ≡ false
   desks_too so = by (all_retired desks) refl where
     by : (r : Bool) → all_retired desks ≡ r → all_retired desks ≡ false
-    by true is = absurd (not_retired b.plan end.history so (subst (AreRetired b.plan) (sym (same_history b desks c end driven.all driven.company.whole))
+    by true is = absurd (not_retired b.plan end.history so (subst (AllRetired b.plan) (sym (same_history b desks c end driven.all driven.company.whole))
         (retired_then b (first_front desks) desks driven.company (all_of b.plan desks driven.all) is)))
     by false is = is
 

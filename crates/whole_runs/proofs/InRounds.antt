@@ -14,7 +14,8 @@ use Rattle.report.specs.Events.{retired_after}
 use Rattle.rounds.specs.declared.ended.Ended.{Ended}
 use Rattle.rounds.specs.declared.ended.Ended.TheVariants as reasons
 use Rattle.rounds.specs.Company.{first_front}
-use Rattle.rounds.specs.Rounds.{Drove, AreRetired, Why}
+use Rattle.locality.specs.AtTheEnd.{AllRetired}
+use Rattle.rounds.specs.Rounds.{Drove, Why}
 use Rattle.rounds.proofs.Lists.{append_cancel, zip_each}
 use Rattle.round_laws.specs.OneRun.{RanRounds}
 use Rattle.round_laws.specs.FromOpening.{opened, fresh_players, DrivesFromOpening, NeverEndsQuiet}

@@ -1,18 +1,20 @@
 -- What rounds are to one job: its events are turns one after another, and the groups of each stand unbroken.
-use Rattle.std.proofs.Common.{◌≡◌, ◌≢◌, ℕ, zero, suc, ◌+◌, ◌<◌, Bool, true, false, ◌&&◌, List, [], ◌∷◌, ◌++◌, length, refl, sym, ap, ◌∙◌, subst, inl, inr, append-nil, append_assoc, add-one}
+use Rattle.std.proofs.Common.{◌≡◌, ◌≢◌, ℕ, zero, suc, ◌+◌, ◌<◌, Bool, true, false, ◌&&◌, cond, List, [], ◌∷◌, ◌++◌, length, arith, refl, sym, ap, ◌∙◌, subst, inl, inr, append-nil, append_assoc, add-one}
 use Rattle.std.proofs.lemmas.List.Elements.{filter-append}
 use Rattle.lab_plan.specs.LabPlan.{LabPlan}
 use Rattle.legal_steps.specs.declared.event.Event.{Event}
+use Rattle.legal_steps.specs.declared.edge_state.EdgeState.{EdgeState}
 use Rattle.legal_steps.specs.State.{State, session}
+use Rattle.legal_steps.specs.Run.{after_all}
 use Rattle.legal_steps.specs.Opening.{the_opening}
-use Rattle.locality.specs.History.{is_by, events_by, known_by, learned_all}
+use Rattle.locality.specs.History.{is_by, events_by, known_by, learned_all, state_after}
 use Rattle.locality.specs.Lists.{Each}
 use Rattle.locality.specs.Patience.{Waited, waited_in, no_wait}
-use Rattle.locality.proofs.Runs.{learned_all-append, only_mine, none_theirs}
-use Rattle.turns.specs.Turn.{Visit, IsTurnBy}
-use Rattle.turns.specs.Turns.{AreTurns, AreGrouped, Stands, flat, but_glances, turn_groups, waited_next}
+use Rattle.locality.proofs.Runs.{after_all-append, learned_all-append, only_mine, none_theirs}
+use Rattle.turns.specs.Turn.{Visit, is_lost, count, IsTurnBy}
+use Rattle.turns.specs.Turns.{Group, Did, Lost, AreGrouped, Stands, flat, but_glances, turn_groups, waited_next}
 use Rattle.session_layer.specs.declared.turning.Turned.{Turned}
-use Rattle.session_layer.proofs.Grows.{stands-append, stands_later, stands_more, flat-append, flat_turn, but_turn, but-append, learned_but, grouped-append, groups_are_turns}
+use Rattle.session_layer.proofs.Grows.{stands-append, stands_later, stands_more, flat-append, flat_turn, but_turn, but-append, learned_but, grouped-append}
 use Rattle.edge_rule.specs.Ending.{Any}
 use Rattle.edge_rule.specs.Company.{Distinct}
 use Rattle.rounds.specs.Rounds.{Player, known_in, waited_so_far, player_after, Plays, is_idle, Round, Rounds}
@@ -21,18 +23,32 @@ use Rattle.round_laws.proofs.InRounds.{round_jobs, rounds_jobs}
 use Rattle.round_laws.proofs.OneTurn.{turn_by}
 use Rattle.whole_runs.specs.Turns.{TakesTurns}
 
--- groups stand in what they are together
-stands_flat : (gs : List (List Event)) → Stands gs (flat gs)
-stands_flat [] = tt
-stands_flat (g ∷ gs) = ([], flat gs, refl, stands_flat gs)
+-- groups of which none is a lost exchange stand in what they are together
+abbrev IsDid : Group → Type 0
+IsDid (Did events) = Unit {0}
+IsDid (Lost e saw) = ⊥
+
+stands_flat : (plan : LabPlan) (s : State) (gs : List Group) → Each IsDid gs → Stands plan s gs (flat gs)
+stands_flat plan s [] all = tt
+stands_flat plan s (Did g ∷ gs) all = ([], flat gs, refl, stands_flat plan (after_all plan s g) gs all.1)
+stands_flat plan s (Lost e saw ∷ gs) all = absurd all.0
+
+-- where no exchange was lost, none of a turn's groups is
+visit_did : (lost : Bool) (n e : ℕ) (saw : EdgeState) (events : List Event) → cond lost 1 0 + n ≡ 0 → IsDid (cond lost (Lost e saw) (Did events))
+visit_did true n e saw events none = absurd (omega (arith, none))
+visit_did false n e saw events none = tt
+
+turn_did : (j : ℕ) (vs : List Visit) (acts : List Event) → count is_lost vs ≡ 0 → Each IsDid (turn_groups j vs acts)
+turn_did j [] [] none = tt
+turn_did j [] (x ∷ acts) none = (tt, turn_did j [] acts none)
+turn_did j (v ∷ vs) acts none = (tt, (visit_did (is_lost v) (count is_lost vs) v.edge v.saw _ none, turn_did j vs acts (omega (arith, none))))
 
 -- turns as groups are turns one after another
-pub taken : (plan : LabPlan) (h : List Event) (j n : ℕ) (waited : Waited) (groups : List (List Event))
-    → AreGrouped plan j n no_wait (the_opening plan) groups waited → but_glances (events_by j h) ≡ flat groups → Stands groups h → TakesTurns plan h j n
+pub taken : (plan : LabPlan) (h : List Event) (j n : ℕ) (waited : Waited) (groups : List Group)
+    → AreGrouped plan j n no_wait (the_opening plan) groups waited → but_glances (events_by j h) ≡ flat groups
+    → Stands plan (the_opening plan) groups h → TakesTurns plan h j n
 taken plan h j n waited groups grouped together unbroken = record {
   waited = waited;
-  turns = subst (λ events. AreTurns plan j n no_wait (the_opening plan) events waited)
-      (sym together) (groups_are_turns plan j n no_wait (the_opening plan) groups waited grouped);
   groups = groups;
   grouped = grouped;
   together = together;
@@ -67,7 +83,7 @@ module _ (plan : LabPlan) (j : ℕ) where
     events : List Event
     own : events_by j g ≡ events_by j h ++ events
     turn : IsTurnBy plan j (waited_in w (session (known_in plan h j) j)) (known_in plan h j) visits acts events
-    stands : Stands (turn_groups j visits acts) more
+    stands : Stands plan (state_after plan h) (turn_groups j visits acts) more
     then : Any (IsOf (waited_next plan j w (known_in plan h j) events)) players'
 
   -- ---- one player
@@ -99,7 +115,8 @@ module _ (plan : LabPlan) (j : ℕ) where
         events = t.events;
         own = ap (events_by j) t.after ∙ (filter-append (is_by j) h t.events ∙ ap (λ l. events_by j h ++ l) mine);
         turn = turn;
-        stands = subst (Stands (turn_groups j t.visits t.acts)) (sym together) (stands_flat (turn_groups j t.visits t.acts));
+        stands = subst (Stands plan (state_after plan h) (turn_groups j t.visits t.acts)) (sym together)
+            (stands_flat plan (state_after plan h) (turn_groups j t.visits t.acts) (turn_did j t.visits t.acts t.none_lost));
         then = inl (ap (λ (y : Player). y.job) after, ap (λ (y : Player). y.waited) after);
       }
 
@@ -132,7 +149,7 @@ module _ (plan : LabPlan) (j : ℕ) where
         events = a.events;
         own = b.still ∙ a.own;
         turn = a.turn;
-        stands = stands_more (turn_groups j a.visits a.acts) a.more b.more a.stands;
+        stands = stands_more plan (state_after plan h) (turn_groups j a.visits a.acts) a.more b.more a.stands;
         then = subst (Any (IsOf (waited_next plan j w (known_in plan h j) a.events)))
             (sym players_are) (elim a.then [ inl here ↦ inl here | inr none ↦ absurd none ]);
       }
@@ -148,7 +165,9 @@ module _ (plan : LabPlan) (j : ℕ) where
         events = b.events;
         own = b.own ∙ ap (λ l. l ++ b.events) a.still;
         turn = subst (λ (s : State). IsTurnBy plan j (waited_in w (session s j)) s b.visits b.acts b.events) known b.turn;
-        stands = stands_later (turn_groups j b.visits b.acts) a.more b.more b.stands;
+        stands = stands_later plan (state_after plan h) (turn_groups j b.visits b.acts) a.more b.more
+            (subst (λ (s : State). Stands plan s (turn_groups j b.visits b.acts) b.more)
+            (ap (state_after plan) a.grows ∙ after_all-append plan (the_opening plan) h a.more) b.stands);
         then = subst (Any (IsOf (waited_next plan j w (known_in plan h j) b.events))) (sym players_are)
             (inr (subst (λ (s : State). Any (IsOf (waited_next plan j w s b.events)) rest) known b.then));
       }
@@ -158,10 +177,10 @@ module _ (plan : LabPlan) (j : ℕ) where
   -- job j took n turns in the history
   pub record TurnsIn (n : ℕ) (h : List Event) (players' : List Player) : Type 0 where
     pub waited : Waited
-    pub groups : List (List Event)
+    pub groups : List Group
     pub grouped : AreGrouped plan j n no_wait (the_opening plan) groups waited
     pub together : but_glances (events_by j h) ≡ flat groups
-    pub unbroken : Stands groups h
+    pub unbroken : Stands plan (the_opening plan) groups h
     pub then : Any (IsOf waited) players'
 
   one_more_turn : (n : ℕ) (m h : List Event) (middle players' : List Player) (a : TurnsIn n m middle)
@@ -170,7 +189,7 @@ module _ (plan : LabPlan) (j : ℕ) where
       let s : State = the_opening plan in
       let k : State = known_in plan m j in
       let known : k ≡ learned_all plan s (flat a.groups) = sym (learned_but plan s (events_by j m)) ∙ ap (learned_all plan s) a.together in
-      let gs : List (List Event) = turn_groups j b.visits b.acts in
+      let gs : List Group = turn_groups j b.visits b.acts in
       let next : Waited = waited_next plan j a.waited k b.events in
       let one : AreGrouped plan j 1 a.waited k gs next = (b.visits, b.acts, b.events, [], sym (append-nil gs), b.turn, (refl, refl)) in
       record {
@@ -180,7 +199,7 @@ module _ (plan : LabPlan) (j : ℕ) where
             (grouped-append plan j n 1 no_wait a.waited next s a.groups gs a.grouped (subst (λ (z : State). AreGrouped plan j 1 a.waited z gs next) known one));
         together = ap but_glances b.own ∙ (but-append (events_by j m) b.events
             ∙ ((λ i. a.together i ++ but_turn plan j _ k b.visits b.acts b.events b.turn i) ∙ sym (flat-append a.groups gs)));
-        unbroken = subst (Stands (a.groups ++ gs)) (sym b.grows) (stands-append a.groups gs m b.more a.unbroken b.stands);
+        unbroken = subst (Stands plan s (a.groups ++ gs)) (sym b.grows) (stands-append plan s a.groups gs m b.more a.unbroken b.stands);
         then = b.then;
       }
 

@@ -5,17 +5,17 @@ use Rattle.legal_steps.specs.declared.event.Event.{Event}
 use Rattle.legal_steps.specs.Opening.{the_opening}
 use Rattle.locality.specs.History.{events_by}
 use Rattle.locality.specs.Patience.{Waited, no_wait}
-use Rattle.turns.specs.Turns.{AreTurns, AreGrouped, Stands, flat, but_glances}
+use Rattle.turns.specs.Turns.{Group, AreGrouped, Stands, flat, but_glances}
 
 -- Job j took n turns in the run: but for its Glances its events are these turns, one after another, from what it knows at THE opening on.
--- The groups of events that a turn does at once stand unbroken in the run, in this order
+-- The groups of events that a turn does at once stand unbroken in the run, in this order. An exchange that was due is lost only where its edge was another by
+-- then than the look saw
 pub record TakesTurns (plan : LabPlan) (history : List Event) (j n : ℕ) : Type 0 where
   pub waited : Waited
-  pub turns : AreTurns plan j n no_wait (the_opening plan) (but_glances (events_by j history)) waited
-  pub groups : List (List Event)
+  pub groups : List Group
   pub grouped : AreGrouped plan j n no_wait (the_opening plan) groups waited
   pub together : but_glances (events_by j history) ≡ flat groups
-  pub unbroken : Stands groups history
+  pub unbroken : Stands plan (the_opening plan) groups history
 
 -- each job took whole turns, at most so many; and so many, where the run isn't finished
 abbrev pub TakeTurns : LabPlan → List Event → ℕ → Bool → Type 0

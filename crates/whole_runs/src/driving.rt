@@ -6,11 +6,8 @@ ghost use Rattle.edge_rule.specs.Ending.{HasAll, IsEnd};
 ghost use Rattle.round_laws.specs.FromOpening.{opened};
 ghost use Rattle.whole_runs.specs.Runs.{IsRunByTurns, IsRunInRounds};
 
-use crate::run::WholeRun;
-use edge_rule::{Bench, CloseCause, Desk};
+use edge_rule::{Bench, CloseCause, Closed, Desk};
 use lab_plan::Plan;
-use legal_steps::laws::the_opening_is_acyclic;
-use legal_steps::log_laws::whole_logs;
 use round_laws::laws::{drives_from_opening, never_ends_quiet};
 use rounds::{Ended, rounds};
 use std::alloc::{AllocError, Allocator};
@@ -37,16 +34,13 @@ fn close<'p, A: Allocator>(
     alloc: A,
     bench: Bench<'p, A>,
     desks: Vec<Desk<A>, A>,
-) -> Result<WholeRun<'p, A>, AllocError>
+) -> Result<Closed<'p, A>, AllocError>
     requires own { Each (Owns bench) desks.items }
     requires all { HasAll bench.plan desks.items }
     ensures { IfOk result (λ run. IsEnd bench.entry.plan desks.items run) }
 {
-    // The logs are those of a history, so their entries are of the plan's jobs.
-    the_opening_is_acyclic();
-    whole_logs();
     match bench.close(alloc, desks) {
-        Ok(closed) => Ok(WholeRun { closed }),
+        Ok(closed) => Ok(closed),
         Err(refused) => match refused.cause {
             CloseCause::NoMemory => Err(AllocError),
             CloseCause::NotEveryDesk => unreachable!(),
@@ -62,12 +56,14 @@ pub fn by_rounds<'p, A: Allocator + Copy>(
     alloc: A,
     plan: &'p Plan<A>,
     limit: u32,
-) -> Result<WholeRun<'p, A>, AllocError>
+) -> Result<Closed<'p, A>, AllocError>
     ensures { IfOk result (IsRunInRounds plan.now limit) }
 {
+    // Laws that the contract rests on: the rounds begin at THE opening, and don't end because one is quiet.
     drives_from_opening();
     never_ends_quiet();
     let (bench, mut desks) = open(alloc, plan)?;
+    // Why they ended, and after how many, is seen in what closing gives.
     let _ = rounds(&bench, desks.as_mut_slice(), limit);
     close(alloc, bench, desks)
 }
@@ -84,10 +80,11 @@ pub fn by_threads<'p, R: Threads + Sync, A: Allocator + Copy + Send + Sync, G: G
     workers: u32,
     turns: u32,
     gate: &G,
-) -> Result<WholeRun<'p, A>, AllocError>
+) -> Result<Closed<'p, A>, AllocError>
     requires workers { 1 ≤ workers }
     ensures { IfOk result (IsRunByTurns plan.now turns) }
 {
+    // The law that the turns of the desks are turns in the history that closing gives.
     turns_in_history();
     let (bench, desks) = open(alloc, plan)?;
     let (desks, ended) = threads(rt, alloc, &bench, desks, workers, turns, gate);

@@ -5,7 +5,7 @@
 #![tactic(auto)]
 
 mod driving;
-mod run;
+mod shown;
 
 pub use driving::{by_rounds, by_threads};
-pub use run::WholeRun;
+pub use shown::{AtEnd, write_report};

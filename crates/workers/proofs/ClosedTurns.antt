@@ -1,11 +1,10 @@
 -- From what workers did to the history that closing the bench gives.
-use Rattle.std.proofs.Common.{◌≡◌, ℕ, ◌≤◌, inl, inr, Bool, true, false, List, [], ◌∷◌, ◌++◌, refl, sym, ap, ◌∙◌, subst, append_assoc, arith}
+use Rattle.std.proofs.Common.{◌≡◌, ℕ, ◌≤◌, inl, inr, Bool, true, false, List, [], ◌∷◌, ◌++◌, refl, sym, ap, ◌∙◌, append_assoc, arith}
 use Rattle.legal_steps.specs.declared.event.Event.{Event}
 use Rattle.locality.specs.History.{events_by}
 use Rattle.locality.specs.Lists.{StartsWith, Each}
-use Rattle.edge_rule.specs.ClosedView.{ClosedView}
-use Rattle.edge_rule.specs.DeskView.{DeskView, BenchView, waits}
-use Rattle.edge_rule.specs.Ending.{Any, IsEnd}
+use Rattle.edge_rule.specs.DeskView.{DeskView, BenchView, shown, waits}
+use Rattle.edge_rule.specs.Ending.{Any}
 use Rattle.session_layer.specs.Grown.{TookTurns}
 use Rattle.session_layer.proofs.Grows.{stands_more}
 use Rattle.rounds.specs.Company.{all_retired}
@@ -23,7 +22,7 @@ since n d e h t is s = record {
   all = t.all;
   more = t.grew.more ++ s.0;
   goes_on = s.1 ∙ (ap (λ l. l ++ s.0) t.grew.front ∙ append_assoc d.front t.grew.more s.0);
-  unbroken = stands_more t.groups t.grew.more s.0 t.stands;
+  unbroken = stands_more d.plan (shown d) t.groups t.grew.more s.0 t.stands;
 }
 
 module _ (h : List Event) (turns : ℕ) (retired : Bool) where

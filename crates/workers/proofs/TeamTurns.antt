@@ -1,21 +1,18 @@
 -- Lists of desks that took turns.
-use Rattle.std.specs.Fork.{slice_chunk}
-use Rattle.std.proofs.lemmas.List.{length-drop, take-append-drop, drop-drop}
-use Rattle.std.proofs.Common.{take, drop, ◌*◌, ◌≡◌, ℕ, zero, suc, ◌+◌, ◌<◌, ◌≤◌, ◌⊎◌, inl, inr, ⊎_elim, Bool, true, List, [], ◌∷◌, ◌++◌, length, get_or, set, refl, sym, ap, ◌∙◌, subst, arith, add-one}
-use Rattle.legal_steps.specs.declared.phase.JobState.{JobState}
-use Rattle.legal_steps.specs.declared.event.Event.{Event}
+use Rattle.std.proofs.Common.{take, drop, ◌≡◌, ℕ, zero, suc, ◌+◌, ◌-◌, max, ◌<◌, ◌≤◌, inl, inr, Bool, true, false, List, [], ◌∷◌, ◌++◌, length, get_or, set, refl, sym, ap, ◌∙◌, subst, arith, add-one}
 use Rattle.locality.specs.Lists.{Each}
 use Rattle.edge_rule.specs.DeskView.{DeskView, BenchView, Owns}
 use Rattle.edge_rule.specs.Ending.{Any}
-use Rattle.turns.specs.Turns.{but_glances}
-use Rattle.session_layer.specs.declared.turning.Turned.{Turned}
-use Rattle.session_layer.specs.Turn.{Took}
-use Rattle.session_layer.specs.Grown.{Grew, TookTurns}
+use Rattle.session_layer.specs.Grown.{TookTurns}
 use Rattle.session_layer.proofs.Grows as grows
-use Rattle.session_layer.specs.Retired.{AllRetired, Glanced, glances}
+use Rattle.locality.specs.AtTheEnd.{AllRetired}
+use Rattle.session_layer.specs.Retired.{Glanced, glances}
 use Rattle.session_layer.proofs.Glances.{glances_none}
 use Rattle.std.proofs.lemmas.Bool.{false≢true}
-use Rattle.workers.specs.Team.{LookedOut, TookUpTo, Pairs, Worked}
+use Rattle.rounds.specs.Company.{all_retired}
+use Rattle.workers.specs.declared.halt.Halt.{Halt}
+use Rattle.workers.specs.declared.halt.Halt.TheVariants as halts
+use Rattle.workers.specs.Team.{LookedOut, TookUpTo, Pairs, Worked, GoesOn, LooksOut, AtFirst, TookRest}
 
 -- ---- one desk
 
@@ -28,6 +25,9 @@ took_more n d m e a t = grows.turns_go_on n 1 d m e a t
 none_more : (n : ℕ) → n + 0 ≡ n
 none_more n = omega arith
 
+pub whole : (k most : ℕ) → k ≤ most → k + (most - k) ≡ most
+whole k most l = omega arith
+
 -- what is no turn leaves their number
 pub took_then : (n : ℕ) (d m e : DeskView) → TookTurns n d m → TookTurns 0 m e → TookTurns n d e
 took_then n d m e a t = subst (λ k. TookTurns k d e) (none_more n) (grows.turns_go_on n 0 d m e a t)
@@ -36,7 +36,7 @@ pub took_glanced : (n : ℕ) (d m e : DeskView) (r : Bool) → TookTurns n d m �
 took_glanced n d m e r a t = took_then n d m e a (grows.glances_alone m e (glances m.job t.saw) t.grew (glances_none m.job t.saw) t.clock)
 
 pub took_looked : (n : ℕ) (d m e : DeskView) (r : Bool) → TookTurns n d m → LookedOut m r e → TookTurns n d e
-took_looked n d m e r a t = elim t [ inl g ↦ took_glanced n d m e r a g | inr same ↦ subst (TookTurns n d) (sym same.0) a ]
+took_looked n d m e r a t = elim t [ inl g ↦ took_glanced n d m e r a g | inr same ↦ subst (TookTurns n d) (sym same.1) a ]
 
 pub took_owns : (b : BenchView) (n : ℕ) (d e : DeskView) → TookTurns n d e → Owns b d → Owns b e
 took_owns b n d e t o = (t.grew.table ∙ o.0, t.grew.plan ∙ o.1)
@@ -124,7 +124,7 @@ none_took (d ∷ l) = (took_none d, none_took l)
 
 -- ---- a worker's rounds
 
--- a round, after which the first glances at all others
+-- a round, after which the first may glance at all others
 module _ (n : ℕ) (old mid new : List DeskView) (x y : DeskView) (t : Pairs (TookTurns n) old mid)
     (s : Pairs (TookTurns 1) mid new) (some : 0 < length new) (is : x ≡ get_or new 0 x) where
   pub round_took : (r : Bool) → LookedOut x r y → Pairs (TookTurns (n + 1)) old (set new 0 y)
@@ -139,18 +139,38 @@ module _ (n : ℕ) (old mid new : List DeskView) (x y : DeskView) (t : Pairs (To
   any_set P (z ∷ l) h p = inl p
 
   -- a worker that saw all retired
-  pub worked_early : (turns : ℕ) → n < turns → LookedOut x true y → Worked turns old (set new 0 y)
-  worked_early turns l g = record {
-    took = pairs_map (TookTurns (n + 1)) (TookUpTo turns) (λ d e a. (n + 1, (omega arith), a)) old (set new 0 y) (round_took true g);
-    full = inr (any_set (λ (e : DeskView). AllRetired e.plan e.front) new some (elim g [ inl seen ↦ seen.done refl | inr same ↦ absurd (false≢true (sym same.1)) ]));
-  }
+  pub worked_early : (turns : ℕ) → n < turns → LookedOut x true y → Worked turns old halts.AllRetired (set new 0 y)
+  worked_early turns l g = (
+    pairs_map (TookTurns (n + 1)) (TookUpTo turns) (λ d e a. (n + 1, (omega arith), a)) old (set new 0 y) (round_took true g),
+    any_set (λ (e : DeskView). AllRetired e.plan e.front) new some (elim g [ inl seen ↦ seen.done refl | inr same ↦ absurd (false≢true (sym same.2)) ]),
+  )
 
--- a worker that used all its turns
-pub worked_full : (turns n : ℕ) (old new : List DeskView) → n ≡ turns → Pairs (TookTurns n) old new → Worked turns old new
-worked_full turns n old new is t = record {
-  took = pairs_map (TookTurns n) (TookUpTo turns) (λ d e a. (n, (omega arith), a)) old new t;
-  full = inl (subst (λ k. Pairs (TookTurns k) old new) is t);
-}
+  -- what the first desk did in this round, by what it saw after it
+  watched : (R : DeskView → DeskView → Type 0) (r : Bool) → ((d m : DeskView) → GoesOn n d m → TookTurns 1 m x → R d y)
+      → (old mid new : List DeskView) → x ≡ get_or new 0 x → AtFirst (GoesOn n) old mid → Pairs (TookTurns 1) mid new → AtFirst R old (set new 0 y)
+  watched R r f [] mid new e a p = tt
+  watched R r f (d ∷ old) [] new e a p = subst (λ (z : List DeskView). AtFirst R (d ∷ old) (set z 0 y)) (sym p) tt
+  watched R r f (d ∷ old) (m ∷ mid) [] e a p = tt
+  watched R r f (d ∷ old) (m ∷ mid) (z ∷ new) e a p = f d m a (subst (TookTurns 1 m) (sym e) p.0)
+
+  pub goes_on : AtFirst (GoesOn n) old mid → LookedOut x false y → AtFirst (GoesOn (n + 1)) old (set new 0 y)
+  goes_on a g = subst (λ (k : ℕ). AtFirst (GoesOn k) old (set new 0 y)) (sym (add-one n))
+      (watched (GoesOn (suc n)) false (λ d m b p. (m, x, b, p, g)) old mid new is a s)
+
+  pub ends : (turns : ℕ) → n < turns → AtFirst (GoesOn n) old mid → LookedOut x true y → AtFirst (LooksOut turns halts.AllRetired) old (set new 0 y)
+  ends turns l a g = watched (LooksOut turns halts.AllRetired) true (λ d m b p. (n, m, x, l, b, p, g)) old mid new is a s
+
+pub goes_none : (l : List DeskView) → AtFirst (GoesOn 0) l l
+goes_none [] = tt
+goes_none (d ∷ l) = refl
+
+pub took_up_to : (turns : ℕ) (old new : List DeskView) (h : Halt) → Worked turns old h new → Pairs (TookUpTo turns) old new
+took_up_to turns old new (halts.After n) w = pairs_map (TookTurns n) (TookUpTo turns) (λ d e a. (n, w.0, a)) old new w.1
+took_up_to turns old new halts.AllRetired w = w.0
+
+pub worked_owns : (b : BenchView) (turns : ℕ) (old new : List DeskView) (h : Halt) → Worked turns old h new → Each (Owns b) old → Each (Owns b) new
+worked_owns b turns old new h w own =
+    pairs_each (TookUpTo turns) (Owns b) (Owns b) (λ d e a o. took_owns b a.0 d e a.2 o) old new (took_up_to turns old new h w) own
 
 any_left : (P : DeskView → Type 0) (a b : List DeskView) → Any P a → Any P (a ++ b)
 any_left P [] b h = absurd h
@@ -161,20 +181,68 @@ any_right : (P : DeskView → Type 0) (a b : List DeskView) → Any P b → Any 
 any_right P [] b h = h
 any_right P (x ∷ a) b h = inr (any_right P a b h)
 
--- two halves
-pub worked_both : (turns : ℕ) (a a' b b' : List DeskView) → Worked turns a a' → Worked turns b b' → Worked turns (a ++ b) (a' ++ b')
-worked_both turns a a' b b' s t = let Seen : DeskView → Type 0 = λ e. AllRetired e.plan e.front in record {
-  took = pairs-append (TookUpTo turns) a a' b b' s.took t.took;
-  full = ⊎_elim
-      (λ (f : Pairs (TookTurns turns) a a'). ⊎_elim (λ (g : Pairs (TookTurns turns) b b'). inl (pairs-append (TookTurns turns) a a' b b' f g))
-      (λ (g : Any Seen b'). inr (any_right Seen a' b' g)) t.full)
-      (λ (f : Any Seen a'). inr (any_left Seen a' b' f)) s.full;
+-- two parts, one of which has seen all retired
+module _ (turns : ℕ) (a a' b b' : List DeskView) where
+  both_up_to : (g h : Halt) → Worked turns a g a' → Worked turns b h b' → Pairs (TookUpTo turns) (a ++ b) (a' ++ b')
+  both_up_to g h s t = pairs-append (TookUpTo turns) a a' b b' (took_up_to turns a a' g s) (took_up_to turns b b' h t)
+
+  pub worked_left : (h : Halt) → Worked turns a halts.AllRetired a' → Worked turns b h b' → Worked turns (a ++ b) halts.AllRetired (a' ++ b')
+  worked_left h s t = (both_up_to halts.AllRetired h s t, any_left (λ (e : DeskView). AllRetired e.plan e.front) a' b' s.1)
+
+  pub worked_right : (g : Halt) → Worked turns a g a' → Worked turns b halts.AllRetired b' → Worked turns (a ++ b) halts.AllRetired (a' ++ b')
+  worked_right g s t = (both_up_to g halts.AllRetired s t, any_right (λ (e : DeskView). AllRetired e.plan e.front) a' b' t.1)
+
+-- turns, and those that are left of so many
+pub took_rest : (k most : ℕ) (a a' a'' : List DeskView) → k ≤ most → Pairs (TookTurns k) a a' → Pairs (TookTurns (most - k)) a' a''
+    → Pairs (TookTurns most) a a''
+took_rest k most a a' a'' l s t = subst (λ (n : ℕ). Pairs (TookTurns n) a a'') (whole k most l)
+    (pairs_then (TookTurns k) (TookTurns (most - k)) (TookTurns (k + (most - k))) (λ d m e p q. grows.turns_go_on k (most - k) d m e p q) a a' a'' s t)
+
+-- two parts that took as many turns in the end
+pub worked_most : (turns m n most : ℕ) (a a' a'' b b' b'' : List DeskView) → most ≡ max m n
+    → Worked turns a (halts.After m) a' → Pairs (TookTurns (most - m)) a' a'' → Worked turns b (halts.After n) b' → Pairs (TookTurns (most - n)) b' b''
+    → Worked turns (a ++ b) (halts.After most) (a'' ++ b'')
+worked_most turns m n most a a' a'' b b' b'' is s s' t t' = (
+  (let l = s.0 in let k = t.0 in omega arith),
+  pairs-append (TookTurns most) a a'' b b'' (took_rest m most a a' a'' (omega arith) s.1 s') (took_rest n most b b' b'' (omega arith) t.1 t'),
+)
+
+pub worked_none : (turns : ℕ) (l : List DeskView) → length l ≡ 0 → Worked turns l (halts.After turns) l
+worked_none turns [] none = (omega arith, refl)
+worked_none turns (d ∷ l) none = absurd (omega arith)
+
+-- ---- rounds that are left
+
+pub took_nothing : (k : ℕ) (l : List DeskView) → Pairs (TookTurns (k - k)) l l
+took_nothing k l = subst (λ n. Pairs (TookTurns n) l l) (nothing k) (none_took l) where
+  nothing : (k : ℕ) → 0 ≡ k - k
+  nothing k = omega arith
+
+-- one round more, after so many turns
+pub round_more : (taken number turns : ℕ) (old mid new : List DeskView) → taken ≤ number → number < turns → Pairs (TookTurns (number - taken)) old mid
+    → Pairs (TookTurns 1) mid new → (number + 1 - taken ≤ turns - taken) × Pairs (TookTurns (number + 1 - taken)) old new
+round_more taken number turns old mid new l k t s = (
+  (omega arith),
+  subst (λ n. Pairs (TookTurns n) old new) (next taken number l)
+      (pairs_then (TookTurns (number - taken)) (TookTurns 1) (TookTurns (number - taken + 1))
+      (λ d m e a b. took_more (number - taken) d m e a b) old mid new t s),
+) where
+  next : (taken number : ℕ) → taken ≤ number → number - taken + 1 ≡ number + 1 - taken
+  next taken number l = omega arith
+
+pub rest_early : (n rest : ℕ) (old new : List DeskView) → n ≤ rest → Pairs (TookTurns n) old new → all_retired new ≡ true → TookRest rest old new
+rest_early n rest old new l t gone = record {
+  took = pairs_map (TookTurns n) (TookUpTo rest) (λ d e a. (n, l, a)) old new t;
+  full = λ not. absurd (false≢true (sym not ∙ gone));
 }
 
-pub worked_none : (turns : ℕ) → Worked turns [] []
-worked_none turns = record { took = refl; full = inl refl }
+pub rest_full : (n rest : ℕ) (old new : List DeskView) → n ≡ rest → Pairs (TookTurns n) old new → TookRest rest old new
+rest_full n rest old new is t = record {
+  took = pairs_map (TookTurns n) (TookUpTo rest) (λ d e a. (n, (omega arith), a)) old new t;
+  full = λ _. subst (λ k. Pairs (TookTurns k) old new) is t;
+}
 
--- ---- chunks
+-- ---- a part of the desks
 
 module _ {A : Type 0} (P : A → Type 0) where
   pub each_take : (n : ℕ) (l : List A) → Each P l → Each P (take n l)
@@ -186,41 +254,3 @@ module _ {A : Type 0} (P : A → Type 0) where
   each_drop zero l e = e
   each_drop (suc n) [] e = tt
   each_drop (suc n) (x ∷ l) e = each_drop n l e.1
-
-abbrev W : ℕ → List DeskView → List DeskView → Type 0
-W turns old new = Worked turns old new
-
--- the first chunk, and the others
-chunks_from : (turns size fuel : ℕ) (old new : List DeskView) → 0 < size → length old ≤ fuel → length new ≡ length old
-    → ((n : ℕ) → n * size < length old → Worked turns (slice_chunk old size n) (slice_chunk new size n)) → Worked turns old new
-chunks_from turns size fuel [] [] some few same each = worked_none turns
-chunks_from turns size fuel [] (e ∷ new) some few same each = absurd (omega arith)
-chunks_from turns size zero (d ∷ old) new some few same each = absurd (omega arith)
-chunks_from turns size (suc fuel) (d ∷ old) new some few same each =
-    let xs : List DeskView = d ∷ old in let one = length-drop size xs in let two = length-drop size new in
-    subst (λ (z : List DeskView × List DeskView). Worked turns z.0 z.1) (λ i. (take-append-drop size xs i, take-append-drop size new i))
-    (worked_both turns (take size xs) (take size new) (drop size xs) (drop size new)
-    (first (each 0 (omega arith)))
-    (chunks_from turns size fuel (drop size xs) (drop size new) some (omega arith) (omega arith) (λ n l. later n (each (suc n) (past n l))))) where
-      first : Worked turns (slice_chunk (d ∷ old) size 0) (slice_chunk new size 0) → Worked turns (take size (d ∷ old)) (take size new)
-      first w = subst (λ (k : ℕ). Worked turns (take size (drop k (d ∷ old))) (take size (drop k new))) nothing w where
-        nothing : 0 * size ≡ 0
-        nothing = omega arith
-
-      past : (n : ℕ) → n * size < length (drop size (d ∷ old)) → suc n * size < length (d ∷ old)
-      past n l = let one = length-drop size (d ∷ old) in let m = next n in omega (arith, l, one, m) where
-        next : (n : ℕ) → suc n * size ≡ size + n * size
-        next n = omega arith
-
-      later : (n : ℕ) → Worked turns (slice_chunk (d ∷ old) size (suc n)) (slice_chunk new size (suc n))
-          → Worked turns (slice_chunk (drop size (d ∷ old)) size n) (slice_chunk (drop size new) size n)
-      later n w =
-          subst (λ (z : List DeskView × List DeskView). Worked turns (take size z.0) (take size z.1)) (λ i. (sym (at (d ∷ old)) i, sym (at new) i)) w where
-            at : (l : List DeskView) → drop (n * size) (drop size l) ≡ drop (suc n * size) l
-            at l = drop-drop (n * size) size l ∙ ap (λ k. drop k l) next where
-              next : size + n * size ≡ suc n * size
-              next = omega arith
-
-pub chunks_worked : (turns size : ℕ) (old new : List DeskView) → 0 < size → length new ≡ length old
-    → ((n : ℕ) → n * size < length old → Worked turns (slice_chunk old size n) (slice_chunk new size n)) → Worked turns old new
-chunks_worked turns size old new some same each = chunks_from turns size (length old) old new some (omega arith) same each

@@ -5,8 +5,10 @@ ghost use Rattle.edge_rule.specs.DeskView.{Owns};
 ghost use Rattle.edge_rule.specs.Ending.{HasAll};
 ghost use Rattle.workers.specs.Team.{Threaded};
 
-use crate::gate::Gate;
-use crate::teams::in_teams;
+use crate::gate::{Gate, Through};
+use crate::muster::Muster;
+use crate::team::finish;
+use crate::teams::{Orders, in_teams};
 use edge_rule::{Bench, Desk, meet_all};
 use rounds::{Ended, all_retired, are_at_rest};
 use std::alloc::Allocator;
@@ -34,8 +36,19 @@ fn drive<R: Threads + Sync, S: Allocator, A: Allocator + Send + Sync, G: Gate>(
     if sorted.is_err() {
         return Ended::NoMemory;
     }
-    in_teams(rt, bench, gate, workers, turns, desks);
+    // A worker without desks isn't a team.
+    let teams = workers.min(u32::try_from(desks.len()).unwrap_or(u32::MAX));
+    let muster = Muster::new(teams);
+    let through = Through { gate };
+    let orders = Orders {
+        bench,
+        gate: &through,
+        muster: &muster,
+        turns,
+    };
+    let halt = in_teams(rt, &orders, workers, 0, teams, desks);
     desks.sort_unstable_by_key(|desk| desk.job().0);
+    finish(bench, &through, halt.taken(turns), turns, desks);
     are_at_rest(desks);
     meet_all(bench, desks);
     if all_retired(desks) {
@@ -46,7 +59,10 @@ fn drive<R: Threads + Sync, S: Allocator, A: Allocator + Send + Sync, G: Gate>(
 
 /// Worker `w` drives the desks whose job number is `w` modulo the workers, in ascending order, one turn each a round, and passes the gate
 /// before each turn. It ends after its turns, or after a round where its first desk saw all jobs retired. A worker without desks isn't
-/// started; where a thread can't be made its rounds run on another. `alloc` is asked once, before the first worker starts.
+/// started. `alloc` is asked once, before the first worker starts.
+///
+/// Where a thread can't be made a worker's rounds run on another. Workers that are idle, while others don't begin, then stop early, and the
+/// calling thread takes the turns that are left, one of each desk a round in ascending order.
 pub fn threads<R: Threads + Sync, S: Allocator, A: Allocator + Send + Sync, G: Gate>(
     rt: &R,
     alloc: S,

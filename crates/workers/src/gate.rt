@@ -1,7 +1,7 @@
 //! What a worker meets before each turn.
 use lab_plan::JobNo;
 
-/// Is passed before each turn of a job. The turns of a job are counted from 1 in each call of `threads`.
+/// Is passed before each turn of a job, by all workers. The turns of a job are counted from 1 in each call of `threads`.
 pub trait Gate: Sync {
     fn pass(&self, job: JobNo, turn: u64);
 }
@@ -12,4 +12,22 @@ pub struct NoGate;
 
 impl Gate for NoGate {
     fn pass(&self, _job: JobNo, _turn: u64) {}
+}
+
+/// A gate as one worker meets it.
+// Not shared by its type, so that the work of one thread can be promised by a trait.
+pub trait Passage {
+    fn pass(&self, job: JobNo, turn: u64);
+}
+
+/// The way through a gate.
+#[derive(Drop)]
+pub struct Through<'g, G> {
+    pub gate: &'g G,
+}
+
+impl<G: Gate> Passage for Through<'_, G> {
+    fn pass(&self, job: JobNo, turn: u64) {
+        self.gate.pass(job, turn)
+    }
 }

@@ -1,11 +1,21 @@
 //! Threads drive the desks of one bench: each worker has desks of its own, and takes one turn of each in a round.
+//!
+//! What is promised hangs on no thread. Where one can't be made, its worker's rounds run on another thread, before or after that one's
+//! own; workers then stop early, and the calling thread takes the turns that are left.
 #![tactic(auto)]
 
 mod driving;
 mod gate;
+mod halt;
 mod laws;
+mod muster;
+mod team;
 mod teams;
 
 pub use driving::threads;
-pub use gate::{Gate, NoGate};
+pub use gate::{Gate, NoGate, Passage, Through};
+pub use halt::Halt;
 pub use laws::turns_in_history;
+pub use muster::Muster;
+pub use rounds::{Ended, rounds};
+pub use team::{finish, work};

@@ -1,6 +1,7 @@
 // Where events are legal, also where no law of runs would tell.
-use super::{OPENED, Shown, after, counts, opened, phase, replay_steps, walks};
-use crate::benches::{A, AB, B, IMPATIENT, STALE_MARK, TWICE, TWO, plan_of};
+use super::marks::{Marks, marks, marks_after};
+use super::{OPENED, Shown, after, counts, does, opened, phase, replay_steps, shows, walks};
+use crate::benches::{A, AB, B, IMPATIENT, STALE_MARK, TWICE, TWO, event_of, plan_of};
 use interleaving::{
     Dining, Drinking, EdgeState, End, Event, JobState, NotLegal, Step, StepLine, World,
 };
@@ -58,6 +59,42 @@ fn with_act_of_b(place: usize) -> [StepLine; 17] {
     lines
 }
 
+// The events of those 17 lines: each step's as the world shows it when it is taken, and Act of b in its place.
+fn events_with_act<T: Allocator + Copy>(
+    rt: &impl Abort,
+    alloc: T,
+    place: usize,
+) -> Result<Vec<Event, T>, Fail> {
+    let plan = plan_of(rt, alloc, TWICE);
+    let mut world = World::opening(alloc, &plan)?;
+    let mut events = Vec::new(alloc);
+    for index in 0..16 {
+        if index == place {
+            events.push(Event::Act(B))?;
+        }
+        let event = event_of(rt, &world, STALE_MARK[index]);
+        assert!(rt; does(rt, &mut world, &event));
+        events.push(event)?;
+    }
+    if place == 16 {
+        events.push(Event::Act(B))?;
+    }
+    Ok(events)
+}
+
+// What the replay of these events answers, and what the world shows then, the marks of both jobs among it.
+fn replay_all<T: Allocator + Copy>(
+    rt: &impl Abort,
+    alloc: T,
+    events: &[Event],
+) -> Result<(Result<usize, (usize, NotLegal)>, Shown, (Marks, Marks)), Fail> {
+    let plan = plan_of(rt, alloc, TWICE);
+    let mut world = World::opening(alloc, &plan)?;
+    let answer = world.replay(events);
+    let both = (marks(rt, &world, A), marks(rt, &world, B));
+    Ok((answer, shows(rt, &world), both))
+}
+
 // Job b never reaches in those steps: the replay stops at its entry, after the steps before it.
 fn check_stops<T: Allocator + Copy>(rt: &impl Abort, alloc: T) -> Result<(), Fail> {
     for place in 0..17 {
@@ -67,6 +104,13 @@ fn check_stops<T: Allocator + Copy>(rt: &impl Abort, alloc: T) -> Result<(), Fai
         let (done, stays) = after(rt, alloc, TWICE, before, &Event::Act(B))?;
         assert!(rt; answer == Err((place, NotLegal)), "after {place}");
         assert!(rt; !done && shown == stays, "after {place}");
+        let events = events_with_act(rt, alloc, place)?;
+        let (answer, shown, both) = replay_all(rt, alloc, &events)?;
+        assert!(rt;
+            answer == Err((place, NotLegal)) && shown == stays,
+            "after {place}"
+        );
+        assert!(rt; both == marks_after(rt, alloc, place)?, "after {place}");
     }
     Ok(())
 }

@@ -18,7 +18,7 @@ pub(super) fn marks<T: Allocator>(rt: &impl Abort, world: &World<T>, job: JobNo)
 }
 
 // The marks of a and of b after so many steps.
-fn marks_after<T: Allocator + Copy>(
+pub(super) fn marks_after<T: Allocator + Copy>(
     rt: &impl Abort,
     alloc: T,
     place: usize,

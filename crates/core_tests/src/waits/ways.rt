@@ -1,7 +1,8 @@
 // Ways on.
 use super::{ALL_LOWER, FORKS_HIGHER, drive, go_on, has_values, leads_on, start};
 use crate::benches::{
-    A, AB, B, IMPATIENT, MEAL_FIRST, MEAL_OF_THREE, STALE_MARK, THREE, TWICE, TWO, plan_of,
+    A, AB, B, IMPATIENT, MEAL_FIRST, MEAL_OF_THREE, STALE_MARK, THREE, THREE_ADD, TWICE, TWO,
+    plan_of,
 };
 use interleaving::{EndChoice, Step};
 use lab_plan::InstrumentNo;
@@ -104,7 +105,7 @@ fn drives_jobs_without_patience(rt: HostRuntime) {
 
 #[test]
 fn drives_a_triangle(rt: HostRuntime) {
-    assert!(rt; drives_to(&rt, rt.alloc(), THREE, &FORKS_HIGHER, &[1, 2, 3]));
+    assert!(rt; drives_to(&rt, rt.alloc(), THREE_ADD, &FORKS_HIGHER, &[1, 2, 3]));
 }
 
 /// Without jobs nothing is left to do.

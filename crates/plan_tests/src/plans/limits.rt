@@ -3,10 +3,18 @@ use super::asking::{bottles_of, patience_of};
 use super::{
     EXAMPLE, Line, check_example, finished, name_of, plan_of, put_all, refuse, refuse_line, share,
 };
-use lab_plan::name::is_name;
+use lab_plan::name::{is_name, is_same_name};
 use lab_plan::{Plan, PlanBuilder, PlanRefusal, Verb};
 use std::alloc::Allocator;
 use std::process::Abort;
+
+#[test]
+fn names_are_told_apart(rt: HostRuntime) {
+    assert!(rt; is_same_name(b"mix1", b"mix1"));
+    for other in [b"mix2".as_slice(), b"nix1", b"mix", b"mix12", b""] {
+        assert!(rt; !is_same_name(b"mix1", other));
+    }
+}
 
 #[test]
 fn names_by_their_grammar(rt: HostRuntime) {

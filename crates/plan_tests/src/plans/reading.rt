@@ -3,6 +3,7 @@ use super::asking::{
     bottle_of, bottles_of, commands_of, edge_of, edges_of, ends_of, instrument_of, needed_of,
     needs_of, part_of, patience_of, place_of, sessions_of,
 };
+use super::logged::check_logs;
 use super::{Line, finished, name_of, plan_of, put_all};
 use lab_plan::{EdgeNo, InstrumentNo, JobNo, Place, Plan, PlanBuilder, Verb};
 use std::alloc::Allocator;
@@ -145,6 +146,7 @@ fn read_meeting<A: Allocator + Copy>(rt: &impl Abort, alloc: A) {
     check_sessions(rt, &plan);
     check_needed(rt, &plan);
     check_places(rt, &plan);
+    check_logs(rt, alloc, &plan);
 }
 
 #[test]

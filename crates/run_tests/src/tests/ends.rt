@@ -1,9 +1,10 @@
 // Readers and writers that give little, take little, or fail.
-use super::{AMPLE, Pieces, Slow, TWO_ADD, told, told_at, told_by};
-use lab_runs::{FromRead, Outcome, RunFault, Source, Task, run_rounds};
+use super::{AMPLE, Pieces, Slow, TWO_ADD, told, told_at, told_by, told_from};
+use lab_program::{FromRead, Outcome, RunFault, Source};
+use lab_runs::{Task, run_rounds};
 use report::ToWrite;
 use std::alloc::Global;
-use std::io::{self, Read};
+use std::io::{self, ErrorKind, Read};
 use std::process::Abort;
 use std::thread::Threads;
 
@@ -14,6 +15,9 @@ const REPORT: &[u8] =
 /// The script of two jobs in version 2.
 const UPGRADED: &[u8] =
     b"lab 2\njob a\nsession\nscale add 1\nend\njob b\nsession\nscale add 1\nend\n";
+
+/// Its counts.
+const COUNTS: &[u8] = b"ok jobs 2 instruments 1 edges 1 sessions 2 commands 2\n";
 
 /// The tasks that read a script and write this report of it: no turn is taken.
 const REPORTING: [Task; 3] = [
@@ -38,19 +42,46 @@ fn pieces_of_any_length(rt: HostRuntime) {
 }
 
 /// The k-th read fails, for each k up to the one that finds the end.
+fn reads_fail<R: Threads + Abort + Sync>(rt: &R, alloc: Global, task: Task, error: ErrorKind) {
+    let text = TWO_ADD.as_bytes();
+    for calls in 0..text.len() + 1 {
+        let pieces = Pieces {
+            rest: text,
+            most: 1,
+            calls,
+            error,
+        };
+        let (bytes, answer) = told_from(rt, alloc, task, pieces, AMPLE);
+        assert!(rt; answer == Err(RunFault::Read), "after {calls} calls");
+        assert!(rt; bytes.is_empty(), "after {calls} calls");
+    }
+}
+
+/// Each error of a reader is a read fault, also one that tells of memory. With one read more each task writes its text.
 #[test]
 fn reader_fails(rt: HostRuntime) {
     let text = TWO_ADD.as_bytes();
-    for task in REPORTING {
-        for calls in 0..text.len() + 1 {
-            let (bytes, answer) = told_at(&rt, rt.alloc(), task, text, (1, calls), AMPLE);
-            assert!(rt; answer == Err(RunFault::Read), "after {calls} calls");
-            assert!(rt; bytes.is_empty(), "after {calls} calls");
+    let errors = [
+        ErrorKind::Interrupted,
+        ErrorKind::PermissionDenied,
+        ErrorKind::OutOfMemory,
+    ];
+    for error in errors {
+        for task in REPORTING {
+            reads_fail(&rt, rt.alloc(), task, error);
         }
-        let reads = (1, text.len() + 1);
+        reads_fail(&rt, rt.alloc(), Task::Check, error);
+        reads_fail(&rt, rt.alloc(), Task::Upgrade, error);
+    }
+    let reads = (1, text.len() + 1);
+    for task in REPORTING {
         let (bytes, answer) = told_at(&rt, rt.alloc(), task, text, reads, AMPLE);
         assert!(rt; answer == Ok(Outcome::Unfinished) && bytes.as_slice() == REPORT);
     }
+    let (bytes, answer) = told_at(&rt, rt.alloc(), Task::Check, text, reads, AMPLE);
+    assert!(rt; answer == Ok(Outcome::Finished) && bytes.as_slice() == COUNTS);
+    let (bytes, answer) = told_at(&rt, rt.alloc(), Task::Upgrade, text, reads, AMPLE);
+    assert!(rt; answer == Ok(Outcome::Finished) && bytes.as_slice() == UPGRADED);
 }
 
 /// Gives `#` for ever, and counts what it gave.
@@ -129,13 +160,7 @@ fn flush_fails(rt: HostRuntime) {
     for task in REPORTING {
         flushes(&rt, rt.alloc(), task, 5, REPORT);
     }
-    flushes(
-        &rt,
-        rt.alloc(),
-        Task::Check,
-        1,
-        b"ok jobs 2 instruments 1 edges 1 sessions 2 commands 2\n",
-    );
+    flushes(&rt, rt.alloc(), Task::Check, 1, COUNTS);
     flushes(&rt, rt.alloc(), Task::Upgrade, 9, UPGRADED);
 }
 
@@ -159,6 +184,7 @@ fn source_reads(rt: HostRuntime) {
         rest: b"lamp",
         most: 3,
         calls: 3,
+        error: ErrorKind::Interrupted,
     };
     let mut source = FromRead::new(&mut pieces);
     let mut buffer = [0u8; 8];

@@ -1,7 +1,8 @@
 // The worked scripts of examples/ that run by rounds, without their comments; their reports were reckoned without the program.
 use super::reports::is_report_of;
 use super::told;
-use lab_runs::{Outcome, Task};
+use lab_program::Outcome;
+use lab_runs::Task;
 use std::alloc::{AllocError, Global};
 use std::process::Abort;
 use std::test::Fail;

@@ -1,6 +1,7 @@
 // Scripts by rounds: what stands in the report after how many.
 use super::{TWO_ADD, told, told_by};
-use lab_runs::{Outcome, RunFault, Task};
+use lab_program::{Outcome, RunFault};
+use lab_runs::Task;
 use script_reader::{ScriptCause, ScriptFault};
 use std::alloc::{AllocError, Global};
 use std::process::Abort;

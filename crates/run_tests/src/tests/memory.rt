@@ -1,10 +1,12 @@
 // Memory that runs out: each growth of a run is refused in turn, and nothing else is told.
 use super::{AMPLE, Pieces, Slow, TWO_ADD, Told, may_run};
-use lab_runs::{FromRead, Outcome, RunFault, Task, run_task};
+use lab_program::{FromRead, Outcome, RunFault};
+use lab_runs::{NoGate, Task, run_task};
 use refusing_heap::RefusingHeap;
 use report::ToWrite;
 use script_reader::ScriptCause;
 use std::alloc::Global;
+use std::io::ErrorKind;
 use std::process::Abort;
 use std::thread::Threads;
 
@@ -21,6 +23,7 @@ fn told_without<R: Threads + Abort + Sync>(
         rest: text,
         most: AMPLE.0,
         calls: AMPLE.1,
+        error: ErrorKind::Interrupted,
     };
     let mut slow = Slow {
         bytes: Vec::new(out),
@@ -30,7 +33,7 @@ fn told_without<R: Threads + Abort + Sync>(
     let mut source = FromRead::new(&mut pieces);
     let mut sink = ToWrite::new(&mut slow);
     assert!(rt; may_run(&task));
-    let answer = run_task(task, rt, &heap, &mut source, &mut sink);
+    let answer = run_task(task, rt, &heap, &mut source, &mut sink, &NoGate);
     ((slow.bytes, answer), heap.growths())
 }
 

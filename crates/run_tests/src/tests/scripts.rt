@@ -1,6 +1,7 @@
 // Checks and upgrades of worked scripts.
 use super::{TWO_ADD, told};
-use lab_runs::{Outcome, RunFault, Task};
+use lab_program::{Outcome, RunFault};
+use lab_runs::Task;
 use script_reader::{ScriptCause, ScriptFault};
 use std::alloc::{AllocError, Global};
 use std::test::Fail;

@@ -1,5 +1,6 @@
 // What no contract says: the words of command lines, the text of the help, and the texts and statuses of faults.
-use lab_runs::{NoTask, Outcome, RunFault, Task, read_words, status_of};
+use lab_program::{NoTask, Outcome, RunFault, status_of};
+use lab_runs::{Task, read_words};
 use script_reader::{ScriptCause, ScriptFault};
 use std::test::Fail;
 

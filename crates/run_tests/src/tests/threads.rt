@@ -1,12 +1,68 @@
 // Scripts by threads: what must be true of a report on every schedule.
+use super::gates::{Counting, Flags};
 use super::in_rounds::SECOND_SESSION;
 use super::reports::is_report_of;
-use super::{TWO_ADD, Told, told};
-use lab_runs::{Outcome, Task};
+use super::{Pieces, Slow, TWO_ADD, Told, may_run, told};
+use lab_program::{FromRead, Outcome};
+use lab_runs::{Gate, Task, run_task};
+use report::ToWrite;
 use std::alloc::{AllocError, Global};
+use std::io::ErrorKind;
 use std::process::Abort;
 use std::test::Fail;
 use std::thread::Threads;
+
+/// The program's task by two workers, whose turns pass the gate.
+fn told_through<R: Threads + Abort + Sync, G: Gate>(
+    rt: &R,
+    alloc: Global,
+    turns: u32,
+    gate: &G,
+    text: &[u8],
+) -> Told {
+    let mut pieces = Pieces {
+        rest: text,
+        most: 4096,
+        calls: 1_000_000,
+        error: ErrorKind::Interrupted,
+    };
+    let mut slow = Slow {
+        bytes: Vec::new(alloc),
+        most: 4096,
+        calls: 1_000_000,
+    };
+    let mut source = FromRead::new(&mut pieces);
+    let mut sink = ToWrite::new(&mut slow);
+    let task = Task::Threads { workers: 2, turns };
+    assert!(rt; may_run(&task));
+    let answer = run_task(task, rt, alloc, &mut source, &mut sink, gate);
+    (slow.bytes, answer)
+}
+
+/// Two jobs whose turns are taken on one thread would never see both flags.
+#[test]
+fn two_workers_meet(rt: HostRuntime) {
+    let gate = Flags::new();
+    let (_, answer) = told_through(&rt, rt.alloc(), 100_000, &gate, TWO_ADD.as_bytes());
+    assert!(rt; gate.both_saw());
+    assert!(rt; answer == Ok(Outcome::Finished) || answer == Ok(Outcome::Unfinished));
+}
+
+/// Each job of the ring passes before each of its turns: three, which finish none, and many.
+#[test]
+fn gate_counts_turns(rt: HostRuntime) {
+    let few = Counting::new();
+    let (_, answer) = told_through(&rt, rt.alloc(), 3, &few, RING.as_bytes());
+    assert!(rt; answer == Ok(Outcome::Unfinished) && few.is_in_order());
+    let many = Counting::new();
+    let (_, answer) = told_through(&rt, rt.alloc(), 10000, &many, RING.as_bytes());
+    assert!(rt; answer.is_ok() && many.is_in_order());
+    for job in 0..4u8 {
+        assert!(rt; few.passes(job) == 3);
+        assert!(rt; 3 < many.passes(job) && many.passes(job) <= 10000);
+        assert!(rt; answer == Ok(Outcome::Finished) || many.passes(job) == 10000);
+    }
+}
 
 /// Whichever job is first, each has its one line, and the second finds what the first left.
 #[test]

@@ -3,8 +3,11 @@ use Rattle.legal_steps.specs.Run.{IsLegalFrom}
 use Rattle.edge_rule.specs.DeskView.{DeskView, known}
 use Rattle.dining_layer.specs.declared.answers.Tried.{Tried}
 use Rattle.drinking_layer.specs.Bottles.{Served}
-use Rattle.drinking_layer.proofs.AllAtOnce.{give_events, may_give_all, serves, serves_none}
+use Rattle.drinking_layer.proofs.AllAtOnce.{gives_some, give_events, may_give_all, serves, serves_none}
 use Rattle.drinking_layer.proofs.serving.serve_bottles.Goals as goal
+
+pub exchange-requires-clause-some : goal.exchange-requires-clause-some
+exchange-requires-clause-some g c = gives_some c.all_gifts-set.result c.if-set-eq0.false
 
 pub exchange-requires-clause-may : goal.exchange-requires-clause-may
 exchange-requires-clause-may g c = let d : DeskView = c.args.desk.now in let set = c.all_gifts-set.result in

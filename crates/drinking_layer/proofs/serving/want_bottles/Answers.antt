@@ -3,8 +3,11 @@ use Rattle.legal_steps.specs.Run.{IsLegalFrom}
 use Rattle.edge_rule.specs.DeskView.{DeskView, known}
 use Rattle.dining_layer.specs.declared.answers.Tried.{Tried}
 use Rattle.drinking_layer.specs.Bottles.{Wanted}
-use Rattle.drinking_layer.proofs.AllAtOnce.{ask_events, may_ask_all, wants, wants_none}
+use Rattle.drinking_layer.proofs.AllAtOnce.{asks_some, ask_events, may_ask_all, wants, wants_none}
 use Rattle.drinking_layer.proofs.serving.want_bottles.Goals as goal
+
+pub exchange-requires-clause-some : goal.exchange-requires-clause-some
+exchange-requires-clause-some g c = asks_some c.all_wishes-set.result c.if-set-eq0.false
 
 pub exchange-requires-clause-may : goal.exchange-requires-clause-may
 exchange-requires-clause-may g c = let d : DeskView = c.args.desk.now in let set = c.all_wishes-set.result in

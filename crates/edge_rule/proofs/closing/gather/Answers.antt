@@ -2,7 +2,7 @@ use Rattle.std.proofs.Common.{List, [], ◌∷◌, ◌++◌, refl, sym, ap, ◌�
 use Rattle.locality.specs.Lists.{Each}
 use Rattle.edge_rule.specs.DeskView.{DeskView}
 use Rattle.one_history.specs.Seating.{glued}
-use Rattle.edge_rule.specs.Ending.{gathered, Rests}
+use Rattle.edge_rule.specs.Ending.{gathered, RestsInGroups}
 use Rattle.one_history.proofs.Seats.{glues}
 use Rattle.edge_rule.proofs.Endings.{each_left, each_right, glued_more, rests_now}
 use Rattle.edge_rule.proofs.closing.gather.Goals as goal
@@ -21,7 +21,7 @@ loop-desk-preserved g0 c = let inv = c.loop-desk.invariant in let done : List De
     inv.1.1 ∙ ap (λ l. l ++ done) c.in-Some.ensures.items ∙ append_assoc c.pop.new.self.items (c.in-Some.desk ∷ []) done,
     c.join_seat.ensures.2 ∙ (λ i. (glued (inv.1.2 i).0 d.seat.me.0, (inv.1.2 i).1))
         ∙ (λ i. (glued_more done d c.desk.invariant i, [])) ∙ (λ i. (gathered (c.desk.view_is i ∷ done), [])),
-    (subst Rests c.desk.view_is (rests_now d c.desk.invariant), inv.1.3),
+    (subst RestsInGroups c.desk.view_is (rests_now d c.desk.invariant), inv.1.3),
   ),
 )
 

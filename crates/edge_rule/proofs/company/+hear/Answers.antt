@@ -17,7 +17,15 @@ use Rattle.one_history.proofs.Seats.{lends, glues, takes_back}
 use Rattle.edge_rule.proofs.company.+hear.Goals as goal
 
 abbrev seat_view_of : Clock → TableId → Me LogView View → DeskView
-seat_view_of k t m = record { table = t; plan = (hand_in m.0).plan; job = (hand_in m.0).job; front = m.0.front; deeds = (hand_in m.0).deeds; clock = k }
+seat_view_of k t m = record {
+  table = t;
+  plan = (hand_in m.0).plan;
+  job = (hand_in m.0).job;
+  front = m.0.front;
+  deeds = (hand_in m.0).deeds;
+  groups = (hand_in m.0).groups;
+  clock = k;
+}
 
 pub load-requires : goal.load-requires
 load-requires g0 t c =

@@ -23,6 +23,7 @@ hears d l e a starts wholes = record {
   plan = a.plan;
   job = a.job;
   deeds = a.deeds ∙ append-nil d.deeds;
+  groups = a.groups;
   more = a.between;
   front = a.front ∙ append-nil (d.front ++ a.between);
   legal = a.legal;

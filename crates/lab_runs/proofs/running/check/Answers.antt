@@ -1,8 +1,9 @@
 use Rattle.std.proofs.Common.{refl, ◌∙◌}
 use Rattle.std.proofs.KnownBytes.{Keeps-refl}
-use Rattle.lab_runs.specs.declared.faults.RunFault.TheVariants.{Script}
-use Rattle.lab_runs.specs.Runs.{Checks, ScriptRefuses}
-use Rattle.lab_runs.proofs.RunAnswers.{ends_with}
+use Rattle.lab_program.specs.declared.faults.RunFault.TheVariants.{Script}
+use Rattle.lab_program.specs.Answers.{ScriptRefuses}
+use Rattle.lab_runs.specs.Runs.{Checks}
+use Rattle.lab_program.proofs.RunAnswers.{ends_with}
 use Rattle.lab_runs.proofs.running.check.Goals as goal
 
 pub returns-in_err-plan-clause-answer : goal.returns-in_err-plan-clause-answer

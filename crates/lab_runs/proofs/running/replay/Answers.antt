@@ -2,9 +2,9 @@ use Rattle.std.proofs.Common.{refl}
 use Rattle.std.proofs.KnownBytes.{Keeps-refl}
 use Rattle.report.specs.Report.{report_of, all_retired}
 use Rattle.report.specs.Worlds.{shown_by}
-use Rattle.lab_runs.specs.declared.faults.RunFault.TheVariants.{Script, Write}
+use Rattle.lab_program.specs.declared.faults.RunFault.TheVariants.{Script, Write}
 use Rattle.lab_runs.specs.Runs.{ReplaysScript, ReplayRefuses, outcome_of}
-use Rattle.lab_runs.proofs.RunAnswers.{ends_with}
+use Rattle.lab_program.proofs.RunAnswers.{ends_with}
 use Rattle.lab_runs.proofs.Replayed.{stopped, replayed}
 use Rattle.lab_runs.proofs.running.replay.Goals as goal
 

@@ -1,7 +1,8 @@
 use Rattle.std.proofs.Common.{arith, ap, Err}
-use Rattle.lab_runs.specs.declared.reading.ReadFault.{ReadFault}
-use Rattle.lab_runs.specs.Runs.{Checks, ScriptRefuses}
-use Rattle.lab_runs.proofs.RunAnswers.{for_read, not_read, reads_of}
+use Rattle.lab_program.specs.declared.reading.ReadFault.{ReadFault}
+use Rattle.lab_program.specs.Answers.{ScriptRefuses}
+use Rattle.lab_runs.specs.Runs.{Checks}
+use Rattle.lab_program.proofs.RunAnswers.{for_read, not_read, reads_of}
 use Rattle.lab_runs.proofs.running.run_check.Goals as goal
 
 pub returns-in_err-input-clause-answer : goal.returns-in_err-input-clause-answer

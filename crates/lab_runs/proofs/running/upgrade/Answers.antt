@@ -1,10 +1,11 @@
 use Rattle.std.proofs.Common.{refl}
 use Rattle.std.proofs.KnownBytes.{Keeps-refl}
 use Rattle.lab_plan.specs.Upgrade.{script_text}
-use Rattle.lab_runs.specs.declared.faults.RunFault.TheVariants.{Script, Write}
-use Rattle.lab_runs.specs.declared.faults.Outcome.TheVariants.{Finished}
-use Rattle.lab_runs.specs.Runs.{Upgrades, ScriptRefuses}
-use Rattle.lab_runs.proofs.RunAnswers.{ends_with}
+use Rattle.lab_program.specs.declared.faults.RunFault.TheVariants.{Script, Write}
+use Rattle.lab_program.specs.declared.faults.Outcome.TheVariants.{Finished}
+use Rattle.lab_program.specs.Answers.{ScriptRefuses}
+use Rattle.lab_runs.specs.Runs.{Upgrades}
+use Rattle.lab_program.proofs.RunAnswers.{ends_with}
 use Rattle.lab_runs.proofs.running.upgrade.Goals as goal
 
 pub returns-in_err-plan-clause-answer : goal.returns-in_err-plan-clause-answer

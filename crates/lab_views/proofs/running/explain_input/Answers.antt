@@ -1,7 +1,7 @@
 use Rattle.std.proofs.KnownBytes.{Keeps-refl}
-use Rattle.lab_runs.specs.declared.faults.RunFault.TheVariants.{Script, Write}
-use Rattle.lab_runs.specs.declared.faults.Outcome.TheVariants.{Finished}
-use Rattle.lab_runs.proofs.RunAnswers.{ends_with}
+use Rattle.lab_program.specs.declared.faults.RunFault.TheVariants.{Script, Write}
+use Rattle.lab_program.specs.declared.faults.Outcome.TheVariants.{Finished}
+use Rattle.lab_program.proofs.RunAnswers.{ends_with}
 use Rattle.lab_views.specs.Views.{Explains, StepsAreRefused}
 use Rattle.lab_views.proofs.Explained.{explained}
 use Rattle.lab_views.proofs.running.explain_input.Goals as goal

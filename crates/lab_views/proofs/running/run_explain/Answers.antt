@@ -1,6 +1,6 @@
 use Rattle.std.proofs.Common.{arith, ap, Err}
-use Rattle.lab_runs.specs.declared.reading.ReadFault.{ReadFault}
-use Rattle.lab_runs.proofs.RunAnswers.{for_read, not_read, reads_of}
+use Rattle.lab_program.specs.declared.reading.ReadFault.{ReadFault}
+use Rattle.lab_program.proofs.RunAnswers.{for_read, not_read, reads_of}
 use Rattle.lab_views.specs.Views.{Explains, StepsAreRefused}
 use Rattle.lab_views.proofs.running.run_explain.Goals as goal
 

@@ -1,7 +1,7 @@
 use Rattle.std.proofs.Common.{arith, ap, Err}
-use Rattle.lab_runs.specs.declared.reading.ReadFault.{ReadFault}
-use Rattle.lab_runs.proofs.RunAnswers.{for_read, not_read, reads_of}
-use Rattle.lab_runs.specs.Runs.{ScriptRefuses}
+use Rattle.lab_program.specs.declared.reading.ReadFault.{ReadFault}
+use Rattle.lab_program.proofs.RunAnswers.{for_read, not_read, reads_of}
+use Rattle.lab_program.specs.Answers.{ScriptRefuses}
 use Rattle.lab_views.specs.Traces.{Traces}
 use Rattle.lab_views.proofs.tracing.run_trace.Goals as goal
 

@@ -8,7 +8,7 @@ use Rattle.picture.proofs.writing.write_entries.Goals as goal
 
 pub returns-in_err-offer : goal.returns-in_err-offer
 returns-in_err-offer g c =
-    let text : ℕ → List ℕ = entry_at (map job_text c.args.jobs.now) c.args.spans.now (map entry_text c.args.entries.now) in
+    let text : ℕ → List ℕ = entry_at (map job_text c.args.jobs.now) c.args.columns c.args.spans.now (map entry_text c.args.entries.now) in
     let n = length c.args.entries.now in
     let k = c.loop-place.place in
     let below : k < n = omega arith in
@@ -21,7 +21,7 @@ returns-in_err-offer g c =
 
 pub loop-place-preserved : goal.loop-place-preserved
 loop-place-preserved g c =
-    let text : ℕ → List ℕ = entry_at (map job_text c.args.jobs.now) c.args.spans.now (map entry_text c.args.entries.now) in
+    let text : ℕ → List ℕ = entry_at (map job_text c.args.jobs.now) c.args.columns c.args.spans.now (map entry_text c.args.entries.now) in
     let n = length c.args.entries.now in
     let k = c.loop-place.place in
     let below : k < n = omega arith in
@@ -33,7 +33,7 @@ loop-place-preserved g c =
 
 pub returns : goal.returns
 returns g c =
-    let text : ℕ → List ℕ = entry_at (map job_text c.args.jobs.now) c.args.spans.now (map entry_text c.args.entries.now) in
+    let text : ℕ → List ℕ = entry_at (map job_text c.args.jobs.now) c.args.columns c.args.spans.now (map entry_text c.args.entries.now) in
     let n = length c.args.entries.now in
     let past : n ≤ c.loop-place.place = omega arith in
     let all = ap (λ m. flat_map text (range_with_len 0 m)) (sym (length-map c.args.entries.now entry_text)) in

@@ -8,6 +8,6 @@ use Rattle.picture.proofs.writing.write_entries.Given as goal
 
 abbrev pub invariant-loop-place : goal.invariant-loop-place
 invariant-loop-place g l =
-    Appends (g.W.Sink.taken l.fn.sink) (g.W.Sink.taken l.sink) (flat_map (entry_at (map job_text l.jobs) l.spans (map entry_text l.entries)) (take l.place
+    Appends (g.W.Sink.taken l.fn.sink) (g.W.Sink.taken l.sink) (flat_map (entry_at (map job_text l.jobs) l.columns l.spans (map entry_text l.entries)) (take l.place
     (range_with_len 0 (length l.entries))))
     × (g.W.Sink.failures l.sink ≡ g.W.Sink.failures l.fn.sink)

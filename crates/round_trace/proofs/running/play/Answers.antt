@@ -2,7 +2,8 @@ use Rattle.std.proofs.Common.{◌≡◌, ◌↔◌, ◌≤◌, true, sym, ◌∙
 use Rattle.std.proofs.lemmas.Bool.{false≢true}
 use Rattle.lab_plan.specs.LabPlan.{LabPlan}
 use Rattle.locality.specs.History.{IsHistory}
-use Rattle.rounds.specs.Rounds.{Round, AreRetired}
+use Rattle.locality.specs.AtTheEnd.{AllRetired}
+use Rattle.rounds.specs.Rounds.{Round}
 use Rattle.round_trace.specs.Players.{players_of, AreJobs}
 use Rattle.round_trace.proofs.Played.{are_jobs, round_more, ran, retired_in}
 use Rattle.round_trace.proofs.running.play.Goals as goal
@@ -17,9 +18,9 @@ pub loop-number-preserved : goal.loop-number-preserved
 loop-number-preserved g c =
     let inv = c.loop-number.invariant in let t = c.in_ok-round.ensures in let plan = c.args.world.now.plan in let h = c.loop-number.events.items in
     let legal : IsHistory plan h = subst (λ (p : LabPlan). IsHistory p h) inv.1 inv.0.legal in
-    let test : (c.all_retired.result ≡ true) ↔ AreRetired plan h = retired_in plan c.loop-number.world h c.all_retired.result inv.0 inv.1
+    let test : (c.all_retired.result ≡ true) ↔ AllRetired plan h = retired_in plan c.loop-number.world h c.all_retired.result inv.0 inv.1
     c.all_retired.ensures in
-    let other : ¬ AreRetired plan h = λ retired. false≢true (sym c.if-all_retired.false ∙ test.1 retired) in
+    let other : ¬ AllRetired plan h = λ retired. false≢true (sym c.if-all_retired.false ∙ test.1 retired) in
     let played : Round plan (players_of c.loop-number.players) t.plays.0 h c.round.new.events.items (players_of c.round.new.players) =
     subst (λ (p : LabPlan). Round p (players_of c.loop-number.players) t.plays.0 h c.round.new.events.items
     (players_of c.round.new.players)) inv.1 t.plays.1 in (
@@ -36,7 +37,7 @@ pub returns-then-all_retired : goal.returns-then-all_retired
 returns-then-all_retired g c =
     let inv = c.loop-number.invariant in let plan = c.args.world.now.plan in let h = c.loop-number.events.items in
     let legal : IsHistory plan h = subst (λ (p : LabPlan). IsHistory p h) inv.1 inv.0.legal in
-    let test : (c.all_retired.result ≡ true) ↔ AreRetired plan h = retired_in plan c.loop-number.world h c.all_retired.result inv.0 inv.1
+    let test : (c.all_retired.result ≡ true) ↔ AllRetired plan h = retired_in plan c.loop-number.world h c.all_retired.result inv.0 inv.1
     c.all_retired.ensures in
     let most : c.loop-number._number ≤ c.args.limit = let l = c.loop-number-test.true in omega (arith, l) in
     ran plan (players_of c.loop-number.players) c.loop-number._number inv.2.0 h inv.2.1 c.args.limit true legal most
@@ -46,7 +47,7 @@ pub returns : goal.returns
 returns g c =
     let inv = c.loop-number.invariant in let plan = c.args.world.now.plan in let h = c.loop-number.events.items in
     let legal : IsHistory plan h = subst (λ (p : LabPlan). IsHistory p h) inv.1 inv.0.legal in
-    let test : (c.all_retired-2.result ≡ true) ↔ AreRetired plan h = retired_in plan c.loop-number.world h c.all_retired-2.result inv.0 inv.1
+    let test : (c.all_retired-2.result ≡ true) ↔ AllRetired plan h = retired_in plan c.loop-number.world h c.all_retired-2.result inv.0 inv.1
     c.all_retired-2.ensures in
     let end : c.loop-number._number ≡ c.args.limit = let l = c.loop-number-test.false in let m = c.loop-number.auto._number-end in omega (arith, l, m) in
     ran plan (players_of c.loop-number.players) c.loop-number._number inv.2.0 h inv.2.1 c.args.limit c.all_retired-2.result legal (omega (arith, end)) test

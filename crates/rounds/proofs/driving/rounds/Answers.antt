@@ -17,21 +17,21 @@ returns-then-is_empty g c = let l : List DeskView = c.args.desks.now in let none
 pub play-ended-requires-clause-spread : goal.play-ended-requires-clause-spread
 play-ended-requires-clause-spread g c = let old : List DeskView = c.args.desks.now in
     let s = began c.args.bench.now old c.meet_all.new.desks c.index-desks-0.result c.tell-news.new.desk
-    c.tell-news.result.front c.requires.own c.are_at_rest.ensures c.meet_all.ensures
+    c.tell-news.result.front c.requires.own c.are_at_rest.ensures.rest c.meet_all.ensures
     (some_left (length old) c.if-is_empty.ensures) c.index-desks-0.is c.tell-news.ensures.same c.tell-news.ensures.news.1 in
     subst (Spread c.args.bench.now c.tell-news.result.front) (sym s.same) s.spread
 
 pub play-ended-requires-clause-all : goal.play-ended-requires-clause-all
 play-ended-requires-clause-all g c = let old : List DeskView = c.args.desks.now in
     let s = began c.args.bench.now old c.meet_all.new.desks c.index-desks-0.result c.tell-news.new.desk
-    c.tell-news.result.front c.requires.own c.are_at_rest.ensures c.meet_all.ensures
+    c.tell-news.result.front c.requires.own c.are_at_rest.ensures.rest c.meet_all.ensures
     (some_left (length old) c.if-is_empty.ensures) c.index-desks-0.is c.tell-news.ensures.same c.tell-news.ensures.news.1 in
     subst (AllOf c.args.bench.now.plan) (sym (ap jobs_of s.same ∙ s.knows.jobs)) (all_of c.args.bench.now.plan old c.requires.all)
 
 pub meet_all-requires-2-clause-apart : goal.meet_all-requires-2-clause-apart
 meet_all-requires-2-clause-apart g c = let old : List DeskView = c.args.desks.now in let new : List DeskView = c.play-ended.new.desks in
     let s = began c.args.bench.now old c.meet_all.new.desks c.index-desks-0.result c.tell-news.new.desk
-    c.tell-news.result.front c.requires.own c.are_at_rest.ensures c.meet_all.ensures
+    c.tell-news.result.front c.requires.own c.are_at_rest.ensures.rest c.meet_all.ensures
     (some_left (length old) c.if-is_empty.ensures) c.index-desks-0.is c.tell-news.ensures.same c.tell-news.ensures.news.1 in
     let x : DeskView = get_or new 0 c.index-desks-0-2.result in
     subst
@@ -46,7 +46,7 @@ returns g c =
     let met : List DeskView = c.meet_all.new.desks in
     let new : List DeskView = c.play-ended.new.desks in
     let h : List Event = c.tell-news.result.front in
-    let s = began b old met c.index-desks-0.result c.tell-news.new.desk h c.requires.own c.are_at_rest.ensures c.meet_all.ensures
+    let s = began b old met c.index-desks-0.result c.tell-news.new.desk h c.requires.own c.are_at_rest.ensures.rest c.meet_all.ensures
     (some_left (length old) c.if-is_empty.ensures) c.index-desks-0.is c.tell-news.ensures.same c.tell-news.ensures.news.1 in
     let p = c.play-ended.ensures in let r = c.play-ended.result in let G : List Event = r.2.front in let all = all_of b.plan old c.requires.all in
     let jobs : jobs_of new ≡ jobs_of old = p.jobs ∙ (ap jobs_of s.same ∙ s.knows.jobs) in

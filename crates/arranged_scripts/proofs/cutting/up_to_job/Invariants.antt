@@ -1,0 +1,9 @@
+-- both are places in the text
+use Rattle.std.proofs.Common.{◌≤◌, length}
+use Rattle.arranged_scripts.proofs.cutting.up_to_job.Given as goal
+
+abbrev pub invariant-loop-rest : goal.invariant-loop-rest
+invariant-loop-rest l = (length l.rest ≤ length l.text) × (l.start ≤ length l.text)
+
+abbrev pub decreases-loop-rest : goal.decreases-loop-rest
+decreases-loop-rest l = length l.rest

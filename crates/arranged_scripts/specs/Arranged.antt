@@ -1,0 +1,37 @@
+-- For readers: a script with its jobs in an order in which chains at the start are short.
+use Rattle.std.specs.Prelude.{ℕ, ◌≡◌, ◌≤◌, List, [], ◌∷◌, ◌++◌, length, slice_index_or, if◌then◌else◌}
+use Rattle.std.specs.List.{flat_map, concat}
+use Rattle.std.specs.Io.BufRead.{ends_with_byte}
+use Rattle.lab_plan.specs.LabPlan.{LabPlan}
+use Rattle.legal_steps.specs.Opening.{the_opening}
+use Rattle.arranging.specs.Colours.{ColouringView, IsColouring, in_order}
+use Rattle.arranging.specs.Chains.{IsChain}
+use Rattle.arranging.specs.Reordered.{IsArrangement}
+use Rattle.script_reader.specs.Script.{ScriptMeans}
+
+-- the text, and the end of its last line where it lacks it
+unfoldable pub with_line_end : List ℕ → List ℕ
+with_line_end text = if ends_with_byte 10 text then text else text ++ 10 ∷ []
+
+-- a text is cut into a head and a block for each job; the other has the same head, and behind it the same blocks in this order
+pub record MovesBlocks (text : List ℕ) (order : List ℕ) (moved : List ℕ) : Type 0 where
+  pub head : List ℕ
+  pub blocks : List (List ℕ)
+  pub cut : text ≡ head ++ concat blocks
+  pub one_each : length blocks ≡ length order
+  pub joined : moved ≡ head ++ flat_map (λ job. slice_index_or blocks job []) order
+
+-- There are colours of the plan's jobs, and the text is the input with the blocks of its jobs in the order of these colours. It is read
+-- as a plan that has the same jobs in that order, each with its own sessions, commands and patience
+pub record IsArranged (plan : LabPlan) (input text : List ℕ) : Type 0 where
+  pub made : ColouringView
+  pub is_colouring : IsColouring plan made.colours made.count
+  pub moved : MovesBlocks (with_line_end input) (in_order made.colours made.count) text
+  pub arranged : LabPlan
+  pub read_back : ScriptMeans text arranged
+  pub is_arrangement : IsArrangement plan made arranged
+
+-- whatever plan an arranged text means, at its opening no chain of precedence has more jobs than there are colours
+abbrev pub ArrangedTextsHaveShortChains : Type 0
+ArrangedTextsHaveShortChains = (plan : LabPlan) (input text : List ℕ) (is : IsArranged plan input text) (read : LabPlan) → ScriptMeans text read
+    → (jobs : List ℕ) → IsChain read (the_opening read) jobs → length jobs ≤ is.made.count

@@ -1,0 +1,155 @@
+// A script is cut into its head and a block of lines for each job. Comments directly above a job's line are the job's own.
+// How it is cut is judged by what the pieces are read as, in another order.
+ghost use Rattle.std.specs.Prelude.{◌≡◌, ◌≤◌, ◌<◌, ◌++◌, ℕ, [], length, map, slice_index_or, OnOk, IfOk, IfSome};
+ghost use Rattle.std.specs.List.{All, flat_map, concat};
+ghost use Rattle.std.specs.Io.BufRead.{ends_with_byte};
+ghost use Rattle.arranged_scripts.specs.Arranged.{with_line_end, MovesBlocks};
+
+use bstr::ByteSlice;
+use lab_plan::JobNo;
+use std::alloc::{AllocError, Allocator};
+
+/// How long the first line is, with its end.
+fn line_len(text: &[u8]) -> usize
+    requires { 0 < length text.now }
+    ensures some { 0 < result }
+    ensures most { result ≤ length text.now }
+{
+    match text.find_byte(b'\n') {
+        Some(at) => at + 1,
+        None => text.len(),
+    }
+}
+
+/// The line behind the spaces and tabs that it begins with.
+fn inked(line: &[u8]) -> &[u8] {
+    match line.find_not_byteset(b" \t") {
+        Some(start) => &line[start..],
+        None => &[],
+    }
+}
+
+fn is_comment(line: &[u8]) -> bool {
+    matches!(inked(line), [b'#', ..])
+}
+
+fn is_job_line(line: &[u8]) -> bool {
+    matches!(inked(line), [b'j', b'o', b'b', b' ' | b'\t', ..])
+}
+
+/// Where the block of the first job line begins, at the comments directly above it; or the end of the text.
+fn up_to_job(text: &[u8]) -> usize
+    ensures { result ≤ length text.now }
+{
+    let mut rest = text;
+    let mut start = 0;
+    while !rest.is_empty() {
+        let (line, more) = rest.split_at(line_len(rest));
+        if is_job_line(line) {
+            return start;
+        }
+        rest = more;
+        if !is_comment(line) {
+            start = text.len() - rest.len();
+        }
+    }
+    text.len()
+}
+
+/// Where the line behind the first job line begins; or the end of the text.
+fn behind_job(text: &[u8]) -> usize
+    requires { 0 < length text.now }
+    ensures some { 0 < result }
+    ensures most { result ≤ length text.now }
+{
+    let mut rest = text;
+    while !rest.is_empty() {
+        let (line, more) = rest.split_at(line_len(rest));
+        rest = more;
+        if is_job_line(line) {
+            return text.len() - rest.len();
+        }
+    }
+    text.len()
+}
+
+/// How long the block is that a text begins with.
+fn block_len(text: &[u8]) -> usize
+    requires { 0 < length text.now }
+    ensures some { 0 < result }
+    ensures most { result ≤ length text.now }
+{
+    let own = behind_job(text);
+    own + up_to_job(&text[own..])
+}
+
+/// The blocks of a text, one after another.
+fn blocks_of<'a, A: Allocator>(alloc: A, text: &'a [u8]) -> Result<Vec<&'a [u8], A>, AllocError>
+    ensures { IfOk result (λ blocks. concat (map (λ block. block.now) blocks.items) ≡ text.now) }
+{
+    let mut pieces = Vec::new(alloc);
+    let mut rest = text;
+    while !rest.is_empty() {
+        let (block, more) = rest.split_at(block_len(rest));
+        pieces.push(block)?;
+        rest = more;
+    }
+    Ok(pieces)
+}
+
+/// The head, and the blocks of the jobs in this order.
+fn joined<A: Allocator>(
+    alloc: A,
+    head: &[u8],
+    blocks: &[&[u8]],
+    order: &[JobNo],
+) -> Result<Vec<u8, A>, AllocError>
+    requires { All (λ job. job < length blocks.now) order.now }
+    ensures { IfOk result (λ text. text.items ≡ head.now ++ flat_map (λ job. slice_index_or (map (λ block. block.now) blocks.now) job []) order.now) }
+{
+    let mut text = Vec::from_slice(alloc, head)?;
+    for job in order {
+        text.extend_from_slice(blocks[job.0 as usize])?;
+    }
+    Ok(text)
+}
+
+/// Whether the last line has its end.
+fn has_line_end(text: &[u8]) -> bool
+    ensures { result ≡ ends_with_byte 10 text.now }
+{
+    match text {
+        [] => false,
+        [.., last] => *last == b'\n',
+    }
+}
+
+/// A text with an end for its last line.
+#[tactic(auto, unfolding(crate::specs::Arranged::with_line_end))]
+pub(crate) fn with_line_end<A: Allocator>(alloc: A, text: &[u8]) -> Result<Vec<u8, A>, AllocError>
+    ensures { IfOk result (λ whole. whole.items ≡ with_line_end text.now) }
+{
+    let mut whole = Vec::from_slice(alloc, text)?;
+    if !has_line_end(text) {
+        whole.push(b'\n')?;
+    }
+    Ok(whole)
+}
+
+/// A text with the blocks of its jobs in this order, where it has one for each.
+pub(crate) fn moved<A: Allocator + Copy>(
+    alloc: A,
+    text: &[u8],
+    order: &[JobNo],
+) -> Result<Option<Vec<u8, A>>, AllocError>
+    requires { All (λ job. job < length order.now) order.now }
+    ensures { IfOk result (λ made. IfSome made (λ moved. MovesBlocks text.now order.now moved.items)) }
+{
+    let (head, rest) = text.split_at(up_to_job(text));
+    let blocks = blocks_of(alloc, rest)?;
+    if blocks.len() != order.len() {
+        return Ok(None);
+    }
+    let made = joined(alloc, head, &blocks, order)?;
+    Ok(Some(made))
+}

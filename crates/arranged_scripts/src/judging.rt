@@ -1,0 +1,52 @@
+// A script with its jobs in another order, judged by what it is read as.
+ghost use Rattle.std.specs.Prelude.{IfOk, IfSome};
+ghost use Rattle.script_reader.specs.Script.{ScriptMeans};
+ghost use Rattle.arranged_scripts.specs.Arranged.{IsArranged};
+
+use crate::cutting::{moved, with_line_end};
+use arranging::{colours_of, is_arrangement, order_of};
+use lab_plan::Plan;
+use script_reader::{ScriptCause, read_plan};
+use std::alloc::{AllocError, Allocator};
+
+/// The plan that a text of our own is read as, where it is one.
+fn read_back<A: Allocator + Copy>(alloc: A, text: &[u8]) -> Result<Option<Plan<A>>, AllocError>
+    ensures { IfOk result (λ read. IfSome read (λ plan. ScriptMeans text.now plan)) }
+{
+    match read_plan(alloc, text) {
+        Ok(plan) => Ok(Some(plan)),
+        Err(fault) => match fault.cause {
+            ScriptCause::NoMemory => Err(AllocError),
+            _ => Ok(None),
+        },
+    }
+}
+
+/// A script of this plan with its jobs in the order of their colours: jobs that share an instrument get different ones, as few as
+/// DSATUR finds. Comments directly above a job's line stay with it. What was made is read again and judged: None where it isn't read
+/// as these jobs in this order, which was never met. Memory is taken for the text twice, and for a second plan.
+pub fn arranged_script<A: Allocator + Copy>(
+    alloc: A,
+    plan: &Plan<A>,
+    input: &[u8],
+) -> Result<Option<Vec<u8, A>>, AllocError>
+    ensures { IfOk result (λ made. IfSome made (λ text. IsArranged plan.now input.now text.items)) }
+{
+    // (asked for its clause that the plan keeps every limit)
+    let _ = plan.jobs();
+    let colouring = colours_of(alloc, plan)?;
+    let order = order_of(alloc, &colouring)?;
+    let whole = with_line_end(alloc, input)?;
+    let made = moved(alloc, &whole, &order)?;
+    let Some(text) = made else {
+        return Ok(None);
+    };
+    let read = read_back(alloc, &text)?;
+    let Some(other) = read else {
+        return Ok(None);
+    };
+    if !is_arrangement(plan, &colouring, &order, &other) {
+        return Ok(None);
+    }
+    Ok(Some(text))
+}

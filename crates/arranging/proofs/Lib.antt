@@ -1,0 +1,4 @@
+pub mod Orders
+pub mod Chains
+pub mod Colourings
+pub mod Arrangements

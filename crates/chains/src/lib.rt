@@ -1,0 +1,7 @@
+//! Chains of precedence at THE opening: jobs, each of which precedes the next. While both are hungry, the next one waits for the meal
+//! of the one before it.
+#![tactic(auto)]
+
+mod chain;
+
+pub use chain::{Chain, longest_chain};

@@ -1,0 +1,17 @@
+//! The bench in a program of one's own: it opens with its desks, and each job's owner takes turns until something holds, or
+//! serves the neighbours, on a thread of his own.
+//!
+//! Every call asks that the desk is of the bench, and leaves it so; `open` is where that begins.
+#![tactic(auto)]
+
+mod opening;
+mod owners;
+mod serving;
+mod taking;
+mod until;
+
+pub use opening::open;
+pub use owners::{Owner, on_threads};
+pub use serving::{meal, serve, visit_all};
+pub use taking::{take_turn, turns_until, turns_until_all_retired};
+pub use until::{Until, is_at};

@@ -1,0 +1,80 @@
+//! Turns, one or many, which leave the desk at its bench.
+ghost use Rattle.std.specs.Prelude.{◌↔◌, IsTrue};
+ghost use Rattle.edge_rule.specs.DeskView.{Owns};
+ghost use Rattle.locality.specs.AtTheEnd.{AllRetired};
+ghost use Rattle.session_layer.specs.Turn.{Took};
+ghost use Rattle.desk_user.specs.Use.{IsAt, Keeps, TookUpTo};
+
+use crate::until::{Until, is_at};
+use edge_rule::{Bench, Desk};
+use session_layer::{Turned, all_retired, turn};
+use std::alloc::Allocator;
+use std::thread::yield_now;
+
+/// One turn, as `session_layer::turn` takes it.
+pub fn take_turn<A: Allocator>(bench: &Bench<A>, desk: &mut Desk<A>) -> Turned
+    requires own { Owns bench.now desk.old }
+    ensures keeps { Keeps bench.now desk.old desk.new }
+    ensures took { Took desk.old result desk.new }
+{
+    turn(bench, desk)
+}
+
+/// Takes turns until the job has come so far, at most this many, and answers whether it has. Where it has already, no turn is taken. A turn also begins the
+/// next session, where the job is in none and has one left.
+pub fn turns_until<A: Allocator>(
+    bench: &Bench<A>,
+    desk: &mut Desk<A>,
+    until: Until,
+    most: u32,
+) -> bool
+    requires own { Owns bench.now desk.old }
+    ensures keeps { Keeps bench.now desk.old desk.new }
+    ensures took { TookUpTo most desk.old desk.new }
+    ensures says { IsTrue result ↔ IsAt until desk.new }
+{
+    for _number in 0..most {
+        if is_at(bench, desk, until) {
+            return true;
+        }
+        if turn(bench, desk) == Turned::Idle {
+            // What it waits for is another thread's to do.
+            yield_now();
+        }
+    }
+    is_at(bench, desk, until)
+}
+
+// Whether the desk saw that all jobs are retired. It glances at the others once its own job is: a glance takes a word away from
+// the thread that writes it.
+fn saw_all_retired<A: Allocator>(bench: &Bench<A>, desk: &mut Desk<A>) -> bool
+    requires own { Owns bench.now desk.old }
+    ensures keeps { Keeps bench.now desk.old desk.new }
+    ensures took { TookUpTo 0 desk.old desk.new }
+    ensures done { IsTrue result → AllRetired desk.new.plan desk.new.front }
+{
+    desk.retired() && all_retired(bench, desk)
+}
+
+/// Takes turns until the desk saw that all jobs are retired, at most this many, and answers whether it did. A retired job goes on giving what it is asked
+/// for in its turns.
+pub fn turns_until_all_retired<A: Allocator>(
+    bench: &Bench<A>,
+    desk: &mut Desk<A>,
+    most: u32,
+) -> bool
+    requires own { Owns bench.now desk.old }
+    ensures keeps { Keeps bench.now desk.old desk.new }
+    ensures took { TookUpTo most desk.old desk.new }
+    ensures done { IsTrue result → AllRetired desk.new.plan desk.new.front }
+{
+    for _number in 0..most {
+        if saw_all_retired(bench, desk) {
+            return true;
+        }
+        if turn(bench, desk) == Turned::Idle {
+            yield_now();
+        }
+    }
+    saw_all_retired(bench, desk)
+}

@@ -1,0 +1,5 @@
+pub mod Input
+pub mod Faults
+pub mod Answers
+pub mod Numbers
+pub mod Words

@@ -1,0 +1,53 @@
+// Numbers of the command line: plain digits, however many zeros lead.
+ghost use Rattle.std.specs.Prelude.{◌≡◌, ◌≤◌, true, min, IfSome};
+ghost use Rattle.std.specs.List.{list_all};
+ghost use Rattle.lab_plan.specs.Names.{is_digit};
+ghost use Rattle.script_reader.specs.Number.{number_of};
+ghost use Rattle.lab_program.specs.Numbers.{number_within};
+
+fn is_digit(byte: u8) -> bool
+    ensures { result ≡ is_digit byte }
+{
+    b'0' <= byte && byte <= b'9'
+}
+
+fn are_digits(word: &[u8]) -> bool
+    ensures { result ≡ list_all is_digit word.now }
+{
+    word.iter().all(|byte| is_digit(*byte))
+}
+
+/// The number that digits spell; of a larger number than 1000000000 no more than that it is larger.
+fn capped_number(word: &[u8]) -> u64
+    requires { list_all is_digit word.now ≡ true }
+    ensures { result ≡ min (number_of word.now) 1000000001 }
+{
+    let mut number = 0u64;
+    for byte in word {
+        number = (10 * number + (*byte - b'0') as u64).min(1_000_000_001);
+    }
+    number
+}
+
+/// The number that a word of the command line spells in plain digits, where it is within these bounds, both at most
+/// 1000000000; zeros may lead, a sign may not.
+pub fn number_within(word: &[u8], least: u32, most: u32) -> Option<u32>
+    requires { (least ≤ 1000000000) × (most ≤ 1000000000) }
+    ensures number { result ≡ number_within least most word.now }
+    ensures bounds { IfSome result (λ n. (least ≤ n) × (n ≤ most)) }
+{
+    if word.is_empty() {
+        return None;
+    }
+    if !are_digits(word) {
+        return None;
+    }
+    let number = capped_number(word);
+    if number < u64::from(least) {
+        return None;
+    }
+    if u64::from(most) < number {
+        return None;
+    }
+    Some(number as u32)
+}

@@ -1,0 +1,65 @@
+//! The plan: a robot brings a sample to each of two stations, the stations weigh them, and an inspector looks at both.
+use lab_plan::{Plan, PlanBuilder, Verb, is_name};
+use std::alloc::Global;
+
+pub(crate) const JOBS: [&str; 4] = ["robot", "station-a", "station-b", "inspector"];
+
+pub(crate) const INSTRUMENTS: [&str; 4] = ["arm", "bench-a", "bench-b", "scale"];
+
+#[derive(Clone, Copy)]
+enum Line {
+    Job(&'static str),
+    Session,
+    Command(&'static str, Verb),
+}
+
+const LINES: [Line; 20] = [
+    Line::Job("robot"),
+    Line::Session,
+    Line::Command("arm", Verb::Add(1)),
+    Line::Command("bench-a", Verb::Set(1)),
+    Line::Session,
+    Line::Command("arm", Verb::Add(1)),
+    Line::Command("bench-b", Verb::Set(2)),
+    Line::Job("station-a"),
+    Line::Session,
+    Line::Command("bench-a", Verb::Add(10)),
+    Line::Command("scale", Verb::Add(1)),
+    Line::Job("station-b"),
+    Line::Session,
+    Line::Command("bench-b", Verb::Add(10)),
+    Line::Command("scale", Verb::Add(1)),
+    Line::Job("inspector"),
+    Line::Session,
+    Line::Command("bench-a", Verb::Read),
+    Line::Command("bench-b", Verb::Read),
+    Line::Command("scale", Verb::Read),
+];
+
+// What a call of the builder asks is tested right before it: then nothing about the lines has to be proved.
+fn put(builder: &mut PlanBuilder, line: Line) -> bool {
+    match line {
+        Line::Job(name) => is_name(name.as_bytes()) && builder.job(name.as_bytes()).is_ok(),
+        Line::Session => builder.has_job() && builder.session().is_ok(),
+        Line::Command(name, verb) => {
+            is_name(name.as_bytes())
+                && verb.fits()
+                && builder.has_session()
+                && builder.command(name.as_bytes(), verb).is_ok()
+        }
+    }
+}
+
+/// The plan, or none where there is no memory.
+pub(crate) fn planned(alloc: Global) -> Option<Plan> {
+    let mut builder = PlanBuilder::new(alloc);
+    for line in LINES {
+        if !put(&mut builder, line) {
+            return None;
+        }
+    }
+    match builder.finish() {
+        Ok(plan) => Some(plan),
+        Err(_) => None,
+    }
+}

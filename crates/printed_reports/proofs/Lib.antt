@@ -1,0 +1,13 @@
+pub mod Cuts
+pub mod Decimals
+pub mod Spelled
+pub mod SameLine
+pub mod SameReport
+pub mod PrintedText
+pub mod Written
+pub mod PrintedFits
+pub mod ReportBack
+pub mod Orders
+pub mod Places
+pub mod PrintedTimeline
+pub mod NoFault

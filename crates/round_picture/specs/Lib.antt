@@ -1,0 +1,4 @@
+pub mod Scale
+pub mod Sessions
+pub mod Meals
+pub mod Gantt

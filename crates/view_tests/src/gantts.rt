@@ -1,0 +1,146 @@
+// What `labview gantt` draws, by its bytes.
+use lab_program::{FromRead, Outcome, RunFault};
+use lab_views::run_gantt;
+use report::ToWrite;
+use round_picture::pictures_are_narrow;
+use script_reader::{ScriptCause, ScriptFault};
+use std::alloc::Global;
+
+fn drawn(alloc: Global, input: &str, limit: u32) -> (Vec<u8>, Result<Outcome, RunFault>) {
+    let mut bytes = Vec::new(alloc);
+    let mut source = FromRead::new(input.as_bytes());
+    let mut sink = ToWrite::new(&mut bytes);
+    let answer = run_gantt(alloc, &mut source, &mut sink, limit);
+    (bytes, answer)
+}
+
+/// Whether the text is these two, one after the other.
+fn is_both(text: &[u8], first: &str, second: &str) -> bool {
+    text.len() == first.len().saturating_add(second.len())
+        && text.starts_with(first.as_bytes())
+        && text.ends_with(second.as_bytes())
+}
+
+// Two jobs that share a scale: a drinks at once, b once it eats.
+const SHARED: &str = "lab 1\njob a\nsession\nscale add 1\nend\njob b\nsession\nscale add 1\nend\n";
+
+// The head of a picture of two jobs and few rounds.
+const HEAD: &str = "<?xml version=\"1.0\" encoding=\"UTF-8\"?>
+<svg xmlns=\"http://www.w3.org/2000/svg\" version=\"1.1\" width=\"720\" height=\"180\" viewBox=\"0 0 720 180\" font-family=\"monospace\" font-size=\"10\">
+<title>A run by rounds</title>
+<rect width=\"100%\" height=\"100%\" fill=\"#fff\"/>
+<g transform=\"translate(10 10)\"><rect width=\"30\" height=\"16\" fill=\"#fff4d9\" stroke=\"#c77f00\" stroke-dasharray=\"3 2\"/><text x=\"36\" y=\"12\">thirsty</text><rect x=\"100\" width=\"30\" height=\"16\" fill=\"#56b4e9\" stroke=\"#222\"/><text x=\"136\" y=\"12\">session S holds its instruments</text><text x=\"103\" y=\"12\">S</text><path d=\"M350 8m-5-5l10 10m0-10l-10 10\" fill=\"none\" stroke=\"#d00000\" stroke-width=\"2\"/><text x=\"362\" y=\"12\">given up</text><path d=\"M440 8h30\" stroke=\"#777\" stroke-width=\"2\" stroke-dasharray=\"2 3\"/><text x=\"476\" y=\"12\">hungry</text><path d=\"M540 8h30\" stroke=\"#222\" stroke-width=\"5\"/><text x=\"576\" y=\"12\">eats</text></g>
+<text x=\"10\" y=\"84\" fill=\"#555\">round</text>
+";
+
+// By hand, 24 units a round: a is thirsty in round 1, drinks in 2 and is done in 4; b is thirsty in 1, drinks in 5 and is done in 7;
+// it is hungry from 2, sits in 4 and leaves in 8.
+const ALL_ROUNDS: &str = "<text x=\"10\" y=\"50\" font-size=\"13\">rounds 9 finished
+</text>
+<g transform=\"translate(150 90)\">
+<path d=\"M0 0V80\" stroke=\"#ddd\"/><text x=\"0\" y=\"-6\" text-anchor=\"middle\" fill=\"#555\">0</text>
+<path d=\"M24 0V80\" stroke=\"#ddd\"/><text x=\"24\" y=\"-6\" text-anchor=\"middle\" fill=\"#555\">1</text>
+<path d=\"M48 0V80\" stroke=\"#ddd\"/><text x=\"48\" y=\"-6\" text-anchor=\"middle\" fill=\"#555\">2</text>
+<path d=\"M72 0V80\" stroke=\"#ddd\"/><text x=\"72\" y=\"-6\" text-anchor=\"middle\" fill=\"#555\">3</text>
+<path d=\"M96 0V80\" stroke=\"#ddd\"/><text x=\"96\" y=\"-6\" text-anchor=\"middle\" fill=\"#555\">4</text>
+<path d=\"M120 0V80\" stroke=\"#ddd\"/><text x=\"120\" y=\"-6\" text-anchor=\"middle\" fill=\"#555\">5</text>
+<path d=\"M144 0V80\" stroke=\"#ddd\"/><text x=\"144\" y=\"-6\" text-anchor=\"middle\" fill=\"#555\">6</text>
+<path d=\"M168 0V80\" stroke=\"#ddd\"/><text x=\"168\" y=\"-6\" text-anchor=\"middle\" fill=\"#555\">7</text>
+<path d=\"M192 0V80\" stroke=\"#ddd\"/><text x=\"192\" y=\"-6\" text-anchor=\"middle\" fill=\"#555\">8</text>
+<path d=\"M216 0V80\" stroke=\"#ddd\"/><text x=\"216\" y=\"-6\" text-anchor=\"middle\" fill=\"#555\">9</text>
+<g transform=\"translate(0 0)\"><path d=\"M-140 38H216\" stroke=\"#bbb\"/><text x=\"-140\" y=\"18\" font-size=\"12\">a</text>
+<g><title>a session 1: scale; thirsty 1 drinks 2 done 4 waited 1</title><rect x=\"24\" y=\"4\" width=\"24\" height=\"16\" fill=\"#fff4d9\" stroke=\"#c77f00\" stroke-dasharray=\"3 2\"/><rect x=\"48\" y=\"4\" width=\"48\" height=\"16\" fill=\"#56b4e9\" stroke=\"#222\"/><text x=\"51\" y=\"16\">1</text></g>
+</g>
+<g transform=\"translate(0 40)\"><path d=\"M-140 38H216\" stroke=\"#bbb\"/><text x=\"-140\" y=\"18\" font-size=\"12\">b</text>
+<g><title>b session 1: scale; thirsty 1 drinks 5 done 7 waited 4</title><rect x=\"24\" y=\"4\" width=\"96\" height=\"16\" fill=\"#fff4d9\" stroke=\"#c77f00\" stroke-dasharray=\"3 2\"/><rect x=\"120\" y=\"4\" width=\"48\" height=\"16\" fill=\"#56b4e9\" stroke=\"#222\"/><text x=\"123\" y=\"16\">1</text></g>
+<path d=\"M48 28h48\" stroke=\"#777\" stroke-width=\"2\" stroke-dasharray=\"2 3\"/><path d=\"M96 28h96\" stroke=\"#222\" stroke-width=\"5\"/>
+</g>
+</g>
+</svg>
+";
+
+// After three rounds a has the scale still, and b is thirsty and hungry.
+const THREE_ROUNDS: &str = "<text x=\"10\" y=\"50\" font-size=\"13\">rounds 3 unfinished
+</text>
+<g transform=\"translate(150 90)\">
+<path d=\"M0 0V80\" stroke=\"#ddd\"/><text x=\"0\" y=\"-6\" text-anchor=\"middle\" fill=\"#555\">0</text>
+<path d=\"M24 0V80\" stroke=\"#ddd\"/><text x=\"24\" y=\"-6\" text-anchor=\"middle\" fill=\"#555\">1</text>
+<path d=\"M48 0V80\" stroke=\"#ddd\"/><text x=\"48\" y=\"-6\" text-anchor=\"middle\" fill=\"#555\">2</text>
+<path d=\"M72 0V80\" stroke=\"#ddd\"/><text x=\"72\" y=\"-6\" text-anchor=\"middle\" fill=\"#555\">3</text>
+<g transform=\"translate(0 0)\"><path d=\"M-140 38H72\" stroke=\"#bbb\"/><text x=\"-140\" y=\"18\" font-size=\"12\">a</text>
+<g><title>a session 1: scale; thirsty 1 drinks 2 waited 1</title><rect x=\"24\" y=\"4\" width=\"24\" height=\"16\" fill=\"#fff4d9\" stroke=\"#c77f00\" stroke-dasharray=\"3 2\"/><rect x=\"48\" y=\"4\" width=\"24\" height=\"16\" fill=\"#56b4e9\" stroke=\"#222\"/><text x=\"51\" y=\"16\">1</text></g>
+</g>
+<g transform=\"translate(0 40)\"><path d=\"M-140 38H72\" stroke=\"#bbb\"/><text x=\"-140\" y=\"18\" font-size=\"12\">b</text>
+<g><title>b session 1: scale; thirsty 1 waits</title><rect x=\"24\" y=\"4\" width=\"48\" height=\"16\" fill=\"#fff4d9\" stroke=\"#c77f00\" stroke-dasharray=\"3 2\"/><text x=\"27\" y=\"16\">1</text></g>
+<path d=\"M48 28h24\" stroke=\"#777\" stroke-width=\"2\" stroke-dasharray=\"2 3\"/>
+</g>
+</g>
+</svg>
+";
+
+// Before the first round there is nothing but the scale's 0.
+const NO_ROUNDS: &str = "<text x=\"10\" y=\"50\" font-size=\"13\">rounds 0 unfinished
+</text>
+<g transform=\"translate(150 90)\">
+<path d=\"M0 0V80\" stroke=\"#ddd\"/><text x=\"0\" y=\"-6\" text-anchor=\"middle\" fill=\"#555\">0</text>
+<g transform=\"translate(0 0)\"><path d=\"M-140 38H0\" stroke=\"#bbb\"/><text x=\"-140\" y=\"18\" font-size=\"12\">a</text>
+</g>
+<g transform=\"translate(0 40)\"><path d=\"M-140 38H0\" stroke=\"#bbb\"/><text x=\"-140\" y=\"18\" font-size=\"12\">b</text>
+</g>
+</g>
+</svg>
+";
+
+// b gives up in its first turn in which it is thirsty at the start.
+const IMPATIENT: &str =
+    "lab 2\njob a\nsession\nscale add 1\nend\njob b\nsession patience 0\nscale add 1\nend\n";
+
+const GIVEN_UP: &str = "<text x=\"10\" y=\"50\" font-size=\"13\">rounds 5 finished
+</text>
+<g transform=\"translate(150 90)\">
+<path d=\"M0 0V80\" stroke=\"#ddd\"/><text x=\"0\" y=\"-6\" text-anchor=\"middle\" fill=\"#555\">0</text>
+<path d=\"M24 0V80\" stroke=\"#ddd\"/><text x=\"24\" y=\"-6\" text-anchor=\"middle\" fill=\"#555\">1</text>
+<path d=\"M48 0V80\" stroke=\"#ddd\"/><text x=\"48\" y=\"-6\" text-anchor=\"middle\" fill=\"#555\">2</text>
+<path d=\"M72 0V80\" stroke=\"#ddd\"/><text x=\"72\" y=\"-6\" text-anchor=\"middle\" fill=\"#555\">3</text>
+<path d=\"M96 0V80\" stroke=\"#ddd\"/><text x=\"96\" y=\"-6\" text-anchor=\"middle\" fill=\"#555\">4</text>
+<path d=\"M120 0V80\" stroke=\"#ddd\"/><text x=\"120\" y=\"-6\" text-anchor=\"middle\" fill=\"#555\">5</text>
+<g transform=\"translate(0 0)\"><path d=\"M-140 38H120\" stroke=\"#bbb\"/><text x=\"-140\" y=\"18\" font-size=\"12\">a</text>
+<g><title>a session 1: scale; thirsty 1 drinks 2 done 4 waited 1</title><rect x=\"24\" y=\"4\" width=\"24\" height=\"16\" fill=\"#fff4d9\" stroke=\"#c77f00\" stroke-dasharray=\"3 2\"/><rect x=\"48\" y=\"4\" width=\"48\" height=\"16\" fill=\"#56b4e9\" stroke=\"#222\"/><text x=\"51\" y=\"16\">1</text></g>
+</g>
+<g transform=\"translate(0 40)\"><path d=\"M-140 38H120\" stroke=\"#bbb\"/><text x=\"-140\" y=\"18\" font-size=\"12\">b</text>
+<g><title>b session 1: scale; thirsty 1 given up 2</title><rect x=\"24\" y=\"4\" width=\"24\" height=\"16\" fill=\"#fff4d9\" stroke=\"#c77f00\" stroke-dasharray=\"3 2\"/><text x=\"27\" y=\"16\">1</text><path d=\"M48 12m-5-5l10 10m0-10l-10 10\" fill=\"none\" stroke=\"#d00000\" stroke-width=\"2\"/></g>
+</g>
+</g>
+</svg>
+";
+
+#[test]
+fn runs_by_hand(rt: HostRuntime) {
+    for (script, limit, wanted) in [
+        (SHARED, 1000000000, ALL_ROUNDS),
+        (SHARED, 3, THREE_ROUNDS),
+        (SHARED, 0, NO_ROUNDS),
+        (IMPATIENT, 20, GIVEN_UP),
+    ] {
+        let (text, answer) = drawn(rt.alloc(), script, limit);
+        assert!(rt;
+            answer == Ok(Outcome::Finished) && is_both(&text, HEAD, wanted),
+            "{wanted}"
+        );
+    }
+}
+
+#[test]
+fn no_script_has_no_run(rt: HostRuntime) {
+    let (text, answer) = drawn(rt.alloc(), "lab 1\nsession\n", 7);
+    let fault = ScriptFault {
+        line: 2,
+        cause: ScriptCause::NotInJob,
+    };
+    assert!(rt; answer == Err(RunFault::Script(fault)) && text.is_empty());
+}
+
+#[test]
+fn laws_can_be_called(_rt: HostRuntime) {
+    pictures_are_narrow();
+}

@@ -1,0 +1,86 @@
+// What `labview waits` writes, by its bytes.
+use lab_program::{FromRead, Outcome, RunFault};
+use lab_views::run_waits;
+use report::ToWrite;
+use script_reader::{ScriptCause, ScriptFault};
+use std::alloc::Global;
+
+fn told(alloc: Global, input: &str, limit: u32) -> (Vec<u8>, Result<Outcome, RunFault>) {
+    let mut bytes = Vec::new(alloc);
+    let mut source = FromRead::new(input.as_bytes());
+    let mut sink = ToWrite::new(&mut bytes);
+    let answer = run_waits(alloc, &mut source, &mut sink, limit);
+    (bytes, answer)
+}
+
+// Two jobs that share a scale. The fork and the bottle start at a, so b precedes a.
+const SHARED: &str = "lab 1\njob a\nsession\nscale add 1\nend\njob b\nsession\nscale add 1\nend\n";
+
+// By hand: in round 1 both are thirsty; a drinks in round 2, acts, and is done in round 4, in which b sits down; in round
+// 5 a gives the bottle and b drinks; b acts, is done in round 7, leaves, and retires in round 9.
+const ALL_ROUNDS: &str = "rounds 9 finished
+session a 1 thirsty 1 drinks 2 done 4 waited 1
+session b 1 thirsty 1 drinks 5 done 7 waited 4
+job a waited 1 longest 1
+job b waited 4 longest 4
+longest wait 4 b 1
+chain 2 b a
+";
+
+// After three rounds a has the scale still, and b waits.
+const THREE_ROUNDS: &str = "rounds 3 unfinished
+session a 1 thirsty 1 drinks 2 waited 1
+session b 1 thirsty 1 waits
+job a waited 1 longest 1
+job b waited 2 longest 2
+longest wait 2 b 1
+chain 2 b a
+";
+
+// Before the first round nobody has begun anything.
+const NO_ROUNDS: &str = "rounds 0 unfinished
+job a waited 0 longest 0
+job b waited 0 longest 0
+longest wait 0
+chain 2 b a
+";
+
+// b gives up in its first turn in which it is thirsty at the start.
+const IMPATIENT: &str =
+    "lab 2\njob a\nsession\nscale add 1\nend\njob b\nsession patience 0\nscale add 1\nend\n";
+
+const GIVEN_UP: &str = "rounds 5 finished
+session a 1 thirsty 1 drinks 2 done 4 waited 1
+session b 1 thirsty 1 given up 2
+job a waited 1 longest 1
+job b waited 1 longest 1
+longest wait 1 a 1
+chain 2 b a
+";
+
+#[test]
+fn waits_by_hand(rt: HostRuntime) {
+    for (script, limit, wanted) in [
+        (SHARED, 1000000000, ALL_ROUNDS),
+        (SHARED, 3, THREE_ROUNDS),
+        (SHARED, 0, NO_ROUNDS),
+        (IMPATIENT, 20, GIVEN_UP),
+        ("lab 1\n", 7, "rounds 0 finished\nlongest wait 0\nchain 0\n"),
+    ] {
+        let (text, answer) = told(rt.alloc(), script, limit);
+        assert!(rt;
+            answer == Ok(Outcome::Finished) && text.as_slice() == wanted.as_bytes(),
+            "{wanted}"
+        );
+    }
+}
+
+#[test]
+fn no_script_has_no_waits(rt: HostRuntime) {
+    let (text, answer) = told(rt.alloc(), "lab 1\nsession\n", 7);
+    let fault = ScriptFault {
+        line: 2,
+        cause: ScriptCause::NotInJob,
+    };
+    assert!(rt; answer == Err(RunFault::Script(fault)) && text.is_empty());
+}

@@ -1,0 +1,9 @@
+pub mod Parts
+pub mod Last
+pub mod Marks
+pub mod OneTurn
+pub mod Logs
+pub mod Stands
+pub mod Ranges
+pub mod Known
+pub mod Pieces

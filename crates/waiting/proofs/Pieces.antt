@@ -1,0 +1,12 @@
+-- Pieces of a text, one after another.
+use Rattle.std.proofs.Common.{◌≡◌, ℕ, List, ◌++◌, ap, ◌∙◌, append_assoc}
+
+pub two : (old x y a b : List ℕ) → x ≡ old ++ a → y ≡ x ++ b → y ≡ old ++ (a ++ b)
+two old x y a b p q = q ∙ (ap (λ t. t ++ b) p ∙ append_assoc old a b)
+
+three : (old x y z a b c : List ℕ) → x ≡ old ++ a → y ≡ x ++ b → z ≡ y ++ c → z ≡ old ++ (a ++ b ++ c)
+three old x y z a b c p q r = two old y z (a ++ b) c (two old x y a b p q) r
+
+pub five : (old x y z u v a b c d e : List ℕ) → x ≡ old ++ a → y ≡ x ++ b → z ≡ y ++ c → u ≡ z ++ d → v ≡ u ++ e
+    → v ≡ old ++ (a ++ b ++ c ++ d ++ e)
+five old x y z u v a b c d e p q r s t = three old z u v (a ++ b ++ c) d e (three old x y z a b c p q r) s t

@@ -1,0 +1,18 @@
+use Rattle.std.proofs.Common.{Bool, sym, ap, ◌∙◌, if◌then◌else◌, ◌++◌, [], ◌∷◌}
+use Rattle.waiting.specs.Noting.{begun_meal, meal_then, on_last}
+use Rattle.waiting.proofs.Last.{set_last, no_last}
+use Rattle.waiting.proofs.job_log.note_meals.Goals as goal
+
+pub returns-then-count-gt0 : goal.returns-then-count-gt0
+returns-then-count-gt0 g c =
+    let l = c.args.meals.now.items in
+    let f = meal_then c.args.round c.args.before c.args.after in
+    set_last f l c.len-count.result c.index.result.now c.after.result (c.len-count.ensures ∙ c.args.meals.now.ok.0) c.if-count-gt0.true c.index.ensures c.after.ensures
+    ∙ sym (ap (λ (b : Bool). if b then l ++ begun_meal c.args.round ∷ [] else on_last f l) (sym c.begins_meal.ensures ∙ c.if-begins_meal.false))
+
+pub returns-else-count-gt0 : goal.returns-else-count-gt0
+returns-else-count-gt0 g c =
+    let l = c.args.meals.now.items in
+    let f = meal_then c.args.round c.args.before c.args.after in
+    sym (no_last f l c.len-count.result (c.len-count.ensures ∙ c.args.meals.now.ok.0) c.if-count-gt0.false)
+    ∙ sym (ap (λ (b : Bool). if b then l ++ begun_meal c.args.round ∷ [] else on_last f l) (sym c.begins_meal.ensures ∙ c.if-begins_meal.false))

@@ -1,0 +1,6 @@
+pub mod Rounds
+pub mod Sessions
+pub mod Noting
+pub mod Waits
+pub mod Watching
+pub mod Text
