@@ -15,16 +15,16 @@ wide_within w k few = mul-le-mul_right k few
 -- a width of at most what all have is within it, or it is one
 width_within : (q w last : ℕ) → q * max last 1 ≤ 1200 → w ≤ max q 1 → last ≤ 4000 → w * last ≤ 4000
 width_within q w last all few short = elim (cases_lt 0 q) [
-    | inl some ↦
+  | inl some ↦
       let thin : w ≤ q = omega (arith, few, some) in
       let one = mul-le-mul_right last thin in
       let two : q * last ≤ q * max last 1 = mul-le-mul_left q (omega arith) in
       omega (arith, one, two, all)
-    | inr none ↦
+  | inr none ↦
       let thin : w ≤ 1 = omega (arith, few, none) in
       let one = mul-le-mul_right last thin in
       omega (arith, one, short)
-  ]
+]
 
 place_within : (last : ℕ) → place last last ≤ 4000
 unfolding place
