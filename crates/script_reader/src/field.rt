@@ -1,20 +1,50 @@
 // The fields of a line, which spaces and tabs separate.
-ghost use Rattle.std.specs.Prelude.{◌≡◌, ◌≢◌, ◌<◌, ◌↔◌, [], ◌∷◌, All, length, IfSome, IsNone, IsTrue, MatchOption};
-ghost use Rattle.script_reader.specs.Fields.{fields, IsGap, CutsField};
+ghost use Rattle.std.specs.Prelude.{◌≡◌, ◌≢◌, ◌<◌, ◌≤◌, ◌↔◌, ℕ, [], ◌∷◌, All, length, slice_index, IfSome, IsNone, IsTrue, MatchOption};
+ghost use Rattle.script_reader.specs.Fields.{fields, is_gap, IsGap, IsInk, CutsField};
 
-use bstr::ByteSlice;
+fn is_gap(byte: u8) -> bool
+    ensures { result ≡ is_gap byte }
+{
+    byte == b' ' || byte == b'\t'
+}
+
+// How many gaps the line begins with.
+fn gaps(line: &[u8]) -> usize
+    ensures within { result ≤ length line.now }
+    ensures gaps { (i : ℕ) → i < result → IsGap (slice_index line.now i) }
+    ensures ink { result < length line.now → IsInk (slice_index line.now result) }
+{
+    let mut end = 0;
+    while end < line.len() && is_gap(line[end]) {
+        end += 1;
+    }
+    end
+}
+
+// How many bytes the line has before its first gap.
+fn ink(line: &[u8]) -> usize
+    ensures within { result ≤ length line.now }
+    ensures ink { (i : ℕ) → i < result → IsInk (slice_index line.now i) }
+    ensures gap { result < length line.now → IsGap (slice_index line.now result) }
+{
+    let mut end = 0;
+    while end < line.len() && !is_gap(line[end]) {
+        end += 1;
+    }
+    end
+}
 
 /// The first field of a line, and what follows it.
 fn first_field(line: &[u8]) -> Option<(&[u8], &[u8])>
     ensures none { IsNone result → All IsGap line.now }
     ensures some { IfSome result (λ r. CutsField line.now r.0.now r.1.now) }
 {
-    let start = line.find_not_byteset(b" \t")?;
-    let rest = &line[start..];
-    match rest.find_byteset(b" \t") {
-        Some(end) => Some(rest.split_at(end)),
-        None => Some((rest, &[])),
+    let start = gaps(line);
+    if start == line.len() {
+        return None;
     }
+    let rest = &line[start..];
+    Some(rest.split_at(ink(rest)))
 }
 
 /// The first field of a line, and what follows it, whose fields are the others.
@@ -38,15 +68,6 @@ pub(crate) fn one_field(line: &[u8]) -> Option<&[u8]>
         None => Some(first),
         Some(_) => None,
     }
-}
-
-/// The two fields of a line.
-pub(crate) fn two_fields(line: &[u8]) -> Option<(&[u8], &[u8])>
-    ensures { MatchOption result (length (fields line.now) ≢ 2) (λ r. fields line.now ≡ r.0.now ∷ r.1.now ∷ []) }
-{
-    let (first, rest) = next_field(line)?;
-    let second = one_field(rest)?;
-    Some((first, second))
 }
 
 /// Whether a line has no field.

@@ -4,7 +4,7 @@ ghost use Rattle.script_reader.specs.Fields.{fields};
 ghost use Rattle.script_reader.specs.Line.{lab_line, job_line, session_line, alone, command_line, line_with, form_of, Unknown, Steps, End};
 ghost use Rattle.script_reader.specs.Form.{line_of};
 
-use crate::field::{is_blank, next_field, one_field, two_fields};
+use crate::field::{is_blank, next_field, one_field};
 
 /// The version of a script.
 #[derive(Clone, Copy, PartialEq, Eq, Debug)]
@@ -77,18 +77,12 @@ fn job_line(rest: &[u8]) -> Form
 fn session_line(rest: &[u8]) -> Form
     ensures { line_of result ≡ session_line (fields rest.now) }
 {
-    if is_blank(rest) {
+    let Some((word, rest)) = next_field(rest) else {
         return Form::Session;
-    }
-    match two_fields(rest) {
-        None => Form::Unknown,
-        Some((word, number)) => {
-            if word == b"patience".as_slice() {
-                Form::PatientSession(number)
-            } else {
-                Form::Unknown
-            }
-        }
+    };
+    match one_field(rest) {
+        Some(number) if word == b"patience".as_slice() => Form::PatientSession(number),
+        _ => Form::Unknown,
     }
 }
 
@@ -115,19 +109,24 @@ fn steps_line(rest: &[u8]) -> Form
 fn command_line<'a>(name: &'a [u8], rest: &'a [u8]) -> Form<'a>
     ensures { line_of result ≡ command_line name.now (fields rest.now) }
 {
-    if let Some(verb) = one_field(rest) {
-        if verb == b"read".as_slice() {
-            return Form::Command(name, VerbField::Read);
-        }
+    let Some((verb, rest)) = next_field(rest) else {
+        return Form::Unknown;
+    };
+    let Some((number, rest)) = next_field(rest) else {
+        return if verb == b"read".as_slice() {
+            Form::Command(name, VerbField::Read)
+        } else {
+            Form::Unknown
+        };
+    };
+    if !is_blank(rest) {
         return Form::Unknown;
     }
-    if let Some((verb, number)) = two_fields(rest) {
-        if verb == b"set".as_slice() {
-            return Form::Command(name, VerbField::Set(number));
-        }
-        if verb == b"add".as_slice() {
-            return Form::Command(name, VerbField::Add(number));
-        }
+    if verb == b"set".as_slice() {
+        return Form::Command(name, VerbField::Set(number));
+    }
+    if verb == b"add".as_slice() {
+        return Form::Command(name, VerbField::Add(number));
     }
     Form::Unknown
 }

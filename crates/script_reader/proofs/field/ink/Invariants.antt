@@ -1,0 +1,10 @@
+-- no gaps stand before the end
+use Rattle.std.proofs.Common.{ℕ, ◌<◌, ◌≤◌, ◌-◌, length, slice_index}
+use Rattle.script_reader.specs.Fields.{IsInk}
+use Rattle.script_reader.proofs.field.ink.Given as goal
+
+abbrev pub invariant-loop-end : goal.invariant-loop-end
+invariant-loop-end l = (l.end ≤ length l.line) × ((i : ℕ) → i < l.end → IsInk (slice_index l.line i))
+
+abbrev pub decreases-loop-end : goal.decreases-loop-end
+decreases-loop-end l = length l.line - l.end
