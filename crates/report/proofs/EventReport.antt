@@ -4,8 +4,9 @@ use Rattle.std.proofs.lemmas.List.{get_or-replicate, length-replicate}
 use Rattle.lab_plan.specs.LabPlan.{LabPlan}
 use Rattle.legal_steps.specs.declared.event.Event.{Event}
 use Rattle.legal_steps.specs.State.{State, log, drinking}
-use Rattle.interleaving.specs.declared.counts.Counts.{Counts}
-use Rattle.interleaving.specs.Counting.{GoOnBy, count_at, counts_of, both_counts, no_counts}
+use Rattle.legal_steps.specs.declared.counts.Counts.{Counts}
+use Rattle.legal_steps.specs.Counting.{counts_of, no_counts}
+use Rattle.interleaving.specs.Counting.{GoOnBy, count_at, both_counts}
 use Rattle.interleaving.specs.World.{WorldView, LeadsTo}
 use Rattle.interleaving.specs.Start.{at_start}
 use Rattle.report.specs.Report.{report_of, all_retired}

@@ -2,23 +2,39 @@
 ghost use Rattle.std.specs.Prelude.{◌≡◌, ◌+◌, ◌≤◌, ◌++◌, [], length, decimal};
 ghost use Rattle.lab_plan.specs.Texts.{verb_text};
 
-use arrayvec::ArrayVec;
-use itoa::Buffer;
+use itoa::write_digits;
 use lab_plan::Verb;
 use std::marker::Model;
 
 /// One line of a text: at most `N` bytes, and no memory.
 #[derive(Drop)]
 pub struct Line<const N: usize> {
-    bytes: ArrayVec<u8, N>,
+    // The line is the first `len` of these bytes.
+    bytes: [u8; N],
+    len: usize,
 }
 
 impl<const N: usize> Model for Line<N> {
-    ghost use Rattle.std.specs.Prelude.{List, ℕ};
+    ghost use Rattle.std.specs.Prelude.{List, ℕ, ◌≤◌, take};
 
     ghost Value = { List ℕ };
 
-    ghost view = { λ l. l.bytes.items };
+    ghost view = { λ l. take l.len l.bytes };
+
+    ghost invariant = { λ l. l.len ≤ N };
+}
+
+// How many digits the number has.
+fn digits_of(number: u64) -> usize
+    ensures { result ≡ length (decimal number) }
+{
+    let mut count = 1;
+    let mut rest = number;
+    while rest >= 10 {
+        rest /= 10;
+        count += 1;
+    }
+    count
 }
 
 impl<const N: usize> Line<N> {
@@ -27,7 +43,8 @@ impl<const N: usize> Line<N> {
         ensures { result ≡ [] }
     {
         Line {
-            bytes: ArrayVec::new(),
+            bytes: [0; N],
+            len: 0,
         }
     }
 
@@ -35,7 +52,15 @@ impl<const N: usize> Line<N> {
     pub fn as_bytes(&self) -> &[u8]
         ensures { result.now ≡ self.now }
     {
-        self.bytes.as_slice()
+        let bytes = &self.bytes[..];
+        &bytes[..self.len]
+    }
+
+    /// Makes the line empty.
+    pub fn clear(&mut self)
+        ensures { self.new ≡ [] }
+    {
+        self.len = 0;
     }
 
     /// Adds a text.
@@ -44,7 +69,20 @@ impl<const N: usize> Line<N> {
         ensures text { self.new ≡ self.old ++ text.now }
         ensures len { length self.new ≡ length self.old + length text.now }
     {
-        let _ = self.bytes.try_extend_from_slice(text);
+        let end = self.len + text.len();
+        let bytes = &mut self.bytes[..];
+        bytes[self.len..end].copy_from_slice(text);
+        self.len = end;
+    }
+
+    // Adds a number in decimal.
+    fn digits(&mut self, number: u64)
+        requires { length self.old + length (decimal number) ≤ N }
+        ensures { self.new ≡ self.old ++ decimal number }
+    {
+        let end = self.len + digits_of(number);
+        let _ = write_digits(number, &mut self.bytes, end);
+        self.len = end;
     }
 
     /// Adds a number in decimal, at most 10 digits.
@@ -53,7 +91,7 @@ impl<const N: usize> Line<N> {
         ensures text { self.new ≡ self.old ++ decimal number }
         ensures len { length self.new ≤ length self.old + 10 }
     {
-        self.text(Buffer::new().format(number).as_bytes());
+        self.digits(u64::from(number));
     }
 
     /// Adds a count in decimal, at most 20 digits.
@@ -62,7 +100,7 @@ impl<const N: usize> Line<N> {
         ensures text { self.new ≡ self.old ++ decimal count }
         ensures len { length self.new ≤ length self.old + 20 }
     {
-        self.text(Buffer::new().format(count).as_bytes());
+        self.digits(count as u64);
     }
 
     /// Adds a verb with its number, at most 14 bytes.

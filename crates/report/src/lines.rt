@@ -1,5 +1,5 @@
 // The lines of reports and scripts.
-ghost use Rattle.std.specs.Prelude.{◌≡◌, ◌+◌, ◌≤◌, ◌++◌, length, Some};
+ghost use Rattle.std.specs.Prelude.{◌≡◌, ◌+◌, ◌≤◌, ◌++◌, [], length, Some};
 ghost use Rattle.lab_plan.specs.Texts.{header_line};
 ghost use Rattle.report.specs.Report.{instrument_line, entry_line, withdrawn_text, job_line};
 ghost use Rattle.lab_plan.specs.Upgrade.{session_line, command_line, name_line};
@@ -10,7 +10,7 @@ use instrument_log::Entry;
 use lab_plan::Verb;
 
 /// The longest line of a report or a script has fewer bytes.
-type TextLine = Line<128>;
+pub(crate) type TextLine = Line<128>;
 
 /// `lab 1` or `lab 2`.
 pub(crate) fn header_line(version: u8) -> TextLine
@@ -37,12 +37,12 @@ pub(crate) fn instrument_line(name: &[u8], entries: usize) -> TextLine
     line
 }
 
-/// `JOB SESSION PLACE/LENGTH VERB = VALUE`.
-pub(crate) fn entry_line(job: &[u8], entry: &Entry) -> TextLine
-    requires { length job.now ≤ 16 }
-    ensures { result ≡ entry_line job.now entry.now }
+/// Adds `JOB SESSION PLACE/LENGTH VERB = VALUE` to an empty line.
+pub(crate) fn add_entry(line: &mut TextLine, job: &[u8], entry: &Entry)
+    requires empty { line.old ≡ [] }
+    requires short { length job.now ≤ 16 }
+    ensures { line.new ≡ entry_line job.now entry.now }
 {
-    let mut line = TextLine::new();
     line.text(job);
     line.text(b" ");
     line.number(entry.session);
@@ -55,7 +55,6 @@ pub(crate) fn entry_line(job: &[u8], entry: &Entry) -> TextLine
     line.text(b" = ");
     line.number(entry.value);
     line.text(b"\n");
-    line
 }
 
 /// Adds ` withdrawn X` in version 2, nothing in version 1.

@@ -6,7 +6,7 @@ ghost use Rattle.report.specs.Taken.{Sends};
 ghost use Rattle.report.specs.Report.{instrument_line, entry_text, log_text, tally_text, all_retired, last_line, report_of, jobs, instruments};
 
 use crate::header::write_header;
-use crate::lines::{entry_line, instrument_line, job_line};
+use crate::lines::{TextLine, add_entry, instrument_line, job_line};
 use crate::offering::{WriteFault, offer};
 use crate::showing::Showing;
 use crate::sink::Sink;
@@ -41,15 +41,17 @@ fn writer_name<P: Allocator>(plan: &Plan<P>, job: JobNo) -> &[u8]
     }
 }
 
-/// An entry of a log.
+/// An entry of a log, in place of what the line had.
 fn write_entry<R: Showing<P>, P: Allocator, W: Sink>(
     run: &R,
     entry: Entry,
+    line: &mut TextLine,
     sink: &mut W,
 ) -> Result<(), WriteFault>
     ensures { Sends W.taken W.failures sink.old sink.new (entry_text (R.plan run.now) entry) result }
 {
-    let line = entry_line(writer_name(run.plan(), entry.job), &entry);
+    line.clear();
+    add_entry(line, writer_name(run.plan(), entry.job), &entry);
     offer(sink, line.as_bytes())
 }
 
@@ -62,8 +64,9 @@ fn write_entries<R: Showing<P>, P: Allocator, W: Sink>(
     requires { instrument < length (R.plan run.now).instruments }
     ensures { Sends W.taken W.failures sink.old sink.new (flat_map (entry_text (R.plan run.now)) ((R.shown run.now).log instrument)) result }
 {
+    let mut line = TextLine::new();
     for index in 0..run.entries(instrument) {
-        write_entry(run, run.entry(instrument, index), sink)?;
+        write_entry(run, run.entry(instrument, index), &mut line, sink)?;
     }
     Ok(())
 }
