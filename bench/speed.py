@@ -22,8 +22,9 @@ With `growth` it measures instead how the time of `rounds` grows, of labrun and 
 and again: the exponent that fits best is told, 1.00 where the time grows as the number of commands does (where instruments are
 doubled, which leaves that number as it is, 0.00 where it doesn't grow).
 
-With `instructions` it counts instead the instructions of all turns of `rounds`, of labrun and of the port, with valgrind's
-callgrind. They are the same at each run, whatever else the machine does. With `instructions growth` it tells how these grow.
+With `instructions` it counts instead the instructions of `rounds`, of labrun and of the port, with valgrind's callgrind: of all
+turns, of the report, and of reading the script. They are the same at each run, whatever else the machine does. With
+`instructions growth` it tells how those of the turns grow.
 
 Printed are ratios of runs, a line a workload, and their geometric means, with the goals; absolute times only at the end,
 as an aside. Where labrun hasn't the words yet, its columns are left out, and the port stands in for it.
@@ -80,6 +81,12 @@ RATIOS = (
 
 # the function that is one turn
 TURN = {"labrun rounds": "turning::turn", "port rounds": "Desk::turn"}
+# whose instructions are counted: heading, the function in each program, by what it is told, and the goals (at most): of the mean, of the worst
+COUNTED = (
+    ("turns", TURN, "command", 1.10, 1.20),
+    ("report", {"labrun rounds": "sending::send_report", "port rounds": "shared::write_report"}, "entry", 0.90, None),
+    ("reading", {"labrun rounds": "plan::read_plan", "port rounds": "shared::read_plan"}, "line", 1.00, None),
+)
 
 
 def build(folder):
@@ -239,18 +246,28 @@ def counted(words, function, data):
     return int(told[told.index("Collected") + 2])
 
 
+def sizes_of(text):
+    """How many commands a script has, how many entries the report of a whole run, and how many lines the script."""
+    commands = sum(line.startswith("i") for line in text.split("\n"))
+    return {"command": commands, "entry": commands, "line": text.count("\n")}
+
+
 def instructions(folder, runs, only):
-    """What the turns of each run by rounds take: labrun's as multiples of the port's, and of each by command."""
+    """What the turns, the report and the reading of each run by rounds take: labrun's as multiples of the port's, and of each by size."""
+    made = scripts(folder, only)
     spent = {}
-    for name, path, text in scripts(folder, only):
-        size = sum(line.startswith("i") for line in text.split("\n"))
-        spent[name] = {run: counted(runs[run][0], TURN[run], path) / size for run in TURN}
+    for name, path, text in made:
+        spent[name] = {heading: {run: counted(runs[run][0], each[run], path) for run in each} for heading, each, _, _, _ in COUNTED}
         print("%s: counted" % name, file=sys.stderr, flush=True)
-    each = [own["labrun rounds"] / own["port rounds"] for own in spent.values()]
-    rows = [["labrun rounds / port rounds"] + ["%.2f" % ratio for ratio in each] + ["%.2f" % mean(each)]]
-    for run in TURN:
-        rows.append([run + ", a command"] + ["%.0f" % own[run] for own in spent.values()] + [""])
-    table(["instructions"] + list(spent) + ["mean"], rows)
+    rows = []
+    for heading, each, unit, of_mean, of_worst in COUNTED:
+        found = [own[heading]["labrun rounds"] / own[heading]["port rounds"] for own in spent.values()]
+        goal = "%.2f" % of_mean + (", each %.2f" % of_worst if of_worst else "")
+        rows.append([heading + ", labrun / port"] + ["%.2f" % ratio for ratio in found] + ["%.2f" % mean(found), goal])
+        for run in each:
+            told = ["%.0f" % (spent[name][heading][run] / sizes_of(text)[unit]) for name, _, text in made]
+            rows.append(["%s, %s, by %s" % (heading, run.split()[0], unit)] + told + ["", ""])
+    table(["instructions"] + list(spent) + ["mean", "goal, at most"], rows)
 
 
 def main(words):

@@ -87,6 +87,8 @@ fn find_edges(plan: &mut Plan) {
     }
 }
 
+// (a function of its own in the program, so that its instructions can be counted)
+#[inline(never)]
 pub fn read_plan(text: &str) -> Plan {
     let (mut plan, mut numbers) = (Plan::default(), HashMap::new());
     for line in text.lines() {
@@ -195,6 +197,8 @@ fn put_entry(out: &mut Vec<u8>, plan: &Plan, &Entry(first, second): &Entry) {
 }
 
 /// Writes the report, by a buffer; answers whether every job is retired.
+// (a function of its own, as read_plan is)
+#[inline(never)]
 pub fn write_report(plan: &Plan, logs: &[&Log], counts: &[Counts]) -> bool {
     let mut writer = std::io::BufWriter::new(std::io::stdout().lock());
     let mut out = Vec::with_capacity(256);

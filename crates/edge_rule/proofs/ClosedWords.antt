@@ -14,8 +14,8 @@ use Rattle.edge_word.proofs.WordLemmas.{state_of-word_of, IsOfBottles-28}
 use Rattle.edge_word.proofs.PhaseLemmas.{phase_of-phase_word_of}
 use Rattle.one_history.specs.Rule.{edge_place, phase_place}
 use Rattle.edge_rule.specs.declared.closed.Closed.TheInside.{Inside}
-use Rattle.edge_rule.specs.declared.counts.Counts.{Counts}
-use Rattle.edge_rule.specs.Counting.{no_counts}
+use Rattle.legal_steps.specs.declared.counts.Counts.{Counts}
+use Rattle.legal_steps.specs.Counting.{no_counts}
 use Rattle.edge_rule.specs.ClosedView.{ClosedView, edge_in, phase_in, log_in, counts_in}
 use Rattle.edge_rule.specs.ClosedInside.{view_of, IsClosed}
 use Rattle.edge_rule.proofs.DeskSteps.{got}

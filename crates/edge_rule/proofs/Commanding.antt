@@ -32,8 +32,8 @@ use Rattle.locality.specs.History.{learned_all, known_by, state_after, events_by
 use Rattle.one_history.specs.Rule.{phase_place, word_count, Kept}
 use Rattle.one_history.specs.Grow.{hand_in, adding, mine, Does, own_phase, next_instrument, reached, acted}
 use Rattle.edge_rule.specs.DeskView.{DeskView, Owns, Adds, Commanded, known}
-use Rattle.edge_rule.specs.declared.counts.Counts.{Counts}
-use Rattle.edge_rule.specs.Counting.{counts_of}
+use Rattle.legal_steps.specs.declared.counts.Counts.{Counts}
+use Rattle.legal_steps.specs.Counting.{counts_of}
 use Rattle.edge_rule.proofs.CountsKept.{counts_stay}
 use Rattle.edge_rule.specs.NeededBottles.{AreNeeded}
 use Rattle.edge_rule.specs.declared.needed.Needed.{Needed}

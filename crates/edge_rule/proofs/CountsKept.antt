@@ -20,8 +20,9 @@ use Rattle.locality.proofs.Local.{each_move}
 use Rattle.one_history.specs.declared.phase_event.PhaseEvent.{PhaseEvent}
 use Rattle.one_history.specs.declared.phase_event.PhaseEvent.TheVariants as phase_events
 use Rattle.one_history.specs.PhaseEvents.{event_of}
-use Rattle.edge_rule.specs.declared.counts.Counts.{Counts}
-use Rattle.edge_rule.specs.Counting.{counts_of, counted, AreFew}
+use Rattle.legal_steps.specs.declared.counts.Counts.{Counts}
+use Rattle.legal_steps.specs.Counting.{counts_of}
+use Rattle.edge_rule.specs.Counting.{counted, AreFew}
 
 same_counts : (a b : Counts) → a.meals ≡ b.meals → a.sessions_done ≡ b.sessions_done → a.withdrawn ≡ b.withdrawn → a ≡ b
 same_counts a b meals done withdrawn = λ i. record { meals = meals i; sessions_done = done i; withdrawn = withdrawn i }

@@ -27,7 +27,8 @@ use Rattle.one_history.specs.declared.phase_event.PhaseEvent.TheVariants as phas
 use Rattle.edge_rule.specs.declared.desk.Desk.TheInside.{Inside}
 use Rattle.edge_rule.specs.declared.bench.Bench.TheInside as bench_fields
 use Rattle.one_history.specs.PhaseEvents.{event_of, phase_after, clears}
-use Rattle.edge_rule.specs.Counting.{counts_of, counted, AreFew}
+use Rattle.legal_steps.specs.Counting.{counts_of}
+use Rattle.edge_rule.specs.Counting.{counted, AreFew}
 use Rattle.edge_rule.proofs.CountsKept.{moves_uncounted, counts_grow, counts_whole, few_in}
 use Rattle.locality.specs.History.{learned, learned_all, state_after}
 use Rattle.one_history.specs.Rule.{edge_place, phase_place, Kept}

@@ -23,8 +23,8 @@ use Rattle.one_history.specs.declared.board.Hand.{Hand}
 use Rattle.one_history.specs.declared.board.View.{View}
 use Rattle.edge_rule.specs.declared.desk.Desk.TheInside.{Inside}
 use Rattle.edge_rule.specs.declared.clock.Clock.{Clock}
-use Rattle.edge_rule.specs.declared.counts.Counts.{Counts}
-use Rattle.edge_rule.specs.Counting.{counts_of}
+use Rattle.legal_steps.specs.declared.counts.Counts.{Counts}
+use Rattle.legal_steps.specs.Counting.{counts_of}
 use Rattle.edge_rule.proofs.CountsKept.{IsUncounted, counts_stay}
 use Rattle.edge_rule.specs.declared.bench.Bench.TheInside as bench_fields
 use Rattle.locality.specs.History.{events_by, learned_all, known_by, IsHistory}

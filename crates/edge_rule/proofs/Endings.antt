@@ -19,8 +19,8 @@ use Rattle.one_history.proofs.Groups.{stand_in_more}
 use Rattle.one_history.specs.Seating.{glued}
 use Rattle.edge_rule.specs.DeskView.{DeskView, known}
 use Rattle.edge_rule.specs.DeskInside.{view_of, IsDesk}
-use Rattle.edge_rule.specs.declared.counts.Counts.{Counts}
-use Rattle.edge_rule.specs.Counting.{no_counts, counts_of}
+use Rattle.legal_steps.specs.declared.counts.Counts.{Counts}
+use Rattle.legal_steps.specs.Counting.{no_counts, counts_of}
 use Rattle.edge_rule.specs.Company.{Distinct, jobs_of}
 use Rattle.edge_rule.specs.ClosedView.{ClosedView}
 use Rattle.edge_rule.specs.ClosedInside.{AreWords}

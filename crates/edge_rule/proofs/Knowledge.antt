@@ -9,7 +9,7 @@ use Rattle.edge_rule.specs.declared.desk.Desk.TheInside.{Inside}
 use Rattle.one_history.specs.Grow.{hand_in}
 use Rattle.edge_rule.specs.DeskView.{DeskView, known, IsAtRest}
 use Rattle.edge_rule.specs.DeskInside.{view_of, IsDesk}
-use Rattle.edge_rule.specs.Counting.{counts_of}
+use Rattle.legal_steps.specs.Counting.{counts_of}
 use Rattle.edge_rule.specs.Knowing.{IsKnown}
 use Rattle.edge_rule.proofs.DeskSteps.{mine_seats, mine_edges, mine_fits}
 

@@ -5,7 +5,7 @@ use mathlib.Core.Option.{none}
 use Rattle.atomic_table.specs.Table.{step, keeps, Allows, Splits}
 use Rattle.lab_plan.specs.LabPlan.{LabPlan}
 use Rattle.legal_steps.specs.State.{seat}
-use Rattle.edge_rule.specs.Counting.{counts_of}
+use Rattle.legal_steps.specs.Counting.{counts_of}
 use Rattle.edge_rule.specs.CalmEdges.{AreStill}
 use Rattle.turns.specs.Acts.{IsSettled}
 use Rattle.edge_rule.specs.NeededBottles.{AreNeeded}

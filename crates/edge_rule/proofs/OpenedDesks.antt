@@ -21,7 +21,7 @@ use Rattle.edge_rule.specs.declared.desk.Desk.TheInside.{Inside}
 use Rattle.one_history.specs.Rule.{hand, phase_place, Spelled}
 use Rattle.one_history.specs.Grow.{hand_in, mine}
 use Rattle.edge_rule.specs.Openings.{opening_edges, AreWritten}
-use Rattle.edge_rule.specs.Counting.{counts_of}
+use Rattle.legal_steps.specs.Counting.{counts_of}
 use Rattle.edge_rule.proofs.StillEdges.{none_still}
 use Rattle.std.proofs.lemmas.Bool.{false≢true}
 use Rattle.edge_rule.specs.NeededBottles.{nothing_noted}

@@ -7,8 +7,8 @@ use Rattle.legal_steps.specs.declared.phase.JobState.{JobState}
 use Rattle.edge_word.specs.Words.{state_of}
 use Rattle.edge_word.specs.Phases.{phase_of}
 use Rattle.one_history.specs.Rule.{edge_place, phase_place}
-use Rattle.edge_rule.specs.declared.counts.Counts.{Counts}
-use Rattle.edge_rule.specs.Counting.{no_counts}
+use Rattle.legal_steps.specs.declared.counts.Counts.{Counts}
+use Rattle.legal_steps.specs.Counting.{no_counts}
 
 pub record ClosedView : Type 0 where
   pub plan : LabPlan

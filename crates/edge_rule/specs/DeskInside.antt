@@ -9,8 +9,8 @@ use Rattle.legal_steps.specs.State.{Seat, seat, no_edge}
 use Rattle.edge_word.specs.Words.{IsOfBottles}
 use Rattle.one_history.specs.declared.board.View.{View}
 use Rattle.edge_rule.specs.declared.clock.Clock.{Clock}
-use Rattle.edge_rule.specs.declared.counts.Counts.{Counts}
-use Rattle.edge_rule.specs.Counting.{counts_of}
+use Rattle.legal_steps.specs.declared.counts.Counts.{Counts}
+use Rattle.legal_steps.specs.Counting.{counts_of}
 use Rattle.locality.specs.History.{IsHistory, events_by}
 use Rattle.one_history.specs.Groups.{all_of, StandUnbroken}
 use Rattle.one_history.specs.Grow.{hand_in, IsMine, mine}

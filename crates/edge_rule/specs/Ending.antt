@@ -13,8 +13,8 @@ use Rattle.one_history.specs.Groups.{all_of, StandUnbroken}
 use Rattle.locality.specs.Lists.{StartsWith, Each}
 use Rattle.edge_rule.specs.DeskView.{DeskView, known}
 use Rattle.edge_rule.specs.ClosedView.{ClosedView, edge_in, phase_in, log_in, counts_in}
-use Rattle.edge_rule.specs.Counting.{no_counts, counts_of}
-use Rattle.edge_rule.specs.declared.counts.Counts.{Counts}
+use Rattle.legal_steps.specs.Counting.{no_counts, counts_of}
+use Rattle.legal_steps.specs.declared.counts.Counts.{Counts}
 use Rattle.edge_rule.specs.Company.{Distinct, jobs_of}
 
 abbrev pub hand_of : DeskView → Hand

@@ -7,13 +7,12 @@ ghost use Rattle.edge_word.specs.Phases.{FitsPhaseWord};
 ghost use Rattle.legal_steps.specs.declared.phase.Drinking.TheVariants.{Retired};
 ghost use Rattle.edge_rule.specs.ClosedView.{edge_in, phase_in, log_in, counts_in};
 
-use crate::counts::Counts;
 use crate::words::{edge_place, job_number, phase_place, unpacked, unpacked_phase};
 use atomic_table::Closed as Left;
 use edge_word::{EdgeWord, PhaseWord};
 use instrument_log::InstrumentLog;
 use lab_plan::{EdgeNo, InstrumentNo, JobNo, Plan};
-use legal_steps::Drinking;
+use legal_steps::{Counts, Drinking};
 use std::alloc::{Allocator, Global};
 use std::marker::Model;
 

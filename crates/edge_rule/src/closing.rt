@@ -4,17 +4,17 @@ ghost use Rattle.locality.specs.Lists.{Each};
 ghost use Rattle.one_history.specs.Seating.{nothing};
 ghost use Rattle.edge_rule.specs.DeskView.{Owns};
 ghost use Rattle.edge_rule.specs.Company.{Distinct, jobs_of};
-ghost use Rattle.edge_rule.specs.Counting.{no_counts, counts_of};
+ghost use Rattle.legal_steps.specs.Counting.{no_counts, counts_of};
 ghost use Rattle.edge_rule.specs.Ending.{gathered, HasAll, RestsInGroups, IsEnd, AreCounted};
 
 use crate::bench::Bench;
 use crate::closed::Closed;
-use crate::counts::{Counts, NO_COUNTS};
 use crate::desk::Desk;
 use crate::refusals::{CloseCause, CloseRefused};
 use crate::words::{SOME_WORD, job_number};
 use atomic_table::Seat;
 use instrument_log::InstrumentLog;
+use legal_steps::{Counts, NO_COUNTS};
 use one_history::board::{Board, Enters, Notes, View};
 use std::alloc::{AllocError, Allocator};
 

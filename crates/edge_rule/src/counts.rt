@@ -2,21 +2,8 @@
 ghost use Rattle.std.specs.Prelude.{◌≡◌, ◌≤◌};
 ghost use Rattle.edge_rule.specs.Counting.{counted as counted_after, AreFew};
 
+use legal_steps::Counts;
 use one_history::PhaseEvent;
-
-/// How many meals a job had, how many sessions it ended, and how many it gave up.
-#[derive(Clone, Copy, PartialEq, Eq, Debug)]
-pub struct Counts {
-    pub meals: u32,
-    pub sessions_done: u32,
-    pub withdrawn: u32,
-}
-
-pub(crate) const NO_COUNTS: Counts = Counts {
-    meals: 0,
-    sessions_done: 0,
-    withdrawn: 0,
-};
 
 // The counts after an event.
 pub(crate) fn counted(what: PhaseEvent, counts: Counts) -> Counts

@@ -1,12 +1,11 @@
 //! One job's seat at the bench.
 use crate::clock::Clock;
-use crate::counts::Counts;
 use crate::needed::Needed;
 use atomic_table::Seat;
 use edge_word::EdgeWord;
 use instrument_log::InstrumentLog;
 use lab_plan::JobNo;
-use legal_steps::JobState;
+use legal_steps::{Counts, JobState};
 use one_history::board::View;
 use std::alloc::{Allocator, Global};
 use std::marker::Model;

@@ -9,7 +9,6 @@ ghost use Rattle.edge_rule.specs.DeskView.{fresh_desk, fresh_desks};
 
 use crate::bench::Bench;
 use crate::clock::Clock;
-use crate::counts::NO_COUNTS;
 use crate::desk::Desk;
 use crate::needed::NOTHING_NOTED;
 use crate::refusals::OpenError;
@@ -18,7 +17,7 @@ use atomic_table::{Seat, Table};
 use edge_word::EdgeWord;
 use instrument_log::InstrumentLog;
 use lab_plan::{EdgeNo, JobNo, Plan};
-use legal_steps::{Dining, Drinking, JobState};
+use legal_steps::{Dining, Drinking, JobState, NO_COUNTS};
 use one_history::board::{Board, Deals, View};
 use plan_logs::empty_logs;
 use std::alloc::{AllocError, Allocator};

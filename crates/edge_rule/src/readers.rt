@@ -7,17 +7,16 @@ ghost use Rattle.legal_steps.specs.Run.{meals_of, sessions_done_of, withdrawn_of
 ghost use Rattle.edge_word.specs.Words.{IsOfBottles};
 ghost use Rattle.edge_rule.specs.DeskView.{known, waited, noted, IsAtRest};
 ghost use Rattle.locality.specs.Patience.{is_waiting};
-ghost use Rattle.edge_rule.specs.Counting.{counts_of};
+ghost use Rattle.legal_steps.specs.Counting.{counts_of};
 ghost use Rattle.edge_rule.specs.Knowing.{IsKnown};
 
 use crate::bench::Bench;
 use crate::clock::Clock;
-use crate::counts::Counts;
 use crate::desk::Desk;
 use crate::words::number;
 use edge_word::EdgeWord;
 use lab_plan::{EdgeNo, JobNo, Plan};
-use legal_steps::{Drinking, JobState};
+use legal_steps::{Counts, Drinking, JobState};
 use std::alloc::Allocator;
 
 impl<'p, A: Allocator> Bench<'p, A> {

@@ -1,4 +1,4 @@
-pub mod TestedBits
+pub mod Members
 pub mod Parts
 pub mod BottleNames
 pub mod Within

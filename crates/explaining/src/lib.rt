@@ -2,7 +2,6 @@
 //! and which moves are legal. Each text is a function of a plan, a state and what it tells.
 #![tactic(auto)]
 
-mod bits;
 mod causes;
 mod explanation;
 mod moves;

@@ -5,12 +5,11 @@ ghost use Rattle.legal_steps.specs.State.{IsOwn};
 ghost use Rattle.legal_steps.specs.Legal.{IsJob};
 ghost use Rattle.explaining.specs.StateTexts.{dining_text, drinking_text, at_text, mark_text, dirt_text, doing_text, session_text, done_text, phase_line, places_text, marks_text, fork_head, fork_line, bottle_head, bottle_line, edge_text, job_text};
 
-use crate::bits::is_in;
 use crate::names::{add_bottle, add_job, add_other};
 use interleaving::{Dining, Drinking, End, JobState, World};
 use itoa::Buffer;
 use lab_plan::{EdgeNo, JobNo, Plan};
-use refused_steps::bottle_end;
+use legal_steps::{bottle_end, has};
 use std::alloc::{AllocError, Allocator};
 
 fn dining(dining: Dining) -> &'static [u8]
@@ -217,7 +216,7 @@ fn add_bottle_line<A: Allocator, B: Allocator>(
     let token = bottle_end(state.bottle_tokens, bottle);
     add_bottle_head(out, world.plan(), job, edge, bottle)?;
     add_places(out, here, place, token)?;
-    add_mark(out, is_in(world.bottle_marks(job, edge), bottle))?;
+    add_mark(out, has(world.bottle_marks(job, edge), bottle))?;
     Ok(())
 }
 

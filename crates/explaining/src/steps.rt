@@ -6,10 +6,9 @@ ghost use Rattle.legal_steps.specs.Steps.{IsStepOf};
 ghost use Rattle.explaining.specs.Names.{other_name};
 ghost use Rattle.explaining.specs.StepTexts.{alone_text, pair_text, member_text, set_text, bottles_text, glance_text, step_text};
 
-use crate::bits::is_in;
 use crate::names::{add_bottle, add_job, add_other};
 use lab_plan::{EdgeNo, JobNo, Plan};
-use legal_steps::Step;
+use legal_steps::{Step, has};
 use std::alloc::{AllocError, Allocator};
 
 /// `WORD JOB`.
@@ -58,7 +57,7 @@ fn add_member<A: Allocator, B: Allocator>(
 {
     // this call ensures that an edge has few bottles
     let _ = plan.bottles(edge);
-    if is_in(set, bottle) {
+    if has(set, bottle) {
         out.extend_from_slice(b" ")?;
         add_bottle(out, plan, edge, bottle)?;
     }

@@ -7,8 +7,9 @@ use Rattle.lab_plan.specs.LabPlan.{LabPlan}
 use Rattle.legal_steps.specs.declared.event.Event.{Event}
 use Rattle.legal_steps.specs.declared.event.Event.TheVariants.{Sit, Quit, Withdraw}
 use Rattle.legal_steps.specs.Run.{is_sit, is_quit, is_withdraw}
-use Rattle.interleaving.specs.declared.counts.Counts.{Counts}
-use Rattle.interleaving.specs.Counting.{no_counts, count_at, counts_of, both_counts, GoOnBy, AreCountsOf, counted, CanCount}
+use Rattle.legal_steps.specs.declared.counts.Counts.{Counts}
+use Rattle.legal_steps.specs.Counting.{no_counts, counts_of}
+use Rattle.interleaving.specs.Counting.{count_at, both_counts, GoOnBy, AreCountsOf, counted, CanCount}
 use Rattle.interleaving.proofs.FitLemmas.{set_cases}
 
 same_counts : (a b : Counts) → a.meals ≡ b.meals → a.sessions_done ≡ b.sessions_done → a.withdrawn ≡ b.withdrawn → a ≡ b

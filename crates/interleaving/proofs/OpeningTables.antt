@@ -11,7 +11,7 @@ use Rattle.legal_steps.specs.declared.edge_state.EdgeState.{EdgeState}
 use Rattle.legal_steps.specs.declared.edge_state.EndChoice.{EndChoice}
 use Rattle.legal_steps.specs.State.{State, Seat, Setting, no_edge}
 use Rattle.cycles.specs.Cycles.{IsAmong, HasNoCycle, IsCycleOf}
-use Rattle.interleaving.specs.declared.counts.Counts.{Counts}
+use Rattle.legal_steps.specs.declared.counts.Counts.{Counts}
 use Rattle.interleaving.specs.Start.{at_start}
 use Rattle.interleaving.proofs.PrecedenceLemmas.{acyclic_of, cyclic_of}
 use Rattle.legal_steps.specs.Fitting.{Fits}
@@ -21,7 +21,7 @@ use Rattle.legal_steps.specs.Precedence.{IsAcyclic, Precedes}
 use Rattle.legal_steps.proofs.OpeningChoices.{opening_edge, opening_of_choices}
 use Rattle.legal_steps.proofs.OpeningLemmas.{fits_opening}
 use Rattle.legal_steps.proofs.ReachedLemmas.{reached_opening}
-use Rattle.interleaving.specs.Counting.{no_counts, counts_of}
+use Rattle.legal_steps.specs.Counting.{no_counts, counts_of}
 use Rattle.interleaving.specs.World.{IsReachedWith, WorldView}
 use Rattle.interleaving.proofs.LogLemmas.{shown, are_empty}
 

@@ -16,7 +16,7 @@ use Rattle.legal_steps.proofs.RunLemmas.{runs_more}
 use Rattle.legal_steps.proofs.AppendLaw.{act_appends, next_within_limits}
 use Rattle.legal_steps.proofs.MealLaw.{meals_few}
 use Rattle.legal_steps.proofs.CountLaw.{done_few}
-use Rattle.interleaving.specs.declared.counts.Counts.{Counts}
+use Rattle.legal_steps.specs.declared.counts.Counts.{Counts}
 use Rattle.interleaving.specs.Step.{TakesEntry}
 use Rattle.interleaving.specs.Counting.{GoOnBy, CanCount, HasFewCounts}
 use Rattle.interleaving.specs.World.{WorldView, IsReachedWith, LeadsTo}

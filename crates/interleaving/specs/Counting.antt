@@ -4,20 +4,12 @@ use Rattle.lab_plan.specs.Limits.{most_sessions}
 use Rattle.lab_plan.specs.LabPlan.{LabPlan}
 use Rattle.legal_steps.specs.declared.event.Event.{Event}
 use Rattle.legal_steps.specs.declared.event.Event.TheVariants.{Sit, Quit, Withdraw}
-use Rattle.legal_steps.specs.Run.{meals_of, sessions_done_of, withdrawn_of}
-use Rattle.interleaving.specs.declared.counts.Counts.{Counts}
-
--- the counts of a job before its first event
-abbrev pub no_counts : Counts
-no_counts = record { meals = 0; sessions_done = 0; withdrawn = 0 }
+use Rattle.legal_steps.specs.declared.counts.Counts.{Counts}
+use Rattle.legal_steps.specs.Counting.{no_counts, counts_of}
 
 -- the counts of job j
 abbrev pub count_at : List Counts → ℕ → Counts
 count_at counts j = slice_index_or counts j no_counts
-
--- the counts of job j in a list of events: its meals, the sessions that it ended, and those that it gave up
-abbrev pub counts_of : ℕ → List Event → Counts
-counts_of j events = record { meals = meals_of j events; sessions_done = sessions_done_of j events; withdrawn = withdrawn_of j events }
 
 -- two counts together
 abbrev pub both_counts : Counts → Counts → Counts

@@ -7,7 +7,7 @@ use Rattle.legal_steps.specs.Opening.{AreChoices, opening_of}
 use Rattle.legal_steps.specs.Precedence.{IsAcyclic}
 use Rattle.interleaving.specs.declared.refusal.StartRefusal.{StartRefusal}
 use Rattle.interleaving.specs.declared.refusal.StartRefusal.TheVariants.{BadChoices, NoMemory, Cycle}
-use Rattle.interleaving.specs.Counting.{no_counts}
+use Rattle.legal_steps.specs.Counting.{no_counts}
 use Rattle.interleaving.specs.World.{WorldView}
 
 -- the world in a state, before its first event

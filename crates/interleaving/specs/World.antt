@@ -7,7 +7,7 @@ use Rattle.legal_steps.specs.State.{State}
 use Rattle.legal_steps.specs.Legal.{May, IsLegal}
 use Rattle.legal_steps.specs.Run.{Runs, StopsAt}
 use Rattle.legal_steps.specs.Reached.{IsReached}
-use Rattle.interleaving.specs.declared.counts.Counts.{Counts}
+use Rattle.legal_steps.specs.declared.counts.Counts.{Counts}
 use Rattle.interleaving.specs.Counting.{GoOnBy, AreCountsOf}
 
 -- what contracts see of a world

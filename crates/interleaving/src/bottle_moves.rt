@@ -5,10 +5,9 @@ ghost use Rattle.legal_steps.specs.declared.event.Event.TheVariants.{AskBottles,
 ghost use Rattle.legal_steps.specs.State.{IsOwn, IsOfEdge, IsDrinking, Has, fork, phase as phase_at};
 ghost use Rattle.legal_steps.specs.Legal.{IsJob, IsBottleSet, MayAskBottle, MayGiveBottle, Needs, Here, instrument_of, May, after};
 
-use crate::bottles::{bottle_end, has};
 use crate::tables::Tables;
 use lab_plan::{EdgeNo, JobNo};
-use legal_steps::Drinking;
+use legal_steps::{Drinking, bottle_end, has};
 use std::alloc::Allocator;
 
 impl<'a, A: Allocator> Tables<'a, A> {

@@ -1,19 +1,12 @@
 // What each job has done so far.
 ghost use Rattle.std.specs.Prelude.{◌≡◌, ◌<◌, length, replicate, IfOk};
-ghost use Rattle.interleaving.specs.Counting.{count_at, counted, CanCount, no_counts};
+ghost use Rattle.legal_steps.specs.Counting.{no_counts};
+ghost use Rattle.interleaving.specs.Counting.{count_at, counted, CanCount};
 
 use lab_plan::JobNo;
-use legal_steps::Event;
+use legal_steps::{Counts, Event, NO_COUNTS};
 use std::alloc::{AllocError, Allocator, Global};
 use std::marker::Model;
-
-/// What a job has done so far: its meals, the sessions that it ended, and those that it gave up.
-#[derive(Clone, Copy, PartialEq, Eq, Debug)]
-pub struct Counts {
-    pub meals: u32,
-    pub sessions_done: u32,
-    pub withdrawn: u32,
-}
 
 #[derive(Drop)]
 pub(crate) struct JobCounts<A: Allocator = Global> {
@@ -22,7 +15,7 @@ pub(crate) struct JobCounts<A: Allocator = Global> {
 
 impl<A: Allocator> Model for JobCounts<A> {
     ghost use Rattle.std.specs.Prelude.{List};
-    ghost use Rattle.interleaving.specs.declared.counts.Counts.{Counts};
+    ghost use Rattle.legal_steps.specs.declared.counts.Counts.{Counts};
 
     ghost Value = { List Counts };
 
@@ -36,11 +29,7 @@ impl<A: Allocator> JobCounts<A> {
     {
         let mut counts = Vec::new(alloc);
         for _job in 0..jobs {
-            counts.push(Counts {
-                meals: 0,
-                sessions_done: 0,
-                withdrawn: 0,
-            })?;
+            counts.push(NO_COUNTS)?;
         }
         Ok(JobCounts { counts })
     }

@@ -3,7 +3,6 @@
 
 mod acting;
 mod bottle_moves;
-mod bottles;
 mod counts;
 mod dining;
 mod drinking;
@@ -18,10 +17,9 @@ mod steps;
 mod tables;
 mod world;
 
-pub use counts::Counts;
 pub use cycles::{NoMemory, cycle_in};
 pub use legal_steps::{
-    Dining, Drinking, EdgeState, End, EndChoice, Event, JobState, NotLegal, Step, StepLine,
+    Counts, Dining, Drinking, EdgeState, End, EndChoice, Event, JobState, NotLegal, Step, StepLine,
 };
 pub use refusal::StartRefusal;
 pub use world::World;

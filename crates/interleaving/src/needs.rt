@@ -5,9 +5,9 @@ ghost use Rattle.lab_plan.specs.LabPlan.{edges, edges_of, bottles};
 ghost use Rattle.legal_steps.specs.State.{IsOwn, IsDrinking, Has, phase as phase_at};
 ghost use Rattle.legal_steps.specs.Legal.{IsJob, IsMarkedAll, HasNeeded, HasNeededAt, Needs, instrument_of};
 
-use crate::bottles::has;
 use crate::tables::Tables;
 use lab_plan::{EdgeNo, JobNo};
+use legal_steps::has;
 use std::alloc::Allocator;
 
 impl<'a, A: Allocator> Tables<'a, A> {

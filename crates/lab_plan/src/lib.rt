@@ -24,7 +24,7 @@ pub use builder::PlanBuilder;
 pub use limits::{
     LARGEST_NUMBER, MOST_BOTTLES, MOST_COMMANDS, MOST_INSTRUMENTS, MOST_JOBS, MOST_SESSIONS,
 };
-pub use name::{is_name, is_same_name};
+pub use name::{is_digit, is_name, is_same_name};
 pub use numbers::{EdgeNo, InstrumentNo, JobNo};
 pub use place::Place;
 pub use plan::Plan;

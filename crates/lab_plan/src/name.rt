@@ -56,7 +56,8 @@ fn is_letter(byte: u8) -> bool
     b'a' <= byte && byte <= b'z'
 }
 
-fn is_digit(byte: u8) -> bool
+/// Whether the byte is a digit, from `0` to `9`.
+pub fn is_digit(byte: u8) -> bool
     ensures { result ≡ is_digit byte }
 {
     b'0' <= byte && byte <= b'9'

@@ -5,11 +5,7 @@ ghost use Rattle.lab_plan.specs.Names.{is_digit};
 ghost use Rattle.script_reader.specs.Number.{number_of};
 ghost use Rattle.lab_program.specs.Numbers.{number_within};
 
-fn is_digit(byte: u8) -> bool
-    ensures { result ≡ is_digit byte }
-{
-    b'0' <= byte && byte <= b'9'
-}
+use lab_plan::is_digit;
 
 fn are_digits(word: &[u8]) -> bool
     ensures { result ≡ list_all is_digit word.now }

@@ -2,6 +2,7 @@ pub mod State
 pub mod Legal
 pub mod Guards
 pub mod Run
+pub mod Counting
 pub mod Steps
 pub mod Precedence
 pub mod Opening

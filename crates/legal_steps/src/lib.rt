@@ -2,6 +2,8 @@
 //! and the laws: what holds after every list of legal steps.
 #![tactic(auto)]
 
+pub mod bottles;
+pub mod counts;
 pub mod edge_state;
 pub mod end;
 pub mod event;
@@ -9,6 +11,8 @@ pub mod laws;
 pub mod log_laws;
 pub mod phase;
 
+pub use bottles::{bottle_end, has};
+pub use counts::{Counts, NO_COUNTS};
 pub use edge_state::{EdgeState, EndChoice};
 pub use end::End;
 pub use event::{Event, NotLegal, Step, StepLine};

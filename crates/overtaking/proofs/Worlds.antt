@@ -8,7 +8,7 @@ use Rattle.legal_steps.specs.Legal.{May}
 use Rattle.legal_steps.specs.Precedence.{IsAcyclic}
 use Rattle.legal_steps.proofs.ReachedInvariant.{sound_opening}
 use Rattle.legal_steps.proofs.ReachedLemmas.{reached_sound, reached_fits, reached_acyclic}
-use Rattle.interleaving.specs.declared.counts.Counts.{Counts}
+use Rattle.legal_steps.specs.declared.counts.Counts.{Counts}
 use Rattle.interleaving.specs.World.{IsReachedWith}
 use Rattle.overtaking.specs.Stuck.{IsMove, IsWayOn, IsUpToDate, AllRetired}
 use Rattle.overtaking.specs.Ways.{HasNoPhaseWays, HasNoForkWays, HasNoBottleWays}

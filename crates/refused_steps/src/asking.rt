@@ -5,9 +5,9 @@ ghost use Rattle.lab_plan.specs.LabPlan.{edges, bottles};
 ghost use Rattle.legal_steps.specs.State.{IsOwn, IsDrinking, phase as phase_at};
 ghost use Rattle.legal_steps.specs.Legal.{IsJob, Needs, instrument_of};
 
-use crate::bottles::has;
 use interleaving::World;
 use lab_plan::{EdgeNo, JobNo};
+use legal_steps::has;
 use std::alloc::Allocator;
 
 pub(crate) fn is_job<A: Allocator>(world: &World<'_, A>, job: JobNo) -> bool

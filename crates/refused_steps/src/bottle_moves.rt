@@ -7,10 +7,10 @@ ghost use Rattle.legal_steps.specs.Legal.{IsBottleSet, MayAskBottle, MayGiveBott
 ghost use Rattle.refused_steps.specs.Causes.{Explains, Fails, FailsAsSet};
 
 use crate::asking::{is_drinking, needs_bottle, owns};
-use crate::bottles::{bottle_end, has};
 use crate::cause::Cause;
 use interleaving::{Drinking, End, World};
 use lab_plan::{EdgeNo, JobNo};
+use legal_steps::{bottle_end, has};
 use std::alloc::Allocator;
 
 /// Why this is no set of bottles of the edge with a member.

@@ -4,7 +4,6 @@
 
 mod asking;
 mod bottle_moves;
-mod bottles;
 mod cause;
 mod forks;
 mod marks;
@@ -12,6 +11,5 @@ mod meals;
 mod sessions;
 mod why;
 
-pub use bottles::{bottle_end, has};
 pub use cause::Cause;
 pub use why::why_not;

@@ -6,9 +6,9 @@ ghost use Rattle.legal_steps.specs.Legal.{IsJob, IsMarkedAll, HasNeeded, HasNeed
 ghost use Rattle.refused_steps.specs.Causes.{IsUnmarked, IsMissing};
 
 use crate::asking::needs_bottle;
-use crate::bottles::has;
 use interleaving::World;
 use lab_plan::{EdgeNo, JobNo};
+use legal_steps::has;
 use std::alloc::Allocator;
 
 /// The first own edge for whose fork the job has no mark.

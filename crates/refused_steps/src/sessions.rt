@@ -4,11 +4,11 @@ ghost use Rattle.legal_steps.specs.declared.event.Event.TheVariants.{Thirst, Dri
 ghost use Rattle.refused_steps.specs.Causes.{Explains, Fails, IsMissing};
 
 use crate::asking::is_job;
-use crate::bottles::bottle_end;
 use crate::cause::Cause;
 use crate::marks::missing_bottle;
 use interleaving::{Dining, Drinking, End, World};
 use lab_plan::{EdgeNo, JobNo};
+use legal_steps::bottle_end;
 use std::alloc::Allocator;
 
 pub(crate) fn thirst<A: Allocator>(world: &World<'_, A>, job: JobNo) -> Option<Cause>

@@ -5,11 +5,7 @@ ghost use Rattle.lab_plan.specs.Limits.{largest_number};
 ghost use Rattle.lab_plan.specs.Names.{is_digit};
 ghost use Rattle.script_reader.specs.Number.{is_number, number_of};
 
-fn is_digit(byte: u8) -> bool
-    ensures { result ≡ is_digit byte }
-{
-    b'0' <= byte && byte <= b'9'
-}
+use lab_plan::is_digit;
 
 fn are_digits(bytes: &[u8]) -> bool
     ensures { result ≡ list_all is_digit bytes.now }

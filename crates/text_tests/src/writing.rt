@@ -12,6 +12,7 @@ use std::alloc::{AllocError, Allocator};
 use std::io::{self, Write};
 use std::process::Abort;
 
+mod lines;
 mod patience;
 mod reports;
 mod scripts;

@@ -4,7 +4,8 @@ use interleaving::{Dining, Drinking, EdgeState, End, Event, JobState, Step, Worl
 use lab_plan::{EdgeNo, JobNo};
 use legal_moves::laws::{always_legal, bottles_alone, every_step};
 use legal_moves::legal_moves;
-use refused_steps::{Cause, bottle_end, has, why_not};
+use legal_steps::{bottle_end, has};
+use refused_steps::{Cause, why_not};
 use script_reader::read_steps;
 use std::alloc::{AllocError, Allocator};
 use std::process::Abort;

@@ -10,7 +10,7 @@ use Rattle.legal_steps.specs.Opening.{the_opening}
 use Rattle.locality.specs.History.{state_after}
 use Rattle.edge_rule.specs.DeskView.{DeskView}
 use Rattle.edge_rule.specs.ClosedView.{ClosedView, log_in, phase_in, counts_in}
-use Rattle.edge_rule.specs.declared.counts.Counts.{Counts}
+use Rattle.legal_steps.specs.declared.counts.Counts.{Counts}
 use Rattle.edge_rule.specs.Ending.{IsEnd}
 use Rattle.report.specs.Report.{is_retired, jobs}
 use Rattle.report.specs.Events.{ShowsAlike, shown_after, retired_after}

@@ -3,7 +3,7 @@ use super::asking::{bottles_of, patience_of};
 use super::{
     EXAMPLE, Line, check_example, finished, name_of, plan_of, put_all, refuse, refuse_line, share,
 };
-use lab_plan::name::{is_name, is_same_name};
+use lab_plan::name::{is_digit, is_name, is_same_name};
 use lab_plan::{Plan, PlanBuilder, PlanRefusal, Verb};
 use std::alloc::Allocator;
 use std::process::Abort;
@@ -13,6 +13,16 @@ fn names_are_told_apart(rt: HostRuntime) {
     assert!(rt; is_same_name(b"mix1", b"mix1"));
     for other in [b"mix2".as_slice(), b"nix1", b"mix", b"mix12", b""] {
         assert!(rt; !is_same_name(b"mix1", other));
+    }
+}
+
+#[test]
+fn digits_are_told(rt: HostRuntime) {
+    for digit in [b'0', b'1', b'5', b'9'] {
+        assert!(rt; is_digit(digit));
+    }
+    for other in [b'/', b':', b'a', b'-', b' ', 0, 255] {
+        assert!(rt; !is_digit(other));
     }
 }
 

@@ -3,6 +3,7 @@ use Rattle.std.specs.Int.{bit_at}
 use Rattle.legal_steps.specs.declared.edge_state.EdgeState.{EdgeState}
 use Rattle.legal_steps.specs.State.{edge, end_of, bottle_marks, bottle_end}
 use Rattle.explaining.specs.StateTexts.{bottle_head, places_text, marks_text, bottle_line}
+use Rattle.explaining.proofs.Members.{member}
 use Rattle.explaining.proofs.Parts.{three}
 use Rattle.explaining.proofs.states.add_bottle_line.Goals as goal
 
@@ -21,7 +22,7 @@ returns g c =
     c.bottle_end-place.ensures ∙ ap (λ (x : EdgeState). bottle_end x.bottles k) c.edge-state.ensures in
     let token : c.bottle_end-token.result ≡ bottle_end (edge w.state e).bottle_tokens k =
     c.bottle_end-token.ensures ∙ ap (λ (x : EdgeState). bottle_end x.bottle_tokens k) c.edge-state.ensures in
-    let mark : c.is_in.result ≡ (bit_at (bottle_marks w.state j e) k == 1) = c.is_in.ensures ∙ ap (λ m. bit_at m k == 1) c.bottle_marks.ensures in
+    let mark : c.has.result ≡ (bit_at (bottle_marks w.state j e) k == 1) = member _ _ k c.has.ensures ∙ ap (λ m. bit_at m k == 1) c.bottle_marks.ensures in
     let first : headed ≡ start ++ bottle_head w.plan j e k = c.in_ok-add_bottle_head.ensures ∙ ap (λ p. start ++ bottle_head p j e k) c.plan-3.ensures.plan in
     let second : placed ≡ headed ++ places_text (end_of w.plan j e) (bottle_end (edge w.state e).bottles k) (bottle_end (edge w.state e).bottle_tokens k) =
     c.in_ok-add_places.ensures ∙ ap (λ h. headed ++ places_text h c.bottle_end-place.result c.bottle_end-token.result) here

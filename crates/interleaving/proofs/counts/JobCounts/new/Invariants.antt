@@ -1,5 +1,5 @@
 use Rattle.std.proofs.Common.{◌≡◌, replicate}
-use Rattle.interleaving.specs.Counting.{no_counts}
+use Rattle.legal_steps.specs.Counting.{no_counts}
 use Rattle.interleaving.proofs.counts.JobCounts.new.Given as goal
 
 abbrev pub invariant-loop-job : goal.invariant-loop-job
