@@ -1,11 +1,13 @@
 -- A log with one more entry: its parts, its dial, its last entry.
-use Rattle.std.proofs.Common.{◌≡◌, ℕ, zero, suc, ◌+◌, ◌<◌, ◌≤◌, ◌⊎◌, inl, inr, arith, refl, sym, ap, subst, List, [], ◌∷◌, ◌++◌, length, take, Bool, true, false, nat_lt, Option, Some, None, slice_get, if◌then◌else◌}
+use Rattle.std.proofs.Common.{◌≡◌, ◌≢◌, ℕ, zero, suc, ◌+◌, ◌-◌, ◌<◌, ◌≤◌, ◌∙◌, ◌⊎◌, inl, inr, arith, refl, sym, ap, subst, List, [], ◌∷◌, ◌++◌, length, take, Bool, true, false, nat_lt, Option, Some, None, slice_get, slice_index_or, if◌then◌else◌}
 use Rattle.std.proofs.lemmas.Grind.{fold-append}
 use Rattle.std.proofs.lemmas.List.{take-append-le}
 use Rattle.std.proofs.Math.Seq.{take-append_seam}
-use Rattle.std.specs.List.{last_or}
+use Rattle.std.proofs.lemmas.Option.{get_or_from_slice_get}
+use Rattle.std.specs.List.{last_or, All}
 use Rattle.std.specs.Option.{option_and_then, option_map_or, MatchOption}
 use Rattle.instrument_log.specs.declared.entry.Entry.{Entry}
+use Rattle.instrument_log.specs.Entries.{IsWithinLimits}
 use Rattle.instrument_log.specs.Dial.{turned, dial, HasDialValues}
 use Rattle.instrument_log.specs.Parts.{open_entry, if_open, unfinished_of, IsNextPlace, Follows}
 
@@ -17,12 +19,52 @@ last_or-push : (o : Option Entry) (entries : List Entry) (entry : Entry) → las
 last_or-push o [] entry = refl
 last_or-push o (first ∷ entries) entry = last_or-push (Some first) entries entry
 
+last_or-read : (first : Entry) (entries : List Entry) → slice_get (first ∷ entries) (length entries) ≡ last_or (Some first) entries
+last_or-read first [] = refl
+last_or-read first (next ∷ entries) = last_or-read next entries
+
 pub open_entry-push : (entries : List Entry) (entry : Entry) → open_entry (entries ++ entry ∷ []) ≡ if_open entry
 unfolding open_entry
 open_entry-push entries entry = ap (option_and_then if_open) (last_or-push None entries entry)
 
 pub unfinished_of-push : (entries : List Entry) (entry : Entry) → unfinished_of (entries ++ entry ∷ []) ≡ option_map_or (λ last. last.place) (if_open entry) 0
 unfinished_of-push entries entry = ap (λ o. option_map_or (λ last. last.place) o 0) (open_entry-push entries entry)
+
+if_open-none : (last : Entry) (b : Bool) → 1 ≤ last.place → option_map_or (λ entry. entry.place) (if b then Some last else None) 0 ≡ 0
+    → (if b then Some last else None) ≡ None
+if_open-none last true from none = absurd (omega (arith, none))
+if_open-none last false from none = refl
+
+if_open-last : (last : Entry) (b : Bool) → option_map_or (λ entry. entry.place) (if b then Some last else None) 0 ≢ 0
+    → (if b then Some last else None) ≡ Some last
+if_open-last last true some = refl
+if_open-last last false some = absurd (some refl)
+
+-- where no entry is unfinished, none is open
+none_open : (o : Option Entry) → ((last : Entry) → o ≡ Some last → 1 ≤ last.place)
+    → option_map_or (λ entry. entry.place) (option_and_then if_open o) 0 ≡ 0 → option_and_then if_open o ≡ None
+none_open None from none = refl
+none_open (Some last) from none = if_open-none last (nat_lt last.place last.length) (from last refl) none
+
+pub open_entry-none : (entries : List Entry) → All IsWithinLimits entries → unfinished_of entries ≡ 0 → open_entry entries ≡ None
+unfolding open_entry
+open_entry-none [] within none = refl
+open_entry-none (first ∷ entries) within none =
+    let read : (last : Entry) → last_or None (first ∷ entries) ≡ Some last → slice_index_or (first ∷ entries) (length entries) last ≡ last =
+    λ last is. get_or_from_slice_get (first ∷ entries) (length entries) last last (last_or-read first entries ∙ is) in
+    none_open (last_or None (first ∷ entries))
+    (λ last is. (subst IsWithinLimits (read last is) (within (length entries) last (omega arith))).place_from) none
+
+-- where entries are unfinished, the last one is open
+pub open_entry-last : (entries : List Entry) (last : Entry) → unfinished_of entries ≢ 0 → slice_get entries (length entries - 1) ≡ Some last
+    → open_entry entries ≡ Some last
+unfolding open_entry
+open_entry-last [] last some is = cc
+open_entry-last (first ∷ entries) last some is =
+    let end : length entries ≡ length (first ∷ entries) - 1 = omega arith in
+    let ends : last_or None (first ∷ entries) ≡ Some last = sym (last_or-read first entries) ∙ (ap (slice_get (first ∷ entries)) end ∙ is) in
+    ap (option_and_then if_open) ends
+    ∙ if_open-last last (nat_lt last.place last.length) (subst (λ o. option_map_or (λ entry. entry.place) (option_and_then if_open o) 0 ≢ 0) ends some)
 
 -- an entry of a longer list is one of the shorter, or the new one
 pub slice_get-push : (xs : List Entry) (x : Entry) (k : ℕ) (y : Entry) → slice_get (xs ++ x ∷ []) k ≡ Some y

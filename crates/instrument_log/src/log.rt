@@ -1,9 +1,9 @@
 // The log of one instrument.
 ghost use Rattle.std.specs.Prelude.{◌≡◌, ◌≢◌, ◌+◌, ◌-◌, ◌<◌, ◌≤◌, length, map, slice_get, Some, IfOk, IsTrue, ◌↔◌};
-ghost use Rattle.std.specs.Option.{MatchOption};
+ghost use Rattle.std.specs.Option.{MatchOption, option_map_or};
 ghost use Rattle.instrument_log.specs.Entries.{IsWithinLimits, entry_bytes};
 ghost use Rattle.instrument_log.specs.Dial.{turned, dial};
-ghost use Rattle.instrument_log.specs.Parts.{IsNextPlace, if_open, unfinished_of};
+ghost use Rattle.instrument_log.specs.Parts.{IsNextPlace, if_open, open_entry, unfinished_of};
 ghost use Rattle.instrument_log.specs.InstrumentLog.{IsLog, MayAppend, IsRefused, Appends, empty_log, with_entry};
 
 use crate::entry::Entry;
@@ -24,8 +24,8 @@ pub struct InstrumentLog<A: Allocator = Global> {
     // Each entry as `pack_entry` packs it, with capacity for `room` of them.
     packed: Vec<[u8; 16], A>,
     room: usize,
-    // The last entry, where its part is unfinished.
-    open_last: Option<Entry>,
+    // How many entries the last part has, where it is unfinished; else 0.
+    unfinished: u32,
     value: u32,
 }
 
@@ -38,7 +38,7 @@ impl<A: Allocator> Model for InstrumentLog<A> {
 
     ghost view = { λ log. record { entries = entries_of log.packed.items; room = log.room } };
 
-    ghost invariant = { λ log. IsKept log.packed.items log.room log.open_last log.value × (log.room ≤ vec_capacity log.packed) };
+    ghost invariant = { λ log. IsKept log.packed.items log.room log.unfinished log.value × (log.room ≤ vec_capacity log.packed) };
 }
 
 impl<A: Allocator> InstrumentLog<A> {
@@ -49,7 +49,7 @@ impl<A: Allocator> InstrumentLog<A> {
         Ok(InstrumentLog {
             packed: Vec::with_capacity(alloc, room)?,
             room,
-            open_last: None,
+            unfinished: 0,
             value: 0,
         })
     }
@@ -75,22 +75,35 @@ impl<A: Allocator> InstrumentLog<A> {
         requires { 1 ≤ entry.now.place }
         ensures { MatchOption result (MayAppend self.now entry.now) (λ refusal. IsRefused self.now entry.now refusal) }
     {
-        match &self.open_last {
-            Some(before) if !is_next_place(before, entry) => Some(LogRefusal::NotNextPlace),
+        match self.open_entry() {
+            Some(before) if !is_next_place(&before, entry) => Some(LogRefusal::NotNextPlace),
             None if entry.place != 1 => Some(LogRefusal::NotFirstPlace),
             _ if self.packed.len() == self.room => Some(LogRefusal::NoRoom),
             _ => None,
         }
     }
 
-    fn add(&mut self, entry: Entry)
+    // The last entry, where its part is unfinished.
+    fn open_entry(&self) -> Option<Entry>
+        ensures { result ≡ open_entry self.now.entries }
+    {
+        if self.unfinished == 0 {
+            None
+        } else {
+            Some(spelled_by(&self.packed[self.packed.len() - 1]))
+        }
+    }
+
+    /// Adds at the end an entry that is known to follow, within the log's room, and tests nothing of it.
+    /// Takes no memory. Where that isn't known, [`append`](Self::append) says whether it does.
+    pub fn add(&mut self, entry: Entry)
         requires may { MayAppend self.old entry }
         requires within_limits { IsWithinLimits entry }
         requires on_dial { entry.value ≡ turned entry.verb (dial self.old.entries) }
         ensures { self.new ≡ with_entry self.old entry }
     {
         self.packed.push_reserved(pack_entry(entry));
-        self.open_last = if_open(&entry);
+        self.unfinished = unfinished_by(&entry);
         self.value = entry.value;
     }
 
@@ -138,7 +151,7 @@ impl<A: Allocator> InstrumentLog<A> {
         ensures counted { result ≤ length self.now.entries }
         ensures kept { IsLog self.now }
     {
-        self.open_last.map_or(0, |entry| entry.place as usize)
+        self.unfinished as usize
     }
 
     /// The number on the dial after all entries, 0 where there is none.
@@ -167,12 +180,13 @@ fn is_next_place(before: &Entry, entry: &Entry) -> bool
         && entry.place - 1 == before.place
 }
 
-fn if_open(entry: &Entry) -> Option<Entry>
-    ensures { result ≡ if_open entry.now }
+// How many entries a part has up to this one, where it is unfinished; else 0.
+fn unfinished_by(entry: &Entry) -> u32
+    ensures { result ≡ option_map_or (λ last. last.place) (if_open entry.now) 0 }
 {
     if entry.place < entry.length {
-        Some(*entry)
+        entry.place
     } else {
-        None
+        0
     }
 }

@@ -40,11 +40,11 @@ impl<A: Allocator> SessionTable<A> {
     {
         let needs = InstrumentSet::of(commands);
         let mut parts = [0; MOST_INSTRUMENTS];
-        let mut places = Vec::new(alloc);
+        let mut places = Vec::with_capacity(alloc, commands.len())?;
         for (instrument, _) in commands {
             let place = parts[instrument.0 as usize] + 1;
             parts[instrument.0 as usize] = place;
-            places.push(place)?;
+            places.push_reserved(place);
         }
         Ok(SessionTable {
             needs,

@@ -48,15 +48,11 @@ pub fn next_entry<A: Allocator>(
 }
 
 /// Adds an entry to a log that takes it.
-#[tactic(auto, using(crate::proofs::NotRefused::not_refused))]
 pub fn push<A: Allocator>(log: &mut InstrumentLog<A>, entry: &Entry)
     requires may { MayAppend log.old entry.now }
     requires within_limits { IsWithinLimits entry.now }
     requires on_dial { entry.now.value ≡ turned entry.now.verb (dial log.old.entries) }
     ensures { log.new ≡ with_entry log.old entry.now }
 {
-    match log.append(*entry) {
-        Ok(()) => (),
-        Err(_) => unreachable!(),
-    }
+    log.add(*entry);
 }

@@ -9,7 +9,7 @@ pub invariant_of-self : goal.invariant_of-self
 invariant_of-self g c =
     let entry = c.args.entry in
     let here = sym c.self.view_is in (
-      rw (c.push_reserved.ensures.items, c.pack_entry.ensures, c.if_open-self-inside.ensures) (IsKept-push _
+      rw (c.push_reserved.ensures.items, c.pack_entry.ensures, c.unfinished_by-self-inside.ensures) (IsKept-push _
           _ _ _ entry c.self.invariant.0 (subst (λ log. MayAppend log entry) here c.requires.may) c.requires.within_limits (c.requires.on_dial
           ∙ ap (λ (log : LogView). turned entry.verb (dial log.entries)) here)),
       omega (arith, c.push_reserved.ensures.capacity, c.self.invariant.1),

@@ -10,8 +10,9 @@ pub loop-instrument-init : goal.loop-instrument-init
 loop-instrument-init g c = record {
   parts = λ i below. read_alike 56 i 0;
   numbered = refl;
-  placed = ap length c.new-places.ensures.items;
+  placed = ap length c.in_ok-places.ensures.items;
   places = λ m h. absurd (omega (arith, h));
+  room = c.in_ok-places.ensures.capacity;
 }
 
 pub loop-instrument-preserved : goal.loop-instrument-preserved
@@ -24,7 +25,7 @@ loop-instrument-preserved g c =
     let number = c.requires.numbered k (0, Read) c.loop-instrument-test.true in
     let below : n < 56 = omega (arith, number, is) in
     let new : ℕ = slice_index_or c.loop-instrument.parts n 0 + 1 in
-    let pushed = c.in_ok-push.ensures.items in
+    let pushed = c.push_reserved.ensures.items in
     record {
       parts = parts_more commands c.loop-instrument.parts k n new c.loop-instrument-test.true
           is below c.loop-instrument.invariant.numbered c.loop-instrument.invariant.parts refl;
@@ -33,4 +34,5 @@ loop-instrument-preserved g c =
       places =
           subst (ArePlaces commands (k + 1)) (sym pushed) (places_more commands c.loop-instrument.parts c.loop-instrument.places.items k
           n new is below c.loop-instrument.invariant.parts refl c.loop-instrument.invariant.placed c.loop-instrument.invariant.places);
+      room = omega (arith, c.push_reserved.ensures.capacity, c.loop-instrument.invariant.room);
     }
