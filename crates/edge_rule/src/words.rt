@@ -36,10 +36,9 @@ pub(crate) fn unpacked<A: Allocator>(plan: &Plan<A>, edge: EdgeNo, word: u64) ->
     ensures word { word_of result ≡ word }
     ensures fits { IsOfBottles (length (bottles plan.now edge)) result }
 {
-    match EdgeWord::unpack(word, plan.bottles(edge)) {
-        Some(word) => word,
-        None => unreachable!(),
-    }
+    // An edge has 28 bottles at most, so that its words are among those that can be spelled.
+    let _ = plan.bottles(edge);
+    EdgeWord::spelled(word)
 }
 
 // Whether the edge was noted as calm, and the word is the one last seen.
@@ -135,8 +134,5 @@ pub(crate) fn unpacked_phase(word: u64) -> PhaseWord
     ensures word { phase_word_of result ≡ word }
     ensures fits { FitsPhaseWord result }
 {
-    match PhaseWord::unpack(word) {
-        Some(word) => word,
-        None => unreachable!(),
-    }
+    PhaseWord::spelled(word)
 }

@@ -152,6 +152,16 @@ impl EdgeWord {
         }
     }
 
+    /// The edge that a word spells, where it is known to spell one: no bit of it is tested. Any other word is
+    /// for [`unpack`](Self::unpack).
+    pub fn spelled(word: u64) -> EdgeWord
+        requires { (x : EdgeState) × (word ≡ word_of x) × IsOfBottles most_bottles x }
+        ensures word { word_of result ≡ word }
+        ensures fits { IsOfBottles most_bottles result }
+    {
+        EdgeWord { word }
+    }
+
     /// The word itself.
     #[tactic(auto, using(crate::proofs::WordBits::word_behind))]
     pub fn pack(self) -> u64

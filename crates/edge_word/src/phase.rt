@@ -91,6 +91,16 @@ impl PhaseWord {
         }
     }
 
+    /// The phase that a word spells, where it is known to spell one: no bit of it is tested. Any other word is
+    /// for [`unpack`](Self::unpack).
+    pub fn spelled(word: u64) -> PhaseWord
+        requires { (x : JobState) × (word ≡ phase_word_of x) × FitsPhaseWord x }
+        ensures word { phase_word_of result ≡ word }
+        ensures fits { FitsPhaseWord result }
+    {
+        PhaseWord { word }
+    }
+
     /// The word itself.
     #[tactic(auto, using(crate::proofs::PhaseLemmas::phase_behind))]
     pub fn pack(self) -> u64

@@ -192,6 +192,34 @@ fn keeps_a_part_cut_at_each_place(rt: HostRuntime) -> Result<(), Fail> {
     Ok(())
 }
 
+/// Adds an entry that is the first of a log, and so is known to follow.
+#[tactic(auto, using(crate::proofs::FirstEntry::may_begin))]
+fn begin<A: Allocator>(rt: &impl Abort, log: &mut InstrumentLog<A>, entry: Entry) {
+    assert!(rt; log.is_empty() && log.room() > 0 && entry.place == 1);
+    assert!(rt; entry.is_within_limits() && entry.value == turned(entry.verb, log.value()));
+    log.add(entry);
+}
+
+/// After it the log goes on as after one that was appended: the rest of `IN_ORDER` is answered alike.
+#[test]
+fn adds_an_entry_that_follows(rt: HostRuntime) -> Result<(), Fail> {
+    let mut log = InstrumentLog::with_room(rt.alloc(), 2)?;
+    let eight = Entry {
+        job: JobNo(3),
+        session: 1,
+        place: 1,
+        length: 2,
+        verb: Verb::Set(8),
+        value: 8,
+    };
+    begin(&rt, &mut log, eight);
+    check_cut(&rt, &log, (1, 0, 1, 1, 8));
+    assert!(rt; last_of(&rt, &log) == eight);
+    offer_all(&rt, &mut log, &IN_ORDER[2..]);
+    check_cut(&rt, &log, (2, 2, 0, 2, 10));
+    Ok(())
+}
+
 const PAST_THE_LAST: [Offer; 2] = [
     (1, 1, 3, Verb::Set(999_999), Ok(())),
     (1, 2, 3, Verb::Add(1), Ok(())),

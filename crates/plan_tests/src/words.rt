@@ -44,6 +44,28 @@ fn words_accepted(rt: HostRuntime) {
     }
 }
 
+/// The edge of a word that is known to be one of an edge.
+fn known_edge(word: u64) -> Option<EdgeWord> {
+    let _edge = EdgeWord::unpack(word, 28)?;
+    Some(EdgeWord::spelled(word))
+}
+
+/// The phase of a word that is known to be one of a phase.
+fn known_phase(word: u64) -> Option<PhaseWord> {
+    let _phase = PhaseWord::unpack(word)?;
+    Some(PhaseWord::spelled(word))
+}
+
+#[test]
+fn words_known_to_spell(rt: HostRuntime) {
+    for (edge, phase) in [(OPENING, 261), (19, 272), (1152921500311879686, 4294967562)] {
+        assert_eq!(rt; known_edge(edge), EdgeWord::unpack(edge, 28), "at {edge}");
+        assert_eq!(rt; known_edge(edge).map(|known| known.pack()), Some(edge));
+        assert_eq!(rt; known_phase(phase), PhaseWord::unpack(phase), "at {phase}");
+        assert_eq!(rt; known_phase(phase).map(|known| known.pack()), Some(phase));
+    }
+}
+
 #[test]
 fn edges_are_read(rt: HostRuntime) {
     let Some(edge) = EdgeWord::unpack(OPENING, 1) else {
