@@ -3,7 +3,7 @@
 
 ghost use Rattle.std.specs.Prelude.{◌≡◌};
 ghost use Rattle.lab_program.specs.Answers.{ScriptRefuses};
-ghost use Rattle.lab_runs.specs.Runs.{Checks, ReplaysScript, ReplayRefuses, Upgrades, UpgradeIsStable};
+ghost use Rattle.script_runs.specs.Runs.{Checks, ReplaysScript, ReplayRefuses, Upgrades, UpgradeIsStable};
 ghost use Rattle.lab_runs.specs.Shared.{RunsInRounds, HasOneRun};
 ghost use Rattle.lab_c.specs.Calls.{Answers};
 
@@ -13,7 +13,8 @@ mod telling;
 
 use bytes::Bytes;
 use kept::Kept;
-use lab_runs::{run_check, run_replay, run_rounds, run_upgrade};
+use lab_runs::run_rounds;
+use script_runs::{run_check, run_replay, run_upgrade};
 use std::alloc::Global;
 pub use telling::Told;
 use telling::tell;

@@ -1,4 +1,1 @@
-pub mod CountSums
-pub mod Replayed
-pub mod UpgradeStable
 pub mod SharedRuns

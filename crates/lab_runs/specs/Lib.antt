@@ -1,6 +1,3 @@
-pub mod Counts
-pub mod Runs
-pub mod Replaying
+pub mod Shared
 pub mod Words
 pub mod Tasks
-pub mod Shared

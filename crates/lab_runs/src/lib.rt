@@ -1,16 +1,12 @@
 //! What `labrun` does, over any source and any sink: a script is read whole, and what is written and answered is settled by its
-//! bytes.
+//! bytes. Runs on a bench, by rounds and by threads, are here; what needs no bench is in `script_runs`.
 #![tactic(auto)]
 
-mod counting;
-mod replaying;
-mod running;
-mod sending;
 mod sharing;
 mod tasks;
 mod words;
 
-pub use running::{run_check, run_replay, run_upgrade};
+pub use script_runs::{run_check, run_replay, run_upgrade};
 pub use sharing::{run_rounds, run_threads};
 pub use tasks::run_task;
 pub use words::{PROGRAM, Task, read_words};

@@ -5,7 +5,6 @@ ghost use Rattle.lab_program.specs.Faults.{failed_reads, failed_writes};
 ghost use Rattle.lab_program.specs.Answers.{AnswersFor, ScriptRefuses};
 ghost use Rattle.lab_runs.specs.Shared.{RunsByTurns, RunsInRounds, HasOneRun, RoundsAnswer, ThreadsAnswer};
 
-use crate::sending::{outcome_of, send_report};
 use headline::holds_of_every_run;
 use lab_program::{Outcome, RunFault, Source, read_input};
 use report::Sink;
@@ -13,6 +12,7 @@ use report::laws::one_report;
 use round_laws::laws::one_run;
 use script_reader::laws::one_meaning;
 use script_reader::read_plan;
+use script_runs::{outcome_of, send_report};
 use std::alloc::Allocator;
 use std::thread::Threads;
 use whole_runs::{AtEnd, by_rounds, by_threads};

@@ -5,11 +5,11 @@ ghost use Rattle.lab_program.specs.Faults.{failed_reads, failed_writes};
 ghost use Rattle.lab_runs.specs.Words.{MayRun};
 ghost use Rattle.lab_runs.specs.Tasks.{TaskAnswers};
 
-use crate::running::{run_check, run_replay, run_upgrade};
 use crate::sharing::{run_rounds, run_threads};
 use crate::words::Task;
 use lab_program::{Outcome, RunFault, Source};
 use report::Sink;
+use script_runs::{run_check, run_replay, run_upgrade};
 use std::alloc::Allocator;
 use std::thread::Threads;
 use workers::Gate;

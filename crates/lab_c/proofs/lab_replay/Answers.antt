@@ -1,4 +1,4 @@
-use Rattle.lab_runs.specs.Runs.{ReplaysScript, ReplayRefuses}
+use Rattle.script_runs.specs.Runs.{ReplaysScript, ReplayRefuses}
 use Rattle.lab_c.proofs.Called.{answered}
 use Rattle.lab_c.proofs.lab_replay.Goals as goal
 

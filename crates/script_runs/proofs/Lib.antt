@@ -1,0 +1,3 @@
+pub mod CountSums
+pub mod Replayed
+pub mod UpgradeStable

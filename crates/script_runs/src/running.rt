@@ -1,0 +1,131 @@
+// What the program does with a script: replay its steps, check it, upgrade it.
+ghost use Rattle.std.specs.Prelude.{◌≡◌, ◌+◌};
+ghost use Rattle.lab_program.specs.Input.{ConsumesUpTo};
+ghost use Rattle.lab_program.specs.Faults.{failed_reads, failed_writes};
+ghost use Rattle.lab_program.specs.Answers.{AnswersFor, ScriptRefuses};
+ghost use Rattle.script_runs.specs.Runs.{ReplaysScript, ReplayRefuses, ReplayAnswers, Checks, CheckAnswers, Upgrades, UpgradeAnswers, UpgradeIsStable};
+
+use crate::counting::counts_line;
+use crate::replaying::take_steps;
+use crate::sending::{outcome_of, send_report, send_script};
+use headline::holds_of_every_run;
+use interleaving::World;
+use lab_program::{Outcome, RunFault, Source, read_input, send_text};
+use report::Sink;
+use report::laws::report_of_events;
+use script_reader::laws::one_meaning;
+use script_reader::upgrade_law::{upgrade_is_short, upgrade_means_plan};
+use script_reader::{read_plan, read_steps};
+use std::alloc::Allocator;
+
+/// Replays the steps of an input.
+fn replay<A: Allocator + Copy, W: Sink>(
+    alloc: A,
+    input: &[u8],
+    sink: &mut W,
+) -> Result<Outcome, RunFault>
+    ensures answer { AnswersFor ReplaysScript ReplayRefuses input.now (W.taken sink.old) (W.taken sink.new) result }
+    ensures reads { failed_reads result ≡ 0 }
+    ensures writes { W.failures sink.new ≡ W.failures sink.old + failed_writes result }
+{
+    let (plan, steps) = read_steps(alloc, input)?;
+    let mut world = World::opening(alloc, &plan)?;
+    if let Err(line) = take_steps(&mut world, &steps) {
+        return Err(RunFault::Step { line });
+    }
+    // The plan is within every limit, the report of the world is that of the steps, and what holds of
+    // every run holds of them.
+    let _ = plan.jobs();
+    report_of_events();
+    holds_of_every_run();
+    send_report(&world, sink)?;
+    Ok(outcome_of(&world))
+}
+
+/// Takes each step of a script from the opening on, all in turn, and writes the report of the run.
+///
+/// The input is at most 16777216 bytes. All steps are read before the first is taken, and all are
+/// taken before the report goes out, a line at a time; a flush follows it. Finished says that every
+/// job is retired then. Whatever the steps, the logs that are printed are whole but for their ends.
+pub fn run_replay<A: Allocator + Copy, R: Source, W: Sink>(
+    alloc: A,
+    source: &mut R,
+    sink: &mut W,
+) -> Result<Outcome, RunFault>
+    ensures answer { ReplayAnswers (R.left source.old) (W.taken sink.old) (W.taken sink.new) result }
+    ensures most { ConsumesUpTo (R.left source.old) (R.left source.new) 16777217 }
+    ensures reads { R.failures source.new ≡ R.failures source.old + failed_reads result }
+    ensures writes { W.failures sink.new ≡ W.failures sink.old + failed_writes result }
+{
+    let input = read_input(alloc, source)?;
+    replay(alloc, &input, sink)
+}
+
+/// Writes the counts of an input.
+fn check<A: Allocator + Copy, W: Sink>(
+    alloc: A,
+    input: &[u8],
+    sink: &mut W,
+) -> Result<Outcome, RunFault>
+    ensures answer { AnswersFor Checks ScriptRefuses input.now (W.taken sink.old) (W.taken sink.new) result }
+    ensures reads { failed_reads result ≡ 0 }
+    ensures writes { W.failures sink.new ≡ W.failures sink.old + failed_writes result }
+{
+    let plan = read_plan(alloc, input)?;
+    let line = counts_line(alloc, &plan)?;
+    send_text(line.as_bytes(), sink)?;
+    Ok(Outcome::Finished)
+}
+
+/// Reads a script, without steps, and writes its counts in one line. The outcome is Finished.
+pub fn run_check<A: Allocator + Copy, R: Source, W: Sink>(
+    alloc: A,
+    source: &mut R,
+    sink: &mut W,
+) -> Result<Outcome, RunFault>
+    ensures answer { CheckAnswers (R.left source.old) (W.taken sink.old) (W.taken sink.new) result }
+    ensures most { ConsumesUpTo (R.left source.old) (R.left source.new) 16777217 }
+    ensures reads { R.failures source.new ≡ R.failures source.old + failed_reads result }
+    ensures writes { W.failures sink.new ≡ W.failures sink.old + failed_writes result }
+{
+    let input = read_input(alloc, source)?;
+    check(alloc, &input, sink)
+}
+
+/// Writes the upgraded script of an input.
+fn upgrade<A: Allocator + Copy, W: Sink>(
+    alloc: A,
+    input: &[u8],
+    sink: &mut W,
+) -> Result<Outcome, RunFault>
+    ensures answer { AnswersFor Upgrades ScriptRefuses input.now (W.taken sink.old) (W.taken sink.new) result }
+    ensures reads { failed_reads result ≡ 0 }
+    ensures writes { W.failures sink.new ≡ W.failures sink.old + failed_writes result }
+{
+    let plan = read_plan(alloc, input)?;
+    // What goes out is a script again, and not too long, since the plan is within every limit.
+    let _ = plan.jobs();
+    upgrade_means_plan();
+    upgrade_is_short();
+    send_script(&plan, sink)?;
+    Ok(Outcome::Finished)
+}
+
+/// Reads a script of either version, without steps, and writes the script of version 2 that means the
+/// same plan. Upgrading what it writes gives the same bytes. The outcome is Finished.
+pub fn run_upgrade<A: Allocator + Copy, R: Source, W: Sink>(
+    alloc: A,
+    source: &mut R,
+    sink: &mut W,
+) -> Result<Outcome, RunFault>
+    ensures answer { UpgradeAnswers (R.left source.old) (W.taken sink.old) (W.taken sink.new) result }
+    ensures most { ConsumesUpTo (R.left source.old) (R.left source.new) 16777217 }
+    ensures reads { R.failures source.new ≡ R.failures source.old + failed_reads result }
+    ensures writes { W.failures sink.new ≡ W.failures sink.old + failed_writes result }
+    ensures stable { UpgradeIsStable }
+{
+    // A text has one meaning.
+    one_meaning();
+    let input = read_input(alloc, source)?;
+    upgrade(alloc, &input, sink)
+}
