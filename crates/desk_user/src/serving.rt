@@ -11,7 +11,7 @@ use edge_rule::{Bench, Desk, PhaseEvent, store_phase};
 use session_layer::{Turned, Visited, visit};
 use std::alloc::Allocator;
 
-/// Visits each own edge once, in ascending order: gives there what is asked for and may be given, and asks for what is wanted. Answers how many exchanges
+/// Visits each edge of the job once, in ascending order: gives there what is asked for and may be given, and asks for what is wanted. Answers how many exchanges
 /// were done, and how many found another word.
 pub fn visit_all<A: Allocator>(bench: &Bench<A>, desk: &mut Desk<A>) -> (u32, u32)
     requires own { Owns bench.now desk.old }
@@ -49,8 +49,8 @@ pub fn meal<A: Allocator>(bench: &Bench<A>, desk: &mut Desk<A>) -> u32
     0
 }
 
-/// Visits each own edge, and then starts or ends the meal that the job owes: all that a neighbour may wait for, and nothing of the job's own sessions. So an
-/// owner who has no work yet, or is busy while he holds his instruments, goes on serving his neighbours. It is no turn: the desk counts none, and no
+/// Visits each edge of the job, and then starts or ends the meal that the job owes: all that a neighbour may wait for, and nothing of the job's sessions.
+/// So an owner that has no work yet, or is busy while it holds its instruments, goes on serving its neighbours. It is no turn: the desk counts none, and no
 /// patience. Answers as a turn does.
 pub fn serve<A: Allocator>(bench: &Bench<A>, desk: &mut Desk<A>) -> Turned
     requires own { Owns bench.now desk.old }

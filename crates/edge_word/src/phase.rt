@@ -91,7 +91,7 @@ impl PhaseWord {
         }
     }
 
-    /// The phase that a word spells, where it is known to spell one: no bit of it is tested. Any other word is
+    /// The phase that a word spells, if it is known to spell one: no bit of it is tested. Any other word is
     /// for [`unpack`](Self::unpack).
     pub fn spelled(word: u64) -> PhaseWord
         requires { (x : JobState) × (word ≡ phase_word_of x) × FitsPhaseWord x }

@@ -27,7 +27,7 @@ abbrev pub ended_at : LabPlan → List Event → ℕ → List (ℕ × ℕ)
 ended_at plan history n = ended_sessions plan (the_opening plan) (take n history)
 
 pub record HoldsOf (plan : LabPlan) (history : List Event) : Type 0 where
-  -- after each beginning of the run every log is whole sessions one after another, save at most one unfinished last
+  -- after each beginning of the run every log is whole sessions one after another, except at most one unfinished last
   pub logs_whole : (n i : ℕ) → IsWholeButEnd plan i (log_at plan history n i)
   -- the sessions that ended are the plan's, those of each job in ascending order, and every log has their parts, in the order of their ends, before anything
   -- else

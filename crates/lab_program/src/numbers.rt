@@ -25,7 +25,7 @@ fn capped_number(word: &[u8]) -> u64
     number
 }
 
-/// The number that a word of the command line spells in plain digits, where it is within these bounds, both at most
+/// The number that a word of the command line spells in plain digits, if it is within these bounds, both at most
 /// 1000000000; zeros may lead, a sign may not.
 pub fn number_within(word: &[u8], least: u32, most: u32) -> Option<u32>
     requires { (least ≤ 1000000000) × (most ≤ 1000000000) }

@@ -37,7 +37,7 @@ fn glance<A: Allocator>(
     None
 }
 
-/// Why the event isn't legal now; `None` exactly where it is legal.
+/// Why the event isn't legal now; `None` exactly if it is legal.
 ///
 /// Of several causes the first is told, in the order in which its guard names them, and of several edges
 /// and bottles the one with the lowest number.

@@ -14,7 +14,7 @@ use rounds::{Ended, all_retired, are_at_rest};
 use std::alloc::Allocator;
 use std::thread::Threads;
 
-// Drives the desks of the slice. Their order may change, save where there is no memory.
+// Drives the desks of the slice. Their order may change, unless no memory is left.
 fn drive<R: Threads + Sync, S: Allocator, A: Allocator + Send + Sync, G: Gate>(
     rt: &R,
     alloc: S,
