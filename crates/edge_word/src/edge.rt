@@ -138,7 +138,7 @@ impl EdgeWord {
         }
     }
 
-    /// The edge that a word spells, or None exactly where a bit is set that must be zero.
+    /// The edge that a word spells, or None exactly if a bit is set that must be zero.
     pub fn unpack(word: u64, bottles: u32) -> Option<EdgeWord>
         requires some_bottle { 1 ≤ bottles }
         requires few { bottles ≤ most_bottles }

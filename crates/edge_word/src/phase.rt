@@ -78,7 +78,7 @@ impl PhaseWord {
         }
     }
 
-    /// The phase that a word spells, or None exactly where bits 0 to 1 are 3, bits 2 to 4 above 4, or a bit
+    /// The phase that a word spells, or None exactly if bits 0 to 1 are 3, bits 2 to 4 above 4, or a bit
     /// among 5 to 7 is set.
     pub fn unpack(word: u64) -> Option<PhaseWord>
         ensures spelled { IfSome result (λ x. (phase_word_of x ≡ word) × FitsPhaseWord x) }

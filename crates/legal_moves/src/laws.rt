@@ -7,7 +7,7 @@ pub fn always_legal()
     ensures { IsAlwaysLegal }
 {}
 
-/// A step with bottles is legal exactly where the step with each one of them is.
+/// A step with bottles is legal exactly if the step with each one of them is.
 pub fn bottles_alone()
     ensures { AreBottlesAlone }
 {}
