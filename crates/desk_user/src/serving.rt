@@ -19,6 +19,7 @@ pub fn visit_all<A: Allocator>(bench: &Bench<A>, desk: &mut Desk<A>) -> (u32, u3
     ensures few { (result.0 ≤ 496) × (result.1 ≤ 496) }
 {
     let plan = bench.plan();
+    // A plan has 496 edges at most, as this call ensures: so the two counts can't overflow.
     let _ = plan.edges();
     let own = plan.edges_of(desk.job());
     let mut done = 0u32;
