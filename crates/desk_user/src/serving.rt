@@ -11,8 +11,8 @@ use edge_rule::{Bench, Desk, PhaseEvent, store_phase};
 use session_layer::{Turned, Visited, visit};
 use std::alloc::Allocator;
 
-/// Visits each edge of the job once, in ascending order: gives there what is asked for and may be given, and asks for what is wanted. Answers how many exchanges
-/// were done, and how many found another word.
+/// Visits each edge of the job once, in ascending order: gives what is asked for there and may be given, and asks for what is wanted. Answers how many
+/// exchanges were done, and how many found another word.
 pub fn visit_all<A: Allocator>(bench: &Bench<A>, desk: &mut Desk<A>) -> (u32, u32)
     requires own { Owns bench.now desk.old }
     ensures along { Along desk.old (edges_of desk.old.plan desk.old.job) result.0 result.1 desk.new }
