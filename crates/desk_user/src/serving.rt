@@ -1,4 +1,4 @@
-//! Serving the neighbours, without going on oneself.
+//! Serving the neighbours, while the job itself doesn't go on.
 ghost use Rattle.std.specs.Prelude.{◌≤◌};
 ghost use Rattle.lab_plan.specs.LabPlan.{edges_of};
 ghost use Rattle.edge_rule.specs.DeskView.{Owns};
@@ -34,7 +34,7 @@ pub fn visit_all<A: Allocator>(bench: &Bench<A>, desk: &mut Desk<A>) -> (u32, u3
     (done, lost)
 }
 
-/// Ends the job's meal, or else starts one, where that is legal. Answers how many of both it did.
+/// Ends the job's meal or starts one, if either is legal. Answers how many it did: 1 or 0.
 pub fn meal<A: Allocator>(bench: &Bench<A>, desk: &mut Desk<A>) -> u32
     requires own { Owns bench.now desk.old }
     ensures { IsMeal desk.old result desk.new }

@@ -26,7 +26,7 @@ pub fn ended_sessions_there()
     ensures { HasEndedSessions }
 {}
 
-/// Where no job holds an instrument, its log is the parts of the sessions that ended, and nothing else.
+/// If no job holds an instrument, its log is the parts of the sessions that ended, and nothing else.
 #[tactic(auto, using(crate::proofs::LogLawProofs::has_nothing_else))]
 pub fn nothing_else_at_rest()
     ensures { HasNothingElse }

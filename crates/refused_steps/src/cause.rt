@@ -5,13 +5,13 @@ use lab_plan::EdgeNo;
 /// end of the edge, "there" the other. A bottle is named by its number on the event's edge, from 0.
 #[derive(Clone, Copy, PartialEq, Eq, Debug)]
 pub enum Cause {
-    /// The job is none of the plan's.
+    /// The plan has no such job.
     NotJob,
-    /// The edge is none of the job's.
+    /// It isn't an edge of the job.
     NotOwn,
     /// What is there isn't what the look or the glance is said to see.
     SeesElse,
-    /// The job that is glanced at is none of the plan's.
+    /// The plan has no such job as the one that is glanced at.
     OtherNotJob,
     /// The job glances at itself.
     Itself,
