@@ -76,7 +76,7 @@ abbrev pub May : LabPlan → State → Event → Type 0
 May plan s (Look j e seen) = IsOwn plan j e × (seen ≡ edge s e)
 -- the fork is asked for by a hungry job that has the token and not the fork
 May plan s (AskFork j e) = IsOwn plan j e × (dining s j ≡ Hungry) × There plan j e (fork s e) × Here plan j e (token s e)
--- a dirty fork is given where its token is here too, but not during a meal
+-- a dirty fork is given if its token is here too, but not during a meal
 May plan s (GiveFork j e) = IsOwn plan j e × (dining s j ≢ Eating) × Here plan j e (fork s e) × (is_dirty s e ≡ true) × Here plan j e (token s e)
 -- a clean fork is soiled during a meal
 May plan s (Soil j e) = IsOwn plan j e × (dining s j ≡ Eating) × Here plan j e (fork s e) × (is_dirty s e ≡ false)
@@ -127,7 +127,7 @@ with_fork_mark x e mark = record x { fork_marks = slice_set x.fork_marks e mark 
 abbrev pub with_bottle_marks : Seat → ℕ → ℕ → Seat
 with_bottle_marks x e marks = record x { bottle_marks = slice_set x.bottle_marks e marks }
 
--- the seat where the job dines so, without any fork mark
+-- the seat in which the job dines so, without any fork mark
 abbrev pub turned_to : Seat → Dining → Seat
 turned_to x dining = record x { phase = record x.phase { dining = dining }; fork_marks = replicate (length x.fork_marks) false }
 

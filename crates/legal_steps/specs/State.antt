@@ -139,6 +139,6 @@ bottles_at plan e Lower x = bit_xor (all_bottles plan e) x.bottles
 abbrev pub IsInSession : Drinking → Type 0
 IsInSession d = (d ≡ Thirsty) ⊎ (d ≡ Drinks) ⊎ (d ≡ Reaching)
 
--- it holds the instruments of its session where it drinks or reaches
+-- it holds the instruments of its session while it drinks or reaches
 abbrev pub IsDrinking : JobState → Type 0
 IsDrinking phase = (phase.drinking ≡ Drinks) ⊎ (phase.drinking ≡ Reaching)

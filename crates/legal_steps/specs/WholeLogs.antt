@@ -1,4 +1,4 @@
--- For readers: whole logs: the parts of sessions one after another, except at most one unfinished last.
+-- For readers: whole logs: the parts of sessions one after another, of which only the last may be unfinished.
 use Rattle.std.specs.Prelude.{◌≡◌, ◌⊎◌, ℕ, ◌<◌, ◌≤◌, List, [], ◌∷◌, ◌++◌, length, map, filter, take, ◌==◌}
 use Rattle.std.specs.List.{flat_map, enumerate_from, AllPairs, All}
 use Rattle.lab_plan.specs.declared.verb.Verb.{Verb}
