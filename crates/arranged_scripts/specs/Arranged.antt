@@ -9,7 +9,7 @@ use Rattle.arranging.specs.Chains.{IsChain}
 use Rattle.arranging.specs.Reordered.{IsArrangement}
 use Rattle.script_reader.specs.Script.{ScriptMeans}
 
--- the text, and the end of its last line where it lacks it
+-- the text, with a line end added if its last line has none
 unfoldable pub with_line_end : List ℕ → List ℕ
 with_line_end text = if ends_with_byte 10 text then text else text ++ 10 ∷ []
 

@@ -9,7 +9,7 @@ use lab_plan::Plan;
 use script_reader::{ScriptCause, read_plan};
 use std::alloc::{AllocError, Allocator};
 
-/// The plan that a text of our own is read as, where it is one.
+/// The plan that a text made by `arranged_script` is read as; none if it is no script.
 fn read_back<A: Allocator + Copy>(alloc: A, text: &[u8]) -> Result<Option<Plan<A>>, AllocError>
     ensures { IfOk result (λ read. IfSome read (λ plan. ScriptMeans text.now plan)) }
 {

@@ -39,7 +39,7 @@ fn smallest_place(jobs: &[JobNo]) -> usize
     smallest
 }
 
-/// A cycle of the pairs that begins with its smallest job, or `None` exactly where there is none.
+/// A cycle of the pairs that begins with its smallest job, or `None` exactly if there is none.
 ///
 /// Each pair leads from its first job to its second, and both are below `jobs`. A pair of a job with
 /// itself is a cycle of that job alone. Of several cycles any one is answered. Memory is taken in

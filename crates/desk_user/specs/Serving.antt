@@ -23,7 +23,7 @@ pub record IsMeal (d : DeskView) (n : ℕ) (e : DeskView) : Type 0 where
   pub does : DoesAll d events e
   pub says : n ≡ once events
 
--- Each own edge was visited, in ascending order, and then the meal was ended or started, where that was due
+-- Each edge of the job was visited, in ascending order, and then the meal was ended or started, where that was due
 pub record Served (d : DeskView) (r : Turned) (e : DeskView) : Type 0 where
   pub visits : List Visit
   pub edges : map (λ (v : Visit). v.edge) visits ≡ edges_of d.plan d.job

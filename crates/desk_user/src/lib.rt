@@ -1,5 +1,5 @@
-//! The bench in a program of one's own: it opens with its desks, and each job's owner takes turns until something holds, or
-//! serves the neighbours, on a thread of his own.
+//! The bench in a program of your own: it opens with its desks, and each job's owner takes turns until something holds, or
+//! serves the neighbours, on a thread of its own.
 //!
 //! Every call asks that the desk is of the bench, and leaves it so; `open` is where that begins.
 #![tactic(auto)]

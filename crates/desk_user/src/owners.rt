@@ -17,8 +17,8 @@ pub trait Owner: Sync {
         ensures { Keeps bench.now desk.old desk.new };
 }
 
-/// Lets each desk's owner work, on a thread of its own where one can be made, and returns when all of them have. Where no thread can be made, desks are
-/// worked at one after another: so an owner ends after a number of turns, and doesn't wait for ever for what another is to do.
+/// Lets each desk's owner work, on a thread of its own if one can be made, and returns when all of them have. If no thread can be made, desks are
+/// worked at one after another. So let an owner end after a number of turns, and never wait for ever for what another has to do.
 pub fn on_threads<R: Threads + Sync, A: Allocator + Send + Sync, W: Owner>(
     rt: &R,
     bench: &Bench<A>,

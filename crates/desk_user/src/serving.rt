@@ -1,4 +1,4 @@
-//! Serving the neighbours, without going on oneself.
+//! Serving the neighbours, while the job itself doesn't go on.
 ghost use Rattle.std.specs.Prelude.{◌≤◌};
 ghost use Rattle.lab_plan.specs.LabPlan.{edges_of};
 ghost use Rattle.edge_rule.specs.DeskView.{Owns};
@@ -11,14 +11,15 @@ use edge_rule::{Bench, Desk, PhaseEvent, store_phase};
 use session_layer::{Turned, Visited, visit};
 use std::alloc::Allocator;
 
-/// Visits each own edge once, in ascending order: gives there what is asked for and may be given, and asks for what is wanted. Answers how many exchanges
-/// were done, and how many found another word.
+/// Visits each edge of the job once, in ascending order: gives what is asked for there and may be given, and asks for what is wanted. Answers how many
+/// exchanges were done, and how many found another word.
 pub fn visit_all<A: Allocator>(bench: &Bench<A>, desk: &mut Desk<A>) -> (u32, u32)
     requires own { Owns bench.now desk.old }
     ensures along { Along desk.old (edges_of desk.old.plan desk.old.job) result.0 result.1 desk.new }
     ensures few { (result.0 ≤ 496) × (result.1 ≤ 496) }
 {
     let plan = bench.plan();
+    // A plan has 496 edges at most, as this call ensures: so the two counts can't overflow.
     let _ = plan.edges();
     let own = plan.edges_of(desk.job());
     let mut done = 0u32;
@@ -33,7 +34,7 @@ pub fn visit_all<A: Allocator>(bench: &Bench<A>, desk: &mut Desk<A>) -> (u32, u3
     (done, lost)
 }
 
-/// Ends the job's meal, or else starts one, where that is legal. Answers how many of both it did.
+/// Ends the job's meal or starts one, if either is legal. Answers how many it did: 1 or 0.
 pub fn meal<A: Allocator>(bench: &Bench<A>, desk: &mut Desk<A>) -> u32
     requires own { Owns bench.now desk.old }
     ensures { IsMeal desk.old result desk.new }
@@ -49,8 +50,8 @@ pub fn meal<A: Allocator>(bench: &Bench<A>, desk: &mut Desk<A>) -> u32
     0
 }
 
-/// Visits each own edge, and then starts or ends the meal that the job owes: all that a neighbour may wait for, and nothing of the job's own sessions. So an
-/// owner who has no work yet, or is busy while he holds his instruments, goes on serving his neighbours. It is no turn: the desk counts none, and no
+/// Visits each edge of the job, and then starts or ends the meal that the job owes: all that a neighbour may wait for, and nothing of the job's sessions.
+/// So an owner that has no work yet, or is busy while it holds its instruments, goes on serving its neighbours. It is no turn: the desk counts none, and no
 /// patience. Answers as a turn does.
 pub fn serve<A: Allocator>(bench: &Bench<A>, desk: &mut Desk<A>) -> Turned
     requires own { Owns bench.now desk.old }

@@ -20,8 +20,8 @@ pub fn take_turn<A: Allocator>(bench: &Bench<A>, desk: &mut Desk<A>) -> Turned
     turn(bench, desk)
 }
 
-/// Takes turns until the job has come so far, at most this many, and answers whether it has. Where it has already, no turn is taken. A turn also begins the
-/// next session, where the job is in none and has one left.
+/// Takes turns until the job has come so far, at most this many, and answers whether it has. If it has already, no turn is taken. A turn also begins the
+/// next session, if the job is in none and has one left.
 pub fn turns_until<A: Allocator>(
     bench: &Bench<A>,
     desk: &mut Desk<A>,

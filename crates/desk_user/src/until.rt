@@ -7,7 +7,7 @@ use edge_rule::{Bench, Desk};
 use session_layer::may_quit;
 use std::alloc::Allocator;
 
-/// How far a job is to come.
+/// How far a job has to come.
 #[derive(Clone, Copy, PartialEq, Eq, Debug)]
 pub enum Until {
     /// It holds all instruments of a session.
@@ -16,7 +16,7 @@ pub enum Until {
     CommandsDone,
     /// It is in no session.
     IsOut,
-    /// It is retired, which it is for good.
+    /// It is retired, for good.
     Retired,
 }
 

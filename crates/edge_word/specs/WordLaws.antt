@@ -53,7 +53,7 @@ abbrev pub LegalMovesAreOfTheEdge : Type 0
 LegalMovesAreOfTheEdge = (plan : LabPlan) (s : State) (j e : ℕ) (m : EdgeMoves)
     → IsLegalFrom plan s (events_of m j e) → AreOfBottles (length (bottles plan e)) m
 
--- a legal group of moves, but for the empty one, has one to four events: none asks for a fork and soils one
+-- a legal group of moves, unless it is empty, has one to four events: none asks for a fork and soils one
 abbrev pub LegalGroupsAreShort : Type 0
 LegalGroupsAreShort = (plan : LabPlan) (s : State) (j e : ℕ) (m : EdgeMoves)
     → IsLegalFrom plan s (events_of m j e) → is_nothing m ≡ false → (1 ≤ length (events_of m j e)) × (length (events_of m j e) ≤ 4)

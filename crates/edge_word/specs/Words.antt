@@ -59,6 +59,6 @@ pub record IsEdgeWord (w : ℕ) : Type 0 where
   pub bit_three : w / 8 % 2 ≡ 0
   pub top_bits : w < 2 ^ 60
 
--- bit 3, and the bits of bottles and tokens that an edge of n bottles lacks, added up
+-- bit 3, and the bits of bottles and tokens that an edge of n bottles doesn't have, added up
 abbrev pub stray_bits : ℕ → ℕ → ℕ
 stray_bits w n = w / 8 % 2 + w / 2 ^ 4 % 2 ^ 28 / 2 ^ n + w / 2 ^ 32 / 2 ^ n

@@ -43,7 +43,7 @@ const ALL_BOTTLES: u64 = 0xfff_ffff;
 /// | 32 to 59 | bit `BOTTLE_TOKENS + k`: end of the request token of bottle `k` |
 /// | 60 to 63 | zero |
 ///
-/// Bits of bottles that the edge lacks are zero.
+/// Bits of bottles that the edge doesn't have are zero.
 #[derive(Clone, Copy, PartialEq, Eq, Debug)]
 pub struct EdgeWord {
     word: u64,
@@ -105,7 +105,7 @@ fn end_of(word: u64) -> End
     }
 }
 
-/// Bit 3, and the bits of bottles that the edge lacks, added up.
+/// Bit 3, and the bits of bottles that the edge doesn't have, added up.
 fn stray_bits_of(word: u64, bottles: u32) -> u64
     requires { bottles ≤ most_bottles }
     ensures { result ≡ stray_bits word bottles }
@@ -138,7 +138,7 @@ impl EdgeWord {
         }
     }
 
-    /// The edge that a word spells, or None exactly where a bit is set that must be zero.
+    /// The edge that a word spells, or None exactly if a bit is set that must be zero.
     pub fn unpack(word: u64, bottles: u32) -> Option<EdgeWord>
         requires some_bottle { 1 ≤ bottles }
         requires few { bottles ≤ most_bottles }
@@ -152,7 +152,7 @@ impl EdgeWord {
         }
     }
 
-    /// The edge that a word spells, where it is known to spell one: no bit of it is tested. Any other word is
+    /// The edge that a word spells, if it is known to spell one: no bit of it is tested. Any other word is
     /// for [`unpack`](Self::unpack).
     pub fn spelled(word: u64) -> EdgeWord
         requires { (x : EdgeState) × (word ≡ word_of x) × IsOfBottles most_bottles x }
@@ -194,7 +194,7 @@ impl EdgeWord {
         end_of(self.word >> TOKEN)
     }
 
-    /// The end of bottle `k`; the lower for a bottle that the edge lacks.
+    /// The end of bottle `k`; the lower for a bottle that the edge doesn't have.
     #[tactic(auto, using(crate::proofs::WordBits::bottle_read))]
     pub fn bottle_end(self, k: u32) -> End
         requires { k < most_bottles }
@@ -203,7 +203,7 @@ impl EdgeWord {
         end_of(self.word >> (BOTTLES + k))
     }
 
-    /// The end of the request token of bottle `k`; the lower for a bottle that the edge lacks.
+    /// The end of the request token of bottle `k`; the lower for a bottle that the edge doesn't have.
     #[tactic(auto, using(crate::proofs::WordBits::token_read))]
     pub fn bottle_token_end(self, k: u32) -> End
         requires { k < most_bottles }

@@ -78,7 +78,7 @@ impl PhaseWord {
         }
     }
 
-    /// The phase that a word spells, or None exactly where bits 0 to 1 are 3, bits 2 to 4 above 4, or a bit
+    /// The phase that a word spells, or None exactly if bits 0 to 1 are 3, bits 2 to 4 above 4, or a bit
     /// among 5 to 7 is set.
     pub fn unpack(word: u64) -> Option<PhaseWord>
         ensures spelled { IfSome result (λ x. (phase_word_of x ≡ word) × FitsPhaseWord x) }
@@ -91,7 +91,7 @@ impl PhaseWord {
         }
     }
 
-    /// The phase that a word spells, where it is known to spell one: no bit of it is tested. Any other word is
+    /// The phase that a word spells, if it is known to spell one: no bit of it is tested. Any other word is
     /// for [`unpack`](Self::unpack).
     pub fn spelled(word: u64) -> PhaseWord
         requires { (x : JobState) × (word ≡ phase_word_of x) × FitsPhaseWord x }

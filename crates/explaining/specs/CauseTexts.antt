@@ -74,7 +74,7 @@ reason_text NoCommandLeft = codes "the session has no command left"
 reason_text CommandLeft = codes "the session has a command left"
 reason_text NoPatience = codes "the session has no patience"
 
--- where it is: a fork, or a bottle, for which a job has no mark, or a bottle of its step
+-- the place of a fork or a bottle for which a job has no mark, or of a bottle of its step
 abbrev pub fork_place : LabPlan → ℕ → ℕ → List ℕ
 fork_place plan j e = codes "no mark for the fork with " ++ other_name plan j e ++ codes ": "
 

@@ -1,4 +1,4 @@
--- For readers: what is told of a list of steps from THE opening: of the first that isn't legal where its turn comes, or else of the end.
+-- For readers: what is said of a list of steps from THE opening: of the first that isn't legal where its turn comes, or else of the end.
 use Rattle.std.specs.Prelude.{◌≡◌, ℕ, List, ◌++◌, length, map, codes, decimal, Option, None, Some, slice_get}
 use Rattle.std.specs.List.{flat_map, range_with_len}
 use Rattle.lab_plan.specs.LabPlan.{LabPlan}
@@ -41,7 +41,7 @@ jobs_text plan s = flat_map (job_text plan s) (range_with_len 0 (length plan.job
 unfoldable pub end_text : LabPlan → State → ℕ → List Step → List ℕ
 end_text plan s steps moves = end_line steps ++ jobs_text plan s ++ moves_text plan moves
 
--- ---- what is told
+-- ---- what is said
 
 -- of a step that isn't legal in the state: a part of its guard that fails there, and exactly the moves that are legal there
 pub record TellsStep (plan : LabPlan) (s : State) (line : StepLine) (text : List ℕ) : Type 0 where
@@ -61,7 +61,7 @@ pub record TellsEnd (plan : LabPlan) (s : State) (steps : ℕ) (text : List ℕ)
 abbrev pub events_from_opening : LabPlan → List StepLine → List Event
 events_from_opening plan lines = step_events plan (the_opening plan) (map (λ line. line.step) lines)
 
--- the first step that isn't legal stands in this line, and is told of
+-- the first step that isn't legal stands in this line, and is explained
 pub record TellsRefusal (plan : LabPlan) (lines : List StepLine) (number : ℕ) (text : List ℕ) : Type 0 where
   pub place : ℕ
   pub state : State
@@ -71,7 +71,7 @@ pub record TellsRefusal (plan : LabPlan) (lines : List StepLine) (number : ℕ) 
   pub numbered : line.line ≡ number
   pub tells : TellsStep plan state line text
 
--- all steps are legal, and their end is told of
+-- all steps are legal, and the state after them is described
 pub record TellsAll (plan : LabPlan) (lines : List StepLine) (text : List ℕ) : Type 0 where
   pub state : State
   pub runs : Runs plan (the_opening plan) (events_from_opening plan lines) state

@@ -1,4 +1,4 @@
-// What is told of a list of steps.
+// What is said of a list of steps.
 ghost use Rattle.std.specs.Prelude.{◌≡◌, ◌++◌, decimal, map, IfOk, OnOk};
 ghost use Rattle.std.specs.List.{All};
 ghost use Rattle.legal_steps.specs.Legal.{May};
@@ -18,7 +18,7 @@ use legal_steps::StepLine;
 use refused_steps::{Cause, why_not};
 use std::alloc::{AllocError, Allocator};
 
-/// An explanation: its text, and the line of the step that isn't legal, where there is one.
+/// An explanation: its text, and the line of the step that isn't legal, if there is one.
 #[derive(Drop)]
 pub struct Explanation<A: Allocator> {
     pub text: Vec<u8, A>,
@@ -103,7 +103,7 @@ fn add_jobs<A: Allocator, B: Allocator>(
     Ok(())
 }
 
-/// Tells of the end of so many steps.
+/// Describes the state after this many steps.
 fn tell_end<A: Allocator + Copy, B: Allocator>(
     alloc: A,
     world: &World<'_, B>,
@@ -119,9 +119,9 @@ fn tell_end<A: Allocator + Copy, B: Allocator>(
     Ok(out)
 }
 
-/// Takes the steps one after another from THE opening, and tells of the first that isn't legal where its turn comes:
+/// Takes the steps one after another from THE opening, and explains the first that isn't legal where its turn comes:
 /// which part of its guard fails, how its job and the job's edges are there, and which moves of any job are legal there.
-/// Where all are legal, it tells the same of the end, of all jobs.
+/// If all are legal, it says the same of the state after them, for all jobs.
 pub fn explain<A: Allocator + Copy>(
     alloc: A,
     plan: &Plan<A>,

@@ -14,7 +14,7 @@ use Rattle.legal_steps.specs.Precedence.{IsAcyclic}
 use Rattle.legal_steps.specs.WholeLogs.{IsWholeButEnd, IsSessionOf, IsAscending, BeginsWithParts, ended_sessions}
 use Rattle.overtaking.specs.Overtaking.{overtaking}
 
--- the state after the first n events of a run, or after all where there are fewer
+-- the state after the first n events of a run, or after all if there are fewer
 abbrev pub state_at : LabPlan → List Event → ℕ → State
 state_at plan history n = after_all plan (the_opening plan) (take n history)
 
@@ -27,7 +27,7 @@ abbrev pub ended_at : LabPlan → List Event → ℕ → List (ℕ × ℕ)
 ended_at plan history n = ended_sessions plan (the_opening plan) (take n history)
 
 pub record HoldsOf (plan : LabPlan) (history : List Event) : Type 0 where
-  -- after each beginning of the run every log is whole sessions one after another, save at most one unfinished last
+  -- after each beginning of the run every log is whole sessions one after another, of which only the last may be unfinished
   pub logs_whole : (n i : ℕ) → IsWholeButEnd plan i (log_at plan history n i)
   -- the sessions that ended are the plan's, those of each job in ascending order, and every log has their parts, in the order of their ends, before anything
   -- else

@@ -8,7 +8,7 @@ use legal_steps::log_laws::{dial_values, ended_sessions_there, ends_in_order, wh
 use overtaking::laws::overtaken_once;
 
 /// Of every list of events that is legal from THE opening of a plan: after each of its beginnings the logs are
-/// whole but for their ends, with every ended session there, their values follow the dial, no two jobs hold one
+/// whole except for their ends, with every ended session there, their values follow the dial, no two jobs hold one
 /// instrument, and precedence has no cycle; and between a job's request for a neighbour's fork and its next meal
 /// that neighbour begins at most one meal. The function does nothing: this is its contract.
 pub fn holds_of_every_run()

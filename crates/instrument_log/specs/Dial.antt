@@ -1,4 +1,4 @@
--- For readers: the dial of an instrument, as its log tells it.
+-- For readers: the dial of an instrument, by the entries of its log.
 use Rattle.std.specs.Prelude.{◌≡◌, ℕ, ◌+◌, ◌%◌, List, fold, take, slice_get, Some}
 use Rattle.lab_plan.specs.declared.verb.Verb.{Verb}
 use Rattle.lab_plan.specs.declared.verb.Verb.TheVariants.{Set, Add, Read}

@@ -12,7 +12,7 @@ if_open entry = if nat_lt entry.place entry.length then Some entry else None
 unfoldable pub open_entry : List Entry → Option Entry
 open_entry entries = option_and_then if_open (last_or None entries)
 
--- how many entries the unfinished part has, 0 where none is unfinished
+-- how many entries the unfinished part has, 0 if there is none
 abbrev pub unfinished_of : List Entry → ℕ
 unfinished_of entries = option_map_or (λ entry. entry.place) (open_entry entries) 0
 
@@ -23,7 +23,7 @@ pub record IsNextPlace (before entry : Entry) : Type 0 where
   pub same_length : entry.length ≡ before.length
   pub next : entry.place ≡ before.place + 1
 
--- the entry goes on with the unfinished part, or begins a part where none is unfinished
+-- the entry goes on with the unfinished part, or begins a part if none is unfinished
 abbrev pub Follows : List Entry → Entry → Type 0
 Follows entries entry = MatchOption (open_entry entries) (entry.place ≡ 1) (λ before. IsNextPlace before entry)
 
@@ -46,7 +46,7 @@ pub record IsPart (entries : List Entry) : Type 0 where
   pub ends : last.place ≡ last.length
   pub up_to_last : IsPartUpTo last entries
 
--- a log is whole but for its end: parts, one after another, and then the beginning of one more, or nothing
+-- a log is whole except for its end: parts, one after another, and then the beginning of one more, or nothing
 pub record IsPartsButEnd (entries : List Entry) : Type 0 where
   pub parts : List (List Entry)
   pub rest : List Entry

@@ -24,7 +24,7 @@ pub struct InstrumentLog<A: Allocator = Global> {
     // Each entry as `pack_entry` packs it, with capacity for `room` of them.
     packed: Vec<[u8; 16], A>,
     room: usize,
-    // How many entries the last part has, where it is unfinished; else 0.
+    // How many entries the last part has if it is unfinished; otherwise 0.
     unfinished: u32,
     value: u32,
 }
@@ -145,7 +145,7 @@ impl<A: Allocator> InstrumentLog<A> {
         self.len() - self.unfinished()
     }
 
-    /// The number of entries of the unfinished last part, 0 where none is unfinished.
+    /// The number of entries of the unfinished last part, 0 if there is none.
     pub fn unfinished(&self) -> usize
         ensures unfinished { result ≡ unfinished_of self.now.entries }
         ensures counted { result ≤ length self.now.entries }
@@ -180,7 +180,7 @@ fn is_next_place(before: &Entry, entry: &Entry) -> bool
         && entry.place - 1 == before.place
 }
 
-// How many entries a part has up to this one, where it is unfinished; else 0.
+// How many entries a part has up to this one if it is unfinished; otherwise 0.
 fn unfinished_by(entry: &Entry) -> u32
     ensures { result ≡ option_map_or (λ last. last.place) (if_open entry.now) 0 }
 {

@@ -27,7 +27,7 @@ pub fn pack_entry(entry: Entry) -> [u8; 16]
     ]
 }
 
-/// The entry that the bytes are packed from, where it is one within the limits. There is none exactly
+/// The entry that the bytes are packed from, if it is one within the limits. There is none exactly
 /// where the job, the session, the length, the verb's number or the value is past its limit (`lab_plan::limits`), the session
 /// or the place is 0, the place above the length, the verb above 2, or a read has a number.
 pub fn unpack_entry(bytes: [u8; 16]) -> Option<Entry>

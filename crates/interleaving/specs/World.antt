@@ -27,7 +27,7 @@ pub record LeadsTo (old : WorldView) (events : List Event) (new : WorldView) : T
   pub counted : GoOnBy old.counts events new.counts
   pub same_plan : new.plan ≡ old.plan
 
--- an event: Ok where it is legal, and it is done; else nothing changes
+-- an event: Ok if it is legal, and it is done; otherwise nothing changes
 abbrev pub Steps : WorldView → Event → Result (Unit {0}) NotLegal → WorldView → Type 0
 Steps old event (Ok done) new = IsLegal old.plan old.state event new.state × GoOnBy old.counts (event ∷ []) new.counts × (new.plan ≡ old.plan)
 Steps old event (Err refused) new = (¬ May old.plan old.state event) × (new ≡ old)

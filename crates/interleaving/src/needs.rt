@@ -18,7 +18,7 @@ impl<'a, A: Allocator> Tables<'a, A> {
         self.plan().edges_of(job)
     }
 
-    // Whether the job has a fork mark on every own edge.
+    // Whether the job has a fork mark on every edge of its own.
     pub(crate) fn is_marked_all(&self, job: JobNo) -> bool
         requires { IsJob self.now.plan job }
         ensures { IsTrue result ↔ IsMarkedAll self.now.plan self.now.state job }
@@ -70,7 +70,7 @@ impl<'a, A: Allocator> Tables<'a, A> {
         true
     }
 
-    // Whether each needed bottle of every own edge is marked.
+    // Whether each bottle that the job needs is marked, on all of its edges.
     pub(crate) fn has_needed(&self, job: JobNo) -> bool
         requires { IsJob self.now.plan job }
         ensures { IsTrue result ↔ HasNeeded self.now.plan self.now.state job }

@@ -5,7 +5,7 @@ use std::alloc::AllocError;
 /// Why a world isn't started. Of several reasons the first in this order is given.
 #[derive(Clone, Copy, PartialEq, Eq, Debug)]
 pub enum StartRefusal {
-    /// The choices are not one for each edge, or one names a bottle that its edge lacks.
+    /// The choices are not one for each edge, or one names a bottle that its edge doesn't have.
     BadChoices,
     /// A growth was refused.
     NoMemory,

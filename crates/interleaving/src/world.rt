@@ -81,7 +81,7 @@ impl<'a, A: Allocator + Copy> World<'a, A> {
 }
 
 impl<'a, A: Allocator> World<'a, A> {
-    /// One event, where it is legal; else the world stays as it is.
+    /// Does one event if it is legal; otherwise the world stays as it is.
     pub fn step(&mut self, event: Event) -> Result<(), NotLegal>
         ensures { Steps self.old event result self.new }
     {

@@ -61,7 +61,7 @@ Tells (Err fault) text old new told status = Fails fault old new told status
 -- ---- what a call says of its script
 
 -- For readers: what is promised of a call. By its status (the program's: 0 and 3 by the outcome, 1 for a script or a step that is refused, 4 for a script that
--- is too long, 5 for want of memory): the text that such a run writes stands at the front of the report, and its length is told; or that text is longer than
+-- is too long, 5 if no memory is left): the text that such a run writes stands at the front of the report, and its length is told; or that text is longer than
 -- the room (6), and its length is told; or the script is refused for a fault that it has, and its line and cause are told. Then, and without memory, the
 -- report stays as it was
 abbrev pub AnswersAs : (List ℕ → List ℕ → Outcome → Type 0) → (List ℕ → RunFault → Type 0)

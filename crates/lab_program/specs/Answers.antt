@@ -9,7 +9,7 @@ use Rattle.lab_program.specs.declared.faults.RunFault.TheVariants.{Script, Step,
 use Rattle.lab_program.specs.declared.faults.Outcome.{Outcome}
 use Rattle.lab_program.specs.Input.{IsInput, IsTooLong}
 
--- for an input: Ok means that the text went out, and a write fault that a prefix of it did; else nothing did
+-- for an input: Ok means that the text went out, and a write fault that a prefix of it did; otherwise nothing did
 abbrev pub AnswersFor : (List ℕ → List ℕ → Outcome → Type 0) → (List ℕ → RunFault → Type 0)
     → List ℕ → Option (List ℕ) → Option (List ℕ) → Result Outcome RunFault → Type 0
 AnswersFor Writes Refuses input old new (Ok outcome) = (text : List ℕ) × Writes input text outcome × Appends old new text

@@ -8,6 +8,6 @@ use Rattle.script_reader.specs.Number.{number_of}
 abbrev pub are_digits : List ℕ → Bool
 are_digits word = nat_le 1 (length word) && list_all is_digit word
 
--- the number that the word spells, where it is within these bounds
+-- the number that the word spells, if it is within these bounds
 unfoldable pub number_within : ℕ → ℕ → List ℕ → Option ℕ
 number_within least most word = if are_digits word && (nat_le least (number_of word) && nat_le (number_of word) most) then Some (number_of word) else None

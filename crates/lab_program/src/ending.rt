@@ -9,12 +9,12 @@ use crate::words::NoTask;
 use std::fmt::Display;
 use std::process::ExitCode;
 
-/// Tells a fault in one line on standard error, behind the program's name. Where that can't be written nothing is said.
+/// Writes a fault as one line on standard error, after the program's name. If that can't be written, nothing is said.
 pub fn tell(rt: &impl Eprint, program: &str, fault: &impl Display) {
     let _ = eprintln!(rt; "{program}: {fault}");
 }
 
-/// The status of an answer; a fault is told in one line on standard error.
+/// The status of an answer; a fault gets one line on standard error.
 pub fn end(rt: &impl Eprint, program: &str, answer: Result<Outcome, RunFault>) -> ExitCode
     ensures { exit_status result ≡ status_of answer }
 {
@@ -24,8 +24,8 @@ pub fn end(rt: &impl Eprint, program: &str, answer: Result<Outcome, RunFault>) -
     ExitCode::from(status_of(&answer))
 }
 
-/// The status where the words gave no task. Help is printed on standard output, other words are refused
-/// in one line on standard error. It is 4 where the help can't be printed.
+/// The status if the words gave no task. Help is printed on standard output, other words are refused
+/// in one line on standard error. It is 4 if the help can't be printed.
 pub fn end_without_task(rt: &(impl Print + Eprint), program: &str, reason: NoTask) -> ExitCode
     ensures { EndsWithoutTask reason (exit_status result) }
 {

@@ -18,7 +18,7 @@ pub enum Outcome {
     Unfinished,
 }
 
-/// Why a run fails. On standard error its text stands behind `labrun: `.
+/// Why a run fails. On standard error its text comes after `labrun: `.
 #[derive(Clone, Copy, PartialEq, Eq, Debug, Error)]
 pub enum RunFault {
     /// The script or its steps are refused.

@@ -1,4 +1,4 @@
-// Numbers of the command line: plain digits, however many zeros lead.
+// Numbers of the command line: plain digits, with any number of leading zeros.
 ghost use Rattle.std.specs.Prelude.{◌≡◌, ◌≤◌, true, min, IfSome};
 ghost use Rattle.std.specs.List.{list_all};
 ghost use Rattle.lab_plan.specs.Names.{is_digit};
@@ -13,7 +13,7 @@ fn are_digits(word: &[u8]) -> bool
     word.iter().all(|byte| is_digit(*byte))
 }
 
-/// The number that digits spell; of a larger number than 1000000000 no more than that it is larger.
+/// The number that digits spell; for every number above 1000000000, 1000000001.
 fn capped_number(word: &[u8]) -> u64
     requires { list_all is_digit word.now ≡ true }
     ensures { result ≡ min (number_of word.now) 1000000001 }
@@ -25,8 +25,8 @@ fn capped_number(word: &[u8]) -> u64
     number
 }
 
-/// The number that a word of the command line spells in plain digits, where it is within these bounds, both at most
-/// 1000000000; zeros may lead, a sign may not.
+/// The number that a word of the command line spells in plain digits, if it is within these bounds, both at most
+/// 1000000000; leading zeros are taken, a sign isn't.
 pub fn number_within(word: &[u8], least: u32, most: u32) -> Option<u32>
     requires { (least ≤ 1000000000) × (most ≤ 1000000000) }
     ensures number { result ≡ number_within least most word.now }

@@ -8,13 +8,13 @@ use std::io::Read;
 
 /// Where bytes come from.
 pub trait Source {
-    /// The bytes that reads will give, where the source tells them.
+    /// The bytes that reads will give, if the source can say.
     ghost left: { Self → Option (List ℕ) } = { λ _. None };
 
     /// How many reads have failed.
     ghost failures: { Self → ℕ };
 
-    /// Reads some bytes into a nonempty buffer and says how many, none only at the end.
+    /// Reads some bytes into a nonempty buffer and says how many: 0 only at the end.
     fn read(&mut self, buffer: &mut [u8]) -> Result<usize, Failed>
         requires { 0 < length buffer.old }
         ensures bound { ReadsAtMost result buffer.new }

@@ -13,7 +13,7 @@ use std::io;
 pub enum NoTask {
     /// `--help` alone was asked for, and this is its text.
     Help(String),
-    /// The words are none that the program knows.
+    /// The program doesn't know these words.
     Refused,
     /// A growth was refused.
     NoMemory,
@@ -30,7 +30,7 @@ impl From<AllocError> for NoTask {
     }
 }
 
-/// The words that the program was started with, its own name first. Words that are no text are refused.
+/// The words that the program was started with, its own name first. Words that aren't text are refused.
 pub fn given_words(rt: &HostRuntime) -> Result<Vec<String>, NoTask> {
     let given = match std::env::args(rt) {
         Ok(given) => given,
@@ -47,7 +47,7 @@ pub fn bytes<S: AsStr>(word: &S) -> &[u8]
     word.as_str().as_bytes()
 }
 
-/// Whether `--help` is the one word behind the program's own name.
+/// Whether `--help` is the only word after the program's own name.
 pub fn asks_for_help<S: AsStr>(words: &[S]) -> bool
     ensures { result ≡ asks_for_help (map S.text words.now) }
 {
@@ -57,7 +57,7 @@ pub fn asks_for_help<S: AsStr>(words: &[S]) -> bool
     }
 }
 
-/// A word of a program: by its name it is read, and with its values and what it does the help shows it.
+/// A word of a program: it is read by its name, and the help shows it with its values and what it does.
 #[derive(Clone, Copy)]
 pub struct Word {
     pub name: &'static str,

@@ -40,7 +40,7 @@ fn in_rounds<A: Allocator + Copy, W: Sink>(
 }
 
 /// Runs a script on one thread, in rounds: each round has one turn of each job, in the order of the script. It ends once all
-/// jobs are retired, or after so many rounds, and writes the report, a line at a time; a flush follows it.
+/// jobs are retired, or after this many rounds. Then it writes the report, a line at a time; a flush follows it.
 ///
 /// The input is at most 16777216 bytes. Nothing goes out before the run is over. The same bytes and the same limit give the
 /// same report. Finished says that every job is retired then.
@@ -89,11 +89,11 @@ fn by_workers<X: Threads + Sync, A: Allocator + Copy + Send + Sync, W: Sink, G: 
 }
 
 /// Runs a script by 1 to 32 worker threads: worker `w` takes the turns of the jobs whose number is `w` modulo the workers, at
-/// most so many turns of each job. Then it writes the report, a line at a time; a flush follows it.
+/// most this many turns of each job. Then it writes the report, a line at a time; a flush follows it.
 ///
 /// The input is at most 16777216 bytes. Nothing goes out before the run is over. A worker passes the gate before each turn, and
-/// ends early once it has seen that all jobs are retired. Where a thread can't be made its turns are taken on another.
-/// Finished says that every job is retired then; else each job took as many turns as were asked for.
+/// ends early once it has seen that all jobs are retired. If a thread can't be made, its turns are taken on another.
+/// Finished says that every job is retired then; otherwise each job took as many turns as were asked for.
 pub fn run_threads<
     X: Threads + Sync,
     A: Allocator + Copy + Send + Sync,

@@ -14,7 +14,7 @@ use std::alloc::Allocator;
 use std::thread::Threads;
 use workers::Gate;
 
-/// Runs a task over a source and a sink. Only a task by threads starts any, and its turns alone pass the gate.
+/// Runs a task over a source and a sink. Only a task by threads starts any, and only its turns pass the gate.
 pub fn run_task<X: Threads + Sync, A: Allocator + Copy + Send + Sync, R: Source, W: Sink, G: Gate>(
     task: Task,
     rt: &X,

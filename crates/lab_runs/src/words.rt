@@ -9,9 +9,9 @@ use std::convert::AsStr;
 /// What the words ask for.
 #[derive(Clone, Copy, Debug, PartialEq, Eq, Drop)]
 pub enum Task {
-    /// Run a script on one thread, at most so many rounds.
+    /// Run a script on one thread, at most this many rounds.
     Rounds { limit: u32 },
-    /// Run a script by so many workers, at most so many turns of each job.
+    /// Run a script by this many workers, at most this many turns of each job.
     Threads { workers: u32, turns: u32 },
     /// Replay the steps of a script.
     Replay,
@@ -144,8 +144,8 @@ fn task_of<S: AsStr>(words: &[S]) -> Option<Task>
     }
 }
 
-/// The task that the words of a command line ask for, the program's own name first. `--help` as the one
-/// word more asks for the help, and for its text alone memory is taken. All other words are refused.
+/// The task that the words of a command line ask for, the program's own name first. `--help` as the only
+/// other word asks for the help, whose text alone takes memory. All other words are refused.
 pub fn read_words<S: AsStr>(alloc: Global, words: &[S]) -> Result<Task, NoTask>
     ensures answer { AnswersWords (map S.text words.now) result }
     ensures task { IfOk result MayRun }

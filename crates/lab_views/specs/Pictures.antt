@@ -75,7 +75,7 @@ abbrev pub failed_picture_writes : Result (Unit {0}) PictureFault → ℕ
 failed_picture_writes (Err Write) = 1
 failed_picture_writes _ = 0
 
--- faults of what stands below, of which want of memory is one fault
+-- faults of the crates below; that memory ran out is one fault, whichever crate says so
 abbrev pub for_report : ReportCause → ReportFault → PictureFault
 for_report causes.NoMemory fault = NoMemory
 for_report _ fault = Report fault

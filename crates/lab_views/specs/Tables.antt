@@ -1,4 +1,4 @@
--- For readers: the table that is written for a report, and why none is.
+-- For readers: the table that is written for a report, and why there may be none.
 use Rattle.std.specs.Prelude.{◌≡◌, ℕ, List, Option, Result, Ok, Err}
 use Rattle.std.specs.Io.KnownBytes.{Keeps, Appends}
 use Rattle.report.specs.Taken.{AppendsPrefix}

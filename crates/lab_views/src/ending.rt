@@ -8,7 +8,7 @@ use crate::picture_fault::{PictureFault, status_of_picture};
 use lab_program::{Outcome, RunFault, end, tell};
 use std::process::ExitCode;
 
-/// The status of a picture's answer; a fault is told in one line on standard error.
+/// The status of a picture's answer; a fault gets one line on standard error.
 pub fn end_picture(rt: &impl Eprint, program: &str, answer: Result<(), PictureFault>) -> ExitCode
     ensures { exit_status result ≡ status_of_picture answer }
 {
@@ -18,7 +18,7 @@ pub fn end_picture(rt: &impl Eprint, program: &str, answer: Result<(), PictureFa
     ExitCode::from(status_of_picture(&answer))
 }
 
-/// The status of a trace's answer; a fault is told in one line on standard error, and so is a trace that is longer than a replay reads.
+/// The status of a trace's answer; a fault gets one line on standard error, and so does a trace that is longer than a replay reads.
 pub fn end_trace(rt: &impl Eprint, program: &str, answer: Result<Outcome, RunFault>) -> ExitCode
     ensures { exit_status result ≡ status_of answer }
 {
@@ -32,7 +32,7 @@ pub fn end_trace(rt: &impl Eprint, program: &str, answer: Result<Outcome, RunFau
     end(rt, program, answer)
 }
 
-/// The status of an arranged script's answer; a fault is told in one line on standard error, and so is a script that went out as it was.
+/// The status of an arranged script's answer; a fault gets one line on standard error, and so does a script that went out as it was.
 pub fn end_arranged(rt: &impl Eprint, program: &str, answer: Result<Outcome, RunFault>) -> ExitCode
     ensures { exit_status result ≡ status_of answer }
 {

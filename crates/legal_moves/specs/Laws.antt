@@ -8,7 +8,7 @@ use Rattle.legal_steps.specs.State.{State, Has, IsOwn}
 use Rattle.legal_steps.specs.Legal.{IsJob, IsBottleSet}
 use Rattle.legal_moves.specs.Moves.{all_moves, IsLegalNow}
 
--- looks at own edges and glances at other jobs are legal in every state
+-- looks at a job's own edges and glances at other jobs are legal in every state
 pub record Always (plan : LabPlan) (s : State) : Type 0 where
   pub look : (j e : ℕ) → IsOwn plan j e → IsLegalNow plan s (Look j e)
   pub glance : (j other : ℕ) → IsJob plan j → IsJob plan other → other ≢ j → IsLegalNow plan s (Glance j other)
@@ -16,7 +16,7 @@ pub record Always (plan : LabPlan) (s : State) : Type 0 where
 abbrev pub IsAlwaysLegal : Type 0
 IsAlwaysLegal = (plan : LabPlan) (s : State) → Always plan s
 
--- bottles of an own edge are asked for, and given, together exactly where each is alone
+-- bottles of an edge of the job may be asked for, and given, together exactly if each may be alone
 pub record Alone (plan : LabPlan) (s : State) (j e set : ℕ) : Type 0 where
   pub ask : IsLegalNow plan s (AskBottles j e set) ↔ ((k : ℕ) → Has set k → IsLegalNow plan s (AskBottles j e (2 ^ k)))
   pub give : IsLegalNow plan s (GiveBottles j e set) ↔ ((k : ℕ) → Has set k → IsLegalNow plan s (GiveBottles j e (2 ^ k)))

@@ -1,13 +1,13 @@
 // What the list of moves leaves out. Each law is the contract of a function that does nothing.
 ghost use Rattle.legal_moves.specs.Laws.{IsAlwaysLegal, IsEveryStep, AreBottlesAlone};
 
-/// A look at an own edge and a glance at another job are legal in every state.
+/// A look at an edge of one's own and a glance at another job are legal in every state.
 #[tactic(auto, using(crate::proofs::LawProofs::always_legal))]
 pub fn always_legal()
     ensures { IsAlwaysLegal }
 {}
 
-/// A step with bottles is legal exactly where the step with each one of them is.
+/// A step with bottles is legal exactly if the step with each one of them is.
 pub fn bottles_alone()
     ensures { AreBottlesAlone }
 {}

@@ -12,7 +12,7 @@ use std::alloc::{AllocError, Allocator};
 /// The moves of all jobs that are legal now: job by job, in the order of `all_moves`.
 ///
 /// A move is any step but a look or a glance, which are always legal, and bottles are asked for and given one at a
-/// time: a step with more bottles is legal exactly where each of these is. Memory is taken in proportion to all moves.
+/// time: a step with more bottles is legal exactly if each of these is. Memory is taken in proportion to all moves.
 pub fn legal_moves<A: Allocator + Copy, B: Allocator>(
     alloc: A,
     world: &World<'_, B>,

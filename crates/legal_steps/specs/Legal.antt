@@ -17,7 +17,7 @@ use Rattle.legal_steps.specs.State.{Seat, State, Has, IsOfEdge, edge, seat, log,
 
 -- ---- what the guards speak of
 
--- a thing is here where it is at the job's own end, and there where it is not
+-- a thing is here if it is at the job's own end, and there if it isn't
 abbrev pub Here : LabPlan → ℕ → ℕ → End → Type 0
 Here plan j e thing = thing ≡ end_of plan j e
 
@@ -54,11 +54,11 @@ pub record MayGiveBottle (plan : LabPlan) (s : State) (j e k : ℕ) : Type 0 whe
   pub token_here : Here plan j e (bottle_end (edge s e).bottle_tokens k)
   pub not_kept : ¬ (Needs plan s j (instrument_of plan e k) × (IsDrinking (phase s j) ⊎ Here plan j e (fork s e)))
 
--- a fork mark on every own edge
+-- a fork mark on every edge of the job
 abbrev pub IsMarkedAll : LabPlan → State → ℕ → Type 0
 IsMarkedAll plan s j = (e : ℕ) → IsOwn plan j e → fork_mark s j e ≡ true
 
--- each needed bottle of an edge is marked, and so on every own edge
+-- each needed bottle of an edge is marked, and so on every edge of the job
 abbrev pub HasNeededAt : LabPlan → State → ℕ → ℕ → Type 0
 HasNeededAt plan s j e = (k : ℕ) → k < length (bottles plan e) → Needs plan s j (instrument_of plan e k) → Has (bottle_marks s j e) k
 
@@ -72,25 +72,25 @@ session_commands plan s j = commands plan j (session s j)
 -- ---- where each event is legal
 
 abbrev pub May : LabPlan → State → Event → Type 0
--- a look at an own edge sees what is there
+-- a look at an edge of the job sees what is there
 May plan s (Look j e seen) = IsOwn plan j e × (seen ≡ edge s e)
 -- the fork is asked for by a hungry job that has the token and not the fork
 May plan s (AskFork j e) = IsOwn plan j e × (dining s j ≡ Hungry) × There plan j e (fork s e) × Here plan j e (token s e)
--- a dirty fork is given where its token is here too, but not during a meal
+-- a dirty fork is given if its token is here too, but not during a meal
 May plan s (GiveFork j e) = IsOwn plan j e × (dining s j ≢ Eating) × Here plan j e (fork s e) × (is_dirty s e ≡ true) × Here plan j e (token s e)
 -- a clean fork is soiled during a meal
 May plan s (Soil j e) = IsOwn plan j e × (dining s j ≡ Eating) × Here plan j e (fork s e) × (is_dirty s e ≡ false)
 -- a thirsty job asks for bottles that it needs, that are there, and whose tokens are here
 May plan s (AskBottles j e set) = IsOwn plan j e × (drinking s j ≡ Thirsty) × IsBottleSet plan e set × ((k : ℕ) → Has set k → MayAskBottle plan s j e k)
--- bottles that are here with their tokens are given, but for those that the job needs while it drinks or has the fork
+-- bottles that are here with their tokens are given, except those that the job needs while it drinks or has the fork
 May plan s (GiveBottles j e set) = IsOwn plan j e × IsBottleSet plan e set × ((k : ℕ) → Has set k → MayGiveBottle plan s j e k)
 -- a tranquil job with a session left begins it, but not during a meal
 May plan s (Thirst j) = IsJob plan j × (drinking s j ≡ Tranquil) × (dining s j ≢ Eating) × (session s j < length (sessions plan j))
 -- a thinking job that is thirsty becomes hungry
 May plan s (Hunger j) = IsJob plan j × (dining s j ≡ Thinking) × (drinking s j ≡ Thirsty)
--- a hungry job with a mark on every own edge starts its meal
+-- a hungry job with a mark on every edge of its own starts its meal
 May plan s (Sit j) = IsJob plan j × (dining s j ≡ Hungry) × IsMarkedAll plan s j
--- an eating job that isn't thirsty ends its meal when every own edge is marked: its forks are dirty
+-- an eating job that isn't thirsty ends its meal when all its edges are marked: its forks are dirty
 May plan s (Leave j) = IsJob plan j × (dining s j ≡ Eating) × (drinking s j ≢ Thirsty) × IsMarkedAll plan s j
 -- a thirsty job with a mark on every bottle that it needs drinks
 May plan s (Drink j) = IsJob plan j × (drinking s j ≡ Thirsty) × HasNeeded plan s j
@@ -127,7 +127,7 @@ with_fork_mark x e mark = record x { fork_marks = slice_set x.fork_marks e mark 
 abbrev pub with_bottle_marks : Seat → ℕ → ℕ → Seat
 with_bottle_marks x e marks = record x { bottle_marks = slice_set x.bottle_marks e marks }
 
--- the seat where the job dines so, without any fork mark
+-- the seat in which the job dines so, without any fork mark
 abbrev pub turned_to : Seat → Dining → Seat
 turned_to x dining = record x { phase = record x.phase { dining = dining }; fork_marks = replicate (length x.fork_marks) false }
 

@@ -18,7 +18,7 @@ use Rattle.legal_steps.specs.Laws.{Always}
 
 -- ---- logs
 
--- every log is whole but for its end
+-- every log is whole except for its end
 abbrev pub HasWholeLogs : Type 0
 HasWholeLogs = Always (λ plan s. (i : ℕ) → IsWholeButEnd plan i (log s i))
 

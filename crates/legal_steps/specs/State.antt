@@ -111,7 +111,7 @@ abbrev pub job_at_end : LabPlan → ℕ → End → ℕ
 job_at_end plan e Lower = (ends plan e).0
 job_at_end plan e Higher = (ends plan e).1
 
--- the own end of job j on the edge
+-- job j's own end of the edge
 abbrev pub end_of : LabPlan → ℕ → ℕ → End
 end_of plan j e = if (ends plan e).0 == j then Lower else Higher
 
@@ -135,10 +135,10 @@ bottles_at plan e Lower x = bit_xor (all_bottles plan e) x.bottles
 
 -- ---- phases
 
--- a job is in a session where it is thirsty, drinks or reaches
+-- a job is in a session while it is thirsty, drinks or reaches
 abbrev pub IsInSession : Drinking → Type 0
 IsInSession d = (d ≡ Thirsty) ⊎ (d ≡ Drinks) ⊎ (d ≡ Reaching)
 
--- it holds the instruments of its session where it drinks or reaches
+-- it holds the instruments of its session while it drinks or reaches
 abbrev pub IsDrinking : JobState → Type 0
 IsDrinking phase = (phase.drinking ≡ Drinks) ⊎ (phase.drinking ≡ Reaching)

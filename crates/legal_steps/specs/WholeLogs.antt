@@ -1,4 +1,4 @@
--- For readers: whole logs: the parts of sessions one after another, save at most one unfinished last.
+-- For readers: whole logs: the parts of sessions one after another, of which only the last may be unfinished.
 use Rattle.std.specs.Prelude.{◌≡◌, ◌⊎◌, ℕ, ◌<◌, ◌≤◌, List, [], ◌∷◌, ◌++◌, length, map, filter, take, ◌==◌}
 use Rattle.std.specs.List.{flat_map, enumerate_from, AllPairs, All}
 use Rattle.lab_plan.specs.declared.verb.Verb.{Verb}
@@ -55,7 +55,7 @@ pub record IsBegun (begun all : List LogLine) : Type 0 where
   pub proper : length begun < length all
   pub beginning : begun ≡ take (length begun) all
 
--- a log is whole but for its end: nonempty parts of the plan's sessions one after another, the sessions of each job ascending,
+-- a log is whole except for its end: nonempty parts of the plan's sessions one after another, the sessions of each job ascending,
 -- then nothing or the beginning of one further part that keeps this order
 pub record IsWholeButEnd (plan : LabPlan) (i : ℕ) (entries : List Entry) : Type 0 where
   pub finished : List (ℕ × ℕ)

@@ -1,7 +1,7 @@
 // The laws of logs, their room, and counts. Each is the contract of a function that does nothing.
 ghost use Rattle.legal_steps.specs.LogLaws.{CountsSessions, EndsInOrder, FitsItsRoom, HasEndedSessions, HasFewMeals, HasFewSessions, HasNothingElse, HasValuesOfDials, HasWholeLogs, TakesNextEntry};
 
-/// After each beginning of a legal list of events, every log is whole but for its end: nonempty parts of
+/// After each beginning of a legal list of events, every log is whole except for its end: nonempty parts of
 /// the plan's sessions one after another, those of each job ascending, and then at most one unfinished part.
 #[tactic(auto, using(crate::proofs::LogLawProofs::has_whole_logs))]
 pub fn whole_logs()
@@ -26,7 +26,7 @@ pub fn ended_sessions_there()
     ensures { HasEndedSessions }
 {}
 
-/// Where no job holds an instrument, its log is the parts of the sessions that ended, and nothing else.
+/// If no job holds an instrument, its log is the parts of the sessions that ended, and nothing else.
 #[tactic(auto, using(crate::proofs::LogLawProofs::has_nothing_else))]
 pub fn nothing_else_at_rest()
     ensures { HasNothingElse }

@@ -41,7 +41,7 @@ pub struct JobState {
     pub drinking: Drinking,
     /// How many sessions it has begun: 0 to 1000. While it is in one, that one's number.
     pub session: u32,
-    /// How many commands of its session it has done; 0 where it is tranquil or retired.
+    /// How many commands of its session it has done; 0 if it is tranquil or retired.
     pub position: u32,
 }
 
@@ -63,7 +63,7 @@ impl JobState {
     }
 }
 
-// What the guards ask of the own phase.
+// What the guards ask of the job's own phase.
 impl JobState {
     ghost use Rattle.legal_steps.specs.declared.phase.Dining.TheVariants.{Eating, Thinking};
     ghost use Rattle.legal_steps.specs.declared.phase.Drinking.TheVariants.{Drinking as Drinks, Thirsty, Tranquil};
@@ -149,7 +149,7 @@ impl JobState {
     }
 }
 
-// What the events make of the own phase.
+// What the events make of the job's own phase.
 impl JobState {
     ghost use Rattle.legal_steps.specs.declared.phase.Drinking.TheVariants.{Thirsty, Tranquil};
 

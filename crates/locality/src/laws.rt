@@ -60,7 +60,7 @@ pub fn leads_on()
     ensures { LeadsOn }
 {}
 
-/// Two lists of events one after another are legal exactly where each is, the second from where the first led.
+/// Two lists of events one after another are legal exactly if each is, the second from where the first led.
 pub fn is_legal_in_parts()
     ensures { IsLegalInParts }
 {}

@@ -21,7 +21,7 @@ FromAcyclic P = (plan : LabPlan) (opening : State) (events : List Event) (n : �
     → IsOpening plan opening → IsAcyclic plan opening → IsLegalFrom plan opening events
     → P plan (after_all plan opening (take n events))
 
--- only where all jobs are retired does no event but Withdraw change anything
+-- only if all jobs are retired does no event but Withdraw change anything
 abbrev pub IsNeverStuck : Type 0
 IsNeverStuck = FromAcyclic (λ plan s. IsStuck plan s → AllRetired plan s)
 

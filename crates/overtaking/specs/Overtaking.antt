@@ -5,7 +5,7 @@ use Rattle.legal_steps.specs.declared.event.Event.{Event}
 use Rattle.legal_steps.specs.State.{neighbour}
 use Rattle.legal_steps.specs.Run.{is_sit, meals_of}
 
--- the events of a list before the next meal of job j, or all where there is none
+-- the events of a list before the next meal of job j, or all if there is none
 abbrev pub before_meal : ℕ → List Event → List Event
 before_meal j [] = []
 before_meal j (event ∷ events) = if is_sit j event then [] else (event ∷ before_meal j events)

@@ -13,7 +13,7 @@ use std::alloc::Allocator;
 
 /// The overtaking at a place of a list of events, counted from 0, where the job asks for the fork of the edge:
 /// how many meals the job at the other end begins after that place and before the job's own next meal, or before
-/// the end of the list where the job begins none.
+/// the end of the list if the job begins none.
 ///
 /// In a list that is legal from an opening state it is 0 or 1; in any other list it may be more.
 #[tactic(auto, using(crate::proofs::OvertakenOnce::overtaken_once))]

@@ -9,8 +9,8 @@ use std::alloc::Allocator;
 
 /// Every job of the world's plan once, each before all that it precedes (Chandy and Misra 1984).
 ///
-/// There is always such an order, since in no state of a world precedence has a cycle. Of several any one is answered.
-/// Memory is taken in proportion to the jobs and the edges. The error comes only where a growth is refused.
+/// There is always such an order, because precedence has no cycle in any state of a world. If there are several, any one is answered.
+/// Memory is taken in proportion to the jobs and the edges. The error comes only if a growth is refused.
 pub fn ranking<A: Allocator + Copy, B: Allocator>(
     alloc: A,
     world: &World<'_, B>,

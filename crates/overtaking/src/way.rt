@@ -12,10 +12,10 @@ use interleaving::{Drinking, Event, World};
 use lab_plan::{EdgeNo, JobNo};
 use std::alloc::Allocator;
 
-/// An event that is legal now and changes the state, and isn't a Withdraw; `None` exactly where all jobs have retired.
+/// An event that is legal now and changes the state, and isn't a Withdraw; `None` exactly if all jobs have retired.
 ///
 /// Of several events one is answered by this order: what a job does by itself; looks, and what is done with forks;
-/// bottles, one at a time. So bottles move only where no fork does, and whoever has the fork keeps them.
+/// bottles, one at a time. So bottles move only if no fork does, and whoever has the fork keeps them.
 pub fn way_on<A: Allocator>(world: &World<'_, A>) -> Option<Event>
     ensures leads_on { IfSome result (λ event. IsWayOn world.now.plan world.now.state event) }
     ensures not_at_end { IfSome result (λ _. ¬ AllRetired world.now.plan world.now.state) }

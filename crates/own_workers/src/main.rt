@@ -1,4 +1,4 @@
-//! A program of one's own: four jobs, each with a thread that owns its desk, works while it holds its instruments, and serves its
+//! An example to copy: four jobs, each with a thread that owns its desk, works while it holds its instruments, and serves its
 //! neighbours meanwhile.
 #![tactic(auto)]
 

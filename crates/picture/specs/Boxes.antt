@@ -10,7 +10,7 @@ use Rattle.picture.specs.Columns.{has_room, left_of}
 abbrev pub edges_end : Bool → List ℕ
 edges_end is_open = if is_open then [] else codes "z"
 
--- the edges of a box, without the right one where it is open
+-- the edges of a box, without the right one if it is open
 abbrev pub edges : ℕ → ℕ → Bool → List ℕ
 edges left right is_open =
     codes "<path d=\"M" ++ decimal right ++ codes " 4H" ++ decimal left ++ codes "v58H" ++ decimal right ++ edges_end is_open
@@ -31,7 +31,7 @@ named_box job left right is_open e = edges left right is_open ++ look job ++ lab
 abbrev pub titled_box : ℕ → ℕ → ℕ → Bool → EntryText → List ℕ
 titled_box job left right is_open e = session_title e ++ edges left right is_open ++ look job ++ codes "</g>\n"
 
--- the box from one place to another: the names fit where it is 100 units wide
+-- the box from one place to another: the names fit if it is 100 units wide
 abbrev pub box_between : ℕ → ℕ → ℕ → Bool → EntryText → List ℕ
 box_between job left right is_open e = if nat_le 100 (right - left) then named_box job left right is_open e else titled_box job left right is_open e
 
@@ -59,7 +59,7 @@ tick_at columns x e = if has_room columns then tick x ++ deed (x + 4) e else dee
 unfoldable pub tick_text : ℕ → Span → EntryText → List ℕ
 tick_text columns span e = tick_at columns (left_of columns (span.start + (e.place - 1))) e
 
--- an entry: its tick, and the box of its session where it is the first of it
+-- an entry: its tick, and the box of its session if it is the first entry of it
 abbrev pub entry_line : ℕ → ℕ → Span → Bool → Bool → EntryText → List ℕ
 entry_line job columns span is_first is_open e = (if is_first then box_text job columns span is_open e else []) ++ tick_text columns span e
 

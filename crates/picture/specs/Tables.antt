@@ -11,7 +11,7 @@ width columns = max 700 (180 + left_of columns columns)
 abbrev pub height : ℕ → ℕ → ℕ
 height instruments jobs = 110 + 70 * instruments + 20 * jobs
 
--- a size where it is asked for
+-- a size if one is asked for
 abbrev pub size_text : ℕ → ℕ → List ℕ
 size_text w h =
     codes "<?xml version=\"1.0\" encoding=\"UTF-8\"?>\n<svg xmlns=\"http://www.w3.org/2000/svg\" version=\"1.1\" width=\"" ++ decimal w

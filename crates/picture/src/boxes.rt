@@ -17,7 +17,7 @@ fn edges_end(is_open: bool) -> &'static [u8]
     if is_open { b"" } else { b"z" }
 }
 
-/// Adds the edges of a box, without the right one where it is open, at most 90 bytes.
+/// Adds the edges of a box, without the right one if it is open, at most 90 bytes.
 fn add_edges(line: &mut PictureLine, left: usize, right: usize, is_open: bool)
     requires { length line.old + 90 ≤ 1000 }
     ensures text { line.new ≡ line.old ++ edges left right is_open }
@@ -193,7 +193,7 @@ fn add_tick_text(line: &mut PictureLine, columns: u32, span: Span, entry: &Entry
     add_tick_at(line, columns, x, entry);
 }
 
-/// An entry: its tick, and the box of its session where it is the first of it.
+/// An entry: its tick, and the box of its session if it is the first entry of it.
 pub(crate) fn entry_line(
     job: usize,
     columns: u32,

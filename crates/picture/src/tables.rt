@@ -122,7 +122,7 @@ fn add_sessions(line: &mut PictureLine, job: &JobLine)
     line.text(b"</text>");
 }
 
-/// Adds how many sessions were withdrawn, where it is told, at most 60 bytes.
+/// Adds how many sessions were withdrawn, if the report says so, at most 60 bytes.
 fn add_withdrawn(line: &mut PictureLine, withdrawn: Option<u32>)
     requires { length line.old + 60 ≤ 1000 }
     ensures text { line.new ≡ line.old ++ withdrawn_text withdrawn }

@@ -18,7 +18,7 @@ abbrev pub HasTimeline : Type 0
 HasTimeline = (plan : LabPlan) (opening : State) (events : List Event) → IsPlan plan → IsOpening plan opening → IsLegalFrom plan opening events
     → (view : TimelineView) × IsTimeline (printed_report plan (shown_after plan opening events)) view
 
--- the law: of the faults that a timeline may meet none is one of it, but for want of memory, of which nothing is said
+-- the law: no fault that a timeline may have is one of it, except that memory runs out, of which nothing is said
 abbrev pub HasNoOtherFault : Type 0
 HasNoOtherFault = (plan : LabPlan) (opening : State) (events : List Event) → IsPlan plan → IsOpening plan opening → IsLegalFrom plan opening events
     → (fault : TimelineFault) → IsFaultOf (printed_report plan (shown_after plan opening events)) fault → fault ≡ NoMemory

@@ -22,7 +22,7 @@ printed_entry plan entry = record {
 abbrev pub printed_log : LabPlan → Shown → ℕ → LogText
 printed_log plan shown i = record { name = instrument_name plan i; entries = map (printed_entry plan) (shown.log i) }
 
--- sessions that were given up are told of in version 2 alone
+-- sessions that were given up are counted in version 2 alone
 abbrev pub printed_withdrawn : ℕ → ℕ → Option ℕ
 printed_withdrawn version withdrawn = if version == 2 then Some withdrawn else None
 

@@ -30,7 +30,7 @@ pub record IsQuietRound (plan : LabPlan) (h : List Event) : Type 0 where
   pub none_reaches : (j : ℕ) → IsJob plan j → drinking (state_after plan h) j ≢ Reaching
   pub both_know : BothKnow plan h
 
--- after an idle turn, what a job knows of an own edge is what its last look saw
+-- after an idle turn, what a job knows of an edge of its own is what its last look saw
 abbrev pub IdleJobKnowsWhatItSaw : Type 0
 IdleJobKnowsWhatItSaw = (plan : LabPlan) (h : List Event) (j e : ℕ) → IsHistory plan h → EndsIdle plan h j
     → IsOwn plan j e → last_seen e (events_by j h) ≡ Some (edge (known_by plan (events_by j h)) e)

@@ -10,12 +10,12 @@ use Rattle.legal_steps.specs.Legal.{Here, There, IsJob, Needs, instrument_of, se
 use Rattle.refused_steps.specs.declared.cause.Cause.{Cause}
 use Rattle.refused_steps.specs.declared.cause.Cause.TheVariants.{NotJob, NotOwn, SeesElse, OtherNotJob, Itself, NotThinking, NotHungry, NotEating, Eats, NotTranquil, NotThirsty, Thirsts, NotDrinking, NotReaching, ForkHere, ForkThere, ForkClean, ForkDirty, TokenThere, UnmarkedAway, UnmarkedClaimed, UnmarkedClean, UnmarkedUnseen, NoBottle, NotOfEdge, NotNeeded, BottleHere, BottleThere, BottleTokenThere, KeptInSession, KeptWithFork, MissingAway, MissingUnseen, NoSessionLeft, SessionLeft, NoCommandLeft, CommandLeft, NoPatience}
 
--- the job has no mark for the fork of an own edge
+-- the job has no mark for the fork of one of its edges
 pub record IsUnmarked (plan : LabPlan) (s : State) (j e : ℕ) : Type 0 where
   pub own : IsOwn plan j e
   pub no_mark : fork_mark s j e ≡ false
 
--- the job needs a bottle of an own edge, and has no mark for it
+-- the job needs a bottle of one of its edges, and has no mark for it
 pub record IsMissing (plan : LabPlan) (s : State) (j e k : ℕ) : Type 0 where
   pub own : IsOwn plan j e
   pub is_bottle : k < length (bottles plan e)

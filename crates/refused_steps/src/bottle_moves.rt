@@ -81,6 +81,7 @@ pub(crate) fn ask_bottles<A: Allocator>(
     if !owns(world, job, edge) {
         return Some(Cause::NotOwn);
     }
+    // this call ensures that the job is one of the plan's
     let _ = End::of(world.plan(), job, edge);
     if world.job(job).drinking != Drinking::Thirsty {
         return Some(Cause::NotThirsty);

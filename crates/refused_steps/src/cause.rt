@@ -1,17 +1,17 @@
 // The causes for which an event isn't legal.
 use lab_plan::EdgeNo;
 
-/// Why an event isn't legal in a state: the part of its guard that fails. "Here" is the own end of the job
-/// that acts, "there" the other. A bottle is named by its number on the event's edge, from 0.
+/// Why an event isn't legal in a state: the part of its guard that fails. "Here" is the acting job's
+/// end of the edge, "there" the other. A bottle is named by its number on the event's edge, from 0.
 #[derive(Clone, Copy, PartialEq, Eq, Debug)]
 pub enum Cause {
-    /// The job is none of the plan's.
+    /// The plan has no such job.
     NotJob,
-    /// The edge is none of the job's.
+    /// It isn't an edge of the job.
     NotOwn,
     /// What is there isn't what the look or the glance is said to see.
     SeesElse,
-    /// The job that is glanced at is none of the plan's.
+    /// The plan has no such job as the one that is glanced at.
     OtherNotJob,
     /// The job glances at itself.
     Itself,
@@ -53,7 +53,7 @@ pub enum Cause {
     UnmarkedUnseen(EdgeNo),
     /// The set has no bottle.
     NoBottle,
-    /// The set has a bottle that the edge lacks.
+    /// The set has a bottle that the edge doesn't have.
     NotOfEdge,
     /// The job doesn't need this bottle.
     NotNeeded(u32),

@@ -1,4 +1,4 @@
-// Marks that a job lacks.
+// Marks that a job doesn't have.
 ghost use Rattle.std.specs.Prelude.{◌≡◌, ◌<◌, ◌↔◌, IsTrue, length, MatchOption};
 ghost use Rattle.lab_plan.specs.LabPlan.{edges};
 ghost use Rattle.legal_steps.specs.State.{IsOwn};
@@ -11,7 +11,7 @@ use lab_plan::{EdgeNo, JobNo};
 use legal_steps::has;
 use std::alloc::Allocator;
 
-/// The first own edge for whose fork the job has no mark.
+/// The first of the job's edges for whose fork it has no mark.
 pub(crate) fn unmarked_edge<A: Allocator>(world: &World<'_, A>, job: JobNo) -> Option<EdgeNo>
     requires { IsJob world.now.plan job }
     ensures { MatchOption result (IsMarkedAll world.now.plan world.now.state job) (IsUnmarked world.now.plan world.now.state job) }
@@ -25,7 +25,7 @@ pub(crate) fn unmarked_edge<A: Allocator>(world: &World<'_, A>, job: JobNo) -> O
     None
 }
 
-/// The first needed bottle of an own edge for which the job has no mark.
+/// The first needed bottle of an edge for which the job has no mark.
 fn missing_at<A: Allocator>(world: &World<'_, A>, job: JobNo, edge: EdgeNo) -> Option<u32>
     requires is_job { IsJob world.now.plan job }
     requires own { IsOwn world.now.plan job edge }
@@ -40,7 +40,7 @@ fn missing_at<A: Allocator>(world: &World<'_, A>, job: JobNo, edge: EdgeNo) -> O
     None
 }
 
-/// The first own edge with a needed bottle for which the job has no mark, and that bottle.
+/// The first of the job's edges with a needed bottle for which it has no mark, and that bottle.
 pub(crate) fn missing_bottle<A: Allocator>(
     world: &World<'_, A>,
     job: JobNo,

@@ -26,7 +26,7 @@ pub(crate) fn hunger<A: Allocator>(world: &World<'_, A>, job: JobNo) -> Option<C
     None
 }
 
-/// Why a hungry job has no mark for the fork of an own edge.
+/// Why a hungry job has no mark for the fork of one of its edges.
 fn unmarked_hungry<A: Allocator>(world: &World<'_, A>, job: JobNo, edge: EdgeNo) -> Cause
     requires { IsUnmarked world.now.plan world.now.state job edge }
     ensures { Fails world.now.plan world.now.state (Sit job) result }
@@ -55,7 +55,7 @@ pub(crate) fn sit<A: Allocator>(world: &World<'_, A>, job: JobNo) -> Option<Caus
     Some(unmarked_hungry(world, job, edge))
 }
 
-/// Why an eating job has no mark for the fork of an own edge.
+/// Why an eating job has no mark for the fork of one of its edges.
 fn unmarked_eating<A: Allocator>(world: &World<'_, A>, job: JobNo, edge: EdgeNo) -> Cause
     requires { IsUnmarked world.now.plan world.now.state job edge }
     ensures { Fails world.now.plan world.now.state (Leave job) result }

@@ -37,9 +37,9 @@ fn glance<A: Allocator>(
     None
 }
 
-/// Why the event isn't legal now; `None` exactly where it is legal.
+/// Why the event isn't legal now; `None` exactly if it is legal.
 ///
-/// Of several causes the first is told, in the order in which its guard names them, and of several edges
+/// Of several causes the first is given, in the order in which its guard names them, and of several edges
 /// and bottles the one with the lowest number.
 #[tactic(auto, using(crate::proofs::Refused::refused))]
 pub fn why_not<A: Allocator>(world: &World<'_, A>, event: &Event) -> Option<Cause>

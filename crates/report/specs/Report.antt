@@ -43,7 +43,7 @@ job_line version name tally =
     codes "job " ++ name ++ codes " sessions " ++ decimal tally.done ++ codes " of " ++ decimal tally.sessions
     ++ withdrawn_text version tally.withdrawn ++ codes " meals " ++ decimal tally.meals ++ state_text tally.is_retired
 
--- what is told of a job
+-- what is said of a job
 abbrev pub tally_of : LabPlan → Shown → ℕ → JobTally
 tally_of plan shown j = record {
   sessions = length (sessions plan j);
@@ -75,7 +75,7 @@ tally_text plan shown j = job_line plan.version (job_name plan j) (tally_of plan
 abbrev pub all_retired : LabPlan → Shown → Bool
 all_retired plan shown = list_all (λ j. is_retired (shown.drinking j)) (jobs plan)
 
--- `finished` where every job is retired, else `unfinished`
+-- `finished` if every job is retired, otherwise `unfinished`
 abbrev pub last_line : Bool → List ℕ
 last_line true = codes "finished\n"
 last_line false = codes "unfinished\n"

@@ -1,4 +1,4 @@
--- For readers: which reports there are, and that a text is refused only where it is none's.
+-- For readers: which reports there are, and that a text is refused only if it is that of none.
 use Rattle.std.specs.Prelude.{ℕ, ◌≡◌, ◌^◌, ◌<◌, true, List, [], ◌∷◌, ◌++◌, Option, None, Some, ◌⊎◌}
 use Rattle.std.specs.List.{AllByRecursion}
 use Rattle.std.specs.Option.{is_some}
@@ -38,7 +38,7 @@ pub record IsReport (report : ReportText) : Type 0 where
   pub forms : AllByRecursion (λ (job : JobText). is_same (is_some job.withdrawn) (is_two (Some report.version)) ≡ true) report.jobs
   pub ends : is_same report.is_finished (all_retired report.jobs) ≡ true
 
--- the law: a text that is refused, but for memory, is no report's
+-- the law: a text that is refused for any other reason than memory is that of no report
 abbrev pub IsNoReport : Type 0
 IsNoReport = (text : List ℕ) (report : ReportText) (parts : List (List ℕ)) (tail : List ℕ) (fault : ReportFault) → IsReport report → IsTextOf report text
     → text_lines text ≡ parts ++ tail ∷ [] → Refuses parts tail fault → ⊥

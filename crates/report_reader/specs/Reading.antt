@@ -9,7 +9,7 @@ use Rattle.report_reader.specs.Line.{words_of}
 use Rattle.report_reader.specs.Read.{line_of}
 use Rattle.report_reader.specs.State.{State, opening, cause_in, after, Ends}
 
--- the line that a part of the text is, where it is one
+-- the line that a part of the text is, if it is one
 abbrev pub line_in : List ℕ → Option Line
 line_in part = line_of (words part)
 
@@ -33,7 +33,7 @@ IsFaultAtLine parts number cause =
     (front : List (List ℕ)) × (part : List ℕ) × (back : List (List ℕ)) × (s : State)
     × (parts ≡ front ++ part ∷ back) × (number ≡ 1 + length front) × Known front s × Meets s (line_in part) cause
 
--- each part is a line where it may stand, but for the last, and no report ends so: something is left behind the last line feed, or the last line is missing
+-- each part except the last is a line where it may stand, and no report ends so: something is left behind the last line feed, or the last line is missing
 abbrev pub IsCutOff : List (List ℕ) → List ℕ → ℕ → ReportCause → Type 0
 IsCutOff parts tail number cause =
     (s : State) × Known parts s × (number ≡ 1 + length parts) × (cause ≡ NotWhole) × (((tail ≡ []) → ⊥) ⊎ Ends s (Err NotWhole))

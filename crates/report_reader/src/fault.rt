@@ -13,7 +13,7 @@ pub enum ReportCause {
     /// A job line with `withdrawn` in a report of version 1, or one without it in version 2.
     #[error("job line of another version")]
     OtherVersion,
-    /// `finished` where a job waits, or `unfinished` where none does.
+    /// `finished` while a job waits, or `unfinished` while none does.
     #[error("last line doesn't fit the jobs")]
     WrongEnd,
     /// The text ends before its last line, or within a line.

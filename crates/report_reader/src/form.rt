@@ -231,7 +231,7 @@ fn tail_of(words: &[&[u8]]) -> Option<(u32, bool)>
     meals_of(words[0], words[1], words[2])
 }
 
-/// The line with these words, where it is no job's.
+/// The line with these words, if it is no job's.
 #[tactic(auto, unfolding(crate::specs::Read::short_line), using(crate::proofs::Lengths::other_short))]
 fn short_line<'a>(words: &[&'a [u8]]) -> Option<Form<'a>>
     ensures { MatchOption result (short_line (map (λ word. word.now) words.now) ≡ None) (λ form. short_line (map (λ word. word.now) words.now) ≡ Some (line_text form)) }

@@ -1,7 +1,7 @@
 // What follows from the definitions alone.
 ghost use Rattle.report_reader.specs.Laws.{IsNoReport};
 
-/// A text that is refused is no report's, but where memory ran out.
+/// A text that is refused is that of no report, unless memory ran out.
 pub fn no_report()
     ensures { IsNoReport }
 {}

@@ -13,7 +13,7 @@ pub struct EntryLine<'a> {
     pub value: u32,
 }
 
-/// What is told of a job: of `sessions` sessions `done` are done, in version 2 `withdrawn` were given
+/// What a report says of a job: of `sessions` sessions `done` are done, in version 2 `withdrawn` were given
 /// up, and `meals` meals were begun.
 #[derive(Clone, Copy, Debug)]
 pub struct JobLine<'a> {

@@ -56,7 +56,7 @@ impl<'a, A: Allocator> Log<'a, A> {
     }
 }
 
-/// A report: the version of its script, the instruments with their logs, what is told of each job, and
+/// A report: the version of its script, the instruments with their logs, what it says of each job, and
 /// whether the run was finished.
 #[derive(Drop)]
 pub struct Report<'a, A: Allocator = Global> {
@@ -110,7 +110,7 @@ impl<'a, A: Allocator> Report<'a, A> {
         &self.logs
     }
 
-    /// What is told of each job, in the report's order.
+    /// What it says of each job, in the report's order.
     pub fn jobs(&self) -> &[JobLine<'a>]
         ensures { map job_text result.now ≡ self.now.jobs }
     {

@@ -17,7 +17,7 @@ full_width last = max (180 + place last last) 720
 abbrev pub full_height : ℕ → ℕ
 full_height jobs = 100 + 40 * jobs
 
--- a size where it is asked for
+-- a size if one is asked for
 unfoldable pub size_text : ℕ → ℕ → List ℕ
 size_text w h =
     codes "<?xml version=\"1.0\" encoding=\"UTF-8\"?>\n<svg xmlns=\"http://www.w3.org/2000/svg\" version=\"1.1\" width=\"" ++ decimal w

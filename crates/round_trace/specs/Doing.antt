@@ -9,7 +9,7 @@ use Rattle.turns.specs.Due.{after_if, IsGreatest}
 use Rattle.turns.specs.Acts.{AreActs, whole_act}
 use Rattle.turns.specs.Turn.{Visit, count, is_lost, AreVisits, visits_events}
 
--- the event was done where it is legal, and added to the list then
+-- the event was done if it is legal, and added to the list then
 pub record Tries (old : WorldView) (before : List Event) (event : Event) (done : Bool) (new : WorldView) (after : List Event) : Type 0 where
   pub legal : (done ≡ true) ↔ May old.plan old.state event
   pub leads : new.state ≡ after_if old.plan done event old.state

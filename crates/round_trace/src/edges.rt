@@ -1,4 +1,4 @@
-//! The visits of a turn: each own edge is looked at, and what is legal there then is done.
+//! The visits of a turn: each edge of the job is looked at, and then what is legal there is done.
 ghost use Rattle.std.specs.Prelude.{◌≡◌, ◌<◌, length, IfOk};
 ghost use Rattle.lab_plan.specs.LabPlan.{edges_of};
 ghost use Rattle.legal_steps.specs.State.{IsOwn};
@@ -31,7 +31,7 @@ fn visit<A: Allocator>(
     Ok(())
 }
 
-/// Visits each own edge of the job, in the order of the plan.
+/// Visits each edge of the job, in the order of the plan.
 pub(crate) fn visit_all<A: Allocator>(
     world: &mut World<A>,
     events: &mut Vec<Event, A>,

@@ -1,4 +1,4 @@
-//! One event, where it is legal.
+//! One event, done only if it is legal.
 ghost use Rattle.std.specs.Prelude.{IfOk};
 ghost use Rattle.round_trace.specs.Doing.{Tries};
 
@@ -6,7 +6,7 @@ use interleaving::World;
 use legal_steps::Event;
 use std::alloc::{AllocError, Allocator};
 
-/// Does the event where it is legal, and adds it to the list then. Answers whether it was.
+/// Does the event if it is legal, and adds it to the list then. Answers whether it was legal.
 pub(crate) fn attempt<A: Allocator>(
     world: &mut World<A>,
     events: &mut Vec<Event, A>,

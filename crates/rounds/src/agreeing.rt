@@ -40,7 +40,7 @@ fn is_agreed_at<A: Allocator>(bench: &Bench<A>, desks: &[Desk<A>], edge: EdgeNo)
     ensures { IsTrue result ↔ seen_by desks.now (ends bench.now.plan edge).0 edge ≡ seen_by desks.now (ends bench.now.plan edge).1 edge }
 {
     let plan = bench.plan();
-    // An edge has 28 bottles at most, so two of its words are equal only where they say the same.
+    // An edge has 28 bottles at most, so two of its words are equal only if they say the same.
     let _ = plan.bottles(edge);
     let (lower, higher) = plan.ends(edge);
     let seen = seen_by(bench, desks, lower, edge);

@@ -9,6 +9,6 @@ pub enum Ended {
     Quiet,
     /// Neither, but all rounds or turns that were asked for are done.
     Limit,
-    /// Nothing was done, for want of memory. Rounds take none.
+    /// Nothing was done, because no memory was left. Rounds take none.
     NoMemory,
 }

@@ -66,7 +66,7 @@ abbrev pub line_in : List (List ℕ) → Option Line
 line_in [] = None
 line_in (first ∷ others) = if slice_index first 0 == 35 then None else Some (line_with first others)
 
--- the form of a line, where it isn't skipped
+-- the form of a line, if it isn't skipped
 abbrev pub form_of : List ℕ → Option Line
 form_of line = line_in (fields line)
 

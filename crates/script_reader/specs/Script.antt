@@ -145,7 +145,7 @@ IsFaultAtEnd lines number cause =
 abbrev pub IsFaultOfLines : List (List ℕ) → ℕ → ScriptCause → Type 0
 IsFaultOfLines lines number cause = IsFaultAtLine lines number cause ⊎ IsFaultAtEnd lines number cause
 
--- no line up to the one with this number meets a cause, nor does the end where it is the end's number
+-- no line up to the one with this number meets a cause, nor does the end if it is the end's number
 abbrev pub IsCleanUpToLine : List (List ℕ) → ℕ → Type 0
 IsCleanUpToLine lines number =
     (front : List (ℕ × Line)) × (line : Line) × (back : List (ℕ × Line))

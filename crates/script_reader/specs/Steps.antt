@@ -107,7 +107,7 @@ unfoldable pub step_with : LabPlan → List ℕ → List (List ℕ) → Option S
 step_with plan word names =
     or_else (job_step plan word names) (or_else (edge_step plan word names) (or_else (bottle_step plan word names) (glance_step plan word names)))
 
--- a line of a step list, where it isn't skipped: its step, where it has one
+-- a line of a step list, if it isn't skipped: its step, if it has one
 abbrev pub step_among : LabPlan → List (List ℕ) → Option (Option Step)
 step_among plan [] = None
 step_among plan (first ∷ others) = if slice_index first 0 == 35 then None else Some (step_with plan first others)

@@ -24,7 +24,7 @@ fn bottle_named<A: Allocator>(plan: &Plan<A>, edge: EdgeNo, name: &[u8]) -> Opti
     None
 }
 
-/// The set of the bottles of an edge with these names, bit k for bottle k, where each is a bottle of
+/// The set of the bottles of an edge with these names, bit k for bottle k, if each is a bottle of
 /// the edge and none is named twice.
 pub(crate) fn bottle_set<A: Allocator>(plan: &Plan<A>, edge: EdgeNo, names: &[u8]) -> Option<u32>
     requires { edge < length (edges plan.now) }

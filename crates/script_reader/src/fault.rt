@@ -22,7 +22,7 @@ pub enum ScriptCause {
     /// An earlier job has the name.
     #[error("S5 job twice")]
     JobTwice,
-    /// A command or `end` where no session is open.
+    /// A command or `end` while no session is open.
     #[error("S6 not in a session")]
     NotInSession,
     /// A session before the first job.
@@ -31,7 +31,7 @@ pub enum ScriptCause {
     /// The end of a session without a command.
     #[error("S8 empty session")]
     EmptySession,
-    /// A job, a session, the steps or the end of the text where a session is open.
+    /// A job, a session, the steps or the end of the text while a session is open.
     #[error("S9 session not closed")]
     SessionNotClosed,
     /// One more job, instrument, session, command or step than there may be.

@@ -157,7 +157,7 @@ fn line_with<'a>(first: &'a [u8], rest: &'a [u8]) -> Form<'a>
     command_line(first, rest)
 }
 
-/// The form of a line, or None where the line is skipped.
+/// The form of a line, or None if the line is skipped.
 pub(crate) fn form_of(line: &[u8]) -> Option<Form>
     ensures { MatchOption result (form_of line.now ≡ None) (λ form. form_of line.now ≡ Some (line_of form)) }
 {

@@ -235,7 +235,7 @@ impl<A: Allocator + Copy> Reader<A> {
     }
 }
 
-/// The number, where the bytes spell one.
+/// The number, if the bytes spell one.
 fn checked_number(bytes: &[u8]) -> Result<u32, ScriptCause>
     ensures { MatchResult result (λ n. (is_number bytes.now ≡ true) × (n ≡ number_of bytes.now) × (n ≤ largest_number)) (λ cause. (is_number bytes.now ≡ false) × (cause ≡ BadNumber)) }
 {
@@ -245,7 +245,7 @@ fn checked_number(bytes: &[u8]) -> Result<u32, ScriptCause>
     Ok(number_of(bytes))
 }
 
-/// The verb, where its number is spelled as a number.
+/// The verb, if its number is spelled as a number.
 fn verb_of(verb: VerbField) -> Result<Verb, ScriptCause>
     ensures number { (has (λ number. not (is_number number)) (verb_number (verb_text verb.entry)) ≡ false) ↔ IsOk result }
     ensures ok { IfOk result (λ v. (v ≡ verb_of (verb_text verb.entry)) × Fits v) }

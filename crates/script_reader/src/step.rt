@@ -181,7 +181,7 @@ fn step_with<A: Allocator>(plan: &Plan<A>, word: &[u8], rest: &[u8]) -> Option<S
     bottle_step(plan, word, name, other, bottles)
 }
 
-/// The step of a line, where it has one; None where the line is skipped.
+/// The step of a line, if it has one; None if the line is skipped.
 pub(crate) fn step_in<A: Allocator>(plan: &Plan<A>, line: &[u8]) -> Option<Option<Step>>
     ensures { result ≡ step_in plan.now line.now }
 {

@@ -38,8 +38,8 @@ outcome_of true = Finished
 outcome_of false = Unfinished
 
 -- For readers: what is promised of each run that is reported. It is a list of events, each legal after the ones before it from THE opening on;
--- the text is its report; it is finished exactly where every job is retired after it; and the headline holds of it: logs are whole
--- but for their ends, values follow the dial, no two jobs hold one instrument, precedence has no cycle, and one meal at most is overtaken
+-- the text is its report; it is finished exactly if every job is retired after it; and the headline holds of it: logs are whole
+-- except for their ends, values follow the dial, no two jobs hold one instrument, precedence has no cycle, and one meal at most is overtaken
 pub record Reports (plan : LabPlan) (history : List Event) (text : List ℕ) (outcome : Outcome) : Type 0 where
   pub within_limits : IsPlan plan
   pub legal : IsLegalFrom plan (the_opening plan) history

@@ -7,7 +7,7 @@ ghost use Rattle.script_runs.specs.Replaying.{TakesSteps};
 use interleaving::{StepLine, World};
 use std::alloc::Allocator;
 
-/// Takes the steps one after another, each where it is legal; else the line of the first that isn't.
+/// Takes the steps one after another while they are legal; otherwise answers the line of the first that isn't.
 pub(crate) fn take_steps<A: Allocator>(
     world: &mut World<'_, A>,
     steps: &[StepLine],

@@ -46,7 +46,7 @@ fn replay<A: Allocator + Copy, W: Sink>(
 ///
 /// The input is at most 16777216 bytes. All steps are read before the first is taken, and all are
 /// taken before the report goes out, a line at a time; a flush follows it. Finished says that every
-/// job is retired then. Whatever the steps, the logs that are printed are whole but for their ends.
+/// job is retired then. Whatever the steps, the logs that are printed are whole except for their ends.
 pub fn run_replay<A: Allocator + Copy, R: Source, W: Sink>(
     alloc: A,
     source: &mut R,

@@ -7,7 +7,7 @@ use crate::span::slot_of;
 use report_reader::{EntryLine, JobLine, Log};
 use std::alloc::{AllocError, Allocator};
 
-/// The slots of two entries, where they are of two sessions.
+/// The slots of two entries, if they are of two sessions.
 fn slots(jobs: &[JobLine], before: &EntryLine, entry: &EntryLine) -> Option<(usize, usize)>
     ensures some { IfSome result (λ (x, y). AreOf (map job_text jobs.now) (entry_text before.now) (entry_text entry.now) x y) }
     ensures none { result ≡ None → (x y : ℕ) → AreOf (map job_text jobs.now) (entry_text before.now) (entry_text entry.now) x y → ⊥ }

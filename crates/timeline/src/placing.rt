@@ -32,7 +32,7 @@ impl<A: Allocator> Row<A> {
         self.parts.get(self.next).copied()
     }
 
-    /// Behind this session, where it is next.
+    /// Behind this session, if it is next there.
     fn pass(&mut self, slot: usize, end: u32) {
         if let Some(part) = self.next() {
             if part.slot == slot {
@@ -124,7 +124,7 @@ fn pass_all<A: Allocator>(rows: &mut [Row<A>], slot: usize, end: u32) {
     }
 }
 
-/// Places the session of a part, where it is next in each log that has it.
+/// Places the session of a part, if it is next in each log that has it.
 fn place_part<A: Allocator>(
     rows: &mut [Row<A>],
     counts: &[u32],

@@ -30,7 +30,7 @@ pub(crate) fn slot_of(jobs: &[JobLine], entry: &EntryLine) -> Option<usize>
     }
 }
 
-/// The columns of an entry's session, where it has some.
+/// The columns of an entry's session, if it has some.
 #[tactic(auto, unfolding(crate::specs::Spans::span_of))]
 pub fn span_of(jobs: &[JobLine], spans: &[Span], entry: &EntryLine) -> Option<Span>
     ensures { result ≡ span_of (map job_text jobs.now) spans.now (entry_text entry.now) }

@@ -11,7 +11,7 @@ use Rattle.legal_steps.specs.Legal.{May}
 abbrev pub IsUsedUp : LabPlan → State → ℕ → ℕ → Type 0
 IsUsedUp plan s j waited = ForSome (patience plan j (session s j)) (λ n. n ≤ waited)
 
--- what an act asks for besides being legal: a session is given up only where its patience is used up
+-- what an act asks for besides being legal: a session is given up only if its patience is used up
 abbrev pub IsPatient : LabPlan → State → ℕ → ℕ → Event → Type 0
 IsPatient plan s j waited (Withdraw k) = IsUsedUp plan s j waited
 IsPatient plan s j waited _ = Unit {0}

@@ -31,7 +31,7 @@ NothingDueIsCalm = (plan : LabPlan) (s : State) (j e : ℕ) (m : EdgeMoves) → 
 abbrev pub CalmHasNothingDue : Type 0
 CalmHasNothingDue = (plan : LabPlan) (s : State) (j e : ℕ) → IsOwn plan j e → IsCalm plan s j e → AreDue plan s j e no_moves
 
--- calm is a matter of that edge and of the own phase alone, and of the phase only how the job dines and drinks, in which session
+-- whether an edge is calm depends on that edge and on the job's own phase alone, and of the phase only on how the job dines and drinks, in which session
 abbrev pub StaysCalm : Type 0
 StaysCalm = (plan : LabPlan) (s t : State) (j e : ℕ) → edge t e ≡ edge s e
     → but_position (phase t j) ≡ but_position (phase s j) → IsCalm plan s j e → IsCalm plan t j e
@@ -44,7 +44,7 @@ OneActIsDue = (plan : LabPlan) (s : State) (j waited : ℕ) (a b : List Event) �
 
 -- ---- a turn in which nothing is done
 
--- these are looks alone, one at each own edge; after them each own edge is calm by what was seen, the phase is as before, and no phase act counts as legal
+-- these are looks alone, one at each edge of the job; after them each is calm by what was seen, the phase is as before, and no phase act counts as legal
 pub record LeavesCalm (plan : LabPlan) (j waited : ℕ) (s : State) (events : List Event) : Type 0 where
   pub visits : List Visit
   pub edges : map (λ (v : Visit). v.edge) visits ≡ edges_of plan j
@@ -58,6 +58,6 @@ abbrev pub NothingDoneIsIdle : Type 0
 NothingDoneIsIdle = (plan : LabPlan) (j waited : ℕ) (s : State) (visits : List Visit) (acts events : List Event)
     → IsTurnBy plan j waited s visits acts events → count is_done visits + once acts ≡ 0 → count is_lost visits ≡ 0 → IsIdleTurn plan j waited s events
 
--- after an idle turn each own edge is calm
+-- after an idle turn each edge of the job is calm
 abbrev pub IdleTurnIsCalm : Type 0
 IdleTurnIsCalm = (plan : LabPlan) (j waited : ℕ) (s : State) (events : List Event) → IsIdleTurn plan j waited s events → LeavesCalm plan j waited s events

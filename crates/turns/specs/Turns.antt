@@ -32,7 +32,7 @@ is_glance (Quit j) = false
 is_glance (Retire j) = false
 is_glance (Withdraw j) = false
 
--- the events but for Glances
+-- the events without Glances
 abbrev pub but_glances : List Event → List Event
 but_glances [] = []
 but_glances (event ∷ events) = if is_glance event then but_glances events else event ∷ but_glances events

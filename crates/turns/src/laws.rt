@@ -16,12 +16,12 @@ pub fn nothing_due_is_calm()
     ensures { NothingDueIsCalm }
 {}
 
-/// Where no move is legal on an edge, none is due: what a memo of calm edges rests on.
+/// Where no move is legal on an edge, none is due: what a note of calm rests on.
 pub fn calm_has_nothing_due()
     ensures { CalmHasNothingDue }
 {}
 
-/// Calm is a matter of the own phase and of that edge alone.
+/// Whether an edge is calm depends on the job's own phase and on that edge alone.
 pub fn stays_calm()
     ensures { StaysCalm }
 {}
@@ -36,7 +36,7 @@ pub fn nothing_done_is_idle()
     ensures { NothingDoneIsIdle }
 {}
 
-/// An idle turn is looks alone, and after it no move on any own edge is legal by what was seen.
+/// An idle turn is looks alone, and after it no move on any edge of the job is legal by what was seen.
 pub fn idle_turn_is_calm()
     ensures { IdleTurnIsCalm }
 {}

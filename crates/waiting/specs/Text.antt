@@ -60,7 +60,7 @@ job_line name last sessions =
 
 -- ---- the longest of all
 
--- a later one only where it is longer
+-- a later one only if it is longer
 abbrev pub longer : Longest → Longest → Longest
 longer best x = if nat_lt best.wait x.wait then x else best
 

@@ -7,8 +7,8 @@ use Rattle.locality.specs.History.{events_by}
 use Rattle.locality.specs.Patience.{Waited, no_wait}
 use Rattle.turns.specs.Turns.{Group, AreGrouped, Stands, flat, but_glances}
 
--- Job j took n turns in the run: but for its Glances its events are these turns, one after another, from what it knows at THE opening on.
--- The groups of events that a turn does at once stand unbroken in the run, in this order. An exchange that was due is lost only where its edge was another by
+-- Job j took n turns in the run: without its Glances its events are these turns, one after another, from what it knows at THE opening on.
+-- The groups of events that a turn does at once stand unbroken in the run, in this order. An exchange that was due is lost only if its edge was another by
 -- then than the look saw
 pub record TakesTurns (plan : LabPlan) (history : List Event) (j n : ℕ) : Type 0 where
   pub waited : Waited
@@ -17,6 +17,6 @@ pub record TakesTurns (plan : LabPlan) (history : List Event) (j n : ℕ) : Type
   pub together : but_glances (events_by j history) ≡ flat groups
   pub unbroken : Stands plan (the_opening plan) groups history
 
--- each job took whole turns, at most so many; and so many, where the run isn't finished
+-- each job took whole turns, at most so many, and exactly so many if the run isn't finished
 abbrev pub TakeTurns : LabPlan → List Event → ℕ → Bool → Type 0
 TakeTurns plan history most is_finished = (j : ℕ) → j < length plan.jobs → (n : ℕ) × (n ≤ most) × (is_finished ≡ false → n ≡ most) × TakesTurns plan history j n

@@ -49,9 +49,9 @@ fn close<'p, A: Allocator>(
 }
 
 /// Runs a plan on this thread, in rounds: one turn of each job a round, in ascending order of the jobs, until all jobs are
-/// retired or so many rounds are done. The history follows from the plan and the limit.
+/// retired or this many rounds are done. The history follows from the plan and the limit.
 ///
-/// Memory is taken before the first turn and after the last; where a growth is refused, nothing is left of the run.
+/// Memory is taken before the first turn and after the last; if a growth is refused, nothing is left of the run.
 pub fn by_rounds<'p, A: Allocator + Copy>(
     alloc: A,
     plan: &'p Plan<A>,
@@ -68,11 +68,11 @@ pub fn by_rounds<'p, A: Allocator + Copy>(
     close(alloc, bench, desks)
 }
 
-/// Runs a plan by worker threads: worker `w` takes the turns of the jobs whose number is `w` modulo the workers, at most so
+/// Runs a plan by worker threads: worker `w` takes the turns of the jobs whose number is `w` modulo the workers, at most this
 /// many turns of each, and passes the gate before each turn. It ends early once it has seen all jobs retired.
 ///
-/// Memory is taken before the first turn and after the last; where a growth is refused, nothing is left of the run. Where a
-/// thread can't be made its turns are taken on another.
+/// Memory is taken before the first turn and after the last; if a growth is refused, nothing is left of the run. If a
+/// thread can't be made, its turns are taken on another.
 pub fn by_threads<'p, R: Threads + Sync, A: Allocator + Copy + Send + Sync, G: Gate>(
     rt: &R,
     alloc: A,

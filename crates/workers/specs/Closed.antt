@@ -12,7 +12,7 @@ use Rattle.rounds.specs.Company.{all_retired}
 use Rattle.workers.specs.Team.{Driven}
 
 -- The history has the desk's record as its job's first events. But for Glances the job's later events are n turns one after another, by what it knew then,
--- and their groups stand unbroken, in this order, in the part of the history that the desk hadn't seen; so an exchange that was due is lost only where its
+-- and their groups stand unbroken, in this order, in the part of the history that the desk hadn't seen; so an exchange that was due is lost only if its
 -- edge was another by then than the look saw
 pub record TurnsSince (n : ℕ) (d : DeskView) (history : List Event) : Type 0 where
   pub later : List Event

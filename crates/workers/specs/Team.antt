@@ -76,7 +76,7 @@ pub record Driven (b : BenchView) (turns : ℕ) (old new : List DeskView) : Type
   pub full : all_retired new ≡ false → FromOne (TookTurns turns) old new
   pub company : Company b (first_front new) new
 
--- What `threads` answers: NoMemory with the desks as given; AllRetired exactly where every desk is retired; else Limit
+-- What `threads` answers: NoMemory with the desks as given; AllRetired exactly if every desk is retired; else Limit
 abbrev pub Threaded : BenchView → ℕ → List DeskView → Ended → List DeskView → Type 0
 Threaded b turns old Ends.NoMemory new = new ≡ old
 Threaded b turns old Ends.AllRetired new = Driven b turns old new × (all_retired new ≡ true)

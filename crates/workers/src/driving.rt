@@ -14,7 +14,7 @@ use rounds::{Ended, all_retired, are_at_rest};
 use std::alloc::Allocator;
 use std::thread::Threads;
 
-// Drives the desks of the slice. Their order may change, save where there is no memory.
+// Drives the desks of the slice. Their order may change, unless no memory is left.
 fn drive<R: Threads + Sync, S: Allocator, A: Allocator + Send + Sync, G: Gate>(
     rt: &R,
     alloc: S,
@@ -58,10 +58,10 @@ fn drive<R: Threads + Sync, S: Allocator, A: Allocator + Send + Sync, G: Gate>(
 }
 
 /// Worker `w` drives the desks whose job number is `w` modulo the workers, in ascending order, one turn each a round, and passes the gate
-/// before each turn. It ends after its turns, or after a round where its first desk saw all jobs retired. A worker without desks isn't
+/// before each turn. It ends after its turns, or after a round in which its first desk saw all jobs retired. A worker without desks isn't
 /// started. `alloc` is asked once, before the first worker starts.
 ///
-/// Where a thread can't be made a worker's rounds run on another. Workers that are idle, while others don't begin, then stop early, and the
+/// If a thread can't be made, a worker's rounds run on another. Workers that are idle, while others don't begin, then stop early, and the
 /// calling thread takes the turns that are left, one of each desk a round in ascending order.
 pub fn threads<R: Threads + Sync, S: Allocator, A: Allocator + Send + Sync, G: Gate>(
     rt: &R,

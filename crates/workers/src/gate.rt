@@ -1,7 +1,7 @@
 //! What a worker meets before each turn.
 use lab_plan::JobNo;
 
-/// Is passed before each turn of a job, by all workers. The turns of a job are counted from 1 in each call of `threads`.
+/// Every worker passes it before each turn of a job. The turns of a job are counted from 1 in each call of `threads`.
 pub trait Gate: Sync {
     fn pass(&self, job: JobNo, turn: u64);
 }

@@ -12,7 +12,7 @@ pub enum Halt {
 }
 
 impl Halt {
-    /// How many of so many turns need no thought any more: all of them where all jobs are retired.
+    /// How many of this many turns are over: all of them if all jobs are retired.
     pub fn taken(self, turns: u32) -> u32
         ensures { result ≡ taken turns self }
     {

@@ -1,6 +1,6 @@
 //! Threads drive the desks of one bench: each worker has desks of its own, and takes one turn of each in a round.
 //!
-//! What is promised hangs on no thread. Where one can't be made, its worker's rounds run on another thread, before or after that one's
+//! What is promised doesn't depend on threads. If one can't be made, its worker's rounds run on another thread, before or after that one's
 //! own; workers then stop early, and the calling thread takes the turns that are left.
 #![tactic(auto)]
 

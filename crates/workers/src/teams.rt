@@ -1,4 +1,4 @@
-//! All teams, each on a thread of its own where one can be made.
+//! All teams, each on a thread of its own if one can be made.
 ghost use Rattle.std.specs.Prelude.{◌≡◌, ℕ, ◌<◌, ◌≤◌, ◌-◌, length};
 ghost use denote.Param.Send.{IsSync, IsSend, Frees};
 ghost use Rattle.locality.specs.Lists.{Each};

@@ -11,7 +11,7 @@ use Rattle.script_reader.specs.Steps.{StepsMean}
 use Rattle.explaining.specs.StepTexts.{step_text}
 use Rattle.written_steps.specs.ReadBack.{IsNameable}
 
--- the end that a last line lacks; behind a carriage return, which belongs to the line, stands a space
+-- the line end that a last line doesn't have; after a carriage return, which belongs to the line, a space comes first
 abbrev pub lacking_end : List ℕ → List ℕ
 lacking_end script = if ends_with_byte 10 script then [] else (if ends_with_byte 13 script then codes " \n" else codes "\n")
 
