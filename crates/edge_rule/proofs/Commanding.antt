@@ -278,7 +278,7 @@ module _ {A : Type 0} (b : bench_fields.Inside A) (d : Inside A) (is_bench : IsB
             own = (λ r. seat (mine w) (job2 r)) ∙ own_now;
             seen = seen_now;
             of_plan = subst (λ (q : LabPlan × List EdgeState). AreOfPlan q.0 q.1) (λ r. (sym plan2 r, sym seen r)) ok.of_plan;
-            calm = subst (λ (q : LabPlan × ℕ × List Bool). AreStill q.0 (mine w) q.1 q.2) (λ r. (sym plan2 r, sym job2 r, sym calm r))
+            calm = subst (λ (q : LabPlan × ℕ × List ℕ). AreStill q.0 (mine w) q.1 q.2) (λ r. (sym plan2 r, sym job2 r, sym calm r))
                 (stay_still cp (mine cv) (mine w) cj d.calm.items
                 (λ f. same_at (mine cv) (mine w) cj f (kept d) (kept d') d.seen.items d'.seen.items ok.own own_now ok.seen seen_now
                 (ap (λ l. get_or l f no_edge) seen) (ap (λ (q : Seat). but_position q.phase) own ∙ still_drinks)

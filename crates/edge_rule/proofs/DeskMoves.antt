@@ -36,6 +36,7 @@ use Rattle.one_history.specs.Grow.{hand_in, mine, seen_state, Grows, Does, tried
 use Rattle.edge_rule.specs.DeskView.{DeskView, Owns, Adds, known, shown}
 use Rattle.edge_rule.specs.DeskInside.{seat_view, view_of, kept, fixed, AreOfPlan, IsDesk}
 use Rattle.edge_rule.specs.BenchInside.{bench_of, IsBench}
+use Rattle.edge_rule.specs.CalmEdges.{no_word}
 use Rattle.edge_rule.proofs.StillEdges.{none_still}
 use Rattle.locality.proofs.Frame.{learned_seat}
 use Rattle.locality.specs.Changes.{seat_after}
@@ -132,7 +133,7 @@ module _ {A : Type 0} (b : bench_fields.Inside A) (d : Inside A) (is_bench : IsB
       → x ≡ edge (mine mv) e → y ≡ after_moves m x → old_fork ≡ get_or d.fork_marks.items n old_fork
       → old_marks ≡ get_or d.bottle_marks.items n old_marks → fork ≡ fork_mark_after m old_fork → marks ≡ bottle_marks_after m old_marks
       → d'.fork_marks.items ≡ set d.fork_marks.items n fork → d'.bottle_marks.items ≡ set d.bottle_marks.items n marks
-      → d'.seen.items ≡ set d.seen.items n y → d'.calm.items ≡ set d.calm.items n false → d'.settled ≡ false → IsDesk d'
+      → d'.seen.items ≡ set d.seen.items n y → d'.calm.items ≡ set d.calm.items n no_word → d'.settled ≡ false → IsDesk d'
   moves_kept d' n x y fork marks old_fork old_marks at t empty job phase is_x is_y
       is_old_fork is_old_marks is_fork is_marks forks_are marks_are seen calm unsettled =
       let jobs = mine_seats mv in
@@ -166,7 +167,7 @@ module _ {A : Type 0} (b : bench_fields.Inside A) (d : Inside A) (is_bench : IsB
       desk_keeps d ok d' (events_of m mj e) (moves_uncounted mj mp e m) t (empty ∙ ok.empty) job own_now edges_now
       (subst (AreOfPlan mp) (sym seen_now) (of_plan_set d ok e y own.is_edge fits))
       (noted_but d ok (learned_all mp (mine mv) (events_of m mj e)) d' e own.is_edge own_now edges_now phase _ forks_now _ marks_now y seen_now (calm
-      ∙ ap (λ k. set d.calm.items k false) at))
+      ∙ ap (λ k. set d.calm.items k no_word) at))
       (not_settled d ok d' unsettled)
       (subst (λ (z : JobState). z.drinking ≢ Reaching) (sym phase) ok.rests)
 
@@ -286,7 +287,7 @@ module _ {A : Type 0} (b : bench_fields.Inside A) (d : Inside A) (is_bench : IsB
       → d'.seat.me.1 ≡ d.seat.me.1 → d'.job ≡ d.job → d'.counts ≡ counted what d.counts → d'.phase ≡ phase_after what d.phase
       → d'.fork_marks.items ≡ (if clears what then replicate (length d.fork_marks.items) false else d.fork_marks.items)
       → d'.bottle_marks.items ≡ d.bottle_marks.items → d'.seen.items ≡ d.seen.items
-      → d'.calm.items ≡ replicate (length d.calm.items) false → d'.settled ≡ false → d'.needed.items ≡ d.needed.items → IsDesk d'
+      → d'.calm.items ≡ replicate (length d.calm.items) no_word → d'.settled ≡ false → d'.needed.items ≡ d.needed.items → IsDesk d'
   phase_kept what d' t empty job counts phase forks_are marks_are seen calm unsettled needed =
       let jobs = mine_seats sv in
       let here = ok.at_rest.inside in

@@ -18,7 +18,7 @@ use Rattle.legal_steps.specs.Opening.{the_opening}
 use Rattle.legal_steps.specs.Fitting.{IsSeatOf}
 use Rattle.edge_word.specs.Words.{word_of, IsOfBottles}
 use Rattle.edge_word.proofs.WordBits.{no_two_edges}
-use Rattle.edge_word.proofs.WordLemmas.{IsOfBottles-28}
+use Rattle.edge_word.proofs.WordLemmas.{IsOfBottles-28, IsEdgeWord-word_of}
 use Rattle.one_history.specs.declared.board.Hand.{Hand}
 use Rattle.one_history.specs.declared.board.View.{View}
 use Rattle.edge_rule.specs.declared.desk.Desk.TheInside.{Inside}
@@ -38,7 +38,7 @@ use Rattle.edge_rule.specs.NeededBottles.{AreNeeded}
 use Rattle.edge_rule.specs.declared.needed.Needed.{Needed}
 use Rattle.edge_rule.specs.DeskInside.{seat_view, view_of, kept, fixed, AreOfPlan, AtRest, IsDesk}
 use Rattle.edge_rule.specs.BenchInside.{bench_of, IsBench}
-use Rattle.edge_rule.specs.CalmEdges.{IsStill, AreStill}
+use Rattle.edge_rule.specs.CalmEdges.{no_word, IsStill, AreStill}
 use Rattle.edge_rule.proofs.StillEdges.{same_at, stay_still, but_one, stays_settled}
 use Rattle.turns.specs.Acts.{IsSettled}
 use Rattle.std.proofs.lemmas.Bool.{false≢true}
@@ -131,14 +131,16 @@ module _ {A : Type 0} (d : Inside A) (ok : IsDesk d) where
   pub inside_calm : (e n : ℕ) → n ≡ e → e < length (edges p) → n < length d.calm.items
   inside_calm e n is inside = let h = ok.calm.wide in omega arith
 
-  -- the word last seen on an edge, and whether it is noted, as they are read from the fields
+  -- the word last seen on an edge, and the one noted there, as they are read from the fields
   pub last_seen : (e n : ℕ) (x : EdgeState) → n ≡ e → e < length (edges p) → x ≡ get_or d.seen.items n x → x ≡ edge (mine v) e
   last_seen e n x at inside is = got d.seen.items e x no_edge (let l = desk_edges in omega arith) (is ∙ ap (λ k. get_or d.seen.items k x) at)
       ∙ ap (λ (l : List EdgeState). get_or l e no_edge) (sym ok.seen)
 
-  pub noted_still : (e n : ℕ) (noted : Bool) → n ≡ e → e < length (edges p) → noted ≡ get_or d.calm.items n noted → noted ≡ true → IsStill p (mine v) j e
-  noted_still e n noted at inside is true_is =
-      ok.calm.each e (sym (got d.calm.items e noted false (let l = ok.calm.wide in omega arith) (is ∙ ap (λ k. get_or d.calm.items k noted) at)) ∙ true_is)
+  pub noted_still : (e n noted : ℕ) → n ≡ e → e < length (edges p) → noted ≡ get_or d.calm.items n noted → noted ≢ no_word
+      → (noted ≡ word_of (edge (mine v) e)) × IsStill p (mine v) j e
+  noted_still e n noted at inside is some =
+      let read = got d.calm.items e noted no_word (let l = ok.calm.wide in omega arith) (is ∙ ap (λ k. get_or d.calm.items k noted) at) in
+      subst (λ w. (w ≡ word_of (edge (mine v) e)) × IsStill p (mine v) j e) (sym read) (ok.calm.each e (λ none. some (read ∙ none)))
 
   -- a desk after a group of events, where its fields follow
   pub desk_grows : (d' : Inside A) (g : List Event) → Grows v g d'.seat.me.0 → d'.seat.me.1 ≡ [] → d'.job ≡ d.job
@@ -180,7 +182,7 @@ module _ {A : Type 0} (d : Inside A) (ok : IsDesk d) where
   pub noted_but : (t : State) (d' : Inside A) (e : ℕ) → e < length (edges p) → seat t j ≡ kept d'
       → t.edges ≡ d'.seen.items → d'.phase ≡ d.phase → (fork : Bool) → d'.fork_marks.items ≡ set d.fork_marks.items e fork
       → (marks : ℕ) → d'.bottle_marks.items ≡ set d.bottle_marks.items e marks → (x : EdgeState)
-      → d'.seen.items ≡ set d.seen.items e x → d'.calm.items ≡ set d.calm.items e false → AreStill p t j d'.calm.items
+      → d'.seen.items ≡ set d.seen.items e x → d'.calm.items ≡ set d.calm.items e no_word → AreStill p t j d'.calm.items
   noted_but t d' e inside own edges phase fork forks marks bottles x seen calm = subst (AreStill p t j) (sym calm)
       (but_one p (mine v) t j e d.calm.items inside (λ f other. same_at (mine v) t j f (kept d) (kept d') d.seen.items d'.seen.items ok.own own ok.seen edges
       (ap (λ l. get_or l f no_edge) seen ∙ get_or-set_other d.seen.items e f x no_edge other)
@@ -237,10 +239,21 @@ module _ {A : Type 0} (b : bench_fields.Inside A) (d : Inside A) (is_bench : IsB
       (let inside = own.is_edge in framed (edge_place e) (λ n. n) (looked (step slots (edge_place e) 0 0 none) d.seat.me) (omega arith)
       (looks mine_plan slots d.seat.id d.seat.me.0 d.seat.me.1 (led d.seat.me.0 ok.at_rest.mine) ok.at_rest.inside e own))
 
-  pub seen_fits_plan : (e : ℕ) (x : EdgeState) → e < length (edges mine_plan) → x ≡ edge (mine d.seat.me.0) e → IsOfBottles (length (bottles b.plan.now e)) x
-  seen_fits_plan e x inside is =
-      subst (λ (z : LabPlan × EdgeState). IsOfBottles (length (bottles z.0 e)) z.1)
-      (λ i. (sym plan_known i, (ap (λ (l : List EdgeState). get_or l e no_edge) (sym ok.seen) ∙ sym is) i)) (ok.of_plan e inside)
+  few : (e : ℕ) → e < length (edges mine_plan) → length (bottles mine_plan e) ≤ 28
+  few e inside =
+      subst (λ (z : LabPlan). length (bottles z e) ≤ 28) (sym owns.1)
+      (is_bench.is_plan.few_bottles e (subst (λ (z : LabPlan). e < length (edges z)) owns.1 inside))
+
+  -- where the word of an edge is the one that was noted there, the edge is as it was seen last, and still
+  pub noted_again : (e n noted w : ℕ) (x : EdgeState) → n ≡ e → e < length (edges mine_plan) → noted ≡ get_or d.calm.items n noted
+      → word_of x ≡ w → IsOfBottles (length (bottles b.plan.now e)) x → noted ≡ w
+      → (x ≡ edge (mine d.seat.me.0) e) × IsStill mine_plan (mine d.seat.me.0) (hand_in d.seat.me.0).job e
+  noted_again e n noted w x at inside read word fits is =
+      let of_edge = IsOfBottles-28 _ x (few e inside) (subst (λ (z : LabPlan). IsOfBottles (length (bottles z e)) x) plan_known fits) in
+      let low = (IsEdgeWord-word_of x of_edge).top_bits in
+      let here = noted_still d ok e n noted at inside read (λ none. absurd (omega (arith, low, word, is, none))) in
+      let seen_fits = subst (IsOfBottles (length (bottles mine_plan e))) (ap (λ (l : List EdgeState). get_or l e no_edge) (sym ok.seen)) (ok.of_plan e inside) in
+      (no_two_edges x (edge (mine d.seat.me.0) e) of_edge (IsOfBottles-28 _ _ (few e inside) seen_fits) (word ∙ (sym is ∙ here.0)), here.1)
 
 -- what a call gives: y is what the caller saw before
 pub seat_adds : {k : Clock} (s s' : TableSeat LogView View) (y : DeskView) (g : DeskView → List Event)
@@ -276,7 +289,7 @@ module _ {A : Type 0} (d d' : Inside A) (ok : IsDesk d) (e : ℕ) (x : EdgeState
       → Does lv (Look lj e x) d'.seat.me.0 → d'.seat.me.1 ≡ d.seat.me.1 → fixed d' ≡ fixed d → d'.phase ≡ d.phase
       → fork ≡ fork_mark_seen d.phase.dining (end_of q d.job e) x → marks ≡ bottles_at q e (end_of q d.job e) x
       → d'.fork_marks.items ≡ set d.fork_marks.items e fork → d'.bottle_marks.items ≡ set d.bottle_marks.items e marks
-      → d'.seen.items ≡ set d.seen.items e x → d'.calm.items ≡ set d.calm.items e false → d'.settled ≡ false → IsDesk d'
+      → d'.seen.items ≡ set d.seen.items e x → d'.calm.items ≡ set d.calm.items e no_word → d'.settled ≡ false → IsDesk d'
   look_kept fork marks q inside is_p fits t empty job phase is_fork is_marks forks bottle_marks seen calm unsettled =
       let event : Event = Look lj e x in
       let jobs = mine_seats lv in

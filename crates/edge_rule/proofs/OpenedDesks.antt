@@ -22,6 +22,7 @@ use Rattle.one_history.specs.Rule.{hand, phase_place, Spelled}
 use Rattle.one_history.specs.Grow.{hand_in, mine}
 use Rattle.edge_rule.specs.Openings.{opening_edges, AreWritten}
 use Rattle.legal_steps.specs.Counting.{counts_of}
+use Rattle.edge_rule.specs.CalmEdges.{no_word}
 use Rattle.edge_rule.proofs.StillEdges.{none_still}
 use Rattle.std.proofs.lemmas.Bool.{false≢true}
 use Rattle.edge_rule.specs.NeededBottles.{nothing_noted}
@@ -86,7 +87,7 @@ fresh_rests plan j job = record { mine = refl; inside = job; none_told = refl; l
 
 pub fresh_is_desk : {A : Type 0} (d : Inside A) (plan : LabPlan) (j : ℕ) → d.seat.me ≡ (fresh_view plan j, []) → j < length plan.jobs
     → d.job ≡ j → d.counts ≡ counts_of j [] → kept d ≡ idle_seat plan → d.seen.items ≡ opening_edges plan (length (edges plan))
-    → d.calm.items ≡ replicate (length (edges plan)) false → d.settled ≡ false → d.needed.items ≡ replicate (length (edges plan)) nothing_noted → IsDesk d
+    → d.calm.items ≡ replicate (length (edges plan)) no_word → d.settled ≡ false → d.needed.items ≡ replicate (length (edges plan)) nothing_noted → IsDesk d
 fresh_is_desk d plan j me job is_job counts own seen calm unsettled needed =
     let v : d.seat.me.0 ≡ fresh_view plan j = ap (λ m. m.0) me in
     record {

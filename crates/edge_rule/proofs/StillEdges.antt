@@ -1,8 +1,8 @@
 -- What is noted stays true: of a calm edge where neither the edge nor its marks change, nor how the job dines and drinks; of phase acts where the job's seat
 -- doesn't.
-use Rattle.std.proofs.Common.{◌≡◌, ◌≢◌, ℕ, zero, suc, ◌<◌, Bool, true, false, List, length, get_or, set, replicate, refl, sym, ap, ◌∙◌, subst, inl, inr, arith, length-set, get_or-set_same, get_or-set_other}
+use Rattle.std.proofs.Common.{◌≡◌, ◌≢◌, ℕ, zero, suc, ◌<◌, false, List, length, get_or, set, replicate, refl, sym, ap, ◌∙◌, subst, inl, inr, arith, length-set, get_or-set_same, get_or-set_other}
 use Rattle.std.proofs.lemmas.List.{length-replicate}
-use Rattle.std.proofs.lemmas.Bool.{cases_eq, false≢true}
+use Rattle.std.proofs.lemmas.Bool.{cases_eq}
 use Rattle.lab_plan.specs.LabPlan.{LabPlan, edges}
 use Rattle.legal_steps.specs.declared.edge_state.EdgeState.{EdgeState}
 use Rattle.legal_steps.specs.State.{Seat, State, seat, edge, phase, fork_mark, bottle_marks, no_edge, end_of, bottles_at}
@@ -12,7 +12,8 @@ use Rattle.turns.specs.Acts.{IsSettled}
 use Rattle.turns.proofs.Calm.{stays_calm}
 use Rattle.locality.proofs.Reading.{may_same}
 use Rattle.legal_steps.specs.declared.event.Event.TheVariants.{Thirst, Hunger, Sit, Leave, Drink, Reach, Quit, Retire}
-use Rattle.edge_rule.specs.CalmEdges.{IsStill, AreStill}
+use Rattle.edge_word.specs.Words.{word_of}
+use Rattle.edge_rule.specs.CalmEdges.{no_word, IsStill, AreStill}
 
 -- what a note rests on is the same in both states
 pub record IsSameAt (s t : State) (j e : ℕ) : Type 0 where
@@ -52,41 +53,54 @@ stays_settled plan s t j same none = record {
   no_retire = λ may. none.no_retire (may_same plan t s (Retire j) same may);
 }
 
+-- a note stays
+stays_noted : (plan : LabPlan) (s t : State) (j e w : ℕ) → IsSameAt s t j e
+    → (w ≡ word_of (edge s e)) × IsStill plan s j e → (w ≡ word_of (edge t e)) × IsStill plan t j e
+stays_noted plan s t j e w same noted = (noted.0 ∙ ap word_of (sym same.edge_is), stays_still plan s t j e same noted.1)
+
 -- all notes stay
-pub stay_still : (plan : LabPlan) (s t : State) (j : ℕ) (noted : List Bool) → ((e : ℕ) → IsSameAt s t j e) → AreStill plan s j noted → AreStill plan t j noted
-stay_still plan s t j noted same all = record { wide = all.wide; each = λ e is. stays_still plan s t j e (same e) (all.each e is) }
+pub stay_still : (plan : LabPlan) (s t : State) (j : ℕ) (noted : List ℕ) → ((e : ℕ) → IsSameAt s t j e) → AreStill plan s j noted → AreStill plan t j noted
+stay_still plan s t j noted same all = record { wide = all.wide; each = λ e is. stays_noted plan s t j e _ (same e) (all.each e is) }
 
 -- all but one stay, which goes
-pub but_one : (plan : LabPlan) (s t : State) (j e : ℕ) (noted : List Bool) → e < length (edges plan)
-    → ((f : ℕ) → f ≢ e → IsSameAt s t j f) → AreStill plan s j noted → AreStill plan t j (set noted e false)
+pub but_one : (plan : LabPlan) (s t : State) (j e : ℕ) (noted : List ℕ) → e < length (edges plan)
+    → ((f : ℕ) → f ≢ e → IsSameAt s t j f) → AreStill plan s j noted → AreStill plan t j (set noted e no_word)
 but_one plan s t j e noted inside same all = record {
-  wide = length-set noted e false ∙ all.wide;
+  wide = length-set noted e no_word ∙ all.wide;
   each = λ f is. elim (cases_eq f e) [
     | inl here ↦ let n = all.wide in
-        absurd (false≢true (sym (get_or-set_same noted e false false (omega arith)) ∙ (ap (λ k. get_or (set noted e false) k false) (sym here) ∙ is)))
-    | inr other ↦ stays_still plan s t j f (same f other) (all.each f (sym (get_or-set_other noted e f false false other) ∙ is))
+        absurd (is (ap (λ k. get_or (set noted e no_word) k no_word) here ∙ get_or-set_same noted e no_word no_word (omega arith)))
+    | inr other ↦ let kept = get_or-set_other noted e f no_word no_word other in
+        subst (λ w. (w ≡ word_of (edge t f)) × IsStill plan t j f) (sym kept)
+        (stays_noted plan s t j f _ (same f other) (all.each f (λ none. is (kept ∙ none))))
   ];
 }
 
 -- one more is noted
-pub one_more : (plan : LabPlan) (s : State) (j e n : ℕ) (noted : List Bool) → n ≡ e → e < length (edges plan)
-    → IsStill plan s j e → AreStill plan s j noted → AreStill plan s j (set noted n true)
-one_more plan s j e n noted at inside still all = record {
-  wide = length-set noted n true ∙ all.wide;
+pub one_more : (plan : LabPlan) (s : State) (j e n w : ℕ) (noted : List ℕ) → n ≡ e → e < length (edges plan)
+    → w ≡ word_of (edge s e) → IsStill plan s j e → AreStill plan s j noted → AreStill plan s j (set noted n w)
+one_more plan s j e n w noted at inside word still all = record {
+  wide = length-set noted n w ∙ all.wide;
   each = λ f is. elim (cases_eq f e) [
-    | inl here ↦ subst (IsStill plan s j) (sym here) still
-    | inr other ↦ all.each f (sym (get_or-set_other noted e f true false other) ∙ (ap (λ k. get_or (set noted k true) f false) (sym at) ∙ is))
+    | inl here ↦ let wide = all.wide in
+        let there : get_or (set noted n w) f no_word ≡ w =
+        ap (λ k. get_or (set noted n w) k no_word) (here ∙ sym at) ∙ get_or-set_same noted n w no_word (omega (arith, wide)) in
+        (there ∙ (word ∙ ap (λ k. word_of (edge s k)) (sym here)), subst (IsStill plan s j) (sym here) still)
+    | inr other ↦
+        let kept : get_or (set noted n w) f no_word ≡ get_or noted f no_word =
+        ap (λ k. get_or (set noted k w) f no_word) at ∙ get_or-set_other noted e f w no_word other in
+        subst (λ x. (x ≡ word_of (edge s f)) × IsStill plan s j f) (sym kept) (all.each f (λ none. is (kept ∙ none)))
   ];
 }
 
-none_noted : (n e : ℕ) → get_or (replicate n false) e false ≡ false
+none_noted : (n e : ℕ) → get_or (replicate n no_word) e no_word ≡ no_word
 none_noted zero e = refl
 none_noted (suc n) zero = refl
 none_noted (suc n) (suc e) = none_noted n e
 
 -- where none is noted, nothing is claimed
-pub none_still : (plan : LabPlan) (s : State) (j n : ℕ) (noted : List Bool) → noted ≡ replicate n false → n ≡ length (edges plan) → AreStill plan s j noted
+pub none_still : (plan : LabPlan) (s : State) (j n : ℕ) (noted : List ℕ) → noted ≡ replicate n no_word → n ≡ length (edges plan) → AreStill plan s j noted
 none_still plan s j n noted is wide = record {
-  wide = ap length is ∙ (length-replicate n false ∙ wide);
-  each = λ e noted_is. absurd (false≢true (sym (ap (λ z. get_or z e false) is ∙ none_noted n e) ∙ noted_is));
+  wide = ap length is ∙ (length-replicate n no_word ∙ wide);
+  each = λ e some. absurd (some (ap (λ z. get_or z e no_word) is ∙ none_noted n e));
 }

@@ -1,10 +1,11 @@
 -- Which edges a desk has noted as calm, and what that rests on.
-use Rattle.std.specs.Prelude.{◌≡◌, ℕ, Bool, true, false, List, [], ◌∷◌, length, slice_index_or}
+use Rattle.std.specs.Prelude.{◌≡◌, ◌≢◌, ℕ, List, [], ◌∷◌, length, slice_index_or}
 use Rattle.lab_plan.specs.LabPlan.{LabPlan, edges}
 use Rattle.legal_steps.specs.declared.edge_state.EdgeState.{EdgeState}
 use Rattle.legal_steps.specs.declared.event.Event.TheVariants.{Look}
 use Rattle.legal_steps.specs.State.{State, edge, dining, fork_mark, bottle_marks, end_of, bottles_at}
 use Rattle.legal_steps.specs.Legal.{fork_mark_seen}
+use Rattle.edge_word.specs.Words.{word_of}
 use Rattle.turns.specs.Due.{IsCalm}
 use Rattle.edge_rule.specs.DeskView.{DeskView, Adds}
 
@@ -15,10 +16,14 @@ pub record IsStill (plan : LabPlan) (s : State) (j e : ℕ) : Type 0 where
   pub fork : fork_mark s j e ≡ fork_mark_seen (dining s j) (end_of plan j e) (edge s e)
   pub bottles : bottle_marks s j e ≡ bottles_at plan e (end_of plan j e) (edge s e)
 
--- each edge that is noted is so
-pub record AreStill (plan : LabPlan) (s : State) (j : ℕ) (noted : List Bool) : Type 0 where
+-- what stands where no word is noted: no edge has this word
+abbrev pub no_word : ℕ
+no_word = 18446744073709551615
+
+-- each edge that has a note is so, and what is noted is its word
+pub record AreStill (plan : LabPlan) (s : State) (j : ℕ) (noted : List ℕ) : Type 0 where
   pub wide : length noted ≡ length (edges plan)
-  pub each : (e : ℕ) → slice_index_or noted e false ≡ true → IsStill plan s j e
+  pub each : (e : ℕ) → slice_index_or noted e no_word ≢ no_word → (slice_index_or noted e no_word ≡ word_of (edge s e)) × IsStill plan s j e
 
 -- the last thing that the job did was a look at the edge
 pub record HasJustLooked (d : DeskView) (e : ℕ) : Type 0 where

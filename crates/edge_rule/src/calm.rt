@@ -12,6 +12,9 @@ use crate::words::number;
 use lab_plan::EdgeNo;
 use std::alloc::Allocator;
 
+// A note that there is none: no edge has this word, because some of the set bits are zero in every edge's word.
+pub(crate) const NO_WORD: u64 = 0xffff_ffff_ffff_ffff;
+
 impl<A: Allocator> Desk<A> {
     /// Whether the edge was noted as calm, and neither its word nor the own phase has changed since, but for the count of
     /// the session's commands. An edge that was never noted may be calm too.
@@ -19,7 +22,7 @@ impl<A: Allocator> Desk<A> {
         requires { edge < length (edges self.now.plan) }
         ensures { IsTrue result → IsCalm self.now.plan (known self.now) self.now.job edge }
     {
-        self.calm[number(edge)]
+        self.calm[number(edge)] != NO_WORD
     }
 
     /// Notes that no move on the edge is legal, right after a look at it.
@@ -29,7 +32,8 @@ impl<A: Allocator> Desk<A> {
         requires looked { HasJustLooked self.old edge }
         ensures { self.new ≡ self.old }
     {
-        self.calm[number(edge)] = true;
+        let place = number(edge);
+        self.calm[place] = self.seen[place].pack();
     }
 
     /// Whether it was noted that no phase act is legal but giving the session up, and neither the own phase nor a mark has

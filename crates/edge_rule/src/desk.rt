@@ -10,8 +10,8 @@ use one_history::board::View;
 use std::alloc::{Allocator, Global};
 use std::marker::Model;
 
-/// One job's seat, with what the job knows: its phase, its marks, the word last seen on each edge, whether the edge was
-/// noted as calm by it, whether no phase act was due, and which of the edge's bottles a session of the job needs.
+/// One job's seat, with what the job knows: its phase, its marks, the word last seen on each edge, the word at which the edge
+/// was noted as calm, whether no phase act was due, and which of the edge's bottles a session of the job needs.
 #[derive(Drop)]
 pub struct Desk<A: Allocator = Global> {
     pub(crate) seat: Seat<InstrumentLog<A>, View>,
@@ -20,7 +20,7 @@ pub struct Desk<A: Allocator = Global> {
     pub(crate) fork_marks: Vec<bool, A>,
     pub(crate) bottle_marks: Vec<u32, A>,
     pub(crate) seen: Vec<EdgeWord, A>,
-    pub(crate) calm: Vec<bool, A>,
+    pub(crate) calm: Vec<u64, A>,
     pub(crate) settled: bool,
     pub(crate) needed: Vec<Needed, A>,
     pub(crate) clock: Clock,

@@ -8,6 +8,7 @@ ghost use Rattle.edge_rule.specs.Openings.{opening_edges};
 ghost use Rattle.edge_rule.specs.DeskView.{fresh_desk, fresh_desks};
 
 use crate::bench::Bench;
+use crate::calm::NO_WORD;
 use crate::clock::Clock;
 use crate::desk::Desk;
 use crate::needed::NOTHING_NOTED;
@@ -68,7 +69,7 @@ fn next_desk<A: Allocator + Copy>(
     let fork_marks = Vec::from_elem(alloc, false, count)?;
     let bottle_marks = Vec::from_elem(alloc, 0u32, count)?;
     let seen = fresh_edges(alloc, plan)?;
-    let calm = Vec::from_elem(alloc, false, count)?;
+    let calm = Vec::from_elem(alloc, NO_WORD, count)?;
     let needed = Vec::from_elem(alloc, NOTHING_NOTED, count)?;
     let phase = JobState {
         dining: Dining::Thinking,

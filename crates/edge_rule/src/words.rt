@@ -1,5 +1,5 @@
 //! Words as they are read and written.
-ghost use Rattle.std.specs.Prelude.{◌≡◌, ◌+◌, ◌<◌, ◌≤◌, ◌^◌, length, slice_index_or, bit_xor, bit_and, IsTrue, ◌↔◌, true};
+ghost use Rattle.std.specs.Prelude.{◌≡◌, ◌+◌, ◌<◌, ◌≤◌, ◌^◌, length, slice_index_or, bit_xor, bit_and};
 ghost use Rattle.lab_plan.specs.Limits.{most_sessions};
 ghost use Rattle.lab_plan.specs.LabPlan.{edges, bottles};
 ghost use Rattle.legal_steps.specs.declared.edge_state.EdgeState.{EdgeState};
@@ -39,13 +39,6 @@ pub(crate) fn unpacked<A: Allocator>(plan: &Plan<A>, edge: EdgeNo, word: u64) ->
     // An edge has 28 bottles at most, so that its words are among those that can be spelled.
     let _ = plan.bottles(edge);
     EdgeWord::spelled(word)
-}
-
-// Whether the edge was noted as calm, and the word is the one last seen.
-pub(crate) fn is_seen_again(noted: bool, last: EdgeWord, word: u64) -> bool
-    ensures { IsTrue result ↔ ((noted ≡ true) × (word_of last ≡ word)) }
-{
-    noted && last.pack() == word
 }
 
 // What a look sets: the mark of the fork, and those of the bottles.
