@@ -1,2 +1,3 @@
 pub mod ForkMoves
 pub mod Trying
+pub mod Turning

@@ -1,2 +1,3 @@
 pub mod Forks
 pub mod Tries
+pub mod Turned

@@ -1,14 +1,15 @@
 //! What a job has at hand at an edge.
-ghost use Rattle.std.specs.Prelude.{◌≡◌, ◌≤◌, length};
+ghost use Rattle.std.specs.Prelude.{◌≡◌, ◌<◌, ◌≤◌, length};
 ghost use Rattle.lab_plan.specs.Limits.{most_bottles};
-ghost use Rattle.lab_plan.specs.LabPlan.{bottles};
+ghost use Rattle.lab_plan.specs.LabPlan.{edges, bottles};
 ghost use Rattle.legal_steps.specs.State.{IsOwn, end_of, edge as edge_at, phase as phase_at};
 ghost use Rattle.edge_word.specs.Words.{IsOfBottles};
 ghost use Rattle.edge_rule.specs.DeskView.{Owns, known};
 ghost use Rattle.edge_rule.specs.Knowing.{IsKnown};
+ghost use Rattle.dining_layer.specs.Turned.{turned};
 
 use edge_rule::{Bench, Desk};
-use lab_plan::{EdgeNo, JobNo};
+use lab_plan::{EdgeNo, JobNo, Plan};
 use legal_steps::{EdgeState, End, JobState};
 use std::alloc::Allocator;
 
@@ -19,6 +20,29 @@ pub struct AtEdge {
     pub phase: JobState,
     pub here: End,
     pub seen: EdgeState,
+    /// The edge turned round where the job is the lower one: what is at the job's own end stands at the higher end here.
+    pub mine: EdgeState,
+}
+
+// The edge as it is seen from this end.
+#[tactic(auto, unfolding(legal_steps::specs::State::bottles_at))]
+fn seen_from<A: Allocator>(plan: &Plan<A>, edge: EdgeNo, here: End, seen: EdgeState) -> EdgeState
+    requires { edge < length (edges plan.now) }
+    ensures { result ≡ turned plan.now edge here seen }
+{
+    match here {
+        End::Higher => seen,
+        End::Lower => {
+            let all = (1u32 << plan.bottles(edge)) - 1;
+            EdgeState {
+                fork: seen.fork.other(),
+                dirty: seen.dirty,
+                token: seen.token.other(),
+                bottles: all ^ seen.bottles,
+                bottle_tokens: all ^ seen.bottle_tokens,
+            }
+        }
+    }
 }
 
 /// What the desk's job has at hand at one of its edges.
@@ -29,6 +53,7 @@ pub fn at_edge<A: Allocator>(bench: &Bench<A>, desk: &Desk<A>, edge: EdgeNo) -> 
     ensures phase { result.phase ≡ phase_at (known desk.now) desk.now.job }
     ensures here { result.here ≡ end_of desk.now.plan desk.now.job edge }
     ensures seen { result.seen ≡ edge_at (known desk.now) edge }
+    ensures mine { result.mine ≡ turned desk.now.plan edge (end_of desk.now.plan desk.now.job edge) (edge_at (known desk.now) edge) }
     ensures fits { IsOfBottles (length (bottles desk.now.plan edge)) result.seen }
     ensures few { length (bottles desk.now.plan edge) ≤ most_bottles }
     ensures known { IsKnown desk.now.plan (known desk.now) desk.now.job }
@@ -38,10 +63,12 @@ pub fn at_edge<A: Allocator>(bench: &Bench<A>, desk: &Desk<A>, edge: EdgeNo) -> 
     let here = End::of(plan, job, edge);
     // A call for its clause alone: an edge has few bottles.
     let _ = plan.bottles(edge);
+    let seen = desk.seen(edge).unpacked();
     AtEdge {
         job,
         phase: desk.phase(),
         here,
-        seen: desk.seen(edge).unpacked(),
+        seen,
+        mine: seen_from(plan, edge, here, seen),
     }
 }

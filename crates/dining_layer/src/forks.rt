@@ -37,7 +37,7 @@ pub fn fork_moves<A: Allocator>(bench: &Bench<A>, desk: &Desk<A>, edge: EdgeNo) 
     ensures alone { result ≡ forks_alone result }
 {
     let at = at_edge(bench, desk, edge);
-    due_forks(at.phase.dining, at.here, at.seen)
+    due_forks(at.phase.dining, End::Higher, at.mine)
 }
 
 /// Whether the fork may be given, by the word last seen.

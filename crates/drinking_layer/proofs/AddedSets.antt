@@ -5,6 +5,7 @@ use Rattle.edge_word.specs.declared.moves.EdgeMoves.{EdgeMoves}
 use Rattle.edge_rule.specs.DeskView.{DeskView, known}
 use Rattle.edge_rule.specs.Knowing.{IsKnown}
 use Rattle.turns.specs.Due.{WithBottles}
+use Rattle.dining_layer.specs.Turned.{turned}
 use Rattle.drinking_layer.specs.Local.{with_sets}
 use Rattle.drinking_layer.specs.Bottles.{AreNeededNow}
 use Rattle.drinking_layer.proofs.BottleMoves.{gifts_greatest, wishes_greatest}
@@ -18,10 +19,10 @@ module _ (d : DeskView) (e : ℕ) (k : IsKnown d.plan (known d) d.job) (own : Is
 
   -- with the bottles that the job needs now they are the greatest sets
   pub sets_with : (n : ℕ) (m r : EdgeMoves) → AreNeededNow d e n
-      → r ≡ with_sets d.plan e (end_of d.plan d.job e) (phase (known d) d.job) n (edge (known d) e) m → WithBottles d.plan (known d) d.job e m r
+      → r ≡ with_sets (phase (known d) d.job) n (turned d.plan e (end_of d.plan d.job e) (edge (known d) e)) m → WithBottles d.plan (known d) d.job e m r
   sets_with n m r needed is =
       let f = k.edges_fit e own.is_edge in
-      let made : EdgeMoves = with_sets d.plan e (end_of d.plan d.job e) (phase (known d) d.job) n (edge (known d) e) m in
+      let made : EdgeMoves = with_sets (phase (known d) d.job) n (turned d.plan e (end_of d.plan d.job e) (edge (known d) e)) m in
       subst (WithBottles d.plan (known d) d.job e m) (sym is) (record {
         give_fork = refl;
         ask_fork = refl;

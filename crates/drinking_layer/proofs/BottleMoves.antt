@@ -1,10 +1,11 @@
 -- The sets of bottles that are given and asked for are the greatest legal ones.
-use Rattle.std.proofs.Common.{◌≡◌, ◌≢◌, ◌↔◌, ◌⊎◌, ℕ, ◌<◌, Bool, true, false, ◌||◌, bit_and, bit_xor, if◌then◌else◌, length, refl, sym, ap, ◌∙◌, subst, inl, inr}
+use Rattle.std.proofs.Common.{◌≡◌, ◌≢◌, ◌↔◌, ◌⊎◌, ℕ, ◌-◌, ◌^◌, ◌<◌, Bool, true, false, ◌||◌, bit_and, bit_xor, if◌then◌else◌, length, refl, sym, ap, ◌∙◌, subst, inl, inr}
 use Rattle.std.proofs.lemmas.Bool.{false≢true}
-use Rattle.std.specs.Int.Bits.{and_lt}
+use Rattle.std.specs.Int.Bits.{and_lt, xor_assoc}
 use Rattle.std.proofs.lemmas.Nat.{pow_pos}
 use Rattle.lab_plan.specs.LabPlan.{LabPlan, bottles}
 use Rattle.legal_steps.specs.declared.end.End.{End}
+use Rattle.legal_steps.specs.declared.end.End.TheVariants.{Lower, Higher}
 use Rattle.legal_steps.specs.declared.phase.Drinking.{Drinking}
 use Rattle.legal_steps.specs.declared.phase.Drinking.TheVariants.{Tranquil, Thirsty, Drinking as Drinks, Reaching, Retired}
 use Rattle.legal_steps.specs.declared.phase.JobState.{JobState}
@@ -14,7 +15,9 @@ use Rattle.legal_steps.specs.Legal.{MayAskBottle, MayGiveBottle, Needs, instrume
 use Rattle.edge_word.specs.declared.moves.EdgeMoves.{EdgeMoves}
 use Rattle.edge_word.specs.Moves.{when}
 use Rattle.turns.specs.Due.{fork_gone, fork_asked_for, IsGreatest}
-use Rattle.drinking_layer.specs.Local.{NeedsIn, has_instruments, is_thirsty, without, tokens_at, kept, gifts, wishes}
+use Rattle.dining_layer.specs.Turned.{turned}
+use Rattle.dining_layer.proofs.Turning.{fork_is_here}
+use Rattle.drinking_layer.specs.Local.{NeedsIn, has_instruments, is_thirsty, without, kept, gifts, wishes}
 use Rattle.legal_steps.proofs.BottleSets.{has_and, has_without, has_none, at_end, at_end_fits, without_fits}
 use Rattle.turns.proofs.ForkGuards.{at_here, here_at}
 use Rattle.turns.proofs.Stages.{Stage, stage_one, stage_three, edge_one, edge_two, edge_three}
@@ -49,12 +52,22 @@ neither : (a b : Bool) → (a || b) ≡ false → (a ≡ false) × (b ≡ false)
 neither true b h = absurd (false≢true (sym h))
 neither false b h = (refl, h)
 
+-- bottles that are sent away are sent away from either view
+sent_from : (plan : LabPlan) (e : ℕ) (here : End) (x : EdgeState) (sent : ℕ)
+    → bit_xor (bottles_at plan e here x) sent ≡ bottles_at plan e here (record x { bottles = bit_xor x.bottles sent })
+unfolding bottles_at
+sent_from plan e Higher x sent = refl
+sent_from plan e Lower x sent = xor_assoc (2 ^ length (bottles plan e) - 1) x.bottles sent
+
 module _ (plan : LabPlan) (s : State) (j e : ℕ) (he : e < length s.edges) (hj : j < length s.seats) where
   abbrev here : End
   here = end_of plan j e
 
   abbrev x : EdgeState
   x = edge s e
+
+  abbrev mine : EdgeState
+  mine = turned plan e here x
 
   abbrev ph : JobState
   ph = phase s j
@@ -77,26 +90,26 @@ module _ (plan : LabPlan) (s : State) (j e : ℕ) (he : e < length s.edges) (hj 
       three = stage_three plan s j e m he hj
 
       -- the bottles that are kept
-      is_kept : (k : ℕ) → k < length (bottles plan e) → Has (kept here ph needed x m.give_fork) k
+      is_kept : (k : ℕ) → k < length (bottles plan e) → Has (kept ph needed mine m.give_fork) k
           ↔ (NeedsIn plan j ph (instrument_of plan e k) × (IsDrinking ph ⊎ ((edge_one m x).fork ≡ here)))
-      is_kept k l = at (has_instruments ph.drinking || is_at here (edge_one m x).fork) refl where
-        at : (b : Bool) → (has_instruments ph.drinking || is_at here (edge_one m x).fork) ≡ b
-            → Has (if has_instruments ph.drinking || is_at here (edge_one m x).fork then needed else 0) k
+      is_kept k l = at (has_instruments ph.drinking || is_at Higher (edge_one m mine).fork) refl where
+        at : (b : Bool) → (has_instruments ph.drinking || is_at Higher (edge_one m mine).fork) ≡ b
+            → Has (if has_instruments ph.drinking || is_at Higher (edge_one m mine).fork then needed else 0) k
             ↔ (NeedsIn plan j ph (instrument_of plan e k) × (IsDrinking ph ⊎ ((edge_one m x).fork ≡ here)))
         at true is =
-            let same : needed ≡ (if has_instruments ph.drinking || is_at here (edge_one m x).fork then needed else 0) = λ i. if sym is i then needed else 0 in
+            let same : needed ≡ (if has_instruments ph.drinking || is_at Higher (edge_one m mine).fork then needed else 0) = λ i. if sym is i then needed else 0 in
             let n = just k l in (
               λ h. (
                 n.0 (subst (λ z. Has z k) (sym same) h),
-                elim (either _ _ is) [ inl d ↦ inl (drinks ph d) | inr f ↦ inr (at_here here (edge_one m x).fork f) ],
+                elim (either _ _ is) [ inl d ↦ inl (drinks ph d) | inr f ↦ inr ((fork_is_here plan e here x m.give_fork).0 (at_here Higher (edge_one m mine).fork f)) ],
               ),
               λ q. subst (λ z. Has z k) same (n.1 q.0),
             )
         at false is =
-            let same : 0 ≡ (if has_instruments ph.drinking || is_at here (edge_one m x).fork then needed else 0) = λ i. if sym is i then needed else 0 in
+            let same : 0 ≡ (if has_instruments ph.drinking || is_at Higher (edge_one m mine).fork then needed else 0) = λ i. if sym is i then needed else 0 in
             let f = neither _ _ is in (
               λ h. absurd (has_none k (subst (λ z. Has z k) (sym same) h)),
-              λ q. elim q.1 [ inl d ↦ absurd (drinks_not ph f.0 d) | inr at_fork ↦ absurd (false≢true (sym f.1 ∙ here_at here (edge_one m x).fork at_fork)) ],
+              λ q. elim q.1 [ inl d ↦ absurd (drinks_not ph f.0 d) | inr at_fork ↦ absurd (false≢true (sym f.1 ∙ here_at Higher (edge_one m mine).fork ((fork_is_here plan e here x m.give_fork).1 at_fork))) ],
             )
 
       -- a bottle that may be given
@@ -127,14 +140,14 @@ module _ (plan : LabPlan) (s : State) (j e : ℕ) (he : e < length s.edges) (hj 
             },
           )
 
-      pub gifts_greatest : m.give_bottles ≡ gifts plan e here ph needed x m.give_fork
+      pub gifts_greatest : m.give_bottles ≡ gifts ph needed mine m.give_fork
           → IsGreatest plan e m.give_bottles (MayGiveBottle plan (fork_gone plan s j e m) j e)
       gifts_greatest is = subst (λ z. IsGreatest plan e z (MayGiveBottle plan (fork_gone plan s j e m) j e)) (sym is) (record {
         of_edge =
             without_fits (length (bottles plan e)) _ _ (and_lt (length (bottles plan e)) _ _
             (at_end_fits plan e here x own_bottles) (at_end_fits plan e here (record x { bottles = x.bottle_tokens }) own_tokens));
-        just = λ k l. let w = has_without (bit_and (bottles_at plan e here x) (tokens_at plan e here x)) (kept here ph needed x m.give_fork) k in
-            let a = has_and (bottles_at plan e here x) (tokens_at plan e here x) k in
+        just = λ k l. let w = has_without (bit_and mine.bottles mine.bottle_tokens) (kept ph needed mine m.give_fork) k in
+            let a = has_and mine.bottles mine.bottle_tokens k in
             let p = at_end plan e here x k l in
             let t = at_end plan e here (record x { bottles = x.bottle_tokens }) k l in
             let q = is_kept k l in
@@ -151,6 +164,11 @@ module _ (plan : LabPlan) (s : State) (j e : ℕ) (he : e < length s.edges) (hj 
         at true = (ap (λ z. bit_xor z m.give_bottles) bottles_one.0, bottles_one.1)
         at false = (ap (λ z. bit_xor z m.give_bottles) bottles_one.0, bottles_one.1)
 
+      -- the bottles that are left here
+      left_here : (k : ℕ) → k < length (bottles plan e) → Has (bit_xor mine.bottles m.give_bottles) k ↔ (bottle_end (bit_xor x.bottles m.give_bottles) k ≡ here)
+      left_here k l = let p = at_end plan e here (record x { bottles = bit_xor x.bottles m.give_bottles }) k l in
+          let same = sent_from plan e here x m.give_bottles in (λ h. p.0 (subst (λ z. Has z k) same h), λ q. subst (λ z. Has z k) (sym same) (p.1 q))
+
       abbrev AskAt : ℕ → Type 0
       AskAt k = NeedsIn plan j ph (instrument_of plan e k) × (bottle_end (bit_xor x.bottles m.give_bottles) k ≢ here) × (bottle_end x.bottle_tokens k ≡ here)
 
@@ -166,12 +184,12 @@ module _ (plan : LabPlan) (s : State) (j e : ℕ) (he : e < length s.edges) (hj 
             },
           )
 
-      pub wishes_greatest : m.ask_bottles ≡ wishes plan e here ph needed x m.give_bottles
+      pub wishes_greatest : m.ask_bottles ≡ wishes ph needed mine m.give_bottles
           → IsGreatest plan e m.ask_bottles (λ k. (drinking s j ≡ Thirsty) × MayAskBottle plan (fork_asked_for plan s j e m) j e k)
       wishes_greatest is = subst (λ z. IsGreatest plan e z (λ k. (drinking s j ≡ Thirsty) × MayAskBottle plan (fork_asked_for plan s j e m) j e k))
           (sym is) (at (is_thirsty ph.drinking) refl) where
             wanted : ℕ
-            wanted = without (bit_and needed (tokens_at plan e here x)) (bottles_at plan e here (record x { bottles = bit_xor x.bottles m.give_bottles }))
+            wanted = without (bit_and needed mine.bottle_tokens) (bit_xor mine.bottles m.give_bottles)
 
             P : ℕ → Type 0
             P = λ k. (drinking s j ≡ Thirsty) × MayAskBottle plan (fork_asked_for plan s j e m) j e k
@@ -180,10 +198,9 @@ module _ (plan : LabPlan) (s : State) (j e : ℕ) (he : e < length s.edges) (hj 
             at true thirsty = subst (λ b. IsGreatest plan e (if b then wanted else 0) P) (sym thirsty) (record {
               of_edge = without_fits (length (bottles plan e)) _ _
                   (and_lt (length (bottles plan e)) _ _ fits (at_end_fits plan e here (record x { bottles = x.bottle_tokens }) own_tokens));
-              just = λ k l. let w = has_without (bit_and needed (tokens_at plan e here x))
-                  (bottles_at plan e here (record x { bottles = bit_xor x.bottles m.give_bottles })) k in
-                  let a = has_and needed (tokens_at plan e here x) k in
-                  let p = at_end plan e here (record x { bottles = bit_xor x.bottles m.give_bottles }) k l in
+              just = λ k l. let w = has_without (bit_and needed mine.bottle_tokens) (bit_xor mine.bottles m.give_bottles) k in
+                  let a = has_and needed mine.bottle_tokens k in
+                  let p = left_here k l in
                   let t = at_end plan e here (record x { bottles = x.bottle_tokens }) k l in
                   let q = just k l in
                   let g = ask_at k in (

@@ -1,12 +1,12 @@
--- Which bottles are given and asked for, by the edge as it was seen, the own phase and the bottles that are needed.
+-- Which bottles are given and asked for, by the edge as it was seen from the own end, the own phase and the bottles that are needed.
 use Rattle.std.specs.Prelude.{◌≡◌, ℕ, Bool, true, false, ◌||◌, bit_xor, bit_and, if◌then◌else◌}
 use Rattle.lab_plan.specs.LabPlan.{LabPlan, session_names}
-use Rattle.legal_steps.specs.declared.end.End.{End}
+use Rattle.legal_steps.specs.declared.end.End.TheVariants.{Higher}
 use Rattle.legal_steps.specs.declared.phase.Drinking.{Drinking}
 use Rattle.legal_steps.specs.declared.phase.Drinking.TheVariants.{Thirsty, Drinking as Drinks, Reaching}
 use Rattle.legal_steps.specs.declared.phase.JobState.{JobState}
 use Rattle.legal_steps.specs.declared.edge_state.EdgeState.{EdgeState}
-use Rattle.legal_steps.specs.State.{IsInSession, bottles_at}
+use Rattle.legal_steps.specs.State.{IsInSession}
 use Rattle.legal_steps.specs.Legal.{is_at}
 use Rattle.edge_word.specs.declared.moves.EdgeMoves.{EdgeMoves}
 use Rattle.edge_word.specs.Moves.{when}
@@ -25,27 +25,22 @@ has_instruments _ = false
 abbrev pub without : ℕ → ℕ → ℕ
 without a b = bit_xor a (bit_and a b)
 
--- the bottles whose tokens are at this end
-abbrev pub tokens_at : LabPlan → ℕ → End → EdgeState → ℕ
-tokens_at plan e here x = bottles_at plan e here (record x { bottles = x.bottle_tokens })
-
 -- the bottles that are kept, where given says whether the fork is sent away just before
-abbrev pub kept : End → JobState → ℕ → EdgeState → Bool → ℕ
-kept here phase needed x given = if has_instruments phase.drinking || is_at here (when given fork_given x).fork then needed else 0
+abbrev pub kept : JobState → ℕ → EdgeState → Bool → ℕ
+kept phase needed x given = if has_instruments phase.drinking || is_at Higher (when given fork_given x).fork then needed else 0
 
-abbrev pub gifts : LabPlan → ℕ → End → JobState → ℕ → EdgeState → Bool → ℕ
-gifts plan e here phase needed x given = without (bit_and (bottles_at plan e here x) (tokens_at plan e here x)) (kept here phase needed x given)
+abbrev pub gifts : JobState → ℕ → EdgeState → Bool → ℕ
+gifts phase needed x given = without (bit_and x.bottles x.bottle_tokens) (kept phase needed x given)
 
-abbrev pub wishes : LabPlan → ℕ → End → JobState → ℕ → EdgeState → ℕ → ℕ
-wishes plan e here phase needed x sent = if is_thirsty phase.drinking
-    then without (bit_and needed (tokens_at plan e here x)) (bottles_at plan e here (record x { bottles = bit_xor x.bottles sent })) else 0
+abbrev pub wishes : JobState → ℕ → EdgeState → ℕ → ℕ
+wishes phase needed x sent = if is_thirsty phase.drinking then without (bit_and needed x.bottle_tokens) (bit_xor x.bottles sent) else 0
 
 -- the moves with the bottles that are given and asked for
-abbrev pub with_sets : LabPlan → ℕ → End → JobState → ℕ → EdgeState → EdgeMoves → EdgeMoves
-with_sets plan e here phase needed x m =
+abbrev pub with_sets : JobState → ℕ → EdgeState → EdgeMoves → EdgeMoves
+with_sets phase needed x m =
     record m {
-      give_bottles = gifts plan e here phase needed x m.give_fork;
-      ask_bottles = wishes plan e here phase needed x (gifts plan e here phase needed x m.give_fork);
+      give_bottles = gifts phase needed x m.give_fork;
+      ask_bottles = wishes phase needed x (gifts phase needed x m.give_fork);
     }
 
 -- a job in this phase needs the instrument

@@ -1,6 +1,5 @@
 //! The greatest legal sets of bottles.
-ghost use Rattle.std.specs.Prelude.{◌≡◌, ◌<◌, length};
-ghost use Rattle.lab_plan.specs.LabPlan.{edges};
+ghost use Rattle.std.specs.Prelude.{◌≡◌};
 ghost use Rattle.legal_steps.specs.declared.phase.Drinking.TheVariants.{Thirsty};
 ghost use Rattle.legal_steps.specs.State.{IsOwn, drinking};
 ghost use Rattle.legal_steps.specs.Legal.{MayGiveBottle, MayAskBottle};
@@ -11,34 +10,19 @@ ghost use Rattle.turns.specs.Due.{AreForkMoves, AreDue, WithBottles, IsGreatest,
 ghost use Rattle.drinking_layer.specs.Local.{with_sets as sets_added};
 
 use crate::needs::{gifts, needed_bottles, wishes};
-use dining_layer::{AtEdge, at_edge, due_forks};
+use dining_layer::{at_edge, due_forks};
 use edge_rule::{Bench, Desk};
 use edge_word::EdgeMoves;
-use lab_plan::{EdgeNo, Plan};
+use lab_plan::EdgeNo;
+use legal_steps::{EdgeState, End, JobState};
 use std::alloc::Allocator;
 
 // The moves with the bottles that are given and asked for.
-#[tactic(auto, unfolding(crate::specs::Local::with_sets))]
-fn with_sets<A: Allocator>(
-    plan: &Plan<A>,
-    edge: EdgeNo,
-    at: AtEdge,
-    needed: u32,
-    moves: EdgeMoves,
-) -> EdgeMoves
-    requires { edge < length (edges plan.now) }
-    ensures { result ≡ sets_added plan.now edge at.here at.phase needed at.seen moves }
+fn with_sets(phase: JobState, needed: u32, mine: EdgeState, moves: EdgeMoves) -> EdgeMoves
+    ensures { result ≡ sets_added phase needed mine moves }
 {
-    let given = gifts(
-        plan,
-        edge,
-        at.here,
-        at.phase,
-        needed,
-        at.seen,
-        moves.give_fork,
-    );
-    let asked = wishes(plan, edge, at.here, at.phase, needed, at.seen, given);
+    let given = gifts(phase, needed, mine, moves.give_fork);
+    let asked = wishes(phase, needed, mine, given);
     EdgeMoves {
         give_bottles: given,
         ask_bottles: asked,
@@ -61,7 +45,7 @@ pub fn with_bottles<A: Allocator>(
 {
     let at = at_edge(bench, desk, edge);
     let needed = needed_bottles(bench, desk, edge);
-    with_sets(bench.plan(), edge, at, needed, moves)
+    with_sets(at.phase, needed, at.mine, moves)
 }
 
 /// All moves that are due on an edge by the word last seen: every legal fork move, and the greatest legal sets of bottles.
@@ -73,8 +57,8 @@ pub fn due_moves<A: Allocator>(bench: &Bench<A>, desk: &Desk<A>, edge: EdgeNo) -
 {
     let at = at_edge(bench, desk, edge);
     let needed = needed_bottles(bench, desk, edge);
-    let forks = due_forks(at.phase.dining, at.here, at.seen);
-    with_sets(bench.plan(), edge, at, needed, forks)
+    let forks = due_forks(at.phase.dining, End::Higher, at.mine);
+    with_sets(at.phase, needed, at.mine, forks)
 }
 
 /// The greatest sets of bottles that may be given and asked for in such a group: each after the moves of the group that
@@ -91,26 +75,9 @@ pub fn greatest_sets<A: Allocator>(
     ensures wishes { IsGreatest desk.now.plan edge result.1 (λ k. (drinking (known desk.now) desk.now.job ≡ Thirsty) × MayAskBottle desk.now.plan (fork_asked_for desk.now.plan (known desk.now) desk.now.job edge moves) desk.now.job edge k) }
 {
     let at = at_edge(bench, desk, edge);
-    let plan = bench.plan();
     let needed = needed_bottles(bench, desk, edge);
-    let given = gifts(
-        plan,
-        edge,
-        at.here,
-        at.phase,
-        needed,
-        at.seen,
-        moves.give_fork,
-    );
-    let asked = wishes(
-        plan,
-        edge,
-        at.here,
-        at.phase,
-        needed,
-        at.seen,
-        moves.give_bottles,
-    );
+    let given = gifts(at.phase, needed, at.mine, moves.give_fork);
+    let asked = wishes(at.phase, needed, at.mine, moves.give_bottles);
     (given, asked)
 }
 
@@ -137,7 +104,6 @@ pub fn all_wishes<A: Allocator>(bench: &Bench<A>, desk: &Desk<A>, edge: EdgeNo) 
     ensures { IsGreatest desk.now.plan edge result (λ k. (drinking (known desk.now) desk.now.job ≡ Thirsty) × MayAskBottle desk.now.plan (known desk.now) desk.now.job edge k) }
 {
     let at = at_edge(bench, desk, edge);
-    let plan = bench.plan();
     let needed = needed_bottles(bench, desk, edge);
-    wishes(plan, edge, at.here, at.phase, needed, at.seen, 0)
+    wishes(at.phase, needed, at.mine, 0)
 }

@@ -4,11 +4,11 @@ ghost use Rattle.lab_plan.specs.LabPlan.{edges};
 ghost use Rattle.lab_plan.specs.NeededBottles.{AreNamed};
 ghost use Rattle.legal_steps.specs.State.{IsInSession, drinking as drinking_at, session as session_at};
 ghost use Rattle.edge_rule.specs.DeskView.{Owns, known};
-ghost use Rattle.drinking_layer.specs.Local.{gifts as gifts_of, wishes as wishes_of, has_instruments as holds_instruments, tokens_at as tokens_of};
+ghost use Rattle.drinking_layer.specs.Local.{gifts as gifts_of, wishes as wishes_of, kept as kept_of, without as set_without};
 ghost use Rattle.drinking_layer.specs.Bottles.{AreNeededNow};
 
 use edge_rule::{Bench, Desk};
-use lab_plan::{EdgeNo, Plan};
+use lab_plan::EdgeNo;
 use legal_steps::{Drinking, EdgeState, End, JobState};
 use std::alloc::Allocator;
 
@@ -51,70 +51,42 @@ pub(crate) fn needed_bottles<A: Allocator>(bench: &Bench<A>, desk: &Desk<A>, edg
     }
 }
 
-fn has_instruments(drinking: Drinking) -> bool
-    ensures { result ≡ holds_instruments drinking }
+// The bottles of a set that aren't in the other.
+fn without(set: u32, other: u32) -> u32
+    ensures { result ≡ set_without set other }
 {
-    drinking == Drinking::Drinking || drinking == Drinking::Reaching
+    set ^ (set & other)
 }
 
-fn tokens_at<A: Allocator>(plan: &Plan<A>, edge: EdgeNo, here: End, seen: EdgeState) -> u32
-    requires { edge < length (edges plan.now) }
-    ensures { result ≡ tokens_of plan.now edge here seen }
+// The bottles that are kept, needed as they are, where `given` says whether the fork is sent away just before.
+fn kept(phase: JobState, needed: u32, mine: EdgeState, given: bool) -> u32
+    ensures { result ≡ kept_of phase needed mine given }
 {
-    EdgeState {
-        bottles: seen.bottle_tokens,
-        ..seen
+    let fork_here = (mine.fork == End::Higher) != given;
+    if phase.is_drinking() || fork_here {
+        needed
+    } else {
+        0
     }
-    .bottles_at(plan, edge, here)
 }
 
 // The bottles that are given, where `given` says whether the fork is sent away just before.
-pub(crate) fn gifts<A: Allocator>(
-    plan: &Plan<A>,
-    edge: EdgeNo,
-    here: End,
-    phase: JobState,
-    needed: u32,
-    seen: EdgeState,
-    given: bool,
-) -> u32
-    requires { edge < length (edges plan.now) }
-    ensures { result ≡ gifts_of plan.now edge here phase needed seen given }
+pub(crate) fn gifts(phase: JobState, needed: u32, mine: EdgeState, given: bool) -> u32
+    ensures { result ≡ gifts_of phase needed mine given }
 {
-    let mine = seen.bottles_at(plan, edge, here) & tokens_at(plan, edge, here, seen);
-    let fork_here = if given {
-        seen.fork.other() == here
-    } else {
-        seen.fork == here
-    };
-    if has_instruments(phase.drinking) || fork_here {
-        mine ^ (mine & needed)
-    } else {
-        mine ^ (mine & 0)
-    }
+    without(
+        mine.bottles & mine.bottle_tokens,
+        kept(phase, needed, mine, given),
+    )
 }
 
 // The bottles that are asked for, where the bottles of `sent` are given before.
-pub(crate) fn wishes<A: Allocator>(
-    plan: &Plan<A>,
-    edge: EdgeNo,
-    here: End,
-    phase: JobState,
-    needed: u32,
-    seen: EdgeState,
-    sent: u32,
-) -> u32
-    requires { edge < length (edges plan.now) }
-    ensures { result ≡ wishes_of plan.now edge here phase needed seen sent }
+pub(crate) fn wishes(phase: JobState, needed: u32, mine: EdgeState, sent: u32) -> u32
+    ensures { result ≡ wishes_of phase needed mine sent }
 {
-    if phase.drinking != Drinking::Thirsty {
-        return 0;
+    if phase.drinking == Drinking::Thirsty {
+        without(needed & mine.bottle_tokens, mine.bottles ^ sent)
+    } else {
+        0
     }
-    let wanted = needed & tokens_at(plan, edge, here, seen);
-    let left = EdgeState {
-        bottles: seen.bottles ^ sent,
-        ..seen
-    }
-    .bottles_at(plan, edge, here);
-    wanted ^ (wanted & left)
 }

@@ -1,5 +1,5 @@
 use Rattle.std.proofs.Common.{subst, arith}
-use Rattle.legal_steps.specs.declared.end.End.{End}
+use Rattle.legal_steps.specs.declared.end.End.TheVariants.{Higher}
 use Rattle.legal_steps.specs.declared.phase.Dining.{Dining}
 use Rattle.legal_steps.specs.declared.edge_state.EdgeState.{EdgeState}
 use Rattle.edge_rule.specs.DeskView.{DeskView, known}
@@ -14,4 +14,4 @@ returns-clause-due g c =
     let d : DeskView = c.args.desk.now in
     moves_due d.plan (known d) d.job c.args.edge c.due_forks.result (let h = c.requires.edge.is_edge in let n = k.edges_there in omega arith)
     (let h = k.is_job in let n = k.seats_there in omega arith) c.requires.edge
-    (subst (λ (q : Dining × End × EdgeState). AreForksDue q.0 q.1 q.2 c.due_forks.result) (λ i. ((a.phase i).dining, a.here i, a.seen i)) c.due_forks.ensures)
+    (subst (λ (q : Dining × EdgeState). AreForksDue q.0 Higher q.1 c.due_forks.result) (λ i. ((a.phase i).dining, a.mine i)) c.due_forks.ensures)

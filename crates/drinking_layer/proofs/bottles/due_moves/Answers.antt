@@ -1,6 +1,5 @@
-use Rattle.std.proofs.Common.{◌≡◌, ◌<◌, length, sym, ◌∙◌, subst}
-use Rattle.lab_plan.specs.LabPlan.{LabPlan, edges}
-use Rattle.legal_steps.specs.declared.end.End.{End}
+use Rattle.std.proofs.Common.{◌∙◌, subst}
+use Rattle.legal_steps.specs.declared.end.End.TheVariants.{Higher}
 use Rattle.legal_steps.specs.declared.phase.Dining.{Dining}
 use Rattle.legal_steps.specs.declared.edge_state.EdgeState.{EdgeState}
 use Rattle.edge_rule.specs.DeskView.{DeskView, known}
@@ -12,24 +11,20 @@ use Rattle.drinking_layer.proofs.AddedSets.{edge_there, seat_there, sets_with}
 use Rattle.turns.proofs.DueMoves.{due_all, due_legal}
 use Rattle.drinking_layer.proofs.bottles.due_moves.Goals as goal
 
-pub with_sets-requires : goal.with_sets-requires
-with_sets-requires g c = subst (λ (z : LabPlan). c.args.edge < length (edges z)) (c.requires.own.1 ∙ sym c.plan.ensures) c.requires.edge.is_edge
-
 pub returns-clause-due : goal.returns-clause-due
 returns-clause-due g c =
     let a = c.at_edge-at.ensures in
     let d : DeskView = c.args.desk.now in
     let e = c.args.edge in
-    let p : c.plan.result.now ≡ d.plan = c.plan.ensures ∙ sym c.requires.own.1 in
     let in_edges = edge_there d e a.known c.requires.edge in
     let in_seats = seat_there d e a.known c.requires.edge in
     let forks : AreForkMoves d.plan (known d) d.job e c.due_forks-forks.result =
     moves_due d.plan (known d) d.job e c.due_forks-forks.result in_edges in_seats c.requires.edge
-    (subst (λ (q : Dining × End × EdgeState). AreForksDue q.0 q.1 q.2 c.due_forks-forks.result)
-    (λ i. ((a.phase i).dining, a.here i, a.seen i)) c.due_forks-forks.ensures) in
+    (subst (λ (q : Dining × EdgeState). AreForksDue q.0 Higher q.1 c.due_forks-forks.result)
+    (λ i. ((a.phase i).dining, a.mine i)) c.due_forks-forks.ensures) in
     let all : WithBottles d.plan (known d) d.job e c.due_forks-forks.result c.with_sets.result =
     sets_with d e a.known c.requires.edge c.needed_bottles-needed.result c.due_forks-forks.result c.with_sets.result c.needed_bottles-needed.ensures
-    (c.with_sets.ensures ∙ (λ i. with_sets (p i) e (a.here i) (a.phase i) c.needed_bottles-needed.result (a.seen i) c.due_forks-forks.result)) in
+    (c.with_sets.ensures ∙ (λ i. with_sets (a.phase i) c.needed_bottles-needed.result (a.mine i) c.due_forks-forks.result)) in
     due_all d.plan (known d) d.job e in_edges in_seats c.due_forks-forks.result _ forks all
 
 pub returns-clause-legal : goal.returns-clause-legal

@@ -1,21 +1,16 @@
-use Rattle.std.proofs.Common.{◌≡◌, ◌<◌, length, sym, ◌∙◌, subst}
-use Rattle.lab_plan.specs.LabPlan.{LabPlan, edges}
+use Rattle.std.proofs.Common.{◌∙◌}
 use Rattle.edge_rule.specs.DeskView.{DeskView, known}
 use Rattle.drinking_layer.specs.Local.{with_sets}
 use Rattle.drinking_layer.proofs.AddedSets.{edge_there, seat_there, sets_with}
 use Rattle.turns.proofs.DueMoves.{due_all, due_legal}
 use Rattle.drinking_layer.proofs.bottles.with_bottles.Goals as goal
 
-pub with_sets-requires : goal.with_sets-requires
-with_sets-requires g c = subst (λ (z : LabPlan). c.args.edge < length (edges z)) (c.requires.own.1 ∙ sym c.plan.ensures) c.requires.edge.is_edge
-
 pub returns-clause-with : goal.returns-clause-with
 returns-clause-with g c =
     let a = c.at_edge-at.ensures in
     let d : DeskView = c.args.desk.now in
-    let p : c.plan.result.now ≡ d.plan = c.plan.ensures ∙ sym c.requires.own.1 in
     sets_with d c.args.edge a.known c.requires.edge c.needed_bottles-needed.result c.args.moves c.with_sets.result c.needed_bottles-needed.ensures
-    (c.with_sets.ensures ∙ (λ i. with_sets (p i) c.args.edge (a.here i) (a.phase i) c.needed_bottles-needed.result (a.seen i) c.args.moves))
+    (c.with_sets.ensures ∙ (λ i. with_sets (a.phase i) c.needed_bottles-needed.result (a.mine i) c.args.moves))
 
 pub returns-clause-due : goal.returns-clause-due
 returns-clause-due g c = λ forks. let k = c.at_edge-at.ensures.known in let d : DeskView = c.args.desk.now in
