@@ -11,7 +11,8 @@ use Rattle.instrument_log.specs.InstrumentLog.{LogView, empty_log}
 use Rattle.edge_rule.specs.declared.desk.Desk.TheInside.{Inside}
 use Rattle.legal_steps.specs.declared.phase.Drinking.TheVariants.{Reaching}
 use Rattle.legal_steps.specs.State.{Seat, State, edge, phase, seat, drinking}
-use Rattle.locality.specs.History.{actor, state_after, events_by, known_by}
+use Rattle.legal_steps.specs.Run.{IsLegalFrom, actor}
+use Rattle.locality.specs.History.{state_after, events_by, known_by}
 use Rattle.one_history.specs.Rule.{phase_place, Spelled, Held, Kept}
 use Rattle.locality.specs.Lists.{StartsWith, Each}
 use Rattle.one_history.specs.Groups.{StandUnbroken}
@@ -34,7 +35,6 @@ use Rattle.legal_steps.specs.declared.event.Event.TheVariants.{Look, AskFork, Gi
 use Rattle.legal_steps.specs.Fitting.{Fits}
 use Rattle.legal_steps.specs.Legal.{May, after}
 use Rattle.legal_steps.specs.Opening.{the_opening}
-use Rattle.legal_steps.specs.Run.{IsLegalFrom}
 use Rattle.legal_steps.specs.WholeLogs.{log_with_room}
 use Rattle.legal_steps.proofs.FitsLaw.{own_is_job}
 use Rattle.locality.proofs.Few.{phase_fits}

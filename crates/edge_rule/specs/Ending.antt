@@ -8,7 +8,8 @@ use Rattle.legal_steps.specs.declared.event.Event.{Event}
 use Rattle.legal_steps.specs.WholeLogs.{log_with_room}
 use Rattle.one_history.specs.declared.board.Hand.{Hand}
 use Rattle.one_history.specs.declared.board.View.{View}
-use Rattle.locality.specs.History.{actor, state_after, IsHistory, events_by}
+use Rattle.legal_steps.specs.Run.{actor}
+use Rattle.locality.specs.History.{state_after, IsHistory, events_by}
 use Rattle.one_history.specs.Groups.{all_of, StandUnbroken}
 use Rattle.locality.specs.Lists.{StartsWith, Each}
 use Rattle.edge_rule.specs.DeskView.{DeskView, known}

@@ -12,8 +12,7 @@ use Rattle.legal_steps.specs.State.{State, Has, IsOwn}
 use Rattle.legal_steps.specs.Legal.{IsBottleSet, MayAskBottle, MayGiveBottle}
 use Rattle.legal_steps.proofs.FitsLaw.{own_is_job}
 use Rattle.legal_steps.proofs.OwnEdges.{own_edge_listed}
-use Rattle.legal_steps.proofs.BottleSets.{member_below}
-use Rattle.overtaking.proofs.Seen.{one_bottle, only_one, some_bottle}
+use Rattle.legal_steps.proofs.BottleSets.{member_below, one_bottle, only_one, some_bottle}
 use Rattle.legal_moves.specs.Moves.{own_moves, fork_moves, bottle_moves, edge_moves, moves_of, all_moves, IsLegalNow}
 use Rattle.legal_moves.specs.Laws.{Always, IsAlwaysLegal, Alone, AreBottlesAlone, IsListed, IsEveryStep}
 

@@ -13,13 +13,13 @@ use Rattle.legal_steps.specs.declared.event.Event.TheVariants.{Look, AskFork, Gi
 use Rattle.legal_steps.specs.State.{State, Seat, no_seat, phase, session, drinking, IsInSession}
 use Rattle.legal_steps.specs.Fitting.{Fits}
 use Rattle.legal_steps.specs.Legal.{May, after}
-use Rattle.legal_steps.specs.Run.{IsLegalFrom, after_all, is_quit, is_withdraw, sessions_done_of, withdrawn_of}
+use Rattle.legal_steps.specs.Run.{IsLegalFrom, after_all, is_quit, is_withdraw, sessions_done_of, withdrawn_of, actor}
 use Rattle.legal_steps.specs.Opening.{IsOpening}
 use Rattle.legal_steps.proofs.FitsLaw.{fits_after, not_tranquil, not_retired}
 use Rattle.legal_steps.proofs.OpeningLemmas.{fits_opening}
 use Rattle.legal_steps.proofs.LogBooks.{put-cases}
 use Rattle.legal_steps.proofs.LogRun.{opening_phase}
-use Rattle.legal_steps.proofs.CountPhases.{actor, phased, phases_after}
+use Rattle.legal_steps.proofs.CountPhases.{phased, phases_after}
 
 -- a job in this phase has ended or given up n sessions
 pub record HasDone (x : JobState) (n : ℕ) : Type 0 where

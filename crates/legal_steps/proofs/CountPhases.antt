@@ -10,28 +10,9 @@ use Rattle.legal_steps.specs.declared.event.Event.TheVariants.{Look, AskFork, Gi
 use Rattle.legal_steps.specs.State.{State, Seat, seat, phase}
 use Rattle.legal_steps.specs.Fitting.{Fits}
 use Rattle.legal_steps.specs.Legal.{May, after}
+use Rattle.legal_steps.specs.Run.{actor}
 use Rattle.legal_steps.proofs.LogBooks.{put, put-same, put-other}
 use Rattle.legal_steps.proofs.LogMoves.{read-same, read-put}
-
--- the job of an event
-abbrev pub actor : Event → ℕ
-actor (Look j e seen) = j
-actor (AskFork j e) = j
-actor (GiveFork j e) = j
-actor (Soil j e) = j
-actor (AskBottles j e set) = j
-actor (GiveBottles j e set) = j
-actor (Thirst j) = j
-actor (Hunger j) = j
-actor (Sit j) = j
-actor (Leave j) = j
-actor (Drink j) = j
-actor (Reach j) = j
-actor (Act j) = j
-actor (Quit j) = j
-actor (Retire j) = j
-actor (Glance j other seen) = j
-actor (Withdraw j) = j
 
 -- its phase after the event
 abbrev pub phased : Event → JobState → JobState

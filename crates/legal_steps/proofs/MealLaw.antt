@@ -12,14 +12,14 @@ use Rattle.legal_steps.specs.declared.event.Event.TheVariants.{Look, AskFork, Gi
 use Rattle.legal_steps.specs.State.{State, phase, session}
 use Rattle.legal_steps.specs.Fitting.{Fits}
 use Rattle.legal_steps.specs.Legal.{May, after}
-use Rattle.legal_steps.specs.Run.{IsLegalFrom, after_all, is_sit, meals_of}
+use Rattle.legal_steps.specs.Run.{IsLegalFrom, after_all, is_sit, meals_of, actor}
 use Rattle.legal_steps.specs.Opening.{IsOpening}
 use Rattle.legal_steps.proofs.FitsLaw.{fits_after}
 use Rattle.legal_steps.proofs.OpeningLemmas.{fits_opening}
 use Rattle.legal_steps.proofs.LogBooks.{put-cases}
 use Rattle.legal_steps.proofs.LogRun.{opening_phase}
 use Rattle.legal_steps.proofs.CountLaw.{begun_few}
-use Rattle.legal_steps.proofs.CountPhases.{actor, phased, phases_after}
+use Rattle.legal_steps.proofs.CountPhases.{phased, phases_after}
 
 -- a job in this phase had m meals: at most one for each session, and none yet for this one where it is hungry, or thirsty and thinks
 record HasEaten (x : JobState) (m : ℕ) : Type 0 where

@@ -3,7 +3,7 @@ use Rattle.std.specs.Prelude.{◌≡◌, ℕ, ◌<◌, Bool, false, List, [], �
 use Rattle.std.specs.List.{count_by}
 use Rattle.lab_plan.specs.LabPlan.{LabPlan}
 use Rattle.legal_steps.specs.declared.event.Event.{Event}
-use Rattle.legal_steps.specs.declared.event.Event.TheVariants.{Sit, Quit, Withdraw}
+use Rattle.legal_steps.specs.declared.event.Event.TheVariants.{Look, AskFork, GiveFork, Soil, AskBottles, GiveBottles, Thirst, Hunger, Sit, Leave, Drink, Reach, Act, Quit, Retire, Glance, Withdraw}
 use Rattle.legal_steps.specs.State.{State}
 use Rattle.legal_steps.specs.Legal.{May, after}
 
@@ -27,6 +27,26 @@ pub record StopsAt (plan : LabPlan) (s : State) (events : List Event) (place : �
   pub before : Runs plan s (take place events) s'
   pub inside : place < length events
   pub not_legal : (event : Event) → slice_get events place ≡ Some event → ¬ May plan s' event
+
+-- the job that acts
+abbrev pub actor : Event → ℕ
+actor (Look j e seen) = j
+actor (AskFork j e) = j
+actor (GiveFork j e) = j
+actor (Soil j e) = j
+actor (AskBottles j e set) = j
+actor (GiveBottles j e set) = j
+actor (Thirst j) = j
+actor (Hunger j) = j
+actor (Sit j) = j
+actor (Leave j) = j
+actor (Drink j) = j
+actor (Reach j) = j
+actor (Act j) = j
+actor (Quit j) = j
+actor (Retire j) = j
+actor (Glance j other seen) = j
+actor (Withdraw j) = j
 
 -- ---- counts of a job in a list
 

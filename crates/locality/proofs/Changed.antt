@@ -6,7 +6,7 @@ use Rattle.legal_steps.specs.declared.event.Event.TheVariants.{AskFork, GiveFork
 use Rattle.legal_steps.specs.State.{State, edge, log}
 use Rattle.legal_steps.specs.Legal.{after, next_command, next_entry, fork_asked, fork_given, fork_soiled, bottles_asked, bottles_given}
 use Rattle.legal_steps.proofs.FitsWrites.{edge_same, edge_other}
-use Rattle.locality.specs.History.{actor}
+use Rattle.legal_steps.specs.Run.{actor}
 use Rattle.locality.specs.Exchanges.{changed_edge, edge_after, written_log}
 use Rattle.locality.specs.Laws.{KeepsAll, ChangesOneSeat, ChangesOneEdge, ChangesOneLog}
 use Rattle.locality.proofs.Frame.{as_many_seats, as_many_edges, own_seat, other_seat}

@@ -6,7 +6,8 @@ use Rattle.legal_steps.specs.declared.event.Event.TheVariants.{Look, AskFork, Gi
 use Rattle.legal_steps.specs.State.{State, edge, seat}
 use Rattle.legal_steps.specs.Legal.{after, with_edge, with_entry, next_command, next_entry, fork_given, fork_soiled, bottles_given}
 use Rattle.legal_steps.proofs.FitsWrites.{seat_same, seat_other}
-use Rattle.locality.specs.History.{actor, learned}
+use Rattle.legal_steps.specs.Run.{actor}
+use Rattle.locality.specs.History.{learned}
 use Rattle.locality.specs.Changes.{seat_after}
 
 -- ---- the lists stay as long

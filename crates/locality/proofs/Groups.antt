@@ -10,11 +10,11 @@ use Rattle.legal_steps.specs.declared.event.Event.{Event}
 use Rattle.legal_steps.specs.declared.event.Event.TheVariants.{AskFork, GiveFork, Soil, AskBottles, GiveBottles}
 use Rattle.legal_steps.specs.State.{Seat, State, edge, seat, no_edge}
 use Rattle.legal_steps.specs.Legal.{after}
-use Rattle.legal_steps.specs.Run.{after_all}
+use Rattle.legal_steps.specs.Run.{after_all, actor}
 use Rattle.edge_word.specs.declared.moves.EdgeMoves.{EdgeMoves}
 use Rattle.edge_word.specs.Moves.{on, events_of, after_moves, bottle_marks_after, seat_with_moves}
 use Rattle.edge_word.proofs.MoveLaws.{moves_lead}
-use Rattle.locality.specs.History.{actor, learned, learned_all}
+use Rattle.locality.specs.History.{learned, learned_all}
 use Rattle.locality.specs.Changes.{seat_after}
 use Rattle.locality.specs.Laws.{GroupsChangeOneSeatAndEdge}
 use Rattle.locality.specs.Lists.{Each}

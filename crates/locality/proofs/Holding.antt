@@ -16,7 +16,8 @@ use Rattle.legal_steps.specs.Opening.{the_opening}
 use Rattle.legal_steps.specs.Fitting.{Fits}
 use Rattle.legal_steps.specs.Holding.{Holds, IsExclusive}
 use Rattle.legal_steps.proofs.PartLists.{names-next}
-use Rattle.locality.specs.History.{actor, events_by, IsHistory, state_after}
+use Rattle.legal_steps.specs.Run.{actor}
+use Rattle.locality.specs.History.{events_by, IsHistory, state_after}
 use Rattle.locality.specs.Reaching.{IsReachingFor}
 use Rattle.locality.proofs.Frame.{other_seat}
 use Rattle.locality.proofs.Runs.{after_all-append, legal-begins, legal-goes_on}

@@ -7,12 +7,11 @@ use Rattle.legal_steps.specs.declared.event.Event.{Event}
 use Rattle.legal_steps.specs.declared.event.Event.TheVariants.{Look, AskFork, GiveFork, Soil, AskBottles, GiveBottles, Thirst, Hunger, Sit, Leave, Drink, Reach, Act, Quit, Retire, Glance, Withdraw}
 use Rattle.legal_steps.specs.State.{State, Seat, no_seat, seat, IsInSession}
 use Rattle.legal_steps.specs.Legal.{May, after}
-use Rattle.legal_steps.specs.Run.{IsLegalFrom, after_all}
+use Rattle.legal_steps.specs.Run.{IsLegalFrom, after_all, actor}
 use Rattle.legal_steps.specs.Opening.{the_opening}
 use Rattle.legal_steps.proofs.FitsLaw.{not_tranquil}
 use Rattle.legal_steps.proofs.LogRun.{opening_phase}
 use Rattle.legal_steps.proofs.ReachedLaws.{the_opening_is_acyclic}
-use Rattle.locality.specs.History.{actor}
 use Rattle.locality.specs.Changes.{seat_after}
 use Rattle.locality.specs.Laws.{RestsAtNoCommand}
 use Rattle.locality.proofs.Frame.{own_seat, other_seat, as_many_seats}

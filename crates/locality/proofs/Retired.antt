@@ -8,9 +8,9 @@ use Rattle.legal_steps.specs.declared.event.Event.{Event}
 use Rattle.legal_steps.specs.declared.event.Event.TheVariants.{Look, AskFork, GiveFork, Soil, AskBottles, GiveBottles, Thirst, Hunger, Sit, Leave, Drink, Reach, Act, Quit, Retire, Glance, Withdraw}
 use Rattle.legal_steps.specs.State.{State, Seat, no_seat, seat, drinking}
 use Rattle.legal_steps.specs.Legal.{May, after}
-use Rattle.legal_steps.specs.Run.{IsLegalFrom, after_all}
+use Rattle.legal_steps.specs.Run.{IsLegalFrom, after_all, actor}
 use Rattle.legal_steps.specs.Opening.{the_opening}
-use Rattle.locality.specs.History.{actor, IsHistory, state_after}
+use Rattle.locality.specs.History.{IsHistory, state_after}
 use Rattle.locality.specs.Changes.{seat_after}
 use Rattle.locality.specs.Laws.{StaysRetired}
 use Rattle.locality.proofs.Frame.{own_seat, other_seat}

@@ -6,10 +6,10 @@ use Rattle.lab_plan.specs.LabPlan.{LabPlan, edges}
 use Rattle.legal_steps.specs.declared.event.Event.{Event}
 use Rattle.legal_steps.specs.State.{Seat, State, seat}
 use Rattle.legal_steps.specs.Legal.{after}
-use Rattle.legal_steps.specs.Run.{IsLegalFrom, after_all}
+use Rattle.legal_steps.specs.Run.{IsLegalFrom, after_all, actor}
 use Rattle.legal_steps.specs.Opening.{the_opening, idle_seat}
 use Rattle.legal_steps.proofs.ReachedLaws.{the_opening_is_acyclic}
-use Rattle.locality.specs.History.{actor, events_by, learned, learned_all, known_by, state_after}
+use Rattle.locality.specs.History.{events_by, learned, learned_all, known_by, state_after}
 use Rattle.locality.specs.Lists.{StartsWith, Each}
 use Rattle.locality.proofs.Frame.{as_many_seats, own_seat, other_seat, learned_seats, learned_edges, learned_seat}
 use Rattle.locality.specs.Changes.{seat_after}

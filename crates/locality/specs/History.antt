@@ -3,36 +3,16 @@
 use Rattle.std.specs.Prelude.{ℕ, Bool, List, [], ◌∷◌, filter, ◌==◌}
 use Rattle.lab_plan.specs.LabPlan.{LabPlan}
 use Rattle.legal_steps.specs.declared.event.Event.{Event}
-use Rattle.legal_steps.specs.declared.event.Event.TheVariants.{Look, AskFork, GiveFork, Soil, AskBottles, GiveBottles, Thirst, Hunger, Sit, Leave, Drink, Reach, Act, Quit, Retire, Glance, Withdraw}
+use Rattle.legal_steps.specs.declared.event.Event.TheVariants.{Look}
 use Rattle.legal_steps.specs.State.{State}
 use Rattle.legal_steps.specs.Legal.{after, with_edge}
-use Rattle.legal_steps.specs.Run.{IsLegalFrom, after_all}
+use Rattle.legal_steps.specs.Run.{IsLegalFrom, after_all, actor}
 use Rattle.legal_steps.specs.Opening.{the_opening}
 
--- the job that acts
-abbrev pub actor : Event → ℕ
-actor (Look j e seen) = j
-actor (AskFork j e) = j
-actor (GiveFork j e) = j
-actor (Soil j e) = j
-actor (AskBottles j e set) = j
-actor (GiveBottles j e set) = j
-actor (Thirst j) = j
-actor (Hunger j) = j
-actor (Sit j) = j
-actor (Leave j) = j
-actor (Drink j) = j
-actor (Reach j) = j
-actor (Act j) = j
-actor (Quit j) = j
-actor (Retire j) = j
-actor (Glance j other seen) = j
-actor (Withdraw j) = j
-
+-- the events of one job, in order
 abbrev pub is_by : ℕ → Event → Bool
 is_by j event = actor event == j
 
--- the events of one job, in order
 abbrev pub events_by : ℕ → List Event → List Event
 events_by j h = filter (is_by j) h
 

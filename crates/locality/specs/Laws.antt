@@ -8,14 +8,14 @@ use Rattle.legal_steps.specs.declared.event.Event.TheVariants.{Look, Reach, Act}
 use Rattle.legal_steps.specs.declared.phase.Drinking.TheVariants.{Retired}
 use Rattle.legal_steps.specs.State.{State, edge, seat, log, phase, drinking, position, IsInSession}
 use Rattle.legal_steps.specs.Legal.{May, after, next_command, next_entry}
-use Rattle.legal_steps.specs.Run.{IsLegalFrom, after_all, meals_of, sessions_done_of, withdrawn_of}
+use Rattle.legal_steps.specs.Run.{IsLegalFrom, after_all, meals_of, sessions_done_of, withdrawn_of, actor}
 use Rattle.legal_steps.specs.Opening.{the_opening}
 use Rattle.legal_steps.specs.Holding.{Holds}
 use Rattle.edge_word.specs.declared.moves.EdgeMoves.{EdgeMoves}
 use Rattle.edge_word.specs.Moves.{events_of, after_moves, seat_with_moves}
 use Rattle.edge_word.specs.Words.{IsOfBottles}
 use Rattle.edge_word.specs.Phases.{FitsPhaseWord}
-use Rattle.locality.specs.History.{actor, events_by, known_by, IsHistory, state_after}
+use Rattle.locality.specs.History.{events_by, known_by, IsHistory, state_after}
 use Rattle.locality.specs.Changes.{seat_after}
 use Rattle.locality.specs.Exchanges.{changed_edge, edge_after, written_log, acts_on}
 use Rattle.locality.specs.Reaching.{IsReachingFor}

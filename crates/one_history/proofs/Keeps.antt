@@ -13,14 +13,14 @@ use Rattle.legal_steps.specs.declared.edge_state.EdgeState.{EdgeState}
 use Rattle.legal_steps.specs.declared.phase.JobState.{JobState}
 use Rattle.legal_steps.specs.declared.event.Event.{Event}
 use Rattle.legal_steps.specs.State.{State, edge, seat, phase, log}
-use Rattle.legal_steps.specs.Run.{IsLegalFrom, after_all}
+use Rattle.legal_steps.specs.Run.{IsLegalFrom, after_all, actor}
 use Rattle.legal_steps.specs.Opening.{the_opening}
 use Rattle.legal_steps.specs.WholeLogs.{room_of}
 use Rattle.edge_word.specs.Words.{word_of}
 use Rattle.edge_word.specs.Phases.{phase_word_of}
 use Rattle.one_history.specs.declared.board.Hand.{Hand}
 use Rattle.one_history.specs.declared.board.View.{View}
-use Rattle.locality.specs.History.{actor, is_by, events_by, known_by, IsHistory, state_after}
+use Rattle.locality.specs.History.{is_by, events_by, known_by, IsHistory, state_after}
 use Rattle.one_history.specs.Rule.{edge_place, phase_place, Homed, Spelled, Held, Sees, Kept}
 use Rattle.locality.specs.Reaching.{IsReachingFor}
 use Rattle.locality.specs.Lists.{StartsWith, Each}

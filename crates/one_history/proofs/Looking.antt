@@ -11,11 +11,11 @@ use Rattle.legal_steps.specs.declared.event.Event.{Event}
 use Rattle.legal_steps.specs.declared.event.Event.TheVariants.{Look}
 use Rattle.legal_steps.specs.State.{Seat, State, IsOwn, edge, seat, phase}
 use Rattle.legal_steps.specs.Legal.{after}
-use Rattle.legal_steps.specs.Run.{IsLegalFrom}
+use Rattle.legal_steps.specs.Run.{IsLegalFrom, actor}
 use Rattle.legal_steps.specs.Opening.{the_opening}
 use Rattle.edge_word.specs.Words.{IsOfBottles}
 use Rattle.one_history.specs.declared.board.View.{View}
-use Rattle.locality.specs.History.{actor, state_after}
+use Rattle.locality.specs.History.{state_after}
 use Rattle.one_history.specs.Rule.{edge_place, Kept}
 use Rattle.one_history.specs.Grow.{hand_in, IsLed, Does, looked}
 use Rattle.locality.proofs.Frame.{own_seat, other_seat}

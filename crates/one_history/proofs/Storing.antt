@@ -14,14 +14,14 @@ use Rattle.legal_steps.specs.declared.phase.Drinking.TheVariants.{Tranquil, Thir
 use Rattle.legal_steps.specs.declared.phase.JobState.{JobState}
 use Rattle.legal_steps.specs.State.{Seat, State, no_edge, seat, phase, drinking}
 use Rattle.legal_steps.specs.Legal.{May, after}
-use Rattle.legal_steps.specs.Run.{IsLegalFrom}
+use Rattle.legal_steps.specs.Run.{IsLegalFrom, actor}
 use Rattle.edge_word.specs.Phases.{phase_word_of, phase_of, FitsPhaseWord}
 use Rattle.edge_word.proofs.PhaseLemmas.{phase_of-phase_word_of}
 use Rattle.one_history.specs.declared.board.View.{View}
 use Rattle.one_history.specs.declared.phase_event.PhaseEvent.{PhaseEvent}
 use Rattle.one_history.specs.declared.phase_event.PhaseEvent.TheVariants.{Thirst, Hunger, Sit, Leave, Drink, Quit, Retire, Withdraw}
 use Rattle.one_history.specs.PhaseEvents.{event_of, phase_after}
-use Rattle.locality.specs.History.{actor, state_after}
+use Rattle.locality.specs.History.{state_after}
 use Rattle.one_history.specs.Rule.{phase_place, Spelled, Kept}
 use Rattle.locality.specs.Reaching.{IsReachingFor}
 use Rattle.one_history.specs.Grow.{hand_in, IsLed, mine, Does, dining_event, drinking_event, phase_event, own_phase, stored}

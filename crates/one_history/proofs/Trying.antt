@@ -11,7 +11,7 @@ use Rattle.instrument_log.specs.declared.entry.Entry.{Entry}
 use Rattle.instrument_log.specs.InstrumentLog.{LogView}
 use Rattle.legal_steps.specs.declared.event.Event.{Event}
 use Rattle.legal_steps.specs.State.{Seat, State, IsOwn, edge, phase}
-use Rattle.legal_steps.specs.Run.{IsLegalFrom, after_all}
+use Rattle.legal_steps.specs.Run.{IsLegalFrom, after_all, actor}
 use Rattle.legal_steps.specs.Opening.{the_opening}
 use Rattle.edge_word.specs.declared.moves.EdgeMoves.{EdgeMoves}
 use Rattle.edge_word.specs.Words.{word_of, IsOfBottles}
@@ -21,7 +21,7 @@ use Rattle.edge_word.proofs.WordLemmas.{IsOfBottles-28}
 use Rattle.edge_word.proofs.MoveLaws.{moves_lead, read_back}
 use Rattle.edge_word.proofs.MoveFrame.{moves_change_only_their_edge}
 use Rattle.one_history.specs.declared.board.View.{View}
-use Rattle.locality.specs.History.{actor, state_after}
+use Rattle.locality.specs.History.{state_after}
 use Rattle.one_history.specs.Rule.{edge_place, Spelled, Kept}
 use Rattle.locality.specs.Lists.{Each}
 use Rattle.one_history.specs.Grow.{no_plan, hand_in, IsLed, mine, Grows, tried}

@@ -12,7 +12,7 @@ use Rattle.legal_steps.proofs.FitsWrites.{seat_same, edge_same}
 use Rattle.legal_steps.proofs.FitsLaw.{own_is_job}
 use Rattle.legal_steps.proofs.ForkEnds.{not_opposite}
 use Rattle.overtaking.specs.Stuck.{IsMove, IsNoWithdraw, IsWayOn, IsUpToDate}
-use Rattle.overtaking.proofs.Seen.{changes_none}
+use Rattle.legal_steps.proofs.BottleSets.{changes_none}
 
 pub moves_change : (plan : LabPlan) (s : State) (event : Event) → Fits plan s → IsMove event → May plan s event → after plan s event ≢ s
 moves_change plan s (Look j e seen) fit move may same = move

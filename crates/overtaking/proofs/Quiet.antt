@@ -16,7 +16,8 @@ use Rattle.legal_steps.proofs.ReachedInvariant.{IsSound}
 use Rattle.overtaking.specs.Stuck.{IsQuiet, AllRetired}
 use Rattle.overtaking.proofs.EdgeEnds.{end_cases, at_opposite, not_both, neighbour_own, neighbour_apart, at_neighbour}
 use Rattle.overtaking.proofs.Wanted.{IsWanted}
-use Rattle.overtaking.proofs.Seen.{eating_seen, hungry_seen, bottle_seen, one_bottle, only_one}
+use Rattle.legal_steps.proofs.BottleSets.{one_bottle, only_one}
+use Rattle.overtaking.proofs.Seen.{eating_seen, hungry_seen, bottle_seen}
 use Rattle.overtaking.proofs.Chains.{first}
 
 hungry_eats : Hungry ≡ Eating → ⊥

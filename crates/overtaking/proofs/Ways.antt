@@ -10,7 +10,7 @@ use Rattle.legal_steps.specs.State.{State}
 use Rattle.legal_steps.specs.Legal.{May, MayAskBottle, MayGiveBottle}
 use Rattle.overtaking.specs.Stuck.{IsMove, IsQuiet, IsUpToDate}
 use Rattle.overtaking.specs.Ways.{HasNoPhaseWay, HasNoForkWay, HasNoBottleWayOf, HasNoPhaseWays, HasNoForkWays, HasNoBottleWays}
-use Rattle.overtaking.proofs.Seen.{one_bottle, only_one, some_bottle}
+use Rattle.legal_steps.proofs.BottleSets.{one_bottle, only_one, some_bottle}
 
 no_move : (plan : LabPlan) (s : State) → HasNoPhaseWays plan s → HasNoForkWays plan s
     → HasNoBottleWays plan s → (event : Event) → IsMove event → ¬ May plan s event

@@ -7,9 +7,9 @@ use Rattle.legal_steps.specs.declared.event.Event.{Event}
 use Rattle.legal_steps.specs.declared.event.Event.TheVariants.{Look, AskFork, GiveFork, Soil, AskBottles, GiveBottles, Thirst, Hunger, Sit, Leave, Drink, Reach, Act, Quit, Retire, Glance, Withdraw}
 use Rattle.legal_steps.specs.State.{State, IsOwn, edge}
 use Rattle.legal_steps.specs.Legal.{May, after}
-use Rattle.legal_steps.specs.Run.{IsLegalFrom, after_all}
+use Rattle.legal_steps.specs.Run.{IsLegalFrom, after_all, actor}
 use Rattle.legal_steps.proofs.FitsWrites.{edge_other}
-use Rattle.locality.specs.History.{actor, is_by, events_by}
+use Rattle.locality.specs.History.{is_by, events_by}
 use Rattle.quiet.specs.LastLooks.{seen_next, seen_after}
 
 module _ (plan : LabPlan) (e : ℕ) where

@@ -7,10 +7,10 @@ use Rattle.legal_steps.specs.declared.event.Event.{Event}
 use Rattle.legal_steps.specs.declared.event.Event.TheVariants.{Look, AskFork, GiveFork, Soil, AskBottles, GiveBottles, Thirst, Hunger, Sit, Leave, Drink, Reach, Act, Quit, Retire, Glance, Withdraw}
 use Rattle.legal_steps.specs.State.{State}
 use Rattle.legal_steps.specs.Legal.{May, IsJob}
-use Rattle.legal_steps.specs.Run.{IsLegalFrom}
+use Rattle.legal_steps.specs.Run.{IsLegalFrom, actor}
 use Rattle.legal_steps.specs.Opening.{the_opening}
 use Rattle.legal_steps.proofs.FitsLaw.{own_is_job}
-use Rattle.locality.specs.History.{IsHistory, actor, events_by}
+use Rattle.locality.specs.History.{IsHistory, events_by}
 use Rattle.locality.specs.Lists.{Each}
 use Rattle.locality.specs.Patience.{no_wait}
 use Rattle.locality.proofs.Runs.{each_map, each-append}

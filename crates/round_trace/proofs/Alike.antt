@@ -11,7 +11,8 @@ use Rattle.legal_steps.specs.Legal.{May, MayAskBottle, MayGiveBottle}
 use Rattle.legal_steps.proofs.FitsWrites.{edge_same}
 use Rattle.edge_word.specs.declared.moves.EdgeMoves.{EdgeMoves}
 use Rattle.edge_word.specs.Moves.{events_of}
-use Rattle.locality.specs.History.{actor, learned, learned_all}
+use Rattle.legal_steps.specs.Run.{actor}
+use Rattle.locality.specs.History.{learned, learned_all}
 use Rattle.locality.specs.Lists.{Each}
 use Rattle.locality.specs.Changes.{seat_after}
 use Rattle.locality.proofs.Frame.{learned_seats, learned_edges, learned_seat}

@@ -7,7 +7,8 @@ use Rattle.legal_steps.specs.declared.event.Event.TheVariants.{Look}
 use Rattle.legal_steps.specs.State.{State, edge}
 use Rattle.legal_steps.specs.Opening.{the_opening}
 use Rattle.edge_word.specs.Moves.{events_of, is_nothing}
-use Rattle.locality.specs.History.{actor, is_by, events_by, state_after, IsHistory}
+use Rattle.legal_steps.specs.Run.{actor}
+use Rattle.locality.specs.History.{is_by, events_by, state_after, IsHistory}
 use Rattle.locality.specs.Lists.{Each}
 use Rattle.locality.proofs.Runs.{only_mine, append_self, after_all-append, legal-goes_on}
 use Rattle.edge_rule.specs.DeskView.{DeskView, Adds, IsAtRest, known, shown}

@@ -8,10 +8,10 @@ use Rattle.legal_steps.specs.declared.event.Event.{Event}
 use Rattle.legal_steps.specs.declared.event.Event.TheVariants.{Look, AskFork, GiveFork, Soil, AskBottles, GiveBottles, Thirst, Hunger, Sit, Leave, Drink, Reach, Act, Quit, Retire, Glance, Withdraw}
 use Rattle.legal_steps.specs.State.{State, session, drinking}
 use Rattle.legal_steps.specs.Legal.{May, after}
-use Rattle.legal_steps.specs.Run.{IsLegalFrom}
+use Rattle.legal_steps.specs.Run.{IsLegalFrom, actor}
 use Rattle.legal_steps.specs.Opening.{the_opening}
 use Rattle.legal_steps.proofs.FitsLaw.{own_is_job}
-use Rattle.locality.specs.History.{actor, is_by, events_by, known_by, learned_all, state_after, IsHistory}
+use Rattle.locality.specs.History.{is_by, events_by, known_by, learned_all, state_after, IsHistory}
 use Rattle.locality.specs.Lists.{StartsWith, Each}
 use Rattle.locality.specs.Patience.{waited_in, waited_after, is_waiting}
 use Rattle.locality.proofs.Runs.{legal-goes_on, append_self, each_map, only_mine}

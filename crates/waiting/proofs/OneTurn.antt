@@ -11,7 +11,8 @@ use Rattle.legal_steps.specs.declared.phase.Drinking.TheVariants.{Tranquil, Thir
 use Rattle.legal_steps.specs.State.{State, Seat, seat, phase, drinking, dining}
 use Rattle.edge_word.specs.declared.moves.EdgeMoves.{EdgeMoves}
 use Rattle.edge_word.specs.Moves.{events_of}
-use Rattle.locality.specs.History.{actor, learned, learned_all}
+use Rattle.legal_steps.specs.Run.{actor}
+use Rattle.locality.specs.History.{learned, learned_all}
 use Rattle.locality.specs.Changes.{seat_after}
 use Rattle.locality.specs.Lists.{Each}
 use Rattle.locality.proofs.Frame.{learned_seat, learned_seats}

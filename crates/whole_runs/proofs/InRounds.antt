@@ -5,7 +5,8 @@ use Rattle.std.proofs.lemmas.List.Elements.{filter-append}
 use Rattle.lab_plan.specs.LabPlan.{LabPlan}
 use Rattle.legal_steps.specs.declared.event.Event.{Event}
 use Rattle.legal_steps.specs.Opening.{the_opening}
-use Rattle.locality.specs.History.{actor, is_by, events_by}
+use Rattle.legal_steps.specs.Run.{actor}
+use Rattle.locality.specs.History.{is_by, events_by}
 use Rattle.locality.specs.Lists.{StartsWith, Each}
 use Rattle.edge_rule.specs.DeskView.{DeskView, BenchView}
 use Rattle.edge_rule.specs.ClosedView.{ClosedView}
