@@ -27,6 +27,8 @@ pub struct PlanBuilder<A: Allocator + Copy = Global> {
     alloc: A,
     draft: Draft<A>,
     commands: u32,
+    /// Where the last name of each slot stood: a guess for the next name of that slot.
+    guesses: [u8; 256],
 }
 
 impl<A: Allocator + Copy> Model for PlanBuilder<A> {
@@ -57,6 +59,7 @@ impl<A: Allocator + Copy> PlanBuilder<A> {
             alloc,
             draft: Draft::new(alloc, 1),
             commands: 0,
+            guesses: [0; 256],
         }
     }
 
@@ -69,6 +72,7 @@ impl<A: Allocator + Copy> PlanBuilder<A> {
             alloc,
             draft: Draft::new(alloc, 2),
             commands: 0,
+            guesses: [0; 256],
         }
     }
 
@@ -151,12 +155,15 @@ impl<A: Allocator + Copy> PlanBuilder<A> {
         requires session { has_session self.old ≡ true }
         ensures { Does (command_refusal instrument.now self.old) (with_command instrument.now verb self.old) self.old result self.new }
     {
-        let place = self.draft.place(instrument);
+        let slot = slot(instrument) as usize;
+        let place = self.draft.place(self.guesses[slot] as usize, instrument);
         if self.is_past_limit(place.is_none()) {
             return Err(PlanRefusal::LimitPassed);
         }
+        let number = place.unwrap_or(self.draft.instruments()) as u8;
         self.draft.push_at(self.alloc, place, instrument, verb)?;
         self.commands += 1;
+        self.guesses[slot] = number;
         Ok(())
     }
 
@@ -195,4 +202,12 @@ impl<A: Allocator + Copy> PlanBuilder<A> {
         }
         Ok(Tables::new(self.alloc, &self.draft)?)
     }
+}
+
+/// The slot of a name, by its bytes. Where two names share one, the guess may be wrong, and costs a search.
+fn slot(name: &[u8]) -> u8 {
+    name.iter().fold(
+        0,
+        |slot: u8, byte| slot.wrapping_mul(31).wrapping_add(*byte),
+    )
 }

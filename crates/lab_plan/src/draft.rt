@@ -1,6 +1,6 @@
 // What a builder builds and a plan keeps: the jobs and the names of the instruments.
-ghost use Rattle.std.specs.Prelude.{◌≡◌, ℕ, ◌-◌, ◌<◌, ◌≤◌, length, take, slice_index_or, [], ◌∷◌, ◌++◌, is_ok, if◌then◌else◌, IfNone, true};
-ghost use Rattle.std.specs.List.{position};
+ghost use Rattle.std.specs.Prelude.{◌≡◌, ◌≢◌, ℕ, ◌-◌, ◌<◌, ◌≤◌, ◌&&◌, nat_lt, length, take, slice_index_or, [], ◌∷◌, ◌++◌, is_ok, if◌then◌else◌, IfNone, true};
+ghost use Rattle.std.specs.List.{position, AllPairs};
 ghost use Rattle.std.specs.Str.{bytes_eq};
 ghost use Rattle.lab_plan.specs.Limits.{most_instruments};
 
@@ -54,11 +54,21 @@ impl<A: Allocator> Draft<A> {
         self.instruments.iter().position(|other| other.is(name))
     }
 
-    /// The number of an instrument that the draft has.
+    fn is_at(&self, place: usize, name: &[u8]) -> bool
+        ensures { result ≡ nat_lt place (length self.now.instruments) && bytes_eq name.now (slice_index_or self.now.instruments place []) }
+    {
+        place < self.instruments.len() && self.instruments[place].is(name)
+    }
+
+    /// The number of an instrument that the draft has. A good guess saves the search.
     #[tactic(auto, using(crate::proofs::Grown::placed))]
-    pub(crate) fn place(&self, name: &[u8]) -> Option<usize>
+    pub(crate) fn place(&self, guess: usize, name: &[u8]) -> Option<usize>
+        requires { AllPairs (λ a b. a ≢ b) self.now.instruments }
         ensures { IsPlace name.now self.now result }
     {
+        if self.is_at(guess, name) {
+            return Some(guess);
+        }
         self.position(name)
     }
 
