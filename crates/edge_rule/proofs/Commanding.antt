@@ -1,5 +1,5 @@
 -- A desk that has reached, and has the log of its instrument in hand.
-use Rattle.std.proofs.Common.{◌≡◌, ℕ, ◌+◌, ◌<◌, Bool, false, List, [], ◌∷◌, ◌++◌, length, get_or, refl, sym, ap, ◌∙◌, subst, inl, inr, arith}
+use Rattle.std.proofs.Common.{◌≡◌, ℕ, ◌+◌, ◌<◌, false, List, [], ◌∷◌, ◌++◌, length, get_or, refl, sym, ap, ◌∙◌, subst, inl, inr, arith}
 use mathlib.Core.Option.{none}
 use Rattle.atomic_table.specs.Table.{step, rest, Allows}
 use Rattle.atomic_table.specs.declared.shared.Seat.{Seat as TableSeat}
@@ -41,7 +41,6 @@ use Rattle.edge_rule.specs.DeskInside.{seat_view, view_of, kept, AreOfPlan, AtRe
 use Rattle.edge_rule.specs.BenchInside.{bench_of, IsBench}
 use Rattle.edge_rule.specs.CalmEdges.{AreStill}
 use Rattle.edge_rule.proofs.StillEdges.{same_at, stay_still}
-use Rattle.std.proofs.lemmas.Bool.{false≢true}
 use Rattle.turns.specs.Due.{but_position}
 use Rattle.locality.specs.Changes.{seat_after}
 use Rattle.locality.proofs.Frame.{learned_seat}
@@ -250,9 +249,9 @@ module _ {A : Type 0} (b : bench_fields.Inside A) (d : Inside A) (is_bench : IsB
       w = d'.seat.me.0
 
       pub commanded : d'.seat.me.1 ≡ [] → fixed d' ≡ fixed d
-          → kept d' ≡ record (kept d) { phase = record d.phase { drinking = Drinks; position = d.phase.position + 1 } }
-          → d'.seen.items ≡ d.seen.items → d'.calm.items ≡ d.calm.items → d'.settled ≡ false → IsDesk d'
-      commanded empty same own seen calm unsettled =
+          → kept d' ≡ record (kept d) { phase = record d.phase { position = d.phase.position + 1 } }
+          → d'.seen.items ≡ d.seen.items → d'.calm.items ≡ d.calm.items → d'.settled ≡ d.settled → IsDesk d'
+      commanded empty same position seen calm settled =
           let here = ok.at_rest.inside in
           let x2 : hand_in w ≡ adding (hand_in v1) (Act (hand_in v1).job ∷ []) = hand_grown v1 w (Act (hand_in v1).job ∷ []) did.hands in
           let job2 : (hand_in w).job ≡ cj = ap (λ (q : Hand). q.job) x2 ∙ ap (λ (q : Hand). q.job) x1 in
@@ -263,6 +262,8 @@ module _ {A : Type 0} (b : bench_fields.Inside A) (d : Inside A) (is_bench : IsB
           mine_grown v1 w (Act (hand_in v1).job ∷ []) did ∙ (λ r. learned_all (x1 r).plan (mine v1) (Act (x1 r).job ∷ [])) in
           let seats : length (mine v1).seats ≡ length cp.jobs = mine_seats v1 ∙ ap (λ (q : Hand). length q.plan.jobs) x1 in
           let was : d.phase.drinking ≡ Drinks = sym (ap (λ (z : JobState). z.drinking) (own_is b d is_bench ok owns)) ∙ ready.1 in
+          let own : kept d' ≡ record (kept d) { phase = record d.phase { drinking = Drinks; position = d.phase.position + 1 } } =
+          position ∙ (λ r. record (kept d) { phase = record d.phase { drinking = was r; position = d.phase.position + 1 } }) in
           let still_drinks : but_position (record d.phase { drinking = Drinks; position = d.phase.position + 1 }) ≡ but_position d.phase =
           λ r. record d.phase { drinking = sym was r; position = 0 } in
           let own_now : seat (mine w) cj ≡ kept d' = ap (λ (q : State). seat q cj) mine2
@@ -283,7 +284,7 @@ module _ {A : Type 0} (b : bench_fields.Inside A) (d : Inside A) (is_bench : IsB
                 (λ f. same_at (mine cv) (mine w) cj f (kept d) (kept d') d.seen.items d'.seen.items ok.own own_now ok.seen seen_now
                 (ap (λ l. get_or l f no_edge) seen) (ap (λ (q : Seat). but_position q.phase) own ∙ still_drinks)
                 (ap (λ (q : Seat). get_or q.fork_marks f false) own) (ap (λ (q : Seat). get_or q.bottle_marks f 0) own)) ok.calm);
-            settled = λ is. absurd (false≢true (sym unsettled ∙ is));
+            settled = λ is. absurd ((ok.settled (sym settled ∙ is)).no_reach ready);
             needed = subst (λ (q : LabPlan × ℕ × List Needed). AreNeeded q.0 q.1 q.2)
                 (λ r. (sym plan2 r, sym job2 r, sym (ap (λ (z : ℕ × Counts × List Needed). z.2) same) r)) ok.needed;
             rests =

@@ -58,8 +58,8 @@ pub fn command<A: Allocator>(bench: &Bench<A>, desk: &mut Desk<A>) -> Entry
         .table
         .shared
         .store::<Acts>(&mut desk.seat, place, second);
-    desk.phase = acted;
-    // Only the position is another, on which no move of an edge depends: what is noted of edges stays.
-    desk.settled = false;
+    // Only the position is another, on which no move of an edge depends: what is noted of edges stays. And where a command is
+    // due, the desk isn't noted as settled.
+    desk.phase.position = acted.position;
     entry
 }

@@ -11,7 +11,6 @@ ghost use Rattle.legal_steps.specs.Counting.{counts_of};
 ghost use Rattle.edge_rule.specs.Knowing.{IsKnown};
 
 use crate::bench::Bench;
-use crate::clock::Clock;
 use crate::desk::Desk;
 use crate::words::number;
 use edge_word::EdgeWord;
@@ -136,16 +135,7 @@ impl<A: Allocator> Desk<A> {
     pub fn note_turn(&mut self, thirsty_at_start: bool)
         ensures { self.new ≡ noted self.old thirsty_at_start }
     {
-        let waited = self.waited();
-        let thirsty = thirsty_at_start && is_thirsty(self.phase.drinking);
-        self.clock = Clock {
-            turns: self.clock.turns.saturating_add(1),
-            waited: if thirsty {
-                waited.saturating_add(1)
-            } else {
-                waited
-            },
-            session: self.phase.session,
-        };
+        let waiting = thirsty_at_start && is_thirsty(self.phase.drinking);
+        self.clock.note(self.phase.session, waiting);
     }
 }
