@@ -15,8 +15,8 @@ of them, one after the other, N times over (9 unless said); of all times of a pr
   labrun     the same words
 
 What is compared is the run itself: the time from a program's start to the first byte of its report, less the same time on
-the same script with no turns. So starting, reading, opening and printing are left out. Every report is checked by
-bench/check_report.py once before the measuring.
+the same script with no turns. So starting, reading, opening and printing are left out. A table of its own has whole
+programs, from start to end. Every report is checked by bench/check_report.py once before the measuring.
 
 With `growth` it measures instead how the time of `rounds` grows, of labrun and of the port, where one thing is doubled again
 and again: the exponent that fits best is told, 1.00 where the time grows as the number of commands does (where instruments are
@@ -72,12 +72,15 @@ RATIOS = (
     ("labrun threads 1 / port threads 1", "labrun threads 1", "port threads 1", 1.15),
     ("labrun threads 2 / port threads 2", "labrun threads 2", "port threads 2", 1.15),
     ("labrun threads 4 / port threads 4", "labrun threads 4", "port threads 4", 1.15),
-    ("labrun threads 1 / labrun rounds", "labrun threads 1", "labrun rounds", 1.1),
+    ("labrun threads 1 / labrun rounds", "labrun threads 1", "labrun rounds", 1.05),
     ("labrun threads 4 / blocking", "labrun threads 4", "blocking", 2.0),
     ("labrun threads 4 / condvar", "labrun threads 4", "condvar", 1.0),
     ("port threads 4 / blocking", "port threads 4", "blocking", None),
     ("port threads 4 / condvar", "port threads 4", "condvar", None),
 )
+
+# the whole program, from its start to its end: the best of these, beside blocking, which shares the port's reader and printer; and the goal (at most)
+WHOLE, WHOLE_GOAL = ("labrun rounds", "labrun threads 2", "labrun threads 4"), 1.0
 
 # the function that is one turn
 TURN = {"labrun rounds": "turning::turn", "port rounds": "Desk::turn"}
@@ -143,15 +146,16 @@ def checked(name, words, data, text):
 
 
 def measure(runs, data, rounds):
-    """The seconds of each program's run itself; and what the port says of its rounds by its own clock."""
-    full, empty, clock = {}, {}, math.inf
+    """The seconds of each program's run itself; what the port says of its rounds by its own clock; the seconds from a program's start to its end."""
+    full, empty, whole, clock = {}, {}, {}, math.inf
     for _ in range(rounds):
         for name, (with_turns, without) in runs.items():
-            full[name] = min(full.get(name, math.inf), seconds(with_turns, data)[0])
+            first, last = seconds(with_turns, data)
+            full[name], whole[name] = min(full.get(name, math.inf), first), min(whole.get(name, math.inf), last)
             empty[name] = min(empty.get(name, math.inf), seconds(without, data)[0])
         clock = min(clock, own_clock(runs["port rounds"][0], data))
     # a run can't take no time at all: what lies below the noise counts as a tenth of a millisecond
-    return {name: max(full[name] - empty[name], 1e-4) for name in runs}, clock
+    return {name: max(full[name] - empty[name], 1e-4) for name in runs}, clock, whole
 
 
 def has_words(labrun):
@@ -207,6 +211,14 @@ def speed_up(times):
                 each = ["%.2f" % (own[one] / own[many]) for own in times.values()]
                 rows.append(["%s threads 1 / threads %d" % (program, workers)] + each + [goal])
     table(["times as fast"] + list(times) + ["goal, at least"], rows)
+
+
+def whole_programs(wholes):
+    """How long whole programs take, reading and printing included, in milliseconds and beside blocking."""
+    rows = [[name] + ["%.1f" % (own[name] * 1e3) for own in wholes.values()] + ["", ""] for name in (*WHOLE, "port rounds", "blocking")]
+    best = [min(own[name] for name in WHOLE) / own["blocking"] for own in wholes.values()]
+    rows.append(["best of labrun / blocking"] + ["%.2f" % ratio for ratio in best] + ["%.2f" % mean(best), "%.2f" % WHOLE_GOAL])
+    table(["from start to end, ms"] + list(wholes) + ["mean", "goal, at most"], rows)
 
 
 def exponent(sizes, times):
@@ -292,15 +304,17 @@ def main(words):
         if kinds:
             growth(folder, TURN, "instructions", lambda path: {name: counted(run[0], TURN[name], path) for name, run in by_rounds.items()})
             return 0
-        times, clocks, counts = {}, {}, {}
+        times, clocks, wholes, counts = {}, {}, {}, {}
         for name, path, text in scripts(folder, only):
             for program, (full, _) in runs.items():
                 checked(program, full, path, text)
-            times[name], clocks[name] = measure(runs, path, rounds)
+            times[name], clocks[name], wholes[name] = measure(runs, path, rounds)
             counts[name] = sum(line.startswith("i") for line in text.split("\n"))
             print("%s: %d commands measured" % (name, counts[name]), file=sys.stderr, flush=True)
     ratios(times)
     speed_up(times)
+    if all(name in own for own in wholes.values() for name in WHOLE):
+        whole_programs(wholes)
     print("As an aside, the best times on this machine, in nanoseconds a command:\n")
     rows = [[program] + ["%.0f" % (times[name][program] / counts[name] * 1e9) for name in times] for program in runs]
     rows.append(["port rounds, by its own clock"] + ["%.0f" % (clocks[name] / counts[name] * 1e9) for name in times])

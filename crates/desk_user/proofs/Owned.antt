@@ -5,6 +5,7 @@ use Rattle.atomic_table.specs.Seated.{TableId}
 use Rattle.lab_plan.specs.LabPlan.{LabPlan}
 use Rattle.locality.specs.Lists.{Each}
 use Rattle.locality.proofs.Runs.{each-append}
+use Rattle.edge_rule.proofs.Rosters.{any_left, any_right}
 use Rattle.edge_rule.specs.DeskView.{DeskView, BenchView, Owns, fresh_desk, fresh_desks}
 use Rattle.edge_rule.specs.Company.{jobs_of, Distinct}
 use Rattle.edge_rule.specs.Ending.{Any, HasAll}
@@ -48,15 +49,6 @@ none_taken d e t = let l = t.1 in let is : t.0 ≡ 0 = omega (arith, l) in subst
 fresh_own : (b : BenchView) (n : ℕ) → Each (Owns b) (fresh_desks b.table b.plan n)
 fresh_own b zero = tt
 fresh_own b (suc n) = each-append (Owns b) (fresh_desks b.table b.plan n) (fresh_desk b.table b.plan n ∷ []) (fresh_own b n) ((refl, refl), tt)
-
-any_left : (P : DeskView → Type 0) (a b : List DeskView) → Any P a → Any P (a ++ b)
-any_left P [] b h = absurd h
-any_left P (x ∷ a) b (inl h) = inl h
-any_left P (x ∷ a) b (inr h) = inr (any_left P a b h)
-
-any_right : (P : DeskView → Type 0) (a b : List DeskView) → Any P b → Any P (a ++ b)
-any_right P [] b h = h
-any_right P (x ∷ a) b h = inr (any_right P a b h)
 
 at_or_below : (n j : ℕ) → j < suc n → (n ≡ j) ⊎ (j < n)
 at_or_below zero zero less = inl refl

@@ -1,5 +1,5 @@
 -- Who is there: counts of desks by job.
-use Rattle.std.proofs.Common.{◌≡◌, ◌≢◌, ℕ, suc, ◌+◌, ◌<◌, ◌≤◌, ◌==◌, inl, inr, cond, List, [], ◌∷◌, length, take, get_or, zero-add, arith, refl, sym, ap, ◌∙◌, subst}
+use Rattle.std.proofs.Common.{◌≡◌, ◌≢◌, ℕ, suc, ◌+◌, ◌<◌, ◌≤◌, ◌==◌, inl, inr, cond, List, [], ◌∷◌, ◌++◌, length, take, get_or, zero-add, arith, refl, sym, ap, ◌∙◌, subst}
 use Rattle.std.specs.List.{count_by}
 use Rattle.std.proofs.lemmas.Bool.{cases_eq, eq-eqb, ne_eqb}
 use Rattle.std.proofs.lemmas.List.{get_or-map, length-take, take_all}
@@ -23,6 +23,16 @@ pub times_not : (j k : ℕ) (xs : List ℕ) → k ≢ j → times j (k ∷ xs) �
 times_not j k xs other = times_first j k xs ∙ (ap (λ b. cond b 1 0 + times j xs) (ne_eqb k j other) ∙ zero-add (times j xs))
 
 -- ---- whether a job is there
+
+-- what some element of a part has, some element of the whole has
+pub any_left : {A : Type 0} (P : A → Type 0) (a b : List A) → Any P a → Any P (a ++ b)
+any_left P [] b h = absurd h
+any_left P (x ∷ a) b (inl h) = inl h
+any_left P (x ∷ a) b (inr h) = inr (any_left P a b h)
+
+pub any_right : {A : Type 0} (P : A → Type 0) (a b : List A) → Any P b → Any P (a ++ b)
+any_right P [] b h = h
+any_right P (x ∷ a) b h = inr (any_right P a b h)
 
 pub none_there : (j : ℕ) (desks : List DeskView) → times j (jobs_of desks) ≡ 0 → Any (λ (d : DeskView). d.job ≡ j) desks → ⊥
 none_there j [] nought a = a

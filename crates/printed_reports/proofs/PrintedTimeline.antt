@@ -5,7 +5,7 @@ use Rattle.std.specs.List.{AllByRecursion, range_with_len}
 use Rattle.std.specs.Option.{option_and_then}
 use Rattle.std.specs.Str.{bytes_eq}
 use Rattle.std.proofs.lemmas.Bool.{false_from_ne_true}
-use Rattle.std.proofs.lemmas.Bool.Decides.{nat_tests, Decides-ltb}
+use Rattle.std.proofs.lemmas.Bool.Decides.{Decides-ltb}
 use Rattle.std.proofs.lemmas.List.{length-map}
 use Rattle.std.proofs.lemmas.List.Elements.{All-nil, All-cons}
 use Rattle.std.proofs.lemmas.List.FromFn.{length-range_with_len}
@@ -25,6 +25,7 @@ use Rattle.report.specs.Report.{Shown, jobs, instruments}
 use Rattle.report.specs.Events.{shown_after}
 use Rattle.report_reader.specs.Line.{JobText}
 use Rattle.report_reader.specs.Report.{LogText}
+use Rattle.timeline.proofs.Apart.{tests_hold}
 use Rattle.timeline.specs.declared.span.Span.{Span}
 use Rattle.timeline.specs.Spans.{job_number, slot_of, span_of}
 use Rattle.timeline.specs.Timelines.{TimelineView, Stands, IsNextOf, EachNext, Agrees}
@@ -96,18 +97,6 @@ number_is plan shown j is job =
 abbrev pub told : LabPlan → Shown → List JobText
 told plan shown = map (printed_job plan shown) (jobs plan)
 
-pub within_tests : (j n : ℕ) → j < 32 → 1 ≤ n → n ≤ 1000 → (nat_lt j most_jobs && nat_le 1 n && nat_le n most_sessions) ≡ true
-within_tests j n job some few = λ i. one j job i && two n some i && three n few i
-  where
-    one : (j : ℕ) → j < 32 → nat_lt j 32 ≡ true
-    one j h = grind (arith, nat_tests, h)
-
-    two : (n : ℕ) → 1 ≤ n → nat_le 1 n ≡ true
-    two n h = grind (arith, nat_tests, h)
-
-    three : (n : ℕ) → n ≤ 1000 → nat_le n 1000 ≡ true
-    three n h = grind (arith, nat_tests, h)
-
 entry_span : (plan : LabPlan) (shown : Shown) (r : ℕ × ℕ → ℕ) (entry : LogEntry) → IsPlan plan → IsWritten plan entry
     → span_of (told plan shown) (spans_by r (length plan.jobs)) (printed_entry plan entry) ≡ Some (span_at (r (entry.job, entry.session)))
 unfolding span_of slot_of
@@ -118,7 +107,7 @@ entry_span plan shown r entry is h =
     ap (λ o. option_and_then (slice_get spans) (option_and_then (λ j. if nat_lt j most_jobs && nat_le 1 entry.session && nat_le entry.session most_sessions
     then Some (most_sessions * j + (entry.session - 1)) else None) o)) (number_is plan shown entry.job is h.job)
     ∙ ap (λ t. option_and_then (slice_get spans) (if t then Some slot else None))
-    (within_tests entry.job entry.session w.job_within w.session_from w.session_to)
+    (tests_hold entry.job entry.session w.job_within w.session_from w.session_to)
     ∙ span_got r (length plan.jobs) entry.job entry.session h.job w.session_from w.session_to
 
 -- the columns

@@ -15,18 +15,8 @@ use Rattle.report_reader.specs.State.{State, opening, cause_in, after, Ends}
 use Rattle.report_reader.specs.Reading.{line_in, Leads, Meets}
 use Rattle.report_reader.specs.Laws.{LineFits, IsNoReport}
 use Rattle.report_reader.proofs.LineReads.{line_is}
+use Rattle.report_reader.proofs.ReadingLoop.{heads}
 use Rattle.report_reader.proofs.ReportLeads.{ended, report_leads}
-
-heads : {X : Type 0} (x y : X) (xs ys : List X) → x ∷ xs ≡ y ∷ ys → (x ≡ y) × (xs ≡ ys)
-heads x y xs ys e = (ap (first x) e, ap rest e)
-  where
-    first : {X : Type 0} → X → List X → X
-    first d [] = d
-    first d (x ∷ xs) = x
-
-    rest : {X : Type 0} → List X → List X
-    rest [] = []
-    rest (x ∷ xs) = xs
 
 -- the last, and those before it
 lasts : {X : Type 0} (xs ys : List X) (x y : X) → xs ++ x ∷ [] ≡ ys ++ y ∷ [] → (xs ≡ ys) × (x ≡ y)

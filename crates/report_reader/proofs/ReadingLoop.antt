@@ -90,6 +90,17 @@ stops parts done part back n s u (Some line) NotWhole is split h e =
 
 -- ---- the end
 
+pub heads : {X : Type 0} (x y : X) (xs ys : List X) → x ∷ xs ≡ y ∷ ys → (x ≡ y) × (xs ≡ ys)
+heads x y xs ys e = (ap (first x) e, ap rest e)
+  where
+    first : {X : Type 0} → X → List X → X
+    first d [] = d
+    first d (x ∷ xs) = x
+
+    rest : {X : Type 0} → List X → List X
+    rest [] = []
+    rest (x ∷ xs) = xs
+
 are_words : (parts : List (List ℕ)) (lines : List Line) → map line_in parts ≡ map (λ line. Some line) lines → map words parts ≡ map words_of lines
 are_words [] [] e = refl
 are_words [] (line ∷ lines) e = absurd (omega (arith, ap length e))
@@ -97,17 +108,6 @@ are_words (part ∷ parts) [] e = absurd (omega (arith, ap length e))
 are_words (part ∷ parts) (line ∷ lines) e =
     (λ i. line_was (words part) line (heads (line_in part) (Some line) (map line_in parts) (map (λ l. Some l) lines) e).0 i
     ∷ are_words parts lines (heads (line_in part) (Some line) (map line_in parts) (map (λ l. Some l) lines) e).1 i)
-  where
-    heads : {X : Type 0} (x y : X) (xs ys : List X) → x ∷ xs ≡ y ∷ ys → (x ≡ y) × (xs ≡ ys)
-    heads x y xs ys e = (ap (first x) e, ap rest e)
-      where
-        first : {X : Type 0} → X → List X → X
-        first d [] = d
-        first d (x ∷ xs) = x
-
-        rest : {X : Type 0} → List X → List X
-        rest [] = []
-        rest (x ∷ xs) = xs
 
 pub ends_well : (parts : List (List ℕ)) (n : ℕ) (s : State) (report : ReportText) → IsReading parts n s → Ends s (Ok report)
     → map words parts ≡ map words_of (lines_of report)

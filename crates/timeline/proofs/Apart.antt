@@ -71,7 +71,7 @@ sound jobs e none =
       place_to = not_below e.length e.place places.1;
     }
 
-tests_hold : (job session : ℕ) → job < most_jobs → 1 ≤ session → session ≤ most_sessions
+pub tests_hold : (job session : ℕ) → job < most_jobs → 1 ≤ session → session ≤ most_sessions
     → (nat_lt job most_jobs && nat_le 1 session && nat_le session most_sessions) ≡ true
 tests_hold job session few some within = λ i. one job few i && two session some i && three session within i
   where

@@ -1,6 +1,7 @@
 -- Lists of desks that took turns.
 use Rattle.std.proofs.Common.{take, drop, ◌≡◌, ℕ, zero, suc, ◌+◌, ◌-◌, max, ◌<◌, ◌≤◌, inl, inr, Bool, true, false, List, [], ◌∷◌, ◌++◌, length, get_or, set, refl, sym, ap, ◌∙◌, subst, arith, add-one}
 use Rattle.locality.specs.Lists.{Each}
+use Rattle.edge_rule.proofs.Rosters.{any_left, any_right}
 use Rattle.edge_rule.specs.DeskView.{DeskView, BenchView, Owns}
 use Rattle.edge_rule.specs.Ending.{Any}
 use Rattle.session_layer.specs.Grown.{TookTurns}
@@ -171,15 +172,6 @@ took_up_to turns old new halts.AllRetired w = w.0
 pub worked_owns : (b : BenchView) (turns : ℕ) (old new : List DeskView) (h : Halt) → Worked turns old h new → Each (Owns b) old → Each (Owns b) new
 worked_owns b turns old new h w own =
     pairs_each (TookUpTo turns) (Owns b) (Owns b) (λ d e a o. took_owns b a.0 d e a.2 o) old new (took_up_to turns old new h w) own
-
-any_left : (P : DeskView → Type 0) (a b : List DeskView) → Any P a → Any P (a ++ b)
-any_left P [] b h = absurd h
-any_left P (x ∷ a) b (inl h) = inl h
-any_left P (x ∷ a) b (inr h) = inr (any_left P a b h)
-
-any_right : (P : DeskView → Type 0) (a b : List DeskView) → Any P b → Any P (a ++ b)
-any_right P [] b h = h
-any_right P (x ∷ a) b h = inr (any_right P a b h)
 
 -- two parts, one of which has seen all retired
 module _ (turns : ℕ) (a a' b b' : List DeskView) where
