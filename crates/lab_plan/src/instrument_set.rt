@@ -9,7 +9,7 @@ use crate::numbers::InstrumentNo;
 use crate::verb::Verb;
 use std::marker::Model;
 
-#[derive(Clone, Copy, PartialEq, Eq, Debug)]
+#[derive(Clone, Copy)]
 pub(crate) struct InstrumentSet {
     bits: u64,
 }
