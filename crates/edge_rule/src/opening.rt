@@ -10,7 +10,6 @@ ghost use Rattle.edge_rule.specs.DeskView.{fresh_desk, fresh_desks};
 use crate::bench::Bench;
 use crate::clock::Clock;
 use crate::desk::Desk;
-use crate::needed::NOTHING_NOTED;
 use crate::refusals::OpenError;
 use crate::words::{edge_place, word_count};
 use atomic_table::{Seat, Table};
@@ -69,7 +68,7 @@ fn next_desk<A: Allocator + Copy>(
     let bottle_marks = Vec::from_elem(alloc, 0u32, count)?;
     let seen = fresh_edges(alloc, plan)?;
     let calm = Vec::from_elem(alloc, false, count)?;
-    let needed = Vec::from_elem(alloc, NOTHING_NOTED, count)?;
+    let needed = Vec::from_elem(alloc, 0u32, count)?;
     let phase = JobState {
         dining: Dining::Thinking,
         drinking: Drinking::Tranquil,
