@@ -7,7 +7,7 @@ use Rattle.edge_rule.specs.Knowing.{IsKnown}
 use Rattle.turns.specs.Due.{WithBottles}
 use Rattle.dining_layer.specs.Turned.{turned}
 use Rattle.drinking_layer.specs.Local.{with_sets}
-use Rattle.drinking_layer.specs.Bottles.{AreNeededNow}
+use Rattle.edge_rule.specs.NeededBottles.{AreNeededNow}
 use Rattle.drinking_layer.proofs.BottleMoves.{gifts_greatest, wishes_greatest}
 
 module _ (d : DeskView) (e : ℕ) (k : IsKnown d.plan (known d) d.job) (own : IsOwn d.plan d.job e) where

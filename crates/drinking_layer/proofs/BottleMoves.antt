@@ -15,9 +15,10 @@ use Rattle.legal_steps.specs.Legal.{MayAskBottle, MayGiveBottle, Needs, instrume
 use Rattle.edge_word.specs.declared.moves.EdgeMoves.{EdgeMoves}
 use Rattle.edge_word.specs.Moves.{when}
 use Rattle.turns.specs.Due.{fork_gone, fork_asked_for, IsGreatest}
+use Rattle.edge_rule.specs.NeededBottles.{NeedsIn}
 use Rattle.dining_layer.specs.Turned.{turned}
 use Rattle.dining_layer.proofs.Turning.{fork_is_here}
-use Rattle.drinking_layer.specs.Local.{NeedsIn, has_instruments, is_thirsty, without, kept, gifts, wishes}
+use Rattle.drinking_layer.specs.Local.{has_instruments, is_thirsty, without, kept, gifts, wishes}
 use Rattle.legal_steps.proofs.BottleSets.{has_and, has_without, has_none, at_end, at_end_fits, without_fits}
 use Rattle.turns.proofs.ForkGuards.{at_here, here_at}
 use Rattle.turns.proofs.Stages.{Stage, stage_one, stage_three, edge_one, edge_two, edge_three}

@@ -1,21 +1,14 @@
 -- What became of serving bottles, of asking for them, and of drinking.
-use Rattle.std.specs.Prelude.{◌≡◌, ◌↔◌, ℕ, ◌<◌, Bool, true, false, [], ◌∷◌, length}
-use Rattle.lab_plan.specs.LabPlan.{bottles}
+use Rattle.std.specs.Prelude.{◌≡◌, ℕ, Bool, true, false, [], ◌∷◌}
 use Rattle.legal_steps.specs.declared.event.Event.TheVariants.{GiveBottles, AskBottles, Drink}
 use Rattle.legal_steps.specs.declared.phase.Drinking.TheVariants.{Thirsty}
-use Rattle.legal_steps.specs.State.{Has, IsOfEdge, drinking, phase}
-use Rattle.legal_steps.specs.Legal.{May, MayGiveBottle, MayAskBottle, instrument_of}
+use Rattle.legal_steps.specs.State.{drinking}
+use Rattle.legal_steps.specs.Legal.{May, MayGiveBottle, MayAskBottle}
 use Rattle.edge_rule.specs.DeskView.{DeskView, Adds, known}
 use Rattle.turns.specs.Due.{IsGreatest}
 use Rattle.dining_layer.specs.declared.answers.Tried.{Tried}
 use Rattle.dining_layer.specs.declared.answers.Tried.TheVariants.{NotLegal}
 use Rattle.dining_layer.specs.Tries.{TriedTo}
-use Rattle.drinking_layer.specs.Local.{NeedsIn}
-
--- the set has just the bottles of the edge that the job needs by what it knows
-pub record AreNeededNow (d : DeskView) (e set : ℕ) : Type 0 where
-  pub of_edge : IsOfEdge d.plan e set
-  pub just : (k : ℕ) → k < length (bottles d.plan e) → Has set k ↔ NeedsIn d.plan d.job (phase (known d) d.job) (instrument_of d.plan e k)
 
 -- The bottles that may be given by the word last seen, all at once; where there are none, no set of them may be given
 pub record Served (d : DeskView) (e : ℕ) (r : Tried) (d' : DeskView) : Type 0 where

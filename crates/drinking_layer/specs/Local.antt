@@ -1,16 +1,13 @@
 -- Which bottles are given and asked for, by the edge as it was seen from the own end, the own phase and the bottles that are needed.
-use Rattle.std.specs.Prelude.{◌≡◌, ℕ, Bool, true, false, ◌||◌, bit_xor, bit_and, if◌then◌else◌}
-use Rattle.lab_plan.specs.LabPlan.{LabPlan, session_names}
+use Rattle.std.specs.Prelude.{ℕ, Bool, true, false, ◌||◌, bit_xor, bit_and, if◌then◌else◌}
 use Rattle.legal_steps.specs.declared.end.End.TheVariants.{Higher}
 use Rattle.legal_steps.specs.declared.phase.Drinking.{Drinking}
 use Rattle.legal_steps.specs.declared.phase.Drinking.TheVariants.{Thirsty, Drinking as Drinks, Reaching}
 use Rattle.legal_steps.specs.declared.phase.JobState.{JobState}
 use Rattle.legal_steps.specs.declared.edge_state.EdgeState.{EdgeState}
-use Rattle.legal_steps.specs.State.{IsInSession}
-use Rattle.legal_steps.specs.Legal.{is_at}
+use Rattle.legal_steps.specs.Legal.{is_at, fork_given}
 use Rattle.edge_word.specs.declared.moves.EdgeMoves.{EdgeMoves}
 use Rattle.edge_word.specs.Moves.{when}
-use Rattle.legal_steps.specs.Legal.{fork_given}
 
 abbrev pub is_thirsty : Drinking → Bool
 is_thirsty Thirsty = true
@@ -42,8 +39,3 @@ with_sets phase needed x m =
       give_bottles = gifts phase needed x m.give_fork;
       ask_bottles = wishes phase needed x (gifts phase needed x m.give_fork);
     }
-
--- a job in this phase needs the instrument
-pub record NeedsIn (plan : LabPlan) (j : ℕ) (phase : JobState) (i : ℕ) : Type 0 where
-  pub in_session : IsInSession phase.drinking
-  pub named : session_names plan j phase.session i ≡ true

@@ -9,7 +9,7 @@ ghost use Rattle.edge_rule.specs.DeskView.{Owns, known};
 ghost use Rattle.turns.specs.Due.{AreForkMoves, AreDue, WithBottles, IsGreatest, fork_gone, fork_asked_for};
 ghost use Rattle.drinking_layer.specs.Local.{with_sets as sets_added};
 
-use crate::needs::{gifts, needed_bottles, wishes};
+use crate::needs::{gifts, wishes};
 use dining_layer::{at_edge, due_forks};
 use edge_rule::{Bench, Desk};
 use edge_word::EdgeMoves;
@@ -44,7 +44,7 @@ pub fn with_bottles<A: Allocator>(
     ensures legal { AreForkMoves desk.now.plan (known desk.now) desk.now.job edge moves → IsLegalFrom desk.now.plan (known desk.now) (events_of result desk.now.job edge) }
 {
     let at = at_edge(bench, desk, edge);
-    let needed = needed_bottles(bench, desk, edge);
+    let needed = desk.needed(edge);
     with_sets(at.phase, needed, at.mine, moves)
 }
 
@@ -56,7 +56,7 @@ pub fn due_moves<A: Allocator>(bench: &Bench<A>, desk: &Desk<A>, edge: EdgeNo) -
     ensures legal { IsLegalFrom desk.now.plan (known desk.now) (events_of result desk.now.job edge) }
 {
     let at = at_edge(bench, desk, edge);
-    let needed = needed_bottles(bench, desk, edge);
+    let needed = desk.needed(edge);
     let forks = due_forks(at.phase.dining, End::Higher, at.mine);
     with_sets(at.phase, needed, at.mine, forks)
 }
@@ -75,7 +75,7 @@ pub fn greatest_sets<A: Allocator>(
     ensures wishes { IsGreatest desk.now.plan edge result.1 (λ k. (drinking (known desk.now) desk.now.job ≡ Thirsty) × MayAskBottle desk.now.plan (fork_asked_for desk.now.plan (known desk.now) desk.now.job edge moves) desk.now.job edge k) }
 {
     let at = at_edge(bench, desk, edge);
-    let needed = needed_bottles(bench, desk, edge);
+    let needed = desk.needed(edge);
     let given = gifts(at.phase, needed, at.mine, moves.give_fork);
     let asked = wishes(at.phase, needed, at.mine, moves.give_bottles);
     (given, asked)
@@ -104,6 +104,6 @@ pub fn all_wishes<A: Allocator>(bench: &Bench<A>, desk: &Desk<A>, edge: EdgeNo) 
     ensures { IsGreatest desk.now.plan edge result (λ k. (drinking (known desk.now) desk.now.job ≡ Thirsty) × MayAskBottle desk.now.plan (known desk.now) desk.now.job edge k) }
 {
     let at = at_edge(bench, desk, edge);
-    let needed = needed_bottles(bench, desk, edge);
+    let needed = desk.needed(edge);
     wishes(at.phase, needed, at.mine, 0)
 }

@@ -1,25 +1,23 @@
 //! Whether a job has all bottles that it needs, and drinking.
-ghost use Rattle.std.specs.Prelude.{◌≡◌, ◌↔◌, ◌<◌, ◌∷◌, [], IsTrue, true, false, length};
-ghost use Rattle.lab_plan.specs.LabPlan.{edges};
+ghost use Rattle.std.specs.Prelude.{◌≡◌, ◌↔◌, ◌∷◌, [], IsTrue, true, false};
 ghost use Rattle.legal_steps.specs.declared.event.Event.TheVariants.{Drink};
+ghost use Rattle.legal_steps.specs.State.{IsOwn};
 ghost use Rattle.legal_steps.specs.Legal.{May, HasNeeded, HasNeededAt};
 ghost use Rattle.edge_rule.specs.DeskView.{Owns, known};
 ghost use Rattle.drinking_layer.specs.Bottles.{Drank};
 
-use crate::needs::needed_bottles;
 use edge_rule::{Bench, Desk, PhaseEvent, store_phase};
 use lab_plan::EdgeNo;
 use legal_steps::Drinking;
 use std::alloc::Allocator;
 
 // Whether each needed bottle of the edge is marked.
-fn has_needed_at<A: Allocator>(bench: &Bench<A>, desk: &Desk<A>, edge: EdgeNo) -> bool
-    requires own { Owns bench.now desk.now }
-    requires edge { edge < length (edges desk.now.plan) }
+fn has_needed_at<A: Allocator>(desk: &Desk<A>, edge: EdgeNo) -> bool
+    requires { IsOwn desk.now.plan desk.now.job edge }
     ensures { IsTrue result ↔ HasNeededAt desk.now.plan (known desk.now) desk.now.job edge }
 {
     let marks = desk.bottle_marks(edge);
-    let needed = needed_bottles(bench, desk, edge);
+    let needed = desk.needed(edge);
     needed & marks == needed
 }
 
@@ -32,7 +30,7 @@ fn has_needed<A: Allocator>(bench: &Bench<A>, desk: &Desk<A>) -> bool
     let plan = bench.plan();
     let own = plan.edges_of(job);
     for edge in own {
-        if !has_needed_at(bench, desk, *edge) {
+        if !has_needed_at(desk, *edge) {
             return false;
         }
     }

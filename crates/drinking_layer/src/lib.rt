@@ -9,5 +9,4 @@ mod serving;
 
 pub use bottles::{all_gifts, all_wishes, due_moves, greatest_sets, with_bottles};
 pub use drinks::{drink, may_drink};
-pub use needs::note_needed;
 pub use serving::{serve_bottles, want_bottles};

@@ -15,7 +15,7 @@ use Rattle.legal_steps.specs.declared.phase.JobState.{JobState}
 use Rattle.legal_steps.specs.declared.phase.Drinking.TheVariants.{Drinking as Drinks, Reaching}
 use Rattle.legal_steps.specs.declared.event.Event.{Event}
 use Rattle.legal_steps.specs.declared.event.Event.TheVariants.{Reach, Act}
-use Rattle.legal_steps.specs.State.{Seat, State, seat, phase, drinking, log, no_edge}
+use Rattle.legal_steps.specs.State.{Seat, State, IsInSession, seat, phase, drinking, log, no_edge}
 use Rattle.legal_steps.specs.Legal.{May, IsJob, next_command, entry_after, next_entry}
 use Rattle.legal_steps.specs.Opening.{the_opening}
 use Rattle.legal_steps.specs.WholeLogs.{ended_sessions, log_with_room}
@@ -32,12 +32,11 @@ use Rattle.locality.specs.History.{learned_all, known_by, state_after, events_by
 use Rattle.one_history.specs.Rule.{phase_place, word_count, Kept}
 use Rattle.one_history.specs.Grow.{hand_in, adding, mine, Does, own_phase, next_instrument, reached, acted}
 use Rattle.edge_rule.specs.DeskView.{DeskView, Owns, Adds, Commanded, known}
-use Rattle.legal_steps.specs.declared.counts.Counts.{Counts}
 use Rattle.legal_steps.specs.Counting.{counts_of}
 use Rattle.edge_rule.proofs.CountsKept.{counts_stay}
 use Rattle.edge_rule.specs.NeededBottles.{AreNeeded}
-use Rattle.edge_rule.specs.declared.needed.Needed.{Needed}
-use Rattle.edge_rule.specs.DeskInside.{seat_view, view_of, kept, AreOfPlan, AtRest, IsDesk, fixed}
+use Rattle.edge_rule.proofs.NotedNeeds.{needs_stay}
+use Rattle.edge_rule.specs.DeskInside.{seat_view, view_of, kept, AreOfPlan, AtRest, IsDesk}
 use Rattle.edge_rule.specs.BenchInside.{bench_of, IsBench}
 use Rattle.edge_rule.specs.CalmEdges.{AreStill}
 use Rattle.edge_rule.proofs.StillEdges.{same_at, stay_still}
@@ -248,10 +247,10 @@ module _ {A : Type 0} (b : bench_fields.Inside A) (d : Inside A) (is_bench : IsB
       abbrev w : View
       w = d'.seat.me.0
 
-      pub commanded : d'.seat.me.1 ≡ [] → fixed d' ≡ fixed d
+      pub commanded : d'.seat.me.1 ≡ [] → d'.job ≡ d.job → d'.counts ≡ d.counts → d'.needed.items ≡ d.needed.items
           → kept d' ≡ record (kept d) { phase = record d.phase { position = d.phase.position + 1 } }
           → d'.seen.items ≡ d.seen.items → d'.calm.items ≡ d.calm.items → d'.settled ≡ d.settled → IsDesk d'
-      commanded empty same position seen calm settled =
+      commanded empty job counts needed position seen calm settled =
           let here = ok.at_rest.inside in
           let x2 : hand_in w ≡ adding (hand_in v1) (Act (hand_in v1).job ∷ []) = hand_grown v1 w (Act (hand_in v1).job ∷ []) did.hands in
           let job2 : (hand_in w).job ≡ cj = ap (λ (q : Hand). q.job) x2 ∙ ap (λ (q : Hand). q.job) x1 in
@@ -272,10 +271,10 @@ module _ {A : Type 0} (b : bench_fields.Inside A) (d : Inside A) (is_bench : IsB
           record {
             at_rest = rest_grown v1 w (Act (hand_in v1).job ∷ []) rests1 did;
             empty = empty;
-            job = job2 ∙ (ok.job ∙ sym (ap (λ (z : ℕ × Counts × List Needed). z.0) same));
+            job = job2 ∙ (ok.job ∙ sym job);
             counts = (λ r. counts_of (job2 r) (deeds2 r)) ∙ (counts_stay cj ((hand_in cv).deeds ++ Reach cj ∷ []) (Act cj ∷ []) ((refl, refl, refl), tt)
                 ∙ (counts_stay cj (hand_in cv).deeds (Reach cj ∷ []) ((refl, refl, refl), tt)
-                ∙ (ok.counts ∙ sym (ap (λ (z : ℕ × Counts × List Needed). z.1) same))));
+                ∙ (ok.counts ∙ sym counts)));
             own = (λ r. seat (mine w) (job2 r)) ∙ own_now;
             seen = seen_now;
             of_plan = subst (λ (q : LabPlan × List EdgeState). AreOfPlan q.0 q.1) (λ r. (sym plan2 r, sym seen r)) ok.of_plan;
@@ -285,8 +284,11 @@ module _ {A : Type 0} (b : bench_fields.Inside A) (d : Inside A) (is_bench : IsB
                 (ap (λ l. get_or l f no_edge) seen) (ap (λ (q : Seat). but_position q.phase) own ∙ still_drinks)
                 (ap (λ (q : Seat). get_or q.fork_marks f false) own) (ap (λ (q : Seat). get_or q.bottle_marks f 0) own)) ok.calm);
             settled = λ is. absurd ((ok.settled (sym settled ∙ is)).no_reach ready);
-            needed = subst (λ (q : LabPlan × ℕ × List Needed). AreNeeded q.0 q.1 q.2)
-                (λ r. (sym plan2 r, sym job2 r, sym (ap (λ (z : ℕ × Counts × List Needed). z.2) same) r)) ok.needed;
+            needed =
+                let drinking : d'.phase.drinking ≡ d.phase.drinking = ap (λ (q : Seat). q.phase.drinking) own ∙ sym was in
+                subst (λ (q : LabPlan × ℕ × List ℕ). AreNeeded q.0 q.1 d'.phase q.2) (λ r. (sym plan2 r, sym job2 r, sym needed r))
+                (needs_stay cp cj d.phase d'.phase d.needed.items (ap (λ (q : Seat). q.phase.session) own)
+                ((λ h. subst IsInSession (sym drinking) h), (λ h. subst IsInSession drinking h)) ok.needed);
             rests =
                 let drinks : d'.phase.drinking ≡ Drinks = ap (λ (q : Seat). q.phase.drinking) own in
                 λ e. (let both : Drinks ≡ Reaching = sym drinks ∙ e in cc);

@@ -1,5 +1,5 @@
 -- A desk after moves on an edge, and after a phase was stored.
-use Rattle.std.proofs.Common.{◌≡◌, ◌≢◌, ℕ, ◌/◌, ◌<◌, ◌≤◌, if◌then◌else◌, eqb, Bool, false, List, [], ◌∷◌, length, get_or, set, replicate, refl, sym, ap, ◌∙◌, subst, arith}
+use Rattle.std.proofs.Common.{◌≡◌, ◌≢◌, ℕ, ◌/◌, ◌<◌, ◌≤◌, if◌then◌else◌, eqb, Bool, true, false, List, [], ◌∷◌, length, get_or, set, replicate, refl, sym, ap, ◌∙◌, subst, arith}
 use mathlib.Core.Option.{none}
 use prog.Atomic.{either}
 use Rattle.atomic_table.specs.Table.{step, Allows}
@@ -10,7 +10,7 @@ use Rattle.instrument_log.specs.InstrumentLog.{LogView}
 use Rattle.legal_steps.specs.declared.edge_state.EdgeState.{EdgeState}
 use Rattle.legal_steps.specs.declared.phase.JobState.{JobState}
 use Rattle.legal_steps.specs.declared.phase.Drinking.TheVariants.{Reaching}
-use Rattle.legal_steps.specs.State.{Seat, State, IsOwn, edge, seat, phase, no_edge}
+use Rattle.legal_steps.specs.State.{Seat, State, IsOwn, IsInSession, edge, seat, phase, no_edge}
 use Rattle.legal_steps.specs.Legal.{May}
 use Rattle.legal_steps.specs.Run.{IsLegalFrom}
 use Rattle.edge_word.specs.declared.moves.EdgeMoves.{EdgeMoves}
@@ -37,6 +37,8 @@ use Rattle.edge_rule.specs.DeskView.{DeskView, Owns, Adds, known, shown}
 use Rattle.edge_rule.specs.DeskInside.{seat_view, view_of, kept, fixed, AreOfPlan, IsDesk}
 use Rattle.edge_rule.specs.BenchInside.{bench_of, IsBench}
 use Rattle.edge_rule.specs.CalmEdges.{no_word}
+use Rattle.edge_rule.specs.NeededBottles.{AreNeeded, changes_session}
+use Rattle.edge_rule.proofs.NotedNeeds.{needs_stay, session_stays, session_changes}
 use Rattle.edge_rule.proofs.StillEdges.{none_still}
 use Rattle.locality.proofs.Frame.{learned_seat}
 use Rattle.locality.specs.Changes.{seat_after}
@@ -221,6 +223,13 @@ still_rests phase_events.Quit x h = λ e. cc
 still_rests phase_events.Retire x h = λ e. cc
 still_rests phase_events.Withdraw x h = λ e. cc
 
+-- what is asked before the needed bottles are renewed
+pub record Renews (what : PhaseEvent) (plan : LabPlan) (j : ℕ) (y : JobState) (sets : List ℕ) : Type 0 where
+  pub is_job : j < length plan.jobs
+  pub changes : changes_session what ≡ true → IsInSession y.drinking → (1 ≤ y.session) × (y.session ≤ length (sessions plan j))
+  pub stays : changes_session what ≡ false → AreNeeded plan j y sets
+  pub wide : length sets ≡ length (edges plan)
+
 module _ {A : Type 0} (b : bench_fields.Inside A) (d : Inside A) (is_bench : IsBench b) (ok : IsDesk d) (owns : Owns (bench_of b) (view_of d)) where
   abbrev sv : View
   sv = d.seat.me.0
@@ -282,12 +291,30 @@ module _ {A : Type 0} (b : bench_fields.Inside A) (d : Inside A) (is_bench : IsB
       ap phase_of is_n ∙ (phase_of-phase_word_of y fits ∙ (is_y ∙ ap (phase_after what) (sym own_is))) in
       subst (λ z. Does sv z w) (ap (phase_event sj (own_phase sv)) becomes ∙ told_back what sp sj (mine sv) may) t
 
+  -- the needed bottles after it
+  pub renew_requires : (what : PhaseEvent) (y : JobState) → MayStore what (view_of d) → y ≡ phase_after what d.phase
+      → Renews what b.plan.now d.job y d.needed.items
+  renew_requires what y may is_y =
+      let at : Renews what sp sj (phase_after what (own_phase sv)) d.needed.items = record {
+        is_job = ok.at_rest.inside;
+        changes = session_changes what sp (mine sv) sj may;
+        stays = λ stays. let n = session_stays what sp (mine sv) sj may stays in
+            needs_stay sp sj (own_phase sv) (phase_after what (own_phase sv)) d.needed.items n.0 n.1
+            (subst (λ (z : JobState). AreNeeded sp sj z d.needed.items) (sym own_is) ok.needed);
+        wide = ok.needed.wide;
+      } in
+      subst (λ (z : LabPlan × ℕ × JobState). Renews what z.0 z.1 z.2 d.needed.items)
+      (λ i. (sym (plan_known b d is_bench ok owns) i, ok.job i, (ap (phase_after what) own_is ∙ sym is_y) i)) at
+
+  pub renewed : (y : JobState) (sets : List ℕ) → AreNeeded b.plan.now d.job y sets → AreNeeded sp sj y sets
+  renewed y sets all = subst (λ (z : LabPlan × ℕ). AreNeeded z.0 z.1 y sets) (λ i. (plan_known b d is_bench ok owns i, sym ok.job i)) all
+
   -- the desk after it
   pub phase_kept : (what : PhaseEvent) (d' : Inside A) → Does sv (event_of what sj) d'.seat.me.0
       → d'.seat.me.1 ≡ d.seat.me.1 → d'.job ≡ d.job → d'.counts ≡ counted what d.counts → d'.phase ≡ phase_after what d.phase
       → d'.fork_marks.items ≡ (if clears what then replicate (length d.fork_marks.items) false else d.fork_marks.items)
       → d'.bottle_marks.items ≡ d.bottle_marks.items → d'.seen.items ≡ d.seen.items
-      → d'.calm.items ≡ replicate (length d.calm.items) no_word → d'.settled ≡ false → d'.needed.items ≡ d.needed.items → IsDesk d'
+      → d'.calm.items ≡ replicate (length d.calm.items) no_word → d'.settled ≡ false → AreNeeded sp sj d'.phase d'.needed.items → IsDesk d'
   phase_kept what d' t empty job counts phase forks_are marks_are seen calm unsettled needed =
       let jobs = mine_seats sv in
       let here = ok.at_rest.inside in

@@ -35,7 +35,6 @@ use Rattle.one_history.specs.Groups.{with_group, all_of, StandUnbroken}
 use Rattle.one_history.proofs.Groups.{stand_in_more, with_group_stands, all_with_group}
 use Rattle.edge_rule.specs.DeskView.{DeskView, BenchView, Owns, Adds}
 use Rattle.edge_rule.specs.NeededBottles.{AreNeeded}
-use Rattle.edge_rule.specs.declared.needed.Needed.{Needed}
 use Rattle.edge_rule.specs.DeskInside.{seat_view, view_of, kept, fixed, AreOfPlan, AtRest, IsDesk}
 use Rattle.edge_rule.specs.BenchInside.{bench_of, IsBench}
 use Rattle.edge_rule.specs.CalmEdges.{no_word, IsStill, AreStill}
@@ -146,7 +145,7 @@ module _ {A : Type 0} (d : Inside A) (ok : IsDesk d) where
   pub desk_grows : (d' : Inside A) (g : List Event) → Grows v g d'.seat.me.0 → d'.seat.me.1 ≡ [] → d'.job ≡ d.job
       → seat (learned_all p (mine v) g) j ≡ kept d' → (learned_all p (mine v) g).edges ≡ d'.seen.items → AreOfPlan p d'.seen.items
       → AreStill p (learned_all p (mine v) g) j d'.calm.items → (d'.settled ≡ true → IsSettled p (learned_all p (mine v) g) j)
-      → d'.phase.drinking ≢ Reaching → counts_of j ((hand_in v).deeds ++ g) ≡ d'.counts → d'.needed.items ≡ d.needed.items → IsDesk d'
+      → d'.phase.drinking ≢ Reaching → counts_of j ((hand_in v).deeds ++ g) ≡ d'.counts → AreNeeded p j d'.phase d'.needed.items → IsDesk d'
   desk_grows d' g t empty job own seen of_plan calm settled rests counts needed =
       let x = hand_grown v d'.seat.me.0 g t.hands in
       let m = mine_grown v d'.seat.me.0 g t in
@@ -160,7 +159,7 @@ module _ {A : Type 0} (d : Inside A) (ok : IsDesk d) where
         of_plan = subst (λ (z : Hand). AreOfPlan z.plan d'.seen.items) (sym x) of_plan;
         calm = subst (λ (z : Hand × State). AreStill z.0.plan z.1 z.0.job d'.calm.items) (λ i. (sym x i, sym m i)) calm;
         settled = λ is. subst (λ (z : Hand × State). IsSettled z.0.plan z.1 z.0.job) (λ i. (sym x i, sym m i)) (settled is);
-        needed = subst (λ (z : Hand × List Needed). AreNeeded z.0.plan z.0.job z.1) (λ i. (sym x i, sym needed i)) ok.needed;
+        needed = subst (λ (z : Hand). AreNeeded z.plan z.job d'.phase d'.needed.items) (sym x) needed;
         rests = rests;
       }
 
@@ -170,9 +169,9 @@ module _ {A : Type 0} (d : Inside A) (ok : IsDesk d) where
       → AreStill p (learned_all p (mine v) g) j d'.calm.items
       → (d'.settled ≡ true → IsSettled p (learned_all p (mine v) g) j) → d'.phase.drinking ≢ Reaching → IsDesk d'
   desk_keeps d' g uncounted t empty same own seen of_plan calm settled rests =
-      desk_grows d' g t empty (ap (λ (z : ℕ × Counts × List Needed). z.0) same) own seen of_plan calm settled rests
-      (counts_stay j (hand_in v).deeds g uncounted ∙ (ok.counts ∙ sym (ap (λ (z : ℕ × Counts × List Needed). z.1) same)))
-      (ap (λ (z : ℕ × Counts × List Needed). z.2) same)
+      desk_grows d' g t empty (ap (λ (z : ℕ × Counts × JobState × List ℕ). z.0) same) own seen of_plan calm settled rests
+      (counts_stay j (hand_in v).deeds g uncounted ∙ (ok.counts ∙ sym (ap (λ (z : ℕ × Counts × JobState × List ℕ). z.1) same)))
+      (subst (λ (z : ℕ × Counts × JobState × List ℕ). AreNeeded p j z.2 z.3) (sym same) ok.needed)
 
   -- where the desk isn't noted as settled, nothing is claimed
   pub not_settled : (d' : Inside A) → d'.settled ≡ false → {s : State} → d'.settled ≡ true → IsSettled p s j

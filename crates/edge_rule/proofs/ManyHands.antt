@@ -176,6 +176,6 @@ desk_still d s e ok = let v = sym (ap (λ m. m.0) e) in record {
   of_plan = subst (λ z. AreOfPlan (hand_in z).plan d.seen.items) v ok.of_plan;
   calm = subst (λ (z : View). AreStill (hand_in z).plan (mine z) (hand_in z).job d.calm.items) v ok.calm;
   settled = λ is. subst (λ (z : View). IsSettled (hand_in z).plan (mine z) (hand_in z).job) v (ok.settled is);
-  needed = subst (λ (z : View). AreNeeded (hand_in z).plan (hand_in z).job d.needed.items) v ok.needed;
+  needed = subst (λ (z : View). AreNeeded (hand_in z).plan (hand_in z).job d.phase d.needed.items) v ok.needed;
   rests = ok.rests;
 }

@@ -25,7 +25,6 @@ use Rattle.legal_steps.specs.Counting.{counts_of}
 use Rattle.edge_rule.specs.CalmEdges.{no_word}
 use Rattle.edge_rule.proofs.StillEdges.{none_still}
 use Rattle.std.proofs.lemmas.Bool.{false≢true}
-use Rattle.edge_rule.specs.NeededBottles.{nothing_noted}
 use Rattle.edge_rule.proofs.NotedNeeds.{none_needed}
 use Rattle.edge_rule.specs.DeskInside.{kept, AreOfPlan, AtRest, IsDesk}
 use Rattle.locality.proofs.Runs.{opening_edges as opening_wide}
@@ -87,7 +86,7 @@ fresh_rests plan j job = record { mine = refl; inside = job; none_told = refl; l
 
 pub fresh_is_desk : {A : Type 0} (d : Inside A) (plan : LabPlan) (j : ℕ) → d.seat.me ≡ (fresh_view plan j, []) → j < length plan.jobs
     → d.job ≡ j → d.counts ≡ counts_of j [] → kept d ≡ idle_seat plan → d.seen.items ≡ opening_edges plan (length (edges plan))
-    → d.calm.items ≡ replicate (length (edges plan)) no_word → d.settled ≡ false → d.needed.items ≡ replicate (length (edges plan)) nothing_noted → IsDesk d
+    → d.calm.items ≡ replicate (length (edges plan)) no_word → d.settled ≡ false → d.needed.items ≡ replicate (length (edges plan)) 0 → IsDesk d
 fresh_is_desk d plan j me job is_job counts own seen calm unsettled needed =
     let v : d.seat.me.0 ≡ fresh_view plan j = ap (λ m. m.0) me in
     record {
@@ -104,7 +103,7 @@ fresh_is_desk d plan j me job is_job counts own seen calm unsettled needed =
           (length (edges plan)) d.calm.items calm (ap (λ (z : View). length (edges (hand_in z).plan)) (sym v));
       settled = λ is. absurd (false≢true (sym unsettled ∙ is));
       needed = none_needed (hand_in d.seat.me.0).plan (hand_in d.seat.me.0).job
-          (length (edges plan)) d.needed.items needed (ap (λ (z : View). length (edges (hand_in z).plan)) (sym v));
+          (length (edges plan)) d.phase d.needed.items (ap (λ (x : Seat). x.phase.drinking) own) needed (ap (λ (z : View). length (edges (hand_in z).plan)) (sym v));
       rests = let idle : d.phase.drinking ≡ Tranquil = ap (λ (x : Seat). x.phase.drinking) own in λ e. (let both : Tranquil ≡ Reaching = sym idle ∙ e in cc);
     }
 

@@ -5,6 +5,7 @@ use Rattle.lab_plan.specs.LabPlan.{LabPlan, edges, bottles}
 use Rattle.instrument_log.specs.InstrumentLog.{LogView}
 use Rattle.legal_steps.specs.declared.edge_state.EdgeState.{EdgeState}
 use Rattle.legal_steps.specs.declared.phase.Drinking.TheVariants.{Reaching}
+use Rattle.legal_steps.specs.declared.phase.JobState.{JobState}
 use Rattle.legal_steps.specs.State.{Seat, seat, no_edge}
 use Rattle.edge_word.specs.Words.{IsOfBottles}
 use Rattle.one_history.specs.declared.board.View.{View}
@@ -17,7 +18,6 @@ use Rattle.one_history.specs.Grow.{hand_in, IsMine, mine}
 use Rattle.edge_rule.specs.DeskView.{DeskView}
 use Rattle.edge_rule.specs.CalmEdges.{AreStill}
 use Rattle.edge_rule.specs.NeededBottles.{AreNeeded}
-use Rattle.edge_rule.specs.declared.needed.Needed.{Needed}
 use Rattle.turns.specs.Acts.{IsSettled}
 use Rattle.edge_rule.specs.declared.desk.Desk.TheInside.{Inside}
 
@@ -39,9 +39,9 @@ view_of d = seat_view d.clock d.seat
 abbrev pub kept : {A : Type 0} → Inside A → Seat
 kept d = record { phase = d.phase; fork_marks = d.fork_marks.items; bottle_marks = d.bottle_marks.items }
 
--- what no step but one of a phase changes
-abbrev pub fixed : {A : Type 0} → Inside A → ℕ × Counts × List Needed
-fixed d = (d.job, d.counts, d.needed.items)
+-- what no step but one of the own phase changes
+abbrev pub fixed : {A : Type 0} → Inside A → ℕ × Counts × JobState × List ℕ
+fixed d = (d.job, d.counts, d.phase, d.needed.items)
 
 -- the edges have bottles of their own alone
 abbrev pub AreOfPlan : LabPlan → List EdgeState → Type 0
@@ -66,5 +66,5 @@ pub record IsDesk {A : Type 0} (d : Inside A) : Type 0 where
   pub of_plan : AreOfPlan (hand_in d.seat.me.0).plan d.seen.items
   pub calm : AreStill (hand_in d.seat.me.0).plan (mine d.seat.me.0) (hand_in d.seat.me.0).job d.calm.items
   pub settled : d.settled ≡ true → IsSettled (hand_in d.seat.me.0).plan (mine d.seat.me.0) (hand_in d.seat.me.0).job
-  pub needed : AreNeeded (hand_in d.seat.me.0).plan (hand_in d.seat.me.0).job d.needed.items
+  pub needed : AreNeeded (hand_in d.seat.me.0).plan (hand_in d.seat.me.0).job d.phase d.needed.items
   pub rests : d.phase.drinking ≢ Reaching

@@ -1,6 +1,5 @@
 //! One job's seat at the bench.
 use crate::clock::Clock;
-use crate::needed::Needed;
 use atomic_table::Seat;
 use edge_word::EdgeWord;
 use instrument_log::InstrumentLog;
@@ -11,7 +10,7 @@ use std::alloc::{Allocator, Global};
 use std::marker::Model;
 
 /// One job's seat, with what the job knows: its phase, its marks, the word last seen on each edge, the word at which the edge
-/// was noted as calm, whether no phase act was due, and which of the edge's bottles a session of the job needs.
+/// was noted as calm, whether no phase act was due, and which of the bottles of each own edge the job needs.
 #[derive(Drop)]
 pub struct Desk<A: Allocator = Global> {
     pub(crate) seat: Seat<InstrumentLog<A>, View>,
@@ -22,7 +21,7 @@ pub struct Desk<A: Allocator = Global> {
     pub(crate) seen: Vec<EdgeWord, A>,
     pub(crate) calm: Vec<u64, A>,
     pub(crate) settled: bool,
-    pub(crate) needed: Vec<Needed, A>,
+    pub(crate) needed: Vec<u32, A>,
     pub(crate) clock: Clock,
     pub(crate) counts: Counts,
 }

@@ -11,7 +11,6 @@ use crate::bench::Bench;
 use crate::calm::NO_WORD;
 use crate::clock::Clock;
 use crate::desk::Desk;
-use crate::needed::NOTHING_NOTED;
 use crate::refusals::OpenError;
 use crate::words::{edge_place, word_count};
 use atomic_table::{Seat, Table};
@@ -70,7 +69,7 @@ fn next_desk<A: Allocator + Copy>(
     let bottle_marks = Vec::from_elem(alloc, 0u32, count)?;
     let seen = fresh_edges(alloc, plan)?;
     let calm = Vec::from_elem(alloc, NO_WORD, count)?;
-    let needed = Vec::from_elem(alloc, NOTHING_NOTED, count)?;
+    let needed = Vec::from_elem(alloc, 0u32, count)?;
     let phase = JobState {
         dining: Dining::Thinking,
         drinking: Drinking::Tranquil,

@@ -7,7 +7,7 @@ ghost use Rattle.locality.specs.Patience.{is_waiting};
 ghost use Rattle.session_layer.specs.Turn.{IsVisited, Took};
 
 use crate::acting::act;
-use drinking_layer::{due_moves, note_needed};
+use drinking_layer::due_moves;
 use edge_rule::{Bench, Desk, Stepped, exchange, look};
 use lab_plan::EdgeNo;
 use legal_steps::Drinking;
@@ -44,7 +44,6 @@ pub fn visit<A: Allocator>(bench: &Bench<A>, desk: &mut Desk<A>, edge: EdgeNo) -
     if desk.is_calm(edge) {
         return Visited::Calm;
     }
-    note_needed(bench, desk, edge);
     let moves = due_moves(bench, desk, edge);
     if moves.is_empty() {
         desk.note_calm(edge);

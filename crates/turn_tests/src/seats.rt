@@ -32,7 +32,7 @@ pub(crate) enum Move {
     Want,
     // a look, and one exchange of all that is due by it
     Visit,
-    // whether it is noted as calm, and the bottles that are noted as needed
+    // whether it is noted as calm, and which of its bottles are needed
     Noted,
     Needed,
     // the moves that are due there, of which nothing is done
@@ -125,13 +125,6 @@ fn of_table(what: Option<PhaseEvent>) -> Answer {
     }
 }
 
-fn of_needed(noted: Option<u32>) -> Answer {
-    match noted {
-        Some(bottles) => Answer::Saw(bottles as u64),
-        None => Answer::No,
-    }
-}
-
 fn yes_or_no(yes: bool) -> Answer {
     if yes { Answer::Yes } else { Answer::No }
 }
@@ -170,7 +163,7 @@ fn layer_move<A: Allocator>(
         Move::Want => of_try(want_bottles(bench, desk, edge)),
         Move::Visit => of_visit(visit(bench, desk, edge)),
         Move::Noted => yes_or_no(desk.is_calm(edge)),
-        Move::Needed => of_needed(desk.needed(edge)),
+        Move::Needed => Answer::Saw(u64::from(desk.needed(edge))),
         _ => Answer::NotLegal,
     }
 }

@@ -9,7 +9,7 @@ use Rattle.drinking_layer.proofs.bottles.all_wishes.Goals as goal
 
 pub returns : goal.returns
 returns g c = let a = c.at_edge-at.ensures in let k = a.known in let d : DeskView = c.args.desk.now in let e = c.args.edge in
-    let n = c.needed_bottles-needed.result in let w = c.needed_bottles-needed.ensures in
+    let n = c.needed-needed.result in let w = c.needed-needed.ensures in
     let f = k.edges_fit e c.requires.edge.is_edge in
     let two : c.wishes.result ≡ wishes (phase (known d) d.job) n (turned d.plan e (end_of d.plan d.job e) (edge (known d) e)) 0 =
     c.wishes.ensures ∙ (λ i. wishes (a.phase i) n (a.mine i) 0) in

@@ -23,8 +23,8 @@ returns-clause-due g c =
     (subst (λ (q : Dining × EdgeState). AreForksDue q.0 Higher q.1 c.due_forks-forks.result)
     (λ i. ((a.phase i).dining, a.mine i)) c.due_forks-forks.ensures) in
     let all : WithBottles d.plan (known d) d.job e c.due_forks-forks.result c.with_sets.result =
-    sets_with d e a.known c.requires.edge c.needed_bottles-needed.result c.due_forks-forks.result c.with_sets.result c.needed_bottles-needed.ensures
-    (c.with_sets.ensures ∙ (λ i. with_sets (a.phase i) c.needed_bottles-needed.result (a.mine i) c.due_forks-forks.result)) in
+    sets_with d e a.known c.requires.edge c.needed-needed.result c.due_forks-forks.result c.with_sets.result c.needed-needed.ensures
+    (c.with_sets.ensures ∙ (λ i. with_sets (a.phase i) c.needed-needed.result (a.mine i) c.due_forks-forks.result)) in
     due_all d.plan (known d) d.job e in_edges in_seats c.due_forks-forks.result _ forks all
 
 pub returns-clause-legal : goal.returns-clause-legal

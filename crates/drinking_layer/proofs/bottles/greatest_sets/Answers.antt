@@ -13,7 +13,7 @@ pub returns : goal.returns
 returns g c = let a = c.at_edge-at.ensures in let k = a.known in let d : DeskView = c.args.desk.now in let e = c.args.edge in
     let m : EdgeMoves = c.args.moves in
     let mine : EdgeState = turned d.plan e (end_of d.plan d.job e) (edge (known d) e) in
-    let n = c.needed_bottles-needed.result in let w = c.needed_bottles-needed.ensures in
+    let n = c.needed-needed.result in let w = c.needed-needed.ensures in
     let f = k.edges_fit e c.requires.edge.is_edge in
     let one : c.gifts-given.result ≡ gifts (phase (known d) d.job) n mine m.give_fork =
     c.gifts-given.ensures ∙ (λ i. gifts (a.phase i) n (a.mine i) m.give_fork) in

@@ -9,8 +9,8 @@ pub returns-clause-with : goal.returns-clause-with
 returns-clause-with g c =
     let a = c.at_edge-at.ensures in
     let d : DeskView = c.args.desk.now in
-    sets_with d c.args.edge a.known c.requires.edge c.needed_bottles-needed.result c.args.moves c.with_sets.result c.needed_bottles-needed.ensures
-    (c.with_sets.ensures ∙ (λ i. with_sets (a.phase i) c.needed_bottles-needed.result (a.mine i) c.args.moves))
+    sets_with d c.args.edge a.known c.requires.edge c.needed-needed.result c.args.moves c.with_sets.result c.needed-needed.ensures
+    (c.with_sets.ensures ∙ (λ i. with_sets (a.phase i) c.needed-needed.result (a.mine i) c.args.moves))
 
 pub returns-clause-due : goal.returns-clause-due
 returns-clause-due g c = λ forks. let k = c.at_edge-at.ensures.known in let d : DeskView = c.args.desk.now in

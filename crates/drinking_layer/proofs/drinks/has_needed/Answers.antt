@@ -6,10 +6,10 @@ use Rattle.edge_rule.specs.DeskView.{known}
 use Rattle.legal_steps.proofs.OwnEdges.{own_at, at_own_edges}
 use Rattle.drinking_layer.proofs.drinks.has_needed.Goals as goal
 
-pub has_needed_at-requires-clause-edge : goal.has_needed_at-requires-clause-edge
-has_needed_at-requires-clause-edge g c =
-    (own_at _ _ _ _ _ (c.edges_of-own.ensures ∙ (λ i. edges_of ((c.plan-plan.ensures ∙ sym c.requires.own.1) i) (c.job-job.ensures.job i)))
-    c.loop-edge-test.true c.edge-item.is).is_edge
+pub has_needed_at-requires : goal.has_needed_at-requires
+has_needed_at-requires g c =
+    own_at _ _ _ _ _ (c.edges_of-own.ensures ∙ (λ i. edges_of ((c.plan-plan.ensures ∙ sym c.requires.own.1) i) (c.job-job.ensures.job i)))
+    c.loop-edge-test.true c.edge-item.is
 
 pub returns-then-not-has_needed_at : goal.returns-then-not-has_needed_at
 returns-then-not-has_needed_at g c = (

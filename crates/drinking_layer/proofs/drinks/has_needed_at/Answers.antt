@@ -10,7 +10,7 @@ is_equal : (a b : ℕ) → nat_eq a b ≡ true → a ≡ b
 is_equal a b h = grind (arith, nat_tests)
 
 pub returns : goal.returns
-returns g c = let d : DeskView = c.args.desk.now in let e = c.args.edge in let n = c.needed_bottles-needed.result in let w = c.needed_bottles-needed.ensures in
+returns g c = let d : DeskView = c.args.desk.now in let e = c.args.edge in let n = c.needed-needed.result in let w = c.needed-needed.ensures in
     let m = c.bottle_marks-marks.result in
     let same : m ≡ bottle_marks (known d) d.job e = c.bottle_marks-marks.ensures in
     let s = subset n m in (
