@@ -4,6 +4,7 @@ ghost use Rattle.locality.specs.Lists.{Each};
 ghost use Rattle.edge_rule.specs.DeskView.{Owns};
 
 use crate::benches::{bench_of, is_own, plan_of};
+use crate::words::{edge, phase};
 use desk_calls::{
     ask_bottles, ask_fork, give_bottles, give_fork, may_ask_bottles, may_ask_fork, may_command,
     may_exchange, may_give_bottles, may_give_fork, may_phase, may_soil, soil,
@@ -16,6 +17,7 @@ use edge_rule::{
 use edge_word::{EdgeMoves, PhaseWord};
 use instrument_log::Entry;
 use lab_plan::{EdgeNo, JobNo};
+use legal_steps::{EdgeState, JobState};
 use std::alloc::Allocator;
 use std::process::Abort;
 
@@ -51,8 +53,10 @@ pub(crate) enum Call {
 // What is answered; words as they are packed.
 #[derive(Clone, Copy, PartialEq, Eq, Debug)]
 pub(crate) enum Answer {
-    // an edge as it was seen, or as a move left it; or how far a job is
+    // an edge as it was seen, or as a move left it
     Word(u64),
+    // how far a job is
+    Far(u64),
     // the other word that an exchange found
     Found(u64),
     Is(bool),
@@ -188,7 +192,7 @@ fn stored<T: Allocator>(
 {
     assert!(rt; may_phase(bench, desk, what));
     store_phase(bench, desk, what);
-    Answer::Word(phase_of(rt, desk))
+    Answer::Far(phase_of(rt, desk))
 }
 
 fn commanded<T: Allocator>(rt: &impl Abort, bench: &Bench<T>, desk: &mut Desk<T>) -> Answer
@@ -211,7 +215,7 @@ fn glanced<T: Allocator>(
     let me = desk.job();
     let jobs = bench.plan().jobs();
     assert!(rt; (other.0 as usize) < jobs && other.0 != me.0);
-    Answer::Word(glance(bench, desk, other).pack())
+    Answer::Far(glance(bench, desk, other).pack())
 }
 
 fn noted<T: Allocator>(bench: &Bench<T>, desk: &mut Desk<T>, thirsty_at_start: bool) -> Answer
@@ -256,7 +260,7 @@ pub(crate) fn called<T: Allocator>(
         Call::NoteTurn(thirsty_at_start) => noted(bench, desk, thirsty_at_start),
         Call::Seen(edge) => Answer::Word(seen(rt, bench, desk, edge)),
         Call::Marks(edge) => marks(rt, bench, desk, edge),
-        Call::Phase => Answer::Word(phase_of(rt, desk)),
+        Call::Phase => Answer::Far(phase_of(rt, desk)),
         Call::Retired => Answer::Is(desk.retired()),
         Call::Counts => counted(rt, desk),
     }
@@ -282,6 +286,15 @@ fn answer_of<T: Allocator>(
 // A job, a call on its desk, and what has to be answered.
 pub(crate) type Line = (JobNo, Call, Answer);
 
+// An answer as a failure tells it, with what its word says of an edge, or of how far a job is.
+fn said(answer: Answer) -> (Answer, Option<EdgeState>, Option<JobState>) {
+    match answer {
+        Answer::Word(word) | Answer::Found(word) => (answer, edge(word), None),
+        Answer::Far(word) => (answer, None, phase(word)),
+        _ => (answer, None, None),
+    }
+}
+
 // Does all the calls, and compares each answer.
 pub(crate) fn do_all<T: Allocator>(
     rt: &impl Abort,
@@ -295,7 +308,11 @@ pub(crate) fn do_all<T: Allocator>(
     for number in 0..lines.len() {
         let (job, call, wanted) = lines[number];
         let told = answer_of(rt, bench, desks, job, call);
-        assert!(rt; told == wanted, "call {number}: {told:?}");
+        let (want, came) = (said(wanted), said(told));
+        assert!(rt;
+            told == wanted,
+            "call {number}: {want:?} was wanted, not {came:?}"
+        );
     }
 }
 

@@ -1,6 +1,18 @@
 // Worked runs, whose answers were reckoned by hand: forks, bottles, all moves at once, marks, counts and patience.
 use crate::benches::{A, AB, AC, B, BC, C, IMPATIENT, THREE, TWICE, TWO};
-use crate::calls::{Answer, Call, Line, Move, check};
+use crate::calls::Answer::{Far, Found, Is, Word};
+use crate::calls::Call::{Glance, Look, May, Seen, Store, Try};
+use crate::calls::Move::{AllDue, AskBottles, AskFork, GiveBottles, GiveFork, Soil, These};
+use crate::calls::{Answer, Call, Line, check};
+use crate::words::{
+    CLEAN_B_ASKED_BOTTLE_B, CLEAN_B_ASKED_BOTTLE_B_ASKED, CLEAN_B_BOTTLE_A, CLEAN_B_BOTTLE_A_ASKED,
+    CLEAN_B_BOTTLE_B, CLEAN_B_BOTTLE_B_ASKED, DIRTY_A_ALL_28_B, DIRTY_A_ASKED_BOTTLE_A,
+    DIRTY_A_ASKED_BOTTLE_A_ASKED, DIRTY_A_BOTTLE_A_ASKED, DIRTY_A_BOTTLES_0_AND_2_B,
+    DIRTY_A_THREE_BOTTLES_B, DIRTY_B_ASKED_BOTTLE_A, DIRTY_B_BOTTLE_A, DRINKS, DRINKS_HUNGRY,
+    DRINKS_THREE_DONE, OPEN, OPEN_OF_28, OPEN_OF_THREE, RETIRED, SECOND_THIRST, THIRSTY,
+    THIRSTY_EATING, THIRSTY_HUNGRY, TRANQUIL,
+};
+use edge_rule::PhaseEvent::{Hunger, Quit, Retire, Sit, Thirst, Withdraw};
 use edge_rule::{Counts, PhaseEvent};
 use edge_word::EdgeMoves;
 use instrument_log::Entry;
@@ -33,89 +45,85 @@ const NOTHING_DONE: Counts = Counts {
     withdrawn: 0,
 };
 
-/// What the desks know before anything is done.
+/// What the desks know before anything is done, by the numbers of the words.
 const OPENED: [Line; 9] = [
-    (A, Call::Seen(AB), Answer::Word(4294967302)),
+    (A, Seen(AB), Word(4294967302)),
     (A, Call::Marks(AB), Answer::Marks(false, 0)),
-    (A, Call::Phase, Answer::Word(0)),
-    (A, Call::Retired, Answer::Is(false)),
+    (A, Call::Phase, Far(0)),
+    (A, Call::Retired, Is(false)),
     (A, Call::Counts, Answer::Counted(NOTHING_DONE)),
-    (B, Call::Seen(AB), Answer::Word(4294967302)),
+    (B, Seen(AB), Word(4294967302)),
     (B, Call::Marks(AB), Answer::Marks(false, 0)),
-    (B, Call::Phase, Answer::Word(0)),
-    (B, Call::Look(AB), Answer::Word(4294967302)),
+    (B, Call::Phase, Far(0)),
+    (B, Look(AB), Word(4294967302)),
 ];
 
 /// The fork goes to b, which eats and soils it. Job a asks for it by a word that is out of date, which changes
 /// nothing, and then by the word that is there.
 const FORKS: [Line; 24] = [
-    (A, Call::Store(PhaseEvent::Thirst), Answer::Word(260)),
-    (B, Call::Store(PhaseEvent::Thirst), Answer::Word(260)),
-    (B, Call::Store(PhaseEvent::Hunger), Answer::Word(261)),
-    (B, Call::Look(AB), Answer::Word(4294967302)),
-    (B, Call::Try(Move::AskFork, AB), Answer::Word(4294967298)),
-    (A, Call::Look(AB), Answer::Word(4294967298)),
+    (A, Store(Thirst), Far(THIRSTY)),
+    (B, Store(Thirst), Far(THIRSTY)),
+    (B, Store(Hunger), Far(THIRSTY_HUNGRY)),
+    (B, Look(AB), Word(OPEN)),
+    (B, Try(AskFork, AB), Word(DIRTY_A_ASKED_BOTTLE_A)),
+    (A, Look(AB), Word(DIRTY_A_ASKED_BOTTLE_A)),
     (A, Call::Marks(AB), Answer::Marks(false, 1)),
-    (A, Call::Try(Move::GiveFork, AB), Answer::Word(4294967297)),
-    (B, Call::Look(AB), Answer::Word(4294967297)),
+    (A, Try(GiveFork, AB), Word(CLEAN_B_BOTTLE_A)),
+    (B, Look(AB), Word(CLEAN_B_BOTTLE_A)),
     (B, Call::Marks(AB), Answer::Marks(true, 0)),
-    (B, Call::Store(PhaseEvent::Sit), Answer::Word(262)),
+    (B, Store(Sit), Far(THIRSTY_EATING)),
     (B, Call::Marks(AB), Answer::Marks(false, 0)),
-    (A, Call::Store(PhaseEvent::Hunger), Answer::Word(261)),
-    (A, Call::Look(AB), Answer::Word(4294967297)),
-    (B, Call::Try(Move::Soil, AB), Answer::Word(4294967299)),
+    (A, Store(Hunger), Far(THIRSTY_HUNGRY)),
+    (A, Look(AB), Word(CLEAN_B_BOTTLE_A)),
+    (B, Try(Soil, AB), Word(DIRTY_B_BOTTLE_A)),
     (B, Call::Marks(AB), Answer::Marks(true, 0)),
-    (A, Call::Try(Move::AskFork, AB), Answer::Found(4294967299)),
-    (A, Call::Seen(AB), Answer::Word(4294967297)),
-    (A, Call::Phase, Answer::Word(261)),
-    (A, Call::Look(AB), Answer::Word(4294967299)),
-    (A, Call::Try(Move::AskFork, AB), Answer::Word(4294967303)),
-    (B, Call::Look(AB), Answer::Word(4294967303)),
+    (A, Try(AskFork, AB), Found(DIRTY_B_BOTTLE_A)),
+    (A, Seen(AB), Word(CLEAN_B_BOTTLE_A)),
+    (A, Call::Phase, Far(THIRSTY_HUNGRY)),
+    (A, Look(AB), Word(DIRTY_B_BOTTLE_A)),
+    (A, Try(AskFork, AB), Word(DIRTY_B_ASKED_BOTTLE_A)),
+    (B, Look(AB), Word(DIRTY_B_ASKED_BOTTLE_A)),
     (B, Call::Marks(AB), Answer::Marks(true, 0)),
-    (B, Call::May(Move::GiveFork, AB), Answer::Is(false)),
+    (B, May(GiveFork, AB), Is(false)),
 ];
 
 /// Fork and bottle go to b, which drinks before its meal; a asks for the bottle again.
 const BOTTLES: [Line; 19] = [
-    (A, Call::Store(PhaseEvent::Thirst), Answer::Word(260)),
-    (B, Call::Store(PhaseEvent::Thirst), Answer::Word(260)),
-    (B, Call::Look(AB), Answer::Word(4294967302)),
-    (B, Call::Try(Move::AskBottles(1), AB), Answer::Word(6)),
-    (B, Call::Store(PhaseEvent::Hunger), Answer::Word(261)),
-    (B, Call::Try(Move::AskFork, AB), Answer::Word(2)),
-    (A, Call::Look(AB), Answer::Word(2)),
+    (A, Store(Thirst), Far(THIRSTY)),
+    (B, Store(Thirst), Far(THIRSTY)),
+    (B, Look(AB), Word(OPEN)),
+    (B, Try(AskBottles(1), AB), Word(DIRTY_A_BOTTLE_A_ASKED)),
+    (B, Store(Hunger), Far(THIRSTY_HUNGRY)),
+    (B, Try(AskFork, AB), Word(DIRTY_A_ASKED_BOTTLE_A_ASKED)),
+    (A, Look(AB), Word(DIRTY_A_ASKED_BOTTLE_A_ASKED)),
     // thirsty, and the fork is still here
-    (A, Call::May(Move::GiveBottles(1), AB), Answer::Is(false)),
-    (A, Call::Try(Move::GiveFork, AB), Answer::Word(1)),
-    (A, Call::Try(Move::GiveBottles(1), AB), Answer::Word(17)),
+    (A, May(GiveBottles(1), AB), Is(false)),
+    (A, Try(GiveFork, AB), Word(CLEAN_B_BOTTLE_A_ASKED)),
+    (A, Try(GiveBottles(1), AB), Word(CLEAN_B_BOTTLE_B)),
     (A, Call::Marks(AB), Answer::Marks(false, 0)),
-    (B, Call::Look(AB), Answer::Word(17)),
+    (B, Look(AB), Word(CLEAN_B_BOTTLE_B)),
     (B, Call::Marks(AB), Answer::Marks(true, 1)),
-    (B, Call::Store(PhaseEvent::Drink), Answer::Word(265)),
-    (A, Call::Look(AB), Answer::Word(17)),
-    (
-        A,
-        Call::Try(Move::AskBottles(1), AB),
-        Answer::Word(4294967313),
-    ),
-    (B, Call::Look(AB), Answer::Word(4294967313)),
+    (B, Store(PhaseEvent::Drink), Far(DRINKS_HUNGRY)),
+    (A, Look(AB), Word(CLEAN_B_BOTTLE_B)),
+    (A, Try(AskBottles(1), AB), Word(CLEAN_B_BOTTLE_B_ASKED)),
+    (B, Look(AB), Word(CLEAN_B_BOTTLE_B_ASKED)),
     // it drinks
-    (B, Call::May(Move::GiveBottles(1), AB), Answer::Is(false)),
-    (A, Call::Glance(B), Answer::Word(265)),
+    (B, May(GiveBottles(1), AB), Is(false)),
+    (A, Glance(B), Far(DRINKS_HUNGRY)),
 ];
 
 /// Job b asks for fork and bottle in one exchange; a gives both and asks for them again in one, which a look of b sees.
 const AT_ONCE: [Line; 10] = [
-    (A, Call::Store(PhaseEvent::Thirst), Answer::Word(260)),
-    (A, Call::Store(PhaseEvent::Hunger), Answer::Word(261)),
-    (B, Call::Store(PhaseEvent::Thirst), Answer::Word(260)),
-    (B, Call::Store(PhaseEvent::Hunger), Answer::Word(261)),
-    (B, Call::Look(AB), Answer::Word(4294967302)),
-    (B, Call::Try(Move::AllDue, AB), Answer::Word(2)),
-    (A, Call::Look(AB), Answer::Word(2)),
-    (A, Call::Try(Move::AllDue, AB), Answer::Word(4294967317)),
-    (B, Call::Seen(AB), Answer::Word(2)),
-    (B, Call::Look(AB), Answer::Word(4294967317)),
+    (A, Store(Thirst), Far(THIRSTY)),
+    (A, Store(Hunger), Far(THIRSTY_HUNGRY)),
+    (B, Store(Thirst), Far(THIRSTY)),
+    (B, Store(Hunger), Far(THIRSTY_HUNGRY)),
+    (B, Look(AB), Word(OPEN)),
+    (B, Try(AllDue, AB), Word(DIRTY_A_ASKED_BOTTLE_A_ASKED)),
+    (A, Look(AB), Word(DIRTY_A_ASKED_BOTTLE_A_ASKED)),
+    (A, Try(AllDue, AB), Word(CLEAN_B_ASKED_BOTTLE_B_ASKED)),
+    (B, Seen(AB), Word(DIRTY_A_ASKED_BOTTLE_A_ASKED)),
+    (B, Look(AB), Word(CLEAN_B_ASKED_BOTTLE_B_ASKED)),
 ];
 
 const NO_MOVES: EdgeMoves = EdgeMoves {
@@ -165,44 +173,36 @@ const GIVE_BOTH_AND_SOIL: EdgeMoves = EdgeMoves {
 
 /// Groups of moves: each reason why one can't be done, and two that are.
 const IN_GROUPS: [Line; 17] = [
-    (A, Call::Store(PhaseEvent::Thirst), Answer::Word(260)),
-    (A, Call::Store(PhaseEvent::Hunger), Answer::Word(261)),
+    (A, Store(Thirst), Far(THIRSTY)),
+    (A, Store(Hunger), Far(THIRSTY_HUNGRY)),
     // a tranquil job asks for nothing
-    (B, Call::May(Move::These(ASK_BOTH), AB), Answer::Is(false)),
-    (B, Call::Store(PhaseEvent::Thirst), Answer::Word(260)),
-    (B, Call::Store(PhaseEvent::Hunger), Answer::Word(261)),
-    (B, Call::May(Move::These(ASK_BOTH), AB), Answer::Is(true)),
-    (B, Call::May(Move::These(NO_MOVES), AB), Answer::Is(false)),
+    (B, May(These(ASK_BOTH), AB), Is(false)),
+    (B, Store(Thirst), Far(THIRSTY)),
+    (B, Store(Hunger), Far(THIRSTY_HUNGRY)),
+    (B, May(These(ASK_BOTH), AB), Is(true)),
+    (B, May(These(NO_MOVES), AB), Is(false)),
     // of two jobs there is but one edge
-    (B, Call::May(Move::These(ASK_BOTH), AC), Answer::Is(false)),
+    (B, May(These(ASK_BOTH), AC), Is(false)),
+    (B, May(These(ASK_NO_BOTTLE_OF_THE_EDGE), AB), Is(false)),
     (
         B,
-        Call::May(Move::These(ASK_NO_BOTTLE_OF_THE_EDGE), AB),
-        Answer::Is(false),
+        Try(These(ASK_BOTH), AB),
+        Word(DIRTY_A_ASKED_BOTTLE_A_ASKED),
     ),
-    (B, Call::Try(Move::These(ASK_BOTH), AB), Answer::Word(2)),
-    (A, Call::Look(AB), Answer::Word(2)),
+    (A, Look(AB), Word(DIRTY_A_ASKED_BOTTLE_A_ASKED)),
     // the fork is here
-    (A, Call::May(Move::These(ASK_FORK), AB), Answer::Is(false)),
+    (A, May(These(ASK_FORK), AB), Is(false)),
     // the bottle is kept as long as the fork is here
-    (
-        A,
-        Call::May(Move::These(GIVE_BOTTLE), AB),
-        Answer::Is(false),
-    ),
-    (A, Call::May(Move::These(GIVE_BOTH), AB), Answer::Is(true)),
+    (A, May(These(GIVE_BOTTLE), AB), Is(false)),
+    (A, May(These(GIVE_BOTH), AB), Is(true)),
     // it doesn't eat
+    (A, May(These(GIVE_BOTH_AND_SOIL), AB), Is(false)),
     (
         A,
-        Call::May(Move::These(GIVE_BOTH_AND_SOIL), AB),
-        Answer::Is(false),
+        Try(These(GIVE_BOTH_AND_ASK), AB),
+        Word(CLEAN_B_ASKED_BOTTLE_B),
     ),
-    (
-        A,
-        Call::Try(Move::These(GIVE_BOTH_AND_ASK), AB),
-        Answer::Word(21),
-    ),
-    (B, Call::Look(AB), Answer::Word(21)),
+    (B, Look(AB), Word(CLEAN_B_ASKED_BOTTLE_B)),
 ];
 
 /// All three bottles of an edge.
@@ -213,22 +213,22 @@ const ASK_THREE: EdgeMoves = EdgeMoves {
 
 /// The same moves on an edge of the job, and on one of the others.
 const OF_OTHERS: [Line; 3] = [
-    (C, Call::Store(PhaseEvent::Thirst), Answer::Word(260)),
-    (C, Call::May(Move::These(ASK_THREE), BC), Answer::Is(true)),
-    (C, Call::May(Move::These(ASK_THREE), AB), Answer::Is(false)),
+    (C, Store(Thirst), Far(THIRSTY)),
+    (C, May(These(ASK_THREE), BC), Is(true)),
+    (C, May(These(ASK_THREE), AB), Is(false)),
 ];
 
 /// Job b gives its session up. Its desk counts the turns in which the session waited, and no other.
 const GIVEN_UP: [Line; 9] = [
     (B, Call::NoteTurn(true), Answer::Turns(1, 0)),
-    (B, Call::Store(PhaseEvent::Thirst), Answer::Word(260)),
+    (B, Store(Thirst), Far(THIRSTY)),
     (B, Call::NoteTurn(false), Answer::Turns(2, 0)),
     (B, Call::NoteTurn(true), Answer::Turns(3, 1)),
     (B, Call::NoteTurn(true), Answer::Turns(4, 2)),
-    (B, Call::Store(PhaseEvent::Withdraw), Answer::Word(256)),
+    (B, Store(Withdraw), Far(TRANQUIL)),
     (B, Call::Counts, Answer::Counted(ONE_GIVEN_UP)),
-    (B, Call::Store(PhaseEvent::Retire), Answer::Word(272)),
-    (B, Call::Retired, Answer::Is(true)),
+    (B, Store(Retire), Far(RETIRED)),
+    (B, Call::Retired, Is(true)),
 ];
 
 const ONE_GIVEN_UP: Counts = Counts {
@@ -239,13 +239,13 @@ const ONE_GIVEN_UP: Counts = Counts {
 
 /// Two sessions of a without a meal. The count of turns that the first one waited is gone in the second.
 const TWO_SESSIONS: [Line; 9] = [
-    (A, Call::Store(PhaseEvent::Thirst), Answer::Word(260)),
+    (A, Store(Thirst), Far(THIRSTY)),
     (A, Call::NoteTurn(true), Answer::Turns(1, 1)),
-    (A, Call::Look(AB), Answer::Word(4294967302)),
-    (A, Call::Store(PhaseEvent::Drink), Answer::Word(264)),
+    (A, Look(AB), Word(OPEN)),
+    (A, Store(PhaseEvent::Drink), Far(DRINKS)),
     (A, Call::Command, Answer::Added(OF_A)),
-    (A, Call::Store(PhaseEvent::Quit), Answer::Word(256)),
-    (A, Call::Store(PhaseEvent::Thirst), Answer::Word(516)),
+    (A, Store(Quit), Far(TRANQUIL)),
+    (A, Store(Thirst), Far(SECOND_THIRST)),
     (A, Call::NoteTurn(false), Answer::Turns(2, 0)),
     (A, Call::Counts, Answer::Counted(ONE_SESSION)),
 ];
@@ -258,25 +258,25 @@ const ONE_SESSION: Counts = Counts {
 
 /// Of three jobs c gets three bottles from each of the others, and adds 1 on each instrument.
 const RING: [Line; 19] = [
-    (C, Call::Store(PhaseEvent::Thirst), Answer::Word(260)),
-    (C, Call::Look(AC), Answer::Word(30064771078)),
-    (C, Call::Try(Move::AskBottles(7), AC), Answer::Word(6)),
-    (C, Call::Look(BC), Answer::Word(30064771078)),
-    (C, Call::Try(Move::AllDue, BC), Answer::Word(6)),
-    (A, Call::Look(AC), Answer::Word(6)),
-    (A, Call::Try(Move::GiveBottles(5), AC), Answer::Word(86)),
-    (A, Call::Try(Move::GiveBottles(2), AC), Answer::Word(118)),
-    (B, Call::Look(BC), Answer::Word(6)),
-    (B, Call::Try(Move::AllDue, BC), Answer::Word(118)),
-    (C, Call::Look(AC), Answer::Word(118)),
-    (C, Call::Look(BC), Answer::Word(118)),
+    (C, Store(Thirst), Far(THIRSTY)),
+    (C, Look(AC), Word(OPEN_OF_THREE)),
+    (C, Try(AskBottles(7), AC), Word(DIRTY_A_BOTTLE_A_ASKED)),
+    (C, Look(BC), Word(OPEN_OF_THREE)),
+    (C, Try(AllDue, BC), Word(DIRTY_A_BOTTLE_A_ASKED)),
+    (A, Look(AC), Word(DIRTY_A_BOTTLE_A_ASKED)),
+    (A, Try(GiveBottles(5), AC), Word(DIRTY_A_BOTTLES_0_AND_2_B)),
+    (A, Try(GiveBottles(2), AC), Word(DIRTY_A_THREE_BOTTLES_B)),
+    (B, Look(BC), Word(DIRTY_A_BOTTLE_A_ASKED)),
+    (B, Try(AllDue, BC), Word(DIRTY_A_THREE_BOTTLES_B)),
+    (C, Look(AC), Word(DIRTY_A_THREE_BOTTLES_B)),
+    (C, Look(BC), Word(DIRTY_A_THREE_BOTTLES_B)),
     (C, Call::Marks(BC), Answer::Marks(false, 7)),
-    (C, Call::Store(PhaseEvent::Drink), Answer::Word(264)),
+    (C, Store(PhaseEvent::Drink), Far(DRINKS)),
     (C, Call::Command, Answer::Added(OF_C)),
     (C, Call::Command, Answer::Added(OF_C)),
     (C, Call::Command, Answer::Added(OF_C)),
-    (B, Call::Glance(C), Answer::Word(12884902152)),
-    (A, Call::Glance(C), Answer::Word(12884902152)),
+    (B, Glance(C), Far(DRINKS_THREE_DONE)),
+    (A, Glance(C), Far(DRINKS_THREE_DONE)),
 ];
 
 #[test]
@@ -294,21 +294,17 @@ fn worked_runs(rt: HostRuntime) {
 
 /// All bottles of an edge with 28 go to b.
 const MANY: [Line; 7] = [
-    (B, Call::Store(PhaseEvent::Thirst), Answer::Word(260)),
-    (B, Call::Look(AB), Answer::Word(1152921500311879686)),
+    (B, Store(Thirst), Far(THIRSTY)),
+    (B, Look(AB), Word(OPEN_OF_28)),
     (
         B,
-        Call::Try(Move::AskBottles(0x0fff_ffff), AB),
-        Answer::Word(6),
+        Try(AskBottles(0x0fff_ffff), AB),
+        Word(DIRTY_A_BOTTLE_A_ASKED),
     ),
-    (A, Call::Look(AB), Answer::Word(6)),
-    (
-        A,
-        Call::Try(Move::GiveBottles(0x0fff_ffff), AB),
-        Answer::Word(4294967286),
-    ),
-    (B, Call::Look(AB), Answer::Word(4294967286)),
-    (B, Call::Store(PhaseEvent::Drink), Answer::Word(264)),
+    (A, Look(AB), Word(DIRTY_A_BOTTLE_A_ASKED)),
+    (A, Try(GiveBottles(0x0fff_ffff), AB), Word(DIRTY_A_ALL_28_B)),
+    (B, Look(AB), Word(DIRTY_A_ALL_28_B)),
+    (B, Store(PhaseEvent::Drink), Far(DRINKS)),
 ];
 
 /// Two jobs that read the same 28 instruments.

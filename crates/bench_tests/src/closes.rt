@@ -4,7 +4,15 @@ ghost use Rattle.locality.specs.Lists.{Each};
 ghost use Rattle.edge_rule.specs.DeskView.{Owns};
 
 use crate::benches::{A, AB, AC, B, BC, C, NOBODY, THREE, TWO, bench_of, both, plan_of};
-use crate::calls::{Answer, Call, Line, Move, do_all};
+use crate::calls::Answer::{Added, Far, Word};
+use crate::calls::Call::{Look, Store, Try};
+use crate::calls::Move::AllDue;
+use crate::calls::{Call, Line, do_all};
+use crate::words::{
+    DIRTY_A_BOTTLE_A_ASKED, DIRTY_A_BOTTLE_B, DIRTY_B_BOTTLE_B, DRINKS, DRINKS_ONE_DONE, OPEN,
+    OPEN_OF_THREE, RETIRED, THIRSTY, TRANQUIL, edge, phase,
+};
+use edge_rule::PhaseEvent::{Quit, Retire, Thirst};
 use edge_rule::{Bench, CloseCause, Closed, Counts, Desk, PhaseEvent};
 use instrument_log::{Entry, InstrumentLog};
 use lab_plan::{EdgeNo, InstrumentNo, JobNo, Plan, Verb};
@@ -71,15 +79,23 @@ pub(crate) fn check_left<T: Allocator>(rt: &impl Abort, closed: &Closed<T>, want
     assert!(rt; plan.edges() as usize == wanted.edges.len());
     assert!(rt; plan.jobs() == wanted.jobs.len());
     for number in 0..wanted.edges.len() {
+        let (left, word) = (edge_of(rt, closed, number), wanted.edges[number]);
+        let (came, want) = (edge(left), edge(word));
         assert!(rt;
-            edge_of(rt, closed, number) == wanted.edges[number],
-            "edge {number}"
+            left == word,
+            "edge {number}: {want:?} was wanted, not {came:?}"
         );
     }
     for number in 0..wanted.jobs.len() {
+        let (left, job) = (job_of(rt, closed, number), wanted.jobs[number]);
+        let (came, want) = (phase(left.0), phase(job.0));
         assert!(rt;
-            job_of(rt, closed, number) == wanted.jobs[number],
-            "job {number}"
+            left.0 == job.0,
+            "job {number}: {want:?} was wanted, not {came:?}"
+        );
+        assert!(rt;
+            left == job,
+            "job {number}: {job:?} was wanted, not {left:?}"
         );
     }
     if !wanted.jobs.is_empty() {
@@ -142,7 +158,7 @@ const ONE_SESSION: Counts = Counts {
 
 /// A bench for two jobs on which nothing was done.
 const UNTOUCHED: Left = Left {
-    edges: &[4294967302],
+    edges: &[OPEN],
     jobs: &[(0, NOTHING_DONE, false), (0, NOTHING_DONE, false)],
     entries: &[],
 };
@@ -167,43 +183,43 @@ const OF_B: Entry = Entry {
 
 /// Job a has its session and retires, and gives its bottle to b, which does the same. Nobody eats.
 pub(crate) const BOTH_DRINK: [Line; 16] = [
-    (A, Call::Store(PhaseEvent::Thirst), Answer::Word(260)),
-    (A, Call::Look(AB), Answer::Word(4294967302)),
-    (A, Call::Store(PhaseEvent::Drink), Answer::Word(264)),
-    (A, Call::Command, Answer::Added(OF_A)),
-    (A, Call::Phase, Answer::Word(4294967560)),
-    (A, Call::Store(PhaseEvent::Quit), Answer::Word(256)),
-    (A, Call::Store(PhaseEvent::Retire), Answer::Word(272)),
-    (B, Call::Store(PhaseEvent::Thirst), Answer::Word(260)),
-    (B, Call::Try(Move::AllDue, AB), Answer::Word(6)),
-    (A, Call::Look(AB), Answer::Word(6)),
-    (A, Call::Try(Move::AllDue, AB), Answer::Word(22)),
-    (B, Call::Look(AB), Answer::Word(22)),
-    (B, Call::Store(PhaseEvent::Drink), Answer::Word(264)),
-    (B, Call::Command, Answer::Added(OF_B)),
-    (B, Call::Store(PhaseEvent::Quit), Answer::Word(256)),
-    (B, Call::Store(PhaseEvent::Retire), Answer::Word(272)),
+    (A, Store(Thirst), Far(THIRSTY)),
+    (A, Look(AB), Word(OPEN)),
+    (A, Store(PhaseEvent::Drink), Far(DRINKS)),
+    (A, Call::Command, Added(OF_A)),
+    (A, Call::Phase, Far(DRINKS_ONE_DONE)),
+    (A, Store(Quit), Far(TRANQUIL)),
+    (A, Store(Retire), Far(RETIRED)),
+    (B, Store(Thirst), Far(THIRSTY)),
+    (B, Try(AllDue, AB), Word(DIRTY_A_BOTTLE_A_ASKED)),
+    (A, Look(AB), Word(DIRTY_A_BOTTLE_A_ASKED)),
+    (A, Try(AllDue, AB), Word(DIRTY_A_BOTTLE_B)),
+    (B, Look(AB), Word(DIRTY_A_BOTTLE_B)),
+    (B, Store(PhaseEvent::Drink), Far(DRINKS)),
+    (B, Call::Command, Added(OF_B)),
+    (B, Store(Quit), Far(TRANQUIL)),
+    (B, Store(Retire), Far(RETIRED)),
 ];
 
 pub(crate) const BOTH_DRANK: Left = Left {
-    edges: &[22],
-    jobs: &[(272, ONE_SESSION, true), (272, ONE_SESSION, true)],
+    edges: &[DIRTY_A_BOTTLE_B],
+    jobs: &[(RETIRED, ONE_SESSION, true), (RETIRED, ONE_SESSION, true)],
     entries: &[(0, 1), (1, 2)],
 };
 
 /// Of three jobs the last has begun its session, and asked for the bottles of one edge.
 const ONE_THIRSTY: [Line; 3] = [
-    (C, Call::Store(PhaseEvent::Thirst), Answer::Word(260)),
-    (C, Call::Look(BC), Answer::Word(30064771078)),
-    (C, Call::Try(Move::AllDue, BC), Answer::Word(6)),
+    (C, Store(Thirst), Far(THIRSTY)),
+    (C, Look(BC), Word(OPEN_OF_THREE)),
+    (C, Try(AllDue, BC), Word(DIRTY_A_BOTTLE_A_ASKED)),
 ];
 
-const THIRSTY: Left = Left {
-    edges: &[30064771078, 30064771078, 6],
+const ONE_BEGAN: Left = Left {
+    edges: &[OPEN_OF_THREE, OPEN_OF_THREE, DIRTY_A_BOTTLE_A_ASKED],
     jobs: &[
         (0, NOTHING_DONE, false),
         (0, NOTHING_DONE, false),
-        (260, NOTHING_DONE, false),
+        (THIRSTY, NOTHING_DONE, false),
     ],
     entries: &[],
 };
@@ -219,7 +235,7 @@ fn closed_benches(rt: HostRuntime) {
     let alloc = rt.alloc();
     assert!(rt; closes(&rt, alloc, alloc, TWO, &[], &UNTOUCHED));
     assert!(rt; closes(&rt, alloc, alloc, TWO, &BOTH_DRINK, &BOTH_DRANK));
-    assert!(rt; closes(&rt, alloc, alloc, THREE, &ONE_THIRSTY, &THIRSTY));
+    assert!(rt; closes(&rt, alloc, alloc, THREE, &ONE_THIRSTY, &ONE_BEGAN));
     assert!(rt; closes(&rt, alloc, alloc, NOBODY, &[], &NOTHING));
 }
 
@@ -311,8 +327,8 @@ fn closes_in_order<T: Allocator + Copy>(
 
 /// Job a drank first; then b had its meal, with the fork dirty and the bottle at its end, and both retired.
 const AFTER_TURNS: Left = Left {
-    edges: &[19],
-    jobs: &[(272, ONE_SESSION, true), (272, ONE_MEAL, true)],
+    edges: &[DIRTY_B_BOTTLE_B],
+    jobs: &[(RETIRED, ONE_SESSION, true), (RETIRED, ONE_MEAL, true)],
     entries: &[(0, 1), (1, 2)],
 };
 

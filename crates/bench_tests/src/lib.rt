@@ -15,3 +15,5 @@ mod laws;
 mod memory;
 #[cfg(test)]
 mod pairs;
+#[cfg(test)]
+mod words;

@@ -2,15 +2,14 @@
 use crate::benches::{THREE, TWO, plan_of};
 use crate::closes::{BOTH_DRANK, BOTH_DRINK, closes};
 use edge_rule::{Bench, OpenError};
-use linked_list_allocator::LocalHeap;
-use std::alloc::Allocator;
+use lab_plan::Plan;
+use refusing_heap::RefusingHeap;
+use std::alloc::{Allocator, Global};
 use std::process::Abort;
-use std::test::Fail;
 
 /// Whether there is memory for the bench; if so, each job has its desk.
-fn opens<T: Allocator + Copy>(rt: &impl Abort, alloc: T, small: T) -> bool {
-    let plan = plan_of(rt, alloc, THREE);
-    match Bench::open(small, &plan) {
+fn opens<T: Allocator + Copy>(rt: &impl Abort, small: T, plan: &Plan<T>) -> bool {
+    match Bench::open(small, plan) {
         Ok((bench, desks)) => {
             assert!(rt; bench.plan().jobs() == 3 && bench.has_all(desks.as_slice()));
             assert!(rt; !bench.has_all(&desks[..2]));
@@ -20,36 +19,39 @@ fn opens<T: Allocator + Copy>(rt: &impl Abort, alloc: T, small: T) -> bool {
     }
 }
 
-#[test]
-fn growths_of_an_opening(rt: HostRuntime) -> Result<(), Fail> {
-    let ample = LocalHeap::new(rt.alloc(), 65536)?;
-    let (mut refused, mut opened) = (0u32, 0u32);
-    for budget in 0..256usize {
-        let heap = LocalHeap::new(rt.alloc(), 16 * budget)?;
-        if opens(&rt, &ample, &heap) {
-            opened = opened.saturating_add(1);
-        } else {
-            assert!(rt; opened == 0, "budget {budget}");
-            refused = refused.saturating_add(1);
-        }
-    }
-    assert!(rt; refused > 10 && opened > 1);
-    Ok(())
+/// Whether a bench is opened on a heap that refuses this growth, and how many growths it asked for.
+fn opens_without(rt: &impl Abort, alloc: Global, refused: u64) -> (bool, u64) {
+    let ample = RefusingHeap::new(alloc, 0);
+    let heap = RefusingHeap::new(alloc, refused);
+    let plan = plan_of(rt, &ample, THREE);
+    (opens(rt, &heap, &plan), heap.growths())
 }
 
-/// A second close, with memory, leaves what the first would have left.
 #[test]
-fn growths_of_a_close(rt: HostRuntime) -> Result<(), Fail> {
-    let ample = LocalHeap::new(rt.alloc(), 65536)?;
-    let (mut refused, mut closed) = (false, false);
-    for budget in 0..16usize {
-        let heap = LocalHeap::new(rt.alloc(), 16 * budget)?;
-        if closes(&rt, &ample, &heap, TWO, &BOTH_DRINK, &BOTH_DRANK) {
-            closed = true;
-        } else {
-            refused = true;
-        }
+fn growths_of_an_opening(rt: HostRuntime) {
+    let (is_open, all) = opens_without(&rt, rt.alloc(), 0);
+    assert!(rt; is_open && all > 0);
+    for number in 0..all {
+        let (is_open, _) = opens_without(&rt, rt.alloc(), number + 1);
+        assert!(rt; !is_open, "growth {number}");
     }
-    assert!(rt; refused && closed);
-    Ok(())
+}
+
+/// Whether a bench is closed on a heap that refuses this growth, and how many growths it asked for. A second close, with memory, leaves
+/// what the first would have left.
+fn closes_without(rt: &impl Abort, alloc: Global, refused: u64) -> (bool, u64) {
+    let ample = RefusingHeap::new(alloc, 0);
+    let heap = RefusingHeap::new(alloc, refused);
+    let is_closed = closes(rt, &ample, &heap, TWO, &BOTH_DRINK, &BOTH_DRANK);
+    (is_closed, heap.growths())
+}
+
+#[test]
+fn growths_of_a_close(rt: HostRuntime) {
+    let (is_closed, all) = closes_without(&rt, rt.alloc(), 0);
+    assert!(rt; is_closed && all > 0);
+    for number in 0..all {
+        let (is_closed, _) = closes_without(&rt, rt.alloc(), number + 1);
+        assert!(rt; !is_closed, "growth {number}");
+    }
 }

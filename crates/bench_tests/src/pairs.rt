@@ -3,8 +3,13 @@ ghost use Rattle.locality.specs.Lists.{Each};
 ghost use Rattle.edge_rule.specs.DeskView.{Owns};
 
 use crate::benches::{A, AB, AC, B, BC, C, THREE, TWO, bench_of, both, is_own, plan_of};
-use crate::calls::{Answer, Call, Line, Move, called, do_all};
-use edge_rule::{Bench, Desk, PhaseEvent, heed, look, meet, meet_all, tell};
+use crate::calls::Answer::{Far, Word};
+use crate::calls::Call::{Glance, Look, Seen, Store, Try};
+use crate::calls::Move::AllDue;
+use crate::calls::{Answer, Call, Line, called, do_all};
+use crate::words::{DIRTY_A_BOTTLE_A_ASKED, OPEN, OPEN_OF_THREE, THIRSTY};
+use edge_rule::PhaseEvent::Thirst;
+use edge_rule::{Bench, Desk, heed, look, meet, meet_all, tell};
 use lab_plan::EdgeNo;
 use legal_steps::{EdgeState, End};
 use std::alloc::Allocator;
@@ -92,14 +97,14 @@ fn does<T: Allocator>(
 fn both_meet<T: Allocator>(rt: &impl Abort, bench: &Bench<T>, a: &mut Desk<T>, b: &mut Desk<T>)
     requires own { Owns bench.now a.old × Owns bench.now b.old }
 {
-    let thirst = Call::Store(PhaseEvent::Thirst);
-    does(rt, bench, b, thirst, Answer::Word(260));
-    assert!(rt; met(rt, bench, a, b) == 260);
+    let thirst = Store(Thirst);
+    does(rt, bench, b, thirst, Far(THIRSTY));
+    assert!(rt; met(rt, bench, a, b) == THIRSTY);
     assert!(rt; met(rt, bench, b, a) == 0);
-    does(rt, bench, b, Call::Try(Move::AllDue, AB), Answer::Word(6));
+    does(rt, bench, b, Try(AllDue, AB), Word(DIRTY_A_BOTTLE_A_ASKED));
     heard(bench, a, b);
-    does(rt, bench, a, Call::Seen(AB), Answer::Word(4294967302));
-    does(rt, bench, a, Call::Look(AB), Answer::Word(6));
+    does(rt, bench, a, Seen(AB), Word(OPEN));
+    does(rt, bench, a, Look(AB), Word(DIRTY_A_BOTTLE_A_ASKED));
 }
 
 fn two_desks<R: Threads + Sync + Abort, T: Allocator + Copy + Send + Sync>(rt: &R, alloc: T) {
@@ -118,20 +123,20 @@ fn two_desks_meet(rt: HostRuntime) {
 
 /// Before all meet.
 const BEFORE: [Line; 3] = [
-    (C, Call::Store(PhaseEvent::Thirst), Answer::Word(260)),
-    (C, Call::Look(BC), Answer::Word(30064771078)),
-    (C, Call::Try(Move::AllDue, BC), Answer::Word(6)),
+    (C, Store(Thirst), Far(THIRSTY)),
+    (C, Look(BC), Word(OPEN_OF_THREE)),
+    (C, Try(AllDue, BC), Word(DIRTY_A_BOTTLE_A_ASKED)),
 ];
 
 /// The first desk has heard of the others: no look was done, and no phase is another.
 const AFTER: [Line; 7] = [
-    (A, Call::Seen(AC), Answer::Word(30064771078)),
-    (A, Call::Phase, Answer::Word(0)),
-    (A, Call::Glance(C), Answer::Word(260)),
-    (B, Call::Seen(BC), Answer::Word(30064771078)),
-    (B, Call::Look(BC), Answer::Word(6)),
-    (C, Call::Seen(BC), Answer::Word(6)),
-    (C, Call::Phase, Answer::Word(260)),
+    (A, Seen(AC), Word(OPEN_OF_THREE)),
+    (A, Call::Phase, Far(0)),
+    (A, Glance(C), Far(THIRSTY)),
+    (B, Seen(BC), Word(OPEN_OF_THREE)),
+    (B, Look(BC), Word(DIRTY_A_BOTTLE_A_ASKED)),
+    (C, Seen(BC), Word(DIRTY_A_BOTTLE_A_ASKED)),
+    (C, Call::Phase, Far(THIRSTY)),
 ];
 
 fn all_meet<T: Allocator>(rt: &impl Abort, bench: &Bench<T>, desks: &mut [Desk<T>])

@@ -135,6 +135,35 @@ fn told<R: Threads + Abort + Sync>(rt: &R, alloc: Global, task: Task, text: &[u8
     told_at(rt, alloc, task, text, AMPLE, AMPLE)
 }
 
+/// What was told is this; a failure says what was wanted beside what came.
+fn is_told(
+    rt: &impl Abort,
+    bytes: &[u8],
+    answer: Result<Outcome, RunFault>,
+    ends: Result<Outcome, RunFault>,
+    text: &str,
+) {
+    assert!(rt; answer == ends, "{ends:?} was wanted, not {answer:?}");
+    let written = str::from_utf8(bytes).unwrap_or("no text");
+    assert!(rt;
+        bytes == text.as_bytes(),
+        "wanted:\n{text}\ncame:\n{written}"
+    );
+}
+
+/// A run over this input ends so, and writes this text.
+fn tells<R: Threads + Abort + Sync>(
+    rt: &R,
+    alloc: Global,
+    task: Task,
+    input: &str,
+    ends: Result<Outcome, RunFault>,
+    text: &str,
+) {
+    let (bytes, answer) = told(rt, alloc, task, input.as_bytes());
+    is_told(rt, bytes.as_slice(), answer, ends, text);
+}
+
 /// The same, where the writer takes at most so many bytes a call and no more calls than these.
 fn told_by<R: Threads + Abort + Sync>(
     rt: &R,

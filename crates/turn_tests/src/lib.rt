@@ -16,4 +16,8 @@ mod tables;
 #[cfg(test)]
 mod teams;
 #[cfg(test)]
+mod turns;
+#[cfg(test)]
 mod visits;
+#[cfg(test)]
+mod words;

@@ -12,8 +12,8 @@ use desk_calls::{
 use dining_layer::{Tried, ask, dine, fork_moves, give, soil, table};
 use drinking_layer::{drink, due_moves, serve_bottles, want_bottles};
 use edge_rule::{Bench, Desk, PhaseEvent, Stepped, command, glance, look, store_phase};
-use edge_word::EdgeMoves;
-use lab_plan::{EdgeNo, JobNo};
+use edge_word::{EdgeMoves, PhaseWord};
+use lab_plan::{EdgeNo, JobNo, Plan};
 use legal_steps::{Dining, Drinking};
 use session_layer::{Due, Turned, Visited, act, all_retired, phase_due, turn, visit};
 use std::alloc::Allocator;
@@ -67,12 +67,14 @@ pub(crate) enum Call {
 }
 
 /// What a call answers.
-#[derive(Clone, Copy, PartialEq, Eq)]
+#[derive(Clone, Copy, PartialEq, Eq, Debug)]
 pub(crate) enum Answer {
     Done,
     Found(u64),
     NotLegal,
     Saw(u64),
+    // how far another job is
+    Far(Phase),
     Moves(EdgeMoves),
     Calm,
     Lost,
@@ -125,21 +127,38 @@ fn of_table(what: Option<PhaseEvent>) -> Answer {
     }
 }
 
+fn of_glance(word: PhaseWord) -> Answer {
+    Answer::Far((
+        word.dining(),
+        word.drinking(),
+        word.session(),
+        word.position(),
+    ))
+}
+
 fn yes_or_no(yes: bool) -> Answer {
     if yes { Answer::Yes } else { Answer::No }
 }
 
 // Whether the edge is one of the job's.
-fn is_own<A: Allocator>(bench: &Bench<A>, desk: &Desk<A>, edge: EdgeNo) -> bool
-    requires { Owns bench.now desk.now }
-    ensures { IsTrue result → IsOwn desk.now.plan desk.now.job edge }
+fn has_end<A: Allocator>(plan: &Plan<A>, job: JobNo, edge: EdgeNo) -> bool
+    ensures { IsTrue result → IsOwn plan.now job edge }
 {
-    let plan = bench.plan();
     if edge.0 >= plan.edges() {
         return false;
     }
     let (lower, higher) = plan.ends(edge);
-    lower == desk.job() || higher == desk.job()
+    lower == job || higher == job
+}
+
+// Whether the edge is one of the desk's job.
+fn is_own<A: Allocator>(bench: &Bench<A>, desk: &Desk<A>, edge: EdgeNo) -> bool
+    requires { Owns bench.now desk.now }
+    ensures { IsTrue result → IsOwn desk.now.plan desk.now.job edge }
+{
+    let job = desk.job();
+    let plan = bench.plan();
+    has_end(plan, job, edge)
 }
 
 // A move of a layer.
@@ -270,13 +289,17 @@ fn legal<A: Allocator>(rt: &impl Abort, bench: &Bench<A>, desk: &Desk<A>, edge: 
     requires edge { IsOwn desk.now.plan desk.now.job edge }
 {
     let acts = legal_acts(bench, desk);
-    for (what, bit) in PHASES {
-        assert!(rt; may_phase(bench, desk, what) == (acts & bit != 0));
+    for phase in &PHASES {
+        let (what, bit) = *phase;
+        assert!(rt;
+            may_phase(bench, desk, what) == (acts & bit != 0),
+            "{what:?}"
+        );
     }
     Answer::Legal(acts | legal_moves(bench, desk, edge))
 }
 
-// A named move, which has to be legal.
+// A named move of the fork, which has to be legal.
 fn named_move<A: Allocator>(
     rt: &impl Abort,
     bench: &Bench<A>,
@@ -301,6 +324,23 @@ fn named_move<A: Allocator>(
             assert!(rt; may_soil(bench, desk, edge));
             of_exchange(desk_calls::soil(bench, desk, edge))
         }
+        _ => panic!(rt; "no named move"),
+    }
+}
+
+// The same of bottles.
+fn named_bottles<A: Allocator>(
+    rt: &impl Abort,
+    bench: &Bench<A>,
+    desk: &mut Desk<A>,
+    edge: EdgeNo,
+    what: Move,
+) -> Answer
+    requires own { Owns bench.now desk.old }
+    requires edge { IsOwn desk.old.plan desk.old.job edge }
+    ensures { Owns bench.now desk.new }
+{
+    match what {
         Move::GiveBottles(set) => {
             assert!(rt; may_give_bottles(bench, desk, edge, set));
             of_exchange(give_bottles(bench, desk, edge, set))
@@ -329,16 +369,57 @@ fn on_edge<A: Allocator>(
         Move::Forks => due(bench, desk, edge, false),
         Move::Due => due(bench, desk, edge, true),
         Move::Legal => legal(rt, bench, desk, edge),
-        Move::GiveFork
-        | Move::AskFork
-        | Move::SoilFork
-        | Move::GiveBottles(_)
-        | Move::AskBottles(_) => named_move(rt, bench, desk, edge, what),
+        Move::GiveFork | Move::AskFork | Move::SoilFork => named_move(rt, bench, desk, edge, what),
+        Move::GiveBottles(_) | Move::AskBottles(_) => named_bottles(rt, bench, desk, edge, what),
         _ => layer_move(bench, desk, edge, what),
     }
 }
 
-// A call on no edge.
+fn taken<A: Allocator>(bench: &Bench<A>, desk: &mut Desk<A>) -> Answer
+    requires { Owns bench.now desk.old }
+    ensures { Owns bench.now desk.new }
+{
+    of_turn(turn(bench, desk))
+}
+
+fn stored<A: Allocator>(
+    rt: &impl Abort,
+    bench: &Bench<A>,
+    desk: &mut Desk<A>,
+    what: PhaseEvent,
+) -> Answer
+    requires { Owns bench.now desk.old }
+    ensures { Owns bench.now desk.new }
+{
+    assert!(rt; may_phase(bench, desk, what));
+    store_phase(bench, desk, what);
+    Answer::Done
+}
+
+fn commanded<A: Allocator>(rt: &impl Abort, bench: &Bench<A>, desk: &mut Desk<A>) -> Answer
+    requires { Owns bench.now desk.old }
+    ensures { Owns bench.now desk.new }
+{
+    assert!(rt; may_command(bench, desk));
+    Answer::Value(command(bench, desk).value)
+}
+
+fn glanced<A: Allocator>(
+    rt: &impl Abort,
+    bench: &Bench<A>,
+    desk: &mut Desk<A>,
+    other: JobNo,
+) -> Answer
+    requires { Owns bench.now desk.old }
+    ensures { Owns bench.now desk.new }
+{
+    let me = desk.job();
+    let jobs = bench.plan().jobs();
+    assert!(rt; (other.0 as usize) < jobs && other.0 != me.0);
+    of_glance(glance(bench, desk, other))
+}
+
+// A call of a job.
 fn by_job<A: Allocator>(rt: &impl Abort, bench: &Bench<A>, desk: &mut Desk<A>, call: Call) -> Answer
     requires { Owns bench.now desk.old }
     ensures { Owns bench.now desk.new }
@@ -347,24 +428,13 @@ fn by_job<A: Allocator>(rt: &impl Abort, bench: &Bench<A>, desk: &mut Desk<A>, c
         Call::Act(waited) => Answer::Acted(act(bench, desk, waited)),
         Call::ActDue(waited) => Answer::Does(phase_due(bench, desk, waited)),
         Call::Settled => yes_or_no(desk.is_settled()),
-        Call::Turn => of_turn(turn(bench, desk)),
+        Call::Turn => taken(bench, desk),
         Call::AllRetired => yes_or_no(all_retired(bench, desk)),
         Call::Table => of_table(table(bench, desk)),
         Call::Drink => yes_or_no(drink(bench, desk)),
-        Call::Store(what) => {
-            assert!(rt; may_phase(bench, desk, what));
-            store_phase(bench, desk, what);
-            Answer::Done
-        }
-        Call::Command => {
-            assert!(rt; may_command(bench, desk));
-            Answer::Value(command(bench, desk).value)
-        }
-        Call::Glance(other) => {
-            let known = (other.0 as usize) < bench.plan().jobs();
-            assert!(rt; known && other != desk.job());
-            Answer::Saw(glance(bench, desk, other).pack())
-        }
+        Call::Store(what) => stored(rt, bench, desk, what),
+        Call::Command => commanded(rt, bench, desk),
+        Call::Glance(other) => glanced(rt, bench, desk, other),
         Call::On(edge, what) => on_edge(rt, bench, desk, edge, what),
     }
 }
@@ -397,18 +467,16 @@ impl<A: Allocator> Seat<'_, '_, A> {
         self.desk.waited()
     }
 
-    /// Whether these are the words that the job saw last on its edges.
-    pub(crate) fn saw(&self, words: &[u64]) -> bool {
+    /// How many edges the job has.
+    pub(crate) fn edges(&self) -> usize {
+        self.bench.plan().edges_of(self.desk.job()).len()
+    }
+
+    /// The word that the job saw last on this one of its edges.
+    pub(crate) fn seen(&self, rt: &impl Abort, place: usize) -> u64 {
         let own = self.bench.plan().edges_of(self.desk.job());
-        if own.len() != words.len() {
-            return false;
-        }
-        for (edge, word) in own.iter().zip(words) {
-            if !is_own(self.bench, &self.desk, *edge) || self.desk.seen(*edge).pack() != *word {
-                return false;
-            }
-        }
-        true
+        assert!(rt; place < own.len() && is_own(self.bench, &self.desk, own[place]));
+        self.desk.seen(own[place]).pack()
     }
 }
 

@@ -5,6 +5,7 @@ ghost use Rattle.edge_rule.specs.DeskView.{Owns};
 
 use crate::gates::{ALL_MEET, Counting, Flags, Meeting, THREE_FIRST};
 use crate::labs::{FOUR, NOBODY, RING, TWICE, TWO, closed, opened, plan_of, star_script};
+use crate::words::{CLEAN_B_ASKED_BOTTLE_B_ASKED, HUNGRY_DRINKS, HUNGRY_THIRSTY};
 use edge_rule::{Bench, CloseCause, Closed, Desk};
 use instrument_log::InstrumentLog;
 use lab_plan::{EdgeNo, InstrumentNo, JobNo, Plan};
@@ -75,10 +76,14 @@ fn ended_all<T: Allocator>(rt: &impl Abort, left: &Closed<T>) {
         let job = JobNo(job as u8);
         assert!(rt; left.retired(job) && left.sessions_done(job) == plan.sessions(job));
     }
+}
+
+/// No command is left.
+fn are_full<T: Allocator>(rt: &impl Abort, left: &Closed<T>) {
+    let plan = left.plan();
     for number in 0..plan.instruments() {
         let log = left.log(InstrumentNo(number as u8));
         assert!(rt; log.len() == log.room() && log.unfinished() == 0);
-        counts_up(rt, log);
     }
 }
 
@@ -88,6 +93,8 @@ fn runs_by<R: Threads + Abort + Sync>(rt: &R, alloc: Global, plan: &Plan, worker
     let desks = until_retired(rt, alloc, &bench, desks, workers);
     let left = closed(rt, alloc, bench, desks);
     ended_all(rt, &left);
+    are_full(rt, &left);
+    all_count_up(rt, &left);
 }
 
 fn runs_by_each<R: Threads + Abort + Sync>(rt: &R, alloc: Global, script: &str) {
@@ -247,8 +254,9 @@ fn passes_before<R: Threads + Abort + Sync>(rt: &R, alloc: Global, plan: &Plan) 
     assert!(rt; gate.all_met() && ended == Ended::Limit);
     let left = closed(rt, alloc, bench, desks);
     assert!(rt; left.plan().jobs() == 2 && left.plan().edges() == 1);
-    assert!(rt; left.edge(EdgeNo(0)).pack() == 4294967317);
-    assert!(rt; left.phase(JobNo(0)).pack() == 261 && left.phase(JobNo(1)).pack() == 265);
+    assert!(rt; left.edge(EdgeNo(0)).pack() == CLEAN_B_ASKED_BOTTLE_B_ASKED);
+    assert!(rt; left.phase(JobNo(0)).pack() == HUNGRY_THIRSTY);
+    assert!(rt; left.phase(JobNo(1)).pack() == HUNGRY_DRINKS);
 }
 
 #[test]

@@ -1,5 +1,5 @@
 // Readers and writers that give little, take little, or fail.
-use super::{AMPLE, Pieces, Slow, TWO_ADD, told, told_at, told_by, told_from};
+use super::{AMPLE, Pieces, Slow, TWO_ADD, told_at, told_by, told_from};
 use lab_program::{FromRead, Outcome, RunFault, Source};
 use lab_runs::{Task, run_rounds};
 use report::ToWrite;
@@ -191,7 +191,4 @@ fn source_reads(rt: HostRuntime) {
     assert!(rt; source.read(&mut buffer) == Ok(3) && &buffer[..3] == b"lam".as_slice());
     assert!(rt; source.read(&mut buffer) == Ok(1) && buffer[0] == b'p');
     assert!(rt; source.read(&mut buffer) == Ok(0) && source.read(&mut buffer).is_err());
-    let (bytes, answer) = told(&rt, rt.alloc(), Task::Replay, b"lab 2\n");
-    assert!(rt; answer == Ok(Outcome::Finished));
-    assert!(rt; bytes.as_slice() == b"lab 2\nfinished\n".as_slice());
 }

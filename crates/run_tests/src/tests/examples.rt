@@ -1,9 +1,9 @@
 // The worked scripts of examples/ that run by rounds, without their comments; their reports were reckoned without the program.
 use super::reports::is_report_of;
-use super::told;
+use super::{tells, told};
 use lab_program::Outcome;
 use lab_runs::Task;
-use std::alloc::{AllocError, Global};
+use std::alloc::Global;
 use std::process::Abort;
 use std::test::Fail;
 use std::thread::Threads;
@@ -1067,10 +1067,15 @@ fn runs<R: Threads + Abort + Sync>(
     outcome: Outcome,
     script: &str,
     report: &str,
-) -> Result<(), AllocError> {
-    let (bytes, answer) = told(rt, alloc, Task::Rounds { limit }, script.as_bytes());
-    assert!(rt; answer == Ok(outcome));
-    assert!(rt; bytes.as_slice() == report.as_bytes());
+) -> Result<(), Fail> {
+    tells(
+        rt,
+        alloc,
+        Task::Rounds { limit },
+        script,
+        Ok(outcome),
+        report,
+    );
     assert!(rt; is_report_of(alloc, script, report)?);
     let task = Task::Threads {
         workers: 4,
@@ -1094,8 +1099,7 @@ fn shift_ends(rt: HostRuntime) -> Result<(), Fail> {
         Outcome::Unfinished,
         SHIFT_ENDS,
         SHIFT_ENDS_REPORT,
-    )?;
-    Ok(())
+    )
 }
 
 #[test]
@@ -1107,8 +1111,7 @@ fn ring_of_benches(rt: HostRuntime) -> Result<(), Fail> {
         Outcome::Finished,
         RING_OF_BENCHES,
         RING_OF_BENCHES_REPORT,
-    )?;
-    Ok(())
+    )
 }
 
 #[test]
@@ -1120,8 +1123,7 @@ fn patient_night(rt: HostRuntime) -> Result<(), Fail> {
         Outcome::Finished,
         PATIENT_NIGHT,
         PATIENT_NIGHT_REPORT,
-    )?;
-    Ok(())
+    )
 }
 
 #[test]
@@ -1133,6 +1135,5 @@ fn test_bay(rt: HostRuntime) -> Result<(), Fail> {
         Outcome::Finished,
         TEST_BAY,
         TEST_BAY_REPORT,
-    )?;
-    Ok(())
+    )
 }

@@ -1,5 +1,5 @@
 // Scripts by rounds: what stands in the report after how many.
-use super::{TWO_ADD, told, told_by};
+use super::{TWO_ADD, is_told, tells, told, told_by};
 use lab_program::{Outcome, RunFault};
 use lab_runs::Task;
 use script_reader::{ScriptCause, ScriptFault};
@@ -17,10 +17,26 @@ fn ends<R: Threads + Abort + Sync>(
     outcome: Outcome,
     report: &str,
 ) {
-    let (bytes, answer) = told(rt, alloc, Task::Rounds { limit }, script.as_bytes());
-    assert!(rt; answer == Ok(outcome), "{limit} rounds");
-    assert!(rt; bytes.as_slice() == report.as_bytes(), "{limit} rounds");
+    tells(
+        rt,
+        alloc,
+        Task::Rounds { limit },
+        script,
+        Ok(outcome),
+        report,
+    );
 }
+
+/// A task of each kind that reads a script, but for the one that counts.
+const TASKS: [Task; 4] = [
+    Task::Rounds { limit: 10 },
+    Task::Threads {
+        workers: 2,
+        turns: 10,
+    },
+    Task::Replay,
+    Task::Upgrade,
+];
 
 #[test]
 fn empty_input(rt: HostRuntime) {
@@ -28,8 +44,9 @@ fn empty_input(rt: HostRuntime) {
         line: 1,
         cause: ScriptCause::NoHeader,
     });
-    let (bytes, answer) = told(&rt, rt.alloc(), Task::Rounds { limit: 10 }, b"");
-    assert!(rt; answer == Err(fault) && bytes.is_empty());
+    for task in TASKS {
+        tells(&rt, rt.alloc(), task, "", Err(fault), "");
+    }
 }
 
 /// Steps are for a replay alone.
@@ -39,31 +56,61 @@ fn steps_are_refused(rt: HostRuntime) {
         line: 2,
         cause: ScriptCause::UnknownWord,
     });
-    for task in [
-        Task::Rounds { limit: 10 },
-        Task::Threads {
-            workers: 2,
-            turns: 10,
-        },
-    ] {
-        let (bytes, answer) = told(&rt, rt.alloc(), task, b"lab 1\nsteps\n");
-        assert!(rt; answer == Err(fault) && bytes.is_empty());
+    for task in TASKS {
+        if task != Task::Replay {
+            tells(&rt, rt.alloc(), task, "lab 1\nsteps\n", Err(fault), "");
+        }
     }
+    tells(
+        &rt,
+        rt.alloc(),
+        Task::Check,
+        "lab 1\nsteps\n",
+        Err(fault),
+        "",
+    );
 }
 
-/// There is nobody to wait for.
+/// Runs of nobody: there is nobody to wait for.
+const OF_NOBODY: [Task; 6] = [
+    Task::Rounds { limit: 10 },
+    Task::Rounds { limit: 0 },
+    Task::Replay,
+    Task::Threads {
+        workers: 1,
+        turns: 0,
+    },
+    Task::Threads {
+        workers: 2,
+        turns: 0,
+    },
+    Task::Threads {
+        workers: 32,
+        turns: 0,
+    },
+];
+
 #[test]
 fn header_alone(rt: HostRuntime) {
-    for limit in [10, 0] {
-        ends(
+    let finished = Ok(Outcome::Finished);
+    for task in OF_NOBODY {
+        tells(
             &rt,
             rt.alloc(),
-            limit,
+            task,
             "lab 1",
-            Outcome::Finished,
+            finished,
             "lab 1\nfinished\n",
         );
     }
+    tells(
+        &rt,
+        rt.alloc(),
+        Task::Replay,
+        "lab 2\n",
+        finished,
+        "lab 2\nfinished\n",
+    );
 }
 
 const ONE: &str = "lab 1\njob a\nsession\nscale set 5\nscale read\nend\n";
@@ -237,8 +284,8 @@ fn upgraded_script(rt: HostRuntime) -> Result<(), Fail> {
     let (bytes, answer) = told(&rt, rt.alloc(), Task::Rounds { limit: 9 }, &script);
     let both = "instrument scale 2\na 1 1/1 add 1 = 1\nb 1 1/1 add 1 = 2\n";
     let report = patient(rt.alloc(), both, 1, 1)?;
-    assert!(rt; answer == Ok(Outcome::Finished));
-    assert!(rt; bytes.as_slice() == report.as_bytes());
+    let finished = Ok(Outcome::Finished);
+    is_told(&rt, bytes.as_slice(), answer, finished, report.as_str());
     Ok(())
 }
 
@@ -299,13 +346,19 @@ fn stops_at_each_turn(rt: HostRuntime) -> Result<(), Fail> {
                 turns: limit,
             },
         ] {
-            let (bytes, answer) = told(&rt, rt.alloc(), task, SECOND_SESSION.as_bytes());
-            assert!(rt; bytes.as_slice() == report.as_bytes(), "stop at {limit}");
-            assert!(rt;
-                (answer == Ok(Outcome::Finished)) == (limit == 14),
-                "stop at {limit}"
+            let outcome = if limit == 14 {
+                Outcome::Finished
+            } else {
+                Outcome::Unfinished
+            };
+            tells(
+                &rt,
+                rt.alloc(),
+                task,
+                SECOND_SESSION,
+                Ok(outcome),
+                report.as_str(),
             );
-            assert!(rt; answer.is_ok(), "stop at {limit}");
         }
     }
     Ok(())

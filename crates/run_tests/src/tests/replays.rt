@@ -1,14 +1,8 @@
 // Replays of worked scripts.
-use super::{TWO_ADD, told};
+use super::{TWO_ADD, tells};
 use lab_program::{Outcome, RunFault};
 use lab_runs::Task;
-use script_reader::{ScriptCause, ScriptFault};
 use std::test::Fail;
-
-const NO_HEADER: RunFault = RunFault::Script(ScriptFault {
-    line: 1,
-    cause: ScriptCause::NoHeader,
-});
 
 /// The script of two jobs, of which the first has a second session: twelve lines, and `steps`.
 const TWO_SESSIONS: &str =
@@ -37,27 +31,21 @@ const STALE_MARK: [&str; 16] = [
 const STALE_MARK_REPORT: &str =
     "lab 1\ninstrument scale 1\na 1 1/1 add 1 = 1\njob a sessions 1 of 2 meals 1 waiting\njob b sessions 0 of 1 meals 0 waiting\nunfinished\n";
 
-#[test]
-fn empty_input(rt: HostRuntime) {
-    let (bytes, answer) = told(&rt, rt.alloc(), Task::Replay, b"");
-    assert!(rt; answer == Err(NO_HEADER) && bytes.is_empty());
-}
-
-#[test]
-fn header_alone(rt: HostRuntime) {
-    let (bytes, answer) = told(&rt, rt.alloc(), Task::Replay, b"lab 1");
-    assert!(rt; answer == Ok(Outcome::Finished));
-    assert!(rt; bytes.as_slice() == b"lab 1\nfinished\n".as_slice());
-}
+/// The steps are at their end, and not all jobs are retired.
+const STOPPED: Result<Outcome, RunFault> = Ok(Outcome::Unfinished);
 
 #[test]
 fn eats_before_drinking(rt: HostRuntime) -> Result<(), Fail> {
     let text = format!(in rt.alloc(); "{TWO_ADD}steps\nthirst a\nhunger a\nlook a b\nsit a\n")?;
-    let (bytes, answer) = told(&rt, rt.alloc(), Task::Replay, text.as_bytes());
-    assert!(rt; answer == Ok(Outcome::Unfinished));
-    assert!(rt;
-        bytes.as_slice()
-            == b"lab 1\ninstrument scale 0\njob a sessions 0 of 1 meals 1 waiting\njob b sessions 0 of 1 meals 0 waiting\nunfinished\n".as_slice()
+    let report =
+        "lab 1\ninstrument scale 0\njob a sessions 0 of 1 meals 1 waiting\njob b sessions 0 of 1 meals 0 waiting\nunfinished\n";
+    tells(
+        &rt,
+        rt.alloc(),
+        Task::Replay,
+        text.as_str(),
+        STOPPED,
+        report,
     );
     Ok(())
 }
@@ -65,8 +53,8 @@ fn eats_before_drinking(rt: HostRuntime) -> Result<(), Fail> {
 #[test]
 fn illegal_step(rt: HostRuntime) -> Result<(), Fail> {
     let text = format!(in rt.alloc(); "{TWO_ADD}steps\nthirst a\nhunger a\nsit a\n")?;
-    let (bytes, answer) = told(&rt, rt.alloc(), Task::Replay, text.as_bytes());
-    assert!(rt; answer == Err(RunFault::Step { line: 13 }) && bytes.is_empty());
+    let fault = Err(RunFault::Step { line: 13 });
+    tells(&rt, rt.alloc(), Task::Replay, text.as_str(), fault, "");
     Ok(())
 }
 
@@ -77,12 +65,17 @@ fn stale_mark(rt: HostRuntime) -> Result<(), Fail> {
     for line in STALE_MARK {
         text.push_str(line)?;
     }
-    let (bytes, answer) = told(&rt, rt.alloc(), Task::Replay, text.as_bytes());
-    assert!(rt; answer == Ok(Outcome::Unfinished));
-    assert!(rt; bytes.as_slice() == STALE_MARK_REPORT.as_bytes());
+    tells(
+        &rt,
+        rt.alloc(),
+        Task::Replay,
+        text.as_str(),
+        STOPPED,
+        STALE_MARK_REPORT,
+    );
     text.push_str("sit a\n")?;
-    let (bytes, answer) = told(&rt, rt.alloc(), Task::Replay, text.as_bytes());
-    assert!(rt; answer == Err(RunFault::Step { line: 30 }) && bytes.is_empty());
+    let fault = Err(RunFault::Step { line: 30 });
+    tells(&rt, rt.alloc(), Task::Replay, text.as_str(), fault, "");
     Ok(())
 }
 
@@ -98,12 +91,8 @@ fn stale_mark_with_a_step_put_in(rt: HostRuntime) -> Result<(), Fail> {
         for line in &STALE_MARK[place..] {
             text.push_str(line)?;
         }
-        let (bytes, answer) = told(&rt, rt.alloc(), Task::Replay, text.as_bytes());
-        assert!(rt;
-            answer == Err(RunFault::Step { line: 14 + place }),
-            "place {place}"
-        );
-        assert!(rt; bytes.is_empty(), "place {place}");
+        let fault = Err(RunFault::Step { line: 14 + place });
+        tells(&rt, rt.alloc(), Task::Replay, text.as_str(), fault, "");
     }
     Ok(())
 }
@@ -119,11 +108,15 @@ fn stale_mark_goes_on(rt: HostRuntime) -> Result<(), Fail> {
         "givefork a b\nlook b a\nsit b\naskbottles b a scale\ngivebottles a b scale\nlook b a\ndrink b\naskfork a b\n",
     )?;
     text.push_str("soil b a\nleave b\ngivefork b a\nlook a b\nsit a\n")?;
-    let (bytes, answer) = told(&rt, rt.alloc(), Task::Replay, text.as_bytes());
-    assert!(rt; answer == Ok(Outcome::Unfinished));
-    assert!(rt;
-        bytes.as_slice()
-            == b"lab 1\ninstrument scale 1\na 1 1/1 add 1 = 1\njob a sessions 1 of 2 meals 2 waiting\njob b sessions 0 of 1 meals 1 waiting\nunfinished\n".as_slice()
+    let report =
+        "lab 1\ninstrument scale 1\na 1 1/1 add 1 = 1\njob a sessions 1 of 2 meals 2 waiting\njob b sessions 0 of 1 meals 1 waiting\nunfinished\n";
+    tells(
+        &rt,
+        rt.alloc(),
+        Task::Replay,
+        text.as_str(),
+        STOPPED,
+        report,
     );
     Ok(())
 }

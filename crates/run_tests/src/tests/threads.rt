@@ -82,16 +82,6 @@ fn long_threaded_run(rt: HostRuntime) {
     }
 }
 
-#[test]
-fn header_alone(rt: HostRuntime) {
-    for workers in [1, 2, 32] {
-        let task = Task::Threads { workers, turns: 0 };
-        let (bytes, answer) = told(&rt, rt.alloc(), task, b"lab 1\n");
-        assert!(rt; answer == Ok(Outcome::Finished));
-        assert!(rt; bytes.as_slice() == b"lab 1\nfinished\n".as_slice());
-    }
-}
-
 /// Four jobs in a ring: each shares an instrument with the one before it and one with the next.
 const RING: &str =
     "lab 1\njob a\nsession\nw add 1\nx add 1\nw read\nend\nsession\nx add 2\nend\njob b\nsession\nx add 3\ny set 5\nend\nsession\ny read\nx read\nend\njob c\nsession\ny add 7\nz add 1\ny add 1\nend\njob d\nsession\nz set 9\nend\nsession\nw add 4\nz add 4\nend\n";
