@@ -1,5 +1,5 @@
 // Whether a plan has the jobs of another in the order of their colours.
-ghost use Rattle.std.specs.Prelude.{◌≡◌, ◌≢◌, ℕ, ◌<◌, true, length, slice_index};
+ghost use Rattle.std.specs.Prelude.{◌≡◌, ◌≢◌, ◌↔◌, ℕ, ◌<◌, IsTrue, length, slice_index};
 ghost use Rattle.std.specs.List.{All};
 ghost use Rattle.lab_plan.specs.LabPlan.{edges, ends};
 ghost use Rattle.arranging.specs.Colours.{IsColouring, in_order};
@@ -14,7 +14,7 @@ use std::alloc::Allocator;
 fn differ_along<A: Allocator>(plan: &Plan<A>, colours: &[u8], order: &[JobNo]) -> bool
     requires jobs { length order.now ≡ length plan.now.jobs }
     requires coloured { All (λ job. job < length colours.now) order.now }
-    ensures { result ≡ true → (e : ℕ) → e < length (edges plan.now) → slice_index colours.now (slice_index order.now (ends plan.now e).0) ≢ slice_index colours.now (slice_index order.now (ends plan.now e).1) }
+    ensures { IsTrue result ↔ ((e : ℕ) → e < length (edges plan.now) → slice_index colours.now (slice_index order.now (ends plan.now e).0) ≢ slice_index colours.now (slice_index order.now (ends plan.now e).1)) }
 {
     for edge in 0..plan.edges() {
         let (low, high) = plan.ends(EdgeNo(edge));
@@ -37,7 +37,7 @@ pub fn is_arrangement<A: Allocator, B: Allocator, C: Allocator>(
 ) -> bool
     requires colours { IsColouring plan.now colouring.now.colours colouring.now.count }
     requires order { order.now ≡ in_order colouring.now.colours colouring.now.count }
-    ensures { result ≡ true → IsArrangement plan.now colouring.now arranged.now }
+    ensures { IsTrue result ↔ IsArrangement plan.now colouring.now arranged.now }
 {
     if plan.version() != arranged.version() {
         return false;

@@ -1,5 +1,5 @@
 // Whether jobs of two plans are the same, with their instruments by name.
-ghost use Rattle.std.specs.Prelude.{◌≡◌, ◌<◌, ◌≤◌, true, length, map};
+ghost use Rattle.std.specs.Prelude.{◌≡◌, ◌<◌, ◌≤◌, ◌↔◌, IsTrue, length, map};
 ghost use Rattle.std.specs.List.{All};
 ghost use Rattle.lab_plan.specs.LabPlan.{sessions, session_at, job_at};
 ghost use Rattle.arranging.specs.Reordered.{named_command, named_session, named_job, HasJobsOf};
@@ -16,7 +16,7 @@ fn is_same_command<A: Allocator, B: Allocator>(
 ) -> bool
     requires mine { mine.0 < length plan.now.instruments }
     requires yours { yours.0 < length other.now.instruments }
-    ensures { result ≡ true → named_command plan.now mine ≡ named_command other.now yours }
+    ensures { IsTrue result ↔ (named_command plan.now mine ≡ named_command other.now yours) }
 {
     mine.1 == yours.1 && is_same_name(plan.instrument_name(mine.0), other.instrument_name(yours.0))
 }
@@ -30,7 +30,7 @@ fn are_same_commands<A: Allocator, B: Allocator>(
 ) -> bool
     requires mine { All (λ command. command.0 < length plan.now.instruments) mine.now }
     requires yours { All (λ command. command.0 < length other.now.instruments) yours.now }
-    ensures { result ≡ true → map (named_command plan.now) mine.now ≡ map (named_command other.now) yours.now }
+    ensures { IsTrue result ↔ (map (named_command plan.now) mine.now ≡ map (named_command other.now) yours.now) }
 {
     if mine.len() != yours.len() {
         return false;
@@ -56,7 +56,7 @@ fn is_same_session<A: Allocator, B: Allocator>(
     requires begun { 1 ≤ session }
     requires my_session { session ≤ length (sessions plan.now mine) }
     requires your_session { session ≤ length (sessions other.now yours) }
-    ensures { result ≡ true → named_session plan.now (session_at plan.now mine session) ≡ named_session other.now (session_at other.now yours session) }
+    ensures { IsTrue result ↔ (named_session plan.now (session_at plan.now mine session) ≡ named_session other.now (session_at other.now yours session)) }
 {
     plan.patience(mine, session) == other.patience(yours, session)
         && are_same_commands(
@@ -76,7 +76,7 @@ fn is_same_job<A: Allocator, B: Allocator>(
 ) -> bool
     requires my_job { mine < length plan.now.jobs }
     requires your_job { yours < length other.now.jobs }
-    ensures { result ≡ true → named_job plan.now (job_at plan.now mine) ≡ named_job other.now (job_at other.now yours) }
+    ensures { IsTrue result ↔ (named_job plan.now (job_at plan.now mine) ≡ named_job other.now (job_at other.now yours)) }
 {
     if plan.sessions(mine) != other.sessions(yours) {
         return false;
@@ -99,7 +99,7 @@ pub(crate) fn has_jobs_of<A: Allocator, B: Allocator>(
     other: &Plan<B>,
 ) -> bool
     requires { All (λ job. job < length plan.now.jobs) order.now }
-    ensures { result ≡ true → HasJobsOf plan.now order.now other.now }
+    ensures { IsTrue result ↔ HasJobsOf plan.now order.now other.now }
 {
     if order.len() != other.jobs() {
         return false;

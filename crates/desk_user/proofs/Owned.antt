@@ -1,5 +1,5 @@
 -- Desks stay at their bench.
-use Rattle.std.proofs.Common.{◌≡◌, ◌≢◌, ◌⊎◌, ℕ, zero, suc, ◌+◌, ◌<◌, ◌≤◌, inl, inr, Bool, List, [], ◌∷◌, ◌++◌, length, get_or, map, refl, sym, ap, ◌∙◌, subst, arith}
+use Rattle.std.proofs.Common.{◌≡◌, ◌≢◌, ◌⊎◌, ℕ, zero, suc, ◌+◌, ◌<◌, inl, inr, Bool, false, List, [], ◌∷◌, ◌++◌, length, get_or, refl, sym, ap, ◌∙◌, subst, arith, add-one}
 use Rattle.std.proofs.lemmas.List.{map-append}
 use Rattle.atomic_table.specs.Seated.{TableId}
 use Rattle.lab_plan.specs.LabPlan.{LabPlan}
@@ -15,7 +15,8 @@ use Rattle.session_layer.specs.Grown.{TookTurns}
 use Rattle.session_layer.specs.Retired.{Glanced, glances}
 use Rattle.session_layer.proofs.Grows as grows
 use Rattle.session_layer.proofs.Glances.{glances_none}
-use Rattle.desk_user.specs.Use.{opened, Keeps, TookUpTo}
+use Rattle.desk_user.specs.declared.until.Until.{Until}
+use Rattle.desk_user.specs.Use.{opened, Keeps, TookUpTo, IsAt, TookBefore, Looked, TookBeforeAll}
 
 -- ---- a desk's turns
 
@@ -43,6 +44,15 @@ took_then n d m e a t = subst (λ k. TookTurns k d e) (none_more n) (grows.turns
 
 pub none_taken : (d e : DeskView) → TookUpTo 0 d e → TookTurns 0 d e
 none_taken d e t = let l = t.1 in let is : t.0 ≡ 0 = omega (arith, l) in subst (λ k. TookTurns k d e) is t.2
+
+-- one turn more, before which the job had not come so far
+pub before_more : (until : Until) (n : ℕ) (d m e : DeskView) (r : Turned) → TookBefore until n d m → (IsAt until m → ⊥) → Took m r e
+    → TookBefore until (n + 1) d e
+before_more until n d m e r a not t = subst (λ k. TookBefore until k d e) (sym (add-one n)) (m, a, not, r, t)
+
+-- one turn more, before which the desk did not see all jobs retired
+pub before_all_more : (n : ℕ) (d m k e : DeskView) (r : Turned) → TookBeforeAll n d m → Looked m false k → Took k r e → TookBeforeAll (n + 1) d e
+before_all_more n d m k e r a looked t = subst (λ i. TookBeforeAll i d e) (sym (add-one n)) (m, a, k, looked, r, t)
 
 -- ---- the desks that a bench opens with
 

@@ -3,7 +3,7 @@ ghost use Rattle.std.specs.Prelude.{◌↔◌, IsTrue};
 ghost use Rattle.edge_rule.specs.DeskView.{Owns};
 ghost use Rattle.locality.specs.AtTheEnd.{AllRetired};
 ghost use Rattle.session_layer.specs.Turn.{Took};
-ghost use Rattle.desk_user.specs.Use.{IsAt, Keeps, TookUpTo};
+ghost use Rattle.desk_user.specs.Use.{IsAt, Keeps, Looked, TookUntil, TookUntilAll, TookUpTo};
 
 use crate::until::{Until, is_at};
 use edge_rule::{Bench, Desk};
@@ -32,6 +32,7 @@ pub fn turns_until<A: Allocator>(
     ensures keeps { Keeps bench.now desk.old desk.new }
     ensures took { TookUpTo most desk.old desk.new }
     ensures says { IsTrue result ↔ IsAt until desk.new }
+    ensures stops { TookUntil until most desk.old result desk.new }
 {
     for _number in 0..most {
         if is_at(bench, desk, until) {
@@ -52,6 +53,7 @@ fn saw_all_retired<A: Allocator>(bench: &Bench<A>, desk: &mut Desk<A>) -> bool
     ensures keeps { Keeps bench.now desk.old desk.new }
     ensures took { TookUpTo 0 desk.old desk.new }
     ensures done { IsTrue result → AllRetired desk.new.plan desk.new.front }
+    ensures looked { Looked desk.old result desk.new }
 {
     desk.retired() && all_retired(bench, desk)
 }
@@ -67,6 +69,7 @@ pub fn turns_until_all_retired<A: Allocator>(
     ensures keeps { Keeps bench.now desk.old desk.new }
     ensures took { TookUpTo most desk.old desk.new }
     ensures done { IsTrue result → AllRetired desk.new.plan desk.new.front }
+    ensures stops { TookUntilAll most desk.old result desk.new }
 {
     for _number in 0..most {
         if saw_all_retired(bench, desk) {

@@ -1,6 +1,7 @@
 // Gates of the tests, for four jobs and two workers.
+use crossbeam_utils::atomic::AtomicCell;
 use lab_plan::JobNo;
-use std::sync::atomic::{AtomicBool, AtomicU64, Ordering};
+use std::sync::atomic::{AtomicU64, Ordering};
 use std::thread::yield_now;
 use workers::Gate;
 
@@ -138,39 +139,35 @@ const LOOKS: u64 = 100_000_000;
 /// Before their first turns job 0 and job 1 each set a flag of their own, and wait for the other's.
 #[derive(Drop)]
 pub(crate) struct Flags {
-    set: [AtomicBool; 2],
-    given_up: AtomicBool,
+    set: [AtomicCell<bool>; 2],
+    given_up: AtomicCell<bool>,
 }
 
 impl Flags {
     pub(crate) fn new() -> Flags {
         Flags {
-            set: [AtomicBool::new(false), AtomicBool::new(false)],
-            given_up: AtomicBool::new(false),
+            set: [AtomicCell::new(false), AtomicCell::new(false)],
+            given_up: AtomicCell::new(false),
         }
     }
 
     /// Whether both flags are set, and nobody gave up.
     pub(crate) fn both_saw(&self) -> bool {
-        is_set(&self.set[0]) && is_set(&self.set[1]) && !is_set(&self.given_up)
+        self.set[0].load() && self.set[1].load() && !self.given_up.load()
     }
 
     fn meet(&self, own: usize, other: usize) {
         if let (Some(own), Some(other)) = (self.set.get(own), self.set.get(other)) {
-            own.store(true, Ordering::SeqCst);
+            own.store(true);
             for _ in 0..LOOKS {
-                if is_set(other) {
+                if other.load() {
                     return;
                 }
                 yield_now();
             }
-            self.given_up.store(true, Ordering::SeqCst);
+            self.given_up.store(true);
         }
     }
-}
-
-fn is_set(flag: &AtomicBool) -> bool {
-    flag.load(Ordering::SeqCst)
 }
 
 impl Gate for Flags {

@@ -1,6 +1,6 @@
 // Gates of runs by threads, for scripts of at most four jobs.
+use crossbeam_utils::atomic::AtomicCell;
 use lab_plan::JobNo;
-use std::sync::atomic::{AtomicBool, AtomicU64, Ordering};
 use std::thread::yield_now;
 use workers::Gate;
 
@@ -10,35 +10,33 @@ const LOOKS: u64 = 100_000_000;
 /// Before their first turns job 0 and job 1 each set a flag of their own, and wait for the other's.
 #[derive(Drop)]
 pub(crate) struct Flags {
-    set: [AtomicBool; 2],
-    given_up: AtomicBool,
+    set: [AtomicCell<bool>; 2],
+    given_up: AtomicCell<bool>,
 }
 
 impl Flags {
     pub(crate) fn new() -> Flags {
         Flags {
-            set: [AtomicBool::new(false), AtomicBool::new(false)],
-            given_up: AtomicBool::new(false),
+            set: [AtomicCell::new(false), AtomicCell::new(false)],
+            given_up: AtomicCell::new(false),
         }
     }
 
     /// Whether both flags are set, and nobody gave up.
     pub(crate) fn both_saw(&self) -> bool {
-        self.set[0].load(Ordering::SeqCst)
-            && self.set[1].load(Ordering::SeqCst)
-            && !self.given_up.load(Ordering::SeqCst)
+        self.set[0].load() && self.set[1].load() && !self.given_up.load()
     }
 
     fn meet(&self, own: usize, other: usize) {
         if let (Some(own), Some(other)) = (self.set.get(own), self.set.get(other)) {
-            own.store(true, Ordering::SeqCst);
+            own.store(true);
             for _ in 0..LOOKS {
-                if other.load(Ordering::SeqCst) {
+                if other.load() {
                     return;
                 }
                 yield_now();
             }
-            self.given_up.store(true, Ordering::SeqCst);
+            self.given_up.store(true);
         }
     }
 }
@@ -57,34 +55,34 @@ impl Gate for Flags {
 /// the first drives jobs 0 and 2, the second jobs 1 and 3, the lower job first in each round.
 #[derive(Drop)]
 pub(crate) struct Counting {
-    passes: [AtomicU64; 4],
-    wrong: AtomicBool,
+    passes: [AtomicCell<u64>; 4],
+    wrong: AtomicCell<bool>,
 }
 
 impl Counting {
     pub(crate) fn new() -> Counting {
         Counting {
             passes: [
-                AtomicU64::new(0),
-                AtomicU64::new(0),
-                AtomicU64::new(0),
-                AtomicU64::new(0),
+                AtomicCell::new(0),
+                AtomicCell::new(0),
+                AtomicCell::new(0),
+                AtomicCell::new(0),
             ],
-            wrong: AtomicBool::new(false),
+            wrong: AtomicCell::new(false),
         }
     }
 
     /// How often the job passed; one past the fourth never does.
     pub(crate) fn passes(&self, job: u8) -> u64 {
         match self.passes.get(usize::from(job)) {
-            Some(count) => count.load(Ordering::SeqCst),
+            Some(count) => count.load(),
             None => 0,
         }
     }
 
     /// Whether all passes came in order.
     pub(crate) fn is_in_order(&self) -> bool {
-        !self.wrong.load(Ordering::SeqCst)
+        !self.wrong.load()
     }
 }
 
@@ -94,10 +92,10 @@ impl Gate for Counting {
         let other = self.passes(job.0 ^ 2);
         let expected = if job.0 < 2 { own.wrapping_sub(1) } else { own };
         if own != turn || other != expected {
-            self.wrong.store(true, Ordering::SeqCst);
+            self.wrong.store(true);
         }
         if let Some(count) = self.passes.get(usize::from(job.0)) {
-            count.store(own, Ordering::SeqCst);
+            count.store(own);
         }
     }
 }

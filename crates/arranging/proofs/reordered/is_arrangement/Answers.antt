@@ -5,7 +5,7 @@ use Rattle.lab_plan.specs.LabPlan.{LabPlan, edges, ends}
 use Rattle.arranging.specs.Colours.{ColouringView, IsColouring, in_order}
 use Rattle.arranging.specs.Reordered.{HasJobsOf, IsArrangement}
 use Rattle.arranging.proofs.Orders.{orders_keep_jobs}
-use Rattle.arranging.proofs.Arrangements.{of_plan, along_is}
+use Rattle.arranging.proofs.Arrangements.{of_plan, along_is, along_differs}
 use Rattle.arranging.proofs.reordered.is_arrangement.Goals as goal
 
 -- what was judged, along the order by colour
@@ -27,6 +27,17 @@ judged plan arranged made order seen is by same version long jobs differ =
           → slice_index l (slice_index order (ends arranged e).0) ≢ slice_index l (slice_index order (ends arranged e).1)) same differ));
     }
 
+-- what was judged last, where it is an arrangement
+differs : (plan arranged : LabPlan) (made : ColouringView) (order seen : List ℕ) → order ≡ in_order made.colours made.count → seen ≡ made.colours
+    → length order ≡ length arranged.jobs → IsArrangement plan made arranged → (e : ℕ) → e < length (edges arranged)
+    → slice_index seen (slice_index order (ends arranged e).0) ≢ slice_index seen (slice_index order (ends arranged e).1)
+differs plan arranged made order seen by same long is =
+    subst (λ (l : List ℕ). (e : ℕ) → e < length (edges arranged)
+    → slice_index l (slice_index order (ends arranged e).0) ≢ slice_index l (slice_index order (ends arranged e).1)) (sym same)
+    (subst (λ (l : List ℕ). (e : ℕ) → e < length (edges arranged)
+    → slice_index made.colours (slice_index l (ends arranged e).0) ≢ slice_index made.colours (slice_index l (ends arranged e).1)) (sym by)
+    (along_differs arranged made.colours (in_order made.colours made.count) made.count (sym (ap length by) ∙ long) is.colouring))
+
 pub has_jobs_of-requires : goal.has_jobs_of-requires
 has_jobs_of-requires g c =
     let made = c.args.colouring.now in
@@ -40,7 +51,11 @@ differ_along-requires-clause-coloured g c =
     λ k d below. omega (arith, inside k d below, c.requires.colours.one_each, ap length c.colours.ensures)
 
 pub returns : goal.returns
-returns g c = λ yes.
-    judged c.args.plan.now c.args.arranged.now c.args.colouring.now c.args.order.now c.colours.result.now c.requires.colours c.requires.order
-    c.colours.ensures (sym c.version-2.ensures ∙ sym c.if-version.false ∙ c.version.ensures)
-    (c.if-order-jobs.false ∙ c.jobs.ensures.jobs) (c.has_jobs_of.ensures c.if-not-has_jobs_of.false) (c.differ_along.ensures yes)
+returns g c =
+    let long = c.if-order-jobs.false ∙ c.jobs.ensures.jobs in (
+      λ yes. judged c.args.plan.now c.args.arranged.now c.args.colouring.now c.args.order.now c.colours.result.now c.requires.colours c.requires.order
+          c.colours.ensures (sym c.version-2.ensures ∙ sym c.if-version.false ∙ c.version.ensures)
+          long (c.has_jobs_of.ensures.0 c.if-not-has_jobs_of.false) (c.differ_along.ensures.0 yes),
+      λ is. c.differ_along.ensures.1 (differs c.args.plan.now c.args.arranged.now c.args.colouring.now c.args.order.now c.colours.result.now c.requires.order
+          c.colours.ensures long is),
+    )

@@ -1,4 +1,4 @@
-use Rattle.std.proofs.Common.{◌≡◌, sym, subst}
+use Rattle.std.proofs.Common.{sym, subst}
 use Rattle.locality.specs.Lists.{Each}
 use Rattle.edge_rule.specs.DeskView.{BenchView, Owns}
 use Rattle.edge_rule.specs.Ending.{HasAll}

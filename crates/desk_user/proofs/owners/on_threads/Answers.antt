@@ -1,4 +1,4 @@
-use Rattle.std.proofs.Common.{◌≡◌, ℕ, subst, sym, rules}
+use Rattle.std.proofs.Common.{subst, rules}
 use Rattle.edge_rule.specs.DeskView.{DeskView, BenchView}
 use Rattle.desk_user.specs.Use.{Keeps}
 use Rattle.desk_user.proofs.Owned.{kept_jobs}

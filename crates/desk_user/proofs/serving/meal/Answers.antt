@@ -1,4 +1,4 @@
-use Rattle.std.proofs.Common.{◌≡◌, [], ◌∷◌, refl, inl, inr, rules}
+use Rattle.std.proofs.Common.{[], ◌∷◌, refl, inl, inr, rules}
 use Rattle.legal_steps.specs.declared.event.Event.TheVariants.{Leave, Sit}
 use Rattle.desk_user.proofs.serving.meal.Goals as goal
 
