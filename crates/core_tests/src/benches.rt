@@ -56,8 +56,8 @@ pub(crate) const MEAL_FIRST: [Step; 4] = [
     Step::Sit(A),
 ];
 
-// Job a sits on a mark that is out of date: b asked since then. From place 16 on a gives what it was asked for,
-// b eats, and a sits once more.
+// Job a sits on a mark that is out of date: b asked since then. Then a gives what it was asked for, b eats, and a
+// sits once more.
 pub(crate) const STALE_MARK: [Step; 29] = [
     Step::Thirst(A),
     Step::Hunger(A),
@@ -90,6 +90,45 @@ pub(crate) const STALE_MARK: [Step; 29] = [
     Step::Sit(A),
 ];
 
+// The stages of that run which tests name: how many of its steps are done once this was.
+pub(crate) mod stage {
+    pub(crate) const OPENING: usize = 0;
+
+    pub(crate) const A_THIRSTS: usize = 1;
+
+    pub(crate) const A_HUNGERS: usize = 2;
+
+    pub(crate) const B_THIRSTS: usize = 3;
+
+    pub(crate) const B_HUNGERS: usize = 4;
+
+    pub(crate) const A_LOOKS: usize = 5;
+
+    pub(crate) const B_ASKS: usize = 6;
+
+    pub(crate) const A_SITS: usize = 7;
+
+    pub(crate) const A_DRINKS: usize = 8;
+
+    pub(crate) const A_LOOKS_IN_ITS_MEAL: usize = 9;
+
+    pub(crate) const A_REACHES: usize = 10;
+
+    pub(crate) const A_ACTS: usize = 11;
+
+    pub(crate) const A_QUITS: usize = 12;
+
+    pub(crate) const A_LEAVES: usize = 13;
+
+    pub(crate) const A_HAS_A_STALE_MARK: usize = 16;
+
+    pub(crate) const A_ASKS: usize = 24;
+
+    pub(crate) const B_SOILS: usize = 25;
+
+    pub(crate) const A_LOOKS_AGAIN: usize = 28;
+}
+
 // Of three jobs, a gets both its forks, eats and soils them.
 pub(crate) const MEAL_OF_THREE: [Step; 11] = [
     Step::Thirst(A),
@@ -104,6 +143,11 @@ pub(crate) const MEAL_OF_THREE: [Step; 11] = [
     Step::Soil(A, AC),
     Step::Soil(A, AB),
 ];
+
+// How many of those steps are done before a sits, and once one of its two forks is soiled.
+pub(crate) const BEFORE_THE_MEAL: usize = 8;
+
+pub(crate) const ONE_FORK_SOILED: usize = 10;
 
 // Whether the step's numbers are the plan's.
 pub(crate) fn is_step_of<T: Allocator>(plan: &Plan<T>, step: Step) -> bool

@@ -4,35 +4,50 @@ ghost use Rattle.std.specs.List.{All};
 ghost use Rattle.legal_steps.specs.Steps.{IsStepOf};
 
 use crate::benches::{A, AB, B, event_of, is_step_of, plan_of};
+use every_list::try_list;
 use instrument_log::Entry;
 use interleaving::{
     Counts, Dining, Drinking, EdgeState, End, Event, JobState, NotLegal, Step, StepLine, World,
 };
 use lab_plan::{InstrumentNo, JobNo, Plan};
+use phases::{Allowed, allows};
 use std::alloc::Allocator;
 use std::process::Abort;
-use std::test::Fail;
 
 mod cases;
 mod every_list;
 mod guards;
 mod marks;
+mod phases;
 mod starts;
-mod triangle;
+mod stops;
+
+// Whether a job has a mark for the fork, and which bottles it has marks for.
+type Marks = (bool, u32);
+
+const NONE: Marks = (false, 0);
+
+const BOTTLE: Marks = (false, 1);
+
+const FORK: Marks = (true, 0);
+
+const BOTH: Marks = (true, 1);
 
 // What a world shows of its first two jobs, their edge and the last entry of the first log.
-#[derive(Clone, Copy, PartialEq, Eq, Debug)]
+#[derive(Clone, Copy, PartialEq)]
 struct Shown {
     edge: EdgeState,
     a: JobState,
     b: JobState,
     counts: Counts,
     counts_of_b: Counts,
+    marks: Marks,
+    marks_of_b: Marks,
     last: Option<Entry>,
 }
 
 // The edge of THE opening, with one bottle: fork and bottle at a, their tokens at b.
-const OPENED: EdgeState = EdgeState {
+const OPENED_EDGE: EdgeState = EdgeState {
     fork: End::Lower,
     dirty: true,
     token: End::Higher,
@@ -40,34 +55,29 @@ const OPENED: EdgeState = EdgeState {
     bottle_tokens: 1,
 };
 
-fn opened() -> Shown {
-    let idle = phase(Dining::Thinking, Drinking::Tranquil, 0, 0);
-    Shown {
-        edge: OPENED,
-        a: idle,
-        b: idle,
-        counts: counts(0, 0, 0),
-        counts_of_b: counts(0, 0, 0),
-        last: None,
-    }
-}
+const IDLE: JobState = JobState {
+    dining: Dining::Thinking,
+    drinking: Drinking::Tranquil,
+    session: 0,
+    position: 0,
+};
 
-fn phase(dining: Dining, drinking: Drinking, session: u32, position: u32) -> JobState {
-    JobState {
-        dining,
-        drinking,
-        session,
-        position,
-    }
-}
+const NO_COUNTS: Counts = Counts {
+    meals: 0,
+    sessions_done: 0,
+    withdrawn: 0,
+};
 
-fn counts(meals: u32, sessions_done: u32, withdrawn: u32) -> Counts {
-    Counts {
-        meals,
-        sessions_done,
-        withdrawn,
-    }
-}
+const OPENED: Shown = Shown {
+    edge: OPENED_EDGE,
+    a: IDLE,
+    b: IDLE,
+    counts: NO_COUNTS,
+    counts_of_b: NO_COUNTS,
+    marks: NONE,
+    marks_of_b: NONE,
+    last: None,
+};
 
 fn last_entry<T: Allocator>(rt: &impl Abort, world: &World<T>) -> Option<Entry> {
     assert!(rt; world.plan().instruments() > 0);
@@ -80,11 +90,18 @@ fn last_entry<T: Allocator>(rt: &impl Abort, world: &World<T>) -> Option<Entry> 
 
 fn counts_of<T: Allocator>(rt: &impl Abort, world: &World<T>, job: JobNo) -> Counts {
     assert!(rt; (job.0 as usize) < world.plan().jobs());
-    counts(
-        world.meals(job),
-        world.sessions_done(job),
-        world.withdrawn(job),
-    )
+    Counts {
+        meals: world.meals(job),
+        sessions_done: world.sessions_done(job),
+        withdrawn: world.withdrawn(job),
+    }
+}
+
+fn marks_of<T: Allocator>(rt: &impl Abort, world: &World<T>, job: JobNo) -> Marks {
+    assert!(rt; world.plan().edges() > 0);
+    let (lower, higher) = world.plan().ends(AB);
+    assert!(rt; lower == job || higher == job);
+    (world.fork_mark(job, AB), world.bottle_marks(job, AB))
 }
 
 fn shows<T: Allocator>(rt: &impl Abort, world: &World<T>) -> Shown {
@@ -96,6 +113,8 @@ fn shows<T: Allocator>(rt: &impl Abort, world: &World<T>) -> Shown {
         b: world.job(B),
         counts: counts_of(rt, world, A),
         counts_of_b: counts_of(rt, world, B),
+        marks: marks_of(rt, world, A),
+        marks_of_b: marks_of(rt, world, B),
         last: last_entry(rt, world),
     }
 }
@@ -113,29 +132,22 @@ fn takes<T: Allocator>(rt: &impl Abort, world: &mut World<T>, step: &Step) -> bo
     does(rt, world, &event)
 }
 
-// Whether the steps are done one after another; the first that isn't legal ends it.
-fn walks<T: Allocator>(rt: &impl Abort, world: &mut World<T>, steps: &[Step]) -> bool {
-    for step in steps {
-        if !takes(rt, world, step) {
-            return false;
-        }
-    }
-    true
-}
-
 // What a replay answers.
 type Replayed = Result<usize, (usize, NotLegal)>;
 
-fn replay<T: Allocator + Copy>(
-    rt: &impl Abort,
-    alloc: T,
-    script: &str,
-    events: &[Event],
-) -> Result<(Replayed, Shown), Fail> {
-    let plan = plan_of(rt, alloc, script);
-    let mut world = World::opening(alloc, &plan)?;
-    let answer = world.replay(events);
-    Ok((answer, shows(rt, &world)))
+// What is done from THE opening.
+#[derive(Clone, Copy)]
+enum Way<'a> {
+    // A replay of these events.
+    Events(&'a [Event]),
+    // A replay of the steps in these lines.
+    Lines(&'a [StepLine]),
+    // These steps, which have to be legal.
+    Steps(&'a [Step]),
+    // The same, and then the event.
+    Then(&'a [Step], &'a Event),
+    // The same, and then so many of the steps that a number codes.
+    List(&'a [Step], usize, usize),
 }
 
 // Whether the numbers of all the steps are the plan's.
@@ -145,30 +157,98 @@ fn are_steps_of<T: Allocator>(plan: &Plan<T>, lines: &[StepLine]) -> bool
     lines.iter().all(|line| is_step_of(plan, line.step))
 }
 
-fn replay_steps<T: Allocator + Copy>(
+fn replay_lines<T: Allocator>(
     rt: &impl Abort,
-    alloc: T,
-    script: &str,
+    world: &mut World<T>,
     lines: &[StepLine],
-) -> Result<(Replayed, Shown), Fail> {
-    let plan = plan_of(rt, alloc, script);
-    let mut world = World::opening(alloc, &plan)?;
+) -> Replayed {
     assert!(rt; are_steps_of(world.plan(), lines));
-    let answer = world.replay_steps(lines);
-    Ok((answer, shows(rt, &world)))
+    world.replay_steps(lines)
 }
 
-// After these legal steps from THE opening: whether the event is legal, and what the world shows then.
+// Takes the steps, all of which have to be legal.
+fn walk<T: Allocator>(rt: &impl Abort, world: &mut World<T>, steps: &[Step]) -> Replayed {
+    for step in steps {
+        assert!(rt; takes(rt, world, step));
+    }
+    Ok(steps.len())
+}
+
+// Answers as a replay of the steps and then the event, but counts the steps alone.
+fn walk_to<T: Allocator>(
+    rt: &impl Abort,
+    world: &mut World<T>,
+    steps: &[Step],
+    event: &Event,
+) -> Replayed {
+    let answer = walk(rt, world, steps);
+    if does(rt, world, event) {
+        answer
+    } else {
+        Err((steps.len(), NotLegal))
+    }
+}
+
+fn goes<T: Allocator>(rt: &impl Abort, world: &mut World<T>, way: Way) -> Replayed {
+    match way {
+        Way::Events(events) => world.replay(events),
+        Way::Lines(lines) => replay_lines(rt, world, lines),
+        Way::Steps(steps) => walk(rt, world, steps),
+        Way::Then(steps, event) => walk_to(rt, world, steps, event),
+        Way::List(steps, code, length) => {
+            let answer = walk(rt, world, steps);
+            try_list(rt, world, code, length);
+            answer
+        }
+    }
+}
+
+// What the way answers, what the world shows after it, and what the phases of both jobs allow then.
+type Told = (Replayed, Shown, (Allowed, Allowed));
+
+fn tell<T: Allocator>(rt: &impl Abort, world: &mut World<T>, way: Way) -> Told {
+    let answer = goes(rt, world, way);
+    let allowed = (allows(rt, world, A), allows(rt, world, B));
+    (answer, shows(rt, world), allowed)
+}
+
+fn open<'a, T: Allocator + Copy>(rt: &impl Abort, alloc: T, plan: &'a Plan<T>) -> World<'a, T> {
+    match World::opening(alloc, plan) {
+        Ok(world) => world,
+        Err(_) => panic!(rt; "no memory"),
+    }
+}
+
+// It alone owns a world.
+fn told_of<T: Allocator + Copy>(rt: &impl Abort, alloc: T, plan: &Plan<T>, way: Way) -> Told {
+    let mut world = open(rt, alloc, plan);
+    tell(rt, &mut world, way)
+}
+
+fn told<T: Allocator + Copy>(rt: &impl Abort, alloc: T, script: &str, way: Way) -> Told {
+    let plan = plan_of(rt, alloc, script);
+    told_of(rt, alloc, &plan, way)
+}
+
+// Whether the event is legal after these steps, and what the world shows then.
 fn after<T: Allocator + Copy>(
     rt: &impl Abort,
     alloc: T,
     script: &str,
     steps: &[Step],
     event: &Event,
-) -> Result<(bool, Shown), Fail> {
-    let plan = plan_of(rt, alloc, script);
-    let mut world = World::opening(alloc, &plan)?;
-    assert!(rt; walks(rt, &mut world, steps));
-    let done = does(rt, &mut world, event);
-    Ok((done, shows(rt, &world)))
+) -> (bool, Shown) {
+    let (answer, shown, _) = told(rt, alloc, script, Way::Then(steps, event));
+    (answer.is_ok(), shown)
+}
+
+// What a replay answers, and what the world shows after it.
+fn replayed<T: Allocator + Copy>(
+    rt: &impl Abort,
+    alloc: T,
+    script: &str,
+    way: Way,
+) -> (Replayed, Shown) {
+    let (answer, shown, _) = told(rt, alloc, script, way);
+    (answer, shown)
 }

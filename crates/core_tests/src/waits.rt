@@ -2,15 +2,18 @@
 ghost use Rattle.std.specs.Prelude.{IsTrue};
 ghost use Rattle.legal_steps.specs.State.{IsOwn};
 
-use crate::benches::{AB, event_of};
-use interleaving::{End, EndChoice, Event, Step, World};
-use lab_plan::{EdgeNo, InstrumentNo, JobNo, Plan};
-use overtaking::{meals_after_ask, way_on};
+use crate::benches::{event_of, plan_of};
+use interleaving::{End, EndChoice, Step, World};
+use lab_plan::{EdgeNo, JobNo, Plan};
+use linked_list_allocator::LocalHeap;
 use std::alloc::Allocator;
 use std::process::Abort;
 
-mod cases;
+mod meals;
+mod triangle;
 mod ways;
+
+use triangle::Pair;
 
 /// The one edge of two jobs, with all at the lower one.
 const ALL_LOWER: [EndChoice; 1] = [EndChoice {
@@ -24,91 +27,53 @@ const FORKS_HIGHER: [EndChoice; 3] = [EndChoice {
     bottles: 0,
 }; 3];
 
-/// Takes all of these steps, and adds their events.
-fn go_on<T: Allocator, V: Allocator>(
-    rt: &impl Abort,
-    world: &mut World<'_, T>,
-    events: &mut Vec<Event, V>,
-    steps: &[Step],
-) {
-    for step in steps {
-        assert!(rt; events.push(event_of(rt, world, *step)).is_ok());
-        let event = event_of(rt, world, *step);
-        assert!(rt; world.step(event).is_ok());
-    }
+/// What is asked of a world that has just started.
+#[derive(Clone, Copy)]
+enum Question<'a> {
+    /// The meals that are overtaken with a stale mark.
+    Overtaking,
+    /// The rankings before and after the meal of three.
+    Rankings,
+    /// Whether just these pairs precede after these steps.
+    Pairs(&'a [Step], &'a [Pair]),
+    /// The forks once one of those of the meal of three is soiled.
+    Forks,
+    /// Whether the heap has memory for a ranking.
+    Ranking(&'a LocalHeap),
+    /// Whether a way leads on before each of these steps, and after them, or not there.
+    Leads(&'a [Step], bool),
+    /// Whether the ways on alone lead to the end, with these values in each log.
+    Drives(&'a [u32]),
 }
 
-/// Whether the edge is one of the job's.
-fn owns<T: Allocator>(plan: &Plan<T>, job: JobNo, edge: EdgeNo) -> bool
-    ensures { IsTrue result → IsOwn plan.now job edge }
-{
-    if edge.0 >= plan.edges() {
-        return false;
-    }
-    let (lower, higher) = plan.ends(edge);
-    lower == job || higher == job
-}
-
-fn overtaking<T: Allocator>(
-    rt: &impl Abort,
-    plan: &Plan<T>,
-    events: &[Event],
-    place: usize,
-    job: JobNo,
-) -> u64 {
-    assert!(rt; owns(plan, job, AB));
-    assert!(rt; events.get(place) == Some(&Event::AskFork(job, AB)));
-    meals_after_ask(plan, events, place, job, AB)
-}
-
-/// A start, some of the events, and then what `way_on` answers.
-fn leads_on<T: Allocator + Copy>(
+fn answer<T: Allocator + Copy>(
     rt: &impl Abort,
     alloc: T,
-    plan: &Plan<T>,
-    choices: &[EndChoice],
-    events: &[Event],
+    world: &mut World<'_, T>,
+    question: Question,
 ) -> bool {
-    let mut world = start(rt, alloc, plan, choices);
-    assert!(rt; world.replay(events).is_ok());
-    match way_on(&world) {
-        Some(event) => {
-            assert!(rt; world.step(event).is_ok());
-            true
-        }
-        None => false,
+    match question {
+        Question::Overtaking => meals::overtakes_once(rt, alloc, world),
+        Question::Rankings => meals::turns_with_meals(rt, alloc, world),
+        Question::Pairs(steps, pairs) => triangle::has_pairs(rt, alloc, world, steps, pairs),
+        Question::Forks => triangle::goes_round_by_dirt(rt, world),
+        Question::Ranking(heap) => meals::has_room(rt, heap, world),
+        Question::Leads(steps, at_end) => ways::leads_all_along(rt, world, steps, at_end),
+        Question::Drives(values) => ways::drives_to(rt, world, values),
     }
 }
 
-/// Goes on by `way_on` alone until it answers none, for at most 200 events.
-fn drive<T: Allocator>(rt: &impl Abort, world: &mut World<'_, T>) {
-    for _ in 0..200 {
-        match way_on(world) {
-            Some(event) => assert!(rt; world.step(event).is_ok()),
-            None => return,
-        }
-    }
-    panic!(rt; "no end");
-}
-
-/// Whether the log of the instrument has entries with just these values.
-fn has_values<T: Allocator>(
+/// The answer of a world that starts with these choices. It alone owns a plan and its world.
+fn ask<T: Allocator + Copy>(
     rt: &impl Abort,
-    world: &World<'_, T>,
-    instrument: InstrumentNo,
-    values: &[u32],
+    alloc: T,
+    script: &str,
+    choices: &[EndChoice],
+    question: Question,
 ) -> bool {
-    assert!(rt; (instrument.0 as usize) < world.plan().instruments());
-    let log = world.log(instrument);
-    if log.len() != values.len() {
-        return false;
-    }
-    for index in 0..log.len() {
-        if log.entry(index).value != values[index] {
-            return false;
-        }
-    }
-    true
+    let plan = plan_of(rt, alloc, script);
+    let mut world = start(rt, alloc, &plan, choices);
+    answer(rt, alloc, &mut world, question)
 }
 
 fn start<'a, T: Allocator + Copy>(
@@ -121,4 +86,28 @@ fn start<'a, T: Allocator + Copy>(
         Ok(world) => world,
         Err(_) => panic!(rt; "no start"),
     }
+}
+
+/// Takes a step, which has to be legal.
+fn take<T: Allocator>(rt: &impl Abort, world: &mut World<'_, T>, step: Step) {
+    let event = event_of(rt, world, step);
+    assert!(rt; world.step(event).is_ok());
+}
+
+/// Takes all of these steps.
+fn go_on<T: Allocator>(rt: &impl Abort, world: &mut World<'_, T>, steps: &[Step]) {
+    for step in steps {
+        take(rt, world, *step);
+    }
+}
+
+/// Whether the edge is one of the job's.
+fn owns<T: Allocator>(plan: &Plan<T>, job: JobNo, edge: EdgeNo) -> bool
+    ensures { IsTrue result → IsOwn plan.now job edge }
+{
+    if edge.0 >= plan.edges() {
+        return false;
+    }
+    let (lower, higher) = plan.ends(edge);
+    lower == job || higher == job
 }

@@ -1,10 +1,11 @@
 // Whole runs.
-use super::{OPENED, Shown, after, counts, opened, phase, replay, replay_steps};
-use crate::benches::{A, AB, STALE_MARK, TWICE, TWO};
+use super::{BOTTLE, IDLE, NO_COUNTS, NONE, OPENED, OPENED_EDGE, Shown, Way, after, replayed};
+use crate::benches::{A, AB, STALE_MARK, TWICE, TWO, stage};
 use instrument_log::Entry;
-use interleaving::{Dining, Drinking, EdgeState, End, Event, NotLegal, Step, StepLine};
+use interleaving::{
+    Counts, Dining, Drinking, EdgeState, End, Event, JobState, NotLegal, Step, StepLine,
+};
 use lab_plan::Verb;
-use std::test::Fail;
 
 // A thirsty job eats before it drinks.
 const TO_MEAL: [StepLine; 4] = [
@@ -26,43 +27,51 @@ const TO_MEAL: [StepLine; 4] = [
     },
 ];
 
-fn eats() -> Shown {
-    Shown {
-        a: phase(Dining::Eating, Drinking::Thirsty, 1, 0),
-        counts: counts(1, 0, 0),
-        ..opened()
-    }
-}
+const HUNGRY: JobState = JobState {
+    dining: Dining::Hungry,
+    drinking: Drinking::Thirsty,
+    session: 1,
+    position: 0,
+};
+
+const EATING: JobState = JobState {
+    dining: Dining::Eating,
+    ..HUNGRY
+};
+
+const ONE_MEAL: Counts = Counts {
+    meals: 1,
+    ..NO_COUNTS
+};
+
+// It has seen the bottle, and its fork mark is gone with the meal's start.
+const EATS: Shown = Shown {
+    a: EATING,
+    counts: ONE_MEAL,
+    marks: BOTTLE,
+    ..OPENED
+};
 
 #[test]
-fn eats_before_drinking(rt: HostRuntime) -> Result<(), Fail> {
-    let done = replay_steps(&rt, rt.alloc(), TWO, &TO_MEAL)?;
-    assert!(rt; done == (Ok(4), eats()));
-    Ok(())
+fn eats_before_drinking(rt: HostRuntime) {
+    let done = replayed(&rt, rt.alloc(), TWO, Way::Lines(&TO_MEAL));
+    assert!(rt; done == (Ok(4), EATS));
 }
 
 // The job sits before it has seen that the fork is here.
 const HASTY: [Event; 3] = [Event::Thirst(A), Event::Hunger(A), Event::Sit(A)];
 
-fn hungry() -> Shown {
-    Shown {
-        a: phase(Dining::Hungry, Drinking::Thirsty, 1, 0),
-        ..opened()
-    }
-}
+const HUNGERS: Shown = Shown {
+    a: HUNGRY,
+    ..OPENED
+};
 
 #[test]
-fn illegal_step(rt: HostRuntime) -> Result<(), Fail> {
-    let done = replay(&rt, rt.alloc(), TWO, &HASTY)?;
-    assert!(rt; done == (Err((2, NotLegal)), hungry()));
-    Ok(())
-}
-
-#[test]
-fn legal_steps(rt: HostRuntime) -> Result<(), Fail> {
-    let done = replay(&rt, rt.alloc(), TWO, &HASTY[..2])?;
-    assert!(rt; done == (Ok(2), hungry()));
-    Ok(())
+fn illegal_step(rt: HostRuntime) {
+    let done = replayed(&rt, rt.alloc(), TWO, Way::Events(&HASTY));
+    assert!(rt; done == (Err((2, NotLegal)), HUNGERS));
+    let legal = replayed(&rt, rt.alloc(), TWO, Way::Events(&HASTY[..2]));
+    assert!(rt; legal == (Ok(2), HUNGERS));
 }
 
 const FIRST_ENTRY: Entry = Entry {
@@ -75,50 +84,60 @@ const FIRST_ENTRY: Entry = Entry {
 };
 
 // The world before the fork is given.
-fn asked() -> Shown {
-    Shown {
-        edge: EdgeState {
-            token: End::Lower,
-            ..OPENED
-        },
-        a: phase(Dining::Hungry, Drinking::Thirsty, 2, 0),
-        b: phase(Dining::Hungry, Drinking::Thirsty, 1, 0),
-        counts: counts(1, 1, 0),
-        last: Some(FIRST_ENTRY),
-        ..opened()
-    }
-}
+const ASKED: Shown = Shown {
+    edge: EdgeState {
+        token: End::Lower,
+        ..OPENED_EDGE
+    },
+    a: JobState {
+        session: 2,
+        ..HUNGRY
+    },
+    b: HUNGRY,
+    counts: Counts {
+        meals: 1,
+        sessions_done: 1,
+        withdrawn: 0,
+    },
+    marks: BOTTLE,
+    last: Some(FIRST_ENTRY),
+    ..OPENED
+};
 
-// The world once a has sat twice.
-fn given() -> Shown {
-    Shown {
-        edge: EdgeState {
-            fork: End::Lower,
-            dirty: false,
-            token: End::Higher,
-            bottles: 1,
-            bottle_tokens: 0,
-        },
-        a: phase(Dining::Eating, Drinking::Thirsty, 2, 0),
-        b: phase(Dining::Thinking, Drinking::Drinking, 1, 0),
-        counts: counts(2, 1, 0),
-        counts_of_b: counts(1, 0, 0),
-        last: Some(FIRST_ENTRY),
-    }
-}
+// The world once a has sat twice: the fork is back at a, and the bottle at b, which drinks.
+const SAT_TWICE: Shown = Shown {
+    edge: EdgeState {
+        fork: End::Lower,
+        dirty: false,
+        token: End::Higher,
+        bottles: 1,
+        bottle_tokens: 0,
+    },
+    a: JobState {
+        session: 2,
+        ..EATING
+    },
+    b: JobState {
+        drinking: Drinking::Drinking,
+        session: 1,
+        ..IDLE
+    },
+    counts: Counts {
+        meals: 2,
+        sessions_done: 1,
+        withdrawn: 0,
+    },
+    counts_of_b: ONE_MEAL,
+    marks: NONE,
+    marks_of_b: BOTTLE,
+    last: Some(FIRST_ENTRY),
+};
 
 #[test]
-fn stale_mark(rt: HostRuntime) -> Result<(), Fail> {
+fn stale_mark(rt: HostRuntime) {
     let sits = Event::Sit(A);
-    let done = after(&rt, rt.alloc(), TWICE, &STALE_MARK[..16], &sits)?;
-    assert!(rt; done == (false, asked()));
-    Ok(())
-}
-
-#[test]
-fn stale_mark_goes_on(rt: HostRuntime) -> Result<(), Fail> {
-    let sits = Event::Sit(A);
-    let done = after(&rt, rt.alloc(), TWICE, &STALE_MARK[..28], &sits)?;
-    assert!(rt; done == (true, given()));
-    Ok(())
+    let stale = &STALE_MARK[..stage::A_HAS_A_STALE_MARK];
+    assert!(rt; after(&rt, rt.alloc(), TWICE, stale, &sits) == (false, ASKED));
+    let clean = &STALE_MARK[..stage::A_LOOKS_AGAIN];
+    assert!(rt; after(&rt, rt.alloc(), TWICE, clean, &sits) == (true, SAT_TWICE));
 }

@@ -1,12 +1,10 @@
 // Every short list of steps of a small plan: what is said to be enabled is what a step does, and a refused
 // step changes nothing.
-use super::marks::{Marks, marks};
-use super::{Shown, shows, takes, walks};
+use super::{Way, shows, takes, told_of};
 use crate::benches::{A, AB, B, STALE_MARK, TWICE, plan_of};
 use interleaving::{Step, World};
 use std::alloc::Allocator;
 use std::process::Abort;
-use std::test::Fail;
 
 // Every step with the plan's numbers.
 const EVERY: [Step; 34] = [
@@ -46,49 +44,44 @@ const EVERY: [Step; 34] = [
     Step::Withdraw(B),
 ];
 
-// What a world shows, and the marks of both jobs.
-fn shows_all<T: Allocator>(rt: &impl Abort, world: &World<T>) -> (Shown, Marks, Marks) {
-    (shows(rt, world), marks(rt, world, A), marks(rt, world, B))
-}
-
 // The list of so many steps that a number codes.
-fn check_list<T: Allocator>(rt: &impl Abort, world: &mut World<T>, code: usize, length: usize) {
+pub(super) fn try_list<T: Allocator>(
+    rt: &impl Abort,
+    world: &mut World<T>,
+    code: usize,
+    length: usize,
+) {
     let mut rest = code;
     for _ in 0..length {
-        let before = shows_all(rt, world);
+        let before = shows(rt, world);
         let done = takes(rt, world, &EVERY[rest % 34]);
-        assert!(rt; done || shows_all(rt, world) == before, "{code}");
+        assert!(rt; done || shows(rt, world) == before, "{code}");
         rest /= 34;
     }
 }
 
-// Every list of so many steps, after some of the stale mark.
+// Every list of so many steps, after these steps of the stale mark.
 fn check<T: Allocator + Copy>(
     rt: &impl Abort,
     alloc: T,
-    place: usize,
+    steps: &[Step],
     length: usize,
     lists: usize,
-) -> Result<(), Fail> {
+) {
     let plan = plan_of(rt, alloc, TWICE);
-    assert!(rt; place <= STALE_MARK.len());
     for code in 0..lists {
-        let mut world = World::opening(alloc, &plan)?;
-        assert!(rt; walks(rt, &mut world, &STALE_MARK[..place]));
-        check_list(rt, &mut world, code, length);
+        let _ = told_of(rt, alloc, &plan, Way::List(steps, code, length));
     }
-    Ok(())
 }
 
 #[test]
-fn every_list_of_three(rt: HostRuntime) -> Result<(), Fail> {
-    check(&rt, rt.alloc(), 0, 3, 34 * 34 * 34)
+fn every_list_of_three(rt: HostRuntime) {
+    check(&rt, rt.alloc(), &[], 3, 34 * 34 * 34);
 }
 
 #[test]
-fn every_pair_after_each_step(rt: HostRuntime) -> Result<(), Fail> {
+fn every_pair_after_each_step(rt: HostRuntime) {
     for place in 1..29 {
-        check(&rt, rt.alloc(), place, 2, 34 * 34)?;
+        check(&rt, rt.alloc(), &STALE_MARK[..place], 2, 34 * 34);
     }
-    Ok(())
 }

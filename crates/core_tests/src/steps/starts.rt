@@ -1,9 +1,10 @@
 // Starts, and memory that runs out.
 use crate::benches::{A, AB, THREE, TWO, plan_of};
 use interleaving::{EdgeState, End, EndChoice, Event, NoMemory, StartRefusal, World};
+use lab_plan::Plan;
 use linked_list_allocator::LocalHeap;
 use script_reader::read_plan;
-use std::alloc::{AllocError, Allocator, Global};
+use std::alloc::Allocator;
 use std::process::Abort;
 use std::test::Fail;
 
@@ -18,6 +19,19 @@ const HIGHER: EndChoice = EndChoice {
 };
 
 // The first edge of a world at its start, or why there is none.
+fn start_of<T: Allocator + Copy>(
+    rt: &impl Abort,
+    alloc: T,
+    plan: &Plan<T>,
+    choices: &[EndChoice],
+) -> Result<EdgeState, StartRefusal> {
+    assert!(rt; plan.edges() > 0);
+    match World::start(alloc, plan, choices) {
+        Ok(world) => Ok(world.edge(AB)),
+        Err(refusal) => Err(refusal),
+    }
+}
+
 fn start<T: Allocator + Copy>(
     rt: &impl Abort,
     alloc: T,
@@ -25,24 +39,13 @@ fn start<T: Allocator + Copy>(
     choices: &[EndChoice],
 ) -> Result<EdgeState, StartRefusal> {
     let plan = plan_of(rt, alloc, script);
-    assert!(rt; plan.edges() > 0);
-    match World::start(alloc, &plan, choices) {
-        Ok(world) => Ok(world.edge(AB)),
-        Err(refusal) => Err(refusal),
-    }
+    start_of(rt, alloc, &plan, choices)
 }
 
 // Of a triangle, the forks by the edges 0-1, 0-2 and 1-2: at 0, 2 and 1, and the other way round.
 const ROUND: [EndChoice; 3] = [LOWER, HIGHER, LOWER];
 
 const OTHER_ROUND: [EndChoice; 3] = [HIGHER, LOWER, HIGHER];
-
-#[test]
-fn cycle_is_refused(rt: HostRuntime) {
-    for choices in [ROUND, OTHER_ROUND] {
-        assert!(rt; start(&rt, rt.alloc(), THREE, &choices) == Err(StartRefusal::Cycle));
-    }
-}
 
 const TOO_FEW: [EndChoice; 2] = [LOWER, LOWER];
 
@@ -58,14 +61,20 @@ const NO_SUCH_BOTTLE: [EndChoice; 3] = [
     },
 ];
 
+// Choices, and why a triangle doesn't start with them.
+const REFUSED: [(&[EndChoice], StartRefusal); 5] = [
+    (&ROUND, StartRefusal::Cycle),
+    (&OTHER_ROUND, StartRefusal::Cycle),
+    (&TOO_FEW, StartRefusal::BadChoices),
+    (&TOO_MANY, StartRefusal::BadChoices),
+    (&NO_SUCH_BOTTLE, StartRefusal::BadChoices),
+];
+
 #[test]
-fn bad_choices_are_refused(rt: HostRuntime) {
-    for choices in [
-        TOO_FEW.as_slice(),
-        TOO_MANY.as_slice(),
-        NO_SUCH_BOTTLE.as_slice(),
-    ] {
-        assert!(rt; start(&rt, rt.alloc(), THREE, choices) == Err(StartRefusal::BadChoices));
+fn starts_are_refused(rt: HostRuntime) {
+    for (choices, refusal) in REFUSED {
+        let answer = start(&rt, rt.alloc(), THREE, choices);
+        assert_eq!(rt; answer, Err(refusal), "with {choices:?}");
     }
 }
 
@@ -97,95 +106,61 @@ const ALL_LOWER: EdgeState = EdgeState {
 };
 
 // Two jobs that read the same 28 instruments.
-fn script_of_many(alloc: Global) -> Result<String, AllocError> {
-    let mut script = String::new(alloc);
-    script.push_str("lab 1\n")?;
-    for front in ["job a\nsession\n", "end\njob b\nsession\n"] {
-        script.push_str(front)?;
-        for number in 0..28u32 {
-            let line = format!(in alloc; "i{number} read\n")?;
-            script.push_str(&line)?;
-        }
-    }
-    script.push_str("end\n")?;
-    Ok(script)
-}
+const MANY: &str =
+    "lab 1\njob a\nsession\ni0 read\ni1 read\ni2 read\ni3 read\ni4 read\ni5 read\ni6 read\ni7 read\ni8 read\ni9 read\ni10 read\ni11 read\ni12 read\ni13 read\ni14 read\ni15 read\ni16 read\ni17 read\ni18 read\ni19 read\ni20 read\ni21 read\ni22 read\ni23 read\ni24 read\ni25 read\ni26 read\ni27 read\nend\njob b\nsession\ni0 read\ni1 read\ni2 read\ni3 read\ni4 read\ni5 read\ni6 read\ni7 read\ni8 read\ni9 read\ni10 read\ni11 read\ni12 read\ni13 read\ni14 read\ni15 read\ni16 read\ni17 read\ni18 read\ni19 read\ni20 read\ni21 read\ni22 read\ni23 read\ni24 read\ni25 read\ni26 read\ni27 read\nend\n";
 
 #[test]
-fn many_in_common(rt: HostRuntime) -> Result<(), Fail> {
-    let script = script_of_many(rt.alloc())?;
-    assert!(rt; start(&rt, rt.alloc(), &script, &ALL) == Ok(ALL_HIGHER));
-    assert!(rt; start(&rt, rt.alloc(), &script, &[LOWER]) == Ok(ALL_LOWER));
-    assert!(rt; start(&rt, rt.alloc(), &script, &ONE_MORE) == Err(StartRefusal::BadChoices));
-    Ok(())
+fn many_in_common(rt: HostRuntime) {
+    let alloc = rt.alloc();
+    assert!(rt; start(&rt, alloc, MANY, &ALL) == Ok(ALL_HIGHER));
+    assert!(rt; start(&rt, alloc, MANY, &[LOWER]) == Ok(ALL_LOWER));
+    assert!(rt; start(&rt, alloc, MANY, &ONE_MORE) == Err(StartRefusal::BadChoices));
 }
 
-// What a start answers in a heap that holds the plan too; None where the heap doesn't do for the plan.
-fn start_within<T: Allocator + Copy>(
-    rt: &impl Abort,
-    heap: T,
-) -> Option<Result<bool, StartRefusal>> {
-    let Ok(plan) = read_plan(heap, TWO.as_bytes()) else {
-        return None;
-    };
-    // choices that don't fit come first
-    let unfit = World::start(heap, &plan, &[]);
+// Whether there is memory for a start; choices that don't fit come first.
+fn starts<T: Allocator + Copy>(rt: &impl Abort, heap: T, plan: &Plan<T>) -> bool {
+    let unfit = World::start(heap, plan, &[]);
     assert!(rt; matches!(&unfit, Err(StartRefusal::BadChoices)));
-    match World::start(heap, &plan, &[HIGHER]) {
-        Ok(world) => Some(Ok(world.enabled(Event::Thirst(A)))),
-        Err(refusal) => Some(Err(refusal)),
-    }
-}
-
-#[test]
-fn growths_are_refused(rt: HostRuntime) -> Result<(), Fail> {
-    let (mut refused, mut started) = (false, false);
-    for budget in 0..512 {
-        let heap = LocalHeap::new(rt.alloc(), 64 * budget)?;
-        match start_within(&rt, &heap) {
-            None => (),
-            Some(Ok(enabled)) => {
-                assert!(rt; enabled);
-                started = true;
-            }
-            Some(Err(refusal)) => {
-                assert!(rt; refusal == StartRefusal::NoMemory && !started);
-                refused = true;
-            }
+    match World::start(heap, plan, &[HIGHER]) {
+        Ok(world) => world.enabled(Event::Thirst(A)),
+        Err(refusal) => {
+            assert!(rt; refusal == StartRefusal::NoMemory);
+            false
         }
     }
-    assert!(rt; refused && started);
-    Ok(())
 }
 
 // The same for THE opening.
-fn opening_within<T: Allocator + Copy>(rt: &impl Abort, heap: T) -> Option<Result<bool, NoMemory>> {
-    let Ok(plan) = read_plan(heap, TWO.as_bytes()) else {
-        return None;
-    };
-    match World::opening(heap, &plan) {
-        Ok(world) => Some(Ok(world.enabled(Event::Thirst(A)))),
-        Err(refusal) => Some(Err(refusal)),
+fn opens<T: Allocator + Copy>(heap: T, plan: &Plan<T>) -> bool {
+    match World::opening(heap, plan) {
+        Ok(world) => world.enabled(Event::Thirst(A)),
+        Err(NoMemory) => false,
     }
 }
 
+// Whether a heap that holds the plan has memory for a start, and for THE opening; none where it doesn't do for the plan.
+fn begins<T: Allocator + Copy>(rt: &impl Abort, heap: T) -> Option<(bool, bool)> {
+    let Ok(plan) = read_plan(heap, TWO.as_bytes()) else {
+        return None;
+    };
+    Some((starts(rt, heap, &plan), opens(heap, &plan)))
+}
+
+// A heap that is a little larger in each run: from the first that does on, each does.
 #[test]
-fn growths_of_the_opening_are_refused(rt: HostRuntime) -> Result<(), Fail> {
-    let (mut refused, mut started) = (false, false);
+fn growths_are_refused(rt: HostRuntime) -> Result<(), Fail> {
+    let (mut started, mut opened) = (false, false);
+    let (mut starts_refused, mut openings_refused) = (false, false);
     for budget in 0..512 {
         let heap = LocalHeap::new(rt.alloc(), 64 * budget)?;
-        match opening_within(&rt, &heap) {
-            None => (),
-            Some(Ok(enabled)) => {
-                assert!(rt; enabled);
-                started = true;
-            }
-            Some(Err(NoMemory)) => {
-                assert!(rt; !started);
-                refused = true;
-            }
+        if let Some((starts, opens)) = begins(&rt, &heap) {
+            assert!(rt; (starts || !started) && (opens || !opened), "at {budget}");
+            starts_refused = starts_refused || !starts;
+            openings_refused = openings_refused || !opens;
+            started = starts;
+            opened = opens;
         }
     }
-    assert!(rt; refused && started);
+    assert!(rt; started && opened && starts_refused && openings_refused);
     Ok(())
 }

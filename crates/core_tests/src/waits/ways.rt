@@ -1,36 +1,37 @@
 // Ways on.
-use super::{ALL_LOWER, FORKS_HIGHER, drive, go_on, has_values, leads_on, start};
+use super::{ALL_LOWER, FORKS_HIGHER, Question, ask, take};
 use crate::benches::{
     A, AB, B, IMPATIENT, MEAL_FIRST, MEAL_OF_THREE, STALE_MARK, THREE, THREE_ADD, TWICE, TWO,
-    plan_of,
 };
-use interleaving::{EndChoice, Step};
+use interleaving::{EndChoice, Step, World};
 use lab_plan::InstrumentNo;
 use overtaking::way_on;
 use std::alloc::Allocator;
 use std::process::Abort;
 
-/// From the start a way leads on after each beginning of these steps; after all of them only where
-/// some job isn't retired by then.
-fn leads_all_along<T: Allocator + Copy>(
-    rt: &impl Abort,
-    alloc: T,
-    script: &str,
-    choices: &[EndChoice],
-    steps: &[Step],
-    are_retired: bool,
-) {
-    let plan = plan_of(rt, alloc, script);
-    let mut world = start(rt, alloc, &plan, choices);
-    let mut events = Vec::new(alloc);
-    go_on(rt, &mut world, &mut events, steps);
-    for count in 0..=events.len() {
-        let wanted = count < events.len() || !are_retired;
-        assert!(rt;
-            leads_on(rt, alloc, &plan, choices, &events[..count]) == wanted,
-            "after {count}"
-        );
+/// Whether some event leads on, which has to be legal.
+fn leads_on<T: Allocator>(rt: &impl Abort, world: &World<'_, T>) -> bool {
+    match way_on(world) {
+        Some(event) => {
+            assert!(rt; world.enabled(event), "{event:?}");
+            true
+        }
+        None => false,
     }
+}
+
+/// Whether a way leads on before each of these steps, and behind them all as wanted.
+pub(super) fn leads_all_along<T: Allocator>(
+    rt: &impl Abort,
+    world: &mut World<'_, T>,
+    steps: &[Step],
+    at_end: bool,
+) -> bool {
+    for step in steps {
+        assert!(rt; leads_on(rt, world), "before {step:?}");
+        take(rt, world, *step);
+    }
+    leads_on(rt, world) == at_end
 }
 
 /// Job b gives its session up, and a drinks: then both retire.
@@ -47,69 +48,111 @@ const GIVEN_UP: [Step; 10] = [
     Step::Retire(A),
 ];
 
-#[test]
-fn leads_on_while_eating_before_drinking(rt: HostRuntime) {
-    leads_all_along(&rt, rt.alloc(), TWO, &ALL_LOWER, &MEAL_FIRST, false);
-}
-
-#[test]
-fn leads_on_with_a_stale_mark(rt: HostRuntime) {
-    leads_all_along(&rt, rt.alloc(), TWICE, &ALL_LOWER, &STALE_MARK, false);
-}
-
-#[test]
-fn leads_on_in_a_triangle(rt: HostRuntime) {
-    leads_all_along(&rt, rt.alloc(), THREE, &FORKS_HIGHER, &MEAL_OF_THREE, false);
-}
-
-/// Only where both are retired no way on is left.
-#[test]
-fn leads_on_without_patience(rt: HostRuntime) {
-    leads_all_along(&rt, rt.alloc(), IMPATIENT, &ALL_LOWER, &GIVEN_UP, true);
-}
-
-/// Whether `way_on` alone leads from the start to its end, with these values in the log of each instrument.
-fn drives_to<T: Allocator + Copy>(
+fn check<T: Allocator + Copy>(
     rt: &impl Abort,
     alloc: T,
     script: &str,
     choices: &[EndChoice],
+    question: Question,
+) {
+    assert!(rt; ask(rt, alloc, script, choices, question), "{script}");
+}
+
+/// Behind the steps a way leads on where some job isn't retired by then.
+#[test]
+fn leads_on_in_each_run(rt: HostRuntime) {
+    let alloc = rt.alloc();
+    check(
+        &rt,
+        alloc,
+        TWO,
+        &ALL_LOWER,
+        Question::Leads(&MEAL_FIRST, true),
+    );
+    check(
+        &rt,
+        alloc,
+        TWICE,
+        &ALL_LOWER,
+        Question::Leads(&STALE_MARK, true),
+    );
+    check(
+        &rt,
+        alloc,
+        THREE,
+        &FORKS_HIGHER,
+        Question::Leads(&MEAL_OF_THREE, true),
+    );
+    check(
+        &rt,
+        alloc,
+        IMPATIENT,
+        &ALL_LOWER,
+        Question::Leads(&GIVEN_UP, false),
+    );
+}
+
+/// Goes on by `way_on` alone until it answers none, for at most 200 events.
+fn drive<T: Allocator>(rt: &impl Abort, world: &mut World<'_, T>) {
+    for _ in 0..200 {
+        match way_on(world) {
+            Some(event) => assert!(rt; world.step(event).is_ok()),
+            None => return,
+        }
+    }
+    panic!(rt; "no end");
+}
+
+/// Whether the log of the instrument has entries with just these values.
+fn has_values<T: Allocator>(
+    rt: &impl Abort,
+    world: &World<'_, T>,
+    instrument: InstrumentNo,
     values: &[u32],
 ) -> bool {
-    let plan = plan_of(rt, alloc, script);
-    let mut world = start(rt, alloc, &plan, choices);
-    drive(rt, &mut world);
-    for number in 0..plan.instruments() {
-        if !has_values(rt, &world, InstrumentNo(number as u8), values) {
+    assert!(rt; (instrument.0 as usize) < world.plan().instruments());
+    let log = world.log(instrument);
+    if log.len() != values.len() {
+        return false;
+    }
+    for index in 0..log.len() {
+        if log.entry(index).value != values[index] {
             return false;
         }
     }
-    way_on(&world).is_none()
+    true
 }
 
-#[test]
-fn drives_two_jobs(rt: HostRuntime) {
-    assert!(rt; drives_to(&rt, rt.alloc(), TWO, &ALL_LOWER, &[1, 2]));
+/// Whether `way_on` alone leads from the start to its end, with these values in the log of each instrument.
+pub(super) fn drives_to<T: Allocator>(
+    rt: &impl Abort,
+    world: &mut World<'_, T>,
+    values: &[u32],
+) -> bool {
+    drive(rt, world);
+    for number in 0..world.plan().instruments() {
+        if !has_values(rt, world, InstrumentNo(number as u8), values) {
+            return false;
+        }
+    }
+    way_on(world).is_none()
 }
 
+/// The values that stand in each log at the end.
 #[test]
-fn drives_three_sessions(rt: HostRuntime) {
-    assert!(rt; drives_to(&rt, rt.alloc(), TWICE, &ALL_LOWER, &[1, 2, 3]));
-}
-
-/// Nobody withdraws on this way.
-#[test]
-fn drives_jobs_without_patience(rt: HostRuntime) {
-    assert!(rt; drives_to(&rt, rt.alloc(), IMPATIENT, &ALL_LOWER, &[1, 2]));
-}
-
-#[test]
-fn drives_a_triangle(rt: HostRuntime) {
-    assert!(rt; drives_to(&rt, rt.alloc(), THREE_ADD, &FORKS_HIGHER, &[1, 2, 3]));
-}
-
-/// Without jobs nothing is left to do.
-#[test]
-fn ends_without_jobs(rt: HostRuntime) {
-    assert!(rt; drives_to(&rt, rt.alloc(), "lab 1", &[], &[]));
+fn drives_to_each_end(rt: HostRuntime) {
+    let alloc = rt.alloc();
+    check(&rt, alloc, TWO, &ALL_LOWER, Question::Drives(&[1, 2]));
+    check(&rt, alloc, TWICE, &ALL_LOWER, Question::Drives(&[1, 2, 3]));
+    // nobody withdraws on this way
+    check(&rt, alloc, IMPATIENT, &ALL_LOWER, Question::Drives(&[1, 2]));
+    check(
+        &rt,
+        alloc,
+        THREE_ADD,
+        &FORKS_HIGHER,
+        Question::Drives(&[1, 2, 3]),
+    );
+    // without jobs nothing is left to do
+    check(&rt, alloc, "lab 1", &[], Question::Drives(&[]));
 }

@@ -1,0 +1,167 @@
+// Meals and rankings.
+use super::{ALL_LOWER, FORKS_HIGHER, Question, ask, go_on, owns, take};
+use crate::benches::{
+    A, AB, B, BEFORE_THE_MEAL, C, MEAL_OF_THREE, STALE_MARK, THREE, TWICE, event_of, stage,
+};
+use interleaving::{Event, Step, World};
+use lab_plan::JobNo;
+use linked_list_allocator::LocalHeap;
+use overtaking::laws::{never_stuck, no_cycle, overtaken_once, quiet_is_retired};
+use overtaking::{NoMemory, meals_after_ask, ranking};
+use std::alloc::Allocator;
+use std::process::Abort;
+use std::test::Fail;
+
+/// Takes all of these steps, and adds their events.
+fn record<T: Allocator, V: Allocator>(
+    rt: &impl Abort,
+    world: &mut World<'_, T>,
+    events: &mut Vec<Event, V>,
+    steps: &[Step],
+) {
+    for step in steps {
+        assert!(rt; events.push(event_of(rt, world, *step)).is_ok());
+        take(rt, world, *step);
+    }
+}
+
+/// The meals that overtake the request of the job at this place of the events.
+fn overtaking<T: Allocator>(
+    rt: &impl Abort,
+    world: &World<'_, T>,
+    events: &[Event],
+    place: usize,
+    job: JobNo,
+) -> u64 {
+    let plan = world.plan();
+    assert!(rt; owns(plan, job, AB));
+    assert!(rt; events.get(place) == Some(&Event::AskFork(job, AB)));
+    meals_after_ask(plan, events, place, job, AB)
+}
+
+/// The places of the two requests among the steps of the stale mark.
+const B_ASKS: usize = stage::B_ASKS - 1;
+
+const A_ASKS: usize = stage::A_ASKS - 1;
+
+fn check_overtaking<T: Allocator, V: Allocator>(
+    rt: &impl Abort,
+    world: &mut World<'_, T>,
+    events: &mut Vec<Event, V>,
+) {
+    let steps = STALE_MARK.as_slice();
+    record(rt, world, events, &steps[..stage::A_HAS_A_STALE_MARK]);
+    assert!(rt; world.step(Event::Sit(A)).is_err());
+    assert!(rt; overtaking(rt, world, events, B_ASKS, B) == 1);
+    record(rt, world, events, &steps[stage::A_HAS_A_STALE_MARK..]);
+    assert!(rt; overtaking(rt, world, events, B_ASKS, B) == 1);
+    assert!(rt; overtaking(rt, world, events, A_ASKS, A) == 0);
+}
+
+/// The overtaking at a request, while the job with the stale mark has to wait, and after it ate once more.
+pub(super) fn overtakes_once<T: Allocator, V: Allocator>(
+    rt: &impl Abort,
+    alloc: V,
+    world: &mut World<'_, T>,
+) -> bool {
+    let mut events = Vec::new(alloc);
+    check_overtaking(rt, world, &mut events);
+    true
+}
+
+#[test]
+fn stale_mark(rt: HostRuntime) {
+    assert!(rt; ask(&rt, rt.alloc(), TWICE, &ALL_LOWER, Question::Overtaking));
+}
+
+fn ranks<T: Allocator, V: Allocator + Copy>(
+    rt: &impl Abort,
+    alloc: V,
+    world: &World<'_, T>,
+    wanted: [JobNo; 3],
+) -> bool {
+    match ranking(alloc, world) {
+        Ok(order) => order.as_slice() == wanted.as_slice(),
+        Err(_) => panic!(rt; "no memory"),
+    }
+}
+
+/// Each of these steps, and the same ranking after each.
+fn keeps_ranking<T: Allocator, V: Allocator + Copy>(
+    rt: &impl Abort,
+    alloc: V,
+    world: &mut World<'_, T>,
+    steps: &[Step],
+    wanted: [JobNo; 3],
+) {
+    for step in steps {
+        take(rt, world, *step);
+        assert!(rt;
+            ranks(rt, alloc, world, wanted),
+            "after {step:?} not {wanted:?}"
+        );
+    }
+}
+
+pub(super) fn turns_with_meals<T: Allocator, V: Allocator + Copy>(
+    rt: &impl Abort,
+    alloc: V,
+    world: &mut World<'_, T>,
+) -> bool {
+    assert!(rt; ranks(rt, alloc, world, [A, B, C]));
+    let steps = MEAL_OF_THREE.as_slice();
+    keeps_ranking(rt, alloc, world, &steps[..BEFORE_THE_MEAL], [A, B, C]);
+    keeps_ranking(rt, alloc, world, &steps[BEFORE_THE_MEAL..], [B, C, A]);
+    true
+}
+
+#[test]
+fn rankings_of_a_triangle(rt: HostRuntime) {
+    assert!(rt; ask(&rt, rt.alloc(), THREE, &FORKS_HIGHER, Question::Rankings));
+}
+
+/// The laws are contracts: what is called does nothing.
+#[test]
+fn laws_do_nothing() {
+    no_cycle();
+    overtaken_once();
+    never_stuck();
+    quiet_is_retired();
+}
+
+/// Whether a ranking finds room on the heap; if so, it is the right one.
+pub(super) fn has_room<T: Allocator>(
+    rt: &impl Abort,
+    heap: &LocalHeap,
+    world: &World<'_, T>,
+) -> bool {
+    match ranking(heap, world) {
+        Ok(order) => {
+            assert!(rt; order.as_slice() == [A, B, C].as_slice());
+            true
+        }
+        Err(NoMemory) => false,
+    }
+}
+
+/// Each growth is refused in turn, by a heap that is a little larger in each run.
+#[test]
+fn refuses_growth(rt: HostRuntime) -> Result<(), Fail> {
+    let (mut refusals, mut answers) = (0u32, 0u32);
+    for budget in 1..40usize {
+        let heap = LocalHeap::new(rt.alloc(), 16 * budget)?;
+        if ask(
+            &rt,
+            rt.alloc(),
+            THREE,
+            &FORKS_HIGHER,
+            Question::Ranking(&heap),
+        ) {
+            answers = answers.saturating_add(1);
+        } else {
+            refusals = refusals.saturating_add(1);
+        }
+    }
+    assert!(rt; answers > 1 && refusals > 1);
+    Ok(())
+}
