@@ -1,4 +1,4 @@
--- Where the fork moves are legal, by the edge and the own phase.
+-- Where the fork moves are legal, by the edge and the job's phase.
 use Rattle.std.proofs.Common.{ℕ, ◌<◌, length}
 use Rattle.lab_plan.specs.LabPlan.{LabPlan}
 use Rattle.legal_steps.specs.declared.end.End.TheVariants.{Higher}
@@ -10,7 +10,7 @@ use Rattle.dining_layer.specs.Turned.{turned}
 use Rattle.dining_layer.proofs.Turning.{due_here}
 use Rattle.turns.proofs.ForkGuards.{ask_at, soil_at}
 
--- what is due by the edge, as it is seen from the own end, and the own phase is each legal after the moves before it
+-- what is due by the edge, as it is seen from the job's own end, and the job's phase is each legal after the moves before it
 pub moves_due : (plan : LabPlan) (s : State) (j e : ℕ) (m : EdgeMoves) → e < length s.edges → j < length s.seats → IsOwn plan j e
     → AreForksDue (dining s j) Higher (turned plan e (end_of plan j e) (edge s e)) m → AreForkMoves plan s j e m
 moves_due plan s j e m he hj own turned_due =

@@ -1,4 +1,4 @@
--- Which fork moves are due, by the edge as it was seen and the own phase.
+-- Which fork moves are due, by the edge as it was seen and the job's phase.
 use Rattle.std.specs.Prelude.{◌≡◌, ◌↔◌, true}
 use Rattle.legal_steps.specs.declared.end.End.{End}
 use Rattle.legal_steps.specs.declared.phase.Dining.{Dining}

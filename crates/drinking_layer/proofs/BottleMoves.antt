@@ -10,7 +10,7 @@ use Rattle.legal_steps.specs.declared.phase.Drinking.{Drinking}
 use Rattle.legal_steps.specs.declared.phase.Drinking.TheVariants.{Tranquil, Thirsty, Drinking as Drinks, Reaching, Retired}
 use Rattle.legal_steps.specs.declared.phase.JobState.{JobState}
 use Rattle.legal_steps.specs.declared.edge_state.EdgeState.{EdgeState}
-use Rattle.legal_steps.specs.State.{State, Has, IsOfEdge, IsDrinking, edge, phase, drinking, end_of, bottle_end, bottles_at}
+use Rattle.legal_steps.specs.State.{State, Has, IsOfEdge, IsDrinking, edge, phase, drinking, end_of, without, bottle_end, bottles_at}
 use Rattle.legal_steps.specs.Legal.{MayAskBottle, MayGiveBottle, Needs, instrument_of, is_at, fork_given, fork_asked}
 use Rattle.edge_word.specs.declared.moves.EdgeMoves.{EdgeMoves}
 use Rattle.edge_word.specs.Moves.{when}
@@ -18,7 +18,7 @@ use Rattle.turns.specs.Due.{fork_gone, fork_asked_for, IsGreatest}
 use Rattle.edge_rule.specs.NeededBottles.{NeedsIn}
 use Rattle.dining_layer.specs.Turned.{turned}
 use Rattle.dining_layer.proofs.Turning.{fork_is_here}
-use Rattle.drinking_layer.specs.Local.{has_instruments, is_thirsty, without, kept, gifts, wishes}
+use Rattle.drinking_layer.specs.Local.{has_instruments, is_thirsty, kept, gifts, wishes}
 use Rattle.legal_steps.proofs.BottleSets.{has_and, has_without, has_none, at_end, at_end_fits, without_fits}
 use Rattle.turns.proofs.ForkGuards.{at_here, here_at}
 use Rattle.turns.proofs.Stages.{Stage, stage_one, stage_three, edge_one, edge_two, edge_three}
@@ -73,7 +73,7 @@ module _ (plan : LabPlan) (s : State) (j e : ℕ) (he : e < length s.edges) (hj 
   abbrev ph : JobState
   ph = phase s j
 
-  -- what a state with the same own phase needs
+  -- what a state with the same phase of its own needs
   needs_in : (t : State) (i : ℕ) → phase t j ≡ ph → Needs plan t j i ↔ NeedsIn plan j ph i
   needs_in t i is = (
     λ n. subst (λ (q : JobState). NeedsIn plan j q i) is (record { in_session = n.in_session; named = n.named }),

@@ -1,10 +1,11 @@
--- Which bottles are given and asked for, by the edge as it was seen from the own end, the own phase and the bottles that are needed.
+-- Which bottles are given and asked for, by the edge as it was seen from the job's own end, its phase and the bottles that it needs.
 use Rattle.std.specs.Prelude.{ℕ, Bool, true, false, ◌||◌, bit_xor, bit_and, if◌then◌else◌}
 use Rattle.legal_steps.specs.declared.end.End.TheVariants.{Higher}
 use Rattle.legal_steps.specs.declared.phase.Drinking.{Drinking}
 use Rattle.legal_steps.specs.declared.phase.Drinking.TheVariants.{Thirsty, Drinking as Drinks, Reaching}
 use Rattle.legal_steps.specs.declared.phase.JobState.{JobState}
 use Rattle.legal_steps.specs.declared.edge_state.EdgeState.{EdgeState}
+use Rattle.legal_steps.specs.State.{without}
 use Rattle.legal_steps.specs.Legal.{is_at, fork_given}
 use Rattle.edge_word.specs.declared.moves.EdgeMoves.{EdgeMoves}
 use Rattle.edge_word.specs.Moves.{when}
@@ -17,10 +18,6 @@ abbrev pub has_instruments : Drinking → Bool
 has_instruments Drinks = true
 has_instruments Reaching = true
 has_instruments _ = false
-
--- the members of a set that are not in the other
-abbrev pub without : ℕ → ℕ → ℕ
-without a b = bit_xor a (bit_and a b)
 
 -- the bottles that are kept, where given says whether the fork is sent away just before
 abbrev pub kept : JobState → ℕ → EdgeState → Bool → ℕ

@@ -1,6 +1,7 @@
-//! Which bottles a job gives and asks for on an edge, by the edge as it was seen, the own phase and the bottles that it needs.
+//! Which bottles a job gives and asks for on an edge, by the edge as it was seen, its phase and the bottles that it needs.
 ghost use Rattle.std.specs.Prelude.{◌≡◌};
-ghost use Rattle.drinking_layer.specs.Local.{gifts as gifts_of, wishes as wishes_of, kept as kept_of, without as set_without};
+ghost use Rattle.legal_steps.specs.State.{without as set_without};
+ghost use Rattle.drinking_layer.specs.Local.{gifts as gifts_of, wishes as wishes_of, kept as kept_of};
 
 use legal_steps::{Drinking, EdgeState, End, JobState};
 

@@ -39,7 +39,7 @@ view_of d = seat_view d.clock d.seat
 abbrev pub kept : {A : Type 0} → Inside A → Seat
 kept d = record { phase = d.phase; fork_marks = d.fork_marks.items; bottle_marks = d.bottle_marks.items }
 
--- what no step but one of the own phase changes
+-- what no step but one of the job's phase changes
 abbrev pub fixed : {A : Type 0} → Inside A → ℕ × Counts × JobState × List ℕ
 fixed d = (d.job, d.counts, d.phase, d.needed.items)
 

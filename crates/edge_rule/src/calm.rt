@@ -1,5 +1,5 @@
 //! What a desk notes of having nothing to do: where nothing was due on an edge, nothing is due there until its word or the
-//! own phase changes, and where no phase act was due, none is due until the own phase or a mark does.
+//! job's phase changes, and where no phase act was due, none is due until the job's phase or a mark does.
 ghost use Rattle.std.specs.Prelude.{◌≡◌, ◌<◌, length, IsTrue};
 ghost use Rattle.lab_plan.specs.LabPlan.{edges};
 ghost use Rattle.turns.specs.Due.{IsCalm};
@@ -16,7 +16,7 @@ use std::alloc::Allocator;
 pub(crate) const NO_WORD: u64 = 0xffff_ffff_ffff_ffff;
 
 impl<A: Allocator> Desk<A> {
-    /// Whether the edge was noted as calm, and neither its word nor the own phase has changed since, but for the count of
+    /// Whether the edge was noted as calm, and neither its word nor the job's phase has changed since, but for the count of
     /// the session's commands. An edge that was never noted may be calm too.
     pub fn is_calm(&self, edge: EdgeNo) -> bool
         requires { edge < length (edges self.now.plan) }
@@ -36,7 +36,7 @@ impl<A: Allocator> Desk<A> {
         self.calm[place] = self.seen[place].pack();
     }
 
-    /// Whether it was noted that no phase act is legal but giving the session up, and neither the own phase nor a mark has
+    /// Whether it was noted that no phase act is legal but giving the session up, and neither the job's phase nor a mark has
     /// changed since.
     pub fn is_settled(&self) -> bool
         ensures { IsTrue result → IsSettled self.now.plan (known self.now) self.now.job }

@@ -57,7 +57,7 @@ with_command name verb plan = record plan {
   instruments = if is_instrument name plan then plan.instruments else plan.instruments ++ name ∷ [];
 }
 
--- ---- what is refused, but for want of memory
+-- ---- what is refused, except that no memory is left
 
 abbrev pub last_job : LabPlan → JobPlan
 last_job plan = slice_index_or plan.jobs (length plan.jobs - 1) no_job
@@ -104,18 +104,18 @@ has_too_many_in_common plan = list_any (λ pair. nat_lt most_bottles (length (co
 abbrev pub finish_refusal : LabPlan → Option PlanRefusal
 finish_refusal plan = if is_bare plan then Some SessionEmpty else (if has_too_many_in_common plan then Some TooManyInCommon else None)
 
--- what a call answers: done and changed as wanted, or refused and unchanged; want of memory comes last
+-- what a call answers: done and changed as wanted, or refused and unchanged; that no memory is left comes last
 abbrev pub Does : Option PlanRefusal → LabPlan → LabPlan → Result (Unit {0}) PlanRefusal → LabPlan → Type 0
 Does refusal wanted old (Ok _) new = (refusal ≡ None) × (new ≡ wanted)
 Does refusal wanted old (Err NoMemory) new = (refusal ≡ None) × (new ≡ old)
 Does refusal wanted old (Err cause) new = (refusal ≡ Some cause) × (new ≡ old)
 
--- a cause as the refusals have it, which leave want of memory out
+-- a cause as the refusals have it, which leave out that no memory is left
 abbrev pub but_memory : PlanRefusal → Option PlanRefusal
 but_memory NoMemory = None
 but_memory cause = Some cause
 
--- what finishing answers: the plan, or the cause and the builder as it was; want of memory comes last
+-- what finishing answers: the plan, or the cause and the builder as it was; that no memory is left comes last
 abbrev pub Finishes : Option PlanRefusal → LabPlan → Result LabPlan (PlanRefusal × LabPlan) → Type 0
 Finishes refusal plan (Ok made) = (refusal ≡ None) × (made ≡ plan)
 Finishes refusal plan (Err refused) = (refusal ≡ but_memory refused.0) × (refused.1 ≡ plan)

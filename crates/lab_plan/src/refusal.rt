@@ -2,7 +2,7 @@
 use std::alloc::{AllocError, AllocFailed};
 
 /// Why a plan's builder refuses a call. Of several reasons the first of these is given: an empty
-/// session, a job twice, a limit passed, too many in common, want of memory.
+/// session, a job twice, a limit passed, too many in common, no memory left.
 #[derive(Clone, Copy, PartialEq, Eq, Debug)]
 pub enum PlanRefusal {
     /// One more would be past a limit of jobs, instruments, sessions of a job, or commands (`limits`).

@@ -11,7 +11,7 @@ use Rattle.lab_plan.proofs.Bits.{bit_cases}
 use Rattle.legal_steps.specs.declared.end.End.{End}
 use Rattle.legal_steps.specs.declared.end.End.TheVariants.{Lower, Higher}
 use Rattle.legal_steps.specs.declared.edge_state.EdgeState.{EdgeState}
-use Rattle.legal_steps.specs.State.{Has, IsOfEdge, opposite, bottle_end, bottles_at}
+use Rattle.legal_steps.specs.State.{Has, IsOfEdge, opposite, without, bottle_end, bottles_at}
 use Rattle.legal_steps.specs.Legal.{IsBottleSet}
 
 -- ---- members
@@ -37,10 +37,6 @@ pub has_and : (a b k : ℕ) → Has (bit_and a b) k ↔ (Has a k × Has b k)
 unfolding Has
 has_and a b k = let e = bit_at_and a b k in let la = bit_at-lt a k in let lb = bit_at-lt b k in
     (λ h. (omega (arith, e, h, la, lb), omega (arith, e, h, la, lb)), λ q. let p = q.0 in let r = q.1 in omega (arith, e, p, r))
-
--- the members of a set that are not in the other
-abbrev pub without : ℕ → ℕ → ℕ
-without a b = bit_xor a (bit_and a b)
 
 pub has_without : (a b k : ℕ) → Has (without a b) k ↔ (Has a k × ¬ Has b k)
 unfolding Has

@@ -1,5 +1,5 @@
 -- For readers: the state of a bench: where the things of each edge are, what each job does and knows, and each instrument's log.
-use Rattle.std.specs.Prelude.{◌≡◌, ◌⊎◌, ℕ, ◌-◌, ◌^◌, ◌<◌, Bool, true, false, List, [], length, slice_index_or, bit_xor, if◌then◌else◌, ◌==◌}
+use Rattle.std.specs.Prelude.{◌≡◌, ◌⊎◌, ℕ, ◌-◌, ◌^◌, ◌<◌, Bool, true, false, List, [], length, slice_index_or, bit_and, bit_xor, if◌then◌else◌, ◌==◌}
 use Rattle.std.specs.Int.{bit_at}
 use Rattle.lab_plan.specs.LabPlan.{LabPlan, edges, ends, bottles}
 use Rattle.instrument_log.specs.declared.entry.Entry.{Entry}
@@ -123,6 +123,10 @@ neighbour plan j e = job_at_end plan e (opposite (end_of plan j e))
 pub record IsOwn (plan : LabPlan) (j e : ℕ) : Type 0 where
   pub is_edge : e < length (edges plan)
   pub at_end : ((ends plan e).0 ≡ j) ⊎ ((ends plan e).1 ≡ j)
+
+-- the members of a set that are not in the other
+abbrev pub without : ℕ → ℕ → ℕ
+without a b = bit_xor a (bit_and a b)
 
 -- the end at which bottle k is, by the set of those at the higher end
 unfoldable pub bottle_end : ℕ → ℕ → End

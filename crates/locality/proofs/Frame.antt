@@ -50,7 +50,7 @@ as_many_edges plan s (Retire j) = refl
 as_many_edges plan s (Glance j other seen) = refl
 as_many_edges plan s (Withdraw j) = refl
 
--- ---- the own seat
+-- ---- the job's seat
 
 -- an event of a job leaves its seat as its seat and the event say
 pub own_seat : (plan : LabPlan) (s : State) (event : Event) → actor event < length s.seats

@@ -135,7 +135,7 @@ module _ (plan : LabPlan) (j : ℕ) where
     moves_alike m s t = legal_alike (events_of m j e) s t
         (each_move (IsLocal plan j e) m give_fork_local (give_bottles_local m.give_bottles) ask_fork_local (ask_bottles_local m.ask_bottles) soil_local)
 
-  -- ---- events of a phase: the own seat alone
+  -- ---- events of a phase: the job's seat alone
 
   needed_alike : (s t : State) → seat s j ≡ seat t j → HasNeeded plan s j → HasNeeded plan t j
   needed_alike s t own h e at k is needs =

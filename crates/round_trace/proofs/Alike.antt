@@ -1,4 +1,4 @@
--- A turn depends on the own seat before it, and on what it sees: so it is the same by the state and by what its job knows.
+-- A turn depends on the job's seat before it, and on what it sees: so it is the same by the state and by what its job knows.
 use Rattle.std.proofs.Common.{◌≡◌, ◌↔◌, ℕ, suc, ◌<◌, ◌≤◌, Bool, true, false, not, ◌==◌, if◌then◌else◌, List, [], ◌∷◌, length, map, refl, sym, ap, ◌∙◌, subst, inl, inr, arith}
 use Rattle.std.specs.List.{All}
 use Rattle.std.specs.Option.{ForSome}
@@ -94,7 +94,7 @@ module _ (plan : LabPlan) (j e : ℕ) where
       asks p q b c k inside both =
           let r = may_ask_alike _ _ c k inside (drinks_still plan j e p m ∙ both.0, both.1) in (sym (drinks_still plan j e q m) ∙ r.0, r.1)
 
--- ---- the own seat over own events
+-- ---- the job's seat over its events
 
 module _ (plan : LabPlan) (j : ℕ) where
   abbrev IsBy : Event → Type 0

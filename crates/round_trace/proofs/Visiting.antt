@@ -32,7 +32,7 @@ at_legal : (plan : LabPlan) (s : State) (w w' : WorldView) (l l' : List Event) (
     (done ≡ true) ↔ May plan s x
 at_legal plan s w w' l l' x done a t = subst (λ (z : LabPlan × State). (done ≡ true) ↔ May z.0 z.1 x) (λ i. (a.plan_is i, a.state_is i)) t.legal
 
--- moves on an edge leave the own phase
+-- moves on an edge leave the job's phase
 phase_set : (l : List Seat) (k : ℕ) (y d : Seat) → y.phase ≡ (get_or l k d).phase → (get_or (set l k y) k d).phase ≡ (get_or l k d).phase
 phase_set [] k y d is = refl
 phase_set (x ∷ l) zero y d is = is

@@ -33,14 +33,14 @@ pub enum Turned {
 }
 
 /// Looks at the edge, and does in one exchange what is due by what it saw. Where nothing is due, the desk notes it, so that
-/// the next visit costs the look alone while neither the edge nor the own phase changes.
+/// the next visit costs the look alone while neither the edge nor the job's phase changes.
 pub fn visit<A: Allocator>(bench: &Bench<A>, desk: &mut Desk<A>, edge: EdgeNo) -> Visited
     requires own { Owns bench.now desk.old }
     requires edge { IsOwn desk.old.plan desk.old.job edge }
     ensures { IsVisited desk.old edge result desk.new }
 {
     let _ = look(bench, desk, edge);
-    // The note is there only while the edge's word and the own phase are those of a visit at which nothing was due.
+    // The note is there only while the edge's word and the job's phase are those of a visit at which nothing was due.
     if desk.is_calm(edge) {
         return Visited::Calm;
     }

@@ -1,4 +1,4 @@
--- What the fork moves ask of the edge and of the own phase, also after the moves before them.
+-- What the fork moves ask of the edge and of the job's phase, also after the moves before them.
 use Rattle.std.proofs.Common.{◌≡◌, ◌≢◌, ◌↔◌, ℕ, ◌<◌, Bool, true, false, not, ◌&&◌, length, refl, sym, ◌∙◌, subst}
 use Rattle.std.proofs.lemmas.Bool.{false≢true}
 use Rattle.lab_plan.specs.LabPlan.{LabPlan}

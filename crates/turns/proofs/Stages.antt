@@ -1,4 +1,4 @@
--- The states between the moves of a group, as far as their edge and the own phase go.
+-- The states between the moves of a group, as far as their edge and the job's phase go.
 use Rattle.std.proofs.Common.{◌≡◌, ℕ, ◌<◌, Bool, true, false, not, ◌==◌, length, arith, refl, sym, ap, ◌∙◌, inl, inr, length-set}
 use Rattle.std.proofs.lemmas.Bool.{cases_eq}
 use Rattle.std.proofs.lemmas.Bool.Decides.{nat_tests}
@@ -13,7 +13,7 @@ use Rattle.edge_word.specs.declared.moves.EdgeMoves.{EdgeMoves}
 use Rattle.edge_word.specs.Moves.{when}
 use Rattle.turns.specs.Due.{after_if, fork_gone, bottles_gone, fork_asked_for, all_asked_for}
 
--- t is s, but for the edge, which is y, and the own marks
+-- t is s, but for the edge, which is y, and the job's marks
 pub record Stage (s t : State) (j e : ℕ) (y : EdgeState) : Type 0 where
   pub edge_is : edge t e ≡ y
   pub phase_is : phase t j ≡ phase s j

@@ -9,7 +9,7 @@ use std::test::Fail;
 
 const HEAP: usize = 65536;
 
-/// Whether a heap with so much room at first has enough for the plan of the bench; want of memory alone is told.
+/// Whether a heap with so much room at first has enough for the plan of the bench; that no memory is left is all that may be told.
 fn has_room_for_plan(rt: &impl Abort, alloc: Global, room: usize) -> Result<bool, Fail> {
     let heap = LocalHeap::new(alloc, HEAP)?;
     assert!(rt; room <= HEAP - 256);

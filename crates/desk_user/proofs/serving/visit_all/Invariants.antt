@@ -1,4 +1,4 @@
--- the own edges so far
+-- the job's edges so far
 use Rattle.std.proofs.Common.{◌≤◌, take}
 use Rattle.session_layer.specs.Turn.{Along}
 use Rattle.desk_user.proofs.serving.visit_all.Given as goal
