@@ -16,8 +16,8 @@ mod tables;
 #[cfg(test)]
 mod teams;
 #[cfg(test)]
-mod turns;
-#[cfg(test)]
 mod visits;
+#[cfg(test)]
+mod whole_turns;
 #[cfg(test)]
 mod words;
