@@ -23,7 +23,7 @@ and again: the exponent that fits best is told, 1.00 where the time grows as the
 doubled, which leaves that number as it is, 0.00 where it doesn't grow).
 
 With `instructions` it counts instead the instructions of `rounds`, of labrun and of the port, with valgrind's callgrind: of all
-turns, of the report, and of reading the script. They are the same at each run, whatever else the machine does. With
+turns, of the report, and of reading the script; and of whole runs by one thread and by rounds. They are the same at each run, whatever else the machine does. With
 `instructions growth` it tells how those of the turns grow.
 
 Printed are ratios of runs, a line a workload, and their geometric means, with the goals; absolute times only at the end,
@@ -66,13 +66,15 @@ GROWTHS = (
     ("instruments of 8 jobs in pairs", "pairs", dict(jobs=8, sessions=1000, commands=10), "instruments", (4, 8, 16, 32)),
     ("commands of a session", "pairs", dict(jobs=8, instruments=16, sessions=500), "commands", (5, 10, 20, 40)),
 )
+# a run by one thread, beside one by rounds; and the goal (at most)
+ONE_THREAD, ONE_THREAD_GOAL = ("labrun threads 1", "labrun rounds"), 1.05
 # what is compared: heading, over, under, goal (at most; None: told as it is)
 RATIOS = (
     ("labrun rounds / port rounds", "labrun rounds", "port rounds", 1.15),
     ("labrun threads 1 / port threads 1", "labrun threads 1", "port threads 1", 1.15),
     ("labrun threads 2 / port threads 2", "labrun threads 2", "port threads 2", 1.15),
     ("labrun threads 4 / port threads 4", "labrun threads 4", "port threads 4", 1.15),
-    ("labrun threads 1 / labrun rounds", "labrun threads 1", "labrun rounds", 1.05),
+    (" / ".join(ONE_THREAD), *ONE_THREAD, ONE_THREAD_GOAL),
     ("labrun threads 4 / blocking", "labrun threads 4", "blocking", 2.0),
     ("labrun threads 4 / condvar", "labrun threads 4", "condvar", 1.0),
     ("port threads 4 / blocking", "port threads 4", "blocking", None),
@@ -251,8 +253,9 @@ def growth(folder, names, unit, spent_on):
 
 
 def counted(words, function, data):
-    """The instructions of a function of a program, with all that it calls."""
-    words = ["valgrind", "--tool=callgrind", "--callgrind-out-file=/dev/null", "--toggle-collect=*%s*" % function] + words
+    """The instructions of a function of a program, with all that it calls; of the whole program where none is named."""
+    toggle = ["--toggle-collect=*%s*" % function] if function else []
+    words = ["valgrind", "--tool=callgrind", "--callgrind-out-file=/dev/null", *toggle] + words
     with open(data, "rb") as source:
         told = subprocess.run(words, stdin=source, capture_output=True).stderr.decode().split()
     return int(told[told.index("Collected") + 2])
@@ -267,9 +270,12 @@ def sizes_of(text):
 def instructions(folder, runs, only):
     """What the turns, the report and the reading of each run by rounds take: labrun's as multiples of the port's, and of each by size."""
     made = scripts(folder, only)
-    spent = {}
+    spent, by_one = {}, {}
     for name, path, text in made:
         spent[name] = {heading: {run: counted(runs[run][0], each[run], path) for run in each} for heading, each, _, _, _ in COUNTED}
+        # (a run is the whole program less the same without turns)
+        whole = {run: counted(runs[run][0], None, path) - counted(runs[run][1], None, path) for run in ONE_THREAD}
+        by_one[name] = whole[ONE_THREAD[0]] / whole[ONE_THREAD[1]]
         print("%s: counted" % name, file=sys.stderr, flush=True)
     rows = []
     for heading, each, unit, of_mean, of_worst in COUNTED:
@@ -279,6 +285,7 @@ def instructions(folder, runs, only):
         for run in each:
             told = ["%.0f" % (spent[name][heading][run] / sizes_of(text)[unit]) for name, _, text in made]
             rows.append(["%s, %s, by %s" % (heading, run.split()[0], unit)] + told + ["", ""])
+    rows.append([" / ".join(ONE_THREAD)] + ["%.2f" % ratio for ratio in by_one.values()] + ["%.2f" % mean(by_one.values()), "%.2f" % ONE_THREAD_GOAL])
     table(["instructions"] + list(spent) + ["mean", "goal, at most"], rows)
 
 
@@ -296,7 +303,7 @@ def main(words):
         runs = programs(peers, labrun if has_words(labrun) else None)
         by_rounds = {name: run for name, run in runs.items() if name in TURN}
         if kinds == ["instructions"]:
-            instructions(folder, by_rounds, only)
+            instructions(folder, runs, only)
             return 0
         if kinds == ["growth"]:
             growth(folder, TURN, "nanoseconds", lambda path: {name: spent * 1e9 for name, spent in measure(by_rounds, path, rounds)[0].items()})
