@@ -2,6 +2,7 @@
 ghost use Rattle.std.specs.Prelude.{◌≡◌, ◌≢◌, ℕ, ◌<◌, ◌≤◌, true, length, slice_index};
 ghost use Rattle.std.specs.List.{All};
 ghost use Rattle.lab_plan.specs.LabPlan.{edges, ends};
+ghost use Rattle.arranging.specs.Colours.{IsLeast};
 
 use lab_plan::{EdgeNo, Plan};
 use std::alloc::Allocator;
@@ -20,9 +21,10 @@ pub(crate) fn all_differ<A: Allocator>(plan: &Plan<A>, colours: &[u8]) -> bool
     true
 }
 
-/// One more than the highest colour.
+/// One more than the highest colour, and 0 where there is none.
 pub(crate) fn count_of(colours: &[u8]) -> usize
-    ensures { All (λ colour. colour < result) colours.now }
+    ensures above { All (λ colour. colour < result) colours.now }
+    ensures least { IsLeast colours.now result }
 {
     let mut count = 0;
     for colour in colours {

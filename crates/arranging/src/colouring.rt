@@ -2,7 +2,7 @@
 ghost use Rattle.std.specs.Prelude.{◌≡◌, ◌≤◌, IfOk, length};
 ghost use Rattle.std.specs.List.{range_with_len};
 ghost use Rattle.lab_plan.specs.Limits.{most_jobs};
-ghost use Rattle.arranging.specs.Colours.{IsColouring};
+ghost use Rattle.arranging.specs.Colours.{IsColouring, IsLeast};
 
 use crate::checking::{all_differ, count_of};
 use crate::greedy::by_saturation;
@@ -61,7 +61,8 @@ pub fn colours_of<A: Allocator + Copy, B: Allocator>(
     alloc: A,
     plan: &Plan<B>,
 ) -> Result<Colouring<A>, AllocError>
-    ensures { IfOk result (λ made. IsColouring plan.now made.colours made.count) }
+    ensures colouring { IfOk result (λ made. IsColouring plan.now made.colours made.count) }
+    ensures least { IfOk result (λ made. IsLeast made.colours made.count) }
 {
     let mut colours = by_saturation(alloc, plan)?;
     if !all_differ(plan, &colours) {

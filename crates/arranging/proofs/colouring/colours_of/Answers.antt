@@ -6,12 +6,12 @@ use Rattle.arranging.proofs.Colourings.{checked_is, own_is}
 use Rattle.arranging.proofs.colouring.colours_of.Goals as goal
 use Rattle.arranging.proofs.colouring.colours_of.Goals.{then-not-all_differ+in_ok-colours-2, else-not-all_differ}
 
-pub returns : goal.returns
-returns g c =
+pub returns-clause-colouring : goal.returns-clause-colouring
+returns-clause-colouring g c =
     let plan = c.args.plan.now in
     let count = c.count_of-count.result in
     let few : All (λ colour. colour < count) c.if-not-all_differ.colours.items =
-    subst (λ (cs : List ℕ). All (λ colour. colour < count) cs) c.deref-2.ensures.value c.count_of-count.ensures in
+    subst (λ (cs : List ℕ). All (λ colour. colour < count) cs) c.deref-2.ensures.value c.count_of-count.ensures.above in
     elim c.if-not-all_differ.branch [
       | then-not-all_differ+in_ok-colours-2 w ↦
           let is : c.if-not-all_differ.colours.items ≡ range_with_len 0 (length plan.jobs) =
