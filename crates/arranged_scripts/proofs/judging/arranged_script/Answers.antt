@@ -3,12 +3,12 @@ use Rattle.arranged_scripts.proofs.Arranged.{within, arranged_as}
 use Rattle.arranged_scripts.proofs.judging.arranged_script.Goals as goal
 
 pub order_of-requires : goal.order_of-requires
-order_of-requires g c = omega (arith, c.in_ok-colouring.ensures.one_each, c.jobs.ensures.plan.draft.few_jobs)
+order_of-requires g c = omega (arith, c.in_ok-colouring.ensures.colouring.one_each, c.jobs.ensures.plan.draft.few_jobs)
 
 pub moved-requires : goal.moved-requires
 moved-requires g c =
     let made = c.in_ok-colouring.colouring in
-    within c.args.plan.now made.colours c.deref-2.result.now made.count c.in_ok-colouring.ensures (c.deref-2.ensures.value ∙ c.in_ok-order.ensures)
+    within c.args.plan.now made.colours c.deref-2.result.now made.count c.in_ok-colouring.ensures.colouring (c.deref-2.ensures.value ∙ c.in_ok-order.ensures)
 
 pub returns : goal.returns
 returns g c =
@@ -16,5 +16,5 @@ returns g c =
     let moves = (rw c.in-Some.is at c.in_ok-made.ensures) in
     let means = (rw c.in-Some-read.is at c.in_ok-read.ensures) in
     arranged_as c.args.plan.now c.in-Some-read.other c.in_ok-colouring.colouring c.args.input.now c.deref.result.now c.deref-2.result.now text.items
-    c.deref-3.result.now c.in_ok-colouring.ensures (c.deref.ensures.value ∙ c.in_ok-whole.ensures) (c.deref-2.ensures.value ∙ c.in_ok-order.ensures)
+    c.deref-3.result.now c.in_ok-colouring.ensures.colouring (c.deref.ensures.value ∙ c.in_ok-whole.ensures) (c.deref-2.ensures.value ∙ c.in_ok-order.ensures)
     moves c.deref-3.ensures.value means (c.is_arrangement.ensures.0 c.if-not-is_arrangement.false)
