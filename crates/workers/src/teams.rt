@@ -98,7 +98,7 @@ pub(crate) fn in_teams<R: Threads + Sync, A: Allocator + Send + Sync, C: Crew<A>
     Halt::After(most)
 }
 
-// Both halves, one of them on a thread of its own where one can be made.
+// Both halves, one of them on a thread of its own; where none can be made, `join_mut` runs both on this one, one after the other.
 #[cycle(halves)]
 fn in_halves<R: Threads + Sync, A: Allocator + Send + Sync, C: Crew<A>>(
     rt: &R,
