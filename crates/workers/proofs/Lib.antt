@@ -1,3 +1,4 @@
+pub mod AnyOrder
 pub mod TeamTurns
 pub mod Sorting
 pub mod ClosedTurns

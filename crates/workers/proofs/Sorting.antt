@@ -1,10 +1,7 @@
 -- Desks that come back in another order.
-use Rattle.std.proofs.Common.{◌≡◌, ◌≢◌, ℕ, zero, suc, ◌+◌, ◌-◌, ◌&&◌, ◌<◌, ◌≤◌, inl, inr, ⊎_elim, Bool, true, false, if◌then◌else◌, ◌==◌, eq-eqb, ne_eqb, List, [], ◌∷◌, length, get_or, set, refl, sym, ap, ◌∙◌, subst, arith}
-use Rattle.std.specs.List.{swap}
+use Rattle.std.proofs.Common.{◌≡◌, ◌≢◌, ℕ, suc, ◌+◌, ◌-◌, ◌&&◌, ◌<◌, ◌≤◌, inl, inr, true, false, List, [], ◌∷◌, length, sym, ap, ◌∙◌, subst, arith}
 use Rattle.std.specs.List.Sorted.{IsPermutation, IsNonDecreasingBy}
-use Rattle.std.proofs.lemmas.List.Sorted.{IsPermutation-keeps, IsPermutation-refl, IsPermutation-sym, IsPermutation-map, sum_by-IsPermutation}
-use Rattle.std.proofs.lemmas.List.Recursion.{is_sum_by}
-use Rattle.std.proofs.lemmas.Bool.{cases_eq}
+use Rattle.std.proofs.lemmas.List.Sorted.{IsPermutation-refl, IsPermutation-map}
 use Rattle.lab_plan.specs.LabPlan.{LabPlan}
 use Rattle.legal_steps.specs.declared.event.Event.{Event}
 use Rattle.locality.specs.History.{IsHistory}
@@ -18,7 +15,7 @@ use Rattle.locality.specs.AtTheEnd.{AllRetired}
 use Rattle.session_layer.specs.Grown.{TookTurns}
 use Rattle.session_layer.proofs.Grows as grows
 use Rattle.rounds.specs.Company.{first_front, all_retired}
-use Rattle.rounds.proofs.Lists.{each_but, zip_each, any_each, starts_then}
+use Rattle.rounds.proofs.Lists.{zip_each, any_each, starts_then}
 use Rattle.rounds.proofs.Driven.{Knows, met_knows, all_of}
 use Rattle.rounds.proofs.Reasons.{then_retired}
 use Rattle.legal_steps.specs.State.{drinking}
@@ -27,92 +24,8 @@ use Rattle.session_layer.specs.Retired.{has_retired}
 use Rattle.workers.specs.declared.halt.Halt.{Halt}
 use Rattle.workers.specs.declared.halt.Halt.TheVariants as halts
 use Rattle.workers.specs.Team.{TookUpTo, TookRest, taken, Pairs, Worked, FromOne, Ascending, Driven}
+use Rattle.workers.proofs.AnyOrder.{each_perm, each_in, any_among, any_perm, each_index, distinct_perm}
 use Rattle.workers.proofs.TeamTurns.{pairs_each, took_then, took_up_to, whole}
-
--- ---- what holds in every order
-
-module _ {A : Type 0} where
-  each_get : (P : A → Type 0) (l : List A) (k : ℕ) (x : A) → k < length l → Each P l → P (get_or l k x)
-  each_get P [] k x h e = absurd (omega arith)
-  each_get P (y ∷ l) zero x h e = e.0
-  each_get P (y ∷ l) (suc k) x h e = each_get P l k x (omega arith) e.1
-
-  each_swap : (P : A → Type 0) (l : List A) (i j : ℕ) → i < length l → j < length l → Each P l → Each P (swap l i j)
-  each_swap P [] i j h k e = e
-  each_swap P (y ∷ l) i j h k e =
-      each_but P (set (y ∷ l) i (get_or (y ∷ l) j y)) j (get_or (y ∷ l) i y)
-      (each_but P (y ∷ l) i (get_or (y ∷ l) j y) e (each_get P (y ∷ l) j y k e)) (each_get P (y ∷ l) i y h e)
-
-  pub each_perm : (P : A → Type 0) (xs ys : List A) → IsPermutation xs ys → Each P xs → Each P ys
-  each_perm P xs ys perm all = IsPermutation-keeps xs (Each P) all (λ l i j h k e. each_swap P l i j h k e) ys perm
-
-  in_itself : (l : List A) → Each (λ (x : A). Any (λ (y : A). y ≡ x) l) l
-  in_itself [] = tt
-  in_itself (x ∷ l) = (inl refl, each_map (λ (z : A). Any (λ (y : A). y ≡ z) l) (λ (z : A). Any (λ (y : A). y ≡ z) (x ∷ l)) (λ z h. inr h) l (in_itself l))
-
-  -- each is one of the others
-  pub each_in : (xs ys : List A) → IsPermutation xs ys → Each (λ (x : A). Any (λ (y : A). y ≡ x) xs) ys
-  each_in xs ys perm = each_perm (λ (x : A). Any (λ (y : A). y ≡ x) xs) xs ys perm (in_itself xs)
-
-  -- what some element has, some element has of a list in which all of them are
-  pub any_among : (P : A → Type 0) (l m : List A) → Each (λ (x : A). Any (λ (y : A). y ≡ x) m) l → Any P l → Any P m
-  any_among P [] m e any = absurd any
-  any_among P (x ∷ l) m e (inl h) = at m e.0 where
-    at : (m : List A) → Any (λ (y : A). y ≡ x) m → Any P m
-    at [] any = absurd any
-    at (y ∷ m) (inl is) = inl (subst P (sym is) h)
-    at (y ∷ m) (inr more) = inr (at m more)
-  any_among P (x ∷ l) m e (inr h) = any_among P l m e.1 h
-
-  pub any_perm : (P : A → Type 0) (xs ys : List A) → IsPermutation xs ys → Any P xs → Any P ys
-  any_perm P xs ys perm any = any_among P xs ys (each_in ys xs (IsPermutation-sym xs ys perm)) any
-
-  each_index : (P : A → Type 0) (l : List A) (x : A) → ((k : ℕ) → k < length l → P (get_or l k x)) → Each P l
-  each_index P [] x f = tt
-  each_index P (y ∷ l) x f = (f 0 (omega arith), each_index P l x (λ k h. f (suc k) (omega arith)))
-
--- ---- no job twice
-
--- how often m stands there
-abbrev times : ℕ → List ℕ → ℕ
-times m [] = 0
-times m (j ∷ js) = (if j == m then 1 else 0) + times m js
-
-times_perm : (m : ℕ) (js ks : List ℕ) → IsPermutation js ks → times m ks ≡ times m js
-times_perm m js ks perm = let f : ℕ → ℕ = λ j. if j == m then 1 else 0 in
-    is_sum_by (times m) f refl (λ _ _. refl) ks ∙ (sum_by-IsPermutation f js ks perm ∙ sym (is_sum_by (times m) f refl (λ _ _. refl) js))
-
-none_times : (m : ℕ) (js : List ℕ) → Each (λ (k : ℕ). k ≢ m) js → times m js ≡ 0
-none_times m [] e = refl
-none_times m (j ∷ js) e = ap (λ (b : Bool). (if b then 1 else 0) + times m js) (ne_eqb j m e.0) ∙ (let q = none_times m js e.1 in omega arith)
-
-times_none : (m : ℕ) (js : List ℕ) → times m js ≡ 0 → Each (λ (k : ℕ). k ≢ m) js
-times_none m [] e = tt
-times_none m (j ∷ js) e = (
-  (λ is. let q : times m (j ∷ js) ≡ 1 + times m js = ap (λ (b : Bool). (if b then 1 else 0) + times m js) (eq-eqb j m is) in absurd (omega arith)),
-  times_none m js (omega arith),
-)
-
-distinct_times : (js : List ℕ) → Distinct js → (m : ℕ) → times m js ≤ 1
-distinct_times [] d m = omega arith
-distinct_times (j ∷ js) d m = ⊎_elim
-    (λ (is : j ≡ m). let q : times m (j ∷ js) ≡ 1 + times m js = ap (λ (b : Bool). (if b then 1 else 0) + times m js)
-    (eq-eqb j m is) in let n = none_times m js (subst (λ z. Each (λ (k : ℕ). k ≢ z) js) is d.0) in omega arith)
-    (λ (other : j ≢ m). let q : times m (j ∷ js) ≡ 0 + times m js = ap (λ (b : Bool). (if b then 1 else 0) + times m js) (ne_eqb j m other) in
-    let n = distinct_times js d.1 m in
-    omega arith) (cases_eq j m)
-
-times_distinct : (js : List ℕ) → ((m : ℕ) → times m js ≤ 1) → Distinct js
-times_distinct [] f = tt
-times_distinct (j ∷ js) f = (
-  times_none j js (let q : times j (j ∷ js) ≡ 1 + times j js = ap (λ (b : Bool). (if b then 1 else 0) + times j js) (eq-eqb j j refl) in
-      let l = f j in
-      omega arith),
-  times_distinct js (λ m. let l = f m in omega arith),
-)
-
-pub distinct_perm : (js ks : List ℕ) → IsPermutation js ks → Distinct js → Distinct ks
-distinct_perm js ks perm d = times_distinct ks (λ m. let q = times_perm m js ks perm in let l = distinct_times js d m in omega arith)
 
 -- ---- desks
 
