@@ -12,7 +12,7 @@ use report::laws::one_report;
 use round_laws::laws::one_run;
 use script_reader::laws::one_meaning;
 use script_reader::read_plan;
-use script_runs::{outcome_of, send_report};
+use script_runs::show_run;
 use std::alloc::Allocator;
 use std::thread::Threads;
 use whole_runs::{AtEnd, by_rounds, by_threads};
@@ -34,9 +34,7 @@ fn in_rounds<A: Allocator + Copy, W: Sink>(
     holds_of_every_run();
     let plan = read_plan(alloc, input)?;
     let run = by_rounds(alloc, &plan, limit)?;
-    let end = AtEnd { closed: &run };
-    send_report(&end, sink)?;
-    Ok(outcome_of(&end))
+    show_run(&AtEnd { closed: &run }, sink)
 }
 
 /// Runs a script on one thread, in rounds: each round has one turn of each job, in the order of the script. It ends once all
@@ -83,9 +81,7 @@ fn by_workers<X: Threads + Sync, A: Allocator + Copy + Send + Sync, W: Sink, G: 
     holds_of_every_run();
     let plan = read_plan(alloc, input)?;
     let run = by_threads(rt, alloc, &plan, workers, turns, gate)?;
-    let end = AtEnd { closed: &run };
-    send_report(&end, sink)?;
-    Ok(outcome_of(&end))
+    show_run(&AtEnd { closed: &run }, sink)
 }
 
 /// Runs a script by 1 to 32 worker threads: worker `w` takes the turns of the jobs whose number is `w` modulo the workers, at

@@ -1,3 +1,4 @@
 pub mod CountSums
 pub mod Replayed
+pub mod Shown
 pub mod UpgradeStable

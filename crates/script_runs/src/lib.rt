@@ -8,4 +8,4 @@ mod running;
 mod sending;
 
 pub use running::{run_check, run_replay, run_upgrade};
-pub use sending::{outcome_of, send_report};
+pub use sending::show_run;

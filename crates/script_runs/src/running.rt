@@ -7,7 +7,7 @@ ghost use Rattle.script_runs.specs.Runs.{ReplaysScript, ReplayRefuses, ReplayAns
 
 use crate::counting::counts_line;
 use crate::replaying::take_steps;
-use crate::sending::{outcome_of, send_report, send_script};
+use crate::sending::{send_script, show_run};
 use headline::holds_of_every_run;
 use interleaving::World;
 use lab_program::{Outcome, RunFault, Source, read_input, send_text};
@@ -38,8 +38,7 @@ fn replay<A: Allocator + Copy, W: Sink>(
     let _ = plan.jobs();
     report_of_events();
     holds_of_every_run();
-    send_report(&world, sink)?;
-    Ok(outcome_of(&world))
+    show_run(&world, sink)
 }
 
 /// Takes each step of a script from the opening on, all in turn, and writes the report of the run.

@@ -1,17 +1,19 @@
 // What a run writes, a report or a script and then a flush, and how it ends.
-ghost use Rattle.std.specs.Prelude.{◌≡◌};
+ghost use Rattle.std.specs.Prelude.{◌≡◌, ◌+◌};
 ghost use Rattle.lab_plan.specs.Upgrade.{script_text};
 ghost use Rattle.report.specs.Taken.{Sends};
 ghost use Rattle.report.specs.Report.{report_of, all_retired};
+ghost use Rattle.lab_program.specs.Faults.{failed_reads, failed_writes};
 ghost use Rattle.script_runs.specs.Runs.{outcome_of};
+ghost use Rattle.script_runs.specs.Shown.{Shows};
 
 use lab_plan::Plan;
-use lab_program::{Outcome, pass_on};
+use lab_program::{Outcome, RunFault, pass_on};
 use report::{Showing, Sink, WriteFault, all_retired, write_report, write_script};
 use std::alloc::Allocator;
 
 /// Sends the report of a run, a line at a time, and then a flush.
-pub fn send_report<S: Showing<P>, P: Allocator, W: Sink>(
+fn send_report<S: Showing<P>, P: Allocator, W: Sink>(
     run: &S,
     sink: &mut W,
 ) -> Result<(), WriteFault>
@@ -24,7 +26,7 @@ pub fn send_report<S: Showing<P>, P: Allocator, W: Sink>(
 }
 
 /// How a run has ended: Finished where every job is retired.
-pub fn outcome_of<S: Showing<P>, P: Allocator>(run: &S) -> Outcome
+fn outcome_of<S: Showing<P>, P: Allocator>(run: &S) -> Outcome
     ensures { result ≡ outcome_of (all_retired (S.plan run.now) (S.shown run.now)) }
 {
     if all_retired(run) {
@@ -32,6 +34,19 @@ pub fn outcome_of<S: Showing<P>, P: Allocator>(run: &S) -> Outcome
     } else {
         Outcome::Unfinished
     }
+}
+
+/// Sends the report of a run, a line at a time, and then a flush; answers how the run has ended.
+pub fn show_run<S: Showing<P>, P: Allocator, W: Sink>(
+    run: &S,
+    sink: &mut W,
+) -> Result<Outcome, RunFault>
+    ensures shows { Shows (W.taken sink.old) (W.taken sink.new) (report_of (S.plan run.now) (S.shown run.now)) (outcome_of (all_retired (S.plan run.now) (S.shown run.now))) result }
+    ensures reads { failed_reads result ≡ 0 }
+    ensures writes { W.failures sink.new ≡ W.failures sink.old + failed_writes result }
+{
+    send_report(run, sink)?;
+    Ok(outcome_of(run))
 }
 
 /// Sends the script of version 2 that means the plan.

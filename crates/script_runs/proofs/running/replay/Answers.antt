@@ -2,10 +2,11 @@ use Rattle.std.proofs.Common.{refl}
 use Rattle.std.proofs.KnownBytes.{Keeps-refl}
 use Rattle.report.specs.Report.{report_of, all_retired}
 use Rattle.report.specs.Worlds.{shown_by}
-use Rattle.lab_program.specs.declared.faults.RunFault.TheVariants.{Script, Write}
+use Rattle.lab_program.specs.declared.faults.RunFault.TheVariants.{Script}
 use Rattle.script_runs.specs.Runs.{ReplaysScript, ReplayRefuses, outcome_of}
 use Rattle.lab_program.proofs.RunAnswers.{ends_with}
 use Rattle.script_runs.proofs.Replayed.{stopped, replayed}
+use Rattle.script_runs.proofs.Shown.{answered}
 use Rattle.script_runs.proofs.running.replay.Goals as goal
 
 pub returns-in_err-plan-clause-answer : goal.returns-in_err-plan-clause-answer
@@ -22,20 +23,11 @@ returns-in-Err-clause-answer g c = (
 
 pub returns-clause-answer : goal.returns-clause-answer
 returns-clause-answer g c =
-    let world = c.take_steps.new.world in (
-      report_of world.plan (shown_by world),
-      replayed c.report_of_events.ensures c.holds_of_every_run.ensures c.args.input.now c.in_ok-plan.plan
-          c.deref.result.now c.in_ok-plan.steps.items c.in_ok-world.world world c.outcome_of.result c.jobs.ensures.plan
-          c.deref.ensures.value c.in_ok-world.ensures c.in_ok-plan.ensures.meaning c.in_default.ensures c.outcome_of.ensures,
-      c.in_ok-send_report.ensures.0,
-    )
-
-pub returns-in_err-send_report-clause-answer : goal.returns-in_err-send_report-clause-answer
-returns-in_err-send_report-clause-answer g c =
     let world = c.take_steps.new.world in
+    let text = report_of world.plan (shown_by world) in
     let outcome = outcome_of (all_retired world.plan (shown_by world)) in
-    let replays = replayed c.report_of_events.ensures c.holds_of_every_run.ensures c.args.input.now c.in_ok-plan.plan
+    answered ReplaysScript ReplayRefuses c.args.input.now text outcome _ _ c.show_run.result
+    (replayed c.report_of_events.ensures c.holds_of_every_run.ensures c.args.input.now c.in_ok-plan.plan
     c.deref.result.now c.in_ok-plan.steps.items c.in_ok-world.world world outcome c.jobs.ensures.plan
-    c.deref.ensures.value c.in_ok-world.ensures c.in_ok-plan.ensures.meaning c.in_default.ensures refl in
-    ends_with ReplaysScript ReplayRefuses _ _ _ c.from_residual-in_err-send_report.result Write c.from_residual-in_err-send_report.ensures.1
-    (report_of world.plan (shown_by world), outcome, replays, c.in_err-send_report.ensures.0)
+    c.deref.ensures.value c.in_ok-world.ensures c.in_ok-plan.ensures.meaning c.in_default.ensures refl)
+    c.show_run.ensures.shows
