@@ -1,3 +1,4 @@
+pub mod Fewer
 pub mod Turning
 pub mod Pairs
 pub mod Peeled

@@ -26,7 +26,7 @@ leads_on : (R : ℕ → ℕ → Type 0) (job : ℕ) (jobs : List ℕ) → IsCycl
 leads_on R job [] c = (job, c)
 leads_on R job (next ∷ jobs) c = (next, c.0)
 
-replicate_at : (n job : ℕ) → job < n → get_or (replicate n true) job false ≡ true
+pub replicate_at : (n job : ℕ) → job < n → get_or (replicate n true) job false ≡ true
 replicate_at zero job l = absurd (omega arith)
 replicate_at (suc n) zero l = refl
 replicate_at (suc n) (suc job) l = replicate_at n job (omega arith)

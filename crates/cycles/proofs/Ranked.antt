@@ -1,13 +1,16 @@
 -- What a ranking keeps while it is made.
-use Rattle.std.proofs.Common.{◌≡◌, ℕ, zero, suc, ◌<◌, Bool, false, List, [], ◌∷◌, ◌++◌, length, get_or, ◌⊎◌, inl, inr, refl, sym, ◌∙◌, ap, subst, arith, get_or-set_other, get_or-set_same, set}
-use Rattle.std.proofs.Math.ListN.{length-set, get_or-eq_default}
-use Rattle.std.proofs.lemmas.Bool.{cases_eq, cases_Bool, cases_lt}
-use Rattle.std.proofs.lemmas.List.{get_or_default}
+use Rattle.std.proofs.Common.{◌≡◌, ℕ, zero, suc, ◌<◌, Bool, true, false, List, [], ◌∷◌, ◌++◌, length, get_or, replicate, ◌⊎◌, inl, inr, refl, sym, ◌∙◌, ap, subst, arith, get_or-set_other, get_or-set_same, set}
+use Rattle.std.proofs.Math.ListN.{length-set}
+use Rattle.std.proofs.lemmas.Bool.{cases_eq, cases_Bool, false≢true}
+use Rattle.std.proofs.lemmas.List.{get_or_default, length-replicate}
+use Rattle.std.specs.Prelude.{reverse}
 use Rattle.std.specs.List.{Contains}
 use Rattle.cycles.specs.Cycles.{LeadsBackTo, HasNoCycle, IsAmong}
 use Rattle.cycles.specs.Peeling.{IsLeft, IsOut, IsSinkLeft, EachLeadsOn}
 use Rattle.cycles.specs.Rankings.{IsRanked, IsRanking}
 use Rattle.cycles.proofs.Turning.{LeadsBackTo-join}
+use Rattle.cycles.proofs.Fewer.{in_range}
+use Rattle.cycles.proofs.Peeled.{replicate_at}
 
 -- an order of the jobs that are out
 pub record RanksOut (n : ℕ) (pairs : List (ℕ × ℕ)) (left : List Bool) (order : List ℕ) : Type 0 where
@@ -17,6 +20,18 @@ pub record RanksOut (n : ℕ) (pairs : List (ℕ × ℕ)) (left : List Bool) (or
   pub within : (job : ℕ) → Contains order job → job < n
   pub every : (job : ℕ) → job < n → IsOut left job → Contains order job
   pub closed : (job next : ℕ) → Contains order job → IsAmong pairs job next → IsOut left next
+
+-- before any is taken out
+pub ranks_none : (n : ℕ) (pairs : List (ℕ × ℕ)) (left : List Bool) (order : List ℕ) → left ≡ replicate n true → order ≡ []
+    → RanksOut n pairs left (reverse order)
+ranks_none n pairs left order all none = subst (λ jobs. RanksOut n pairs left (reverse jobs)) (sym none) (record {
+  len = ap (λ (xs : List Bool). length xs) all ∙ length-replicate n true;
+  ranked = tt;
+  out = λ job h. absurd (omega (arith, h.1));
+  within = λ job h. absurd (omega (arith, h.1));
+  every = λ job b o. absurd (false≢true (sym o ∙ (ap (λ xs. get_or xs job false) all ∙ replicate_at n job b)));
+  closed = λ job next h r. absurd (omega (arith, h.1));
+})
 
 Contains-cases : (first : ℕ) (jobs : List ℕ) (job k : ℕ) → k < length (first ∷ jobs) → get_or (first ∷ jobs) k job ≡ job → (job ≡ first) ⊎ Contains jobs job
 Contains-cases first jobs job zero l e = inl (sym e)
@@ -86,9 +101,6 @@ bottom R a H (suc n) j l hj k =
       ])
       | inr q ↦ below j (omega arith) hj
     ]
-
-in_range : (left : List Bool) (job : ℕ) → IsLeft left job → job < length left
-in_range left job t = elim (cases_lt job (length left)) [ inl l ↦ l | inr l ↦ let o = get_or-eq_default left false {n = job} (omega (arith, l)) in absurd (cc) ]
 
 -- where none leads on in a circle, none can be left
 pub ranks_every : (n : ℕ) (pairs : List (ℕ × ℕ)) (left : List Bool) (order : List ℕ)

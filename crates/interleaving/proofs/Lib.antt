@@ -1,4 +1,5 @@
 pub mod FitLemmas
+pub mod TableWrites
 pub mod LogLemmas
 pub mod CountLemmas
 pub mod WorldLemmas

@@ -1,5 +1,5 @@
 -- The tables of an opening state.
-use Rattle.std.proofs.Common.{◌≡◌, ℕ, ◌+◌, ◌<◌, ◌↔◌, List, [], ◌∷◌, ◌++◌, length, map, replicate, take, slice_index_or, arith, refl, sym, ap, ◌∙◌, subst}
+use Rattle.std.proofs.Common.{◌≡◌, ℕ, ◌+◌, ◌<◌, List, [], ◌∷◌, ◌++◌, length, map, replicate, take, slice_index_or, arith, sym, ap, ◌∙◌, subst}
 use Rattle.std.specs.List.{range_with_len, enumerate_from}
 use Rattle.std.proofs.lemmas.List.{take_more, take_all, length-map, length-replicate, get_or-replicate}
 use Rattle.std.proofs.lemmas.List.FromFn.{length-enumerate_from}
@@ -10,14 +10,12 @@ use Rattle.instrument_log.specs.InstrumentLog.{LogView, empty_log}
 use Rattle.legal_steps.specs.declared.edge_state.EdgeState.{EdgeState}
 use Rattle.legal_steps.specs.declared.edge_state.EndChoice.{EndChoice}
 use Rattle.legal_steps.specs.State.{State, Seat, Setting, no_edge}
-use Rattle.cycles.specs.Cycles.{IsAmong, HasNoCycle, IsCycleOf}
 use Rattle.legal_steps.specs.declared.counts.Counts.{Counts}
 use Rattle.interleaving.specs.Start.{at_start}
-use Rattle.interleaving.proofs.PrecedenceLemmas.{acyclic_of, cyclic_of}
 use Rattle.legal_steps.specs.Fitting.{Fits}
 use Rattle.legal_steps.specs.WholeLogs.{room_of}
 use Rattle.legal_steps.specs.Opening.{AreChoices, chosen_edge, opening_of, idle_seat, IsOpening}
-use Rattle.legal_steps.specs.Precedence.{IsAcyclic, Precedes}
+use Rattle.legal_steps.specs.Precedence.{IsAcyclic}
 use Rattle.legal_steps.proofs.OpeningChoices.{opening_edge, opening_of_choices}
 use Rattle.legal_steps.proofs.OpeningLemmas.{fits_opening}
 use Rattle.legal_steps.proofs.ReachedLemmas.{reached_opening}
@@ -82,14 +80,3 @@ is_at_start t plan s tally n shows all none =
     let counts : tally ≡ replicate (length plan.jobs) no_counts = none ∙ ap (λ k. replicate k no_counts) all in
     let make : Setting → List Counts → WorldView = λ x y. record { plan = x.plan; state = x.state; counts = y } in
     ap (λ x. make x tally) shows ∙ ap (make (record { plan = plan; state = s })) counts
-
-pub opened_acyclic : (t : Setting) (plan : LabPlan) (s : State) (pairs lent : List (ℕ × ℕ)) → t ≡ record { plan = plan; state = s } → lent ≡ pairs
-    → ((a b : ℕ) → IsAmong pairs a b ↔ Precedes t.plan t.state a b) → HasNoCycle (IsAmong lent) → IsAcyclic plan s
-opened_acyclic t plan s pairs lent shows same these none =
-    subst (λ (x : Setting). IsAcyclic x.plan x.state) shows (acyclic_of t.plan t.state pairs these (subst (λ xs. HasNoCycle (IsAmong xs)) same none))
-
-pub opened_cyclic : (t : Setting) (plan : LabPlan) (s : State) (pairs lent : List (ℕ × ℕ)) (cycle : List ℕ)
-    → t ≡ record { plan = plan; state = s } → lent ≡ pairs
-    → ((a b : ℕ) → IsAmong pairs a b ↔ Precedes t.plan t.state a b) → IsCycleOf (IsAmong lent) cycle → ¬ IsAcyclic plan s
-opened_cyclic t plan s pairs lent cycle shows same these is =
-    subst (λ (x : Setting). ¬ IsAcyclic x.plan x.state) shows (cyclic_of t.plan t.state pairs cycle these (subst (λ xs. IsCycleOf (IsAmong xs) cycle) same is))

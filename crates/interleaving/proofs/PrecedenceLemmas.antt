@@ -81,10 +81,13 @@ by_edge_of plan s n pairs h all = record { one_each = h.count ∙ all; each = λ
 
 -- ---- cycles
 
-pub acyclic_of : (plan : LabPlan) (s : State) (pairs : List (ℕ × ℕ))
-    → ((a b : ℕ) → IsAmong pairs a b ↔ Precedes plan s a b) → HasNoCycle (IsAmong pairs) → IsAcyclic plan s
-acyclic_of plan s pairs same none jobs cycle = none jobs (cycle_same (Precedes plan s) (IsAmong pairs) (λ a b. (same a b).1) jobs cycle)
+-- from a list that is lent as a slice
+pub acyclic_of : (plan : LabPlan) (s : State) (pairs lent : List (ℕ × ℕ)) → lent ≡ pairs
+    → ((a b : ℕ) → IsAmong pairs a b ↔ Precedes plan s a b) → HasNoCycle (IsAmong lent) → IsAcyclic plan s
+acyclic_of plan s pairs lent is same none jobs cycle =
+    none jobs (subst (λ xs. IsCycleOf (IsAmong xs) jobs) (sym is) (cycle_same (Precedes plan s) (IsAmong pairs) (λ a b. (same a b).1) jobs cycle))
 
-pub cyclic_of : (plan : LabPlan) (s : State) (pairs : List (ℕ × ℕ)) (cycle : List ℕ)
-    → ((a b : ℕ) → IsAmong pairs a b ↔ Precedes plan s a b) → IsCycleOf (IsAmong pairs) cycle → ¬ IsAcyclic plan s
-cyclic_of plan s pairs cycle same is acyclic = acyclic cycle (cycle_same (IsAmong pairs) (Precedes plan s) (λ a b. (same a b).0) cycle is)
+pub cyclic_of : (plan : LabPlan) (s : State) (pairs lent : List (ℕ × ℕ)) (cycle : List ℕ) → lent ≡ pairs
+    → ((a b : ℕ) → IsAmong pairs a b ↔ Precedes plan s a b) → IsCycleOf (IsAmong lent) cycle → ¬ IsAcyclic plan s
+cyclic_of plan s pairs lent cycle is same found acyclic =
+    acyclic cycle (cycle_same (IsAmong pairs) (Precedes plan s) (λ a b. (same a b).0) cycle (subst (λ xs. IsCycleOf (IsAmong xs) cycle) is found))

@@ -29,10 +29,10 @@ impl<'a, A: Allocator> Tables<'a, A> {
         let state = self.edge(edge);
         let needed = self.needed_bottles(job, edge);
         for bottle in 0..self.bottles(edge) {
-            let may = has(needed, bottle)
-                && bottle_end(state.bottles, bottle) != here
-                && bottle_end(state.bottle_tokens, bottle) == here;
-            if has(set, bottle) && !may {
+            let not_asked = !has(needed, bottle)
+                || bottle_end(state.bottles, bottle) == here
+                || bottle_end(state.bottle_tokens, bottle) != here;
+            if has(set, bottle) && not_asked {
                 return false;
             }
         }

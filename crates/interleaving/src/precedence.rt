@@ -1,12 +1,13 @@
 // Precedence among jobs: who eats first on each edge.
-ghost use Rattle.std.specs.Prelude.{◌≡◌, ℕ, ◌<◌, ◌↔◌, IsTrue, length, IfOk};
+ghost use Rattle.std.specs.Prelude.{◌≡◌, ℕ, ◌<◌, ◌↔◌, IsTrue, true, false, length, IfOk};
 ghost use Rattle.std.specs.List.{Contains};
 ghost use Rattle.cycles.specs.Cycles.{IsAmong, AreBelow};
 ghost use Rattle.lab_plan.specs.LabPlan.{edges};
-ghost use Rattle.legal_steps.specs.Precedence.{Precedes, PrecedesOn};
+ghost use Rattle.legal_steps.specs.Precedence.{IsAcyclic, Precedes, PrecedesOn};
 ghost use Rattle.interleaving.specs.Pairs.{IsPrecedenceByEdge};
 
 use crate::tables::Tables;
+use cycles::{NoMemory, cycle_in};
 use lab_plan::{EdgeNo, JobNo};
 use legal_steps::{Dining, End};
 use std::alloc::{AllocError, Allocator};
@@ -62,5 +63,16 @@ impl<'a, A: Allocator> Tables<'a, A> {
             pairs.push(self.order(EdgeNo(edge)))?;
         }
         Ok(pairs)
+    }
+    // Whether precedence has a cycle.
+    pub(crate) fn has_cycle<B: Allocator + Copy>(&self, alloc: B) -> Result<bool, NoMemory>
+        ensures cyclic { IfOk result (λ answer. answer ≡ true → ¬ IsAcyclic self.now.plan self.now.state) }
+        ensures acyclic { IfOk result (λ answer. answer ≡ false → IsAcyclic self.now.plan self.now.state) }
+    {
+        let pairs = self.precedence(alloc)?;
+        match cycle_in(alloc, self.plan().jobs(), &pairs)? {
+            Some(_) => Ok(true),
+            None => Ok(false),
+        }
     }
 }

@@ -135,7 +135,6 @@ impl<'a, A: Allocator> Tables<'a, A> {
 }
 
 impl<'a, A: Allocator> Tables<'a, A> {
-    #[tactic(auto, using(legal_steps::proofs::FitsWrites::fits_with_edge))]
     pub(crate) fn set_edge(&mut self, edge: EdgeNo, state: EdgeState)
         requires is_edge { edge < length (edges self.old.plan) }
         requires bottles { IsOfEdge self.old.plan edge state.bottles }
@@ -157,7 +156,6 @@ impl<'a, A: Allocator> Tables<'a, A> {
         seat.set_phase(phase);
     }
 
-    #[tactic(auto, using(legal_steps::proofs::FitsWrites::fits_with_seat, legal_steps::proofs::FitsWrites::seat_fits_fork_mark))]
     pub(crate) fn set_fork_mark(&mut self, job: JobNo, edge: EdgeNo, mark: bool)
         requires is_job { IsJob self.old.plan job }
         requires is_edge { edge < length (edges self.old.plan) }
@@ -168,7 +166,6 @@ impl<'a, A: Allocator> Tables<'a, A> {
         seat.set_fork_mark(edge.0 as usize, mark);
     }
 
-    #[tactic(auto, using(legal_steps::proofs::FitsWrites::fits_with_seat, legal_steps::proofs::FitsWrites::seat_fits_bottle_marks))]
     pub(crate) fn set_bottle_marks(&mut self, job: JobNo, edge: EdgeNo, marks: u32)
         requires is_job { IsJob self.old.plan job }
         requires is_edge { edge < length (edges self.old.plan) }
@@ -181,7 +178,6 @@ impl<'a, A: Allocator> Tables<'a, A> {
     }
 
     // Both marks of the job at an edge.
-    #[tactic(auto, using(legal_steps::proofs::FitsWrites::fits_with_seat, legal_steps::proofs::FitsWrites::seat_fits_bottle_marks, legal_steps::proofs::FitsWrites::seat_fits_fork_mark))]
     pub(crate) fn set_marks(&mut self, job: JobNo, edge: EdgeNo, mark: bool, marks: u32)
         requires is_job { IsJob self.old.plan job }
         requires is_edge { edge < length (edges self.old.plan) }

@@ -17,7 +17,7 @@ use crate::counts::JobCounts;
 use crate::opening::are_choices;
 use crate::refusal::StartRefusal;
 use crate::tables::Tables;
-use cycles::{NoMemory, cycle_in};
+use cycles::NoMemory;
 use instrument_log::InstrumentLog;
 use lab_plan::{EdgeNo, InstrumentNo, JobNo, Plan};
 use legal_steps::{EdgeState, EndChoice, Event, JobState, NotLegal};
@@ -62,11 +62,10 @@ impl<'a, A: Allocator + Copy> World<'a, A> {
         }
         let tables = Tables::opened(alloc, plan, choices)?;
         let tally = JobCounts::new(alloc, plan.jobs())?;
-        let pairs = tables.precedence(alloc)?;
-        match cycle_in(alloc, plan.jobs(), &pairs)? {
-            Some(_) => Err(StartRefusal::Cycle),
-            None => Ok(World { tables, tally }),
+        if tables.has_cycle(alloc)? {
+            return Err(StartRefusal::Cycle);
         }
+        Ok(World { tables, tally })
     }
 
     /// A world at the opening where each fork and each bottle is at the edge's lower job. On each edge

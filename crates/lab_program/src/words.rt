@@ -112,6 +112,29 @@ fn command<'a>(
         .arg(help)
 }
 
+/// What the help shows of one word: what it does, under its name and values.
+fn row<'a>(alloc: Global, usage: &'a str, about: &'a str) -> Command<'a> {
+    Command::new(alloc, usage)
+        .about(about)
+        .disable_help_flag(true)
+}
+
+/// The text of a program's help, with a row for each of the words under its name and values.
+fn text_with_rows<'a>(
+    alloc: Global,
+    program: &'a str,
+    about: &'a str,
+    words: &[Word],
+    usages: &'a [String],
+    after: &'a str,
+) -> Result<String, AllocError> {
+    let mut command = command(alloc, program, about, after)?;
+    for (word, usage) in words.iter().zip(usages.iter()) {
+        command = command.subcommand(row(alloc, usage.as_str(), word.about))?;
+    }
+    command.render_help()
+}
+
 /// The text of a program's help: what it does, its words, `--help`, and the text that follows.
 pub fn help<'a>(
     alloc: Global,
@@ -121,12 +144,5 @@ pub fn help<'a>(
     after: &'a str,
 ) -> Result<String, AllocError> {
     let usages = usages(alloc, words)?;
-    let mut command = command(alloc, program, about, after)?;
-    for (word, usage) in words.iter().zip(usages.iter()) {
-        let row = Command::new(alloc, usage.as_str())
-            .about(word.about)
-            .disable_help_flag(true);
-        command = command.subcommand(row)?;
-    }
-    command.render_help()
+    text_with_rows(alloc, program, about, words, usages.as_slice(), after)
 }

@@ -1,8 +1,13 @@
 use Rattle.std.proofs.Common.{◌∙◌, subst, false}
 use Rattle.std.proofs.Math.ListN.{length-set}
-use Rattle.cycles.specs.Peeling.{IsSink}
+use Rattle.cycles.specs.Peeling.{IsLeft, IsSink}
+use Rattle.cycles.proofs.Fewer.{fewer_left}
 use Rattle.cycles.proofs.Peeled.{taken_out}
 use Rattle.cycles.proofs.peeling.take_out_sinks.Goals as goal
+
+pub loop-job-smaller : goal.loop-job-smaller
+loop-job-smaller g c = fewer_left c.loop-job.left.items c.in-Some.job
+    (subst (λ left. IsLeft left c.in-Some.job) c.deref.ensures.value c.in-Some.ensures.found.is_left)
 
 pub loop-job-preserved : goal.loop-job-preserved
 loop-job-preserved g c = record {

@@ -1,10 +1,19 @@
 use Rattle.std.proofs.Common.{◌<◌, ℕ, length, List, [], ◌∷◌, false, sym, ◌∙◌, ap, subst, set}
 use Rattle.std.specs.Prelude.{reverse}
 use Rattle.std.proofs.lemmas.List.{reverse-append}
-use Rattle.cycles.specs.Peeling.{IsSinkLeft, EachLeadsOn}
+use Rattle.cycles.specs.Peeling.{IsLeft, IsSinkLeft, EachLeadsOn}
 use Rattle.cycles.specs.Rankings.{IsRanking}
-use Rattle.cycles.proofs.Ranked.{RanksOut, takes_out, ranks_every}
+use Rattle.cycles.proofs.Ranked.{RanksOut, ranks_none, takes_out, ranks_every}
+use Rattle.cycles.proofs.Fewer.{fewer_left}
 use Rattle.cycles.proofs.ranks.ranking.Goals as goal
+
+pub loop-job-init : goal.loop-job-init
+loop-job-init g c = ranks_none c.args.jobs c.args.pairs.now c.in_ok-left.left.items c.new-order.result.items
+    (c.in_ok-left.ensures.items_if_clones_equal (λ copy e. e)) c.new-order.ensures.items
+
+pub loop-job-smaller : goal.loop-job-smaller
+loop-job-smaller g c = fewer_left c.loop-job.left.items c.in-Some.job
+    (subst (λ left. IsLeft left c.in-Some.job) c.deref.ensures.value c.in-Some.ensures.found.is_left)
 
 pub loop-job-preserved : goal.loop-job-preserved
 loop-job-preserved g c =

@@ -5,6 +5,10 @@ use Rattle.rounds.proofs.BothEnds.{with_one_more, not_all}
 use Rattle.rounds.proofs.agreeing.is_agreed.Goals as goal
 use Rattle.rounds.proofs.agreeing.is_agreed.Goals.{then-all, else-all}
 
+pub is_agreed_at-all-requires-clause-edge : goal.is_agreed_at-all-requires-clause-edge
+is_agreed_at-all-requires-clause-edge g c = let n = c.edges-number-end.ensures.edges ∙ ap (λ (z : LabPlan). length (edges z)) c.plan.ensures in
+    let inside = c.loop-number-test.true in omega (arith, n, inside)
+
 pub loop-number-preserved : goal.loop-number-preserved
 loop-number-preserved g c = let inv = c.loop-number.invariant in elim c.if-all.branch [
   | then-all w ↦ subst (λ b. IsTrue b ↔ IsAgreed c.args.desks.now c.args.bench.now.plan (c.loop-number.number + 1)) (sym w.all-is)

@@ -1,9 +1,15 @@
 use Rattle.std.proofs.Common.{◌<◌, ◌≤◌, ◌≡◌, ◌↔◌, IsTrue, ℕ, arith, length, subst, ap, ◌∙◌, sym}
-use Rattle.lab_plan.specs.LabPlan.{LabPlan, ends, bottles}
+use Rattle.lab_plan.specs.LabPlan.{LabPlan, edges, ends, bottles}
 use Rattle.legal_steps.specs.declared.edge_state.EdgeState.{EdgeState}
 use Rattle.rounds.proofs.BothEnds.{same_word}
 use Rattle.rounds.specs.Company.{seen_by}
 use Rattle.rounds.proofs.agreeing.is_agreed_at.Goals as goal
+
+pub bottles-requires : goal.bottles-requires
+bottles-requires g c = subst (λ (z : LabPlan). c.args.edge < length (edges z)) (sym c.plan-plan.ensures) c.requires.edge
+
+pub ends-lower-requires : goal.ends-lower-requires
+ends-lower-requires g c = subst (λ (z : LabPlan). c.args.edge < length (edges z)) (sym c.plan-plan.ensures) c.requires.edge
 
 pub seen_by-seen-requires-clause-job : goal.seen_by-seen-requires-clause-job
 seen_by-seen-requires-clause-job g c =
