@@ -1,9 +1,9 @@
-// The names that explanations tell.
+// The names that texts of steps tell.
 ghost use Rattle.std.specs.Prelude.{◌≡◌, ◌<◌, ◌++◌, length, OnOk};
 ghost use Rattle.lab_plan.specs.LabPlan.{edges, bottles};
 ghost use Rattle.lab_plan.specs.Texts.{job_name};
 ghost use Rattle.legal_steps.specs.State.{neighbour as neighbour_of};
-ghost use Rattle.explaining.specs.Names.{other_name, bottle_name};
+ghost use Rattle.step_texts.specs.Names.{other_name, bottle_name};
 
 use lab_plan::{EdgeNo, JobNo, Plan};
 use std::alloc::{AllocError, Allocator};
@@ -18,7 +18,7 @@ fn neighbour<A: Allocator>(plan: &Plan<A>, job: JobNo, edge: EdgeNo) -> JobNo
     if lower == job { higher } else { lower }
 }
 
-pub(crate) fn add_job<A: Allocator, B: Allocator>(
+pub fn add_job<A: Allocator, B: Allocator>(
     out: &mut Vec<u8, A>,
     plan: &Plan<B>,
     job: JobNo,
@@ -30,7 +30,7 @@ pub(crate) fn add_job<A: Allocator, B: Allocator>(
 }
 
 /// Adds the name of the job at the other end of the edge.
-pub(crate) fn add_other<A: Allocator, B: Allocator>(
+pub fn add_other<A: Allocator, B: Allocator>(
     out: &mut Vec<u8, A>,
     plan: &Plan<B>,
     job: JobNo,
@@ -44,7 +44,7 @@ pub(crate) fn add_other<A: Allocator, B: Allocator>(
 
 /// Adds the name of the bottle's instrument.
 #[tactic(auto, using(crate::proofs::BottleNames::instrument_below))]
-pub(crate) fn add_bottle<A: Allocator, B: Allocator>(
+pub fn add_bottle<A: Allocator, B: Allocator>(
     out: &mut Vec<u8, A>,
     plan: &Plan<B>,
     edge: EdgeNo,

@@ -1,10 +1,10 @@
 use Rattle.std.proofs.Common.{◌≡◌, ◌++◌, ◌==◌, ℕ, Bool, true, false, List, [], sym, ap, ◌∙◌, append_assoc, append-nil, if◌then◌else◌}
 use Rattle.std.specs.Prelude.{codes}
 use Rattle.std.specs.Int.{bit_at}
-use Rattle.explaining.specs.Names.{bottle_name}
-use Rattle.explaining.specs.StepTexts.{member_text}
-use Rattle.explaining.proofs.Members.{member}
-use Rattle.explaining.proofs.steps.add_member.Goals as goal
+use Rattle.step_texts.specs.Names.{bottle_name}
+use Rattle.step_texts.specs.StepTexts.{member_text}
+use Rattle.step_texts.proofs.Members.{member}
+use Rattle.step_texts.proofs.steps.add_member.Goals as goal
 
 -- what a test chooses, where its answer is known
 chosen : (x y : Bool) (a b : List ℕ) → x ≡ y → (if x then a else b) ≡ (if y then a else b)

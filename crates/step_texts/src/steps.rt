@@ -3,8 +3,8 @@ ghost use Rattle.std.specs.Prelude.{◌≡◌, ◌<◌, ◌++◌, length, codes,
 ghost use Rattle.lab_plan.specs.LabPlan.{edges, bottles};
 ghost use Rattle.lab_plan.specs.Texts.{job_name};
 ghost use Rattle.legal_steps.specs.Steps.{IsStepOf};
-ghost use Rattle.explaining.specs.Names.{other_name};
-ghost use Rattle.explaining.specs.StepTexts.{alone_text, pair_text, member_text, set_text, bottles_text, glance_text, step_text};
+ghost use Rattle.step_texts.specs.Names.{other_name};
+ghost use Rattle.step_texts.specs.StepTexts.{alone_text, pair_text, member_text, set_text, bottles_text, glance_text, step_text};
 
 use crate::names::{add_bottle, add_job, add_other};
 use lab_plan::{EdgeNo, JobNo, Plan};

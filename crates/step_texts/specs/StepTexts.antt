@@ -6,7 +6,7 @@ use Rattle.lab_plan.specs.LabPlan.{LabPlan, bottles}
 use Rattle.lab_plan.specs.Texts.{job_name}
 use Rattle.legal_steps.specs.declared.event.Step.{Step}
 use Rattle.legal_steps.specs.declared.event.Step.TheVariants.{Look, AskFork, GiveFork, Soil, AskBottles, GiveBottles, Thirst, Hunger, Sit, Leave, Drink, Reach, Act, Quit, Retire, Glance, Withdraw}
-use Rattle.explaining.specs.Names.{other_name, bottle_name}
+use Rattle.step_texts.specs.Names.{other_name, bottle_name}
 
 -- a word and a job
 abbrev pub alone_text : LabPlan → List ℕ → ℕ → List ℕ

@@ -1,4 +1,4 @@
--- The names that explanations tell.
+-- The names that texts of steps tell.
 use Rattle.std.specs.Prelude.{ℕ, List}
 use Rattle.lab_plan.specs.LabPlan.{LabPlan}
 use Rattle.lab_plan.specs.Texts.{job_name, instrument_name}
