@@ -1,6 +1,6 @@
 -- For readers: what is drawn of a meal, below the sessions of its job.
 use Rattle.std.specs.Prelude.{ℕ, List, [], ◌++◌, codes, decimal, Option, None, Some}
-use Rattle.waiting.specs.declared.session.Meal.{Meal}
+use Rattle.session_rounds.specs.declared.session.Meal.{Meal}
 use Rattle.round_picture.specs.Scale.{place, width}
 use Rattle.round_picture.specs.Sessions.{until}
 

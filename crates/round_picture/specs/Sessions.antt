@@ -4,7 +4,7 @@ use Rattle.std.specs.List.{flat_map}
 use Rattle.lab_plan.specs.LabPlan.{LabPlan, sessions, part, instrument_numbers}
 use Rattle.lab_plan.specs.Texts.{job_name, instrument_name}
 use Rattle.waiting.specs.Text.{outcome_text}
-use Rattle.waiting.specs.declared.session.Session.{Session}
+use Rattle.session_rounds.specs.declared.session.Session.{Session}
 use Rattle.round_picture.specs.Scale.{place, width}
 
 -- ---- under the pointer

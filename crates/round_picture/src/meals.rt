@@ -5,8 +5,8 @@ ghost use Rattle.round_picture.specs.Meals.{stretch, hungry_line, eating_line, l
 
 use crate::scale::{add_place, place, width};
 use crate::sessions::until;
+use session_rounds::Meal;
 use std::alloc::{AllocError, Allocator};
-use waiting::Meal;
 
 /// Adds a line from one round to another, without its look.
 #[tactic(auto, unfolding(crate::specs::Meals::stretch))]

@@ -7,8 +7,9 @@ ghost use Rattle.round_picture.specs.Sessions.{instrument_text, instruments_text
 use crate::scale::{add_place, add_text, place, width};
 use itoa::Buffer;
 use lab_plan::{InstrumentNo, JobNo, Plan};
+use session_rounds::Session;
 use std::alloc::{AllocError, Allocator};
-use waiting::{Session, add_outcome};
+use waiting::add_outcome;
 
 /// Adds the name of an instrument, where the session has commands on it.
 fn add_instrument<A: Allocator, B: Allocator>(

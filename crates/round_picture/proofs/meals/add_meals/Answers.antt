@@ -1,7 +1,7 @@
 use Rattle.std.proofs.Common.{◌++◌, List, ap, ◌∙◌}
 use Rattle.std.specs.List.{flat_map}
 use Rattle.std.proofs.lemmas.List.{take_all}
-use Rattle.waiting.specs.declared.session.Meal.{Meal}
+use Rattle.session_rounds.specs.declared.session.Meal.{Meal}
 use Rattle.round_picture.specs.Meals.{meal_text}
 use Rattle.round_picture.proofs.meals.add_meals.Goals as goal
 

@@ -1,6 +1,6 @@
 //! The rounds of a session, and of a meal.
 ghost use Rattle.std.specs.Prelude.{◌≡◌};
-ghost use Rattle.waiting.specs.Noting.{noted, session_then, meal_then, begins_session, begins_meal, begun_session, begun_meal};
+ghost use Rattle.session_rounds.specs.Noted.{noted, session_then, meal_then, begins_session, begins_meal, begun_session, begun_meal};
 
 use legal_steps::{Dining, Drinking};
 
@@ -32,14 +32,14 @@ fn noted(before: Option<u32>, round: u32) -> Option<u32>
 }
 
 /// Whether a session begins between two phases.
-pub(crate) fn begins_session(before: Drinking, after: Drinking) -> bool
+pub fn begins_session(before: Drinking, after: Drinking) -> bool
     ensures { result ≡ begins_session before after }
 {
     matches!((before, after), (Drinking::Tranquil, Drinking::Thirsty))
 }
 
 /// Whether a meal is first wanted between two phases.
-pub(crate) fn begins_meal(before: Dining, after: Dining) -> bool
+pub fn begins_meal(before: Dining, after: Dining) -> bool
     ensures { result ≡ begins_meal before after }
 {
     matches!((before, after), (Dining::Thinking, Dining::Hungry))
@@ -47,7 +47,7 @@ pub(crate) fn begins_meal(before: Dining, after: Dining) -> bool
 
 impl Session {
     /// A session that became thirsty in this round.
-    pub(crate) fn begun(round: u32) -> Session
+    pub fn begun(round: u32) -> Session
         ensures { result ≡ begun_session round }
     {
         Session {
@@ -59,7 +59,7 @@ impl Session {
     }
 
     /// The session after a round, in which its job went from one phase to another.
-    pub(crate) fn after(self, before: Drinking, after: Drinking, round: u32) -> Session
+    pub fn after(self, before: Drinking, after: Drinking, round: u32) -> Session
         ensures { result ≡ session_then round before after self }
     {
         match (before, after) {
@@ -82,7 +82,7 @@ impl Session {
 
 impl Meal {
     /// A meal that is wanted from this round on.
-    pub(crate) fn begun(round: u32) -> Meal
+    pub fn begun(round: u32) -> Meal
         ensures { result ≡ begun_meal round }
     {
         Meal {
@@ -93,7 +93,7 @@ impl Meal {
     }
 
     /// The meal after a round, in which its job went from one phase to another.
-    pub(crate) fn after(self, before: Dining, after: Dining, round: u32) -> Meal
+    pub fn after(self, before: Dining, after: Dining, round: u32) -> Meal
         ensures { result ≡ meal_then round before after self }
     {
         match (before, after) {
