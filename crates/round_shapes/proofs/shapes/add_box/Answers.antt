@@ -1,10 +1,9 @@
 use Rattle.std.proofs.Common.{◌≡◌, ℕ, List, ◌++◌, codes, decimal, refl}
 use Rattle.std.proofs.lemmas.Result.{IfOk-weaker}
-use Rattle.waiting.proofs.Pieces.{two}
-use Rattle.round_picture.proofs.Pieces.{first, more}
-use Rattle.round_picture.specs.Scale.{place, width}
-use Rattle.round_picture.specs.Sessions.{box_of}
-use Rattle.round_picture.proofs.sessions.add_box.Goals as goal
+use Rattle.round_shapes.proofs.Pieces.{two, first, more}
+use Rattle.round_shapes.specs.Scale.{place, width}
+use Rattle.round_shapes.specs.Shapes.{box_of}
+use Rattle.round_shapes.proofs.shapes.add_box.Goals as goal
 
 pub returns : goal.returns
 unfolding box_of

@@ -1,8 +1,8 @@
 -- For readers: what is drawn of a meal, below the sessions of its job.
 use Rattle.std.specs.Prelude.{ℕ, List, [], ◌++◌, codes, decimal, Option, None, Some}
 use Rattle.session_rounds.specs.declared.session.Meal.{Meal}
-use Rattle.round_picture.specs.Scale.{place, width}
-use Rattle.round_picture.specs.Sessions.{until}
+use Rattle.round_shapes.specs.Scale.{place, width}
+use Rattle.round_shapes.specs.Shapes.{until}
 
 -- a line from one round to another
 unfoldable pub stretch : ℕ → ℕ → ℕ → List ℕ

@@ -1,6 +1,6 @@
 // Where rounds stand in the picture, and its numbers.
 ghost use Rattle.std.specs.Prelude.{◌≡◌, ◌≤◌, ◌<◌, ◌^◌, ◌++◌, decimal, OnOk};
-ghost use Rattle.round_picture.specs.Scale.{round_width, place, width, step_in, step_of};
+ghost use Rattle.round_shapes.specs.Scale.{round_width, place, width, step_in, step_of};
 
 use itoa::Buffer;
 use std::alloc::{AllocError, Allocator};
@@ -29,7 +29,7 @@ fn round_width(last: u32) -> u64
 
 /// Where a round stands, in units.
 #[tactic(auto, using(crate::proofs::Narrow::narrow_within, crate::proofs::Narrow::wide_within), unfolding(crate::specs::Scale::place))]
-pub(crate) fn place(last: u32, round: u32) -> u64
+pub fn place(last: u32, round: u32) -> u64
     ensures value { result ≡ place last round }
     ensures small { result < 2 ^ 45 }
 {
@@ -73,7 +73,7 @@ fn step_in(powers: &[u32], last: u32) -> u64
 
 /// The rounds from one number of the scale to the next.
 #[tactic(auto, unfolding(crate::specs::Scale::step_of))]
-pub(crate) fn step_of(last: u32) -> u64
+pub fn step_of(last: u32) -> u64
     ensures value { result ≡ step_of last }
     ensures small { result < 2 ^ 35 }
 {
@@ -81,14 +81,14 @@ pub(crate) fn step_of(last: u32) -> u64
 }
 
 /// Adds some text.
-pub(crate) fn add_text<A: Allocator>(out: &mut Vec<u8, A>, text: &[u8]) -> Result<(), AllocError>
+pub fn add_text<A: Allocator>(out: &mut Vec<u8, A>, text: &[u8]) -> Result<(), AllocError>
     ensures { OnOk result (out.new.items ≡ out.old.items ++ text.now) }
 {
     out.extend_from_slice(text)
 }
 
 /// Adds some text and a number.
-pub(crate) fn add_place<A: Allocator>(
+pub fn add_place<A: Allocator>(
     out: &mut Vec<u8, A>,
     text: &[u8],
     number: u64,

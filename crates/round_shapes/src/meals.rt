@@ -1,10 +1,10 @@
 // What is drawn of meals.
 ghost use Rattle.std.specs.Prelude.{◌≡◌, ◌++◌, OnOk};
 ghost use Rattle.std.specs.List.{flat_map};
-ghost use Rattle.round_picture.specs.Meals.{stretch, hungry_line, eating_line, lines, meal_text};
+ghost use Rattle.round_shapes.specs.Meals.{stretch, hungry_line, eating_line, lines, meal_text};
 
 use crate::scale::{add_place, place, width};
-use crate::sessions::until;
+use crate::shapes::until;
 use session_rounds::Meal;
 use std::alloc::{AllocError, Allocator};
 
@@ -73,7 +73,7 @@ fn add_meal<A: Allocator>(out: &mut Vec<u8, A>, last: u32, meal: &Meal) -> Resul
 }
 
 /// Adds a job's meals.
-pub(crate) fn add_meals<A: Allocator>(
+pub fn add_meals<A: Allocator>(
     out: &mut Vec<u8, A>,
     last: u32,
     meals: &[Meal],

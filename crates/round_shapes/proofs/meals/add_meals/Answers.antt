@@ -2,8 +2,8 @@ use Rattle.std.proofs.Common.{◌++◌, List, ap, ◌∙◌}
 use Rattle.std.specs.List.{flat_map}
 use Rattle.std.proofs.lemmas.List.{take_all}
 use Rattle.session_rounds.specs.declared.session.Meal.{Meal}
-use Rattle.round_picture.specs.Meals.{meal_text}
-use Rattle.round_picture.proofs.meals.add_meals.Goals as goal
+use Rattle.round_shapes.specs.Meals.{meal_text}
+use Rattle.round_shapes.proofs.meals.add_meals.Goals as goal
 
 pub returns : goal.returns
 returns g c = c.loop-meal.invariant ∙ ap (λ (l : List Meal). c.args.out.now.items ++ flat_map (meal_text c.args.last) l)

@@ -1,7 +1,7 @@
 use Rattle.std.proofs.Common.{◌≡◌, ◌++◌, take}
 use Rattle.std.specs.List.{flat_map}
-use Rattle.round_picture.specs.Meals.{meal_text}
-use Rattle.round_picture.proofs.meals.add_meals.Given as goal
+use Rattle.round_shapes.specs.Meals.{meal_text}
+use Rattle.round_shapes.proofs.meals.add_meals.Given as goal
 
 -- so many meals are drawn
 abbrev pub invariant-loop-meal : goal.invariant-loop-meal

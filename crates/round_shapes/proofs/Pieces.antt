@@ -1,6 +1,8 @@
 -- Pieces of a text, one after another.
 use Rattle.std.proofs.Common.{◌≡◌, ℕ, List, ◌++◌, decimal, refl, ap, ◌∙◌, append_assoc}
-use Rattle.waiting.proofs.Pieces.{two}
+
+pub two : (old x y a b : List ℕ) → x ≡ old ++ a → y ≡ x ++ b → y ≡ old ++ (a ++ b)
+two old x y a b p q = q ∙ (ap (λ t. t ++ b) p ∙ append_assoc old a b)
 
 -- some text and a number, first
 pub first : (old y t : List ℕ) (n m : ℕ) → y ≡ old ++ t ++ decimal n → n ≡ m → y ≡ old ++ (t ++ decimal m)

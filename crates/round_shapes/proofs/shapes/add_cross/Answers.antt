@@ -1,10 +1,9 @@
 use Rattle.std.proofs.Common.{◌≡◌, ℕ, List, ◌++◌, codes, decimal, refl}
 use Rattle.std.proofs.lemmas.Result.{IfOk-weaker}
-use Rattle.waiting.proofs.Pieces.{two}
-use Rattle.round_picture.proofs.Pieces.{first}
-use Rattle.round_picture.specs.Scale.{place}
-use Rattle.round_picture.specs.Sessions.{cross}
-use Rattle.round_picture.proofs.sessions.add_cross.Goals as goal
+use Rattle.round_shapes.proofs.Pieces.{two, first}
+use Rattle.round_shapes.specs.Scale.{place}
+use Rattle.round_shapes.specs.Shapes.{cross}
+use Rattle.round_shapes.proofs.shapes.add_cross.Goals as goal
 
 pub returns : goal.returns
 unfolding cross
