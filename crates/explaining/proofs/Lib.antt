@@ -1,5 +1,3 @@
-pub mod Members
 pub mod Parts
-pub mod BottleNames
 pub mod Within
 pub mod Told

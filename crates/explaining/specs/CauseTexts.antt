@@ -5,7 +5,7 @@ use Rattle.legal_steps.specs.declared.event.Step.{Step}
 use Rattle.legal_steps.specs.declared.event.Step.TheVariants.{Look, AskFork, GiveFork, Soil, AskBottles, GiveBottles, Thirst, Hunger, Sit, Leave, Drink, Reach, Act, Quit, Retire, Glance, Withdraw}
 use Rattle.refused_steps.specs.declared.cause.Cause.{Cause}
 use Rattle.refused_steps.specs.declared.cause.Cause.TheVariants.{NotJob, NotOwn, SeesElse, OtherNotJob, Itself, NotThinking, NotHungry, NotEating, Eats, NotTranquil, NotThirsty, Thirsts, NotDrinking, NotReaching, ForkHere, ForkThere, ForkClean, ForkDirty, TokenThere, UnmarkedAway, UnmarkedClaimed, UnmarkedClean, UnmarkedUnseen, NoBottle, NotOfEdge, NotNeeded, BottleHere, BottleThere, BottleTokenThere, KeptInSession, KeptWithFork, MissingAway, MissingUnseen, NoSessionLeft, SessionLeft, NoCommandLeft, CommandLeft, NoPatience}
-use Rattle.explaining.specs.Names.{other_name, bottle_name}
+use Rattle.step_texts.specs.Names.{other_name, bottle_name}
 
 -- whose step it is
 abbrev pub job_of : Step → ℕ

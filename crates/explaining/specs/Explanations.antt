@@ -12,7 +12,7 @@ use Rattle.legal_steps.specs.Run.{Runs, StopsAt}
 use Rattle.refused_steps.specs.declared.cause.Cause.{Cause}
 use Rattle.refused_steps.specs.Causes.{Fails}
 use Rattle.legal_moves.specs.Moves.{AreLegalMoves}
-use Rattle.explaining.specs.StepTexts.{step_text}
+use Rattle.step_texts.specs.StepTexts.{step_text}
 use Rattle.explaining.specs.CauseTexts.{cause_text, job_of}
 use Rattle.explaining.specs.StateTexts.{job_text}
 use Rattle.explaining.specs.MoveTexts.{moves_text}

@@ -1,5 +1,3 @@
-pub mod Names
-pub mod StepTexts
 pub mod CauseTexts
 pub mod StateTexts
 pub mod MoveTexts

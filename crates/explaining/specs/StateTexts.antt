@@ -12,7 +12,7 @@ use Rattle.legal_steps.specs.declared.phase.Drinking.{Drinking}
 use Rattle.legal_steps.specs.declared.phase.Drinking.TheVariants.{Tranquil, Thirsty, Drinking as Drinks, Reaching, Retired}
 use Rattle.legal_steps.specs.declared.phase.JobState.{JobState}
 use Rattle.legal_steps.specs.State.{State, edge, fork, is_dirty, token, phase, session, position, fork_mark, bottle_marks, bottle_end, end_of}
-use Rattle.explaining.specs.Names.{other_name, bottle_name}
+use Rattle.step_texts.specs.Names.{other_name, bottle_name}
 
 abbrev pub dining_text : Dining → List ℕ
 dining_text Thinking = codes "thinking"

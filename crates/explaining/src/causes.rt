@@ -4,11 +4,11 @@ ghost use Rattle.lab_plan.specs.LabPlan.{edges, bottles};
 ghost use Rattle.legal_steps.specs.Steps.{IsStepOf};
 ghost use Rattle.explaining.specs.CauseTexts.{NamesWithin, reason_text, fork_place, bottle_place, own_bottle_place, place_text, cause_text, job_of, edge_of};
 
-use crate::names::{add_bottle, add_other};
 use lab_plan::{EdgeNo, JobNo, Plan};
 use legal_steps::Step;
 use refused_steps::Cause;
 use std::alloc::{AllocError, Allocator};
+use step_texts::{add_bottle, add_other};
 
 /// What a cause says, without where.
 #[tactic(auto, unfolding(crate::specs::CauseTexts::reason_text))]

@@ -9,7 +9,6 @@ ghost use Rattle.explaining.specs.Explanations.{line_head, refusal_line, end_lin
 use crate::causes::{add_cause, job_of};
 use crate::moves::add_moves;
 use crate::states::add_job_state;
-use crate::steps::add_step;
 use interleaving::World;
 use itoa::Buffer;
 use lab_plan::{JobNo, Plan};
@@ -17,6 +16,7 @@ use legal_moves::legal_moves;
 use legal_steps::StepLine;
 use refused_steps::{Cause, why_not};
 use std::alloc::{AllocError, Allocator};
+use step_texts::add_step;
 
 /// An explanation: its text, and the line of the step that isn't legal, if there is one.
 #[derive(Drop)]

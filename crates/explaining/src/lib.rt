@@ -5,9 +5,6 @@
 mod causes;
 mod explanation;
 mod moves;
-mod names;
 mod states;
-mod steps;
 
 pub use explanation::{Explanation, explain};
-pub use steps::add_step;

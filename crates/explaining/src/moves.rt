@@ -4,10 +4,10 @@ ghost use Rattle.std.specs.List.{All};
 ghost use Rattle.legal_steps.specs.Steps.{IsStepOf};
 ghost use Rattle.explaining.specs.MoveTexts.{move_line, moves_text};
 
-use crate::steps::add_step;
 use lab_plan::Plan;
 use legal_steps::Step;
 use std::alloc::{AllocError, Allocator};
+use step_texts::add_step;
 
 /// A step on a line of its own.
 #[tactic(auto, unfolding(crate::specs::MoveTexts::move_line))]

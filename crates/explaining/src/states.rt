@@ -5,12 +5,12 @@ ghost use Rattle.legal_steps.specs.State.{IsOwn};
 ghost use Rattle.legal_steps.specs.Legal.{IsJob};
 ghost use Rattle.explaining.specs.StateTexts.{dining_text, drinking_text, at_text, mark_text, dirt_text, doing_text, session_text, done_text, phase_line, places_text, marks_text, fork_head, fork_line, bottle_head, bottle_line, edge_text, job_text};
 
-use crate::names::{add_bottle, add_job, add_other};
 use interleaving::{Dining, Drinking, End, JobState, World};
 use itoa::Buffer;
 use lab_plan::{EdgeNo, JobNo, Plan};
 use legal_steps::{bottle_end, has};
 use std::alloc::{AllocError, Allocator};
+use step_texts::{add_bottle, add_job, add_other};
 
 fn dining(dining: Dining) -> &'static [u8]
     ensures { result.now ≡ dining_text dining }

@@ -11,7 +11,6 @@ ghost use Rattle.round_trace.specs.StepsOf.{step_of};
 ghost use Rattle.script_runs.specs.Runs.{outcome_of};
 ghost use Rattle.lab_views.specs.Traces.{step_lines, trace_text, is_replayable, Traces, TraceAnswers};
 
-use explaining::add_step;
 use lab_plan::Plan;
 use lab_program::{INPUT_LIMIT, Outcome, RunFault, Source, read_input, send_text};
 use legal_steps::Event;
@@ -20,6 +19,7 @@ use round_trace::laws::steps_are_of_plan;
 use round_trace::{step_of, trace};
 use script_reader::read_plan;
 use std::alloc::{AllocError, Allocator};
+use step_texts::add_step;
 
 /// The most steps that a replay reads.
 const MOST_STEPS: usize = 1_000_000;

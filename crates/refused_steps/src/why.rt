@@ -37,14 +37,9 @@ fn glance<A: Allocator>(
     None
 }
 
-/// Why the event isn't legal now; `None` exactly if it is legal.
-///
-/// Of several causes the first is given, in the order in which its guard names them, and of several edges
-/// and bottles the one with the lowest number.
-#[tactic(auto, using(crate::proofs::Refused::refused))]
-pub fn why_not<A: Allocator>(world: &World<'_, A>, event: &Event) -> Option<Cause>
-    ensures explains { Explains world.now.plan world.now.state event.now result }
-    ensures refused { IfSome result (λ _. ¬ May world.now.plan world.now.state event.now) }
+/// The first part of the event's guard that fails, by its kind.
+fn cause_of<A: Allocator>(world: &World<'_, A>, event: &Event) -> Option<Cause>
+    ensures { Explains world.now.plan world.now.state event.now result }
 {
     match *event {
         Event::Look(job, edge, seen) => look(world, job, edge, seen),
@@ -65,4 +60,16 @@ pub fn why_not<A: Allocator>(world: &World<'_, A>, event: &Event) -> Option<Caus
         Event::Glance(job, other, seen) => glance(world, job, other, seen),
         Event::Withdraw(job) => withdraw(world, job),
     }
+}
+
+/// Why the event isn't legal now; `None` exactly if it is legal.
+///
+/// Of several causes the first is given, in the order in which its guard names them, and of several edges
+/// and bottles the one with the lowest number.
+#[tactic(auto, using(crate::proofs::Refused::refused))]
+pub fn why_not<A: Allocator>(world: &World<'_, A>, event: &Event) -> Option<Cause>
+    ensures explains { Explains world.now.plan world.now.state event.now result }
+    ensures refused { IfSome result (λ _. ¬ May world.now.plan world.now.state event.now) }
+{
+    cause_of(world, event)
 }

@@ -1,16 +1,10 @@
--- Rounds that are narrow, and wide; pictures that are narrow.
-use Rattle.std.proofs.Common.{arith, rules, ℕ, ◌*◌, ◌≤◌, ◌+◌, ◌<◌, ◌≡◌, Bool, true, false, nat_le, ◌⊎◌, inl, inr, mul-le-mul_right, div-le_self}
+-- Pictures that are narrow.
+use Rattle.std.proofs.Common.{arith, rules, ℕ, ◌*◌, ◌≤◌, ◌+◌, ◌<◌, ◌≡◌, Bool, true, false, nat_le, ◌⊎◌, inl, inr, mul-le-mul_right}
 use Rattle.std.specs.Prelude.{◌/◌, max, min, ◌-◌}
 use Rattle.std.proofs.lemmas.Bool.{cases_lt}
 use Rattle.std.proofs.Math.Nat.{div-mul-le_self, mul-div_left, mul-le-mul_left}
-use Rattle.round_picture.specs.Scale.{place, round_width}
+use Rattle.round_shapes.specs.Scale.{place, round_width}
 use Rattle.round_picture.specs.Gantt.{full_width}
-
-pub narrow_within : (k last : ℕ) → 4000 * k / last ≤ 4000 * k
-narrow_within k last = div-le_self (4000 * k) last
-
-pub wide_within : (w k : ℕ) → w ≤ 24 → w * k ≤ 24 * k
-wide_within w k few = mul-le-mul_right k few
 
 -- a width of at most what all have is within it, or it is one
 width_within : (q w last : ℕ) → q * max last 1 ≤ 1200 → w ≤ max q 1 → last ≤ 4000 → w * last ≤ 4000

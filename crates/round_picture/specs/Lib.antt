@@ -1,4 +1,2 @@
-pub mod Scale
 pub mod Sessions
-pub mod Meals
 pub mod Gantt

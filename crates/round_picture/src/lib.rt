@@ -3,8 +3,6 @@
 
 mod gantt;
 mod laws;
-mod meals;
-mod scale;
 mod sessions;
 
 pub use gantt::add_gantt;

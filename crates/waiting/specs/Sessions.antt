@@ -3,8 +3,8 @@ use Rattle.std.specs.Prelude.{◌≡◌, ℕ, ◌+◌, Bool, true, false, ◌||�
 use Rattle.legal_steps.specs.declared.event.Event.{Event}
 use Rattle.legal_steps.specs.declared.event.Event.TheVariants.{Thirst, Hunger, Sit, Leave, Drink, Quit, Withdraw}
 use Rattle.locality.specs.History.{events_by}
-use Rattle.waiting.specs.declared.session.Session.{Session}
-use Rattle.waiting.specs.declared.session.Meal.{Meal}
+use Rattle.session_rounds.specs.declared.session.Session.{Session}
+use Rattle.session_rounds.specs.declared.session.Meal.{Meal}
 
 -- ---- kinds of events
 

@@ -1,10 +1,11 @@
 -- For readers: what is written of the waits of a run by rounds, for people and for scripts.
-use Rattle.std.specs.Prelude.{ℕ, ◌+◌, ◌-◌, zero, suc, nat_lt, ◌==◌, max, Bool, List, [], ◌∷◌, ◌++◌, codes, decimal, length, Option, None, Some, if◌then◌else◌}
+use Rattle.std.specs.Prelude.{ℕ, ◌+◌, ◌-◌, zero, suc, ◌==◌, Bool, List, [], ◌∷◌, ◌++◌, codes, decimal, length, Option, None, Some, if◌then◌else◌}
 use Rattle.std.specs.List.{flat_map, range_with_len, sum_by}
 use Rattle.lab_plan.specs.LabPlan.{LabPlan}
 use Rattle.lab_plan.specs.Texts.{job_name}
-use Rattle.waiting.specs.declared.session.Session.{Session}
-use Rattle.waiting.specs.declared.longest.Longest.{Longest}
+use Rattle.session_rounds.specs.declared.session.Session.{Session}
+use Rattle.session_rounds.specs.declared.waits.Longest.{Longest}
+use Rattle.session_rounds.specs.Waited.{waited, longest_of, longest_after, no_wait}
 use Rattle.waiting.specs.Waits.{RunView, job_of}
 
 -- `rounds R finished` or `rounds R unfinished`
@@ -39,19 +40,6 @@ session_lines name n (x ∷ later) = session_line name n x ++ session_lines name
 
 -- ---- waits
 
--- a session waits from its thirst until it drinks or is given up, or up to the last round
-abbrev pub waits_until : ℕ → Option ℕ → Option ℕ → ℕ
-waits_until last (Some b) given_up = b
-waits_until last None (Some g) = g
-waits_until last None None = last
-
-unfoldable pub waited : ℕ → Session → ℕ
-waited last x = waits_until last x.drinks x.given_up - x.thirsty
-
-abbrev pub longest_of : ℕ → List Session → ℕ
-longest_of last [] = 0
-longest_of last (x ∷ later) = max (waited last x) (longest_of last later)
-
 -- `job J waited W longest L`
 unfoldable pub job_line : List ℕ → ℕ → List Session → List ℕ
 job_line name last sessions =
@@ -59,18 +47,6 @@ job_line name last sessions =
     ++ codes " longest " ++ decimal (longest_of last sessions) ++ codes "\n"
 
 -- ---- the longest of all
-
--- a later one only if it is longer
-abbrev pub longer : Longest → Longest → Longest
-longer best x = if nat_lt best.wait x.wait then x else best
-
--- the first of the longest, of one and then of a job's sessions, of which the first has this number
-abbrev pub longest_after : ℕ → ℕ → Longest → ℕ → List Session → Longest
-longest_after last j best n [] = best
-longest_after last j best n (x ∷ later) = longest_after last j (longer best (record { wait = waited last x; job = j; session = n })) (n + 1) later
-
-abbrev pub no_wait : Longest
-no_wait = record { wait = 0; job = 0; session = 0 }
 
 -- of the first jobs, so many
 abbrev pub longest_below : RunView → ℕ → Longest

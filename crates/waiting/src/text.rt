@@ -4,11 +4,11 @@ ghost use Rattle.std.specs.List.{All, flat_map};
 ghost use Rattle.lab_plan.specs.Texts.{job_name};
 ghost use Rattle.waiting.specs.Text.{rounds_line, ending, done_text, outcome_text, session_line, session_lines, job_line, holder_text, longest_line, chain_name, chain_line, jobs, sessions_text, job_text, waits_text, longest_below};
 
-use crate::longest::{Longest, longest_below, longest_of, total};
+use crate::longest::longest_below;
 use crate::run::RoundsRun;
-use crate::session::Session;
 use itoa::Buffer;
 use lab_plan::{JobNo, Plan};
+use session_rounds::{Longest, Session, longest_of, total};
 use std::alloc::{AllocError, Allocator};
 
 /// Adds a word and a number.

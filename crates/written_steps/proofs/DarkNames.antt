@@ -12,7 +12,7 @@ use Rattle.legal_steps.specs.State.{IsOwn, neighbour}
 use Rattle.legal_steps.specs.Legal.{IsJob, instrument_of}
 use Rattle.script_reader.proofs.UpgradeForms.{name_parts}
 use Rattle.script_reader.proofs.OfInstruments.{bottle_inside}
-use Rattle.explaining.specs.Names.{other_name, bottle_name}
+use Rattle.step_texts.specs.Names.{other_name, bottle_name}
 use Rattle.written_steps.proofs.NamesBack.{other_is_job}
 use Rattle.written_steps.proofs.SetsBack.{members, member_names}
 use Rattle.written_steps.proofs.WrittenLines.{IsDark}

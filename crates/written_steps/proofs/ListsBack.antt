@@ -21,8 +21,8 @@ use Rattle.script_reader.specs.Steps.{is_steps_line, script_part, steps_part, li
 use Rattle.script_reader.proofs.ReaderLoop.{numbered-append}
 use Rattle.script_reader.proofs.UpgradeText.{is_shown, dark_shown, fields_one, one_more_line, no_text}
 use Rattle.script_reader.proofs.UpgradeForms.{shown_behind}
-use Rattle.explaining.specs.Names.{other_name}
-use Rattle.explaining.specs.StepTexts.{step_text, alone_text, pair_text, bottles_text, set_text}
+use Rattle.step_texts.specs.Names.{other_name}
+use Rattle.step_texts.specs.StepTexts.{step_text, alone_text, pair_text, bottles_text, set_text}
 use Rattle.written_steps.specs.ReadBack.{IsNameable}
 use Rattle.written_steps.specs.StepLists.{script_head, step_line, step_lines, lines_from_here, steps_behind, IsListReadBack}
 use Rattle.written_steps.proofs.NamesBack.{own_is_job}

@@ -20,7 +20,7 @@ use Rattle.script_reader.specs.Steps.{job_named, edge_between, edge_named, bottl
 use Rattle.script_reader.proofs.Places.{position_found}
 use Rattle.script_reader.proofs.EdgeNumbers.{edge_found}
 use Rattle.script_reader.proofs.OfInstruments.{bottle_inside}
-use Rattle.explaining.specs.Names.{other_name, bottle_name}
+use Rattle.step_texts.specs.Names.{other_name, bottle_name}
 
 other_bytes : (a b : List ℕ) → (a ≡ b → ⊥) → bytes_eq a b ≡ false
 other_bytes a b differ = false_from_ne_true (bytes_eq a b) (λ e. differ ((bytes_eq-Decides a b).0 e))

@@ -12,8 +12,8 @@ use Rattle.lab_plan.specs.LabPlan.{LabPlan, bottles}
 use Rattle.lab_plan.specs.IsPlan.{IsPlan}
 use Rattle.legal_steps.specs.Legal.{IsBottleSet}
 use Rattle.script_reader.specs.Steps.{bottle_named, bottle_set, all_there, is_distinct, set_of}
-use Rattle.explaining.specs.Names.{bottle_name}
-use Rattle.explaining.specs.StepTexts.{member_text, set_text}
+use Rattle.step_texts.specs.Names.{bottle_name}
+use Rattle.step_texts.specs.StepTexts.{member_text, set_text}
 use Rattle.written_steps.proofs.NamesBack.{bottle_back}
 use Rattle.written_steps.proofs.WrittenLines.{spaced}
 

@@ -14,8 +14,8 @@ use Rattle.legal_steps.specs.Legal.{May, IsJob, IsBottleSet}
 use Rattle.legal_steps.specs.Steps.{event_of}
 use Rattle.script_reader.specs.Fields.{fields}
 use Rattle.script_reader.specs.Steps.{or_else, edge_named, bottle_set, job_event, edge_event, bottle_event, glance_event, glance_step, step_among, step_in, step_with}
-use Rattle.explaining.specs.Names.{other_name}
-use Rattle.explaining.specs.StepTexts.{step_text, alone_text, pair_text, bottles_text, glance_text}
+use Rattle.step_texts.specs.Names.{other_name}
+use Rattle.step_texts.specs.StepTexts.{step_text, alone_text, pair_text, bottles_text, glance_text}
 use Rattle.written_steps.specs.ReadBack.{IsNameable, IsReadBack, AreLegalReadBack}
 use Rattle.written_steps.proofs.NamesBack.{job_back, own_is_job, edge_back}
 use Rattle.written_steps.proofs.DarkNames.{dark_job, dark_other, dark_members}

@@ -13,7 +13,7 @@ use Rattle.legal_steps.specs.Steps.{event_of}
 use Rattle.legal_steps.specs.Opening.{the_opening}
 use Rattle.legal_steps.specs.Run.{Runs}
 use Rattle.script_reader.specs.Steps.{step_in}
-use Rattle.explaining.specs.StepTexts.{step_text}
+use Rattle.step_texts.specs.StepTexts.{step_text}
 use Rattle.explaining.specs.Explanations.{TellsAll, TellsRefusal, events_from_opening}
 
 -- the move's text is read as the move, and these events with the move behind them are a legal run

@@ -8,7 +8,7 @@ use Rattle.legal_steps.specs.State.{State, IsOwn}
 use Rattle.legal_steps.specs.Legal.{May, IsJob, IsBottleSet}
 use Rattle.legal_steps.specs.Steps.{event_of}
 use Rattle.script_reader.specs.Steps.{step_in}
-use Rattle.explaining.specs.StepTexts.{step_text}
+use Rattle.step_texts.specs.StepTexts.{step_text}
 
 -- a step that a list of steps can name: of a job of the plan, at an edge of its own, with some of the edge's bottles, at another job
 abbrev pub IsNameable : LabPlan → Step → Type 0

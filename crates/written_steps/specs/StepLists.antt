@@ -8,7 +8,7 @@ use Rattle.legal_steps.specs.declared.event.Step.{Step}
 use Rattle.legal_steps.specs.declared.event.StepLine.{StepLine}
 use Rattle.script_reader.specs.Script.{text_lines, ScriptMeans}
 use Rattle.script_reader.specs.Steps.{StepsMean}
-use Rattle.explaining.specs.StepTexts.{step_text}
+use Rattle.step_texts.specs.StepTexts.{step_text}
 use Rattle.written_steps.specs.ReadBack.{IsNameable}
 
 -- the line end that a last line doesn't have; after a carriage return, which belongs to the line, a space comes first

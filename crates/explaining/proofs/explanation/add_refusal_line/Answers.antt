@@ -1,5 +1,5 @@
 use Rattle.std.proofs.Common.{codes}
-use Rattle.explaining.specs.StepTexts.{step_text}
+use Rattle.step_texts.specs.StepTexts.{step_text}
 use Rattle.explaining.specs.CauseTexts.{cause_text}
 use Rattle.explaining.specs.Explanations.{line_head, refusal_line}
 use Rattle.explaining.proofs.Parts.{five}

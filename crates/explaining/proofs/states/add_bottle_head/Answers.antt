@@ -1,5 +1,5 @@
 use Rattle.std.proofs.Common.{codes}
-use Rattle.explaining.specs.Names.{other_name, bottle_name}
+use Rattle.step_texts.specs.Names.{other_name, bottle_name}
 use Rattle.explaining.proofs.Parts.{five}
 use Rattle.explaining.proofs.states.add_bottle_head.Goals as goal
 

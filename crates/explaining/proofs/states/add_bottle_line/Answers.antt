@@ -3,7 +3,7 @@ use Rattle.std.specs.Int.{bit_at}
 use Rattle.legal_steps.specs.declared.edge_state.EdgeState.{EdgeState}
 use Rattle.legal_steps.specs.State.{edge, end_of, bottle_marks, bottle_end}
 use Rattle.explaining.specs.StateTexts.{bottle_head, places_text, marks_text, bottle_line}
-use Rattle.explaining.proofs.Members.{member}
+use Rattle.step_texts.proofs.Members.{member}
 use Rattle.explaining.proofs.Parts.{three}
 use Rattle.explaining.proofs.states.add_bottle_line.Goals as goal
 

@@ -1,7 +1,6 @@
 use Rattle.std.proofs.Common.{◌≡◌, ℕ, List, ◌++◌, codes, decimal, refl}
 use Rattle.std.proofs.lemmas.Result.{IfOk-weaker}
-use Rattle.waiting.proofs.Pieces.{two}
-use Rattle.round_picture.proofs.Pieces.{first, more}
+use Rattle.round_shapes.proofs.Pieces.{two, first, more}
 use Rattle.round_picture.specs.Gantt.{tick}
 use Rattle.round_picture.proofs.gantt.add_tick.Goals as goal
 

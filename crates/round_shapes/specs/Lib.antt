@@ -1,0 +1,3 @@
+pub mod Scale
+pub mod Shapes
+pub mod Meals
