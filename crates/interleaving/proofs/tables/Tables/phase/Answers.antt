@@ -2,7 +2,6 @@ use Rattle.std.proofs.Common.{◌≡◌, ◌<◌, ◌∙◌, length, map, arith,
 use Rattle.std.proofs.lemmas.List.{get_or_read}
 use Rattle.lab_plan.specs.LabPlan.{LabPlan}
 use Rattle.instrument_log.specs.InstrumentLog.{LogView}
-use Rattle.legal_steps.specs.declared.phase.JobState.{JobState}
 use Rattle.legal_steps.specs.State.{State, Seat, Setting, seat, phase}
 use Rattle.legal_steps.specs.Fitting.{IsPhaseOf}
 use Rattle.legal_steps.proofs.FewCommands.{few_commands}
