@@ -48,7 +48,6 @@ impl<'a, A: Allocator> Tables<'a, A> {
             && self.may_ask_all(job, edge, set)
     }
 
-    #[tactic(auto, using(std::proofs::lemmas::Nat::xor_lt))]
     pub(crate) fn ask_bottles(&mut self, job: JobNo, edge: EdgeNo, set: u32)
         requires { May self.old.plan self.old.state (AskBottles job edge set) }
         ensures state { self.new.state ≡ after self.old.plan self.old.state (AskBottles job edge set) }
@@ -97,7 +96,6 @@ impl<'a, A: Allocator> Tables<'a, A> {
         self.owns(job, edge) && self.is_bottle_set(edge, set) && self.may_give_all(job, edge, set)
     }
 
-    #[tactic(auto, using(std::proofs::lemmas::Nat::xor_lt, legal_steps::proofs::BottleSets::without_fits))]
     pub(crate) fn give_bottles(&mut self, job: JobNo, edge: EdgeNo, set: u32)
         requires { May self.old.plan self.old.state (GiveBottles job edge set) }
         ensures state { self.new.state ≡ after self.old.plan self.old.state (GiveBottles job edge set) }

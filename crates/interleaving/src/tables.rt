@@ -123,7 +123,6 @@ impl<'a, A: Allocator> Tables<'a, A> {
         self.edges[edge.0 as usize]
     }
 
-    #[tactic(auto, using(legal_steps::proofs::FewCommands::few_commands))]
     pub(crate) fn phase(&self, job: JobNo) -> JobState
         requires { IsJob self.now.plan job }
         ensures phase { result ≡ phase_at self.now.state job }

@@ -180,3 +180,30 @@ returns-clause-first g c = let d : DeskView = c.args.desk.now in let s : State =
     ),
   ),
 )
+
+pub returns-then-may_quit-clause-may : goal.returns-then-may_quit-clause-may
+returns-then-may_quit-clause-may g c = c.may_quit.ensures.0 c.if-may_quit.true
+
+pub returns-then-may_reach-clause-may : goal.returns-then-may_reach-clause-may
+returns-then-may_reach-clause-may g c = c.may_reach.ensures.0 c.if-may_reach.true
+
+pub returns-then-may_drink-clause-may : goal.returns-then-may_drink-clause-may
+returns-then-may_drink-clause-may g c = c.may_drink.ensures.0 c.if-may_drink.true
+
+pub returns-then-withdraws-clause-may : goal.returns-then-withdraws-clause-may
+returns-then-withdraws-clause-may g c = (c.withdraws.ensures.0 c.if-withdraws.true).0
+
+pub returns-then-may_leave-clause-may : goal.returns-then-may_leave-clause-may
+returns-then-may_leave-clause-may g c = c.may_leave.ensures.0 c.if-may_leave.true
+
+pub returns-then-may_sit-clause-may : goal.returns-then-may_sit-clause-may
+returns-then-may_sit-clause-may g c = c.may_sit.ensures.0 c.if-may_sit.true
+
+pub returns-then-may_thirst-clause-may : goal.returns-then-may_thirst-clause-may
+returns-then-may_thirst-clause-may g c = c.may_thirst.ensures.0 c.if-may_thirst.true
+
+pub returns-then-may_hunger-clause-may : goal.returns-then-may_hunger-clause-may
+returns-then-may_hunger-clause-may g c = c.may_hunger.ensures.0 c.if-may_hunger.true
+
+pub returns-then-may_retire-clause-may : goal.returns-then-may_retire-clause-may
+returns-then-may_retire-clause-may g c = c.may_retire.ensures.0 c.if-may_retire.true
