@@ -3,7 +3,8 @@
 
 ghost use Rattle.std.specs.Prelude.{◌≡◌};
 ghost use Rattle.lab_program.specs.Answers.{ScriptRefuses};
-ghost use Rattle.script_runs.specs.Runs.{Checks, ReplaysScript, ReplayRefuses, Upgrades, UpgradeIsStable};
+ghost use Rattle.replay_runs.specs.Replays.{ReplaysScript, ReplayRefuses};
+ghost use Rattle.script_runs.specs.Runs.{Checks, Upgrades, UpgradeIsStable};
 ghost use Rattle.lab_runs.specs.Shared.{RunsInRounds, HasOneRun};
 ghost use Rattle.lab_c.specs.Calls.{Answers};
 
@@ -14,7 +15,8 @@ mod telling;
 use bytes::Bytes;
 use kept::Kept;
 use lab_runs::run_rounds;
-use script_runs::{run_check, run_replay, run_upgrade};
+use replay_runs::run_replay;
+use script_runs::{run_check, run_upgrade};
 use std::alloc::Global;
 pub use telling::Told;
 use telling::tell;

@@ -27,7 +27,8 @@ use Rattle.script_reader.specs.Steps.{StepsMean}
 use Rattle.round_trace.specs.StepsOf.{step_of}
 use Rattle.report.specs.Events.{retired_after}
 use Rattle.lab_program.specs.declared.faults.Outcome.{Outcome}
-use Rattle.script_runs.specs.Runs.{outcome_of, run_of, ReplaysScript, HasIllegalStep}
+use Rattle.reported_runs.specs.Reports.{outcome_of}
+use Rattle.replay_runs.specs.Replays.{run_of, ReplaysScript, HasIllegalStep}
 use Rattle.written_steps.specs.ReadBack.{IsNameable}
 use Rattle.written_steps.specs.StepLists.{script_head, step_line, step_lines, steps_behind, lines_from_here}
 use Rattle.written_steps.proofs.ListsBack.{list_read_back}

@@ -2,7 +2,7 @@
 #![tactic(auto)]
 
 ghost use Rattle.std.specs.Prelude.{IfOk};
-ghost use Rattle.lab_runs.specs.Words.{MayRun};
+ghost use Rattle.labrun_words.specs.Words.{MayRun};
 
 use lab_program::{FromRead, NoTask, RunFault, end, end_without_task, given_words};
 use lab_runs::{NoGate, PROGRAM, Task, read_words, run_task};

@@ -5,3 +5,5 @@ pub mod SameTurn
 pub mod SameRun
 pub mod Opened
 pub mod Rested
+pub mod Fresh
+pub mod RoundTurns

@@ -1,6 +1,6 @@
 // Whole runs by their bytes: worked scripts, readers and writers that fail, memory that runs out, and printed texts.
 ghost use Rattle.std.specs.Prelude.{◌≡◌, true};
-ghost use Rattle.lab_runs.specs.Words.{MayRun};
+ghost use Rattle.labrun_words.specs.Words.{MayRun};
 
 use lab_program::{FromRead, Outcome, RunFault};
 use lab_runs::{NoGate, Task, run_task};

@@ -1,4 +1,2 @@
 pub mod CountSums
-pub mod Replayed
-pub mod Shown
 pub mod UpgradeStable

@@ -1,4 +1,2 @@
 pub mod Counts
 pub mod Runs
-pub mod Shown
-pub mod Replaying

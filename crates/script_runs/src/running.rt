@@ -1,64 +1,18 @@
-// What the program does with a script: replay its steps, check it, upgrade it.
+// What the program does with a script alone: check it, upgrade it.
 ghost use Rattle.std.specs.Prelude.{◌≡◌, ◌+◌};
 ghost use Rattle.lab_program.specs.Input.{ConsumesUpTo};
 ghost use Rattle.lab_program.specs.Faults.{failed_reads, failed_writes};
 ghost use Rattle.lab_program.specs.Answers.{AnswersFor, ScriptRefuses};
-ghost use Rattle.script_runs.specs.Runs.{ReplaysScript, ReplayRefuses, ReplayAnswers, Checks, CheckAnswers, Upgrades, UpgradeAnswers, UpgradeIsStable};
+ghost use Rattle.script_runs.specs.Runs.{Checks, CheckAnswers, Upgrades, UpgradeAnswers, UpgradeIsStable};
 
 use crate::counting::counts_line;
-use crate::replaying::take_steps;
-use crate::sending::{send_script, show_run};
-use headline::holds_of_every_run;
-use interleaving::World;
+use crate::sending::send_script;
 use lab_program::{Outcome, RunFault, Source, read_input, send_text};
 use report::Sink;
-use report::laws::report_of_events;
 use script_reader::laws::one_meaning;
+use script_reader::read_plan;
 use script_reader::upgrade_law::{upgrade_is_short, upgrade_means_plan};
-use script_reader::{read_plan, read_steps};
 use std::alloc::Allocator;
-
-/// Replays the steps of an input.
-fn replay<A: Allocator + Copy, W: Sink>(
-    alloc: A,
-    input: &[u8],
-    sink: &mut W,
-) -> Result<Outcome, RunFault>
-    ensures answer { AnswersFor ReplaysScript ReplayRefuses input.now (W.taken sink.old) (W.taken sink.new) result }
-    ensures reads { failed_reads result ≡ 0 }
-    ensures writes { W.failures sink.new ≡ W.failures sink.old + failed_writes result }
-{
-    let (plan, steps) = read_steps(alloc, input)?;
-    let mut world = World::opening(alloc, &plan)?;
-    if let Err(line) = take_steps(&mut world, &steps) {
-        return Err(RunFault::Step { line });
-    }
-    // The plan is within every limit, the report of the world is that of the steps, and what holds of
-    // every run holds of them.
-    let _ = plan.jobs();
-    report_of_events();
-    holds_of_every_run();
-    show_run(&world, sink)
-}
-
-/// Takes each step of a script from the opening on, all in turn, and writes the report of the run.
-///
-/// The input is at most 16777216 bytes. All steps are read before the first is taken, and all are
-/// taken before the report goes out, a line at a time; a flush follows it. Finished says that every
-/// job is retired then. Whatever the steps, the logs that are printed are whole except for their ends.
-pub fn run_replay<A: Allocator + Copy, R: Source, W: Sink>(
-    alloc: A,
-    source: &mut R,
-    sink: &mut W,
-) -> Result<Outcome, RunFault>
-    ensures answer { ReplayAnswers (R.left source.old) (W.taken sink.old) (W.taken sink.new) result }
-    ensures most { ConsumesUpTo (R.left source.old) (R.left source.new) 16777217 }
-    ensures reads { R.failures source.new ≡ R.failures source.old + failed_reads result }
-    ensures writes { W.failures sink.new ≡ W.failures sink.old + failed_writes result }
-{
-    let input = read_input(alloc, source)?;
-    replay(alloc, &input, sink)
-}
 
 /// Writes the counts of an input.
 fn check<A: Allocator + Copy, W: Sink>(

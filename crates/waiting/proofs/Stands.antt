@@ -34,7 +34,7 @@ use Rattle.round_laws.proofs.Opened.{players_fresh, all_players, players_once}
 use Rattle.round_trace.specs.Traces.{why_ended}
 use Rattle.round_trace.proofs.Played.{round_more}
 use Rattle.round_laws.proofs.QuietEnd.{no_quiet_end}
-use Rattle.whole_runs.proofs.Fresh.{opened_own, opened_all, same_desks}
+use Rattle.round_laws.proofs.Fresh.{opened_own, opened_all, same_desks}
 use Rattle.waiting.specs.Rounds.{joined, IsAfter, AreRoundsOf}
 use Rattle.waiting.specs.Sessions.{Deed, in_round, deeds_from, deeds_of, sessions_of, meals_of}
 use Rattle.waiting.specs.Noting.{LogView, log_then, fresh_log, sessions_then, meals_then}

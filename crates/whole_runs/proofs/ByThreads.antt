@@ -17,16 +17,15 @@ use Rattle.locality.specs.AtTheEnd.{AllRetired}
 use Rattle.rounds.proofs.Driven.{all_of}
 use Rattle.rounds.proofs.Reasons.{retired_then}
 use Rattle.round_laws.specs.FromOpening.{opened}
+use Rattle.round_laws.proofs.Fresh.{each_any, fresh_one}
 use Rattle.rounds.specs.declared.ended.Ended.{Ended}
 use Rattle.rounds.specs.declared.ended.Ended.TheVariants as reasons
 use Rattle.workers.specs.Team.{Driven, Threaded}
 use Rattle.workers.specs.Closed.{TurnsSince, TurnsInHistory}
 use Rattle.whole_runs.specs.Turns.{TakesTurns, TakeTurns}
 use Rattle.whole_runs.specs.Runs.{IsRunByTurns}
-use Rattle.whole_runs.proofs.Fresh.{each_any, fresh_one}
-use Rattle.whole_runs.proofs.RoundTurns.{taken}
 use Rattle.whole_runs.proofs.InRounds.{same_history}
-use Rattle.whole_runs.proofs.Ends.{shows, not_retired}
+use Rattle.whole_runs.proofs.Ends.{taken, shows, not_retired}
 
 -- since the opening
 takes : (t : TableId) (plan : LabPlan) (h : List Event) (j n : ℕ) → TurnsSince n (fresh_desk t plan j) h → TakesTurns plan h j n

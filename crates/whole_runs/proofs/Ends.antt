@@ -7,7 +7,9 @@ use Rattle.legal_steps.specs.declared.event.Event.{Event}
 use Rattle.legal_steps.specs.declared.phase.JobState.{JobState}
 use Rattle.legal_steps.specs.State.{State}
 use Rattle.legal_steps.specs.Opening.{the_opening}
-use Rattle.locality.specs.History.{state_after}
+use Rattle.locality.specs.History.{state_after, events_by}
+use Rattle.locality.specs.Patience.{Waited, no_wait}
+use Rattle.turns.specs.Turns.{Group, AreGrouped, Stands, flat, but_glances}
 use Rattle.edge_rule.specs.DeskView.{DeskView}
 use Rattle.edge_rule.specs.ClosedView.{ClosedView, log_in, phase_in, counts_in}
 use Rattle.legal_steps.specs.declared.counts.Counts.{Counts}
@@ -16,6 +18,7 @@ use Rattle.report.specs.Report.{is_retired, jobs}
 use Rattle.report.specs.Events.{ShowsAlike, shown_after, retired_after}
 use Rattle.locality.specs.AtTheEnd.{AllRetired}
 use Rattle.whole_runs.specs.Shown.{shown_in}
+use Rattle.whole_runs.specs.Turns.{TakesTurns}
 
 module _ (plan : LabPlan) (desks : List DeskView) (c : ClosedView) (end : IsEnd plan desks c) where
   pub shows : ShowsAlike plan (shown_in c) (shown_after plan (the_opening plan) end.history)
@@ -44,3 +47,17 @@ not_both b is so = let both : true ≡ false = sym is ∙ so in absurd (cc)
 -- where one is not retired, not all are
 pub not_retired : (plan : LabPlan) (h : List Event) → retired_after plan (the_opening plan) h ≡ false → AllRetired plan h → ⊥
 not_retired plan h so are = not_both (retired_after plan (the_opening plan) h) (retired_where plan h are) so
+
+-- ---- turns
+
+-- turns as groups are turns one after another
+pub taken : (plan : LabPlan) (h : List Event) (j n : ℕ) (waited : Waited) (groups : List Group)
+    → AreGrouped plan j n no_wait (the_opening plan) groups waited → but_glances (events_by j h) ≡ flat groups
+    → Stands plan (the_opening plan) groups h → TakesTurns plan h j n
+taken plan h j n waited groups grouped together unbroken = record {
+  waited = waited;
+  groups = groups;
+  grouped = grouped;
+  together = together;
+  unbroken = unbroken;
+}

@@ -21,11 +21,11 @@ use Rattle.rounds.proofs.Lists.{append_cancel, zip_each}
 use Rattle.round_laws.specs.OneRun.{RanRounds}
 use Rattle.round_laws.specs.FromOpening.{opened, fresh_players, DrivesFromOpening, NeverEndsQuiet}
 use Rattle.round_laws.proofs.Opened.{players_once}
+use Rattle.round_laws.proofs.Fresh.{each_any, fresh_player}
+use Rattle.round_laws.proofs.RoundTurns.{turns_in_rounds}
 use Rattle.whole_runs.specs.Turns.{TakesTurns, TakeTurns}
 use Rattle.whole_runs.specs.Runs.{IsRunByTurns, IsRunInRounds}
-use Rattle.whole_runs.proofs.RoundTurns.{taken, turns_in_rounds}
-use Rattle.whole_runs.proofs.Fresh.{each_any, fresh_player}
-use Rattle.whole_runs.proofs.Ends.{shows, not_retired}
+use Rattle.whole_runs.proofs.Ends.{taken, shows, not_retired}
 
 -- ---- nobody did anything after the last round
 

@@ -1,4 +1,4 @@
 pub mod AnyOrder
-pub mod TeamTurns
+pub mod RestTurns
 pub mod Sorting
 pub mod ClosedTurns

@@ -21,11 +21,14 @@ use Rattle.rounds.proofs.Reasons.{then_retired}
 use Rattle.legal_steps.specs.State.{drinking}
 use Rattle.locality.specs.History.{known_by}
 use Rattle.session_layer.specs.Retired.{has_retired}
-use Rattle.workers.specs.declared.halt.Halt.{Halt}
-use Rattle.workers.specs.declared.halt.Halt.TheVariants as halts
-use Rattle.workers.specs.Team.{TookUpTo, TookRest, taken, Pairs, Worked, FromOne, Ascending, Driven}
+use Rattle.team_rounds.specs.Pairs.{Pairs}
+use Rattle.team_rounds.proofs.Pairs.{pairs_each}
+use Rattle.worker_teams.specs.declared.halt.Halt.{Halt}
+use Rattle.worker_teams.specs.declared.halt.Halt.TheVariants as halts
+use Rattle.worker_teams.specs.Team.{TookUpTo, taken, Worked}
+use Rattle.worker_teams.proofs.TeamTurns.{took_then, took_up_to, whole}
+use Rattle.workers.specs.Team.{TookRest, FromOne, Ascending, Driven}
 use Rattle.workers.proofs.AnyOrder.{each_perm, each_in, any_among, any_perm, each_index, distinct_perm}
-use Rattle.workers.proofs.TeamTurns.{pairs_each, took_then, took_up_to, whole}
 
 -- ---- desks
 

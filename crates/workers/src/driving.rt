@@ -5,14 +5,13 @@ ghost use Rattle.edge_rule.specs.DeskView.{Owns};
 ghost use Rattle.edge_rule.specs.Ending.{HasAll};
 ghost use Rattle.workers.specs.Team.{Threaded};
 
-use crate::gate::{Gate, Through};
-use crate::muster::Muster;
-use crate::team::finish;
-use crate::teams::{Orders, in_teams};
+use crate::finishing::finish;
 use edge_rule::{Bench, Desk, meet_all};
 use rounds::{Ended, all_retired, are_at_rest};
 use std::alloc::Allocator;
 use std::thread::Threads;
+use team_rounds::{Gate, Through};
+use worker_teams::{Muster, Orders, in_teams};
 
 // Drives the desks of the slice. Their order may change, unless no memory is left.
 fn drive<R: Threads + Sync, S: Allocator, A: Allocator + Send + Sync, G: Gate>(

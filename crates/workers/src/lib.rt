@@ -5,17 +5,12 @@
 #![tactic(auto)]
 
 mod driving;
-mod gate;
-mod halt;
+mod finishing;
 mod laws;
-mod muster;
-mod team;
-mod teams;
 
 pub use driving::threads;
-pub use gate::{Gate, NoGate, Passage, Through};
-pub use halt::Halt;
+pub use finishing::finish;
 pub use laws::turns_in_history;
-pub use muster::Muster;
 pub use rounds::{Ended, rounds};
-pub use team::{finish, work};
+pub use team_rounds::{Gate, NoGate, Passage, Through};
+pub use worker_teams::{Halt, Muster, work};

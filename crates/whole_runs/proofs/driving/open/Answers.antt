@@ -4,7 +4,7 @@ use Rattle.locality.specs.Lists.{Each}
 use Rattle.edge_rule.specs.DeskView.{DeskView, BenchView, Owns, fresh_desks}
 use Rattle.edge_rule.specs.Ending.{HasAll}
 use Rattle.round_laws.specs.FromOpening.{opened}
-use Rattle.whole_runs.proofs.Fresh.{opened_own, opened_all}
+use Rattle.round_laws.proofs.Fresh.{opened_own, opened_all}
 use Rattle.whole_runs.proofs.driving.open.Goals as goal
 
 pub returns-clause-own : goal.returns-clause-own
