@@ -10,7 +10,7 @@ use Rattle.report.specs.Taken.{AppendsPrefix}
 use Rattle.report_reader.specs.declared.fault.ReportFault.{ReportFault}
 use Rattle.report_reader.specs.Report.{ReportText}
 use Rattle.report_reader.proofs.NoReport.{no_report}
-use Rattle.timeline.specs.Timelines.{TimelineView, IsTimeline}
+use Rattle.session_columns.specs.Timelines.{TimelineView, IsTimeline}
 use Rattle.timeline.specs.Faults.{IsFaultOf}
 use Rattle.printed_reports.specs.ReadBack.{IsReadAs}
 use Rattle.printed_reports.proofs.ReportBack.{report_read_back}

@@ -8,7 +8,7 @@ use Rattle.report.specs.Taken.{AppendsPrefix}
 use Rattle.report.specs.Events.{shown_after}
 use Rattle.report_reader.specs.Report.{ReportText}
 use Rattle.timeline.specs.declared.fault.TimelineFault.TheVariants as faults
-use Rattle.timeline.specs.Timelines.{TimelineView, IsTimeline}
+use Rattle.session_columns.specs.Timelines.{TimelineView, IsTimeline}
 use Rattle.printed_reports.specs.Printed.{printed_report}
 use Rattle.picture.specs.Picture.{picture_of}
 use Rattle.log_table.specs.Table.{table_text}

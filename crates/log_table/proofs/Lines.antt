@@ -1,8 +1,8 @@
 -- Entries by their numbers, as they lie and as they are spelled.
 use Rattle.std.proofs.Common.{◌≡◌, ℕ, ◌<◌, List, length, map, slice_index_or}
 use Rattle.std.proofs.lemmas.List.{get_or-map}
-use Rattle.report_reader.specs.declared.lines.EntryLine.{EntryLine}
-use Rattle.report_reader.specs.Form.{entry_text}
+use Rattle.report_lines.specs.declared.lines.EntryLine.{EntryLine}
+use Rattle.report_lines.specs.Form.{entry_text}
 use Rattle.log_table.specs.Table.{no_entry}
 
 pub nth_spelled : (entries : List EntryLine) (k : ℕ) (d : EntryLine) → k < length entries

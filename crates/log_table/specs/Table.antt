@@ -4,7 +4,7 @@ use Rattle.std.specs.List.{flat_map, range_with_len}
 use Rattle.lab_plan.specs.declared.verb.Verb.{Verb}
 use Rattle.lab_plan.specs.declared.verb.Verb.TheVariants.{Set, Add, Read}
 use Rattle.lab_plan.specs.Names.{is_name}
-use Rattle.report_reader.specs.Line.{EntryText}
+use Rattle.report_lines.specs.Line.{EntryText}
 use Rattle.report_reader.specs.Report.{LogText, ReportText}
 
 -- a name has letters, digits and '-' alone, so no field needs quotes; what is no name is not shown

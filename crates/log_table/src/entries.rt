@@ -1,6 +1,6 @@
 // The line of an entry, field by field.
 ghost use Rattle.std.specs.Prelude.{◌≡◌, ◌++◌, OnOk};
-ghost use Rattle.report_reader.specs.Form.{entry_text};
+ghost use Rattle.report_lines.specs.Form.{entry_text};
 ghost use Rattle.log_table.specs.Table.{name_field, number_field, verb_fields, place_fields, session_fields, entry_line};
 
 use itoa::Buffer;

@@ -1,7 +1,7 @@
 // The table of a report.
 ghost use Rattle.std.specs.Prelude.{◌≡◌, ◌+◌, ◌<◌, ◌++◌, length, map, slice_index_or, OnOk, IfOk};
 ghost use Rattle.std.specs.List.{flat_map};
-ghost use Rattle.report_reader.specs.Form.{entry_text};
+ghost use Rattle.report_lines.specs.Form.{entry_text};
 ghost use Rattle.log_table.specs.Table.{entry_line, no_entry, log_lines, table_text};
 
 use crate::entries::add_entry;

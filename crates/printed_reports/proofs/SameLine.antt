@@ -4,8 +4,8 @@ use Rattle.std.specs.Prelude.{Option, None, Some, codes, decimal, slice_index_or
 use Rattle.std.specs.List.{AllByRecursion}
 use Rattle.lab_plan.specs.declared.verb.Verb.{Verb}
 use Rattle.lab_plan.specs.declared.verb.Verb.TheVariants.{Set, Add, Read}
-use Rattle.report_reader.specs.Line.{Line, Header, Instrument, Entry, Job, Last, EntryText, JobText, words_of, verb_words, withdrawn_words, state_word, last_word}
-use Rattle.report_reader.specs.Laws.{LineFits, IsSmall, HasSmall, VerbFits}
+use Rattle.report_lines.specs.Line.{Line, Header, Instrument, Entry, Job, Last, EntryText, JobText, words_of, verb_words, withdrawn_words, state_word, last_word}
+use Rattle.report_lines.specs.Fits.{LineFits, IsSmall, HasSmall, VerbFits}
 use Rattle.printed_reports.proofs.Decimals.{same_number, same_parts}
 
 -- the word with this number, and its first byte

@@ -1,12 +1,8 @@
-pub mod Lengths
-pub mod Numbers
-pub mod LineWords
 pub mod Shown
 pub mod Texts
 pub mod OnLast
 pub mod ReadingLoop
 pub mod Parts
 pub mod ReadingText
-pub mod LineReads
 pub mod ReportLeads
 pub mod NoReport

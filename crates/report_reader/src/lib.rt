@@ -3,15 +3,12 @@
 
 mod cutting;
 mod fault;
-mod form;
 pub mod laws;
-mod lines;
-mod number;
 pub mod read;
 mod reader;
 pub mod report;
 
 pub use fault::{ReportCause, ReportFault};
-pub use lines::{EntryLine, JobLine};
 pub use read::read_report;
 pub use report::{Log, Report};
+pub use report_lines::{EntryLine, JobLine};

@@ -1,7 +1,4 @@
-pub mod Spelled
+pub mod Failing
 pub mod Stuck
-pub mod Marked
-pub mod OneByOne
 pub mod Apart
-pub mod Pairs
 pub mod Complete

@@ -1,4 +1,2 @@
-pub mod Spans
-pub mod Timelines
 pub mod Faults
-pub mod Orders
+pub mod Clean

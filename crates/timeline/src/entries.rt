@@ -1,20 +1,12 @@
-// Entries of a log, and what is wrong with one.
+// What is wrong with an entry of a log.
 ghost use Rattle.std.specs.Prelude.{◌≡◌, map};
-ghost use Rattle.report_reader.specs.Form.{entry_text, job_text};
-ghost use Rattle.timeline.specs.Spans.{is_same_session};
+ghost use Rattle.report_lines.specs.Form.{entry_text, job_text};
 ghost use Rattle.timeline.specs.Faults.{entry_cause, is_out_of_order};
 
 use crate::fault::EntryCause;
-use crate::jobs::job_number;
 use lab_plan::{MOST_COMMANDS, MOST_SESSIONS};
 use report_reader::{EntryLine, JobLine};
-
-/// Whether both are of one session.
-pub fn same_session(a: &EntryLine, b: &EntryLine) -> bool
-    ensures { result ≡ is_same_session (entry_text a.now) (entry_text b.now) }
-{
-    a.job == b.job && a.session == b.session
-}
+use session_columns::{job_number, same_session};
 
 /// What is wrong with an entry by itself.
 pub(crate) fn entry_cause(jobs: &[JobLine], entry: &EntryLine) -> Option<EntryCause>

@@ -4,7 +4,7 @@ use Rattle.std.proofs.lemmas.List.{length-map}
 use Rattle.std.proofs.lemmas.List.Concat.{flat_map-append}
 use Rattle.lab_plan.proofs.Ranges.{range_more}
 use Rattle.report_reader.specs.Report.{LogText}
-use Rattle.report_reader.specs.Form.{entry_text}
+use Rattle.report_lines.specs.Form.{entry_text}
 use Rattle.log_table.specs.Table.{entry_line, no_entry, log_lines}
 use Rattle.log_table.proofs.table.add_log.Goals as goal
 

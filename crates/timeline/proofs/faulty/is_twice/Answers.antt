@@ -1,5 +1,5 @@
 use Rattle.std.proofs.Common.{sym, ◌∙◌}
-use Rattle.timeline.proofs.Spelled.{twice_at}
+use Rattle.timeline.proofs.Failing.{twice_at}
 use Rattle.timeline.proofs.faulty.is_twice.Goals as goal
 
 pub returns-then-same_session-2 : goal.returns-then-same_session-2

@@ -1,5 +1,5 @@
 use Rattle.std.proofs.Common.{sym, ◌∙◌}
-use Rattle.timeline.proofs.Spelled.{named_before}
+use Rattle.timeline.proofs.Failing.{named_before}
 use Rattle.timeline.proofs.jobs.job_twice.Goals as goal
 
 pub returns-then-ne : goal.returns-then-ne
