@@ -9,7 +9,7 @@ use Rattle.std.proofs.lemmas.List.Elements.{filter_passes}
 use Rattle.std.proofs.lemmas.Nat.Bits.{same_from_bits, bit_at_cat_low, bit_at_above}
 use Rattle.std.proofs.lemmas.List.{length-map}
 use Rattle.lab_plan.specs.declared.verb.Verb.{Verb}
-use Rattle.lab_plan.specs.LabPlan.{LabPlan, edges, ends, edges_of, common, bottles, both_name, instrument_numbers, pairs, pairs_with, sessions, commands, session_names, part, place_at}
+use Rattle.lab_plan.specs.LabPlan.{LabPlan, edges, ends, edges_of, common, bottles, both_name, instrument_numbers, pairs, pairs_with, sessions, commands, session_names, part}
 use Rattle.lab_plan.specs.IsPlan.{IsPlan}
 use Rattle.lab_plan.specs.InstrumentSets.{holds}
 use Rattle.lab_plan.specs.SessionTables.{SessionTable, IsTable, AreJobTables, no_table}
@@ -90,14 +90,3 @@ part_is plan j s i table is below = is.parts i below
 
 pub few_instruments : (plan : LabPlan) → IsPlan plan → length plan.instruments ≤ 56
 few_instruments plan plan_is = plan_is.draft.few_instruments
-
-pub place_is : (plan : LabPlan) (j s k : ℕ) (table : SessionTable) → IsTable (commands plan j s) table
-    → k < length (commands plan j s) → slice_index_or table.places k 0 ≡ place_at plan j s k
-place_is plan j s k table is within = is.places k within
-
--- the instrument of a command
-pub numbered : (plan : LabPlan) (j s k : ℕ) (command : ℕ × Verb) → IsPlan plan
-    → k < length (commands plan j s) → command ≡ slice_index_or (commands plan j s) k command → command.0 < 56
-numbered plan j s k command plan_is within read =
-    let below = plan_is.draft.named j s k command within in
-    omega (arith, plan_is.draft.few_instruments, below, ap (λ (c : ℕ × Verb). c.0) read)

@@ -188,7 +188,6 @@ impl<A: Allocator + Copy> PlanBuilder<A> {
     }
 
     /// The tables of the plan as it stands, where it is a whole one.
-    #[tactic(auto, using(crate::proofs::Closed::finished))]
     fn tables(&self) -> Result<Tables<A>, PlanRefusal>
         ensures tables { IfOk result (λ tables. (finish_refusal self.now ≡ None) × AreTablesOf self.now tables) }
         ensures plan { OnOk result (IsPlan self.now) }

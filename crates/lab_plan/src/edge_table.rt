@@ -76,7 +76,6 @@ fn push_row<A: Allocator>(
     Ok(())
 }
 
-#[tactic(auto, using(crate::proofs::Pairs::kept_rows_more))]
 fn find_pairs<A: Allocator>(alloc: A, naming: &Naming) -> Result<Vec<(JobNo, JobNo), A>, AllocError>
     requires jobs { naming.now.jobs ≤ most_jobs }
     requires instruments { naming.now.instruments ≤ most_instruments }

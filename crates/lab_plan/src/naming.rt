@@ -14,7 +14,6 @@ use crate::job::Job;
 use crate::limits::{MOST_BOTTLES, MOST_JOBS};
 use std::alloc::Allocator;
 
-#[tactic(auto, using(crate::proofs::Bits::holds_none))]
 /// The instruments that a job's sessions name.
 fn named_by<A: Allocator>(job: &Job<A>) -> InstrumentSet
     requires { HasSmall job.now }

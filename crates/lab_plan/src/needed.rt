@@ -10,7 +10,6 @@ use std::alloc::Allocator;
 impl<A: Allocator> Plan<A> {
     /// The bottles of an edge whose instruments a session names, as a set: bit k stands for bottle k. It takes one
     /// step for each bottle of the edge, however many commands the session has.
-    #[tactic(auto, using(crate::proofs::Gathered::small_instruments, crate::proofs::Gathered::are_named))]
     pub fn needed_bottles(&self, job: JobNo, session: u32, edge: EdgeNo) -> u32
         requires is_job { job < length self.now.jobs }
         requires begun { 1 ≤ session }

@@ -236,7 +236,6 @@ impl<A: Allocator> Plan<A> {
     }
 
     /// The place of a session's command, by its position counted from 0, within the session's part on its instrument.
-    #[tactic(auto, using(crate::proofs::Readers::place_is, crate::proofs::Readers::numbered))]
     pub fn place(&self, job: JobNo, session: u32, position: u32) -> Place
         requires is_job { job < length self.now.jobs }
         requires begun { 1 ≤ session }

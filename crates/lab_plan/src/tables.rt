@@ -29,7 +29,6 @@ impl<A: Allocator> Model for Tables<A> {
 }
 
 impl<A: Allocator> Tables<A> {
-    #[tactic(auto, using(crate::proofs::Small::small))]
     pub(crate) fn new(alloc: A, draft: &Draft<A>) -> Result<Tables<A>, AllocError>
     where
         A: Copy,
