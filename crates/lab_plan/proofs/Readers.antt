@@ -8,7 +8,6 @@ use Rattle.std.proofs.lemmas.List.{get_or-map}
 use Rattle.std.proofs.lemmas.List.Elements.{filter_passes}
 use Rattle.std.proofs.lemmas.Nat.Bits.{same_from_bits, bit_at_cat_low, bit_at_above}
 use Rattle.std.proofs.lemmas.List.{length-map}
-use Rattle.lab_plan.specs.declared.verb.Verb.{Verb}
 use Rattle.lab_plan.specs.LabPlan.{LabPlan, edges, ends, edges_of, common, bottles, both_name, instrument_numbers, pairs, pairs_with, sessions, commands, session_names, part}
 use Rattle.lab_plan.specs.IsPlan.{IsPlan}
 use Rattle.lab_plan.specs.InstrumentSets.{holds}

@@ -222,7 +222,6 @@ impl<A: Allocator> EdgeTable<A> {
         self.number(low, high)
     }
 
-    #[tactic(auto, using(crate::proofs::PairNumbers::list_at))]
     pub(crate) fn edges_of(&self, job: JobNo) -> &[EdgeNo]
         requires { job < most_jobs }
         ensures { result.now ≡ pairs_with self.now job }

@@ -102,7 +102,6 @@ impl<A: Allocator> Plan<A> {
     }
 
     /// The two jobs of an edge, the lower number first.
-    #[tactic(auto, using(crate::proofs::Edges::ends_are_pair))]
     pub fn ends(&self, edge: EdgeNo) -> (JobNo, JobNo)
         requires { edge < length (edges self.now) }
         ensures ends { result ≡ ends self.now edge }
@@ -212,7 +211,6 @@ impl<A: Allocator> Plan<A> {
     }
 
     /// The instruments that a session names, as a set: bit i stands for instrument i.
-    #[tactic(auto, using(crate::proofs::Readers::needs_bit, crate::proofs::Readers::needs_below))]
     pub fn needs(&self, job: JobNo, session: u32) -> u64
         requires is_job { job < length self.now.jobs }
         requires begun { 1 ≤ session }
