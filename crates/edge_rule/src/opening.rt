@@ -1,11 +1,10 @@
 //! Opening a bench.
-ghost use Rattle.std.specs.Prelude.{◌≡◌, ◌<◌, ◌+◌, ◌*◌, ◌∷◌, [], false, length, replicate, IfOk};
+ghost use Rattle.std.specs.Prelude.{◌≡◌, ◌<◌, ◌+◌, ◌*◌, ◌∷◌, [], length, replicate, IfOk};
 ghost use Rattle.lab_plan.specs.LabPlan.{edges};
 ghost use Rattle.legal_steps.specs.Opening.{the_opening};
 ghost use Rattle.one_history.specs.Rule.{Spelled, first_view, word_count};
 ghost use Rattle.one_history.specs.Seating.{undealt, nothing};
 ghost use Rattle.edge_rule.specs.Openings.{opening_edges};
-ghost use Rattle.edge_rule.specs.CalmEdges.{no_word};
 ghost use Rattle.edge_rule.specs.DeskView.{fresh_desk, fresh_desks};
 
 use crate::bench::Bench;
@@ -50,32 +49,6 @@ fn fresh_edges<A: Allocator + Copy>(
     Ok(seen)
 }
 
-// No mark for a fork, and none for a bottle.
-fn fresh_marks<A: Allocator + Copy>(
-    alloc: A,
-    count: usize,
-) -> Result<(Vec<bool, A>, Vec<u32, A>), AllocError>
-    ensures forks { IfOk result (λ m. m.0.items ≡ replicate count false) }
-    ensures bottles { IfOk result (λ m. m.1.items ≡ replicate count 0) }
-{
-    let forks = Vec::from_elem(alloc, false, count)?;
-    let bottles = Vec::from_elem(alloc, 0u32, count)?;
-    Ok((forks, bottles))
-}
-
-// No word at which an edge is calm, and no bottle that is needed.
-fn fresh_notes<A: Allocator + Copy>(
-    alloc: A,
-    count: usize,
-) -> Result<(Vec<u64, A>, Vec<u32, A>), AllocError>
-    ensures calm { IfOk result (λ m. m.0.items ≡ replicate count no_word) }
-    ensures needed { IfOk result (λ m. m.1.items ≡ replicate count 0) }
-{
-    let calm = Vec::from_elem(alloc, NO_WORD, count)?;
-    let needed = Vec::from_elem(alloc, 0u32, count)?;
-    Ok((calm, needed))
-}
-
 // The desk of the next job, by a seat that is cut off.
 fn next_desk<A: Allocator + Copy>(
     alloc: A,
@@ -92,20 +65,23 @@ fn next_desk<A: Allocator + Copy>(
 {
     let jobs = plan.jobs();
     let count = plan.edges() as usize;
-    let (fork_marks, bottle_marks) = fresh_marks(alloc, count)?;
-    let (calm, needed) = fresh_notes(alloc, count)?;
+    let fork_marks = Vec::from_elem(alloc, false, count)?;
+    let bottle_marks = Vec::from_elem(alloc, 0u32, count)?;
     let seen = fresh_edges(alloc, plan)?;
+    let calm = Vec::from_elem(alloc, NO_WORD, count)?;
+    let needed = Vec::from_elem(alloc, 0u32, count)?;
+    let phase = JobState {
+        dining: Dining::Thinking,
+        drinking: Drinking::Tranquil,
+        session: 0,
+        position: 0,
+    };
     let number = JobNo(job as u8);
     let seat = table.shared.split_seat::<Deals>(keeper);
     Ok(Desk {
         seat,
         job: number,
-        phase: JobState {
-            dining: Dining::Thinking,
-            drinking: Drinking::Tranquil,
-            session: 0,
-            position: 0,
-        },
+        phase,
         fork_marks,
         bottle_marks,
         seen,
@@ -140,26 +116,6 @@ fn deal<A: Allocator + Copy>(
     Ok(desks)
 }
 
-// The table of a bench in THE opening, and the seat that all others are cut off from.
-fn fresh_board<A: Allocator + Copy>(
-    alloc: A,
-    plan: &Plan<A>,
-) -> Result<(Board<A>, Seat<InstrumentLog<A>, View>), AllocError>
-    ensures key { IfOk result (λ t. t.0.shared.key ≡ plan.now) }
-    ensures words { IfOk result (λ t. t.0.shared.table_id.words ≡ word_count plan.now) }
-    ensures slots { IfOk result (λ t. t.0.shared.table_id.slots ≡ length plan.now.instruments) }
-    ensures keeper { IfOk result (λ t. (t.1.table_id ≡ t.0.shared.table_id) × (t.1.me ≡ (first_view plan.now, []))) }
-{
-    // A call for its clause alone: that the plan is well formed, which the rule of the table asks for.
-    let _ = plan.jobs();
-    let words = fresh_words(alloc, plan)?;
-    let logs = empty_logs(alloc, plan)?;
-    match Table::new(alloc, words.as_slice(), logs, plan) {
-        Ok(made) => Ok(made),
-        Err(_) => Err(AllocError),
-    }
-}
-
 // A bench in THE opening, with its desks.
 fn opened<'p, A: Allocator + Copy>(
     alloc: A,
@@ -167,9 +123,14 @@ fn opened<'p, A: Allocator + Copy>(
 ) -> Result<(Bench<'p, A>, Vec<Desk<A>, A>), AllocError>
     ensures { IfOk result (λ r. (r.0.plan ≡ plan.now) × (r.1.items ≡ fresh_desks r.0.table plan.now (length plan.now.jobs))) }
 {
-    // A call for its clause alone: that the plan is well formed, as a bench's plan is.
+    // A call for its clause alone: that the plan is well formed, which the rule of the table asks for.
     let _ = plan.jobs();
-    let (table, mut keeper) = fresh_board(alloc, plan)?;
+    let words = fresh_words(alloc, plan)?;
+    let logs = empty_logs(alloc, plan)?;
+    let made = Table::new(alloc, words.as_slice(), logs, plan);
+    let Ok((table, mut keeper)) = made else {
+        return Err(AllocError);
+    };
     let desks = deal(alloc, &table, &mut keeper, plan)?;
     let bench = Bench { table, plan };
     Ok((bench, desks))
