@@ -1,17 +1,15 @@
 -- Where a part of its guard is false, the event isn't legal.
-use Rattle.std.proofs.Common.{◌≡◌, ◌≢◌, ◌⊎◌, ℕ, ◌<◌, ◌≤◌, true, false, length, arith, inl, inr, sym, ◌∙◌, Option, None, Some}
-use Rattle.std.specs.Prelude.{IsSome}
+use Rattle.std.proofs.Common.{◌≡◌, arith, inl, inr, sym, ◌∙◌, Option, None, Some}
+use Rattle.std.specs.Prelude.{IsSome, IfSome}
 use Rattle.std.proofs.lemmas.Bool.{false≢true}
-use Rattle.lab_plan.specs.LabPlan.{LabPlan, bottles, sessions, patience}
-use Rattle.legal_steps.specs.declared.phase.Dining.TheVariants.{Thinking, Hungry, Eating}
-use Rattle.legal_steps.specs.declared.phase.Drinking.TheVariants.{Tranquil, Thirsty, Drinking as Drinks, Reaching}
+use Rattle.lab_plan.specs.LabPlan.{LabPlan}
 use Rattle.legal_steps.specs.declared.event.Event.{Event}
 use Rattle.legal_steps.specs.declared.event.Event.TheVariants.{Look, AskFork, GiveFork, Soil, AskBottles, GiveBottles, Thirst, Hunger, Sit, Leave, Drink, Reach, Act, Quit, Retire, Glance, Withdraw}
 use Rattle.legal_steps.specs.State.{State}
 use Rattle.legal_steps.specs.Legal.{May}
 use Rattle.refused_steps.specs.declared.cause.Cause.{Cause}
 use Rattle.refused_steps.specs.declared.cause.Cause.TheVariants.{NotJob, NotOwn, SeesElse, OtherNotJob, Itself, NotThinking, NotHungry, NotEating, Eats, NotTranquil, NotThirsty, Thirsts, NotDrinking, NotReaching, ForkHere, ForkThere, ForkClean, ForkDirty, TokenThere, UnmarkedAway, UnmarkedClaimed, UnmarkedClean, UnmarkedUnseen, NoBottle, NotOfEdge, NotNeeded, BottleHere, BottleThere, BottleTokenThere, KeptInSession, KeptWithFork, MissingAway, MissingUnseen, NoSessionLeft, SessionLeft, NoCommandLeft, CommandLeft, NoPatience}
-use Rattle.refused_steps.specs.Causes.{Fails}
+use Rattle.refused_steps.specs.Causes.{Fails, Explains}
 
 no_none : {A : Type 0} (x : Option A) → x ≡ None → IsSome x → ⊥
 no_none None is some = false≢true some
@@ -89,3 +87,8 @@ refused plan s (Withdraw j) NotJob f may = f may.0
 refused plan s (Withdraw j) NotThirsty f may = f may.1
 refused plan s (Withdraw j) NoPatience f may = no_none _ f may.2
 refused plan s event cause f may = f
+
+-- so whoever is told of a cause knows that it isn't
+pub told_refused : (plan : LabPlan) (s : State) (event : Event) (answer : Option Cause) → Explains plan s event answer → IfSome answer (λ _. ¬ May plan s event)
+told_refused plan s event None legal = tt
+told_refused plan s event (Some cause) fails = refused plan s event cause fails

@@ -113,11 +113,13 @@ fn give_bottle<A: Allocator>(
     if bottle_end(state.bottle_tokens, bottle) != here {
         return Some(Cause::BottleTokenThere(bottle));
     }
-    let is_needed = needs_bottle(world, job, edge, bottle);
-    if is_needed && is_drinking(world, job) {
+    if !needs_bottle(world, job, edge, bottle) {
+        return None;
+    }
+    if is_drinking(world, job) {
         return Some(Cause::KeptInSession(bottle));
     }
-    if is_needed && state.fork == here {
+    if state.fork == here {
         return Some(Cause::KeptWithFork(bottle));
     }
     None

@@ -66,7 +66,6 @@ fn cause_of<A: Allocator>(world: &World<'_, A>, event: &Event) -> Option<Cause>
 ///
 /// Of several causes the first is given, in the order in which its guard names them, and of several edges
 /// and bottles the one with the lowest number.
-#[tactic(auto, using(crate::proofs::Refused::refused))]
 pub fn why_not<A: Allocator>(world: &World<'_, A>, event: &Event) -> Option<Cause>
     ensures explains { Explains world.now.plan world.now.state event.now result }
     ensures refused { IfSome result (λ _. ¬ May world.now.plan world.now.state event.now) }
