@@ -8,6 +8,8 @@ mod pairs;
 #[cfg(test)]
 mod plans;
 #[cfg(test)]
+mod rows;
+#[cfg(test)]
 mod states;
 #[cfg(test)]
 mod words;

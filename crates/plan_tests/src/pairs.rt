@@ -1,10 +1,13 @@
 // Cycles and rankings of pairs of jobs, worked out by hand, and memory that is refused.
+ghost use Rattle.std.specs.List.{All};
+ghost use Rattle.cycles.specs.Cycles.{AreBelow};
+
+use crate::rows::check;
 use cycles::{NoMemory, cycle_in, ranking};
 use lab_plan::JobNo;
 use linked_list_allocator::LocalHeap;
-use std::alloc::Allocator;
+use std::alloc::{Allocator, Global};
 use std::process::Abort;
-use std::test::Fail;
 
 const TRIANGLE: [(JobNo, JobNo); 3] = [
     (JobNo(0), JobNo(1)),
@@ -14,35 +17,13 @@ const TRIANGLE: [(JobNo, JobNo); 3] = [
 
 const IN_ORDER: [JobNo; 3] = [JobNo(0), JobNo(1), JobNo(2)];
 
-/// The answer of `cycle_in`, once the pairs are seen to be of jobs below `jobs`.
-fn found<A: Allocator + Copy>(
-    rt: &impl Abort,
-    alloc: A,
-    jobs: usize,
-    pairs: &[(JobNo, JobNo)],
-) -> Result<Option<Vec<JobNo, A>>, NoMemory> {
+/// Sees that the pairs are of jobs below `jobs`.
+fn see_below(rt: &impl Abort, jobs: usize, pairs: &[(JobNo, JobNo)])
+    ensures { AreBelow jobs pairs.now }
+{
     for &(from, to) in pairs {
         assert!(rt; (from.0 as usize) < jobs);
         assert!(rt; (to.0 as usize) < jobs);
-    }
-    cycle_in(alloc, jobs, pairs)
-}
-
-/// The answer of `ranking`, once the pairs are seen to be of jobs below `jobs` and without a cycle.
-fn ranked<A: Allocator + Copy>(
-    rt: &impl Abort,
-    alloc: A,
-    jobs: usize,
-    pairs: &[(JobNo, JobNo)],
-) -> Result<Vec<JobNo, A>, NoMemory> {
-    assert!(rt; jobs <= 256);
-    for &(from, to) in pairs {
-        assert!(rt; (from.0 as usize) < jobs);
-        assert!(rt; (to.0 as usize) < jobs);
-    }
-    match cycle_in(alloc, jobs, pairs)? {
-        None => ranking(alloc, jobs, pairs),
-        Some(_) => panic!(rt; "a cycle"),
     }
 }
 
@@ -54,13 +35,14 @@ fn has_cycle<A: Allocator + Copy>(
     pairs: &[(JobNo, JobNo)],
     wanted: &[JobNo],
 ) -> Result<bool, NoMemory> {
-    match found(rt, alloc, jobs, pairs)? {
+    see_below(rt, jobs, pairs);
+    match cycle_in(alloc, jobs, pairs)? {
         Some(cycle) => Ok(cycle.as_slice() == wanted),
         None => Ok(wanted.is_empty()),
     }
 }
 
-/// Whether the ranking is this one.
+/// Whether there is no cycle, and the ranking is this one.
 fn has_ranking<A: Allocator + Copy>(
     rt: &impl Abort,
     alloc: A,
@@ -68,8 +50,38 @@ fn has_ranking<A: Allocator + Copy>(
     pairs: &[(JobNo, JobNo)],
     wanted: &[JobNo],
 ) -> Result<bool, NoMemory> {
-    let order = ranked(rt, alloc, jobs, pairs)?;
-    Ok(order.as_slice() == wanted)
+    assert!(rt; jobs <= 256);
+    see_below(rt, jobs, pairs);
+    match cycle_in(alloc, jobs, pairs)? {
+        None => {
+            let order = ranking(alloc, jobs, pairs)?;
+            Ok(order.as_slice() == wanted)
+        }
+        Some(_) => Ok(false),
+    }
+}
+
+/// Whether there is memory for it; if so, the answer is right.
+fn is_answered(rt: &impl Abort, answer: Result<bool, NoMemory>, wanted: &[JobNo]) -> bool {
+    match answer {
+        Ok(right) => {
+            check(rt, wanted, right, true);
+            true
+        }
+        Err(NoMemory) => false,
+    }
+}
+
+/// The cycle of these pairs has to be this one.
+fn check_cycle<A: Allocator + Copy>(
+    rt: &impl Abort,
+    alloc: A,
+    jobs: usize,
+    pairs: &[(JobNo, JobNo)],
+    wanted: &[JobNo],
+) {
+    let answer = has_cycle(rt, alloc, jobs, pairs, wanted);
+    check(rt, (jobs, pairs), is_answered(rt, answer, wanted), true);
 }
 
 /// A cycle of three with a job before it and one behind it.
@@ -86,13 +98,12 @@ const TWO: [(JobNo, JobNo); 2] = [(JobNo(2), JobNo(1)), (JobNo(1), JobNo(2))];
 const LOOP: [(JobNo, JobNo); 1] = [(JobNo(1), JobNo(1))];
 
 #[test]
-fn finds_the_only_cycle(rt: HostRuntime) -> Result<(), Fail> {
+fn finds_the_only_cycle(rt: HostRuntime) {
     let alloc = rt.alloc();
-    assert!(rt; has_cycle(&rt, alloc, 3, &TRIANGLE, &IN_ORDER)?);
-    assert!(rt; has_cycle(&rt, alloc, 3, &TWO, &[JobNo(1), JobNo(2)])?);
-    assert!(rt; has_cycle(&rt, alloc, 5, &APART, &[JobNo(1), JobNo(2), JobNo(3)])?);
-    assert!(rt; has_cycle(&rt, alloc, 2, &LOOP, &[JobNo(1)])?);
-    Ok(())
+    check_cycle(&rt, alloc, 3, &TRIANGLE, &IN_ORDER);
+    check_cycle(&rt, alloc, 3, &TWO, &[JobNo(1), JobNo(2)]);
+    check_cycle(&rt, alloc, 5, &APART, &[JobNo(1), JobNo(2), JobNo(3)]);
+    check_cycle(&rt, alloc, 2, &LOOP, &[JobNo(1)]);
 }
 
 const CHAIN: [(JobNo, JobNo); 3] = [
@@ -102,13 +113,12 @@ const CHAIN: [(JobNo, JobNo); 3] = [
 ];
 
 #[test]
-fn finds_no_cycle(rt: HostRuntime) -> Result<(), Fail> {
+fn finds_no_cycle(rt: HostRuntime) {
     let alloc = rt.alloc();
-    assert!(rt; has_cycle(&rt, alloc, 0, &[], &[])?);
-    assert!(rt; has_cycle(&rt, alloc, 3, &[], &[])?);
-    assert!(rt; has_cycle(&rt, alloc, 3, &CHAIN, &[])?);
-    assert!(rt; has_cycle(&rt, alloc, 300, &TRIANGLE[..2], &[])?);
-    Ok(())
+    check_cycle(&rt, alloc, 0, &[], &[]);
+    check_cycle(&rt, alloc, 3, &[], &[]);
+    check_cycle(&rt, alloc, 3, &CHAIN, &[]);
+    check_cycle(&rt, alloc, 300, &TRIANGLE[..2], &[]);
 }
 
 const ZERO_LAST: [(JobNo, JobNo); 3] = [
@@ -117,54 +127,63 @@ const ZERO_LAST: [(JobNo, JobNo); 3] = [
     (JobNo(1), JobNo(2)),
 ];
 
-#[test]
-fn ranks_along_the_pairs(rt: HostRuntime) -> Result<(), Fail> {
-    assert!(rt; has_ranking(&rt, rt.alloc(), 3, &CHAIN, &IN_ORDER)?);
-    assert!(rt;
-        has_ranking(
-            &rt,
-            rt.alloc(),
-            3,
-            &ZERO_LAST,
-            &[JobNo(1), JobNo(2), JobNo(0)]
-        )?
-    );
-    assert!(rt; has_ranking(&rt, rt.alloc(), 0, &[], &[])?);
-    Ok(())
+/// The ranking along these pairs has to be this one.
+fn check_ranking<A: Allocator + Copy>(
+    rt: &impl Abort,
+    alloc: A,
+    pairs: &[(JobNo, JobNo)],
+    wanted: &[JobNo],
+) {
+    let answer = has_ranking(rt, alloc, wanted.len(), pairs, wanted);
+    check(rt, pairs, is_answered(rt, answer, wanted), true);
 }
 
-/// Whether there is memory for it; if so, the answer is right.
-fn is_answered(rt: &impl Abort, answer: Result<bool, NoMemory>) -> bool {
-    match answer {
-        Ok(right) => {
-            assert!(rt; right);
-            true
-        }
-        Err(NoMemory) => false,
+#[test]
+fn ranks_along_the_pairs(rt: HostRuntime) {
+    let alloc = rt.alloc();
+    check_ranking(&rt, alloc, &CHAIN, &IN_ORDER);
+    check_ranking(&rt, alloc, &ZERO_LAST, &[JobNo(1), JobNo(2), JobNo(0)]);
+    check_ranking(&rt, alloc, &[], &[]);
+}
+
+pub(crate) fn heap_of(rt: &impl Abort, alloc: Global, size: usize) -> LocalHeap {
+    match LocalHeap::new(alloc, size) {
+        Ok(heap) => heap,
+        Err(_) => panic!(rt; "no heap"),
     }
+}
+
+/// Whether a heap of this size has memory for the cycle of three.
+fn has_memory_for_a_cycle(rt: &impl Abort, alloc: Global, size: usize) -> bool {
+    let heap = heap_of(rt, alloc, size);
+    let answer = has_cycle(rt, &heap, 3, &TRIANGLE, &IN_ORDER);
+    is_answered(rt, answer, &IN_ORDER)
+}
+
+/// Whether it has memory for the ranking of three.
+fn has_memory_for_a_ranking(rt: &impl Abort, alloc: Global, size: usize) -> bool {
+    let heap = heap_of(rt, alloc, size);
+    let answer = has_ranking(rt, &heap, 3, &TRIANGLE[..2], &IN_ORDER);
+    is_answered(rt, answer, &IN_ORDER)
 }
 
 /// Each growth is refused in turn, by a heap that is a little larger in each run.
 #[test]
-fn refuses_growth_of_a_cycle(rt: HostRuntime) -> Result<(), Fail> {
+fn refuses_growth_of_a_cycle(rt: HostRuntime) {
     let mut answers = 0u32;
     for budget in 1..40usize {
-        let heap = LocalHeap::new(rt.alloc(), 16 * budget)?;
-        let answer = has_cycle(&rt, &heap, 3, &TRIANGLE, &IN_ORDER);
-        answers = answers.saturating_add(is_answered(&rt, answer) as u32);
+        let answered = has_memory_for_a_cycle(&rt, rt.alloc(), 16 * budget);
+        answers = answers.saturating_add(answered as u32);
     }
     assert!(rt; answers > 1 && answers < 39);
-    Ok(())
 }
 
 #[test]
-fn refuses_growth_of_a_ranking(rt: HostRuntime) -> Result<(), Fail> {
+fn refuses_growth_of_a_ranking(rt: HostRuntime) {
     let mut answers = 0u32;
     for budget in 1..40usize {
-        let heap = LocalHeap::new(rt.alloc(), 16 * budget)?;
-        let answer = has_ranking(&rt, &heap, 3, &TRIANGLE[..2], &IN_ORDER);
-        answers = answers.saturating_add(is_answered(&rt, answer) as u32);
+        let answered = has_memory_for_a_ranking(&rt, rt.alloc(), 16 * budget);
+        answers = answers.saturating_add(answered as u32);
     }
     assert!(rt; answers > 1 && answers < 39);
-    Ok(())
 }

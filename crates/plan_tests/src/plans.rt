@@ -1,8 +1,9 @@
 // What no clause says of the builder: that its calls succeed, and go on once memory is there again; and
 // each reader of a plan on plans worked out by hand.
-use asking::{commands_of, ends_of, instrument_name, job_name, patience_of, sessions_of};
+use crate::rows::check;
+use asking::{ends_of, instrument_name, job_of, session_of};
 use lab_plan::name::is_name;
-use lab_plan::{InstrumentNo, JobNo, Plan, PlanBuilder, PlanRefusal, Verb};
+use lab_plan::{EdgeNo, InstrumentNo, JobNo, Plan, PlanBuilder, PlanRefusal, Verb};
 use std::alloc::Allocator;
 use std::process::Abort;
 
@@ -70,9 +71,14 @@ fn put_command<A: Allocator + Copy>(
     builder.command(name, verb)
 }
 
+/// Adds a line, which has to succeed.
+fn put_one<A: Allocator + Copy>(rt: &impl Abort, builder: &mut PlanBuilder<A>, line: Line) {
+    check(rt, "a line", put(rt, builder, line).err(), None);
+}
+
 fn put_all<A: Allocator + Copy>(rt: &impl Abort, builder: &mut PlanBuilder<A>, lines: &[Line]) {
-    for line in lines {
-        assert!(rt; put(rt, builder, *line).is_ok());
+    for (number, line) in lines.iter().enumerate() {
+        check(rt, number, put(rt, builder, *line).err(), None);
     }
 }
 
@@ -83,7 +89,7 @@ fn refuse_line<A: Allocator + Copy>(
     line: Line,
     wanted: PlanRefusal,
 ) {
-    assert!(rt; put(rt, builder, line) == Err(wanted));
+    check(rt, "a line", put(rt, builder, line).err(), Some(wanted));
 }
 
 /// Finishes the plan, which has to succeed.
@@ -103,7 +109,7 @@ fn refuse<A: Allocator + Copy>(
     match builder.finish() {
         Ok(_) => panic!(rt; "finished"),
         Err((cause, builder)) => {
-            assert!(rt; cause == wanted);
+            check(rt, "the end", cause, wanted);
             builder
         }
     }
@@ -125,14 +131,35 @@ fn name_of(number: usize) -> [u8; 2] {
     [letter(number / 26), letter(number)]
 }
 
+/// Commands on this many instruments.
+fn put_commands<A: Allocator + Copy>(
+    rt: &impl Abort,
+    builder: &mut PlanBuilder<A>,
+    instruments: usize,
+) {
+    for number in 0..instruments {
+        put_one(rt, builder, Line::Command(&name_of(number), Verb::Read));
+    }
+}
+
+/// So many sessions of one command each.
+fn put_sessions<A: Allocator + Copy>(
+    rt: &impl Abort,
+    builder: &mut PlanBuilder<A>,
+    sessions: usize,
+) {
+    for _ in 0..sessions {
+        put_one(rt, builder, Line::Session);
+        put_one(rt, builder, Line::Command(b"lamp", Verb::Read));
+    }
+}
+
 /// Two jobs that have the first instruments in common.
 fn share<A: Allocator + Copy>(rt: &impl Abort, builder: &mut PlanBuilder<A>, instruments: usize) {
-    for job in [b"one", b"two"] {
-        put_all(rt, builder, &[Line::Job(job), Line::Session]);
-        for number in 0..instruments {
-            put_all(rt, builder, &[Line::Command(&name_of(number), Verb::Read)]);
-        }
-    }
+    put_all(rt, builder, &[Line::Job(b"one"), Line::Session]);
+    put_commands(rt, builder, instruments);
+    put_all(rt, builder, &[Line::Job(b"two"), Line::Session]);
+    put_commands(rt, builder, instruments);
 }
 
 /// Two jobs with lamp in common, of the names' longest size.
@@ -150,47 +177,55 @@ const EXAMPLE: [Line<'static>; 11] = [
     Line::Command(b"lamp", Verb::Add(1)),
 ];
 
+/// How many jobs, instruments and edges a plan has.
+fn counts<A: Allocator>(plan: &Plan<A>) -> (usize, usize, u16) {
+    (plan.jobs(), plan.instruments(), plan.edges())
+}
+
 /// What the example's plan has to be.
 fn check_example<A: Allocator>(rt: &impl Abort, plan: &Plan<A>) {
-    assert!(rt;
-        plan.version() == 1 && plan.jobs() == 3 && plan.instruments() == 3 && plan.edges() == 1
-    );
-    assert!(rt; ends_of(rt, plan, 0) == (JobNo(0), JobNo(2)));
+    check(rt, "version", plan.version(), 1);
+    check(rt, "counts", counts(plan), (3, 3, 1));
+    check(rt, "edge", ends_of(rt, plan, 0), ((JobNo(0), JobNo(2)), 1));
     check_names(rt, plan);
     check_jobs(rt, plan);
     check_commands(rt, plan);
 }
 
-/// Its instruments, and its jobs with how many sessions each has.
-const INSTRUMENTS: [&[u8]; 3] = [b"lamp", b"sixteen-bytes-it", b"pump"];
-
-const JOBS: [(&[u8], u32); 3] = [(b"grow-some-cells1", 2), (b"idle", 0), (b"wash", 1)];
-
 fn check_names<A: Allocator>(rt: &impl Abort, plan: &Plan<A>) {
-    for number in 0..3u8 {
-        assert!(rt; instrument_name(rt, plan, number) == INSTRUMENTS[number as usize]);
-    }
+    check(rt, 0, instrument_name(rt, plan, 0), b"lamp");
+    check(rt, 1, instrument_name(rt, plan, 1), b"sixteen-bytes-it");
+    check(rt, 2, instrument_name(rt, plan, 2), b"pump");
 }
 
+/// The names of its jobs, how many sessions each has, and the edges of each.
 fn check_jobs<A: Allocator>(rt: &impl Abort, plan: &Plan<A>) {
-    for number in 0..3u8 {
-        let (name, sessions) = JOBS[number as usize];
-        assert!(rt; job_name(rt, plan, number) == name);
-        assert!(rt; sessions_of(rt, plan, number) == sessions);
-    }
+    let edge = [EdgeNo(0)];
+    check(rt, 0, job_of(rt, plan, 0), (b"grow-some-cells1", 2, &edge));
+    check(rt, 1, job_of(rt, plan, 1), (b"idle", 0, &[]));
+    check(rt, 2, job_of(rt, plan, 2), (b"wash", 1, &edge));
 }
 
 /// No session has a patience.
 fn check_commands<A: Allocator>(rt: &impl Abort, plan: &Plan<A>) {
-    let sessions: [(u8, u32, &[(InstrumentNo, Verb)]); 3] = [
-        (0, 1, &FIRST),
-        (0, 2, &SECOND),
-        (2, 1, &THIRD),
-    ];
-    for (job, session, commands) in sessions {
-        assert!(rt; commands_of(rt, plan, job, session) == commands);
-        assert!(rt; patience_of(rt, plan, job, session).is_none());
-    }
+    check(
+        rt,
+        (0, 1),
+        session_of(rt, plan, 0, 1),
+        (None, 0b011, &FIRST),
+    );
+    check(
+        rt,
+        (0, 2),
+        session_of(rt, plan, 0, 2),
+        (None, 0b100, &SECOND),
+    );
+    check(
+        rt,
+        (2, 1),
+        session_of(rt, plan, 2, 1),
+        (None, 0b001, &THIRD),
+    );
 }
 
 /// The commands of its sessions.

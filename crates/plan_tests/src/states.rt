@@ -1,5 +1,6 @@
 // That each law can be called, and the answers of the functions that have one.
 use crate::plans::{Line, plan_of};
+use crate::rows::check;
 use lab_plan::{EdgeNo, JobNo, Plan, PlanBuilder, Verb};
 use legal_steps::{Dining, Drinking, EdgeState, End, JobState, laws, log_laws};
 use std::alloc::Allocator;
@@ -7,8 +8,8 @@ use std::process::Abort;
 
 #[test]
 fn other_end(rt: HostRuntime) {
-    assert!(rt; End::Lower.other() == End::Higher);
-    assert!(rt; End::Higher.other() == End::Lower);
+    check(&rt, End::Lower, End::Lower.other(), End::Higher);
+    check(&rt, End::Higher, End::Higher.other(), End::Lower);
 }
 
 /// The fork's end, whether it is dirty, and the token's end; then whether a look from the lower end sets a mark,
@@ -35,75 +36,154 @@ fn edge(fork: End, dirty: bool, token: End, bottles: u32) -> EdgeState {
     }
 }
 
-#[test]
-fn fork_marks_of_looks(rt: HostRuntime) {
-    for (fork, dirty, token, waiting, eating) in FORK_MARKS {
-        let lower = edge(fork, dirty, token, 0);
-        let higher = edge(fork.other(), dirty, token.other(), 0);
-        for (state, here) in [(lower, End::Lower), (higher, End::Higher)] {
-            assert!(rt; state.fork_mark(here, Dining::Thinking) == waiting);
-            assert!(rt; state.fork_mark(here, Dining::Hungry) == waiting);
-            assert!(rt; state.fork_mark(here, Dining::Eating) == eating);
-        }
+/// Whether a look from this end sets a mark, of a job that waits for a meal or wants none, and of one that eats.
+fn check_marks(rt: &impl Abort, state: EdgeState, here: End, waiting: bool, eating: bool) {
+    for (dining, mark) in [
+        (Dining::Thinking, waiting),
+        (Dining::Hungry, waiting),
+        (Dining::Eating, eating),
+    ] {
+        check(rt, (state, dining), state.fork_mark(here, dining), mark);
     }
 }
 
 #[test]
-fn guards_of_a_fork(rt: HostRuntime) {
-    let there = edge(End::Higher, false, End::Lower, 0);
-    assert!(rt; there.wants_fork(End::Lower, Dining::Hungry));
-    assert!(rt; !there.wants_fork(End::Lower, Dining::Thinking));
-    assert!(rt; !there.wants_fork(End::Higher, Dining::Hungry));
-    let claimed = edge(End::Lower, true, End::Lower, 0);
-    assert!(rt; claimed.gives_fork(End::Lower, Dining::Thinking));
-    assert!(rt; claimed.gives_fork(End::Lower, Dining::Hungry));
-    assert!(rt; !claimed.gives_fork(End::Lower, Dining::Eating));
-    assert!(rt; !claimed.gives_fork(End::Higher, Dining::Thinking));
-    let clean = edge(End::Lower, false, End::Lower, 0);
-    assert!(rt; !clean.gives_fork(End::Lower, Dining::Thinking));
-    assert!(rt; clean.soils(End::Lower, Dining::Eating));
-    assert!(rt; !clean.soils(End::Lower, Dining::Hungry));
-    assert!(rt; !claimed.soils(End::Lower, Dining::Eating));
+fn fork_marks_of_looks(rt: HostRuntime) {
+    for &(fork, dirty, token, waiting, eating) in &FORK_MARKS {
+        let lower = edge(fork, dirty, token, 0);
+        let higher = edge(fork.other(), dirty, token.other(), 0);
+        check_marks(&rt, lower, End::Lower, waiting, eating);
+        check_marks(&rt, higher, End::Higher, waiting, eating);
+    }
 }
 
 #[test]
-fn edges_after_exchanges(rt: HostRuntime) {
-    let state = edge(End::Lower, true, End::Lower, 0b011);
-    assert!(rt; state.fork_asked() == edge(End::Lower, true, End::Higher, 0b011));
-    assert!(rt; state.fork_given() == edge(End::Higher, false, End::Lower, 0b011));
-    assert!(rt; state.fork_given().fork_soiled() == edge(End::Higher, true, End::Lower, 0b011));
-    assert!(rt; state.bottles_given(0b110) == edge(End::Lower, true, End::Lower, 0b101));
-    let asked = EdgeState {
-        bottle_tokens: 0b110,
-        ..state
-    };
-    assert!(rt; state.bottles_asked(0b110) == asked);
-    assert!(rt; asked.bottles_asked(0b110) == state);
+fn who_wants_a_fork(rt: HostRuntime) {
+    let there = edge(End::Higher, false, End::Lower, 0);
+    for (here, dining, wants) in [
+        (End::Lower, Dining::Hungry, true),
+        (End::Lower, Dining::Thinking, false),
+        (End::Higher, Dining::Hungry, false),
+    ] {
+        check(&rt, (here, dining), there.wants_fork(here, dining), wants);
+    }
 }
+
+/// Whether a fork that the neighbour asked for is dirty, and who sits where; then whether that job gives it.
+const GIVES: [(bool, End, Dining, bool); 5] = [
+    (true, End::Lower, Dining::Thinking, true),
+    (true, End::Lower, Dining::Hungry, true),
+    (true, End::Lower, Dining::Eating, false),
+    (true, End::Higher, Dining::Thinking, false),
+    (false, End::Lower, Dining::Thinking, false),
+];
+
+#[test]
+fn who_gives_a_fork(rt: HostRuntime) {
+    for &(dirty, here, dining, gives) in &GIVES {
+        let asked = edge(End::Lower, dirty, End::Lower, 0);
+        check(
+            &rt,
+            (dirty, here, dining),
+            asked.gives_fork(here, dining),
+            gives,
+        );
+    }
+}
+
+#[test]
+fn who_soils_a_fork(rt: HostRuntime) {
+    for (dirty, dining, soils) in [
+        (false, Dining::Eating, true),
+        (false, Dining::Hungry, false),
+        (true, Dining::Eating, false),
+    ] {
+        let state = edge(End::Lower, dirty, End::Lower, 0);
+        check(&rt, (dirty, dining), state.soils(End::Lower, dining), soils);
+    }
+}
+
+const HELD: EdgeState = EdgeState {
+    fork: End::Lower,
+    dirty: true,
+    token: End::Lower,
+    bottles: 0b011,
+    bottle_tokens: 0,
+};
+
+#[test]
+fn edges_after_a_fork_moves(rt: HostRuntime) {
+    let (asked, given) = (HELD.fork_asked(), HELD.fork_given());
+    let soiled = given.fork_soiled();
+    check(&rt, 1, asked, edge(End::Lower, true, End::Higher, 0b011));
+    check(&rt, 2, given, edge(End::Higher, false, End::Lower, 0b011));
+    check(&rt, 3, soiled, edge(End::Higher, true, End::Lower, 0b011));
+}
+
+const ASKED: EdgeState = EdgeState {
+    bottle_tokens: 0b110,
+    ..HELD
+};
+
+#[test]
+fn edges_after_bottles_move(rt: HostRuntime) {
+    let given = edge(End::Lower, true, End::Lower, 0b101);
+    check(&rt, 1, HELD.bottles_given(0b110), given);
+    check(&rt, 2, HELD.bottles_asked(0b110), ASKED);
+    check(&rt, 3, ASKED.bottles_asked(0b110), HELD);
+}
+
+const IDLE: JobState = JobState {
+    dining: Dining::Thinking,
+    drinking: Drinking::Tranquil,
+    session: 4,
+    position: 0,
+};
+
+const THIRSTY: JobState = JobState {
+    drinking: Drinking::Thirsty,
+    session: 5,
+    ..IDLE
+};
+
+const DONE: JobState = JobState {
+    drinking: Drinking::Drinking,
+    position: 3,
+    ..THIRSTY
+};
 
 #[test]
 fn phases_after_events(rt: HostRuntime) {
-    let idle = JobState {
-        dining: Dining::Thinking,
-        drinking: Drinking::Tranquil,
-        session: 4,
-        position: 0,
-    };
-    let thirsty = JobState {
-        drinking: Drinking::Thirsty,
-        session: 5,
-        ..idle
-    };
-    assert!(rt; idle.in_next_session() == thirsty);
-    assert!(rt; thirsty.is_in_session() && !idle.is_in_session());
-    assert!(rt; idle.with_drinking(Drinking::Thirsty).session == 4);
-    assert!(rt; thirsty.with_dining(Dining::Hungry).dining == Dining::Hungry);
-    let done = JobState {
-        position: 3,
-        ..thirsty.with_drinking(Drinking::Drinking)
-    };
-    assert!(rt; done.is_in_session() && done.is_drinking() && !thirsty.is_drinking());
-    assert!(rt; done.out_of_session() == JobState { session: 5, ..idle });
+    let out = JobState { session: 5, ..IDLE };
+    let begins = IDLE.with_drinking(Drinking::Thirsty);
+    let hungry = THIRSTY.with_dining(Dining::Hungry);
+    let drinks = THIRSTY.with_drinking(Drinking::Drinking);
+    check(&rt, IDLE, IDLE.in_next_session(), THIRSTY);
+    check(&rt, IDLE, begins.session, 4);
+    check(&rt, THIRSTY, hungry.dining, Dining::Hungry);
+    check(
+        &rt,
+        THIRSTY,
+        drinks,
+        JobState {
+            position: 0,
+            ..DONE
+        },
+    );
+    check(&rt, DONE, DONE.out_of_session(), out);
+}
+
+/// Whether a job is in a session, and whether it drinks.
+#[test]
+fn phases_are_told(rt: HostRuntime) {
+    for (phase, is_in_session, is_drinking) in [
+        (IDLE, false, false),
+        (THIRSTY, true, false),
+        (DONE, true, true),
+    ] {
+        let told = (phase.is_in_session(), phase.is_drinking());
+        check(&rt, phase, told, (is_in_session, is_drinking));
+    }
 }
 
 /// Two jobs with three bottles on their edge.
@@ -141,18 +221,21 @@ fn bottles_there<T: Allocator>(rt: &impl Abort, plan: &Plan<T>, set: u32) -> (u3
 }
 
 /// The own end of each job of the edge, and the bottles there.
-fn each_end<T: Allocator + Copy>(rt: &impl Abort, alloc: T) {
-    let plan = plan_of(rt, PlanBuilder::new(alloc), &TWO_READERS);
-    assert!(rt; end_of(rt, &plan, JobNo(0)) == End::Lower);
-    assert!(rt; end_of(rt, &plan, JobNo(1)) == End::Higher);
+fn check_ends<T: Allocator>(rt: &impl Abort, plan: &Plan<T>) {
+    check(rt, 0, end_of(rt, plan, JobNo(0)), End::Lower);
+    check(rt, 1, end_of(rt, plan, JobNo(1)), End::Higher);
     for (set, lower) in [
         (0b000, 0b111),
         (0b101, 0b010),
         (0b110, 0b001),
         (0b111, 0b000),
     ] {
-        assert!(rt; bottles_there(rt, &plan, set) == (set, lower));
+        check(rt, set, bottles_there(rt, plan, set), (set, lower));
     }
+}
+
+fn each_end<T: Allocator + Copy>(rt: &impl Abort, alloc: T) {
+    check_ends(rt, &plan_of(rt, PlanBuilder::new(alloc), &TWO_READERS));
 }
 
 #[test]

@@ -1,11 +1,16 @@
 // Worked words: the opening, what is refused, each change, and two groups of moves; and that each law can be called.
+use crate::rows::check;
 use edge_word::{EdgeMoves, EdgeWord, PhaseWord, is_bottle_set, laws};
 use legal_steps::{Dining, Drinking, End, JobState};
+use std::process::Abort;
 
 const ALL: u32 = 0xfff_ffff;
 
 // THE opening word of an edge with one bottle.
 const OPENING: u64 = 4294967302;
+
+// That of an edge with 28.
+const OPENING_OF_28: u64 = 1152921500311879686;
 
 const NO_MOVE: EdgeMoves = EdgeMoves {
     give_fork: false,
@@ -17,67 +22,78 @@ const NO_MOVE: EdgeMoves = EdgeMoves {
 
 #[test]
 fn opening_words(rt: HostRuntime) {
-    assert_eq!(rt; EdgeWord::opening(1).pack(), OPENING);
-    assert_eq!(rt; OPENING.to_be_bytes(), [0, 0, 0, 1, 0, 0, 0, 6]);
     let most = EdgeWord::opening(28).pack();
-    assert_eq!(rt; most, 1152921500311879686);
-    assert_eq!(rt; most.to_be_bytes(), [0x0f, 0xff, 0xff, 0xff, 0, 0, 0, 6]);
+    check(&rt, 1, EdgeWord::opening(1).pack(), OPENING);
+    check(&rt, 1, OPENING.to_be_bytes(), [0, 0, 0, 1, 0, 0, 0, 6]);
+    check(&rt, 28, most, OPENING_OF_28);
+    check(
+        &rt,
+        28,
+        most.to_be_bytes(),
+        [0x0f, 0xff, 0xff, 0xff, 0, 0, 0, 6],
+    );
 }
 
 #[test]
-fn words_refused(rt: HostRuntime) {
+fn edges_refused(rt: HostRuntime) {
     for word in [8, 32, 8589934592, 1152921504606846976] {
-        assert_eq!(rt; EdgeWord::unpack(word, 1), None, "at {word}");
-    }
-    for word in [3, 20, 32] {
-        assert_eq!(rt; PhaseWord::unpack(word), None, "at {word}");
+        check(&rt, word, EdgeWord::unpack(word, 1), None);
     }
 }
 
 #[test]
-fn words_accepted(rt: HostRuntime) {
-    for (word, bottles) in [(OPENING, 1), (19, 1), (1152921500311879686, 28)] {
-        assert_eq!(rt;
-            EdgeWord::unpack(word, bottles).map(|edge| edge.pack()),
-            Some(word)
-        );
+fn phases_refused(rt: HostRuntime) {
+    for word in [3, 20, 32] {
+        check(&rt, word, PhaseWord::unpack(word), None);
     }
 }
 
-/// The edge of a word that is known to be one of an edge.
-fn known_edge(word: u64) -> Option<EdgeWord> {
-    let _edge = EdgeWord::unpack(word, 28)?;
-    Some(EdgeWord::spelled(word))
+/// Whether the word is one of an edge, and the edge that it is known to spell is the one that is read in it.
+fn spells_edge(word: u64) -> bool {
+    match EdgeWord::unpack(word, 28) {
+        Some(edge) => EdgeWord::spelled(word) == edge && EdgeWord::spelled(word).pack() == word,
+        None => false,
+    }
 }
 
-/// The phase of a word that is known to be one of a phase.
-fn known_phase(word: u64) -> Option<PhaseWord> {
-    let _phase = PhaseWord::unpack(word)?;
-    Some(PhaseWord::spelled(word))
+/// The same of a phase.
+fn spells_phase(word: u64) -> bool {
+    match PhaseWord::unpack(word) {
+        Some(phase) => {
+            PhaseWord::spelled(word) == phase && PhaseWord::spelled(word).pack() == word
+        }
+        None => false,
+    }
 }
 
 #[test]
 fn words_known_to_spell(rt: HostRuntime) {
-    for (edge, phase) in [(OPENING, 261), (19, 272), (1152921500311879686, 4294967562)] {
-        assert_eq!(rt; known_edge(edge), EdgeWord::unpack(edge, 28), "at {edge}");
-        assert_eq!(rt; known_edge(edge).map(|known| known.pack()), Some(edge));
-        assert_eq!(rt; known_phase(phase), PhaseWord::unpack(phase), "at {phase}");
-        assert_eq!(rt; known_phase(phase).map(|known| known.pack()), Some(phase));
+    for (edge, phase) in [(OPENING, 261), (19, 272), (OPENING_OF_28, 4294967562)] {
+        check(&rt, edge, spells_edge(edge), true);
+        check(&rt, phase, spells_phase(phase), true);
     }
+}
+
+/// Where the fork is, whether it is dirty, and where its token is; then the bottle and its token.
+type ReadEdge = ((End, bool, End), (End, End));
+
+/// What is read in the word of an edge of one bottle.
+fn read_edge(word: u64) -> Option<ReadEdge> {
+    let edge = EdgeWord::unpack(word, 1)?;
+    let fork = (edge.fork_end(), edge.dirty(), edge.token_end());
+    Some((fork, (edge.bottle_end(0), edge.bottle_token_end(0))))
 }
 
 #[test]
 fn edges_are_read(rt: HostRuntime) {
-    let Some(edge) = EdgeWord::unpack(OPENING, 1) else {
-        assert!(rt; false, "the opening word is refused");
-        return;
-    };
-    assert_eq!(rt; edge.fork_end(), End::Lower);
-    assert!(rt; edge.dirty());
-    assert_eq!(rt; edge.token_end(), End::Higher);
-    assert_eq!(rt; edge.bottle_end(0), End::Lower);
-    assert_eq!(rt; edge.bottle_token_end(0), End::Higher);
-    assert_eq!(rt; edge, EdgeWord::opening(1));
+    let wanted = ((End::Lower, true, End::Higher), (End::Lower, End::Higher));
+    check(&rt, OPENING, read_edge(OPENING), Some(wanted));
+    check(
+        &rt,
+        OPENING,
+        EdgeWord::unpack(OPENING, 1),
+        Some(EdgeWord::opening(1)),
+    );
 }
 
 /// The phase that is read in a word.
@@ -105,119 +121,164 @@ fn phases_are_read(rt: HostRuntime) {
             session: 1,
             position,
         };
-        assert_eq!(rt; read_phase(word), Some(phase), "at {word}");
-        assert_eq!(rt; PhaseWord::new(phase).pack(), word);
+        check(&rt, word, read_phase(word), Some(phase));
+        check(&rt, word, PhaseWord::new(phase).pack(), word);
     }
 }
 
-#[test]
-fn forks_are_moved(rt: HostRuntime) {
-    assert_eq!(rt;
-        EdgeWord::unpack(OPENING, 1).map(|edge| edge.asked_fork().pack()),
-        Some(4294967298)
-    );
-    assert_eq!(rt;
-        EdgeWord::unpack(2, 1).map(|edge| edge.given_fork().pack()),
-        Some(1)
-    );
-    assert_eq!(rt;
-        EdgeWord::unpack(17, 1).map(|edge| edge.soiled().pack()),
-        Some(19)
-    );
+/// What is done to an edge.
+#[derive(Clone, Copy)]
+enum Change {
+    Nothing,
+    AskFork,
+    GiveFork,
+    Soil,
+    AskBottles(u32),
+    GiveBottles(u32),
+}
+
+/// The word of an edge, how many bottles it has, what is done to it, and its word after that.
+const CHANGES: [(u64, u32, Change, u64); 10] = [
+    (OPENING, 1, Change::Nothing, OPENING),
+    (19, 1, Change::Nothing, 19),
+    (OPENING_OF_28, 28, Change::Nothing, OPENING_OF_28),
+    (OPENING, 1, Change::AskFork, 4294967298),
+    (2, 1, Change::GiveFork, 1),
+    (17, 1, Change::Soil, 19),
+    (OPENING, 1, Change::AskBottles(1), 6),
+    (1, 1, Change::GiveBottles(1), 17),
+    (OPENING_OF_28, 28, Change::AskBottles(ALL), 6),
+    (6, 28, Change::GiveBottles(ALL), 4294967286),
+];
+
+fn changed(rt: &impl Abort, edge: EdgeWord, change: Change) -> EdgeWord {
+    match change {
+        Change::Nothing => edge,
+        Change::AskFork => edge.asked_fork(),
+        Change::GiveFork => edge.given_fork(),
+        Change::Soil => edge.soiled(),
+        Change::AskBottles(set) => {
+            assert!(rt; is_bottle_set(set, 28));
+            edge.asked_bottles(set)
+        }
+        Change::GiveBottles(set) => {
+            assert!(rt; is_bottle_set(set, 28));
+            edge.given_bottles(set)
+        }
+    }
+}
+
+/// The word after the change, if the first is one of an edge with so many bottles.
+fn word_after(rt: &impl Abort, word: u64, bottles: u32, change: Change) -> Option<u64> {
+    assert!(rt; 1 <= bottles && bottles <= 28);
+    let edge = EdgeWord::unpack(word, bottles)?;
+    Some(changed(rt, edge, change).pack())
 }
 
 #[test]
-fn bottles_are_moved(rt: HostRuntime) {
-    assert_eq!(rt;
-        EdgeWord::unpack(OPENING, 1).map(|edge| edge.asked_bottles(1).pack()),
-        Some(6)
-    );
-    assert_eq!(rt;
-        EdgeWord::unpack(1, 1).map(|edge| edge.given_bottles(1).pack()),
-        Some(17)
-    );
-    assert_eq!(rt;
-        EdgeWord::unpack(1152921500311879686, 28).map(|edge| edge.asked_bottles(ALL).pack()),
-        Some(6)
-    );
-    assert_eq!(rt;
-        EdgeWord::unpack(6, 28).map(|edge| edge.given_bottles(ALL).pack()),
-        Some(4294967286)
-    );
+fn edges_are_changed(rt: HostRuntime) {
+    for &(word, bottles, change, wanted) in &CHANGES {
+        let came = word_after(&rt, word, bottles, change);
+        check(&rt, word, came, Some(wanted));
+    }
 }
+
+/// Groups of moves in a row from the opening on, and the word after each.
+fn follow(rt: &impl Abort, groups: &[(EdgeMoves, u64)]) {
+    let mut edge = EdgeWord::opening(1);
+    for &(moves, word) in groups {
+        assert!(rt; moves.are_of_bottles(1));
+        edge = edge.moved(moves);
+        check(rt, moves, edge.pack(), word);
+    }
+}
+
+const ASK_BOTTLE: EdgeMoves = EdgeMoves {
+    ask_bottles: 1,
+    ..NO_MOVE
+};
+
+const ASK_FORK: EdgeMoves = EdgeMoves {
+    ask_fork: true,
+    ..NO_MOVE
+};
+
+const GIVE_BOTH: EdgeMoves = EdgeMoves {
+    give_fork: true,
+    give_bottles: 1,
+    ..NO_MOVE
+};
+
+const ASK_BOTH: EdgeMoves = EdgeMoves {
+    ask_fork: true,
+    ask_bottles: 1,
+    ..NO_MOVE
+};
+
+const GIVE_BOTH_AND_ASK: EdgeMoves = EdgeMoves {
+    give_fork: true,
+    give_bottles: 1,
+    ask_fork: true,
+    ask_bottles: 1,
+    soil: false,
+};
 
 // Job b asks for the bottle and then for the fork; then job a gives both at once.
 #[test]
 fn one_exchange_gives_fork_and_bottle(rt: HostRuntime) {
-    let asked = EdgeWord::opening(1).moved(EdgeMoves {
-        ask_bottles: 1,
-        ..NO_MOVE
-    });
-    assert_eq!(rt; asked.pack(), 6);
-    let hungry = asked.moved(EdgeMoves {
-        ask_fork: true,
-        ..NO_MOVE
-    });
-    assert_eq!(rt; hungry.pack(), 2);
-    let given = hungry.moved(EdgeMoves {
-        give_fork: true,
-        give_bottles: 1,
-        ..NO_MOVE
-    });
-    assert_eq!(rt; given.pack(), 17);
+    follow(&rt, &[(ASK_BOTTLE, 6), (ASK_FORK, 2), (GIVE_BOTH, 17)]);
 }
 
 // Both jobs are thirsty and hungry: b asks for fork and bottle at once, and a gives both and asks for them again.
 #[test]
 fn one_exchange_gives_and_asks_again(rt: HostRuntime) {
-    let asked = EdgeWord::opening(1).moved(EdgeMoves {
-        ask_fork: true,
-        ask_bottles: 1,
-        ..NO_MOVE
-    });
-    assert_eq!(rt; asked.pack(), 2);
-    let asked_again = asked.moved(EdgeMoves {
-        give_fork: true,
-        give_bottles: 1,
-        ask_fork: true,
-        ask_bottles: 1,
-        soil: false,
-    });
-    assert_eq!(rt; asked_again.pack(), 4294967317);
+    follow(&rt, &[(ASK_BOTH, 2), (GIVE_BOTH_AND_ASK, 4294967317)]);
 }
 
 #[test]
 fn sets_are_of_an_edge(rt: HostRuntime) {
     for (set, bottles, is_one) in [(0, 1, false), (1, 1, true), (2, 1, false), (ALL, 28, true)] {
-        assert_eq!(rt; is_bottle_set(set, bottles), is_one, "{set} of {bottles}");
+        check(&rt, (set, bottles), is_bottle_set(set, bottles), is_one);
     }
-    assert!(rt; NO_MOVE.are_of_bottles(1));
-    let moves = EdgeMoves {
-        give_bottles: 1,
-        ask_bottles: 2,
-        ..NO_MOVE
-    };
-    assert!(rt; moves.are_of_bottles(2));
-    assert!(rt; !moves.are_of_bottles(1));
+}
+
+const ASK_SECOND: EdgeMoves = EdgeMoves {
+    give_bottles: 1,
+    ask_bottles: 2,
+    ..NO_MOVE
+};
+
+#[test]
+fn moves_are_of_an_edge(rt: HostRuntime) {
+    check(&rt, 1, NO_MOVE.are_of_bottles(1), true);
+    check(&rt, 2, ASK_SECOND.are_of_bottles(2), true);
+    check(&rt, 1, ASK_SECOND.are_of_bottles(1), false);
+}
+
+const GIVE: EdgeMoves = EdgeMoves {
+    give_fork: true,
+    give_bottles: 6,
+    ..NO_MOVE
+};
+
+const GIVE_AND_SOIL: EdgeMoves = EdgeMoves { soil: true, ..GIVE };
+
+#[test]
+fn fork_marks_after_moves(rt: HostRuntime) {
+    for (moves, old, wanted) in [
+        (GIVE, true, false),
+        (GIVE_AND_SOIL, false, true),
+        (NO_MOVE, true, true),
+        (NO_MOVE, false, false),
+    ] {
+        check(&rt, (moves, old), moves.fork_mark(old), wanted);
+    }
 }
 
 #[test]
-fn marks_after_moves(rt: HostRuntime) {
-    let given = EdgeMoves {
-        give_fork: true,
-        give_bottles: 6,
-        ..NO_MOVE
-    };
-    let soiled = EdgeMoves {
-        soil: true,
-        ..given
-    };
-    assert!(rt; !given.fork_mark(true));
-    assert!(rt; soiled.fork_mark(false));
-    assert!(rt; NO_MOVE.fork_mark(true));
-    assert!(rt; !NO_MOVE.fork_mark(false));
-    assert_eq!(rt; given.bottle_marks(7), 1);
-    assert_eq!(rt; NO_MOVE.bottle_marks(5), 5);
+fn bottle_marks_after_moves(rt: HostRuntime) {
+    check(&rt, GIVE, GIVE.bottle_marks(7), 1);
+    check(&rt, NO_MOVE, NO_MOVE.bottle_marks(5), 5);
 }
 
 #[test]
@@ -236,32 +297,30 @@ fn laws_of_words() {
     laws::moves_are_read_back();
 }
 
+const GIVE_FORK: EdgeMoves = EdgeMoves {
+    give_fork: true,
+    ..NO_MOVE
+};
+
+const GIVE_BOTTLE: EdgeMoves = EdgeMoves {
+    give_bottles: 1,
+    ..NO_MOVE
+};
+
+const ASK_OTHER: EdgeMoves = EdgeMoves {
+    ask_bottles: 2,
+    ..NO_MOVE
+};
+
+const SOIL: EdgeMoves = EdgeMoves {
+    soil: true,
+    ..NO_MOVE
+};
+
 #[test]
 fn a_group_is_empty_where_it_has_no_move(rt: HostRuntime) {
-    assert!(rt; NO_MOVE.is_empty());
-    let each = [
-        EdgeMoves {
-            give_fork: true,
-            ..NO_MOVE
-        },
-        EdgeMoves {
-            give_bottles: 1,
-            ..NO_MOVE
-        },
-        EdgeMoves {
-            ask_fork: true,
-            ..NO_MOVE
-        },
-        EdgeMoves {
-            ask_bottles: 2,
-            ..NO_MOVE
-        },
-        EdgeMoves {
-            soil: true,
-            ..NO_MOVE
-        },
-    ];
-    for moves in each {
-        assert!(rt; !moves.is_empty());
+    check(&rt, NO_MOVE, NO_MOVE.is_empty(), true);
+    for moves in [GIVE_FORK, GIVE_BOTTLE, ASK_FORK, ASK_OTHER, SOIL] {
+        check(&rt, moves, moves.is_empty(), false);
     }
 }

@@ -1,11 +1,49 @@
 // The readers of a plan, each asked once the plan is seen to have what it is asked for.
+ghost use Rattle.std.specs.Prelude.{◌≤◌, ◌<◌, length};
+ghost use Rattle.lab_plan.specs.LabPlan.{edges, sessions};
+
 use lab_plan::{EdgeNo, InstrumentNo, JobNo, Place, Plan, Verb};
 use std::alloc::Allocator;
 use std::process::Abort;
 
-pub(super) fn job_name<'p, A: Allocator>(rt: &impl Abort, plan: &'p Plan<A>, job: u8) -> &'p [u8] {
-    assert!(rt; (job as usize) < plan.jobs());
-    plan.job_name(JobNo(job))
+fn see_job<A: Allocator>(rt: &impl Abort, plan: &Plan<A>, job: u8)
+    ensures { job < length plan.now.jobs }
+{
+    assert!(rt; (job as usize) < plan.jobs(), "no job {job}");
+}
+
+fn see_session<A: Allocator>(rt: &impl Abort, plan: &Plan<A>, job: u8, session: u32)
+    ensures is_job { job < length plan.now.jobs }
+    ensures begun { 1 ≤ session }
+    ensures is_session { session ≤ length (sessions plan.now job) }
+{
+    see_job(rt, plan, job);
+    let last = plan.sessions(JobNo(job));
+    assert!(rt; 1 <= session && session <= last, "no session {session}");
+}
+
+fn see_edge<A: Allocator>(rt: &impl Abort, plan: &Plan<A>, edge: u16)
+    ensures { edge < length (edges plan.now) }
+{
+    assert!(rt; edge < plan.edges(), "no edge {edge}");
+}
+
+fn see_instrument<A: Allocator>(rt: &impl Abort, plan: &Plan<A>, instrument: u8)
+    ensures { instrument < length plan.now.instruments }
+{
+    assert!(rt;
+        (instrument as usize) < plan.instruments(),
+        "no instrument {instrument}"
+    );
+}
+
+/// A job: its name, how many sessions it has, and its edges.
+pub(super) type Job<'p> = (&'p [u8], u32, &'p [EdgeNo]);
+
+pub(super) fn job_of<'p, A: Allocator>(rt: &impl Abort, plan: &'p Plan<A>, job: u8) -> Job<'p> {
+    see_job(rt, plan, job);
+    let job = JobNo(job);
+    (plan.job_name(job), plan.sessions(job), plan.edges_of(job))
 }
 
 pub(super) fn instrument_name<'p, A: Allocator>(
@@ -13,46 +51,27 @@ pub(super) fn instrument_name<'p, A: Allocator>(
     plan: &'p Plan<A>,
     instrument: u8,
 ) -> &'p [u8] {
-    assert!(rt; (instrument as usize) < plan.instruments());
+    see_instrument(rt, plan, instrument);
     plan.instrument_name(InstrumentNo(instrument))
 }
 
-pub(super) fn sessions_of<A: Allocator>(rt: &impl Abort, plan: &Plan<A>, job: u8) -> u32 {
-    assert!(rt; (job as usize) < plan.jobs());
-    plan.sessions(JobNo(job))
-}
+/// A session: its patience, the instruments that it needs as a set, and its commands.
+pub(super) type Session<'p> = (Option<u32>, u64, &'p [(InstrumentNo, Verb)]);
 
-pub(super) fn commands_of<'p, A: Allocator>(
+pub(super) fn session_of<'p, A: Allocator>(
     rt: &impl Abort,
     plan: &'p Plan<A>,
     job: u8,
     session: u32,
-) -> &'p [(InstrumentNo, Verb)] {
-    assert!(rt; (job as usize) < plan.jobs());
-    assert!(rt; 1 <= session && session <= plan.sessions(JobNo(job)));
-    plan.commands(JobNo(job), session)
-}
-
-pub(super) fn patience_of<A: Allocator>(
-    rt: &impl Abort,
-    plan: &Plan<A>,
-    job: u8,
-    session: u32,
-) -> Option<u32> {
-    assert!(rt; (job as usize) < plan.jobs());
-    assert!(rt; 1 <= session && session <= plan.sessions(JobNo(job)));
-    plan.patience(JobNo(job), session)
-}
-
-pub(super) fn needs_of<A: Allocator>(
-    rt: &impl Abort,
-    plan: &Plan<A>,
-    job: u8,
-    session: u32,
-) -> u64 {
-    assert!(rt; (job as usize) < plan.jobs());
-    assert!(rt; 1 <= session && session <= plan.sessions(JobNo(job)));
-    plan.needs(JobNo(job), session)
+) -> Session<'p> {
+    see_session(rt, plan, job, session);
+    let job = JobNo(job);
+    let commands = plan.commands(job, session);
+    (
+        plan.patience(job, session),
+        plan.needs(job, session),
+        commands,
+    )
 }
 
 pub(super) fn needed_of<A: Allocator>(
@@ -62,8 +81,8 @@ pub(super) fn needed_of<A: Allocator>(
     session: u32,
     edge: u16,
 ) -> u32 {
-    assert!(rt; (job as usize) < plan.jobs() && edge < plan.edges());
-    assert!(rt; 1 <= session && session <= plan.sessions(JobNo(job)));
+    see_session(rt, plan, job, session);
+    see_edge(rt, plan, edge);
     plan.needed_bottles(JobNo(job), session, EdgeNo(edge))
 }
 
@@ -74,8 +93,8 @@ pub(super) fn part_of<A: Allocator>(
     session: u32,
     instrument: u8,
 ) -> u32 {
-    assert!(rt; (job as usize) < plan.jobs() && (instrument as usize) < plan.instruments());
-    assert!(rt; 1 <= session && session <= plan.sessions(JobNo(job)));
+    see_session(rt, plan, job, session);
+    see_instrument(rt, plan, instrument);
     plan.part(JobNo(job), session, InstrumentNo(instrument))
 }
 
@@ -86,24 +105,19 @@ pub(super) fn place_of<A: Allocator>(
     session: u32,
     position: u32,
 ) -> Place {
-    assert!(rt; (job as usize) < plan.jobs());
-    assert!(rt; 1 <= session && session <= plan.sessions(JobNo(job)));
+    see_session(rt, plan, job, session);
     assert!(rt; (position as usize) < plan.commands(JobNo(job), session).len());
     plan.place(JobNo(job), session, position)
 }
 
-pub(super) fn ends_of<A: Allocator>(rt: &impl Abort, plan: &Plan<A>, edge: u16) -> (JobNo, JobNo) {
-    assert!(rt; edge < plan.edges());
-    plan.ends(EdgeNo(edge))
-}
-
-pub(super) fn edges_of<'p, A: Allocator>(
+/// The ends of an edge, and how many bottles it has.
+pub(super) fn ends_of<A: Allocator>(
     rt: &impl Abort,
-    plan: &'p Plan<A>,
-    job: u8,
-) -> &'p [EdgeNo] {
-    assert!(rt; (job as usize) < plan.jobs());
-    plan.edges_of(JobNo(job))
+    plan: &Plan<A>,
+    edge: u16,
+) -> ((JobNo, JobNo), u32) {
+    see_edge(rt, plan, edge);
+    (plan.ends(EdgeNo(edge)), plan.bottles(EdgeNo(edge)))
 }
 
 pub(super) fn edge_of<A: Allocator>(
@@ -112,13 +126,9 @@ pub(super) fn edge_of<A: Allocator>(
     a: u8,
     b: u8,
 ) -> Option<EdgeNo> {
-    assert!(rt; (a as usize) < plan.jobs() && (b as usize) < plan.jobs());
+    see_job(rt, plan, a);
+    see_job(rt, plan, b);
     plan.edge_of(JobNo(a), JobNo(b))
-}
-
-pub(super) fn bottles_of<A: Allocator>(rt: &impl Abort, plan: &Plan<A>, edge: u16) -> u32 {
-    assert!(rt; edge < plan.edges());
-    plan.bottles(EdgeNo(edge))
 }
 
 pub(super) fn bottle_of<A: Allocator>(
@@ -127,7 +137,7 @@ pub(super) fn bottle_of<A: Allocator>(
     edge: u16,
     instrument: u8,
 ) -> Option<u32> {
-    assert!(rt; edge < plan.edges());
+    see_edge(rt, plan, edge);
     plan.bottle_of(EdgeNo(edge), InstrumentNo(instrument))
 }
 
@@ -137,7 +147,7 @@ pub(super) fn instrument_of<A: Allocator>(
     edge: u16,
     bottle: u32,
 ) -> InstrumentNo {
-    assert!(rt; edge < plan.edges());
+    see_edge(rt, plan, edge);
     assert!(rt; bottle < plan.bottles(EdgeNo(edge)));
     plan.instrument_of(EdgeNo(edge), bottle)
 }

@@ -1,10 +1,10 @@
 // Readers of a plan: each on its happy path, at the largest conflict graph and at the longest session.
 use super::asking::{
-    bottle_of, bottles_of, commands_of, edge_of, edges_of, ends_of, instrument_of, needed_of,
-    needs_of, part_of, patience_of, place_of, sessions_of,
+    bottle_of, edge_of, ends_of, instrument_of, job_of, needed_of, part_of, place_of, session_of,
 };
 use super::logged::check_logs;
-use super::{Line, finished, name_of, plan_of, put_all};
+use super::{Line, counts, finished, name_of, plan_of, put_all, put_commands};
+use crate::rows::check;
 use lab_plan::{EdgeNo, InstrumentNo, JobNo, Place, Plan, PlanBuilder, Verb};
 use std::alloc::Allocator;
 use std::process::Abort;
@@ -33,48 +33,46 @@ const MEETING: [Line<'static>; 20] = [
     Line::Command(b"oven", Verb::Read),
 ];
 
-/// The ends of its edges.
-const ENDS: [(JobNo, JobNo); 3] = [
-    (JobNo(0), JobNo(1)),
-    (JobNo(0), JobNo(3)),
-    (JobNo(1), JobNo(3)),
-];
-
+/// Its edges, with their ends and how many bottles each has.
 fn check_edges<A: Allocator>(rt: &impl Abort, plan: &Plan<A>) {
-    assert!(rt; plan.jobs() == 4 && plan.edges() == 3);
-    for edge in 0..3u16 {
-        assert!(rt; ends_of(rt, plan, edge) == ENDS[edge as usize]);
+    for (edge, a, b, bottles) in [(0, 0, 1, 1), (1, 0, 3, 2), (2, 1, 3, 2)] {
+        let wanted = ((JobNo(a), JobNo(b)), bottles);
+        check(rt, edge, ends_of(rt, plan, edge), wanted);
     }
-    for (job, edges) in [
-        (0, [EdgeNo(0), EdgeNo(1)].as_slice()),
-        (2, &[]),
-        (3, &[EdgeNo(1), EdgeNo(2)]),
-    ] {
-        assert!(rt; edges_of(rt, plan, job) == edges, "of {job}");
-    }
+}
+
+/// The names of its jobs, how many sessions each has, and the edges of each.
+fn check_jobs<A: Allocator>(rt: &impl Abort, plan: &Plan<A>) {
+    let (mix, heat, wash) = (
+        [EdgeNo(0), EdgeNo(1)],
+        [EdgeNo(0), EdgeNo(2)],
+        [EdgeNo(1), EdgeNo(2)],
+    );
+    check(rt, 0, job_of(rt, plan, 0), (b"mix", 2, &mix));
+    check(rt, 1, job_of(rt, plan, 1), (b"heat", 1, &heat));
+    check(rt, 2, job_of(rt, plan, 2), (b"alone", 0, &[]));
+    check(rt, 3, job_of(rt, plan, 3), (b"wash", 2, &wash));
+}
+
+fn check_neighbours<A: Allocator>(rt: &impl Abort, plan: &Plan<A>) {
     for (a, b, edge) in [
         (0, 3, Some(EdgeNo(1))),
         (3, 1, Some(EdgeNo(2))),
         (2, 3, None),
         (0, 0, None),
     ] {
-        assert!(rt; edge_of(rt, plan, a, b) == edge, "of {a} and {b}");
+        check(rt, (a, b), edge_of(rt, plan, a, b), edge);
     }
 }
 
 /// Of its instruments lamp is number 0, pump 1, scale 2 and oven 3.
 fn check_bottles<A: Allocator>(rt: &impl Abort, plan: &Plan<A>) {
-    for (edge, bottles) in [(0, 1), (1, 2)] {
-        assert!(rt; bottles_of(rt, plan, edge) == bottles, "of {edge}");
-    }
     for (edge, instrument, bottle) in [(1, 1, Some(1)), (1, 2, None), (0, 1, None)] {
-        assert!(rt;
-            bottle_of(rt, plan, edge, instrument) == bottle,
-            "{instrument} on {edge}"
-        );
+        let came = bottle_of(rt, plan, edge, instrument);
+        check(rt, (edge, instrument), came, bottle);
     }
-    assert!(rt; instrument_of(rt, plan, 1, 0) == InstrumentNo(0));
-    assert!(rt; instrument_of(rt, plan, 1, 1) == InstrumentNo(1));
+    check(rt, 0, instrument_of(rt, plan, 1, 0), InstrumentNo(0));
+    check(rt, 1, instrument_of(rt, plan, 1, 1), InstrumentNo(1));
 }
 
 /// A job, one of its sessions, and what is wanted of it: its patience, its needs, and how many commands it has.
@@ -85,21 +83,10 @@ const SESSIONS: [(u8, u32, Option<u32>, u64, usize); 3] = [
 ];
 
 fn check_sessions<A: Allocator>(rt: &impl Abort, plan: &Plan<A>) {
-    assert!(rt; plan.instruments() == 4 && plan.version() == 2);
-    assert!(rt; sessions_of(rt, plan, 0) == 2 && sessions_of(rt, plan, 1) == 1);
-    for (job, session, patience, needs, commands) in SESSIONS {
-        assert!(rt;
-            patience_of(rt, plan, job, session) == patience,
-            "{job} in {session}"
-        );
-        assert!(rt;
-            needs_of(rt, plan, job, session) == needs,
-            "{job} in {session}"
-        );
-        assert!(rt;
-            commands_of(rt, plan, job, session).len() == commands,
-            "{job} in {session}"
-        );
+    for &(job, session, patience, needs, length) in &SESSIONS {
+        let (p, n, commands) = session_of(rt, plan, job, session);
+        let wanted = (patience, needs, length);
+        check(rt, (job, session), (p, n, commands.len()), wanted);
     }
 }
 
@@ -115,37 +102,43 @@ const NEEDED: [(u8, u32, u16, u32); 6] = [
 ];
 
 fn check_needed<A: Allocator>(rt: &impl Abort, plan: &Plan<A>) {
-    for (job, session, edge, bottles) in NEEDED {
-        assert!(rt;
-            needed_of(rt, plan, job, session, edge) == bottles,
-            "{job} in {session} on {edge}"
-        );
+    for &(job, session, edge, bottles) in &NEEDED {
+        let came = needed_of(rt, plan, job, session, edge);
+        check(rt, (job, session, edge), came, bottles);
     }
 }
 
-/// How many of the commands of a session are on an instrument, and the places of some commands.
-fn check_places<A: Allocator>(rt: &impl Abort, plan: &Plan<A>) {
+/// How many of the commands of the first session of job 0 are on an instrument.
+fn check_parts<A: Allocator>(rt: &impl Abort, plan: &Plan<A>) {
     for (instrument, part) in [(0, 3), (1, 1), (3, 0)] {
-        assert!(rt;
-            part_of(rt, plan, 0, 1, instrument) == part,
-            "on {instrument}"
-        );
+        check(rt, instrument, part_of(rt, plan, 0, 1, instrument), part);
     }
+}
+
+/// The places of some commands of that session.
+fn check_places<A: Allocator>(rt: &impl Abort, plan: &Plan<A>) {
     for (position, place, length) in [(0, 1, 3), (3, 1, 1), (4, 3, 3)] {
-        assert!(rt;
-            place_of(rt, plan, 0, 1, position) == Place { place, length },
-            "at {position}"
-        );
+        let came = place_of(rt, plan, 0, 1, position);
+        check(rt, position, came, Place { place, length });
     }
+}
+
+fn check_meeting<A: Allocator>(rt: &impl Abort, plan: &Plan<A>) {
+    check(rt, "version", plan.version(), 2);
+    check(rt, "counts", counts(plan), (4, 4, 3));
+    check_edges(rt, plan);
+    check_jobs(rt, plan);
+    check_neighbours(rt, plan);
+    check_bottles(rt, plan);
+    check_sessions(rt, plan);
+    check_needed(rt, plan);
+    check_parts(rt, plan);
+    check_places(rt, plan);
 }
 
 fn read_meeting<A: Allocator + Copy>(rt: &impl Abort, alloc: A) {
     let plan = plan_of(rt, PlanBuilder::new_two(alloc), &MEETING);
-    check_edges(rt, &plan);
-    check_bottles(rt, &plan);
-    check_sessions(rt, &plan);
-    check_needed(rt, &plan);
-    check_places(rt, &plan);
+    check_meeting(rt, &plan);
     check_logs(rt, alloc, &plan);
 }
 
@@ -158,19 +151,18 @@ fn each_reader_once(rt: HostRuntime) {
 fn fill<A: Allocator + Copy>(rt: &impl Abort, builder: &mut PlanBuilder<A>) {
     for job in 0..32 {
         put_all(rt, builder, &[Line::Job(&name_of(job)), Line::Session]);
-        for number in 0..28 {
-            put_all(rt, builder, &[Line::Command(&name_of(number), Verb::Read)]);
-        }
+        put_commands(rt, builder, 28);
     }
 }
 
 fn check_full<A: Allocator>(rt: &impl Abort, plan: &Plan<A>) {
-    assert!(rt; plan.jobs() == 32 && plan.edges() == 496);
-    assert!(rt; ends_of(rt, plan, 495) == (JobNo(30), JobNo(31)));
-    assert!(rt; edge_of(rt, plan, 31, 0) == Some(EdgeNo(30)));
-    assert!(rt; edges_of(rt, plan, 31).len() == 31);
-    assert!(rt; bottles_of(rt, plan, 495) == 28);
-    assert!(rt; bottle_of(rt, plan, 495, 27) == Some(27));
+    let (_, _, edges) = job_of(rt, plan, 31);
+    let last = ends_of(rt, plan, 495);
+    check(rt, "counts", counts(plan), (32, 28, 496));
+    check(rt, 495, last, ((JobNo(30), JobNo(31)), 28));
+    check(rt, "0 and 31", edge_of(rt, plan, 31, 0), Some(EdgeNo(30)));
+    check(rt, 31, edges.len(), 31);
+    check(rt, 495, bottle_of(rt, plan, 495, 27), Some(27));
 }
 
 fn read_full<A: Allocator + Copy>(rt: &impl Abort, alloc: A) {
@@ -191,14 +183,14 @@ const PAIR: [Line<'static>; 2] = [
 ];
 
 fn check_long<A: Allocator>(rt: &impl Abort, plan: &Plan<A>) {
-    assert!(rt; plan.jobs() == 1 && sessions_of(rt, plan, 0) == 1);
-    assert!(rt; commands_of(rt, plan, 0, 1).len() == 100_000);
+    let (_, sessions, _) = job_of(rt, plan, 0);
+    let (_, _, commands) = session_of(rt, plan, 0, 1);
     let length = 50_000;
+    check(rt, "jobs and sessions", (plan.jobs(), sessions), (1, 1));
+    check(rt, "commands", commands.len(), 100_000);
     for (position, place) in [(99_998, 50_000), (1, 1)] {
-        assert!(rt;
-            place_of(rt, plan, 0, 1, position) == Place { place, length },
-            "at {position}"
-        );
+        let came = place_of(rt, plan, 0, 1, position);
+        check(rt, position, came, Place { place, length });
     }
 }
 
