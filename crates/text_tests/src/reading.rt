@@ -1,4 +1,9 @@
 // What no clause says: the faults of given texts, by hand, and that good texts are read.
+ghost use Rattle.std.specs.Prelude.{◌≤◌, ◌<◌, length};
+ghost use Rattle.lab_plan.specs.LabPlan.{sessions};
+
+use crate::rows::check;
+use crate::writing::joined;
 use lab_plan::{EdgeNo, InstrumentNo, JobNo, Plan, PlanRefusal, Verb};
 use legal_steps::{Step, StepLine};
 use script_reader::ScriptCause::{
@@ -8,9 +13,9 @@ use script_reader::ScriptCause::{
 use script_reader::laws::{one_meaning, one_meaning_with_steps};
 use script_reader::upgrade_law::{upgrade_is_short, upgrade_means_plan};
 use script_reader::{ScriptCause, ScriptFault, read_plan, read_steps};
-use std::alloc::Allocator;
+use std::alloc::{Allocator, Global};
+use std::fmt::Display;
 use std::process::Abort;
-use std::test::Fail;
 
 mod limits;
 mod memory;
@@ -31,132 +36,139 @@ pub(crate) fn plan_of<A: Allocator + Copy>(rt: &impl Abort, alloc: A, script: &[
     }
 }
 
+/// What is wanted of the text of a cause, and of a fault.
+const PRINTED: [(ScriptCause, &str); 13] = [
+    (NoHeader, "S1 no lab header"),
+    (UnknownWord, "S2 unknown word"),
+    (BadName, "S3 bad name"),
+    (BadNumber, "S4 bad number"),
+    (JobTwice, "S5 job twice"),
+    (NotInSession, "S6 not in a session"),
+    (NotInJob, "S7 not in a job"),
+    (EmptySession, "S8 empty session"),
+    (SessionNotClosed, "S9 session not closed"),
+    (ScriptCause::LimitPassed, "S10 limit passed"),
+    (
+        ScriptCause::TooManyInCommon,
+        "S11 more than 28 instruments in common",
+    ),
+    (ScriptCause::NoMemory, "S12 no memory"),
+    (BadStep, "S13 bad step"),
+];
+
+fn check_printed<T: Copy + Display>(rt: &impl Abort, alloc: Global, value: T, text: &str) {
+    match format!(in alloc; "{value}") {
+        Ok(printed) => check(rt, text, printed.as_str(), text),
+        Err(_) => panic!(rt; "no memory for a text"),
+    }
+}
+
 #[test]
-fn causes_are_printed(rt: HostRuntime) -> Result<(), Fail> {
-    let texts = [
-        (NoHeader, "S1 no lab header"),
-        (UnknownWord, "S2 unknown word"),
-        (BadName, "S3 bad name"),
-        (BadNumber, "S4 bad number"),
-        (JobTwice, "S5 job twice"),
-        (NotInSession, "S6 not in a session"),
-        (NotInJob, "S7 not in a job"),
-        (EmptySession, "S8 empty session"),
-        (SessionNotClosed, "S9 session not closed"),
-        (ScriptCause::LimitPassed, "S10 limit passed"),
-        (
-            ScriptCause::TooManyInCommon,
-            "S11 more than 28 instruments in common",
-        ),
-        (ScriptCause::NoMemory, "S12 no memory"),
-        (BadStep, "S13 bad step"),
-    ];
-    for (cause, text) in texts {
-        let printed = format!(in rt.alloc(); "{cause}")?;
-        assert!(rt; printed.as_str() == text, "{text}");
+fn causes_are_printed(rt: HostRuntime) {
+    for &(cause, text) in &PRINTED {
+        check_printed(&rt, rt.alloc(), cause, text);
     }
     let fault = ScriptFault {
         line: 7,
         cause: BadName,
     };
-    let printed = format!(in rt.alloc(); "{fault}")?;
-    assert!(rt; printed.as_str() == "line 7: S3 bad name");
-    Ok(())
+    check_printed(&rt, rt.alloc(), fault, "line 7: S3 bad name");
 }
 
 #[test]
 fn causes_of_refusals(rt: HostRuntime) {
-    let refusals = [
+    for (refusal, cause) in [
         (PlanRefusal::LimitPassed, ScriptCause::LimitPassed),
         (PlanRefusal::SessionEmpty, EmptySession),
         (PlanRefusal::JobTwice, JobTwice),
         (PlanRefusal::TooManyInCommon, ScriptCause::TooManyInCommon),
         (PlanRefusal::NoMemory, ScriptCause::NoMemory),
-    ];
-    for (refusal, cause) in refusals {
-        assert!(rt; ScriptCause::from(refusal) == cause, "{cause}");
+    ] {
+        check(&rt, refusal, ScriptCause::from(refusal), cause);
     }
 }
+
+/// A text, and its fault.
+type Faulty = (&'static str, usize, ScriptCause);
+
+fn check_faults(rt: &impl Abort, alloc: Global, texts: &[Faulty]) {
+    for &(text, line, cause) in texts {
+        let came = told(read_plan(alloc, text.as_bytes()));
+        check(rt, text, came, Some((line, cause)));
+    }
+}
+
+const FAULTS: [Faulty; 32] = [
+    ("", 1, NoHeader),
+    ("\n# x\n\n", 4, NoHeader),
+    ("lab 1\r", 1, NoHeader),
+    ("lab 3", 1, NoHeader),
+    ("lab 1 2", 1, NoHeader),
+    ("job a\n", 1, NoHeader),
+    ("steps", 1, NoHeader),
+    ("lab 1\nlab 1\n", 2, UnknownWord),
+    ("lab 1\nsteps", 2, UnknownWord),
+    ("lab 1\njob a b", 2, UnknownWord),
+    ("lab 1\njob", 2, UnknownWord),
+    ("lab 1\njob a\nsession\nscale sub 1", 4, UnknownWord),
+    ("lab 1\njob a\nsession\nscale read 1", 4, UnknownWord),
+    ("lab 1\njob a\nsession\nsteps read", 4, UnknownWord),
+    ("lab 1\njob a\nsession\npatience read", 4, UnknownWord),
+    ("lab 1\njob a\nsession\nx read\nend\r", 5, UnknownWord),
+    ("lab 1\njob a\nsession patience 3", 3, UnknownWord),
+    ("lab 2\njob a\nsession patience", 3, UnknownWord),
+    ("lab 2\njob a\nsession patient 3", 3, UnknownWord),
+    ("lab 1\njob A", 2, BadName),
+    ("lab 1\njob abcdefghijklmnopq", 2, BadName),
+    ("lab 1\njob steps", 2, BadName),
+    ("lab 1\njob a\nsession\nx\u{b}y read", 4, BadName),
+    ("lab 1\njob a\nsession\nx set 007", 4, BadNumber),
+    ("lab 1\njob a\nsession\nx add 1000000", 4, BadNumber),
+    ("lab 2\njob a\nsession patience 1000000", 3, BadNumber),
+    ("lab 1\njob a\njob a", 3, JobTwice),
+    ("lab 1\njob a\nScale read", 3, NotInSession),
+    ("lab 1\nsession", 2, NotInJob),
+    ("lab 1\njob a\nsession\n \t end", 4, EmptySession),
+    ("lab 1\njob a\nsession\nend\n", 4, EmptySession),
+    ("lab 1\njob a\nsession\nscale read", 5, SessionNotClosed),
+];
 
 #[test]
 fn faults_of_scripts(rt: HostRuntime) {
-    let texts: [(&str, usize, ScriptCause); 32] = [
-        ("", 1, NoHeader),
-        ("\n# x\n\n", 4, NoHeader),
-        ("lab 1\r", 1, NoHeader),
-        ("lab 3", 1, NoHeader),
-        ("lab 1 2", 1, NoHeader),
-        ("job a\n", 1, NoHeader),
-        ("steps", 1, NoHeader),
-        ("lab 1\nlab 1\n", 2, UnknownWord),
-        ("lab 1\nsteps", 2, UnknownWord),
-        ("lab 1\njob a b", 2, UnknownWord),
-        ("lab 1\njob", 2, UnknownWord),
-        ("lab 1\njob a\nsession\nscale sub 1", 4, UnknownWord),
-        ("lab 1\njob a\nsession\nscale read 1", 4, UnknownWord),
-        ("lab 1\njob a\nsession\nsteps read", 4, UnknownWord),
-        ("lab 1\njob a\nsession\npatience read", 4, UnknownWord),
-        ("lab 1\njob a\nsession\nx read\nend\r", 5, UnknownWord),
-        ("lab 1\njob a\nsession patience 3", 3, UnknownWord),
-        ("lab 2\njob a\nsession patience", 3, UnknownWord),
-        ("lab 2\njob a\nsession patient 3", 3, UnknownWord),
-        ("lab 1\njob A", 2, BadName),
-        ("lab 1\njob abcdefghijklmnopq", 2, BadName),
-        ("lab 1\njob steps", 2, BadName),
-        ("lab 1\njob a\nsession\nx\u{b}y read", 4, BadName),
-        ("lab 1\njob a\nsession\nx set 007", 4, BadNumber),
-        ("lab 1\njob a\nsession\nx add 1000000", 4, BadNumber),
-        ("lab 2\njob a\nsession patience 1000000", 3, BadNumber),
-        ("lab 1\njob a\njob a", 3, JobTwice),
-        ("lab 1\njob a\nScale read", 3, NotInSession),
-        ("lab 1\nsession", 2, NotInJob),
-        ("lab 1\njob a\nsession\n \t end", 4, EmptySession),
-        ("lab 1\njob a\nsession\nend\n", 4, EmptySession),
-        ("lab 1\njob a\nsession\nscale read", 5, SessionNotClosed),
-    ];
-    for (text, line, cause) in texts {
-        assert!(rt;
-            told(read_plan(rt.alloc(), text.as_bytes())) == Some((line, cause)),
-            "{text}"
-        );
-    }
+    check_faults(&rt, rt.alloc(), &FAULTS);
 }
 
 /// Lines that meet two causes: the first in the order of a line's causes is told.
+const FIRST_CAUSES: [Faulty; 20] = [
+    ("job a b", 1, NoHeader),
+    ("session", 1, NoHeader),
+    ("session patience 007", 1, NoHeader),
+    ("x read", 1, NoHeader),
+    ("end", 1, NoHeader),
+    ("Q set 007", 1, NoHeader),
+    ("lab 1\njob a\nsession\njob b c", 4, UnknownWord),
+    ("lab 1\nsession patience 007", 2, UnknownWord),
+    ("lab 1\njob a\nsession patience 007", 3, UnknownWord),
+    ("lab 1\njob a\nsession\nsession patience 3", 4, UnknownWord),
+    ("lab 1\njob a\nsession\njob Q", 4, SessionNotClosed),
+    ("lab 1\njob a\nsession\njob a", 4, SessionNotClosed),
+    (
+        "lab 2\njob a\nsession\nsession patience 007",
+        4,
+        SessionNotClosed,
+    ),
+    ("lab 1\njob a\nsession\nsession", 4, SessionNotClosed),
+    ("lab 2\nsession patience 007", 2, NotInJob),
+    ("lab 1\nQ set 007", 2, NotInSession),
+    ("lab 1\njob a\nx set 007", 3, NotInSession),
+    ("lab 1\nend", 2, NotInSession),
+    ("lab 1\njob a\nsession\nScale set 007", 4, BadName),
+    ("lab 1\njob a\nsession\nx set 007", 4, BadNumber),
+];
+
 #[test]
 fn first_cause_of_a_line(rt: HostRuntime) {
-    let texts: [(&str, usize, ScriptCause); 20] = [
-        ("job a b", 1, NoHeader),
-        ("session", 1, NoHeader),
-        ("session patience 007", 1, NoHeader),
-        ("x read", 1, NoHeader),
-        ("end", 1, NoHeader),
-        ("Q set 007", 1, NoHeader),
-        ("lab 1\njob a\nsession\njob b c", 4, UnknownWord),
-        ("lab 1\nsession patience 007", 2, UnknownWord),
-        ("lab 1\njob a\nsession patience 007", 3, UnknownWord),
-        ("lab 1\njob a\nsession\nsession patience 3", 4, UnknownWord),
-        ("lab 1\njob a\nsession\njob Q", 4, SessionNotClosed),
-        ("lab 1\njob a\nsession\njob a", 4, SessionNotClosed),
-        (
-            "lab 2\njob a\nsession\nsession patience 007",
-            4,
-            SessionNotClosed,
-        ),
-        ("lab 1\njob a\nsession\nsession", 4, SessionNotClosed),
-        ("lab 2\nsession patience 007", 2, NotInJob),
-        ("lab 1\nQ set 007", 2, NotInSession),
-        ("lab 1\njob a\nx set 007", 3, NotInSession),
-        ("lab 1\nend", 2, NotInSession),
-        ("lab 1\njob a\nsession\nScale set 007", 4, BadName),
-        ("lab 1\njob a\nsession\nx set 007", 4, BadNumber),
-    ];
-    for (text, line, cause) in texts {
-        assert!(rt;
-            told(read_plan(rt.alloc(), text.as_bytes())) == Some((line, cause)),
-            "{text}"
-        );
-    }
+    check_faults(&rt, rt.alloc(), &FIRST_CAUSES);
 }
 
 /// Two jobs with a scale, with CRLF ends, a blank line, a comment and no end of the last line.
@@ -203,66 +215,83 @@ const PREFIXES: [(usize, Fault); 36] = [
     (84, None),
 ];
 
+/// The fault of the prefix of this length.
+fn fault_of_prefix(length: usize) -> Fault {
+    let mut wanted = None;
+    for &(from, fault) in &PREFIXES {
+        if from <= length {
+            wanted = fault;
+        }
+    }
+    wanted
+}
+
 #[test]
 fn line_ends_and_comments(rt: HostRuntime) {
     for length in 0..BENCH.len() + 1 {
-        let mut wanted = None;
-        for (from, fault) in PREFIXES {
-            if from <= length {
-                wanted = fault;
-            }
-        }
-        assert!(rt;
-            told(read_plan(rt.alloc(), &BENCH[..length])) == wanted,
-            "{length}"
-        );
+        let came = told(read_plan(rt.alloc(), &BENCH[..length]));
+        check(&rt, length, came, fault_of_prefix(length));
     }
 }
 
-fn job_name<'p, A: Allocator>(rt: &impl Abort, plan: &'p Plan<A>, job: u8) -> &'p [u8] {
-    assert!(rt; (job as usize) < plan.jobs());
-    plan.job_name(JobNo(job))
+/// Its version and how many jobs it has, and how many instruments and edges.
+fn counts<A: Allocator>(plan: &Plan<A>) -> ((u8, usize), (usize, u16)) {
+    (
+        (plan.version(), plan.jobs()),
+        (plan.instruments(), plan.edges()),
+    )
 }
 
-fn sessions_of<A: Allocator>(rt: &impl Abort, plan: &Plan<A>, job: u8) -> u32 {
-    assert!(rt; (job as usize) < plan.jobs());
-    plan.sessions(JobNo(job))
+fn see_job<A: Allocator>(rt: &impl Abort, plan: &Plan<A>, job: u8)
+    ensures { job < length plan.now.jobs }
+{
+    assert!(rt; (job as usize) < plan.jobs(), "no job {job}");
 }
 
-fn patience_of<A: Allocator>(
-    rt: &impl Abort,
-    plan: &Plan<A>,
-    job: u8,
-    session: u32,
-) -> Option<u32> {
-    assert!(rt; (job as usize) < plan.jobs());
-    assert!(rt; 1 <= session && session <= plan.sessions(JobNo(job)));
-    plan.patience(JobNo(job), session)
+fn see_session<A: Allocator>(rt: &impl Abort, plan: &Plan<A>, job: u8, session: u32)
+    ensures is_job { job < length plan.now.jobs }
+    ensures begun { 1 ≤ session }
+    ensures is_session { session ≤ length (sessions plan.now job) }
+{
+    see_job(rt, plan, job);
+    let last = plan.sessions(JobNo(job));
+    assert!(rt; 1 <= session && session <= last, "no session {session}");
 }
 
-fn commands_of<'p, A: Allocator>(
+/// The name of a job, and how many sessions it has.
+fn job_of<'p, A: Allocator>(rt: &impl Abort, plan: &'p Plan<A>, job: u8) -> (&'p [u8], u32) {
+    see_job(rt, plan, job);
+    (plan.job_name(JobNo(job)), plan.sessions(JobNo(job)))
+}
+
+/// The patience of a session, and its commands.
+type Session<'p> = (Option<u32>, &'p [(InstrumentNo, Verb)]);
+
+fn session_of<'p, A: Allocator>(
     rt: &impl Abort,
     plan: &'p Plan<A>,
     job: u8,
     session: u32,
-) -> &'p [(InstrumentNo, Verb)] {
-    assert!(rt; (job as usize) < plan.jobs());
-    assert!(rt; 1 <= session && session <= plan.sessions(JobNo(job)));
-    plan.commands(JobNo(job), session)
+) -> Session<'p> {
+    see_session(rt, plan, job, session);
+    let commands = plan.commands(JobNo(job), session);
+    (plan.patience(JobNo(job), session), commands)
+}
+
+fn first_instrument<'p, A: Allocator>(rt: &impl Abort, plan: &'p Plan<A>) -> &'p [u8] {
+    assert!(rt; 0 < plan.instruments());
+    plan.instrument_name(InstrumentNo(0))
 }
 
 const ADD_1: [(InstrumentNo, Verb); 1] = [(InstrumentNo(0), Verb::Add(1))];
 
 fn check_bench<A: Allocator>(rt: &impl Abort, plan: &Plan<A>) {
-    assert!(rt;
-        plan.version() == 1 && plan.jobs() == 2 && plan.instruments() == 1 && plan.edges() == 1
-    );
-    assert!(rt; plan.instrument_name(InstrumentNo(0)) == b"scale".as_slice());
-    assert!(rt; job_name(rt, plan, 1) == b"b".as_slice());
-    for job in 0..2u8 {
-        assert!(rt; sessions_of(rt, plan, job) == 1);
-        assert!(rt; commands_of(rt, plan, job, 1) == ADD_1.as_slice());
-    }
+    check(rt, "counts", counts(plan), ((1, 2), (1, 1)));
+    check(rt, "instrument", first_instrument(rt, plan), b"scale");
+    check(rt, 0, job_of(rt, plan, 0), (b"a", 1));
+    check(rt, 1, job_of(rt, plan, 1), (b"b", 1));
+    check(rt, 0, session_of(rt, plan, 0, 1), (None, &ADD_1));
+    check(rt, 1, session_of(rt, plan, 1, 1), (None, &ADD_1));
 }
 
 fn read_bench<A: Allocator + Copy>(rt: &impl Abort, alloc: A) {
@@ -286,14 +315,11 @@ const SET_AND_READ: [(InstrumentNo, Verb); 2] = [
 const ADD_0: [(InstrumentNo, Verb); 1] = [(InstrumentNo(0), Verb::Add(0))];
 
 fn check_version_two<A: Allocator>(rt: &impl Abort, plan: &Plan<A>) {
-    assert!(rt;
-        plan.version() == 2 && plan.jobs() == 2 && plan.instruments() == 2 && plan.edges() == 0
-    );
-    assert!(rt; sessions_of(rt, plan, 0) == 2 && sessions_of(rt, plan, 1) == 0);
-    assert!(rt; patience_of(rt, plan, 0, 1) == Some(0));
-    assert!(rt; patience_of(rt, plan, 0, 2).is_none());
-    assert!(rt; commands_of(rt, plan, 0, 1) == SET_AND_READ.as_slice());
-    assert!(rt; commands_of(rt, plan, 0, 2) == ADD_0.as_slice());
+    check(rt, "counts", counts(plan), ((2, 2), (2, 0)));
+    check(rt, 0, job_of(rt, plan, 0), (b"a", 2));
+    check(rt, 1, job_of(rt, plan, 1), (b"set", 0));
+    check(rt, 1, session_of(rt, plan, 0, 1), (Some(0), &SET_AND_READ));
+    check(rt, 2, session_of(rt, plan, 0, 2), (None, &ADD_0));
 }
 
 fn read_version_two<A: Allocator + Copy>(rt: &impl Abort, alloc: A) {
@@ -309,31 +335,31 @@ fn plan_of_version_two(rt: HostRuntime) {
 const SHARED: &str =
     "lab 1\njob a\nsession\nx read\ny read\nend\njob b\nsession\ny read\nx read\nend\njob c\n";
 
-/// Whether the text has just these steps.
-fn has_steps<A: Allocator + Copy>(
+/// The text of these parts has just these steps.
+fn check_steps<A: Allocator + Copy>(
     rt: &impl Abort,
     alloc: A,
-    text: &[u8],
+    parts: &[&str],
     wanted: &[StepLine],
-) -> bool {
-    match read_steps(alloc, text) {
+) {
+    let text = joined(rt, alloc, parts);
+    match read_steps(alloc, &text) {
         Ok((plan, steps)) => {
-            assert!(rt; plan.jobs() == 3);
-            steps.as_slice() == wanted
+            check(rt, parts, plan.jobs(), 3);
+            check(rt, parts, steps.as_slice(), wanted);
         }
-        Err(_) => false,
+        Err(fault) => check(rt, parts, Some(fault), None),
     }
 }
 
 const AB: EdgeNo = EdgeNo(0);
 
+const STEPS_TEXT: &str =
+    "steps\n\nlook a b\n# c\n askbottles b a y x\ngivebottles a b y\r\nglance c a\nwithdraw c\nthirst b";
+
 #[test]
-fn steps_of_a_text(rt: HostRuntime) -> Result<(), Fail> {
-    let steps =
-        "steps\n\nlook a b\n# c\n askbottles b a y x\ngivebottles a b y\r\nglance c a\nwithdraw c\nthirst b";
-    let text = format!(in rt.alloc(); "{SHARED}{steps}")?;
-    assert!(rt; has_steps(&rt, rt.alloc(), text.as_bytes(), &STEPS));
-    Ok(())
+fn steps_of_a_text(rt: HostRuntime) {
+    check_steps(&rt, rt.alloc(), &[SHARED, STEPS_TEXT], &STEPS);
 }
 
 const STEPS: [StepLine; 6] = [
@@ -385,74 +411,76 @@ const WORDS: [(&str, Step); 17] = [
 ];
 
 #[test]
-fn words_of_steps(rt: HostRuntime) -> Result<(), Fail> {
-    for (word, step) in WORDS {
-        let text = format!(in rt.alloc(); "{SHARED}steps\n{word}")?;
+fn words_of_steps(rt: HostRuntime) {
+    for &(word, step) in &WORDS {
         let wanted = [StepLine { line: 14, step }];
-        assert!(rt;
-            has_steps(&rt, rt.alloc(), text.as_bytes(), &wanted),
-            "{word}"
-        );
+        check_steps(&rt, rt.alloc(), &[SHARED, "steps\n", word], &wanted);
     }
-    Ok(())
 }
 
+/// The fault of a script of these parts.
+fn fault_of_plan(rt: &impl Abort, alloc: Global, parts: &[&str]) -> Fault {
+    let text = joined(rt, alloc, parts);
+    told(read_plan(alloc, &text))
+}
+
+/// That of a script with steps.
+fn fault_of_steps(rt: &impl Abort, alloc: Global, parts: &[&str]) -> Fault {
+    let text = joined(rt, alloc, parts);
+    told(read_steps(alloc, &text))
+}
+
+const BAD_STEPS: [&str; 19] = [
+    "look a a",
+    "look a c",
+    "look a d",
+    "look a",
+    "look a b x",
+    "glance a a",
+    "glance a d",
+    "thirst d",
+    "thirst",
+    "thirst a b",
+    "askbottles a b",
+    "askbottles a b z",
+    "askbottles a b x x",
+    "givebottles a c x",
+    "steps",
+    "end",
+    "job d",
+    "LOOK a b",
+    "sit A",
+];
+
 #[test]
-fn bad_steps(rt: HostRuntime) -> Result<(), Fail> {
-    let alloc = rt.alloc();
-    let words = [
-        "look a a",
-        "look a c",
-        "look a d",
-        "look a",
-        "look a b x",
-        "glance a a",
-        "glance a d",
-        "thirst d",
-        "thirst",
-        "thirst a b",
-        "askbottles a b",
-        "askbottles a b z",
-        "askbottles a b x x",
-        "givebottles a c x",
-        "steps",
-        "end",
-        "job d",
-        "LOOK a b",
-        "sit A",
-    ];
-    for word in words {
-        let text = format!(in alloc; "{SHARED}steps\nthirst a\n{word}\n")?;
-        assert!(rt;
-            told(read_steps(alloc, text.as_bytes())) == Some((15, BadStep)),
-            "{word}"
-        );
+fn bad_steps(rt: HostRuntime) {
+    for word in BAD_STEPS {
+        let parts = [SHARED, "steps\nthirst a\n", word, "\n"];
+        let came = fault_of_steps(&rt, rt.alloc(), &parts);
+        check(&rt, word, came, Some((15, BadStep)));
     }
-    Ok(())
 }
 
 /// The script's faults come first, and a line `steps` ends the script as the end of the text does.
+const BEFORE_STEPS: [(&str, Fault); 9] = [
+    ("", Some((1, NoHeader))),
+    ("steps", Some((1, NoHeader))),
+    ("lab 1", None),
+    ("lab 1\nsteps", None),
+    ("lab 1\nsteps x", Some((2, UnknownWord))),
+    (
+        "lab 1\njob a\nsession\nsteps\nbad",
+        Some((4, SessionNotClosed)),
+    ),
+    ("lab 1\njob a\nsession\nx read", Some((5, SessionNotClosed))),
+    ("lab 1\njob A\nsteps\nbad", Some((2, BadName))),
+    ("lab 1\njob a\nsteps\nlook a a", Some((4, BadStep))),
+];
+
 #[test]
 fn faults_before_steps(rt: HostRuntime) {
-    let texts: [(&str, Fault); 9] = [
-        ("", Some((1, NoHeader))),
-        ("steps", Some((1, NoHeader))),
-        ("lab 1", None),
-        ("lab 1\nsteps", None),
-        ("lab 1\nsteps x", Some((2, UnknownWord))),
-        (
-            "lab 1\njob a\nsession\nsteps\nbad",
-            Some((4, SessionNotClosed)),
-        ),
-        ("lab 1\njob a\nsession\nx read", Some((5, SessionNotClosed))),
-        ("lab 1\njob A\nsteps\nbad", Some((2, BadName))),
-        ("lab 1\njob a\nsteps\nlook a a", Some((4, BadStep))),
-    ];
-    for (text, wanted) in texts {
-        assert!(rt;
-            told(read_steps(rt.alloc(), text.as_bytes())) == wanted,
-            "{text}"
-        );
+    for &(text, wanted) in &BEFORE_STEPS {
+        check(&rt, text, fault_of_steps(&rt, rt.alloc(), &[text]), wanted);
     }
 }
 

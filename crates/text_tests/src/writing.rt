@@ -3,6 +3,7 @@ ghost use Rattle.std.specs.List.{All};
 ghost use Rattle.legal_steps.specs.Steps.{IsStepOf};
 
 use crate::reading::plan_of;
+use crate::rows::check;
 use interleaving::World;
 use lab_plan::Plan;
 use legal_steps::StepLine;
@@ -38,15 +39,16 @@ fn replayed<A: Allocator + Copy>(
         return Err(lines[done].line);
     }
     let (bytes, answer) = report_by(alloc, &world, 1000, 1000);
-    assert!(rt; answer == Ok(()));
+    check(rt, "the report", answer, Ok(()));
     Ok(bytes)
 }
 
 /// One text of these parts.
-fn joined<A: Allocator>(rt: &impl Abort, alloc: A, parts: &[&str]) -> Vec<u8, A> {
+pub(crate) fn joined<A: Allocator>(rt: &impl Abort, alloc: A, parts: &[&str]) -> Vec<u8, A> {
     let mut text = Vec::new(alloc);
     for part in parts {
-        assert!(rt; text.extend_from_slice(part.as_bytes()).is_ok());
+        let is_added = text.extend_from_slice(part.as_bytes()).is_ok();
+        check(rt, *part, is_added, true);
     }
     text
 }
@@ -59,27 +61,19 @@ fn run<A: Allocator + Copy>(rt: &impl Abort, alloc: A, text: &[u8]) -> Result<Ve
     }
 }
 
-/// Whether all the steps of the text are legal and the report after them is as wanted.
-fn has_report<A: Allocator + Copy>(
-    rt: &impl Abort,
-    alloc: A,
-    parts: &[&str],
-    wanted: &str,
-) -> bool {
+/// All the steps of the text are legal and the report after them is as wanted.
+fn check_report<A: Allocator + Copy>(rt: &impl Abort, alloc: A, parts: &[&str], wanted: &str) {
     let text = joined(rt, alloc, parts);
     match run(rt, alloc, &text) {
-        Ok(bytes) => bytes.as_slice() == wanted.as_bytes(),
-        Err(_) => false,
+        Ok(bytes) => check(rt, wanted, bytes.as_slice(), wanted.as_bytes()),
+        Err(line) => check(rt, wanted, Some(line), None),
     }
 }
 
-/// Whether the step in this line of the text is the first that isn't legal.
-fn stops<A: Allocator + Copy>(rt: &impl Abort, alloc: A, parts: &[&str], line: usize) -> bool {
+/// The line of the first step of the text that isn't legal.
+fn stop_of<A: Allocator + Copy>(rt: &impl Abort, alloc: A, parts: &[&str]) -> Option<usize> {
     let text = joined(rt, alloc, parts);
-    match run(rt, alloc, &text) {
-        Ok(_) => false,
-        Err(stopped) => stopped == line,
-    }
+    run(rt, alloc, &text).err()
 }
 
 /// Takes at most `most` bytes a call, and fails, in a flush too, once `calls` calls are used.

@@ -1,213 +1,231 @@
 // Each limit at its number and one past it, with the causes that come before it.
-use super::told;
+use super::{Fault, fault_of_plan, fault_of_steps, told};
+use crate::rows::check;
 use legal_steps::StepLine;
 use script_reader::ScriptCause::{
     BadName, BadNumber, BadStep, JobTwice, LimitPassed, NotInSession, SessionNotClosed,
     TooManyInCommon, UnknownWord,
 };
 use script_reader::{read_plan, read_steps};
-use std::alloc::{AllocError, Allocator, Global};
+use std::alloc::{Allocator, Global};
 use std::mem::size_of;
 use std::process::Abort;
-use std::test::Fail;
 
-/// A text with this line so many times behind its front; the line's mark is its number.
-fn repeated(
-    alloc: Global,
-    front: &str,
-    before: &str,
-    after: &str,
-    times: u32,
-) -> Result<String, AllocError> {
-    let mut text = String::new(alloc);
-    text.push_str(front)?;
-    for number in 0..times {
-        let mark = format!(in alloc; "{number}")?;
-        text.push_str(before)?;
-        text.push_str(&mark)?;
-        text.push_str(after)?;
-    }
-    Ok(text)
+fn add(rt: &impl Abort, text: &mut String, part: &str) {
+    check(rt, part, text.push_str(part).is_ok(), true);
 }
+
+fn add_number(rt: &impl Abort, alloc: Global, text: &mut String, number: u32) {
+    match format!(in alloc; "{number}") {
+        Ok(mark) => add(rt, text, &mark),
+        Err(_) => panic!(rt; "no memory for a number"),
+    }
+}
+
+/// A text with a line so many times behind its front. The line's mark, between what stands before and after it, is its number.
+type Repeated = (&'static str, &'static str, &'static str, u32);
+
+fn repeated(rt: &impl Abort, alloc: Global, text: Repeated) -> String {
+    let (front, before, after, times) = text;
+    let mut text = String::new(alloc);
+    add(rt, &mut text, front);
+    for number in 0..times {
+        add(rt, &mut text, before);
+        add_number(rt, alloc, &mut text, number);
+        add(rt, &mut text, after);
+    }
+    text
+}
+
+fn fault_behind<'a>(rt: &impl Abort, alloc: Global, text: &'a str, more: &'a str) -> Fault {
+    fault_of_plan(rt, alloc, &[text, more])
+}
+
+/// A text and more behind it have these faults.
+fn check_behind(rt: &impl Abort, alloc: Global, text: Repeated, more: &[(&str, Fault)]) {
+    let text = repeated(rt, alloc, text);
+    for &(more, wanted) in more {
+        check(rt, more, fault_behind(rt, alloc, &text, more), wanted);
+    }
+}
+
+const JOBS: Repeated = ("lab 1\n", "job j", "\n", 32);
+
+const BEHIND_JOBS: [(&str, Fault); 5] = [
+    ("", None),
+    ("job j32", Some((34, LimitPassed))),
+    ("job j5", Some((34, JobTwice))),
+    ("job J", Some((34, BadName))),
+    ("session\nx read\nend\n", None),
+];
 
 #[test]
-fn jobs(rt: HostRuntime) -> Result<(), Fail> {
-    let alloc = rt.alloc();
-    let mut text = repeated(alloc, "lab 1\n", "job j", "\n", 32)?;
-    assert!(rt; told(read_plan(alloc, text.as_bytes())).is_none());
-    for (line, cause) in [
-        ("job j32", LimitPassed),
-        ("job j5", JobTwice),
-        ("job J", BadName),
-    ] {
-        let more = format!(in alloc; "{text}{line}")?;
-        assert!(rt;
-            told(read_plan(alloc, more.as_bytes())) == Some((34, cause)),
-            "{line}"
-        );
-    }
-    text.push_str("session\nx read\nend\n")?;
-    assert!(rt; told(read_plan(alloc, text.as_bytes())).is_none());
-    Ok(())
+fn jobs(rt: HostRuntime) {
+    check_behind(&rt, rt.alloc(), JOBS, &BEHIND_JOBS);
 }
+
+const SESSIONS: Repeated = ("lab 2\njob a\n", "session\nx set ", "\nend\n", 1000);
+
+const BEHIND_SESSIONS: [(&str, Fault); 5] = [
+    ("", None),
+    ("session", Some((3003, LimitPassed))),
+    ("session patience 3", Some((3003, LimitPassed))),
+    ("session patience x", Some((3003, BadNumber))),
+    ("job b\nsession\nx read\nend", None),
+];
+
+#[test]
+fn sessions(rt: HostRuntime) {
+    check_behind(&rt, rt.alloc(), SESSIONS, &BEHIND_SESSIONS);
+}
+
+const COMMANDS: Repeated = ("lab 1\njob a\nsession\n", "x set ", "\n", 100_000);
+
+const BEHIND_COMMANDS: [(&str, Fault); 2] = [
+    ("end", None),
+    ("x read", Some((100_004, LimitPassed))),
+];
+
+#[test]
+fn commands(rt: HostRuntime) {
+    check_behind(&rt, rt.alloc(), COMMANDS, &BEHIND_COMMANDS);
+}
+
+const INSTRUMENTS: Repeated = ("lab 1\njob a\nsession\n", "i", " read\n", 56);
+
+const BEHIND_INSTRUMENTS: [(&str, Fault); 4] = [
+    ("i3 set 5\nend", None),
+    ("i56 read", Some((60, LimitPassed))),
+    ("i56 set 05", Some((60, BadNumber))),
+    ("I56 read", Some((60, BadName))),
+];
+
+#[test]
+fn instruments(rt: HostRuntime) {
+    check_behind(&rt, rt.alloc(), INSTRUMENTS, &BEHIND_INSTRUMENTS);
+}
+
+/// Sessions of version 1, in which none has a patience.
+const SESSIONS_OF_1: Repeated = ("lab 1\njob a\n", "session\nx set ", "\nend\n", 1000);
+
+/// One session fewer.
+const ONE_FEWER: Repeated = ("lab 1\njob a\n", "session\nx set ", "\nend\n", 999);
 
 /// Lines past a limit, which meet an earlier cause besides.
 #[test]
-fn causes_before_limits(rt: HostRuntime) -> Result<(), Fail> {
+fn causes_before_limits(rt: HostRuntime) {
     let alloc = rt.alloc();
-    let mut text = repeated(alloc, "lab 1\n", "job j", "\n", 32)?;
-    text.push_str("session\njob j32")?;
-    assert!(rt; told(read_plan(alloc, text.as_bytes())) == Some((35, SessionNotClosed)));
-    let mut text = repeated(alloc, "lab 1\njob a\n", "session\nx set ", "\nend\n", 999)?;
-    text.push_str("session\nx read\nsession")?;
-    assert!(rt; told(read_plan(alloc, text.as_bytes())) == Some((3002, SessionNotClosed)));
-    let mut text = repeated(alloc, "lab 1\njob a\n", "session\nx set ", "\nend\n", 1000)?;
-    text.push_str("session patience 3")?;
-    assert!(rt; told(read_plan(alloc, text.as_bytes())) == Some((3003, UnknownWord)));
-    let mut text = repeated(alloc, "lab 1\njob a\nsession\n", "x set ", "\n", 100_000)?;
-    text.push_str("end\nx read")?;
-    assert!(rt; told(read_plan(alloc, text.as_bytes())) == Some((100_005, NotInSession)));
-    Ok(())
+    let open = Some((35, SessionNotClosed));
+    check_behind(&rt, alloc, JOBS, &[("session\njob j32", open)]);
+    let open = Some((3002, SessionNotClosed));
+    check_behind(&rt, alloc, ONE_FEWER, &[("session\nx read\nsession", open)]);
+    let unknown = Some((3003, UnknownWord));
+    check_behind(
+        &rt,
+        alloc,
+        SESSIONS_OF_1,
+        &[("session patience 3", unknown)],
+    );
+    let outside = Some((100_005, NotInSession));
+    check_behind(&rt, alloc, COMMANDS, &[("end\nx read", outside)]);
 }
 
-#[test]
-fn instruments(rt: HostRuntime) -> Result<(), Fail> {
-    let alloc = rt.alloc();
-    let text = repeated(alloc, "lab 1\njob a\nsession\n", "i", " read\n", 56)?;
-    let whole = format!(in alloc; "{text}i3 set 5\nend")?;
-    assert!(rt; told(read_plan(alloc, whole.as_bytes())).is_none());
-    for (line, cause) in [
-        ("i56 read", LimitPassed),
-        ("i56 set 05", BadNumber),
-        ("I56 read", BadName),
-    ] {
-        let more = format!(in alloc; "{text}{line}")?;
-        assert!(rt;
-            told(read_plan(alloc, more.as_bytes())) == Some((60, cause)),
-            "{line}"
-        );
+/// A job, and these lines so many times behind the word `steps`.
+pub(super) fn steps_text(rt: &impl Abort, alloc: Global, lines: &str, times: usize) -> String {
+    let mut text = String::new(alloc);
+    add(rt, &mut text, "lab 1\njob a\nsteps\n");
+    for _ in 0..times {
+        add(rt, &mut text, lines);
     }
-    Ok(())
+    text
 }
 
-#[test]
-fn sessions(rt: HostRuntime) -> Result<(), Fail> {
-    let alloc = rt.alloc();
-    let text = repeated(alloc, "lab 2\njob a\n", "session\nx set ", "\nend\n", 1000)?;
-    assert!(rt; told(read_plan(alloc, text.as_bytes())).is_none());
-    for (line, cause) in [
-        ("session", LimitPassed),
-        ("session patience 3", LimitPassed),
-        ("session patience x", BadNumber),
-    ] {
-        let more = format!(in alloc; "{text}{line}")?;
-        assert!(rt;
-            told(read_plan(alloc, more.as_bytes())) == Some((3003, cause)),
-            "{line}"
-        );
-    }
-    let other = format!(in alloc; "{text}job b\nsession\nx read\nend")?;
-    assert!(rt; told(read_plan(alloc, other.as_bytes())).is_none());
-    Ok(())
-}
-
-#[test]
-fn commands(rt: HostRuntime) -> Result<(), Fail> {
-    let alloc = rt.alloc();
-    let text = repeated(alloc, "lab 1\njob a\nsession\n", "x set ", "\n", 100_000)?;
-    let whole = format!(in alloc; "{text}end")?;
-    assert!(rt; told(read_plan(alloc, whole.as_bytes())).is_none());
-    let more = format!(in alloc; "{text}x read")?;
-    assert!(rt; told(read_plan(alloc, more.as_bytes())) == Some((100_004, LimitPassed)));
-    Ok(())
-}
-
-/// Whether the text has so many steps of one job, in a list with no more room than this.
-fn has_sits<A: Allocator + Copy>(
+/// The text has so many steps of one job, in a list with no more room than this.
+fn check_sits<A: Allocator + Copy>(
     rt: &impl Abort,
     alloc: A,
-    text: &[u8],
+    text: &str,
     count: usize,
     room: usize,
-) -> bool {
-    match read_steps(alloc, text) {
+) {
+    match read_steps(alloc, text.as_bytes()) {
         Ok((plan, steps)) => {
-            assert!(rt; plan.jobs() == 1);
-            steps.len() == count && steps.capacity() <= room
+            check(rt, "jobs", plan.jobs(), 1);
+            check(
+                rt,
+                room,
+                (steps.len(), steps.capacity() <= room),
+                (count, true),
+            );
         }
-        Err(_) => false,
+        Err(fault) => check(rt, count, Some(fault), None),
     }
 }
 
 #[test]
-fn steps(rt: HostRuntime) -> Result<(), Fail> {
-    let alloc = rt.alloc();
-    let mut text = String::new(alloc);
-    text.push_str("lab 1\njob a\nsteps\n")?;
-    for _ in 0..1_000_000 {
-        text.push_str("sit a\n")?;
-    }
-    assert!(rt; has_sits(&rt, alloc, text.as_bytes(), 1_000_000, 1 << 21));
-    text.push_str("#\n\nsit a")?;
-    assert!(rt; told(read_steps(alloc, text.as_bytes())) == Some((1_000_006, LimitPassed)));
-    Ok(())
+fn steps(rt: HostRuntime) {
+    let text = steps_text(&rt, rt.alloc(), "sit a\n", 1_000_000);
+    check_sits(&rt, rt.alloc(), &text, 1_000_000, 1 << 21);
+    let past = fault_of_steps(&rt, rt.alloc(), &[&text, "#\n\nsit a"]);
+    check(&rt, "one more", past, Some((1_000_006, LimitPassed)));
 }
 
 #[test]
-fn bad_step_past_the_limit(rt: HostRuntime) -> Result<(), Fail> {
-    let alloc = rt.alloc();
-    let mut text = String::new(alloc);
-    text.push_str("lab 1\njob a\nsteps\n")?;
-    for _ in 0..1_000_000 {
-        text.push_str("sit a\n")?;
-    }
-    text.push_str("sit")?;
-    assert!(rt; told(read_steps(alloc, text.as_bytes())) == Some((1_000_004, BadStep)));
-    Ok(())
+fn bad_step_past_the_limit(rt: HostRuntime) {
+    let text = steps_text(&rt, rt.alloc(), "sit a\n", 1_000_000);
+    let bad = fault_of_steps(&rt, rt.alloc(), &[&text, "sit"]);
+    check(&rt, "bad", bad, Some((1_000_004, BadStep)));
 }
 
 /// A step takes 16 bytes, and the list has room for at most twice as many steps as it has.
 #[test]
-fn room_of_steps(rt: HostRuntime) -> Result<(), Fail> {
-    let alloc = rt.alloc();
-    assert!(rt; size_of::<StepLine>() == 16);
-    let mut text = String::new(alloc);
-    text.push_str("lab 1\njob a\nsteps\n")?;
-    for _ in 0..1025 {
-        text.push_str("# skipped\nsit a\n\n")?;
-    }
-    assert!(rt; has_sits(&rt, alloc, text.as_bytes(), 1025, 2050));
-    Ok(())
+fn room_of_steps(rt: HostRuntime) {
+    let text = steps_text(&rt, rt.alloc(), "# skipped\nsit a\n\n", 1025);
+    check(&rt, "a step", size_of::<StepLine>(), 16);
+    check_sits(&rt, rt.alloc(), &text, 1025, 2050);
 }
 
 /// Two jobs with so many instruments in common.
-fn sharing(alloc: Global, instruments: u32) -> Result<String, AllocError> {
-    let mut text = repeated(
-        alloc,
-        "lab 1\njob a\nsession\n",
-        "i",
-        " read\n",
-        instruments,
-    )?;
-    let other = repeated(alloc, "end\njob b\nsession\n", "i", " read\n", instruments)?;
-    text.push_str(&other)?;
-    text.push_str("end\n")?;
-    Ok(text)
+fn sharing(rt: &impl Abort, alloc: Global, instruments: u32) -> String {
+    let first = ("lab 1\njob a\nsession\n", "i", " read\n", instruments);
+    let second = ("end\njob b\nsession\n", "i", " read\n", instruments);
+    let mut text = repeated(rt, alloc, first);
+    let other = repeated(rt, alloc, second);
+    add(rt, &mut text, &other);
+    add(rt, &mut text, "end\n");
+    text
 }
 
 #[test]
-fn many_in_common(rt: HostRuntime) -> Result<(), Fail> {
-    let alloc = rt.alloc();
-    let text = sharing(alloc, 28)?;
-    assert!(rt; told(read_plan(alloc, text.as_bytes())).is_none());
-    let text = sharing(alloc, 29)?;
-    assert!(rt; told(read_plan(alloc, text.as_bytes())) == Some((66, TooManyInCommon)));
-    assert!(rt; told(read_steps(alloc, text.as_bytes())) == Some((66, TooManyInCommon)));
-    let stepped = format!(in alloc; "{text}\n\nsteps\nbad")?;
-    assert!(rt; told(read_steps(alloc, stepped.as_bytes())) == Some((68, TooManyInCommon)));
-    let open = format!(in alloc; "{text}job c\nsession\nx read")?;
-    assert!(rt; told(read_plan(alloc, open.as_bytes())) == Some((69, SessionNotClosed)));
-    let stepped = format!(in alloc; "{open}\nsteps")?;
-    assert!(rt; told(read_steps(alloc, stepped.as_bytes())) == Some((69, SessionNotClosed)));
-    Ok(())
+fn most_in_common(rt: HostRuntime) {
+    let text = sharing(&rt, rt.alloc(), 28);
+    check(&rt, 28, told(read_plan(rt.alloc(), text.as_bytes())), None);
+}
+
+/// What stands behind jobs with too many in common, the steps behind that, and the fault.
+const BEHIND_CROWDED: [(&str, &str, Fault); 3] = [
+    ("", "", Some((66, TooManyInCommon))),
+    ("", "\n\nsteps\nbad", Some((68, TooManyInCommon))),
+    (
+        "job c\nsession\nx read",
+        "\nsteps",
+        Some((69, SessionNotClosed)),
+    ),
+];
+
+fn check_crowded(rt: &impl Abort, alloc: Global, text: &str) {
+    for &(more, steps, wanted) in &BEHIND_CROWDED {
+        let came = fault_of_steps(rt, alloc, &[text, more, steps]);
+        check(rt, (more, steps), came, wanted);
+    }
+}
+
+#[test]
+fn many_in_common(rt: HostRuntime) {
+    let text = sharing(&rt, rt.alloc(), 29);
+    let open = fault_of_plan(&rt, rt.alloc(), &[&text, "job c\nsession\nx read"]);
+    let closed = fault_of_plan(&rt, rt.alloc(), &[&text]);
+    check(&rt, "closed", closed, Some((66, TooManyInCommon)));
+    check(&rt, "open", open, Some((69, SessionNotClosed)));
+    check_crowded(&rt, rt.alloc(), &text);
 }

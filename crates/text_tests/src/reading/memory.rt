@@ -1,84 +1,110 @@
 // Memory that runs out: each growth in turn is the first that is refused, and nothing else is told.
+use super::limits::steps_text;
 use super::{BENCH, check_bench};
+use crate::rows::check;
 use linked_list_allocator::LocalHeap;
 use script_reader::ScriptCause::NoMemory;
 use script_reader::{read_plan, read_steps};
-use std::alloc::Global;
+use std::alloc::{Allocator, Global};
 use std::process::Abort;
-use std::test::Fail;
 
 const HEAP: usize = 65536;
 
-/// Whether a heap with so much room at first has enough for the plan of the bench; that no memory is left is all that may be told.
-fn has_room_for_plan(rt: &impl Abort, alloc: Global, room: usize) -> Result<bool, Fail> {
-    let heap = LocalHeap::new(alloc, HEAP)?;
+fn heap_of(rt: &impl Abort, alloc: Global) -> LocalHeap {
+    match LocalHeap::new(alloc, HEAP) {
+        Ok(heap) => heap,
+        Err(_) => panic!(rt; "no heap"),
+    }
+}
+
+/// Takes all of a heap but so much room.
+fn ballast_of<'a>(rt: &impl Abort, heap: &'a LocalHeap, room: usize) -> Vec<u8, &'a LocalHeap> {
     assert!(rt; room <= HEAP - 256);
-    let ballast = Vec::<u8, &LocalHeap>::with_capacity(&heap, HEAP - 256 - room)?;
-    let has_room = match read_plan(&heap, BENCH) {
+    match Vec::with_capacity(heap, HEAP - 256 - room) {
+        Ok(ballast) => ballast,
+        Err(_) => panic!(rt; "no ballast"),
+    }
+}
+
+/// Whether there is memory for the plan of the bench; that none is left is all that may be told.
+fn reads_plan<A: Allocator + Copy>(rt: &impl Abort, alloc: A) -> bool {
+    match read_plan(alloc, BENCH) {
         Ok(plan) => {
             check_bench(rt, &plan);
             true
         }
         Err(fault) => {
-            assert!(rt; fault.cause == NoMemory && fault.line >= 4 && fault.line <= 12);
+            let is_within = 4 <= fault.line && fault.line <= 12;
+            check(rt, fault, (fault.cause, is_within), (NoMemory, true));
             false
         }
-    };
+    }
+}
+
+/// Whether a heap with so much room at first has enough for it.
+fn has_room_for_plan(rt: &impl Abort, alloc: Global, room: usize) -> bool {
+    let heap = heap_of(rt, alloc);
+    let ballast = ballast_of(rt, &heap, room);
+    let has_room = reads_plan(rt, &heap);
     drop(ballast);
-    Ok(has_room)
+    has_room
 }
 
 #[test]
-fn growths_of_a_plan(rt: HostRuntime) -> Result<(), Fail> {
-    let mut refused = 0u32;
+fn growths_of_a_plan(rt: HostRuntime) {
+    let mut read = 0u32;
     for room in 1..800usize {
-        if !has_room_for_plan(&rt, rt.alloc(), 16 * room)? {
-            refused = refused.saturating_add(1);
-        }
+        let has_room = has_room_for_plan(&rt, rt.alloc(), 16 * room);
+        read = read.saturating_add(has_room as u32);
     }
-    assert!(rt; refused > 20 && refused < 799);
-    Ok(())
+    assert!(rt; read > 0 && read < 779);
 }
 
-/// The line at which a heap with so much room at first has no more for the 600 steps of a text, from line 4 on.
-fn line_without_room(
+/// The line of the 600 steps of a text at which memory runs out, from line 4 on, if it does; before that it may, too.
+fn line_without_memory<A: Allocator + Copy>(
     rt: &impl Abort,
-    alloc: Global,
-    room: usize,
+    alloc: A,
     text: &[u8],
-) -> Result<Option<usize>, Fail> {
-    let heap = LocalHeap::new(alloc, HEAP)?;
-    assert!(rt; room <= HEAP - 256);
-    let ballast = Vec::<u8, &LocalHeap>::with_capacity(&heap, HEAP - 256 - room)?;
-    let line = match read_steps(&heap, text) {
+) -> Option<usize> {
+    match read_steps(alloc, text) {
         Ok((plan, steps)) => {
-            assert!(rt; plan.jobs() == 1 && steps.len() == 600);
+            check(rt, "read", (plan.jobs(), steps.len()), (1, 600));
             None
         }
         Err(fault) => {
-            assert!(rt; fault.cause == NoMemory && fault.line >= 2 && fault.line <= 603);
+            let is_within = 2 <= fault.line && fault.line <= 603;
+            check(rt, fault, (fault.cause, is_within), (NoMemory, true));
             Some(fault.line)
         }
-    };
-    drop(ballast);
-    Ok(line)
+    }
 }
 
-#[test]
-fn growths_of_a_list(rt: HostRuntime) -> Result<(), Fail> {
-    let mut text = String::new(rt.alloc());
-    text.push_str("lab 1\njob a\nsteps\n")?;
-    for _ in 0..600 {
-        text.push_str("sit a\n")?;
-    }
+/// That of a heap with so much room at first.
+fn line_without_room(rt: &impl Abort, alloc: Global, room: usize, text: &[u8]) -> Option<usize> {
+    let heap = heap_of(rt, alloc);
+    let ballast = ballast_of(rt, &heap, room);
+    let line = line_without_memory(rt, &heap, text);
+    drop(ballast);
+    line
+}
+
+/// How often memory runs out, and how often it does at the steps.
+fn count_lines(rt: &impl Abort, alloc: Global, text: &[u8]) -> (u32, u32) {
     let mut refused = 0u32;
     let mut refused_at_steps = 0u32;
     for room in 1..800usize {
-        if let Some(line) = line_without_room(&rt, rt.alloc(), 64 * room, text.as_bytes())? {
+        if let Some(line) = line_without_room(rt, alloc, 64 * room, text) {
             refused = refused.saturating_add(1);
             refused_at_steps = refused_at_steps.saturating_add((line > 3) as u32);
         }
     }
-    assert!(rt; refused > 10 && refused < 799 && refused_at_steps > 0);
-    Ok(())
+    (refused, refused_at_steps)
+}
+
+#[test]
+fn growths_of_a_list(rt: HostRuntime) {
+    let text = steps_text(&rt, rt.alloc(), "sit a\n", 600);
+    let (refused, refused_at_steps) = count_lines(&rt, rt.alloc(), text.as_bytes());
+    let is_some = refused > 10 && refused < 799;
+    check(&rt, refused, (is_some, refused_at_steps > 0), (true, true));
 }

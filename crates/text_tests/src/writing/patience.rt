@@ -2,7 +2,8 @@
 ghost use Rattle.std.specs.List.{All};
 ghost use Rattle.legal_steps.specs.Steps.{IsStepOf};
 
-use super::{TWO, joined, run, stops};
+use super::{TWO, check_report, joined, stop_of};
+use crate::rows::check;
 use interleaving::World;
 use lab_plan::Plan;
 use legal_steps::StepLine;
@@ -17,36 +18,33 @@ const FRONT: &str = "lab 2\njob a\nsession\nscale add 1\nend\njob b\nsession pat
 const BACK: &str = "\nscale add 1\nend\nsteps\n";
 
 /// The rounds of a run in which b gives up in its second turn.
-const AT_ONCE: [&str; 5] = [
-    "look a b\nthirst a\nlook b a\nthirst b\n",
-    "look a b\ndrink a\nlook b a\naskbottles b a scale\nwithdraw b\n",
-    "look a b\nreach a\nact a\nlook b a\nretire b\n",
-    "look a b\nquit a\nlook b a\n",
-    "look a b\ngivebottles a b scale\nretire a\n",
-];
+const AT_ONCE: &str = "\
+    look a b\nthirst a\nlook b a\nthirst b\n\
+    look a b\ndrink a\nlook b a\naskbottles b a scale\nwithdraw b\n\
+    look a b\nreach a\nact a\nlook b a\nretire b\n\
+    look a b\nquit a\nlook b a\n\
+    look a b\ngivebottles a b scale\nretire a\n";
 
 /// The rounds of a run in which b gives up in its third turn, and has the meal that it asked for.
-const LATER: [&str; 6] = [
-    "look a b\nthirst a\nlook b a\nthirst b\n",
-    "look a b\ndrink a\nlook b a\naskbottles b a scale\nhunger b\n",
-    "look a b\nreach a\nact a\nlook b a\naskfork b a\nwithdraw b\n",
-    "look a b\ngivefork a b\nquit a\nlook b a\nsit b\n",
-    "look a b\ngivebottles a b scale\nretire a\nlook b a\nsoil b a\nleave b\n",
-    "look a b\nlook b a\nretire b\n",
-];
+const LATER: &str = "\
+    look a b\nthirst a\nlook b a\nthirst b\n\
+    look a b\ndrink a\nlook b a\naskbottles b a scale\nhunger b\n\
+    look a b\nreach a\nact a\nlook b a\naskfork b a\nwithdraw b\n\
+    look a b\ngivefork a b\nquit a\nlook b a\nsit b\n\
+    look a b\ngivebottles a b scale\nretire a\nlook b a\nsoil b a\nleave b\n\
+    look a b\nlook b a\nretire b\n";
 
 /// The rounds of a run in which b has what it needs before its patience runs out.
-const NEVER: [&str; 9] = [
-    "look a b\nthirst a\nlook b a\nthirst b\n",
-    "look a b\ndrink a\nlook b a\naskbottles b a scale\nhunger b\n",
-    "look a b\nreach a\nact a\nlook b a\naskfork b a\n",
-    "look a b\ngivefork a b\nquit a\nlook b a\nsit b\n",
-    "look a b\ngivebottles a b scale\nretire a\nlook b a\nsoil b a\ndrink b\n",
-    "look a b\nlook b a\nreach b\nact b\n",
-    "look a b\nlook b a\nquit b\n",
-    "look a b\nlook b a\nleave b\n",
-    "look a b\nlook b a\nretire b\n",
-];
+const NEVER: &str = "\
+    look a b\nthirst a\nlook b a\nthirst b\n\
+    look a b\ndrink a\nlook b a\naskbottles b a scale\nhunger b\n\
+    look a b\nreach a\nact a\nlook b a\naskfork b a\n\
+    look a b\ngivefork a b\nquit a\nlook b a\nsit b\n\
+    look a b\ngivebottles a b scale\nretire a\nlook b a\nsoil b a\ndrink b\n\
+    look a b\nlook b a\nreach b\nact b\n\
+    look a b\nlook b a\nquit b\n\
+    look a b\nlook b a\nleave b\n\
+    look a b\nlook b a\nretire b\n";
 
 const REPORT_AT_ONCE: &str =
     "lab 2\ninstrument scale 1\na 1 1/1 add 1 = 1\njob a sessions 1 of 1 withdrawn 0 meals 0 retired\njob b sessions 0 of 1 withdrawn 1 meals 0 retired\nfinished\n";
@@ -93,63 +91,52 @@ fn leads_all_along<A: Allocator + Copy>(rt: &impl Abort, alloc: A, text: &[u8], 
     assert!(rt; first > 0);
     for end in first..text.len() {
         if text[end - 1] == b'\n' {
-            assert!(rt;
-                leads_on_after(rt, alloc, &text[..end]),
-                "after {end} bytes"
-            );
+            check(rt, end, leads_on_after(rt, alloc, &text[..end]), true);
         }
     }
-    assert!(rt; !leads_on_after(rt, alloc, text));
+    check(rt, "the end", leads_on_after(rt, alloc, text), false);
 }
 
-/// Whether the run of these rounds, for this patience, has this report; and in it some event always leads on.
-fn runs<A: Allocator + Copy>(
+/// The run of these rounds, for this patience, has this report; and in it some event always leads on.
+fn check_run<A: Allocator + Copy>(
     rt: &impl Abort,
     alloc: A,
     patience: &str,
-    rounds: &[&str],
+    rounds: &str,
     report: &str,
-) -> bool {
-    let mut text = joined(rt, alloc, &[FRONT, patience, BACK]);
-    let first = text.len();
-    for round in rounds {
-        assert!(rt; text.extend_from_slice(round.as_bytes()).is_ok());
-    }
+) {
+    let first = FRONT.len() + patience.len() + BACK.len();
+    let text = joined(rt, alloc, &[FRONT, patience, BACK, rounds]);
     leads_all_along(rt, alloc, &text, first);
-    match run(rt, alloc, &text) {
-        Ok(bytes) => bytes.as_slice() == report.as_bytes(),
-        Err(_) => false,
-    }
+    check_report(rt, alloc, &[FRONT, patience, BACK, rounds], report);
 }
 
 #[test]
 fn patience_runs_out(rt: HostRuntime) {
-    assert!(rt; runs(&rt, rt.alloc(), "0", &AT_ONCE, REPORT_AT_ONCE));
+    check_run(&rt, rt.alloc(), "0", AT_ONCE, REPORT_AT_ONCE);
 }
 
 #[test]
 fn patience_runs_out_later(rt: HostRuntime) {
-    assert!(rt; runs(&rt, rt.alloc(), "1", &LATER, REPORT_LATER));
+    check_run(&rt, rt.alloc(), "1", LATER, REPORT_LATER);
 }
 
 #[test]
 fn patience_lasts(rt: HostRuntime) {
-    assert!(rt; runs(&rt, rt.alloc(), "3", &NEVER, REPORT_NEVER));
+    check_run(&rt, rt.alloc(), "3", NEVER, REPORT_NEVER);
 }
+
+const DRINKS: &str =
+    "thirst b\naskbottles b a scale\ngivebottles a b scale\nlook b a\ndrink b\nwithdraw b\n";
 
 /// No session is given up once its job drinks, nor one without patience, nor any of a version 1 script.
 #[test]
 fn gives_up_no_other_session(rt: HostRuntime) {
-    let drinks =
-        "thirst b\naskbottles b a scale\ngivebottles a b scale\nlook b a\ndrink b\nwithdraw b\n";
-    assert!(rt; stops(&rt, rt.alloc(), &[FRONT, "0", BACK, drinks], 16));
-    assert!(rt;
-        stops(
-            &rt,
-            rt.alloc(),
-            &[FRONT, "0", BACK, "thirst a\nwithdraw a\n"],
-            12
-        )
-    );
-    assert!(rt; stops(&rt, rt.alloc(), &[TWO, "steps\nthirst b\nwithdraw b\n"], 12));
+    let alloc = rt.alloc();
+    let drinks = stop_of(&rt, alloc, &[FRONT, "0", BACK, DRINKS]);
+    let patient = stop_of(&rt, alloc, &[FRONT, "0", BACK, "thirst a\nwithdraw a\n"]);
+    let version_1 = stop_of(&rt, alloc, &[TWO, "steps\nthirst b\nwithdraw b\n"]);
+    check(&rt, "drinks", drinks, Some(16));
+    check(&rt, "without patience", patient, Some(12));
+    check(&rt, "version 1", version_1, Some(12));
 }

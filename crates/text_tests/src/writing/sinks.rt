@@ -1,32 +1,22 @@
 // Sinks that take one byte a call, none, or fail at a call: exactly the first bytes went out.
 use super::{Slow, TWO, plan_of, report_by, script_by};
+use crate::rows::check;
 use interleaving::World;
 use report::{Failed, Sink, ToWrite, WriteFault, offer};
 use std::alloc::Allocator;
 use std::process::Abort;
-use std::test::Fail;
 
-/// The report of two jobs before their first event, line by line.
-const REPORT: [&[u8]; 5] = [
-    b"lab 1\n",
-    b"instrument scale 0\n",
-    b"job a sessions 0 of 1 meals 0 waiting\n",
-    b"job b sessions 0 of 1 meals 0 waiting\n",
-    b"unfinished\n",
-];
+/// The report of two jobs before their first event, and where each of its lines ends.
+const REPORT: &[u8] =
+    b"lab 1\ninstrument scale 0\njob a sessions 0 of 1 meals 0 waiting\njob b sessions 0 of 1 meals 0 waiting\nunfinished\n";
 
-/// The upgraded script of two jobs, line by line.
-const SCRIPT: [&[u8]; 9] = [
-    b"lab 2\n",
-    b"job a\n",
-    b"session\n",
-    b"scale add 1\n",
-    b"end\n",
-    b"job b\n",
-    b"session\n",
-    b"scale add 1\n",
-    b"end\n",
-];
+const REPORT_LINES: [usize; 5] = [6, 25, 63, 101, 112];
+
+/// The upgraded script of two jobs, likewise.
+const SCRIPT: &[u8] =
+    b"lab 2\njob a\nsession\nscale add 1\nend\njob b\nsession\nscale add 1\nend\n";
+
+const SCRIPT_LINES: [usize; 9] = [6, 12, 20, 32, 36, 42, 50, 62, 66];
 
 /// What a writer takes that takes at most so many bytes a call and no more calls than these, and what the writing answers.
 type Taken<A> = (Vec<u8, A>, Result<(), WriteFault>);
@@ -54,65 +44,76 @@ fn script_of_two<A: Allocator + Copy>(
     script_by(alloc, &plan, most, calls)
 }
 
+/// The writing failed, and these bytes were taken.
+fn check_cut<A: Allocator>(rt: &impl Abort, calls: usize, taken: &Taken<A>, wanted: &[u8]) {
+    check(rt, calls, taken.1, Err(WriteFault));
+    check(rt, calls, taken.0.as_slice(), wanted);
+}
+
+/// All bytes were taken.
+fn check_whole<A: Allocator>(rt: &impl Abort, taken: &Taken<A>, wanted: &[u8]) {
+    check(rt, "whole", taken.1, Ok(()));
+    check(rt, "whole", taken.0.as_slice(), wanted);
+}
+
+/// The first bytes of a text, up to the end of the line before this one.
+fn lines_before<'a>(rt: &impl Abort, text: &'a [u8], ends: &[usize], line: usize) -> &'a [u8] {
+    if line == 0 {
+        return &text[..0];
+    }
+    assert!(rt; line <= ends.len() && ends[line - 1] <= text.len());
+    &text[..ends[line - 1]]
+}
+
 #[test]
-fn a_line_a_call(rt: HostRuntime) -> Result<(), Fail> {
-    let mut first = Vec::new(rt.alloc());
+fn a_line_a_call(rt: HostRuntime) {
+    for calls in 0..REPORT_LINES.len() {
+        let first = lines_before(&rt, REPORT, &REPORT_LINES, calls);
+        let taken = report_of_two(&rt, rt.alloc(), 1000, calls);
+        check_cut(&rt, calls, &taken, first);
+    }
+    let taken = report_of_two(&rt, rt.alloc(), 1000, REPORT_LINES.len());
+    check_whole(&rt, &taken, REPORT);
+}
+
+#[test]
+fn a_line_of_a_script_a_call(rt: HostRuntime) {
+    for calls in 0..SCRIPT_LINES.len() {
+        let first = lines_before(&rt, SCRIPT, &SCRIPT_LINES, calls);
+        let taken = script_of_two(&rt, rt.alloc(), 1000, calls);
+        check_cut(&rt, calls, &taken, first);
+    }
+    let taken = script_of_two(&rt, rt.alloc(), 1000, SCRIPT_LINES.len());
+    check_whole(&rt, &taken, SCRIPT);
+}
+
+#[test]
+fn a_byte_a_call(rt: HostRuntime) {
     for calls in 0..REPORT.len() {
-        let (bytes, answer) = report_of_two(&rt, rt.alloc(), 1000, calls);
-        assert!(rt; answer == Err(WriteFault), "after {calls} calls");
-        assert!(rt; bytes.as_slice() == first.as_slice(), "after {calls} calls");
-        first.extend_from_slice(REPORT[calls])?;
+        let taken = report_of_two(&rt, rt.alloc(), 1, calls);
+        check_cut(&rt, calls, &taken, &REPORT[..calls]);
     }
-    let (bytes, answer) = report_of_two(&rt, rt.alloc(), 1000, REPORT.len());
-    assert!(rt; answer == Ok(()) && bytes.as_slice() == first.as_slice());
-    Ok(())
-}
-
-#[test]
-fn a_line_of_a_script_a_call(rt: HostRuntime) -> Result<(), Fail> {
-    let mut first = Vec::new(rt.alloc());
-    for calls in 0..SCRIPT.len() {
-        let (bytes, answer) = script_of_two(&rt, rt.alloc(), 1000, calls);
-        assert!(rt; answer == Err(WriteFault), "after {calls} calls");
-        assert!(rt; bytes.as_slice() == first.as_slice(), "after {calls} calls");
-        first.extend_from_slice(SCRIPT[calls])?;
-    }
-    let (bytes, answer) = script_of_two(&rt, rt.alloc(), 1000, SCRIPT.len());
-    assert!(rt; answer == Ok(()) && bytes.as_slice() == first.as_slice());
-    Ok(())
-}
-
-#[test]
-fn a_byte_a_call(rt: HostRuntime) -> Result<(), Fail> {
-    let mut whole = Vec::new(rt.alloc());
-    for line in REPORT {
-        whole.extend_from_slice(line)?;
-    }
-    for calls in 0..whole.len() {
-        let (bytes, answer) = report_of_two(&rt, rt.alloc(), 1, calls);
-        assert!(rt; answer == Err(WriteFault), "after {calls} calls");
-        assert!(rt; bytes.as_slice() == &whole[..calls], "after {calls} calls");
-    }
-    let (bytes, answer) = report_of_two(&rt, rt.alloc(), 1, whole.len());
-    assert!(rt; answer == Ok(()) && bytes.as_slice() == whole.as_slice());
-    Ok(())
+    let taken = report_of_two(&rt, rt.alloc(), 1, REPORT.len());
+    check_whole(&rt, &taken, REPORT);
 }
 
 /// A writer that takes no byte fails, and is not asked again.
 #[test]
 fn no_byte(rt: HostRuntime) {
-    let (bytes, answer) = report_of_two(&rt, rt.alloc(), 0, 1000);
-    assert!(rt; answer == Err(WriteFault) && bytes.is_empty());
+    let taken = report_of_two(&rt, rt.alloc(), 0, 1000);
+    check_cut(&rt, 1000, &taken, b"");
 }
 
 #[test]
 fn offers_and_flushes(rt: HostRuntime) {
     let mut bytes = Vec::new(rt.alloc());
     let mut sink = ToWrite::new(&mut bytes);
-    assert!(rt; offer(&mut sink, b"lamp") == Ok(()) && offer(&mut sink, b"") == Ok(()));
-    assert!(rt; sink.write(b" on") == Ok(3) && sink.flush() == Ok(()));
-    assert!(rt; sink.write(b"!") != Err(Failed));
-    assert!(rt; bytes.as_slice() == b"lamp on!".as_slice());
+    check(&rt, "lamp", offer(&mut sink, b"lamp"), Ok(()));
+    check(&rt, "nothing", offer(&mut sink, b""), Ok(()));
+    check(&rt, " on", sink.write(b" on"), Ok(3));
+    check(&rt, "flushes", sink.flush(), Ok(()));
+    check(&rt, "!", sink.write(b"!").is_ok(), true);
+    check(&rt, "taken", bytes.as_slice(), b"lamp on!");
 }
 
 /// A flush is the writer's own, with its failure.
@@ -124,7 +125,9 @@ fn flush_fails(rt: HostRuntime) {
         calls: 1,
     };
     let mut sink = ToWrite::new(&mut slow);
-    assert!(rt; sink.flush() == Ok(()) && sink.write(b"lamp") == Ok(4));
-    assert!(rt; sink.flush() == Err(Failed) && sink.write(b"pump") == Err(Failed));
-    assert!(rt; slow.bytes.as_slice() == b"lamp".as_slice());
+    check(&rt, "flushes", sink.flush(), Ok(()));
+    check(&rt, "lamp", sink.write(b"lamp"), Ok(4));
+    check(&rt, "flushes no more", sink.flush(), Err(Failed));
+    check(&rt, "pump", sink.write(b"pump"), Err(Failed));
+    check(&rt, "taken", slow.bytes.as_slice(), b"lamp");
 }
