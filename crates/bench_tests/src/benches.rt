@@ -10,18 +10,19 @@ use script_reader::read_plan;
 use std::alloc::Allocator;
 use std::process::Abort;
 
-pub(crate) const A: JobNo = JobNo(0);
+// Jobs and edges are plain numbers in a table: one with a `JobNo` in it isn't a constant to the prover, and is costly.
+pub(crate) const A: u8 = 0;
 
-pub(crate) const B: JobNo = JobNo(1);
+pub(crate) const B: u8 = 1;
 
-pub(crate) const C: JobNo = JobNo(2);
+pub(crate) const C: u8 = 2;
 
 // The edges of three jobs; of two there is only the first.
-pub(crate) const AB: EdgeNo = EdgeNo(0);
+pub(crate) const AB: u16 = 0;
 
-pub(crate) const AC: EdgeNo = EdgeNo(1);
+pub(crate) const AC: u16 = 1;
 
-pub(crate) const BC: EdgeNo = EdgeNo(2);
+pub(crate) const BC: u16 = 2;
 
 // Jobs a and b, which add 1 on the scale in one session each.
 pub(crate) const TWO: &str =

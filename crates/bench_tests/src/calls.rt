@@ -16,7 +16,7 @@ use edge_rule::{
 };
 use edge_word::{EdgeMoves, PhaseWord};
 use instrument_log::Entry;
-use lab_plan::{EdgeNo, JobNo};
+use lab_plan::{EdgeNo, JobNo, Verb};
 use legal_steps::{EdgeState, JobState};
 use std::alloc::Allocator;
 use std::process::Abort;
@@ -33,18 +33,18 @@ pub(crate) enum Move {
     These(EdgeMoves),
 }
 
-// A call on a desk.
+// A call on a desk, with the number of an edge or of another job.
 #[derive(Clone, Copy)]
 pub(crate) enum Call {
-    Look(EdgeNo),
-    Try(Move, EdgeNo),
-    May(Move, EdgeNo),
+    Look(u16),
+    Try(Move, u16),
+    May(Move, u16),
     Store(PhaseEvent),
     Command,
-    Glance(JobNo),
+    Glance(u8),
     NoteTurn(bool),
-    Seen(EdgeNo),
-    Marks(EdgeNo),
+    Seen(u16),
+    Marks(u16),
     Phase,
     Retired,
     Counts,
@@ -60,7 +60,8 @@ pub(crate) enum Answer {
     // the other word that an exchange found
     Found(u64),
     Is(bool),
-    Added(Entry),
+    // the job and the value of an entry
+    Added(u8, u32),
     // whether there is a mark for the fork, and which bottles there are marks for
     Marks(bool, u32),
     // the turns, and in how many of them the session waited
@@ -195,12 +196,28 @@ fn stored<T: Allocator>(
     Answer::Far(phase_of(rt, desk))
 }
 
+// The entry of the one command of a job's first session on an instrument, which adds 1.
+pub(crate) fn entry_of(job: JobNo, value: u32) -> Entry {
+    Entry {
+        job,
+        session: 1,
+        place: 1,
+        length: 1,
+        verb: Verb::Add(1),
+        value,
+    }
+}
+
 fn commanded<T: Allocator>(rt: &impl Abort, bench: &Bench<T>, desk: &mut Desk<T>) -> Answer
     requires own { Owns bench.now desk.old }
     ensures { Owns bench.now desk.new }
 {
     assert!(rt; may_command(bench, desk));
-    Answer::Added(command(bench, desk))
+    let entry = command(bench, desk);
+    let (job, value) = (entry.job.0, entry.value);
+    let wanted = entry_of(JobNo(job), value);
+    assert!(rt; entry == wanted, "{wanted:?} was wanted, not {entry:?}");
+    Answer::Added(job, value)
 }
 
 fn glanced<T: Allocator>(
@@ -251,15 +268,15 @@ pub(crate) fn called<T: Allocator>(
     ensures { Owns bench.now desk.new }
 {
     match call {
-        Call::Look(edge) => looked(rt, bench, desk, edge),
-        Call::Try(what, edge) => tried(rt, bench, desk, what, edge),
-        Call::May(what, edge) => Answer::Is(may(rt, bench, desk, what, edge)),
+        Call::Look(edge) => looked(rt, bench, desk, EdgeNo(edge)),
+        Call::Try(what, edge) => tried(rt, bench, desk, what, EdgeNo(edge)),
+        Call::May(what, edge) => Answer::Is(may(rt, bench, desk, what, EdgeNo(edge))),
         Call::Store(what) => stored(rt, bench, desk, what),
         Call::Command => commanded(rt, bench, desk),
-        Call::Glance(other) => glanced(rt, bench, desk, other),
+        Call::Glance(other) => glanced(rt, bench, desk, JobNo(other)),
         Call::NoteTurn(thirsty_at_start) => noted(bench, desk, thirsty_at_start),
-        Call::Seen(edge) => Answer::Word(seen(rt, bench, desk, edge)),
-        Call::Marks(edge) => marks(rt, bench, desk, edge),
+        Call::Seen(edge) => Answer::Word(seen(rt, bench, desk, EdgeNo(edge))),
+        Call::Marks(edge) => marks(rt, bench, desk, EdgeNo(edge)),
         Call::Phase => Answer::Far(phase_of(rt, desk)),
         Call::Retired => Answer::Is(desk.retired()),
         Call::Counts => counted(rt, desk),
@@ -271,20 +288,20 @@ fn answer_of<T: Allocator>(
     rt: &impl Abort,
     bench: &Bench<T>,
     desks: &mut [Desk<T>],
-    job: JobNo,
+    job: u8,
     call: Call,
 ) -> Answer
     requires own { Each (Owns bench.now) desks.old }
     ensures { Each (Owns bench.now) desks.new }
 {
-    let place = job.0 as usize;
+    let place = usize::from(job);
     assert!(rt; place < desks.len());
-    assert!(rt; desks[place].job() == job);
+    assert!(rt; desks[place].job().0 == job);
     called(rt, bench, &mut desks[place], call)
 }
 
 // A job, a call on its desk, and what has to be answered.
-pub(crate) type Line = (JobNo, Call, Answer);
+pub(crate) type Line = (u8, Call, Answer);
 
 // An answer as a failure tells it, with what its word says of an edge, or of how far a job is.
 fn said(answer: Answer) -> (Answer, Option<EdgeState>, Option<JobState>) {

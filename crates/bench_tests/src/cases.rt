@@ -15,29 +15,8 @@ use crate::words::{
 use edge_rule::PhaseEvent::{Hunger, Quit, Retire, Sit, Thirst, Withdraw};
 use edge_rule::{Counts, PhaseEvent};
 use edge_word::EdgeMoves;
-use instrument_log::Entry;
-use lab_plan::Verb;
 use std::alloc::{AllocError, Global};
 use std::test::Fail;
-
-/// The entry of the one command of its session, which adds 1 to a dial at 0.
-const OF_A: Entry = Entry {
-    job: A,
-    session: 1,
-    place: 1,
-    length: 1,
-    verb: Verb::Add(1),
-    value: 1,
-};
-
-const OF_C: Entry = Entry {
-    job: C,
-    session: 1,
-    place: 1,
-    length: 1,
-    verb: Verb::Add(1),
-    value: 1,
-};
 
 const NOTHING_DONE: Counts = Counts {
     meals: 0,
@@ -243,7 +222,7 @@ const TWO_SESSIONS: [Line; 9] = [
     (A, Call::NoteTurn(true), Answer::Turns(1, 1)),
     (A, Look(AB), Word(OPEN)),
     (A, Store(PhaseEvent::Drink), Far(DRINKS)),
-    (A, Call::Command, Answer::Added(OF_A)),
+    (A, Call::Command, Answer::Added(A, 1)),
     (A, Store(Quit), Far(TRANQUIL)),
     (A, Store(Thirst), Far(SECOND_THIRST)),
     (A, Call::NoteTurn(false), Answer::Turns(2, 0)),
@@ -272,24 +251,31 @@ const RING: [Line; 19] = [
     (C, Look(BC), Word(DIRTY_A_THREE_BOTTLES_B)),
     (C, Call::Marks(BC), Answer::Marks(false, 7)),
     (C, Store(PhaseEvent::Drink), Far(DRINKS)),
-    (C, Call::Command, Answer::Added(OF_C)),
-    (C, Call::Command, Answer::Added(OF_C)),
-    (C, Call::Command, Answer::Added(OF_C)),
+    (C, Call::Command, Answer::Added(C, 1)),
+    (C, Call::Command, Answer::Added(C, 1)),
+    (C, Call::Command, Answer::Added(C, 1)),
     (B, Glance(C), Far(DRINKS_THREE_DONE)),
     (A, Glance(C), Far(DRINKS_THREE_DONE)),
 ];
 
+/// A script, and what is done there.
+const RUNS: [(&str, &[Line]); 9] = [
+    (TWO, &OPENED),
+    (TWO, &FORKS),
+    (TWO, &BOTTLES),
+    (TWO, &AT_ONCE),
+    (TWO, &IN_GROUPS),
+    (THREE, &OF_OTHERS),
+    (IMPATIENT, &GIVEN_UP),
+    (TWICE, &TWO_SESSIONS),
+    (THREE, &RING),
+];
+
 #[test]
 fn worked_runs(rt: HostRuntime) {
-    check(&rt, rt.alloc(), TWO, &OPENED);
-    check(&rt, rt.alloc(), TWO, &FORKS);
-    check(&rt, rt.alloc(), TWO, &BOTTLES);
-    check(&rt, rt.alloc(), TWO, &AT_ONCE);
-    check(&rt, rt.alloc(), TWO, &IN_GROUPS);
-    check(&rt, rt.alloc(), THREE, &OF_OTHERS);
-    check(&rt, rt.alloc(), IMPATIENT, &GIVEN_UP);
-    check(&rt, rt.alloc(), TWICE, &TWO_SESSIONS);
-    check(&rt, rt.alloc(), THREE, &RING);
+    for (script, lines) in &RUNS {
+        check(&rt, rt.alloc(), script, lines);
+    }
 }
 
 /// All bottles of an edge with 28 go to b.

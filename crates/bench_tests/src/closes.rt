@@ -7,15 +7,15 @@ use crate::benches::{A, AB, AC, B, BC, C, NOBODY, THREE, TWO, bench_of, both, pl
 use crate::calls::Answer::{Added, Far, Word};
 use crate::calls::Call::{Look, Store, Try};
 use crate::calls::Move::AllDue;
-use crate::calls::{Call, Line, do_all};
+use crate::calls::{Call, Line, do_all, entry_of};
 use crate::words::{
     DIRTY_A_BOTTLE_A_ASKED, DIRTY_A_BOTTLE_B, DIRTY_B_BOTTLE_B, DRINKS, DRINKS_ONE_DONE, OPEN,
     OPEN_OF_THREE, RETIRED, THIRSTY, TRANQUIL, edge, phase,
 };
 use edge_rule::PhaseEvent::{Quit, Retire, Thirst};
 use edge_rule::{Bench, CloseCause, Closed, Counts, Desk, PhaseEvent};
-use instrument_log::{Entry, InstrumentLog};
-use lab_plan::{EdgeNo, InstrumentNo, JobNo, Plan, Verb};
+use instrument_log::InstrumentLog;
+use lab_plan::{EdgeNo, InstrumentNo, JobNo, Plan};
 use rounds::{Ended, rounds};
 use std::alloc::Allocator;
 use std::process::Abort;
@@ -42,18 +42,6 @@ fn job_of<T: Allocator>(rt: &impl Abort, closed: &Closed<T>, number: usize) -> (
         withdrawn: closed.withdrawn(job),
     };
     (closed.phase(job).pack(), counts, closed.retired(job))
-}
-
-// The entry of the one command of a job's first session, which adds 1.
-fn entry_of(job: JobNo, value: u32) -> Entry {
-    Entry {
-        job,
-        session: 1,
-        place: 1,
-        length: 1,
-        verb: Verb::Add(1),
-        value,
-    }
 }
 
 fn has_entries<T: Allocator>(log: &InstrumentLog<T>, wanted: &[(u8, u32)]) -> bool {
@@ -163,30 +151,12 @@ const UNTOUCHED: Left = Left {
     entries: &[],
 };
 
-const OF_A: Entry = Entry {
-    job: A,
-    session: 1,
-    place: 1,
-    length: 1,
-    verb: Verb::Add(1),
-    value: 1,
-};
-
-const OF_B: Entry = Entry {
-    job: B,
-    session: 1,
-    place: 1,
-    length: 1,
-    verb: Verb::Add(1),
-    value: 2,
-};
-
 /// Job a has its session and retires, and gives its bottle to b, which does the same. Nobody eats.
 pub(crate) const BOTH_DRINK: [Line; 16] = [
     (A, Store(Thirst), Far(THIRSTY)),
     (A, Look(AB), Word(OPEN)),
     (A, Store(PhaseEvent::Drink), Far(DRINKS)),
-    (A, Call::Command, Added(OF_A)),
+    (A, Call::Command, Added(A, 1)),
     (A, Call::Phase, Far(DRINKS_ONE_DONE)),
     (A, Store(Quit), Far(TRANQUIL)),
     (A, Store(Retire), Far(RETIRED)),
@@ -196,7 +166,7 @@ pub(crate) const BOTH_DRINK: [Line; 16] = [
     (A, Try(AllDue, AB), Word(DIRTY_A_BOTTLE_B)),
     (B, Look(AB), Word(DIRTY_A_BOTTLE_B)),
     (B, Store(PhaseEvent::Drink), Far(DRINKS)),
-    (B, Call::Command, Added(OF_B)),
+    (B, Call::Command, Added(B, 2)),
     (B, Store(Quit), Far(TRANQUIL)),
     (B, Store(Retire), Far(RETIRED)),
 ];
@@ -230,13 +200,20 @@ const NOTHING: Left = Left {
     entries: &[],
 };
 
+/// A script, what is done there, and what is left.
+const CLOSES: [(&str, &[Line], &Left); 4] = [
+    (TWO, &[], &UNTOUCHED),
+    (TWO, &BOTH_DRINK, &BOTH_DRANK),
+    (THREE, &ONE_THIRSTY, &ONE_BEGAN),
+    (NOBODY, &[], &NOTHING),
+];
+
 #[test]
 fn closed_benches(rt: HostRuntime) {
     let alloc = rt.alloc();
-    assert!(rt; closes(&rt, alloc, alloc, TWO, &[], &UNTOUCHED));
-    assert!(rt; closes(&rt, alloc, alloc, TWO, &BOTH_DRINK, &BOTH_DRANK));
-    assert!(rt; closes(&rt, alloc, alloc, THREE, &ONE_THIRSTY, &ONE_BEGAN));
-    assert!(rt; closes(&rt, alloc, alloc, NOBODY, &[], &NOTHING));
+    for (script, lines, wanted) in &CLOSES {
+        assert!(rt; closes(&rt, alloc, alloc, script, lines, wanted));
+    }
 }
 
 /// The bench and the desks come back where not all of them are there.

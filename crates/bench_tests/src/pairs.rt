@@ -26,18 +26,19 @@ fn both_look<R: Threads + Sync + Abort, T: Allocator + Send + Sync>(
     requires own { Owns bench.now a.old × Owns bench.now b.old }
     ensures { Owns bench.now a.new × Owns bench.now b.new }
 {
-    assert!(rt; is_own(bench, a, AB) && is_own(bench, b, AB));
-    join_mut(rt, &mut || look(bench, a, AB), &mut || look(bench, b, AB));
+    let edge = EdgeNo(AB);
+    assert!(rt; is_own(bench, a, edge) && is_own(bench, b, edge));
+    join_mut(
+        rt,
+        &mut || look(bench, a, edge),
+        &mut || look(bench, b, edge),
+    );
 }
 
-fn edge_of<T: Allocator>(
-    rt: &impl Abort,
-    bench: &Bench<T>,
-    desk: &Desk<T>,
-    edge: EdgeNo,
-) -> EdgeState
+fn edge_of<T: Allocator>(rt: &impl Abort, bench: &Bench<T>, desk: &Desk<T>) -> EdgeState
     requires own { Owns bench.now desk.now }
 {
+    let edge = EdgeNo(AB);
     assert!(rt; is_own(bench, desk, edge));
     desk.seen(edge).unpacked()
 }
@@ -54,8 +55,8 @@ const OPENED: EdgeState = EdgeState {
 fn both_saw<T: Allocator>(rt: &impl Abort, bench: &Bench<T>, a: &Desk<T>, b: &Desk<T>)
     requires own { Owns bench.now a.now × Owns bench.now b.now }
 {
-    assert!(rt; edge_of(rt, bench, a, AB) == OPENED);
-    assert!(rt; edge_of(rt, bench, b, AB) == OPENED);
+    assert!(rt; edge_of(rt, bench, a) == OPENED);
+    assert!(rt; edge_of(rt, bench, b) == OPENED);
 }
 
 fn met<T: Allocator>(
