@@ -22,7 +22,6 @@ use crate::words::{
 use edge_rule::PhaseEvent;
 use edge_rule::PhaseEvent::{Hunger, Leave, Quit, Retire, Sit, Thirst};
 use edge_word::EdgeMoves;
-use lab_plan::JobNo;
 use legal_steps::Dining::{Eating, Hungry, Thinking};
 use legal_steps::Drinking::{Drinking as Drinks, Retired, Thirsty, Tranquil};
 
@@ -78,7 +77,7 @@ const A_BOTTLE: [Row; 23] = rows! {
     B: On(AB, Serve) => NotLegal, [CLEAN_B_BOTTLE_B], Hungry Drinks 1 0;
     B: On(AB, Look) => Saw(CLEAN_B_BOTTLE_B_ASKED), [CLEAN_B_BOTTLE_B_ASKED], Hungry Drinks 1 0;
     B: On(AB, Serve) => NotLegal, [CLEAN_B_BOTTLE_B_ASKED], Hungry Drinks 1 0;
-    A: Glance(JobNo(1)) => Far((Hungry, Drinks, 1, 0)), [CLEAN_B_BOTTLE_B_ASKED], Thinking Thirsty 1 0;
+    A: Glance(1) => Far((Hungry, Drinks, 1, 0)), [CLEAN_B_BOTTLE_B_ASKED], Thinking Thirsty 1 0;
     A: AllRetired => No, [CLEAN_B_BOTTLE_B_ASKED], Thinking Thirsty 1 0;
     B: Command => Value(1), [CLEAN_B_BOTTLE_B_ASKED], Hungry Drinks 1 1;
     B: Drink => No, [CLEAN_B_BOTTLE_B_ASKED], Hungry Drinks 1 1;

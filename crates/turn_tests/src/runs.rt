@@ -213,8 +213,8 @@ fn runs_as<T: Allocator + Copy>(rt: &impl Abort, alloc: T, run: &Run) {
 
 #[test]
 fn worked_runs(rt: HostRuntime) {
-    for run in RUNS {
-        runs_as(&rt, rt.alloc(), &run);
+    for run in &RUNS {
+        runs_as(&rt, rt.alloc(), run);
     }
 }
 

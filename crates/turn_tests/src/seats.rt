@@ -48,10 +48,10 @@ pub(crate) enum Move {
     AskBottles(u32),
 }
 
-/// A call of a job.
+/// A call of a job. Jobs and edges are plain numbers here: a table with an `EdgeNo` in it isn't a constant to the prover, and is costly.
 #[derive(Clone, Copy)]
 pub(crate) enum Call {
-    On(EdgeNo, Move),
+    On(u16, Move),
     // the phase act of a turn whose session has waited so long, and what it would be
     Act(u32),
     ActDue(u32),
@@ -63,7 +63,7 @@ pub(crate) enum Call {
     Drink,
     Store(PhaseEvent),
     Command,
-    Glance(JobNo),
+    Glance(u8),
 }
 
 /// What a call answers.
@@ -434,8 +434,8 @@ fn by_job<A: Allocator>(rt: &impl Abort, bench: &Bench<A>, desk: &mut Desk<A>, c
         Call::Drink => yes_or_no(drink(bench, desk)),
         Call::Store(what) => stored(rt, bench, desk, what),
         Call::Command => commanded(rt, bench, desk),
-        Call::Glance(other) => glanced(rt, bench, desk, other),
-        Call::On(edge, what) => on_edge(rt, bench, desk, edge, what),
+        Call::Glance(other) => glanced(rt, bench, desk, JobNo(other)),
+        Call::On(edge, what) => on_edge(rt, bench, desk, EdgeNo(edge), what),
     }
 }
 

@@ -2,7 +2,6 @@
 use crate::labs::{opened, plan_of};
 use crate::seats::{Answer, Call, Phase, Seat, seated};
 use crate::words::edge;
-use lab_plan::EdgeNo;
 use std::alloc::Allocator;
 use std::process::Abort;
 
@@ -26,7 +25,7 @@ pub(crate) const B: usize = 1;
 pub(crate) const C: usize = 2;
 
 // The edge of two jobs.
-pub(crate) const AB: EdgeNo = EdgeNo(0);
+pub(crate) const AB: u16 = 0;
 
 // The words that the job saw last on its edges; a failure tells both, as edges.
 fn saw<T: Allocator>(rt: &impl Abort, seat: &Seat<T>, words: &[u64], number: usize) {
