@@ -64,9 +64,9 @@ class Cases:
 
 def check_words(cases):
     """Words are refused before anything is read: this standard input never ends."""
-    bad = ("walk", "rounds", "rounds seven", "rounds +7", "rounds -1", "rounds 7 7", "rounds 1000000001", "rounds 0x7",
+    bad = ("walk", "rounds", "rounds seven", "rounds ++7", "rounds -1", "rounds 7 7", "rounds 1000000001", "rounds 0x7",
            "rounds 99999999999999999999999", "threads", "threads 2", "threads 0 5", "threads 33 5", "threads 2 1000000001",
-           "threads +2 5", "threads 2 5 5", "check it", "replay 5", "upgrade 2", "--help me", "--version", "-h", "rounds --help")
+           "threads 2 -- -- 5", "threads 2 5 5", "check it", "replay 5", "upgrade 2", "-- replay", "--version", "rounds x --help")
     for words in bad:
         with open("/dev/zero", "rb") as endless:
             cases.ends("words: " + words, cases.run(words.split(), stdin=endless), 2, "command line refused")
@@ -75,7 +75,8 @@ def check_words(cases):
     out, errors, status = cases.run(["--help"], b"")
     cases.tell("--help", None if status == 0 and not errors and b"rounds" in out and b"threads" in out else out)
     whole = simulate.simulate(PAIR, 9)[0].encode()
-    for words in ("rounds 9", "rounds 0000000000009", "rounds 1000000000", "threads 1 9", "threads 001 09", "threads 32 1000000000"):
+    for words in ("rounds 9", "rounds 0000000000009", "rounds 1000000000", "threads 1 9", "threads 001 09", "threads 32 1000000000",
+                  "rounds +9", "rounds -- 9", "threads 1 9 --"):
         out = whole if words != "threads 32 1000000000" else None
         cases.ends("words: " + words, cases.run(words.split(), PAIR), 0, "", out)
     cases.ends("no words", cases.run([], PAIR), 0, "", whole)

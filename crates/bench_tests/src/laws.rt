@@ -45,9 +45,9 @@ fn laws_of_turns() {
 
 #[test]
 fn laws_of_rounds() {
-    quiet::laws::idle_job_knows_what_it_saw();
-    quiet::laws::both_saw_is_both_know();
-    quiet::laws::quiet_round_is_retired();
+    round_laws::quiet::idle_job_knows_what_it_saw();
+    round_laws::quiet::both_saw_is_both_know();
+    round_laws::quiet::quiet_round_is_retired();
     round_laws::laws::no_quiet_end();
     round_laws::laws::no_quiet_end_from_rest();
     round_laws::laws::one_run();

@@ -12,6 +12,7 @@ mod until;
 
 pub use opening::open;
 pub use owners::{Owner, on_threads};
-pub use serving::{meal, serve, visit_all};
+pub use serving::{meal, serve};
+pub use session_layer::visit_all;
 pub use taking::{take_turn, turns_until, turns_until_all_retired};
 pub use until::{Until, is_at};

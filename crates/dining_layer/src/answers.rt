@@ -6,11 +6,12 @@ use edge_rule::Stepped;
 use edge_word::EdgeWord;
 
 /// What became of a move.
+#[must_use]
 #[derive(Clone, Copy, PartialEq, Eq, Debug)]
 pub enum Tried {
     /// It was done.
     Done,
-    /// It was legal by the word last seen, and the exchange found this other word.
+    /// Lost: it was legal by the word last seen, but another job changed the word first, to the edge told here; nothing was done.
     Moved(EdgeWord),
     /// It isn't legal by the word last seen.
     NotLegal,

@@ -9,6 +9,7 @@ ghost use Rattle.edge_rule.specs.Knowing.{IsKnown};
 ghost use Rattle.dining_layer.specs.Turned.{turned};
 
 use edge_rule::{Bench, Desk};
+use edge_word::EdgeWord;
 use lab_plan::{EdgeNo, JobNo, Plan};
 use legal_steps::{EdgeState, End, JobState};
 use std::alloc::Allocator;
@@ -58,12 +59,36 @@ pub fn at_edge<A: Allocator>(bench: &Bench<A>, desk: &Desk<A>, edge: EdgeNo) -> 
     ensures few { length (bottles desk.now.plan edge) ≤ most_bottles }
     ensures known { IsKnown desk.now.plan (known desk.now) desk.now.job }
 {
+    let seen = desk.seen(edge);
+    at_edge_seen(bench, desk, edge, seen)
+}
+
+/// The same for a caller that has at hand what the desk saw last on the edge.
+pub fn at_edge_seen<A: Allocator>(
+    bench: &Bench<A>,
+    desk: &Desk<A>,
+    edge: EdgeNo,
+    seen: EdgeWord,
+) -> AtEdge
+    requires own { Owns bench.now desk.now }
+    requires edge { IsOwn desk.now.plan desk.now.job edge }
+    requires seen { seen ≡ edge_at (known desk.now) edge }
+    requires fits_seen { IsOfBottles (length (bottles desk.now.plan edge)) seen }
+    ensures job { result.job ≡ desk.now.job }
+    ensures phase { result.phase ≡ phase_at (known desk.now) desk.now.job }
+    ensures here { result.here ≡ end_of desk.now.plan desk.now.job edge }
+    ensures seen { result.seen ≡ edge_at (known desk.now) edge }
+    ensures mine { result.mine ≡ turned desk.now.plan edge (end_of desk.now.plan desk.now.job edge) (edge_at (known desk.now) edge) }
+    ensures fits { IsOfBottles (length (bottles desk.now.plan edge)) result.seen }
+    ensures few { length (bottles desk.now.plan edge) ≤ most_bottles }
+    ensures known { IsKnown desk.now.plan (known desk.now) desk.now.job }
+{
     let job = desk.job();
     let plan = bench.plan();
     let here = End::of(plan, job, edge);
     // A call for its clause alone: an edge has few bottles.
     let _ = plan.bottles(edge);
-    let seen = desk.seen(edge).unpacked();
+    let seen = seen.unpacked();
     AtEdge {
         job,
         phase: desk.phase(),

@@ -1,7 +1,9 @@
 //! The greatest legal sets of bottles.
-ghost use Rattle.std.specs.Prelude.{◌≡◌};
+ghost use Rattle.std.specs.Prelude.{◌≡◌, length};
+ghost use Rattle.lab_plan.specs.LabPlan.{bottles};
+ghost use Rattle.edge_word.specs.Words.{IsOfBottles};
 ghost use Rattle.legal_steps.specs.declared.phase.Drinking.TheVariants.{Thirsty};
-ghost use Rattle.legal_steps.specs.State.{IsOwn, drinking};
+ghost use Rattle.legal_steps.specs.State.{IsOwn, edge as edge_at, drinking};
 ghost use Rattle.legal_steps.specs.Legal.{MayGiveBottle, MayAskBottle};
 ghost use Rattle.legal_steps.specs.Run.{IsLegalFrom};
 ghost use Rattle.edge_word.specs.Moves.{events_of};
@@ -10,9 +12,9 @@ ghost use Rattle.turns.specs.Due.{AreForkMoves, AreDue, WithBottles, IsGreatest,
 ghost use Rattle.drinking_layer.specs.Local.{with_sets as sets_added};
 
 use crate::needs::{gifts, wishes};
-use dining_layer::{at_edge, due_forks};
+use dining_layer::{at_edge, at_edge_seen, due_forks};
 use edge_rule::{Bench, Desk};
-use edge_word::EdgeMoves;
+use edge_word::{EdgeMoves, EdgeWord};
 use lab_plan::EdgeNo;
 use legal_steps::{EdgeState, End, JobState};
 use std::alloc::Allocator;
@@ -55,7 +57,25 @@ pub fn due_moves<A: Allocator>(bench: &Bench<A>, desk: &Desk<A>, edge: EdgeNo) -
     ensures due { AreDue desk.now.plan (known desk.now) desk.now.job edge result }
     ensures legal { IsLegalFrom desk.now.plan (known desk.now) (events_of result desk.now.job edge) }
 {
-    let at = at_edge(bench, desk, edge);
+    let seen = desk.seen(edge);
+    due_moves_seen(bench, desk, edge, seen)
+}
+
+/// The same for a caller that has at hand what the desk saw last on the edge.
+pub fn due_moves_seen<A: Allocator>(
+    bench: &Bench<A>,
+    desk: &Desk<A>,
+    edge: EdgeNo,
+    seen: EdgeWord,
+) -> EdgeMoves
+    requires own { Owns bench.now desk.now }
+    requires edge { IsOwn desk.now.plan desk.now.job edge }
+    requires seen { seen ≡ edge_at (known desk.now) edge }
+    requires fits_seen { IsOfBottles (length (bottles desk.now.plan edge)) seen }
+    ensures due { AreDue desk.now.plan (known desk.now) desk.now.job edge result }
+    ensures legal { IsLegalFrom desk.now.plan (known desk.now) (events_of result desk.now.job edge) }
+{
+    let at = at_edge_seen(bench, desk, edge, seen);
     let needed = desk.needed(edge);
     let forks = due_forks(at.phase.dining, End::Higher, at.mine);
     with_sets(at.phase, needed, at.mine, forks)

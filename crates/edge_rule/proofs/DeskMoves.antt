@@ -46,7 +46,7 @@ use Rattle.locality.proofs.Groups.{moved_seat, moved_edges}
 use Rattle.legal_steps.proofs.FewCommands.{few_commands}
 use Rattle.one_history.proofs.Trying.{tries}
 use Rattle.one_history.proofs.Storing.{by_job, told_back, stores}
-use Rattle.edge_rule.proofs.DeskSteps.{got, led, hand_grown, mine_seats, mine_edges, desk_seat, desk_edges, desk_grows, desk_keeps, of_plan_set, noted_but, not_settled, framed, plan_known, seat_adds}
+use Rattle.edge_rule.proofs.DeskSteps.{got, led, hand_grown, mine_seats, mine_edges, desk_seat, desk_grows, desk_keeps, of_plan_set, noted_but, not_settled, framed, plan_known, seat_adds}
 
 -- ---- an exchange
 
@@ -75,11 +75,6 @@ module _ {A : Type 0} (b : bench_fields.Inside A) (d : Inside A) (is_bench : IsB
 
   pub move_sets : AreOfBottles 28 m
   move_sets = AreOfBottles-28 (length (bottles mp e)) m few sets
-
-  -- the edge last seen, as it is read from the fields
-  pub seen_is : (n : ℕ) (x : EdgeState) → n ≡ e → x ≡ get_or d.seen.items n x → x ≡ edge (mine mv) e
-  seen_is n x at is = let l = desk_edges d ok in let inside = own.is_edge in
-      got d.seen.items e x no_edge (omega arith) (is ∙ ap (λ k. get_or d.seen.items k x) at) ∙ ap (λ (l : List EdgeState). get_or l e no_edge) (sym ok.seen)
 
   seen_fits : IsOfBottles (length (bottles mp e)) (edge (mine mv) e)
   seen_fits = subst (λ (l : List EdgeState). IsOfBottles (length (bottles mp e)) (get_or l e no_edge)) (sym ok.seen) (ok.of_plan e own.is_edge)

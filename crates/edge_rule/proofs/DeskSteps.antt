@@ -33,7 +33,7 @@ use Rattle.locality.specs.Lists.{Each}
 use Rattle.one_history.specs.Grow.{hand_or, hand_in, rest_hands, adding, IsLed, IsMine, mine, Grows, Does, looked}
 use Rattle.one_history.specs.Groups.{with_group, all_of, StandUnbroken}
 use Rattle.one_history.proofs.Groups.{stand_in_more, with_group_stands, all_with_group}
-use Rattle.edge_rule.specs.DeskView.{DeskView, BenchView, Owns, Adds}
+use Rattle.edge_rule.specs.DeskView.{DeskView, BenchView, Owns, Adds, known}
 use Rattle.edge_rule.specs.NeededBottles.{AreNeeded}
 use Rattle.edge_rule.specs.DeskInside.{seat_view, view_of, kept, fixed, AreOfPlan, AtRest, IsDesk}
 use Rattle.edge_rule.specs.BenchInside.{bench_of, IsBench}
@@ -41,7 +41,8 @@ use Rattle.edge_rule.specs.CalmEdges.{no_word, IsStill, AreStill}
 use Rattle.edge_rule.proofs.StillEdges.{same_at, stay_still, but_one, stays_settled}
 use Rattle.turns.specs.Acts.{IsSettled}
 use Rattle.std.proofs.lemmas.Bool.{false≢true}
-use Rattle.turns.specs.Due.{but_position}
+use Rattle.turns.specs.Due.{but_position, IsCalm}
+use Rattle.turns.proofs.Calm.{stays_calm}
 use Rattle.locality.specs.Changes.{seat_after}
 use Rattle.locality.proofs.Frame.{learned_seat}
 use Rattle.locality.proofs.Runs.{learned_all-append, learned_all_seats, learned_all_edges, opening_seats, opening_edges, own_known}
@@ -338,6 +339,33 @@ module _ {A : Type 0} (d d' : Inside A) (ok : IsDesk d) (e : ℕ) (x : EdgeState
       (ap (λ (y : Seat). get_or y.fork_marks f false) same) (ap (λ (y : Seat). get_or y.bottle_marks f 0) same)) ok.calm))
       (λ set. stays_settled lp (mine lv) u lj (own ∙ (same ∙ sym ok.own)) (ok.settled (sym settled ∙ set)))
       (subst (λ (z : JobState). z.drinking ≢ Reaching) (sym (ap (λ (y : Seat). y.phase) same)) ok.rests)
+
+-- a look that sees again what a still edge showed leaves it calm
+pub look_calm : {A : Type 0} (d : Inside A) (s' : TableSeat LogView View) (ok : IsDesk d) (e : ℕ) (x : EdgeState)
+    → e < length (edges (hand_in d.seat.me.0).plan) → IsStill (hand_in d.seat.me.0).plan (mine d.seat.me.0) (hand_in d.seat.me.0).job e
+    → x ≡ edge (mine d.seat.me.0) e → Does d.seat.me.0 (Look (hand_in d.seat.me.0).job e x) s'.me.0
+    → IsCalm (seat_view d.clock s').plan (known (seat_view d.clock s')) (seat_view d.clock s').job e
+look_calm d s' ok e x inside still is t =
+    let v : View = d.seat.me.0 in
+    let lp : LabPlan = (hand_in v).plan in
+    let lj : ℕ = (hand_in v).job in
+    let event : Event = Look lj e x in
+    let h = hand_grown v s'.me.0 (event ∷ []) t.hands in
+    let u : State = learned_all lp (mine v) (event ∷ []) in
+    let calm_u : IsCalm lp u lj e = stays_calm lp (mine v) u lj e
+    (get_or-set_same (mine v).edges e x no_edge (let l = mine_edges v in omega arith) ∙ is)
+    (ap (λ (y : Seat). but_position y.phase) (learned_seat lp (mine v) event (let jobs = mine_seats v in let here = ok.at_rest.inside in omega arith)))
+    still.calm in
+    subst (λ (z : LabPlan × ℕ × State). IsCalm z.0 z.2 z.1 e) (λ i. (ap (λ (z : Hand). z.plan) (sym h) i, ap (λ (z : Hand). z.job) (sym h) i, sym (mine_grown v s'.me.0 (event ∷ []) t) i)) calm_u
+
+-- what a look saw is what the job knows of the edge
+pub look_shows : {A : Type 0} (d : Inside A) (s' : TableSeat LogView View) (e : ℕ) (x : EdgeState)
+    → e < length (edges (hand_in d.seat.me.0).plan) → Does d.seat.me.0 (Look (hand_in d.seat.me.0).job e x) s'.me.0 → x ≡ edge (known (seat_view d.clock s')) e
+look_shows d s' e x inside t =
+    let v : View = d.seat.me.0 in
+    let event : Event = Look (hand_in v).job e x in
+    sym (ap (λ (z : State). edge z e) (mine_grown v s'.me.0 (event ∷ []) t)
+    ∙ get_or-set_same (mine v).edges e x no_edge (let l = mine_edges v in omega arith))
 
 -- what a look tells, of the word that was unpacked
 module _ {A : Type 0} (b : bench_fields.Inside A) (d : Inside A) (is_bench : IsBench b) (ok : IsDesk d) (owns : Owns (bench_of b) (view_of d)) where

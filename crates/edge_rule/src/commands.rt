@@ -1,26 +1,23 @@
 //! Commands: the log of an instrument leaves its slot, gets an entry and goes back.
 ghost use Rattle.std.specs.Prelude.{◌≡◌};
-ghost use Rattle.lab_plan.specs.LabPlan.{command_at};
 ghost use Rattle.legal_steps.specs.declared.event.Event.TheVariants.{Reach};
 ghost use Rattle.legal_steps.specs.Legal.{May};
-ghost use Rattle.plan_logs.specs.Logs.{IsAtCommand};
 ghost use Rattle.edge_rule.specs.DeskView.{Owns, Commanded, known};
 
 use crate::bench::Bench;
 use crate::desk::Desk;
 use crate::words::{packed_phase, phase_place};
 use instrument_log::Entry;
-use lab_plan::{JobNo, Plan};
+use lab_plan::InstrumentNo;
 use legal_steps::{Drinking, JobState};
 use one_history::board::{Acts, Reaches};
-use plan_logs::{next_command, next_entry, push};
+use plan_logs::{drafted, entered, push};
 use std::alloc::Allocator;
 
-fn slot_of<A: Allocator>(plan: &Plan<A>, job: JobNo, phase: JobState) -> usize
-    requires { IsAtCommand plan.now job phase }
-    ensures { result ≡ (command_at plan.now job phase.session phase.position).0 }
+fn slot_of(instrument: InstrumentNo) -> usize
+    ensures { result ≡ instrument }
 {
-    next_command(plan, job, phase).0.0 as usize
+    instrument.0 as usize
 }
 
 /// Reaches for the log of the next command's instrument, and acts: adds the command's entry, which it answers.
@@ -34,7 +31,9 @@ pub fn command<A: Allocator>(bench: &Bench<A>, desk: &mut Desk<A>) -> Entry
     let phase = desk.phase;
     let job = desk.job;
     let place = phase_place(plan, job);
-    let slot = slot_of(plan, job, phase);
+    // Looked up before the first store, behind which nothing of the plan could be taken as read.
+    let (instrument, draft) = drafted(plan, job, phase);
+    let slot = slot_of(instrument);
     let reaching = JobState {
         drinking: Drinking::Reaching,
         ..phase
@@ -52,7 +51,7 @@ pub fn command<A: Allocator>(bench: &Bench<A>, desk: &mut Desk<A>) -> Entry
         .shared
         .store::<Reaches>(&mut desk.seat, place, first);
     let log = desk.seat.slot_mut(&bench.table.shared, slot);
-    let entry = next_entry(plan, job, phase, log);
+    let entry = entered(draft, log);
     push(log, &entry);
     bench
         .table

@@ -1,5 +1,8 @@
 //! A shared bench: one table of atomic words under one rule, with one history. Each step that a desk takes is atomic, and adds
 //! exactly its events to that history.
+//!
+//! The protocol is Chandy and Misra's of 1984, of philosophers who dine and drink. What differs: no message is sent. Fork, bottles
+//! and their request tokens are bits of one word an edge, which both its jobs see, and a job moves what it may in one exchange.
 #![tactic(auto)]
 
 mod bench;
@@ -10,7 +13,6 @@ mod closed;
 mod closing;
 mod commands;
 mod company;
-mod counts;
 mod desk;
 mod meeting;
 mod needed;
@@ -23,7 +25,7 @@ mod telling;
 mod words;
 
 pub use bench::Bench;
-pub use calls::Stepped;
+pub use calls::{Looked, Stepped};
 pub use clock::Clock;
 pub use closed::Closed;
 pub use commands::command;
@@ -33,5 +35,5 @@ pub use legal_steps::Counts;
 pub use meeting::{glance, meet};
 pub use one_history::PhaseEvent;
 pub use refusals::{CloseCause, CloseRefused, OpenError};
-pub use steps::{exchange, look, store_phase};
+pub use steps::{exchange, exchange_seen, look, look_at, store_phase};
 pub use telling::{News, heed, tell};

@@ -43,7 +43,8 @@ const ALL_BOTTLES: u64 = 0xfff_ffff;
 /// | 32 to 59 | bit `BOTTLE_TOKENS + k`: end of the request token of bottle `k` |
 /// | 60 to 63 | zero |
 ///
-/// Bits of bottles that the edge doesn't have are zero.
+/// Bits of bottles that the edge doesn't have are zero. All eight values of the lowest three bits occur: if the fork and its
+/// token are at the same end, the other end has asked for the fork, and if they are apart, it hasn't. So it is with each bottle.
 #[derive(Clone, Copy, PartialEq, Eq, Debug)]
 pub struct EdgeWord {
     word: u64,

@@ -1,3 +1,2 @@
 pub mod Parts
-pub mod Within
 pub mod Told

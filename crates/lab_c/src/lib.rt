@@ -3,8 +3,8 @@
 
 ghost use Rattle.std.specs.Prelude.{◌≡◌};
 ghost use Rattle.lab_program.specs.Answers.{ScriptRefuses};
-ghost use Rattle.replay_runs.specs.Replays.{ReplaysScript, ReplayRefuses};
-ghost use Rattle.script_runs.specs.Runs.{Checks, Upgrades, UpgradeIsStable};
+ghost use Rattle.lab_runs.specs.Replays.{ReplaysScript, ReplayRefuses};
+ghost use Rattle.lab_runs.specs.Scripts.{Checks, Upgrades, UpgradeIsStable};
 ghost use Rattle.lab_runs.specs.Shared.{RunsInRounds, HasOneRun};
 ghost use Rattle.lab_c.specs.Calls.{Answers};
 
@@ -14,9 +14,7 @@ mod telling;
 
 use bytes::Bytes;
 use kept::Kept;
-use lab_runs::run_rounds;
-use replay_runs::run_replay;
-use script_runs::{run_check, run_upgrade};
+use lab_runs::{run_check, run_replay, run_rounds, run_upgrade};
 use std::alloc::Global;
 pub use telling::Told;
 use telling::tell;

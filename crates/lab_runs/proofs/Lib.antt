@@ -1,1 +1,5 @@
+pub mod Shown
+pub mod CountSums
+pub mod UpgradeStable
+pub mod Replayed
 pub mod SharedRuns

@@ -4,8 +4,8 @@ use Rattle.labrun_words.specs.declared.words.Task.{Task}
 use Rattle.labrun_words.specs.declared.words.Task.TheVariants.{Rounds, Threads, Replay, Check, Upgrade}
 use Rattle.lab_program.specs.declared.faults.RunFault.{RunFault}
 use Rattle.lab_program.specs.declared.faults.Outcome.{Outcome}
-use Rattle.replay_runs.specs.Replays.{ReplayAnswers}
-use Rattle.script_runs.specs.Runs.{CheckAnswers, UpgradeAnswers}
+use Rattle.lab_runs.specs.Replays.{ReplayAnswers}
+use Rattle.lab_runs.specs.Scripts.{CheckAnswers, UpgradeAnswers}
 use Rattle.lab_runs.specs.Shared.{RoundsAnswer, ThreadsAnswer}
 
 -- for what a source had left, and what a sink has taken before and after

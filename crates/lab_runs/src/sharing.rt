@@ -5,11 +5,11 @@ ghost use Rattle.lab_program.specs.Faults.{failed_reads, failed_writes};
 ghost use Rattle.lab_program.specs.Answers.{AnswersFor, ScriptRefuses};
 ghost use Rattle.lab_runs.specs.Shared.{RunsByTurns, RunsInRounds, HasOneRun, RoundsAnswer, ThreadsAnswer};
 
+use crate::showing::show_run;
 use headline::holds_of_every_run;
 use lab_program::{Outcome, RunFault, Source, read_input};
 use report::Sink;
 use report::laws::one_report;
-use reported_runs::show_run;
 use round_laws::laws::one_run;
 use script_reader::laws::one_meaning;
 use script_reader::read_plan;

@@ -5,12 +5,12 @@ ghost use Rattle.lab_program.specs.Faults.{failed_reads, failed_writes};
 ghost use Rattle.labrun_words.specs.Words.{MayRun};
 ghost use Rattle.lab_runs.specs.Tasks.{TaskAnswers};
 
+use crate::replaying::run_replay;
+use crate::scripts::{run_check, run_upgrade};
 use crate::sharing::{run_rounds, run_threads};
 use lab_program::{Outcome, RunFault, Source};
 use labrun_words::Task;
-use replay_runs::run_replay;
 use report::Sink;
-use script_runs::{run_check, run_upgrade};
 use std::alloc::Allocator;
 use std::thread::Threads;
 use workers::Gate;

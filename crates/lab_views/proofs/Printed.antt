@@ -10,15 +10,15 @@ use Rattle.report.specs.Taken.{AppendsPrefix}
 use Rattle.report_reader.specs.declared.fault.ReportFault.{ReportFault}
 use Rattle.report_reader.specs.Report.{ReportText}
 use Rattle.report_reader.proofs.NoReport.{no_report}
-use Rattle.session_columns.specs.Timelines.{TimelineView, IsTimeline}
+use Rattle.timeline.specs.Timelines.{TimelineView, IsTimeline}
 use Rattle.timeline.specs.Faults.{IsFaultOf}
 use Rattle.printed_reports.specs.ReadBack.{IsReadAs}
 use Rattle.printed_reports.proofs.ReportBack.{report_read_back}
 use Rattle.printed_reports.proofs.NoFault.{no_other_fault}
 use Rattle.picture.specs.Picture.{picture_of}
-use Rattle.log_table.specs.Table.{table_text}
+use Rattle.picture.specs.LogTable.{table_text}
 use Rattle.lab_program.specs.declared.faults.Outcome.{Outcome}
-use Rattle.reported_runs.specs.Reports.{Reports}
+use Rattle.lab_runs.specs.Reports.{Reports}
 use Rattle.lab_views.specs.declared.picture_fault.PictureFault.TheVariants.{Report, Timeline, Read, TooLong, Write, NoMemory}
 use Rattle.lab_views.specs.Pictures.{Pictures, IsNoReport}
 use Rattle.lab_views.specs.Tables.{Tabulates}

@@ -1,7 +1,7 @@
 -- What is written for an input whose run was traced, and what run that is.
 use Rattle.std.proofs.Common.{◌≡◌, ℕ, zero, suc, ◌+◌, ◌<◌, ◌≤◌, List, [], ◌∷◌, ◌++◌, length, map, take, refl, sym, ap, ◌∙◌, subst, arith}
 use Rattle.std.specs.Prelude.{Some, slice_get}
-use Rattle.std.specs.List.{AllByRecursion, flat_map}
+use Rattle.std.specs.List.{AllByRecursion}
 use Rattle.std.proofs.lemmas.List.Folds.{flat_map-map}
 use Rattle.std.proofs.lemmas.List.{length-map}
 use Rattle.lab_plan.specs.LabPlan.{LabPlan}
@@ -27,12 +27,12 @@ use Rattle.script_reader.specs.Steps.{StepsMean}
 use Rattle.round_trace.specs.StepsOf.{step_of}
 use Rattle.report.specs.Events.{retired_after}
 use Rattle.lab_program.specs.declared.faults.Outcome.{Outcome}
-use Rattle.reported_runs.specs.Reports.{outcome_of}
-use Rattle.replay_runs.specs.Replays.{run_of, ReplaysScript, HasIllegalStep}
+use Rattle.lab_runs.specs.Reports.{outcome_of}
+use Rattle.lab_runs.specs.Replays.{run_of}
 use Rattle.written_steps.specs.ReadBack.{IsNameable}
-use Rattle.written_steps.specs.StepLists.{script_head, step_line, step_lines, steps_behind, lines_from_here}
+use Rattle.written_steps.specs.StepLists.{script_head, step_line, steps_behind, lines_from_here}
 use Rattle.written_steps.proofs.ListsBack.{list_read_back}
-use Rattle.lab_views.specs.Traces.{trace_text, is_replayable, Traces, TracesTheRun, ShowsRun, ReplaysAsRounds, TraceIsReplayed}
+use Rattle.lab_views.specs.Traces.{trace_text, is_replayable, Traces, TracesTheRun, TraceIsReplayed}
 
 -- ---- the text is read back
 

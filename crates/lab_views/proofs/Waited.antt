@@ -1,9 +1,8 @@
 -- What is written for an input whose waits are told.
-use Rattle.std.proofs.Common.{◌≡◌, ℕ, ◌<◌, List, [], ◌∷◌, length, refl, sym, ap, ◌∙◌, subst}
-use Rattle.std.specs.List.{All}
+use Rattle.std.proofs.Common.{◌≡◌, ℕ, List, refl, ap, ◌∙◌}
 use Rattle.lab_plan.specs.LabPlan.{LabPlan}
 use Rattle.script_reader.specs.Script.{ScriptMeans}
-use Rattle.waiting.specs.Waits.{RunView, IsRunOf, rounds_of}
+use Rattle.waiting.specs.Waits.{RunView, IsRunOf}
 use Rattle.waiting.specs.Text.{waits_text}
 use Rattle.chains.specs.Chains.{IsLongestChain}
 use Rattle.lab_program.specs.declared.faults.Outcome.TheVariants.{Finished}

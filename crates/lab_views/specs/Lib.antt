@@ -5,5 +5,6 @@ pub mod Tables
 pub mod Traces
 pub mod Printed
 pub mod Waits
+pub mod Blocks
 pub mod Gantts
 pub mod Arranged

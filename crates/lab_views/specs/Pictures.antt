@@ -10,7 +10,7 @@ use Rattle.report_reader.specs.Reading.{Refuses}
 use Rattle.timeline.specs.declared.fault.TimelineFault.{TimelineFault}
 use Rattle.timeline.specs.declared.fault.TimelineFault.TheVariants as faults
 use Rattle.timeline.specs.Faults.{IsFaultOf}
-use Rattle.session_columns.specs.Timelines.{TimelineView, IsTimeline}
+use Rattle.timeline.specs.Timelines.{TimelineView, IsTimeline}
 use Rattle.picture.specs.Picture.{picture_of}
 use Rattle.lab_program.specs.declared.reading.ReadFault.{ReadFault}
 use Rattle.lab_program.specs.declared.reading.ReadFault.TheVariants as reading

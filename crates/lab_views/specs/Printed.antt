@@ -8,12 +8,12 @@ use Rattle.report.specs.Taken.{AppendsPrefix}
 use Rattle.report.specs.Events.{shown_after}
 use Rattle.report_reader.specs.Report.{ReportText}
 use Rattle.timeline.specs.declared.fault.TimelineFault.TheVariants as faults
-use Rattle.session_columns.specs.Timelines.{TimelineView, IsTimeline}
+use Rattle.timeline.specs.Timelines.{TimelineView, IsTimeline}
 use Rattle.printed_reports.specs.Printed.{printed_report}
 use Rattle.picture.specs.Picture.{picture_of}
-use Rattle.log_table.specs.Table.{table_text}
+use Rattle.picture.specs.LogTable.{table_text}
 use Rattle.lab_program.specs.declared.faults.Outcome.{Outcome}
-use Rattle.reported_runs.specs.Reports.{Reports}
+use Rattle.lab_runs.specs.Reports.{Reports}
 use Rattle.lab_views.specs.declared.picture_fault.PictureFault.{PictureFault}
 use Rattle.lab_views.specs.declared.picture_fault.PictureFault.TheVariants.{Timeline, Write, NoMemory}
 use Rattle.lab_views.specs.Pictures.{DrawsFor}

@@ -3,7 +3,7 @@ use Rattle.std.specs.Prelude.{◌≡◌, ℕ, List, Option, Result, Ok, Err}
 use Rattle.std.specs.Io.KnownBytes.{Keeps, Appends}
 use Rattle.report.specs.Taken.{AppendsPrefix}
 use Rattle.report_reader.specs.Report.{ReportText, IsTextOf}
-use Rattle.log_table.specs.Table.{table_text}
+use Rattle.picture.specs.LogTable.{table_text}
 use Rattle.lab_program.specs.Input.{IsInput, IsTooLong}
 use Rattle.lab_views.specs.declared.picture_fault.PictureFault.{PictureFault}
 use Rattle.lab_views.specs.declared.picture_fault.PictureFault.TheVariants.{Report, Timeline, Read, TooLong, Write, NoMemory}

@@ -15,8 +15,8 @@ use Rattle.round_trace.specs.Traces.{IsRunByRounds}
 use Rattle.lab_program.specs.declared.faults.RunFault.{RunFault}
 use Rattle.lab_program.specs.declared.faults.Outcome.{Outcome}
 use Rattle.lab_program.specs.Answers.{ScriptRefuses, AnswersTo}
-use Rattle.reported_runs.specs.Reports.{outcome_of}
-use Rattle.replay_runs.specs.Replays.{ReplaysScript, HasIllegalStep}
+use Rattle.lab_runs.specs.Reports.{outcome_of}
+use Rattle.lab_runs.specs.Replays.{ReplaysScript, HasIllegalStep}
 use Rattle.lab_runs.specs.Shared.{RunsInRounds}
 
 -- the step of each event, on a line of its own

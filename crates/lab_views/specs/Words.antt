@@ -5,7 +5,7 @@ use Rattle.lab_program.specs.declared.words.NoTask.{NoTask}
 use Rattle.lab_program.specs.Numbers.{number_within}
 use Rattle.lab_program.specs.Words.{WordsGive}
 use Rattle.lab_views.specs.declared.words.View.{View}
-use Rattle.lab_views.specs.declared.words.View.TheVariants.{Explain, Picture, Table, Arrange, Trace, Waits, Gantt}
+use Rattle.lab_views.specs.declared.words.View.TheVariants.{Explain, Picture, Table, Arrange, Trace, Waits, Blocks, Gantt}
 
 -- the view that some words ask for
 unfoldable pub view_named : List ℕ → Option View
@@ -14,11 +14,12 @@ view_named word =
     else (if bytes_eq word (codes "picture") then Some Picture
     else (if bytes_eq word (codes "table") then Some Table else (if bytes_eq word (codes "arrange") then Some Arrange else None)))
 
--- `trace N`, `waits N` and `gantt N`
+-- `trace N`, `waits N`, `blocks N` and `gantt N`
 unfoldable pub view_over : List ℕ → ℕ → Option View
 view_over word limit =
     if bytes_eq word (codes "trace") then Some (Trace limit)
-    else (if bytes_eq word (codes "waits") then Some (Waits limit) else (if bytes_eq word (codes "gantt") then Some (Gantt limit) else None))
+    else (if bytes_eq word (codes "waits") then Some (Waits limit)
+    else (if bytes_eq word (codes "blocks") then Some (Blocks limit) else (if bytes_eq word (codes "gantt") then Some (Gantt limit) else None)))
 
 abbrev pub within : List ℕ → Option ℕ → Option View
 within word (Some limit) = view_over word limit

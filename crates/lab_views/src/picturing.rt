@@ -1,7 +1,7 @@
 // Pictures of reports.
 ghost use Rattle.std.specs.Prelude.{◌≡◌, ◌+◌};
 ghost use Rattle.report.specs.Taken.{Sends};
-ghost use Rattle.session_columns.specs.Timelines.{IsTimeline};
+ghost use Rattle.timeline.specs.Timelines.{IsTimeline};
 ghost use Rattle.picture.specs.Picture.{picture_of};
 ghost use Rattle.lab_program.specs.Input.{ConsumesUpTo};
 ghost use Rattle.lab_views.specs.Pictures.{DrawsFor, PictureAnswers, failed_picture_reads, failed_picture_writes};

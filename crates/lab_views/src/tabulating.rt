@@ -6,7 +6,7 @@ ghost use Rattle.lab_views.specs.Tables.{TabulatesFor, TableAnswers};
 
 use crate::picture_fault::{PictureFault, for_reading, for_report};
 use lab_program::{Source, read_input, send_text};
-use log_table::table_of;
+use picture::table_of;
 use report::Sink;
 use report_reader::read_report;
 use std::alloc::Allocator;

@@ -21,6 +21,8 @@ pub enum View {
     Trace { limit: u32 },
     /// Tell who waited in a script's run by rounds, at most so many, and for how long.
     Waits { limit: u32 },
+    /// Tell which job kept which waiting in a script's run by rounds, at most so many.
+    Blocks { limit: u32 },
     /// Draw a script's run by rounds, at most so many, as a picture over time.
     Gantt { limit: u32 },
 }
@@ -64,6 +66,12 @@ const WAITS: Word = Word {
     about: "read a script, tell who waits in its run by at most N rounds, and for how long",
 };
 
+const BLOCKS: Word = Word {
+    name: "blocks",
+    values: "N",
+    about: "read a script, tell who keeps whom waiting in its run by at most N rounds, and for which instrument",
+};
+
 const GANTT: Word = Word {
     name: "gantt",
     values: "N",
@@ -77,7 +85,9 @@ const ARRANGE: Word = Word {
 };
 
 /// The words, as the help shows them.
-const WORDS: [Word; 7] = [EXPLAIN, PICTURE, TABLE, TRACE, WAITS, GANTT, ARRANGE];
+const WORDS: [Word; 8] = [
+    EXPLAIN, PICTURE, TABLE, TRACE, WAITS, BLOCKS, GANTT, ARRANGE,
+];
 
 /// What stands below the table of words in the help.
 const AFTER_HELP: &str = "N is a number from 0 to 1000000000, in plain digits.
@@ -86,7 +96,8 @@ The input comes from standard input, at most 16777216 bytes. What is printed goe
 standard output, and a fault in one line to standard error.
 
 Statuses:
-  0  explain: done, whether the steps are legal or not; picture, table, trace, waits, gantt, arrange, --help: done
+  0  explain: done, whether the steps are legal or not; picture, table, trace, waits, blocks, gantt,
+     arrange, --help: done
   1  the script or the report is refused; the fault names its line or place
   2  the command line is refused
   3  trace: longer than a replay reads; arrange: the script went out as it was
@@ -123,6 +134,9 @@ fn view_over(word: &[u8], limit: u32) -> Option<View>
     }
     if WAITS.is(word) {
         return Some(View::Waits { limit });
+    }
+    if BLOCKS.is(word) {
+        return Some(View::Blocks { limit });
     }
     if GANTT.is(word) {
         return Some(View::Gantt { limit });

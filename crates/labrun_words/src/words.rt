@@ -1,9 +1,15 @@
 // The words of the command line.
-ghost use Rattle.std.specs.Prelude.{◌≡◌, map, IfOk, IfSome};
-ghost use Rattle.labrun_words.specs.Words.{AnswersWords, MayRun, task_named, rounds_of, threads_of, task_of};
+ghost use Rattle.std.specs.Prelude.{◌≡◌, map, codes, IfOk};
+ghost use Rattle.clap.specs.Words.{app_of, subcommand_rows_of, with_subcommand};
+ghost use Rattle.command_line.specs.Command.{word_of_number, word_of_numbers};
+ghost use Rattle.labrun_words.specs.Answers.{AnswersWords};
+ghost use Rattle.labrun_words.specs.Command.{labrun_app, task_found};
+ghost use Rattle.labrun_words.specs.Words.{MayRun};
 
-use lab_program::{NoTask, Word, asks_for_help, bytes, help, number_within};
-use std::alloc::Global;
+use clap::{ArgMatches, Command};
+use command_line::{number, number_of, program, why_no_task, with_word};
+use lab_program::NoTask;
+use std::alloc::{AllocError, Global};
 use std::convert::AsStr;
 
 /// What the words ask for.
@@ -24,52 +30,13 @@ pub enum Task {
 /// The program's name.
 pub const PROGRAM: &str = "labrun";
 
-/// The most rounds, or turns of a job, that words can ask for.
-const MOST_TURNS: u32 = 1_000_000_000;
-
-/// The most workers.
-const MOST_WORKERS: u32 = 32;
-
 /// What the program does.
 const ABOUT: &str = "Runs command scripts on the simulated instruments of a shared laboratory";
 
-const ROUNDS: Word = Word {
-    name: "rounds",
-    values: "N",
-    about: "run a script on one thread, one turn of each job a round, at most N rounds, print the report",
-};
-
-const THREADS: Word = Word {
-    name: "threads",
-    values: "W N",
-    about: "run a script by W worker threads, at most N turns of each job, print the report",
-};
-
-const REPLAY: Word = Word {
-    name: "replay",
-    values: "",
-    about: "read a script and its steps, take each step where it is legal, print the report",
-};
-
-const CHECK: Word = Word {
-    name: "check",
-    values: "",
-    about: "read a script and print its counts",
-};
-
-const UPGRADE: Word = Word {
-    name: "upgrade",
-    values: "",
-    about: "read a script of either version and print it in version 2",
-};
-
-/// The words, as the help shows them.
-const WORDS: [Word; 5] = [ROUNDS, THREADS, REPLAY, CHECK, UPGRADE];
-
 /// What stands below the table of words in the help.
 const AFTER_HELP: &str =
-    "Without a command it runs as `rounds 10000`. N is a number from 0 to 1000000000, W one from
-1 to 32, in plain digits.
+    "The values: `rounds N`, `threads W N`. Without a command it runs as `rounds 10000`. N is a number
+from 0 to 1000000000, W one from 1 to 32, in digits.
 
 The script comes from standard input, at most 16777216 bytes. What is printed goes to
 standard output, and a fault in one line to standard error.
@@ -85,77 +52,90 @@ Statuses:
 Example: two jobs take turns on a scale, and each turns its dial on by 1
   printf 'lab 1\\njob a\\nsession\\nscale add 1\\nend\\njob b\\nsession\\nscale add 1\\nend\\n' | labrun";
 
-/// The task that one word names.
-#[tactic(auto, unfolding(crate::specs::Words::task_named))]
-fn task_named(word: &[u8]) -> Option<Task>
-    ensures named { result ≡ task_named word.now }
-    ensures task { IfSome result MayRun }
+/// A command with `rounds N`.
+fn with_rounds<'a>(alloc: Global, command: Command<'a>) -> Result<Command<'a>, AllocError>
+    ensures { IfOk result (λ c. app_of c ≡ with_subcommand (app_of command.entry) (word_of_number (codes "rounds") 0 1000000000).top) }
 {
-    if REPLAY.is(word) {
-        return Some(Task::Replay);
-    }
-    if CHECK.is(word) {
-        return Some(Task::Check);
-    }
-    if UPGRADE.is(word) {
-        return Some(Task::Upgrade);
-    }
-    None
+    let limit = number(alloc, "N", 0, 1_000_000_000, "the most rounds");
+    let rounds = Command::new(alloc, "rounds").about(
+        "run a script on one thread, one turn of each job a round, at most N rounds, print the report",
+    );
+    command.subcommand(rounds.arg(limit)?)
 }
 
-/// The run in rounds that two words ask for.
-#[tactic(auto, unfolding(crate::specs::Words::rounds_of))]
-fn rounds_of(word: &[u8], limit: &[u8]) -> Option<Task>
-    ensures named { result ≡ rounds_of word.now limit.now }
-    ensures task { IfSome result MayRun }
+/// A command with `threads W N`.
+fn with_threads<'a>(alloc: Global, command: Command<'a>) -> Result<Command<'a>, AllocError>
+    ensures { IfOk result (λ c. app_of c ≡ with_subcommand (app_of command.entry) (word_of_numbers (codes "threads") 1 32 0 1000000000).top) }
 {
-    if !ROUNDS.is(word) {
-        return None;
-    }
-    let limit = number_within(limit, 0, MOST_TURNS)?;
-    Some(Task::Rounds { limit })
+    let workers = number(alloc, "W", 1, 32, "the workers");
+    let turns = number(alloc, "N", 0, 1_000_000_000, "the most turns of each job");
+    let threads = Command::new(alloc, "threads").about(
+        "run a script by W worker threads, at most N turns of each job, print the report",
+    );
+    command.subcommand(threads.arg(workers)?.arg(turns)?)
 }
 
-/// The run by threads that three words ask for.
-#[tactic(auto, unfolding(crate::specs::Words::threads_of))]
-fn threads_of(word: &[u8], workers: &[u8], turns: &[u8]) -> Option<Task>
-    ensures named { result ≡ threads_of word.now workers.now turns.now }
-    ensures task { IfSome result MayRun }
+/// The program's command line.
+fn command<'a>(alloc: Global) -> Result<Command<'a>, AllocError>
+    ensures { IfOk result (λ c. app_of c ≡ labrun_app) }
 {
-    if !THREADS.is(word) {
-        return None;
-    }
-    let workers = number_within(workers, 1, MOST_WORKERS)?;
-    let turns = number_within(turns, 0, MOST_TURNS)?;
-    Some(Task::Threads { workers, turns })
+    let command = program(alloc, PROGRAM, ABOUT, AFTER_HELP);
+    let command = with_rounds(alloc, command)?;
+    let command = with_threads(alloc, command)?;
+    let command = with_word(
+        alloc,
+        command,
+        "replay",
+        "read a script and its steps, take each step where it is legal, print the report",
+    )?;
+    let command = with_word(
+        alloc,
+        command,
+        "check",
+        "read a script and print its counts",
+    )?;
+    with_word(
+        alloc,
+        command,
+        "upgrade",
+        "read a script of either version and print it in version 2",
+    )
 }
 
-/// The task that the words of a command line ask for, the program's own name first.
-fn task_of<S: AsStr>(words: &[S]) -> Option<Task>
-    ensures named { result ≡ task_of (map S.text words.now) }
-    ensures task { IfSome result MayRun }
+/// The task of what clap found.
+fn task_of(matches: &ArgMatches<'_>) -> Option<Task>
+    ensures { result ≡ task_found (subcommand_rows_of matches.now) }
 {
-    match words {
-        [_] => Some(Task::Rounds { limit: 10_000 }),
-        [_, word] => task_named(bytes(word)),
-        [_, word, limit] => rounds_of(bytes(word), bytes(limit)),
-        [_, word, workers, turns] => threads_of(bytes(word), bytes(workers), bytes(turns)),
-        _ => None,
+    match matches.subcommand() {
+        None => Some(Task::Rounds { limit: 10_000 }),
+        Some(("rounds", values)) => {
+            let limit = number_of(values, "N")?;
+            Some(Task::Rounds { limit })
+        }
+        Some(("threads", values)) => {
+            let workers = number_of(values, "W")?;
+            let turns = number_of(values, "N")?;
+            Some(Task::Threads { workers, turns })
+        }
+        Some(("replay", _)) => Some(Task::Replay),
+        Some(("check", _)) => Some(Task::Check),
+        Some(("upgrade", _)) => Some(Task::Upgrade),
+        Some(_) => None,
     }
 }
 
-/// The task that the words of a command line ask for, the program's own name first. `--help` as the only
-/// other word asks for the help, whose text alone takes memory. All other words are refused.
+/// The task that the words of a command line ask for, the program's own name first, as clap reads them. Words that ask
+/// clap for help give its text, and all others are refused.
 pub fn read_words<S: AsStr>(alloc: Global, words: &[S]) -> Result<Task, NoTask>
     ensures answer { AnswersWords (map S.text words.now) result }
     ensures task { IfOk result MayRun }
 {
-    if let Some(task) = task_of(words) {
-        return Ok(task);
+    let command = command(alloc)?;
+    match command.try_get_matches_from(words) {
+        Ok(matches) => match task_of(&matches) {
+            Some(task) => Ok(task),
+            None => Err(NoTask::Refused),
+        },
+        Err(error) => Err(why_no_task(alloc, &error)),
     }
-    if !asks_for_help(words) {
-        return Err(NoTask::Refused);
-    }
-    let text = help(alloc, PROGRAM, ABOUT, WORDS.as_slice(), AFTER_HELP)?;
-    Err(NoTask::Help(text))
 }

@@ -3,8 +3,8 @@
 
 use lab_program::{FromRead, NoTask, RunFault, end, end_without_task, given_words};
 use lab_views::{
-    PROGRAM, View, end_arranged, end_picture, end_trace, read_words, run_arrange, run_explain,
-    run_gantt, run_picture, run_table, run_trace, run_waits,
+    PROGRAM, View, end_arranged, end_picture, end_trace, read_words, run_arrange, run_blocks,
+    run_explain, run_gantt, run_picture, run_table, run_trace, run_waits,
 };
 use report::ToWrite;
 use std::io::{self, BufWriter};
@@ -40,6 +40,11 @@ fn main(rt: HostRuntime) -> ExitCode {
             &rt,
             PROGRAM,
             run_waits(alloc, &mut source, &mut sink, limit),
+        ),
+        View::Blocks { limit } => end(
+            &rt,
+            PROGRAM,
+            run_blocks(alloc, &mut source, &mut sink, limit),
         ),
         View::Gantt { limit } => end(
             &rt,

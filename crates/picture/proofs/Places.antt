@@ -2,13 +2,13 @@
 use Rattle.std.proofs.Common.{◌≡◌, ℕ, ◌<◌, List, [], ◌++◌, None, codes, length, map, slice_index_or, refl, sym, ap, ◌∙◌}
 use Rattle.std.proofs.lemmas.List.{get_or-map}
 use Rattle.std.proofs.lemmas.Option.{slice_get_read, get_or_from_slice_get}
-use Rattle.report_lines.specs.declared.lines.EntryLine.{EntryLine}
-use Rattle.report_lines.specs.Line.{EntryText, JobText}
+use Rattle.report_reader.specs.declared.lines.EntryLine.{EntryLine}
+use Rattle.report_reader.specs.Line.{EntryText, JobText}
 use Rattle.report_reader.specs.Report.{LogText, ReportText}
-use Rattle.report_lines.specs.Form.{entry_text}
-use Rattle.session_columns.specs.declared.span.Span.{Span}
-use Rattle.session_columns.specs.Spans.{job_number, span_of}
-use Rattle.session_columns.specs.Timelines.{TimelineView}
+use Rattle.report_reader.specs.Form.{entry_text}
+use Rattle.timeline.specs.declared.span.Span.{Span}
+use Rattle.timeline.specs.Spans.{job_number, span_of}
+use Rattle.timeline.specs.Timelines.{TimelineView}
 use Rattle.picture.specs.Boxes.{in_columns}
 use Rattle.picture.specs.Tables.{row_text}
 use Rattle.picture.specs.Picture.{no_entry, no_log, entry_of, is_first, is_open, entry_at, entries_text, log_at}

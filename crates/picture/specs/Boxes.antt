@@ -1,8 +1,8 @@
 -- What is drawn in the row of an instrument. Heights are those in the row. What has no room is told under the pointer.
 use Rattle.std.specs.Prelude.{ℕ, Bool, nat_le, ◌+◌, ◌-◌, List, [], ◌++◌, codes, decimal, Option, None, Some, if◌then◌else◌}
 use Rattle.lab_plan.specs.Texts.{verb_text}
-use Rattle.report_lines.specs.Line.{EntryText}
-use Rattle.session_columns.specs.declared.span.Span.{Span}
+use Rattle.report_reader.specs.Line.{EntryText}
+use Rattle.timeline.specs.declared.span.Span.{Span}
 use Rattle.picture.specs.Looks.{name_text, look}
 use Rattle.picture.specs.Columns.{has_room, left_of}
 

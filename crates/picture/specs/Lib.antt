@@ -3,3 +3,4 @@ pub mod Columns
 pub mod Boxes
 pub mod Tables
 pub mod Picture
+pub mod LogTable

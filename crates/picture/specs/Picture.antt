@@ -2,11 +2,11 @@
 use Rattle.std.specs.Prelude.{ℕ, Bool, false, ◌&&◌, ◌||◌, not, nat_lt, ◌==◌, ◌-◌, List, [], ◌++◌, length, codes, slice_index_or, None}
 use Rattle.std.specs.List.{flat_map, range_with_len}
 use Rattle.lab_plan.specs.declared.verb.Verb.TheVariants.{Read}
-use Rattle.report_lines.specs.Line.{EntryText, JobText}
+use Rattle.report_reader.specs.Line.{EntryText, JobText}
 use Rattle.report_reader.specs.Report.{LogText, ReportText}
-use Rattle.session_columns.specs.declared.span.Span.{Span}
-use Rattle.session_columns.specs.Spans.{job_number, span_of, is_same_session}
-use Rattle.session_columns.specs.Timelines.{TimelineView}
+use Rattle.timeline.specs.declared.span.Span.{Span}
+use Rattle.timeline.specs.Spans.{job_number, span_of, is_same_session}
+use Rattle.timeline.specs.Timelines.{TimelineView}
 use Rattle.picture.specs.Boxes.{in_columns}
 use Rattle.picture.specs.Tables.{head_text, row_text, job_line, end_text}
 

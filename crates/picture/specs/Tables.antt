@@ -1,6 +1,6 @@
 -- The head of the picture, the head of a row, the line of a job in the table below, and the end.
 use Rattle.std.specs.Prelude.{ℕ, Bool, ◌+◌, ◌*◌, max, List, [], ◌++◌, codes, decimal, Option, None, Some, if◌then◌else◌}
-use Rattle.report_lines.specs.Line.{JobText, state_word, last_word}
+use Rattle.report_reader.specs.Line.{JobText, state_word, last_word}
 use Rattle.picture.specs.Looks.{name_text, look}
 use Rattle.picture.specs.Columns.{has_room, left_of}
 

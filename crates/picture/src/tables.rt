@@ -1,8 +1,8 @@
 // The head of the picture, the head of a row, the lines of the table of jobs, and the end.
 ghost use Rattle.std.specs.Prelude.{◌≡◌, ◌+◌, ◌*◌, ◌≤◌, ◌++◌, ◌<◌, length, max};
 ghost use Rattle.lab_plan.specs.Limits.{most_jobs, most_instruments};
-ghost use Rattle.report_lines.specs.Line.{state_word, last_word};
-ghost use Rattle.report_lines.specs.Form.{job_text};
+ghost use Rattle.report_reader.specs.Line.{state_word, last_word};
+ghost use Rattle.report_reader.specs.Form.{job_text};
 ghost use Rattle.picture.specs.Tables.{size_text, words_text, thin, head_text, row_text, withdrawn_text, legend, sessions_text, meals_text, job_line, end_text};
 
 use crate::columns::{has_room, left_of};

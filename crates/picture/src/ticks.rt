@@ -1,6 +1,6 @@
 // The entries of a log, each by its place in it.
 ghost use Rattle.std.specs.Prelude.{◌≡◌, ◌<◌, length, map};
-ghost use Rattle.report_lines.specs.Form.{entry_text, job_text};
+ghost use Rattle.report_reader.specs.Form.{entry_text, job_text};
 ghost use Rattle.picture.specs.Picture.{is_first, is_open, entry_at};
 
 use crate::boxes::entry_line;

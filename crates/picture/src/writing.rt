@@ -3,8 +3,8 @@ ghost use Rattle.std.specs.Prelude.{◌≡◌, ◌<◌, ◌≤◌, length, map, 
 ghost use Rattle.std.specs.List.{flat_map, range_with_len};
 ghost use Rattle.lab_plan.specs.Limits.{most_jobs, most_instruments};
 ghost use Rattle.report.specs.Taken.{Sends};
-ghost use Rattle.report_lines.specs.Form.{entry_text, job_text};
-ghost use Rattle.session_columns.specs.Timelines.{IsTimeline};
+ghost use Rattle.report_reader.specs.Form.{entry_text, job_text};
+ghost use Rattle.timeline.specs.Timelines.{IsTimeline};
 ghost use Rattle.picture.specs.Picture.{entries_text, log_at, job_at, picture_of};
 ghost use Rattle.picture.specs.Tables.{head_text, row_text, job_line, end_text};
 

@@ -1,38 +1,22 @@
 -- The room of logs, added up.
-use Rattle.std.proofs.Common.{◌≡◌, ℕ, zero, suc, ◌+◌, ◌<◌, ◌≤◌, [], ◌∷◌, ◌++◌, length, map, arith, sym, ap, ◌∙◌, subst, add-one, inl, inr}
+use Rattle.std.proofs.Common.{get_or, List, ◌≡◌, ℕ, zero, suc, ◌+◌, ◌<◌, ◌≤◌, [], ◌∷◌, ◌++◌, length, map, arith, sym, ap, ◌∙◌, subst, add-one, inl, inr}
 use Rattle.std.specs.List.{flat_map, range_with_len}
 use Rattle.std.proofs.lemmas.Bool.{cases_lt}
 use Rattle.std.proofs.lemmas.List.{take_all}
 use Rattle.std.proofs.lemmas.List.FromFn.{map-range_with_len_more}
 use Rattle.std.proofs.lemmas.List.Sums.{count_by-le-length}
-use Rattle.lab_plan.specs.LabPlan.{LabPlan, SessionPlan, job_at, sessions, count_on, part, all_commands}
+use Rattle.lab_plan.specs.LabPlan.{LabPlan, SessionPlan, sessions, count_on, all_commands}
 use Rattle.lab_plan.specs.IsPlan.{IsPlan}
 use Rattle.instrument_log.specs.InstrumentLog.{empty_log}
 use Rattle.legal_steps.specs.WholeLogs.{room_of}
-use Rattle.legal_steps.proofs.RoomShares.{sum_to, first_on, first_on-more, first_on-le, room_is_sum}
-use Rattle.legal_steps.proofs.FewCommands.{of_job, in_plan}
+use Rattle.plan_logs.specs.Rooms.{on_by}
+use Rattle.legal_steps.proofs.RoomShares.{sum_to, first_on, room_is_sum}
 
 -- ---- one job
-
-pub job_more : (plan : LabPlan) (i j n : ℕ) → n < length (sessions plan j) → first_on plan i j (n + 1) ≡ first_on plan i j n + part plan j (n + 1) i
-job_more plan i j n inside = first_on-more plan i j n inside
 
 pub job_all : (plan : LabPlan) (i j n : ℕ) → n ≡ length (sessions plan j)
     → first_on plan i j n ≡ count_on i (flat_map (λ session. session.commands) (sessions plan j))
 job_all plan i j n all = ap (λ xs. count_on i (flat_map (λ (session : SessionPlan). session.commands) xs)) (take_all n (sessions plan j) (omega arith))
-
--- all of a job's commands on the instrument
-abbrev pub on_by : LabPlan → ℕ → ℕ → ℕ
-on_by plan i j = count_on i (flat_map (λ session. session.commands) (sessions plan j))
-
-few_on : (plan : LabPlan) (i j : ℕ) → IsPlan plan → on_by plan i j ≤ 100000
-few_on plan i j is =
-    let short : on_by plan i j ≤ length (of_job (job_at plan j)) =
-    count_by-le-length _ (flat_map (λ (session : SessionPlan). session.commands) (sessions plan j)) in
-    omega (arith, short, in_plan plan j, is.draft.few_commands)
-
-pub job_few : (plan : LabPlan) (i j n : ℕ) → IsPlan plan → first_on plan i j n ≤ 100000
-job_few plan i j n is = omega (arith, first_on-le plan i j n, few_on plan i j is)
 
 -- ---- all jobs
 
@@ -62,8 +46,13 @@ logs_more plan n = map-range_with_len_more (λ i. empty_log (room_of plan i)) 0 
 
 -- ---- sums that fit
 
-pub job_next : (plan : LabPlan) (i j n : ℕ) → IsPlan plan → n < length (sessions plan j) → first_on plan i j n + part plan j (n + 1) i ≤ 100000
-job_next plan i j n is inside = omega (arith, job_more plan i j n inside, job_few plan i j (n + 1) is)
-
 pub all_next : (plan : LabPlan) (i n : ℕ) → IsPlan plan → n < length plan.jobs → sum_to (on_by plan i) n + on_by plan i n ≤ 100000
 all_next plan i n is inside = omega (arith, all_more plan i n, all_few plan i (n + 1) is (omega (arith, inside)))
+
+-- ---- numbers that are added one after another
+
+-- those below n have theirs
+pub record Half (f : ℕ → ℕ) (old now : List ℕ) (n : ℕ) : Type 0 where
+  pub wide : length now ≡ length old
+  pub below : (i : ℕ) → i < n → get_or now i 0 ≡ get_or old i 0 + f i
+  pub above : (i : ℕ) → n ≤ i → get_or now i 0 ≡ get_or old i 0

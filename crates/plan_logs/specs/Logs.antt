@@ -2,6 +2,7 @@
 use Rattle.std.specs.Prelude.{ℕ, ◌<◌, ◌≤◌, List, length, map}
 use Rattle.std.specs.List.{range_with_len}
 use Rattle.lab_plan.specs.LabPlan.{LabPlan, sessions, commands}
+use Rattle.instrument_log.specs.declared.entry.Entry.{Entry}
 use Rattle.instrument_log.specs.InstrumentLog.{LogView, empty_log}
 use Rattle.legal_steps.specs.declared.phase.JobState.{JobState}
 use Rattle.legal_steps.specs.WholeLogs.{room_of}
@@ -16,3 +17,10 @@ pub record IsAtCommand (plan : LabPlan) (j : ℕ) (x : JobState) : Type 0 where
   pub begun : 1 ≤ x.session
   pub session_there : x.session ≤ length (sessions plan j)
   pub left : x.position < length (commands plan j x.session)
+
+-- an entry with another value, and with none yet
+abbrev pub with_value : Entry → ℕ → Entry
+with_value entry value = record entry { value = value }
+
+abbrev pub without_value : Entry → Entry
+without_value entry = with_value entry 0

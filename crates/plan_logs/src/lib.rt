@@ -4,5 +4,5 @@
 pub mod commands;
 pub mod rooms;
 
-pub use commands::{next_command, next_entry, push};
+pub use commands::{drafted, entered, next_command, next_entry, push};
 pub use rooms::empty_logs;

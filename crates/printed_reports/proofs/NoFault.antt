@@ -18,12 +18,12 @@ use Rattle.legal_steps.proofs.LogBooks.{books}
 use Rattle.legal_steps.proofs.LogRun.{logged}
 use Rattle.report.specs.Report.{Shown, jobs}
 use Rattle.report.specs.Events.{shown_after}
-use Rattle.report_lines.specs.Line.{EntryText, JobText}
+use Rattle.report_reader.specs.Line.{EntryText, JobText}
 use Rattle.report_reader.specs.Report.{LogText}
 use Rattle.timeline.specs.declared.fault.EntryCause.{EntryCause}
 use Rattle.timeline.specs.declared.fault.EntryCause.TheVariants as causes
 use Rattle.timeline.specs.declared.fault.TimelineFault.TheVariants.{LimitPassed, JobTwice, Entry, Contradiction, NoMemory}
-use Rattle.session_columns.specs.Spans.{job_number, is_same_session}
+use Rattle.timeline.specs.Spans.{job_number, is_same_session}
 use Rattle.timeline.specs.Faults.{at, entry_cause, is_out_of_order, IsOutOfOrder, IsTwice, FailsAlone, FailsAt, IsNamedBefore}
 use Rattle.printed_reports.specs.Printed.{printed_entry, printed_log, printed_job}
 use Rattle.printed_reports.specs.HasTimeline.{HasNoOtherFault}

@@ -5,7 +5,7 @@ use Rattle.std.specs.List.{AllByRecursion}
 use Rattle.lab_plan.specs.LabPlan.{LabPlan}
 use Rattle.instrument_log.specs.declared.entry.Entry.{Entry as LogEntry}
 use Rattle.legal_steps.specs.WholeLogs.{line_of}
-use Rattle.report_lines.specs.Line.{EntryText}
+use Rattle.report_reader.specs.Line.{EntryText}
 use Rattle.printed_reports.specs.Printed.{printed_entry}
 use Rattle.printed_reports.proofs.Orders.{Next, Chained}
 use Rattle.printed_reports.proofs.Written.{IsWritten}

@@ -23,10 +23,10 @@ use Rattle.legal_steps.proofs.MealLaw.{meals_few}
 use Rattle.legal_steps.proofs.LogRun.{logged}
 use Rattle.report.specs.Report.{Shown, jobs, instruments}
 use Rattle.report.specs.Events.{shown_after}
-use Rattle.report_lines.specs.Line.{Line, Entry, Job, Last, JobText}
+use Rattle.report_reader.specs.Line.{Line, Entry, Job, Last, JobText}
 use Rattle.report_reader.specs.Report.{log_lines}
 use Rattle.report_reader.specs.State.{is_two, is_same}
-use Rattle.report_lines.specs.Fits.{LineFits, HasSmall, VerbFits}
+use Rattle.report_reader.specs.Fits.{LineFits, HasSmall, VerbFits}
 use Rattle.report_reader.specs.Laws.{IsReport}
 use Rattle.printed_reports.specs.Printed.{printed_entry, printed_log, printed_job, printed_report}
 use Rattle.printed_reports.proofs.Written.{IsWritten, logs_written}

@@ -10,7 +10,7 @@ use Rattle.lab_plan.specs.LabPlan.{LabPlan, sessions}
 use Rattle.lab_plan.specs.Texts.{job_name, instrument_name, verb_text, header_line}
 use Rattle.instrument_log.specs.declared.entry.Entry.{Entry as LogEntry}
 use Rattle.report.specs.Report.{Shown, report_of, instrument_line, entry_text, log_text, tally_text, state_text, last_line, is_retired, all_retired, jobs, instruments}
-use Rattle.report_lines.specs.Line.{Line, Header, Instrument, Entry, Job, Last, words_of, verb_words, withdrawn_words, state_word}
+use Rattle.report_reader.specs.Line.{Line, Header, Instrument, Entry, Job, Last, words_of, verb_words, withdrawn_words, state_word}
 use Rattle.report_reader.specs.Report.{log_lines, lines_of}
 use Rattle.printed_reports.specs.Printed.{printed_entry, printed_log, printed_job, printed_report}
 use Rattle.printed_reports.proofs.Spelled.{spelled, text_of}

@@ -1,5 +1,5 @@
 -- The logs of a report that was printed agree with columns in the order in which sessions ended.
-use Rattle.std.proofs.Common.{◌≡◌, ◌≢◌, ℕ, zero, suc, ◌+◌, ◌-◌, ◌*◌, ◌/◌, ◌%◌, ◌<◌, ◌≤◌, true, ◌&&◌, if◌then◌else◌, List, [], ◌∷◌, length, map, get_or, refl, sym, ap, ◌∙◌, subst, inl, inr, arith, eq-eqb, All}
+use Rattle.std.proofs.Common.{◌≡◌, ◌≢◌, ℕ, zero, suc, ◌+◌, ◌-◌, ◌*◌, ◌/◌, ◌%◌, ◌<◌, ◌≤◌, ◌&&◌, if◌then◌else◌, List, [], ◌∷◌, length, map, get_or, refl, sym, ap, ◌∙◌, subst, inl, inr, arith, eq-eqb, All}
 use Rattle.std.specs.Prelude.{None, Some, nat_lt, nat_le, slice_get}
 use Rattle.std.specs.List.{AllByRecursion, range_with_len}
 use Rattle.std.specs.Option.{option_and_then}
@@ -23,12 +23,12 @@ use Rattle.legal_steps.proofs.LogBooks.{books}
 use Rattle.legal_steps.proofs.LogRun.{logged}
 use Rattle.report.specs.Report.{Shown, jobs, instruments}
 use Rattle.report.specs.Events.{shown_after}
-use Rattle.report_lines.specs.Line.{JobText}
+use Rattle.report_reader.specs.Line.{JobText}
 use Rattle.report_reader.specs.Report.{LogText}
 use Rattle.timeline.proofs.Apart.{tests_hold}
-use Rattle.session_columns.specs.declared.span.Span.{Span}
-use Rattle.session_columns.specs.Spans.{job_number, slot_of, span_of}
-use Rattle.session_columns.specs.Timelines.{TimelineView, Stands, IsNextOf, EachNext, Agrees}
+use Rattle.timeline.specs.declared.span.Span.{Span}
+use Rattle.timeline.specs.Spans.{job_number, slot_of, span_of}
+use Rattle.timeline.specs.Timelines.{TimelineView, Stands, IsNextOf, EachNext, Agrees}
 use Rattle.printed_reports.specs.Printed.{printed_entry, printed_log, printed_job}
 use Rattle.printed_reports.specs.HasTimeline.{HasTimeline}
 use Rattle.printed_reports.proofs.Orders.{rank, rank_few, Next, Chained, log_chained}

@@ -7,7 +7,7 @@ use Rattle.report.specs.Events.{shown_after}
 use Rattle.lab_plan.specs.LabPlan.{LabPlan}
 use Rattle.report_reader.specs.declared.fault.ReportCause.TheVariants.{NoMemory}
 use Rattle.report_reader.specs.declared.fault.ReportFault.{ReportFault}
-use Rattle.report_lines.specs.Line.{words_of}
+use Rattle.report_reader.specs.Line.{words_of}
 use Rattle.report_reader.specs.Report.{ReportText, lines_of, text_lines, words, IsTextOf}
 use Rattle.report_reader.specs.Laws.{IsReport}
 use Rattle.report_reader.specs.Reading.{Answers}

@@ -4,8 +4,8 @@ use Rattle.std.specs.Prelude.{Option, None, Some, codes, decimal, slice_index_or
 use Rattle.std.specs.List.{AllByRecursion}
 use Rattle.lab_plan.specs.declared.verb.Verb.{Verb}
 use Rattle.lab_plan.specs.declared.verb.Verb.TheVariants.{Set, Add, Read}
-use Rattle.report_lines.specs.Line.{Line, Header, Instrument, Entry, Job, Last, EntryText, JobText, words_of, verb_words, withdrawn_words, state_word, last_word}
-use Rattle.report_lines.specs.Fits.{LineFits, IsSmall, HasSmall, VerbFits}
+use Rattle.report_reader.specs.Line.{Line, Header, Instrument, Entry, Job, Last, EntryText, JobText, words_of, verb_words, withdrawn_words, state_word, last_word}
+use Rattle.report_reader.specs.Fits.{LineFits, HasSmall, VerbFits}
 use Rattle.printed_reports.proofs.Decimals.{same_number, same_parts}
 
 -- the word with this number, and its first byte
@@ -14,10 +14,6 @@ word words k = slice_index_or words k []
 
 abbrev byte : List (List ℕ) → ℕ → ℕ
 byte words k = slice_index_or (word words k) 0 0
-
--- two numbers that stand at the same place
-number_at : (ws vs : List (List ℕ)) (k n m : ℕ) → ws ≡ vs → word ws k ≡ decimal n → word vs k ≡ decimal m → IsSmall m → n ≡ m
-number_at ws vs k n m same is was small = same_number n m small (sym is ∙ ap (λ l. word l k) same ∙ was)
 
 version_small : (version : ℕ) → LineFits (Header version) → version < 2 ^ 32
 version_small version fits = elim fits [ inl is ↦ omega (arith, is) | inr is ↦ omega (arith, is) ]

@@ -1,7 +1,7 @@
 -- No other report has the lines of a report.
 use Rattle.std.proofs.Common.{◌≡◌, ℕ, Bool, false, List, [], ◌∷◌, ◌++◌, length, map, refl, sym, ap, ◌∙◌, arith, append_assoc}
 use Rattle.std.specs.List.{flat_map}
-use Rattle.report_lines.specs.Line.{Line, Header, Instrument, Entry, Job, Last, EntryText, JobText}
+use Rattle.report_reader.specs.Line.{Line, Header, Instrument, Entry, Job, Last, EntryText, JobText}
 use Rattle.report_reader.specs.Report.{LogText, ReportText, log_lines, lines_of}
 use Rattle.printed_reports.proofs.SameLine.{kind, heads}
 

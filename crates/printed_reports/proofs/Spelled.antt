@@ -8,9 +8,9 @@ use Rattle.lab_plan.specs.declared.verb.Verb.TheVariants.{Set, Add, Read}
 use Rattle.lab_plan.specs.Names.{IsName}
 use Rattle.script_reader.proofs.UpgradeText.{is_dark, is_shown, dark_shown}
 use Rattle.script_reader.proofs.UpgradeForms.{name_parts}
-use Rattle.report_lines.specs.Line.{Line, Header, Instrument, Entry, Job, Last, EntryText, JobText, words_of, verb_words, withdrawn_words, state_word}
+use Rattle.report_reader.specs.Line.{Line, Header, Instrument, Entry, Job, Last, EntryText, JobText, words_of, verb_words, withdrawn_words, state_word}
 use Rattle.report_reader.specs.Report.{text_lines, words}
-use Rattle.report_lines.specs.Fits.{LineFits}
+use Rattle.report_reader.specs.Fits.{LineFits}
 use Rattle.printed_reports.proofs.Cuts.{IsApart, cut_none, cut_one, all_behind, all_weaker}
 use Rattle.printed_reports.proofs.Decimals.{is_high, high_decimal}
 

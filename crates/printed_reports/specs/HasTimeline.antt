@@ -10,7 +10,7 @@ use Rattle.report.specs.Events.{shown_after}
 use Rattle.timeline.specs.declared.fault.TimelineFault.{TimelineFault}
 use Rattle.timeline.specs.declared.fault.TimelineFault.TheVariants.{NoMemory}
 use Rattle.timeline.specs.Faults.{IsFaultOf}
-use Rattle.session_columns.specs.Timelines.{TimelineView, IsTimeline}
+use Rattle.timeline.specs.Timelines.{TimelineView, IsTimeline}
 use Rattle.printed_reports.specs.Printed.{printed_report}
 
 -- the law: some columns for its sessions agree with all of its logs

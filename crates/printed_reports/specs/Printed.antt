@@ -4,7 +4,7 @@ use Rattle.lab_plan.specs.LabPlan.{LabPlan, sessions}
 use Rattle.lab_plan.specs.Texts.{job_name, instrument_name}
 use Rattle.instrument_log.specs.declared.entry.Entry.{Entry}
 use Rattle.report.specs.Report.{Shown, jobs, instruments, is_retired, all_retired}
-use Rattle.report_lines.specs.Line.{EntryText, JobText}
+use Rattle.report_reader.specs.Line.{EntryText, JobText}
 use Rattle.report_reader.specs.Report.{LogText, ReportText}
 
 -- an entry, with its job's name

@@ -1,3 +1,7 @@
+pub mod Lengths
+pub mod Numbers
+pub mod LineWords
+pub mod LineReads
 pub mod Shown
 pub mod Texts
 pub mod OnLast

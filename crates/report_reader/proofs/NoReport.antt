@@ -8,14 +8,14 @@ use Rattle.std.proofs.lemmas.List.Splits.{join_with_byte-slice_split}
 use Rattle.std.proofs.lemmas.Bool.{true≢false}
 use Rattle.report_reader.specs.declared.fault.ReportCause.{ReportCause}
 use Rattle.report_reader.specs.declared.fault.ReportCause.TheVariants.{NotWhole}
-use Rattle.report_lines.specs.Line.{Line, words_of}
+use Rattle.report_reader.specs.Line.{Line, words_of}
 use Rattle.report_reader.specs.Report.{words, lines_of}
-use Rattle.report_lines.specs.Read.{line_of}
+use Rattle.report_reader.specs.Read.{line_of}
 use Rattle.report_reader.specs.State.{State, opening, cause_in, after, Ends}
 use Rattle.report_reader.specs.Reading.{line_in, Leads, Meets}
-use Rattle.report_lines.specs.Fits.{LineFits}
+use Rattle.report_reader.specs.Fits.{LineFits}
 use Rattle.report_reader.specs.Laws.{IsNoReport}
-use Rattle.report_lines.proofs.LineReads.{line_is}
+use Rattle.report_reader.proofs.LineReads.{line_is}
 use Rattle.report_reader.proofs.ReadingLoop.{heads}
 use Rattle.report_reader.proofs.ReportLeads.{ended, report_leads}
 

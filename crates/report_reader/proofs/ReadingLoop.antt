@@ -7,11 +7,11 @@ use Rattle.std.proofs.lemmas.Bool.Decides.{Decides-eqb}
 use Rattle.report_reader.specs.declared.fault.ReportCause.{ReportCause}
 use Rattle.report_reader.specs.declared.fault.ReportFault.{ReportFault}
 use Rattle.report_reader.specs.declared.fault.ReportCause.TheVariants.{UnknownLine, OutOfPlace, OtherVersion, WrongEnd, NotWhole, NoMemory}
-use Rattle.report_lines.specs.Line.{Line, words_of}
+use Rattle.report_reader.specs.Line.{Line, words_of}
 use Rattle.report_reader.specs.Report.{ReportText, words, lines_of}
 use Rattle.report_reader.specs.State.{State, opening, cause_in, after, Reads, Ends}
 use Rattle.report_reader.specs.Reading.{line_in, Leads, Known, Meets, IsFaultAtLine, IsCutOff, AnswersParts}
-use Rattle.report_lines.proofs.LineWords.{line_was}
+use Rattle.report_reader.proofs.LineWords.{line_was}
 use Rattle.report_reader.proofs.Shown.{shown, IsTied, goes, whole}
 
 -- these parts are read

@@ -6,7 +6,7 @@ use Rattle.std.specs.Option.{is_some}
 use Rattle.std.proofs.lemmas.Bool.Decides.{nat_tests}
 use Rattle.lab_plan.specs.Building.{on_last}
 use Rattle.report_reader.specs.declared.fault.ReportCause.TheVariants.{OutOfPlace, OtherVersion, WrongEnd}
-use Rattle.report_lines.specs.Line.{Line, Entry, Job, Last, EntryText, JobText}
+use Rattle.report_reader.specs.Line.{Line, Entry, Job, Last, EntryText, JobText}
 use Rattle.report_reader.specs.Report.{LogText, ReportText, log_lines, lines_of}
 use Rattle.report_reader.specs.State.{State, opening, at, is_two, is_same, with_entry, after}
 use Rattle.report_reader.specs.Reading.{Leads}

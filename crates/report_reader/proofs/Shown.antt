@@ -9,7 +9,7 @@ use Rattle.std.proofs.lemmas.Bool.Decides.{nat_tests}
 use Rattle.lab_plan.specs.Building.{on_last}
 use Rattle.report_reader.specs.declared.fault.ReportCause.{ReportCause}
 use Rattle.report_reader.specs.declared.fault.ReportCause.TheVariants.{OutOfPlace}
-use Rattle.report_lines.specs.Line.{Line, Header, Instrument, Entry, Job, Last, EntryText, JobText}
+use Rattle.report_reader.specs.Line.{Line, Header, Instrument, Entry, Job, Last, EntryText, JobText}
 use Rattle.report_reader.specs.Report.{LogText, ReportText, log_lines, lines_of}
 use Rattle.report_reader.specs.State.{State, at, is_within, is_due, cause_in, with_entry, after, Ends}
 

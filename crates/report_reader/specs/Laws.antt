@@ -3,8 +3,8 @@ use Rattle.std.specs.Prelude.{ℕ, ◌≡◌, true, List, [], ◌∷◌, ◌++�
 use Rattle.std.specs.List.{AllByRecursion}
 use Rattle.std.specs.Option.{is_some}
 use Rattle.report_reader.specs.declared.fault.ReportFault.{ReportFault}
-use Rattle.report_lines.specs.Line.{JobText}
-use Rattle.report_lines.specs.Fits.{LineFits}
+use Rattle.report_reader.specs.Line.{JobText}
+use Rattle.report_reader.specs.Fits.{LineFits}
 use Rattle.report_reader.specs.Report.{ReportText, text_lines, lines_of, IsTextOf}
 use Rattle.report_reader.specs.State.{is_two, is_same, all_retired}
 use Rattle.report_reader.specs.Reading.{Refuses}

@@ -1,3 +1,8 @@
+pub mod Line
+pub mod Number
+pub mod Read
+pub mod Form
+pub mod Fits
 pub mod Report
 pub mod State
 pub mod Reading

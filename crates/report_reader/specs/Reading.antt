@@ -3,10 +3,10 @@ use Rattle.std.specs.Prelude.{ℕ, ◌≡◌, ◌+◌, List, [], ◌∷◌, ◌+
 use Rattle.report_reader.specs.declared.fault.ReportCause.{ReportCause}
 use Rattle.report_reader.specs.declared.fault.ReportCause.TheVariants.{UnknownLine, NotWhole, NoMemory}
 use Rattle.report_reader.specs.declared.fault.ReportFault.{ReportFault}
-use Rattle.report_lines.specs.Line.{Line}
+use Rattle.report_reader.specs.Line.{Line}
 use Rattle.report_reader.specs.Report.{ReportText, text_lines, words, lines_of, IsTextOf}
-use Rattle.report_lines.specs.Line.{words_of}
-use Rattle.report_lines.specs.Read.{line_of}
+use Rattle.report_reader.specs.Line.{words_of}
+use Rattle.report_reader.specs.Read.{line_of}
 use Rattle.report_reader.specs.State.{State, opening, cause_in, after, Ends}
 
 -- the line that a part of the text is, if it is one

@@ -1,7 +1,7 @@
 -- For readers: a report, its lines, and the texts that are a report's.
 use Rattle.std.specs.Prelude.{ℕ, ◌≡◌, ◌==◌, Bool, List, [], ◌∷◌, ◌++◌, length, map}
 use Rattle.std.specs.List.{flat_map, slice_split}
-use Rattle.report_lines.specs.Line.{Line, Header, Instrument, Entry, Job, Last, EntryText, JobText, words_of}
+use Rattle.report_reader.specs.Line.{Line, Header, Instrument, Entry, Job, Last, EntryText, JobText, words_of}
 
 -- an instrument with its log
 pub record LogText : Type 0 where

@@ -5,7 +5,7 @@ use Rattle.std.specs.Option.{is_some}
 use Rattle.lab_plan.specs.Building.{on_last}
 use Rattle.report_reader.specs.declared.fault.ReportCause.{ReportCause}
 use Rattle.report_reader.specs.declared.fault.ReportCause.TheVariants.{UnknownLine, OutOfPlace, OtherVersion, WrongEnd, NotWhole, NoMemory}
-use Rattle.report_lines.specs.Line.{Line, Header, Instrument, Entry, Job, Last, EntryText, JobText}
+use Rattle.report_reader.specs.Line.{Line, Header, Instrument, Entry, Job, Last, EntryText, JobText}
 use Rattle.report_reader.specs.Report.{LogText, ReportText}
 
 -- the version, once the header stands; the logs; how many entries are due in the last of them; the jobs; and the last line, once it stands

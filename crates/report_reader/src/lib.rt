@@ -1,14 +1,18 @@
-//! Reading a report: its text is the lines of one value, spelled one after another, or there is no such value.
+//! Reading a report: its text is the lines of one value, spelled one after another, or there is no such value. Some words are the line
+//! that is spelled so, or no line is.
 #![tactic(auto)]
 
 mod cutting;
 mod fault;
+mod form;
 pub mod laws;
+mod lines;
+mod number;
 pub mod read;
 mod reader;
 pub mod report;
 
 pub use fault::{ReportCause, ReportFault};
+pub use lines::{EntryLine, JobLine};
 pub use read::read_report;
 pub use report::{Log, Report};
-pub use report_lines::{EntryLine, JobLine};

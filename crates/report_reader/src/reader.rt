@@ -2,16 +2,17 @@
 ghost use Rattle.std.specs.Prelude.{◌≡◌, ◌<◌, length, map, is_ok, if◌then◌else◌};
 ghost use Rattle.std.specs.List.{list_all};
 ghost use Rattle.lab_plan.specs.Building.{on_last};
-ghost use Rattle.report_lines.specs.Line.{Header, Instrument, Entry, Job, Last};
-ghost use Rattle.report_lines.specs.Form.{line_text, entry_text, job_text};
-ghost use Rattle.report_lines.specs.Read.{line_of};
+ghost use Rattle.report_reader.specs.Line.{Header, Instrument, Entry, Job, Last};
+ghost use Rattle.report_reader.specs.Form.{line_text, entry_text, job_text};
+ghost use Rattle.report_reader.specs.Read.{line_of};
 ghost use Rattle.report_reader.specs.Report.{words};
 ghost use Rattle.report_reader.specs.State.{opening, all_retired, is_within, is_due, is_two, with_entry, Takes, Reads, Ends};
 
 use crate::cutting::parts;
 use crate::fault::ReportCause;
+use crate::form::line_of;
+use crate::lines::{EntryLine, Form, JobLine};
 use crate::report::{Log, Report};
-use report_lines::{EntryLine, Form, JobLine, line_of};
 use std::alloc::{AllocError, Allocator};
 use std::marker::Model;
 
@@ -30,7 +31,7 @@ pub(crate) struct Reader<'a, A: Allocator + Copy> {
 impl<'a, A: Allocator + Copy> Model for Reader<'a, A> {
     ghost use Rattle.std.specs.Prelude.{map};
     ghost use Rattle.report_reader.specs.State.{State};
-    ghost use Rattle.report_lines.specs.Form.{job_text};
+    ghost use Rattle.report_reader.specs.Form.{job_text};
 
     ghost Value = { State };
 

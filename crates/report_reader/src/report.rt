@@ -1,5 +1,5 @@
 // A report that was read.
-use report_lines::{EntryLine, JobLine};
+use crate::lines::{EntryLine, JobLine};
 use std::alloc::{AllocError, Allocator, Global};
 use std::marker::Model;
 
@@ -13,7 +13,7 @@ pub struct Log<'a, A: Allocator = Global> {
 impl<'a, A: Allocator> Model for Log<'a, A> {
     ghost use Rattle.std.specs.Prelude.{map};
     ghost use Rattle.report_reader.specs.Report.{LogText};
-    ghost use Rattle.report_lines.specs.Form.{entry_text};
+    ghost use Rattle.report_reader.specs.Form.{entry_text};
 
     ghost Value = { LogText };
 
@@ -22,7 +22,7 @@ impl<'a, A: Allocator> Model for Log<'a, A> {
 
 impl<'a, A: Allocator> Log<'a, A> {
     ghost use Rattle.std.specs.Prelude.{◌≡◌, [], map, is_ok, if◌then◌else◌};
-    ghost use Rattle.report_lines.specs.Form.{entry_text};
+    ghost use Rattle.report_reader.specs.Form.{entry_text};
     ghost use Rattle.report_reader.specs.State.{with_entry};
 
     pub(crate) fn new(alloc: A, name: &'a [u8]) -> Log<'a, A>
@@ -69,7 +69,7 @@ pub struct Report<'a, A: Allocator = Global> {
 impl<'a, A: Allocator> Model for Report<'a, A> {
     ghost use Rattle.std.specs.Prelude.{map};
     ghost use Rattle.report_reader.specs.Report.{ReportText};
-    ghost use Rattle.report_lines.specs.Form.{job_text};
+    ghost use Rattle.report_reader.specs.Form.{job_text};
 
     ghost Value = { ReportText };
 
@@ -78,7 +78,7 @@ impl<'a, A: Allocator> Model for Report<'a, A> {
 
 impl<'a, A: Allocator> Report<'a, A> {
     ghost use Rattle.std.specs.Prelude.{◌≡◌, map};
-    ghost use Rattle.report_lines.specs.Form.{job_text};
+    ghost use Rattle.report_reader.specs.Form.{job_text};
 
     pub(crate) fn new(
         version: u8,

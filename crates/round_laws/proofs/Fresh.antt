@@ -8,7 +8,7 @@ use Rattle.locality.proofs.Runs.{each-append}
 use Rattle.edge_rule.specs.DeskView.{DeskView, BenchView, Owns, fresh_desk, fresh_desks}
 use Rattle.edge_rule.specs.Company.{jobs_of, Distinct}
 use Rattle.edge_rule.specs.Ending.{Any, HasAll}
-use Rattle.rounds.specs.Rounds.{Player, players_of}
+use Rattle.rounds.specs.Rounds.{Player}
 use Rattle.rounds.proofs.Lists.{jobs_played}
 use Rattle.rounds.proofs.Driven.{all_of, same_length}
 use Rattle.round_laws.specs.FromOpening.{opened, fresh_players}

@@ -1,3 +1,6 @@
+pub mod Looks
+pub mod Seeing
+pub mod QuietRound
 pub mod OneTurn
 pub mod InRounds
 pub mod QuietEnd

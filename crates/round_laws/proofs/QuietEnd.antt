@@ -15,8 +15,8 @@ use Rattle.turns.specs.Turn.{Visit, IsIdleTurn}
 use Rattle.turns.specs.Turns.{is_glance, but_glances}
 use Rattle.turns.specs.Laws.{LeavesCalm}
 use Rattle.turns.proofs.Idle.{nothing_done_is_idle, idle_turn_is_calm}
-use Rattle.quiet.specs.QuietRound.{EndsIdle}
-use Rattle.quiet.proofs.Rounded.{known_but, quiet_round_is_retired}
+use Rattle.round_laws.specs.QuietRound.{EndsIdle}
+use Rattle.round_laws.proofs.QuietRound.{known_but, quiet_round_is_retired}
 use Rattle.edge_rule.specs.Ending.{Any}
 use Rattle.edge_rule.specs.Company.{Distinct}
 use Rattle.rounds.specs.Rounds.{known_in}

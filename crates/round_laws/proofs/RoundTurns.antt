@@ -1,5 +1,5 @@
 -- What rounds are to one job: its events are turns one after another, and the groups of each stand unbroken.
-use Rattle.std.proofs.Common.{◌≡◌, ◌≢◌, ℕ, zero, suc, ◌+◌, ◌<◌, Bool, true, false, ◌&&◌, cond, List, [], ◌∷◌, ◌++◌, length, arith, refl, sym, ap, ◌∙◌, subst, inl, inr, append-nil, append_assoc, add-one}
+use Rattle.std.proofs.Common.{◌≡◌, ◌≢◌, ℕ, zero, suc, ◌+◌, Bool, true, false, cond, List, [], ◌∷◌, ◌++◌, arith, refl, sym, ap, ◌∙◌, subst, inl, inr, append-nil, append_assoc, add-one}
 use Rattle.std.proofs.lemmas.List.Elements.{filter-append}
 use Rattle.lab_plan.specs.LabPlan.{LabPlan}
 use Rattle.legal_steps.specs.declared.event.Event.{Event}
@@ -10,16 +10,16 @@ use Rattle.legal_steps.specs.Opening.{the_opening}
 use Rattle.locality.specs.History.{is_by, events_by, known_by, learned_all, state_after}
 use Rattle.locality.specs.Lists.{Each}
 use Rattle.locality.specs.Patience.{Waited, waited_in, no_wait}
-use Rattle.locality.proofs.Runs.{after_all-append, learned_all-append, only_mine, none_theirs}
+use Rattle.locality.proofs.Runs.{after_all-append, only_mine, none_theirs}
 use Rattle.turns.specs.Turn.{Visit, is_lost, count, IsTurnBy}
 use Rattle.turns.specs.Turns.{Group, Did, Lost, AreGrouped, Stands, flat, but_glances, turn_groups, waited_next}
 use Rattle.session_layer.specs.declared.turning.Turned.{Turned}
 use Rattle.session_layer.proofs.Grows.{stands-append, stands_later, stands_more, flat-append, flat_turn, but_turn, but-append, learned_but, grouped-append}
 use Rattle.edge_rule.specs.Ending.{Any}
 use Rattle.edge_rule.specs.Company.{Distinct}
-use Rattle.rounds.specs.Rounds.{Player, known_in, waited_so_far, player_after, Plays, is_idle, Round, Rounds}
+use Rattle.rounds.specs.Rounds.{Player, known_in, Plays, Round, Rounds}
 use Rattle.round_laws.specs.QuietEnd.{jobs_in}
-use Rattle.round_laws.proofs.InRounds.{round_jobs, rounds_jobs}
+use Rattle.round_laws.proofs.InRounds.{rounds_jobs}
 use Rattle.round_laws.proofs.OneTurn.{turn_by}
 
 -- groups of which none is a lost exchange stand in what they are together

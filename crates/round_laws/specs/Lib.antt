@@ -1,3 +1,5 @@
+pub mod LastLooks
+pub mod QuietRound
 pub mod QuietEnd
 pub mod OneRun
 pub mod FromOpening

@@ -1,9 +1,9 @@
 -- Pictures that are narrow.
-use Rattle.std.proofs.Common.{arith, rules, ℕ, ◌*◌, ◌≤◌, ◌+◌, ◌<◌, ◌≡◌, Bool, true, false, nat_le, ◌⊎◌, inl, inr, mul-le-mul_right}
-use Rattle.std.specs.Prelude.{◌/◌, max, min, ◌-◌}
+use Rattle.std.proofs.Common.{arith, ℕ, ◌*◌, ◌≤◌, inl, inr, mul-le-mul_right}
+use Rattle.std.specs.Prelude.{◌/◌, max, ◌-◌}
 use Rattle.std.proofs.lemmas.Bool.{cases_lt}
 use Rattle.std.proofs.Math.Nat.{div-mul-le_self, mul-div_left, mul-le-mul_left}
-use Rattle.round_shapes.specs.Scale.{place, round_width}
+use Rattle.round_picture.specs.Scale.{place, round_width}
 use Rattle.round_picture.specs.Gantt.{full_width}
 
 -- a width of at most what all have is within it, or it is one

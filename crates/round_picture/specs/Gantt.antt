@@ -5,9 +5,9 @@ use Rattle.lab_plan.specs.LabPlan.{LabPlan}
 use Rattle.lab_plan.specs.Texts.{job_name}
 use Rattle.waiting.specs.Text.{rounds_line, jobs}
 use Rattle.waiting.specs.Waits.{RunView, job_of}
-use Rattle.round_shapes.specs.Scale.{place, step_of}
+use Rattle.round_picture.specs.Scale.{place, step_of}
 use Rattle.round_picture.specs.Sessions.{sessions_text}
-use Rattle.round_shapes.specs.Meals.{meal_text}
+use Rattle.round_picture.specs.Meals.{meal_text}
 
 -- ---- the head
 

@@ -4,8 +4,8 @@ use Rattle.std.specs.List.{flat_map}
 use Rattle.lab_plan.specs.LabPlan.{LabPlan, sessions, part, instrument_numbers}
 use Rattle.lab_plan.specs.Texts.{job_name, instrument_name}
 use Rattle.waiting.specs.Text.{outcome_text}
-use Rattle.session_rounds.specs.declared.session.Session.{Session}
-use Rattle.round_shapes.specs.Shapes.{shapes}
+use Rattle.waiting.specs.declared.session.Session.{Session}
+use Rattle.round_picture.specs.Shapes.{shapes}
 
 -- ---- under the pointer
 

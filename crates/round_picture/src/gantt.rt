@@ -5,9 +5,10 @@ ghost use Rattle.lab_plan.specs.Limits.{most_jobs};
 ghost use Rattle.waiting.specs.Text.{jobs};
 ghost use Rattle.round_picture.specs.Gantt.{full_width, full_height, size_text, legend, thin, head_text, tick, tick_text, scale_text, row_head, row_text, gantt_of};
 
+use crate::meals::add_meals;
+use crate::scale::{add_place, add_text, place, step_of};
 use crate::sessions::add_sessions;
 use lab_plan::{JobNo, Plan};
-use round_shapes::{add_meals, add_place, add_text, place, step_of};
 use std::alloc::{AllocError, Allocator};
 use waiting::{RoundsRun, add_rounds};
 

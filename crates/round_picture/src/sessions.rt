@@ -4,11 +4,11 @@ ghost use Rattle.std.specs.List.{flat_map};
 ghost use Rattle.lab_plan.specs.LabPlan.{sessions, instrument_numbers};
 ghost use Rattle.round_picture.specs.Sessions.{instrument_text, instruments_text, title_text, session_text, sessions_text};
 
+use crate::scale::add_place;
+use crate::shapes::add_shapes;
 use lab_plan::{InstrumentNo, JobNo, Plan};
-use round_shapes::{add_place, add_shapes};
-use session_rounds::Session;
 use std::alloc::{AllocError, Allocator};
-use waiting::add_outcome;
+use waiting::{Session, add_outcome};
 
 /// Adds the name of an instrument, where the session has commands on it.
 fn add_instrument<A: Allocator, B: Allocator>(

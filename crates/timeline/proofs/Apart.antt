@@ -7,14 +7,14 @@ use Rattle.std.proofs.lemmas.Bool.{cases_Bool, or_parts, false≢true}
 use Rattle.std.proofs.lemmas.Bool.Decides.{nat_tests}
 use Rattle.std.proofs.lemmas.List.Quantifiers.{position-Some}
 use Rattle.lab_plan.specs.Limits.{most_jobs, most_sessions, most_commands}
-use Rattle.report_lines.specs.Line.{EntryText, JobText}
+use Rattle.report_reader.specs.Line.{EntryText, JobText}
 use Rattle.timeline.specs.declared.fault.EntryCause.{EntryCause}
 use Rattle.timeline.specs.declared.fault.EntryCause.TheVariants as causes
-use Rattle.session_columns.specs.declared.span.Span.{Span}
-use Rattle.session_columns.specs.Spans.{job_number, slot_of, is_same_session}
+use Rattle.timeline.specs.declared.span.Span.{Span}
+use Rattle.timeline.specs.Spans.{job_number, slot_of, is_same_session}
 use Rattle.timeline.specs.Faults.{at, entry_cause, is_out_of_order}
-use Rattle.session_columns.specs.Timelines.{Stands, IsNextOf}
-use Rattle.session_orders.specs.Orders.{IsWide, IsRight}
+use Rattle.timeline.specs.Timelines.{Stands, IsNextOf}
+use Rattle.timeline.specs.Orders.{IsWide, IsRight}
 use Rattle.timeline.proofs.Failing.{some_none}
 use Rattle.timeline.proofs.Stuck.{slot_span}
 

@@ -8,13 +8,13 @@ use Rattle.std.proofs.lemmas.List.Quantifiers.{position-Some}
 use Rattle.std.proofs.lemmas.Option.{option_and_then_some, slice_get-get_or}
 use Rattle.std.proofs.lemmas.Slice.Eq.{bytes_eq-Decides}
 use Rattle.lab_plan.specs.Limits.{most_jobs, most_instruments, most_sessions}
-use Rattle.report_lines.specs.Line.{EntryText, JobText}
+use Rattle.report_reader.specs.Line.{EntryText, JobText}
 use Rattle.report_reader.specs.Report.{LogText, ReportText}
-use Rattle.session_columns.specs.declared.span.Span.{Span}
-use Rattle.session_columns.specs.Spans.{job_number, slot_of, is_same_session}
+use Rattle.timeline.specs.declared.span.Span.{Span}
+use Rattle.timeline.specs.Spans.{job_number, slot_of, is_same_session}
 use Rattle.timeline.specs.Faults.{entry_cause, is_out_of_order, HasNone}
-use Rattle.session_columns.specs.Timelines.{Agrees, AllAgree, IsTimeline}
-use Rattle.session_orders.specs.Orders.{StandsBefore, ArePairs, AreSlots, AreOrdered, AreStuck, IsOpen, IsWide, IsRight}
+use Rattle.timeline.specs.Timelines.{Agrees, AllAgree, IsTimeline}
+use Rattle.timeline.specs.Orders.{StandsBefore, ArePairs, AreSlots, AreOrdered, AreStuck, IsOpen, IsWide, IsRight}
 use Rattle.timeline.specs.Clean.{IsClean, AllClean}
 use Rattle.timeline.proofs.Failing.{some_none}
 use Rattle.timeline.proofs.Stuck.{stuck_has_none}

@@ -6,14 +6,14 @@ use Rattle.std.specs.Option.{option_eq}
 use Rattle.std.proofs.lemmas.Bool.{false≢true, cases_lt}
 use Rattle.std.proofs.lemmas.Bool.Decides.{nat_tests}
 use Rattle.std.proofs.lemmas.Option.{slice_get_within}
-use Rattle.report_lines.specs.declared.lines.EntryLine.{EntryLine}
-use Rattle.report_lines.specs.declared.lines.JobLine.{JobLine}
-use Rattle.report_lines.specs.Form.{entry_text, job_text}
-use Rattle.report_lines.specs.Line.{EntryText, JobText}
+use Rattle.report_reader.specs.declared.lines.EntryLine.{EntryLine}
+use Rattle.report_reader.specs.declared.lines.JobLine.{JobLine}
+use Rattle.report_reader.specs.Form.{entry_text, job_text}
+use Rattle.report_reader.specs.Line.{EntryText, JobText}
 use Rattle.timeline.specs.declared.fault.EntryCause.{EntryCause}
 use Rattle.timeline.specs.declared.fault.EntryCause.TheVariants as causes
-use Rattle.session_columns.specs.Spans.{job_number, is_same_session}
-use Rattle.session_columns.proofs.Spelled.{spelled_at}
+use Rattle.timeline.specs.Spans.{job_number, is_same_session}
+use Rattle.timeline.proofs.Spelled.{spelled_at}
 use Rattle.timeline.specs.Faults.{at, entry_cause, is_out_of_order, IsNamedBefore, IsOutOfOrder, IsTwice, FailsAlone, FailsAt}
 use Rattle.timeline.specs.Clean.{IsCleanAt, IsClean}
 

@@ -6,13 +6,13 @@ use Rattle.std.specs.Str.{bytes_eq}
 use Rattle.std.proofs.lemmas.Option.{slice_get_within, get_or_from_slice_get}
 use Rattle.std.proofs.lemmas.Slice.Eq.{bytes_eq-Decides}
 use Rattle.std.proofs.lemmas.Bool.{and_parts}
-use Rattle.report_lines.specs.Line.{EntryText, JobText}
+use Rattle.report_reader.specs.Line.{EntryText, JobText}
 use Rattle.report_reader.specs.Report.{LogText, ReportText}
-use Rattle.session_columns.specs.declared.span.Span.{Span}
-use Rattle.session_columns.specs.Spans.{slot_of, span_of, is_same_session}
-use Rattle.session_columns.specs.Timelines.{TimelineView, Stands, IsNextOf, Agrees, IsTimeline}
+use Rattle.timeline.specs.declared.span.Span.{Span}
+use Rattle.timeline.specs.Spans.{slot_of, span_of, is_same_session}
+use Rattle.timeline.specs.Timelines.{TimelineView, Stands, IsNextOf, Agrees, IsTimeline}
 use Rattle.timeline.specs.Faults.{HasNone}
-use Rattle.session_orders.specs.Orders.{AreOf, Precedes}
+use Rattle.timeline.specs.Orders.{AreOf, Precedes}
 
 -- an element that is got has what all have
 pub all_got : {X : Type 0} (P : X → Type 0) (xs : List X) (k : ℕ) (x : X) → All P xs → slice_get xs k ≡ Some x → P x

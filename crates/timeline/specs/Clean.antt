@@ -1,7 +1,7 @@
 -- Logs in which nothing is seen that is wrong with an entry.
 use Rattle.std.specs.Prelude.{ℕ, List}
 use Rattle.std.specs.List.{All}
-use Rattle.report_lines.specs.Line.{EntryText, JobText}
+use Rattle.report_reader.specs.Line.{EntryText, JobText}
 use Rattle.report_reader.specs.Report.{LogText}
 use Rattle.timeline.specs.declared.fault.EntryCause.{EntryCause}
 use Rattle.timeline.specs.Faults.{FailsAlone, IsOutOfOrder}

@@ -3,14 +3,14 @@ use Rattle.std.specs.Prelude.{ℕ, ◌≡◌, ◌≢◌, ◌⊎◌, ◌+◌, ◌
 use Rattle.std.specs.Prelude.{◌||◌, not, nat_lt, ◌==◌, List, length, Option, None, Some, Result, Ok, Err, slice_get, if◌then◌else◌}
 use Rattle.std.specs.Option.{is_some}
 use Rattle.lab_plan.specs.Limits.{most_jobs, most_instruments, most_sessions, most_commands}
-use Rattle.report_lines.specs.Line.{EntryText, JobText}
+use Rattle.report_reader.specs.Line.{EntryText, JobText}
 use Rattle.report_reader.specs.Report.{LogText, ReportText}
 use Rattle.timeline.specs.declared.fault.EntryCause.{EntryCause}
 use Rattle.timeline.specs.declared.fault.EntryCause.TheVariants as causes
 use Rattle.timeline.specs.declared.fault.TimelineFault.{TimelineFault}
 use Rattle.timeline.specs.declared.fault.TimelineFault.TheVariants.{LimitPassed, JobTwice, Entry, Contradiction, NoMemory}
-use Rattle.session_columns.specs.Spans.{job_number, is_same_session}
-use Rattle.session_columns.specs.Timelines.{TimelineView, IsTimeline}
+use Rattle.timeline.specs.Spans.{job_number, is_same_session}
+use Rattle.timeline.specs.Timelines.{TimelineView, IsTimeline}
 
 abbrev pub at : Bool → EntryCause → Option EntryCause → Option EntryCause
 at test cause rest = if test then Some cause else rest

@@ -1,2 +1,5 @@
+pub mod Spans
+pub mod Timelines
+pub mod Orders
 pub mod Faults
 pub mod Clean

@@ -1,16 +1,17 @@
 // Faults of a report that a look at each log by itself finds.
 ghost use Rattle.std.specs.Prelude.{◌≡◌, ◌+◌, ◌<◌, ◌≤◌, true, None, length, map, IfSome, IfOk, IfErr};
 ghost use Rattle.lab_plan.specs.Limits.{most_jobs, most_instruments};
-ghost use Rattle.report_lines.specs.Form.{entry_text, job_text};
+ghost use Rattle.report_reader.specs.Form.{entry_text, job_text};
 ghost use Rattle.timeline.specs.Faults.{FailsAt, HasFault, IsFaultOf, IsTwice, HasNone};
 ghost use Rattle.timeline.specs.Clean.{IsCleanAt, IsClean, AllClean};
 
-use crate::entries::{entry_cause, is_out_of_order};
+use crate::entries::same_session;
+use crate::entry_faults::{entry_cause, is_out_of_order};
 use crate::fault::{EntryCause, TimelineFault};
-use crate::jobs::job_twice;
+use crate::named_twice::job_twice;
+use crate::span::{SLOTS, slot_of};
 use lab_plan::{MOST_INSTRUMENTS, MOST_JOBS};
 use report_reader::{EntryLine, JobLine, Log, Report};
-use session_columns::{SLOTS, same_session, slot_of};
 use std::alloc::{AllocError, Allocator};
 
 /// What is wrong with an entry of a log, counted from 0.

@@ -1,19 +1,22 @@
-// Job lines whose name stands before them.
-ghost use Rattle.std.specs.Prelude.{map, IfSome};
-ghost use Rattle.report_lines.specs.Form.{job_text};
-ghost use Rattle.timeline.specs.Faults.{IsNamedBefore};
+// The jobs of a report, by their names.
+ghost use Rattle.std.specs.Prelude.{◌≡◌, map};
+ghost use Rattle.std.specs.List.{position};
+ghost use Rattle.std.specs.Str.{bytes_eq};
+ghost use Rattle.report_reader.specs.Form.{job_text};
+ghost use Rattle.timeline.specs.Spans.{job_number};
 
 use report_reader::JobLine;
-use session_columns::job_number;
 
-/// A job line that isn't the first of its name.
-pub(crate) fn job_twice(jobs: &[JobLine]) -> Option<usize>
-    ensures { IfSome result (λ number. IsNamedBefore (map job_text jobs.now) number) }
+/// The number of the first job line with this name, by the names as they lie.
+fn place_of(jobs: &[JobLine], name: &[u8]) -> Option<usize>
+    ensures { result ≡ position (λ job. bytes_eq job.name.now name.now) jobs.now }
 {
-    for number in 0..jobs.len() {
-        if job_number(jobs, jobs[number].name) != Some(number) {
-            return Some(number);
-        }
-    }
-    None
+    jobs.iter().position(|job| job.name == name)
+}
+
+/// The number of the first job line with this name, counted from 0.
+pub fn job_number(jobs: &[JobLine], name: &[u8]) -> Option<usize>
+    ensures { result ≡ job_number (map job_text jobs.now) name.now }
+{
+    place_of(jobs, name)
 }

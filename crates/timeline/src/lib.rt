@@ -2,12 +2,21 @@
 //! each session that any log has before it.
 #![tactic(auto)]
 
+mod agreeing;
+mod behind;
 mod entries;
+mod entry_faults;
 mod fault;
 mod faulty;
 mod jobs;
+mod named_twice;
+mod ordering;
+mod placing;
+mod span;
 pub mod timeline;
 
+pub use entries::same_session;
 pub use fault::{EntryCause, TimelineFault};
-pub use session_columns::{Span, job_number, same_session, span_of};
+pub use jobs::job_number;
+pub use span::{Span, span_of};
 pub use timeline::{Timeline, timeline_of};

@@ -4,11 +4,14 @@ ghost use Rattle.lab_plan.specs.Limits.{most_jobs, most_instruments};
 ghost use Rattle.timeline.specs.Faults.{Answers};
 ghost use Rattle.timeline.specs.Clean.{AllClean};
 
+use crate::agreeing::all_agree;
+use crate::behind::pairs_of;
 use crate::fault::TimelineFault;
 use crate::faulty::{check, contradiction};
+use crate::ordering::order_beside;
+use crate::placing::place;
+use crate::span::Span;
 use report_reader::Report;
-use session_columns::{Span, all_agree};
-use session_orders::{order_beside, pairs_of, place};
 use std::alloc::{Allocator, Global};
 use std::marker::Model;
 
@@ -20,7 +23,7 @@ pub struct Timeline<A: Allocator = Global> {
 }
 
 impl<A: Allocator> Model for Timeline<A> {
-    ghost use Rattle.session_columns.specs.Timelines.{TimelineView};
+    ghost use Rattle.timeline.specs.Timelines.{TimelineView};
 
     ghost Value = { TimelineView };
 

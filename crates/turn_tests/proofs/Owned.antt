@@ -6,10 +6,10 @@ use Rattle.edge_rule.specs.DeskView.{DeskView, BenchView, Owns, fresh_desk, fres
 use Rattle.session_layer.specs.declared.turning.Turned.{Turned}
 use Rattle.session_layer.specs.Turn.{Took}
 use Rattle.session_layer.proofs.Grows as grows
-use Rattle.team_rounds.proofs.Pairs.{pairs_each}
-use Rattle.worker_teams.specs.Team.{TookUpTo}
-use Rattle.worker_teams.proofs.TeamTurns.{took_owns}
-use Rattle.workers.specs.Team.{TookRest}
+use Rattle.workers.proofs.Pairs.{pairs_each}
+use Rattle.workers.specs.Team.{TookUpTo}
+use Rattle.workers.proofs.TeamTurns.{took_owns}
+use Rattle.workers.specs.Driven.{TookRest}
 
 -- a turn leaves the bench and the plan
 pub took_owned : (b : BenchView) (d : DeskView) (r : Turned) (d' : DeskView) → Owns b d → Took d r d' → Owns b d'

@@ -1,8 +1,8 @@
 // Memory that runs out: each growth of a view is refused in turn. That is told and nothing is written, or it is made up for.
 use lab_program::{FromRead, status_of};
 use lab_views::{
-    View, run_arrange, run_explain, run_gantt, run_picture, run_table, run_trace, run_waits,
-    status_of_picture,
+    View, run_arrange, run_blocks, run_explain, run_gantt, run_picture, run_table, run_trace,
+    run_waits, status_of_picture,
 };
 use refusing_heap::RefusingHeap;
 use report::ToWrite;
@@ -22,6 +22,7 @@ fn told_without(out: Global, view: View, text: &[u8], refused: u64) -> (usize, u
         View::Arrange => status_of(&run_arrange(&heap, &mut source, &mut sink)),
         View::Trace { limit } => status_of(&run_trace(&heap, &mut source, &mut sink, limit)),
         View::Waits { limit } => status_of(&run_waits(&heap, &mut source, &mut sink, limit)),
+        View::Blocks { limit } => status_of(&run_blocks(&heap, &mut source, &mut sink, limit)),
         View::Gantt { limit } => status_of(&run_gantt(&heap, &mut source, &mut sink, limit)),
     };
     (bytes.len(), status, heap.growths())
@@ -44,6 +45,7 @@ fn growths_of_each_view(rt: HostRuntime) {
         (View::Table, REPORT),
         (View::Trace { limit: 20 }, SCRIPT),
         (View::Waits { limit: 20 }, SCRIPT),
+        (View::Blocks { limit: 20 }, SCRIPT),
         (View::Gantt { limit: 20 }, SCRIPT),
         (View::Arrange, SCRIPT),
     ] {

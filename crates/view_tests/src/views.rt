@@ -83,13 +83,14 @@ const HELP: &str = "Shows and explains the runs of labrun
 Usage: labview [COMMAND]
 
 Commands:
-  explain  read a script and its steps, tell why the first that isn't legal is refused, and what is legal there
-  picture  read a report of labrun, and draw its timeline as SVG
-  table    read a report of labrun, and write its logs as comma-separated values
-  trace N  read a script, write it with the steps of its run by at most N rounds, for labrun replay
-  waits N  read a script, tell who waits in its run by at most N rounds, and for how long
-  gantt N  read a script, and draw its run by at most N rounds over time, as SVG
-  arrange  read a script, write it with its jobs in an order in which chains at the start are short
+  explain   read a script and its steps, tell why the first that isn't legal is refused, and what is legal there
+  picture   read a report of labrun, and draw its timeline as SVG
+  table     read a report of labrun, and write its logs as comma-separated values
+  trace N   read a script, write it with the steps of its run by at most N rounds, for labrun replay
+  waits N   read a script, tell who waits in its run by at most N rounds, and for how long
+  blocks N  read a script, tell who keeps whom waiting in its run by at most N rounds, and for which instrument
+  gantt N   read a script, and draw its run by at most N rounds over time, as SVG
+  arrange   read a script, write it with its jobs in an order in which chains at the start are short
 
 Options:
       --help  print this help
@@ -100,7 +101,8 @@ The input comes from standard input, at most 16777216 bytes. What is printed goe
 standard output, and a fault in one line to standard error.
 
 Statuses:
-  0  explain: done, whether the steps are legal or not; picture, table, trace, waits, gantt, arrange, --help: done
+  0  explain: done, whether the steps are legal or not; picture, table, trace, waits, blocks, gantt,
+     arrange, --help: done
   1  the script or the report is refused; the fault names its line or place
   2  the command line is refused
   3  trace: longer than a replay reads; arrange: the script went out as it was
@@ -141,6 +143,11 @@ fn words(rt: HostRuntime) {
         ),
         (["labview", "arrange"].as_slice(), Some(View::Arrange)),
         (["labview", "waits"].as_slice(), None),
+        (
+            ["labview", "blocks", "74"].as_slice(),
+            Some(View::Blocks { limit: 74 }),
+        ),
+        (["labview", "blocks"].as_slice(), None),
         (
             ["labview", "gantt", "74"].as_slice(),
             Some(View::Gantt { limit: 74 }),

@@ -1,14 +1,9 @@
 -- Logs that are noted desk by desk.
-use Rattle.std.proofs.Common.{◌≡◌, ℕ, zero, suc, ◌+◌, ◌<◌, List, [], ◌∷◌, length, get_or, set, take, drop, ◌++◌, refl, sym, ap, ◌∙◌, subst, arith, add-one}
+use Rattle.std.proofs.Common.{◌≡◌, ℕ, zero, suc, ◌+◌, ◌<◌, List, [], ◌∷◌, length, get_or, set, take, drop, ◌++◌, refl, sym, ap, ◌∙◌, arith, add-one}
 use Rattle.legal_steps.specs.State.{phase}
 use Rattle.edge_rule.specs.DeskView.{DeskView, known}
 use Rattle.waiting.specs.Noting.{LogView, log_then}
 use Rattle.waiting.specs.Watching.{logs_then}
-
-pub length-logs_then : (k : ℕ) (desks : List DeskView) (logs : List LogView) → length (logs_then k desks logs) ≡ length logs
-length-logs_then k [] logs = refl
-length-logs_then k (d ∷ desks) [] = refl
-length-logs_then k (d ∷ desks) (x ∷ logs) = ap suc (length-logs_then k desks logs)
 
 next : (k : ℕ) (desks : List DeskView) (logs : List LogView) (p : ℕ) (d : DeskView) (x : LogView) → p < length desks → p < length logs
     → set (logs_then k (take p desks) logs) p
@@ -26,10 +21,6 @@ one_more k desks logs now p d x d_is inside long is y made =
     ap (set now p) (made ∙ (λ i. log_then k (phase (known (d_is i)) (d_is i).job) (get_or now p x)))
     ∙ (ap (λ l. set l p (log_then k (phase (known (get_or desks p d)) (get_or desks p d).job) (get_or l p x))) is
     ∙ (next k desks logs p d x inside (omega (arith, inside, long)) ∙ ap (λ n. logs_then k (take n desks) logs) (sym (add-one p))))
-
-pub all_of_them : {A : Type 0} (l : List A) → take (length l) l ≡ l
-all_of_them [] = refl
-all_of_them (x ∷ l) = ap (λ z. x ∷ z) (all_of_them l)
 
 front_of : {A : Type 0} (a b : List A) → take (length a) (a ++ b) ≡ a
 front_of [] b = refl

@@ -1,15 +1,15 @@
 -- What one event more makes of sessions and of meals.
-use Rattle.std.proofs.Common.{◌≡◌, ℕ, Bool, true, false, List, [], ◌∷◌, ◌++◌, Option, None, Some, refl, sym, ap, ◌∙◌, if◌then◌else◌}
+use Rattle.std.proofs.Common.{◌≡◌, ℕ, Bool, true, false, List, [], ◌∷◌, ◌++◌, Option, None, Some, refl, ap, ◌∙◌, if◌then◌else◌}
 use Rattle.legal_steps.specs.declared.event.Event.{Event}
 use Rattle.legal_steps.specs.declared.phase.Dining.{Dining}
 use Rattle.legal_steps.specs.declared.phase.Dining.TheVariants.{Thinking, Hungry, Eating}
 use Rattle.legal_steps.specs.declared.phase.Drinking.{Drinking}
 use Rattle.legal_steps.specs.declared.phase.Drinking.TheVariants.{Tranquil, Thirsty, Drinking as Drinks, Reaching, Retired}
-use Rattle.session_rounds.specs.declared.session.Session.{Session}
-use Rattle.session_rounds.specs.declared.session.Meal.{Meal}
+use Rattle.waiting.specs.declared.session.Session.{Session}
+use Rattle.waiting.specs.declared.session.Meal.{Meal}
 use Rattle.waiting.specs.Sessions.{Deed, is_thirst, is_drink, is_quit, is_withdraw, is_hunger, is_sit, is_leave, first_round, session, sessions_of, meal, meals_of}
 use Rattle.waiting.specs.Noting.{on_last, sessions_then, meals_then}
-use Rattle.session_rounds.specs.Noted.{noted}
+use Rattle.waiting.specs.OneRound.{noted}
 use Rattle.waiting.proofs.Parts.{begins, changes}
 use Rattle.waiting.proofs.Last.{on_last-same}
 

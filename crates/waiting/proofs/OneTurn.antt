@@ -4,10 +4,8 @@ use Rattle.lab_plan.specs.LabPlan.{LabPlan}
 use Rattle.legal_steps.specs.declared.event.Event.{Event}
 use Rattle.legal_steps.specs.declared.event.Event.TheVariants.{Thirst, Hunger, Sit, Leave, Drink, Reach, Act, Quit, Retire, Withdraw}
 use Rattle.legal_steps.specs.declared.phase.JobState.{JobState}
-use Rattle.legal_steps.specs.declared.phase.Dining.{Dining}
 use Rattle.legal_steps.specs.declared.phase.Dining.TheVariants.{Thinking, Hungry, Eating}
-use Rattle.legal_steps.specs.declared.phase.Drinking.{Drinking}
-use Rattle.legal_steps.specs.declared.phase.Drinking.TheVariants.{Tranquil, Thirsty, Drinking as Drinks, Reaching, Retired}
+use Rattle.legal_steps.specs.declared.phase.Drinking.TheVariants.{Tranquil, Thirsty, Drinking as Drinks, Retired}
 use Rattle.legal_steps.specs.State.{State, Seat, seat, phase, drinking, dining}
 use Rattle.edge_word.specs.declared.moves.EdgeMoves.{EdgeMoves}
 use Rattle.edge_word.specs.Moves.{events_of}
@@ -109,10 +107,6 @@ module _ (plan : LabPlan) (j : ℕ) where
     goes_on : (x : Event) → actor x ≡ j → Tells (x ∷ []) now (seat_after plan (seat m j) x).phase → GoesOn (x ∷ [])
     goes_on x by tells = subst (Tells (x ∷ []) now) (sym (ap (λ (y : Seat). y.phase) (subst (λ k. k < length m.seats →
         seat (learned plan m x) k ≡ seat_after plan (seat m k) x) by (learned_seat plan m x) inside))) tells
-
-    -- the sessions are the same, and so are the meals
-    same_sessions : (x : Event) (k : ℕ) (l : List Deed) → IsUnnoted x → sessions_of (l ++ deed k x ∷ []) ≡ sessions_then k now.drinking now.drinking (sessions_of l)
-    same_sessions x k l u = u.sessions k l ∙ sym (sessions_still k now.drinking (sessions_of l))
 
     quit : Counts plan m j waited (Quit j) → GoesOn (Quit j ∷ [])
     quit c = goes_on (Quit j) refl (record {

@@ -1,7 +1,7 @@
 -- Parts of a list of deeds, when one deed is added at its end.
-use Rattle.std.proofs.Common.{◌≡◌, ℕ, Bool, true, false, List, [], ◌∷◌, ◌++◌, refl, sym, ap, ◌∙◌, subst, if◌then◌else◌}
+use Rattle.std.proofs.Common.{◌≡◌, ℕ, Bool, true, false, List, [], ◌∷◌, ◌++◌, refl, ap, ◌∙◌, if◌then◌else◌}
 use Rattle.legal_steps.specs.declared.event.Event.{Event}
-use Rattle.waiting.specs.Sessions.{Deed, before, first_round, parts}
+use Rattle.waiting.specs.Sessions.{Deed, before, parts}
 use Rattle.waiting.specs.Noting.{on_last}
 
 -- ---- one step of each list

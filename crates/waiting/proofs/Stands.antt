@@ -4,12 +4,12 @@ use Rattle.std.proofs.lemmas.Bool.{false≢true}
 use Rattle.std.proofs.lemmas.List.Elements.{filter-append}
 use Rattle.std.proofs.lemmas.List.{take-append-le}
 use Rattle.std.proofs.lemmas.List.FromFn.{map-range_with_len_more}
-use Rattle.std.specs.List.{flat_map, range_with_len}
+use Rattle.std.specs.List.{range_with_len}
 use Rattle.atomic_table.specs.Seated.{TableId}
 use Rattle.lab_plan.specs.LabPlan.{LabPlan}
 use Rattle.legal_steps.specs.declared.event.Event.{Event}
 use Rattle.legal_steps.specs.declared.phase.JobState.{JobState}
-use Rattle.legal_steps.specs.State.{State, Seat, phase, idle_phase, no_seat}
+use Rattle.legal_steps.specs.State.{State, phase, idle_phase, no_seat}
 use Rattle.legal_steps.specs.Opening.{the_opening, idle_seat}
 use Rattle.locality.specs.History.{IsHistory, is_by, events_by, known_by, learned_all}
 use Rattle.locality.specs.AtTheEnd.{AllRetired}
@@ -20,7 +20,7 @@ use Rattle.edge_rule.specs.Company.{jobs_of, Distinct}
 use Rattle.edge_rule.specs.Ending.{Any, HasAll}
 use Rattle.rounds.specs.declared.ended.Ended.{Ended}
 use Rattle.rounds.specs.declared.ended.Ended.TheVariants as reasons
-use Rattle.rounds.specs.Company.{AllOf, IsWhole, first_front}
+use Rattle.rounds.specs.Company.{IsWhole, first_front}
 use Rattle.rounds.specs.Rounds.{Player, players_of, known_in, Round, Rounds, IsOver, Why, Drove}
 use Rattle.rounds.proofs.Lists.{append_cancel}
 use Rattle.rounds.proofs.Together.{no_more}
@@ -35,10 +35,10 @@ use Rattle.round_trace.specs.Traces.{why_ended}
 use Rattle.round_trace.proofs.Played.{round_more}
 use Rattle.round_laws.proofs.QuietEnd.{no_quiet_end}
 use Rattle.round_laws.proofs.Fresh.{opened_own, opened_all, same_desks}
-use Rattle.waiting.specs.Rounds.{joined, IsAfter, AreRoundsOf}
-use Rattle.waiting.specs.Sessions.{Deed, in_round, deeds_from, deeds_of, sessions_of, meals_of}
+use Rattle.waiting.specs.Rounds.{joined, IsAfter}
+use Rattle.waiting.specs.Sessions.{in_round, deeds_from, deeds_of, sessions_of, meals_of}
 use Rattle.waiting.specs.Noting.{LogView, log_then, fresh_log, sessions_then, meals_then}
-use Rattle.waiting.specs.Waits.{JobRounds, rounds_of}
+use Rattle.waiting.specs.Waits.{rounds_of}
 use Rattle.waiting.specs.Watching.{logs_then, KnowsJob, KnowsAll, Stands, Watched, told, is_all_retired}
 use Rattle.waiting.proofs.OneTurn.{Tells, turn_tells}
 

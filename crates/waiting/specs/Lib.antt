@@ -1,3 +1,5 @@
+pub mod OneRound
+pub mod LongestWait
 pub mod Rounds
 pub mod Sessions
 pub mod Noting

@@ -4,9 +4,9 @@ use Rattle.legal_steps.specs.declared.phase.Dining.{Dining}
 use Rattle.legal_steps.specs.declared.phase.Drinking.{Drinking}
 use Rattle.legal_steps.specs.declared.phase.JobState.{JobState}
 use Rattle.legal_steps.specs.State.{idle_phase}
-use Rattle.session_rounds.specs.declared.session.Session.{Session}
-use Rattle.session_rounds.specs.declared.session.Meal.{Meal}
-use Rattle.session_rounds.specs.Noted.{begins_session, session_then, begins_meal, meal_then, begun_session, begun_meal}
+use Rattle.waiting.specs.declared.session.Session.{Session}
+use Rattle.waiting.specs.declared.session.Meal.{Meal}
+use Rattle.waiting.specs.OneRound.{begins_session, session_then, begins_meal, meal_then, begun_session, begun_meal}
 
 -- the last of a list is changed, where there is one
 abbrev pub on_last : {A : Type 0} → (A → A) → List A → List A

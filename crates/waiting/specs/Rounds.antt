@@ -1,5 +1,5 @@
 -- For readers: the run of a plan by rounds, cut into its rounds.
-use Rattle.std.specs.Prelude.{◌≡◌, ℕ, ◌≤◌, Bool, List, [], length, take}
+use Rattle.std.specs.Prelude.{ℕ, ◌≤◌, Bool, List, [], length, take}
 use Rattle.std.specs.List.{flat_map}
 use Rattle.lab_plan.specs.LabPlan.{LabPlan}
 use Rattle.legal_steps.specs.declared.event.Event.{Event}

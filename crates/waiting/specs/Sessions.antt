@@ -1,10 +1,10 @@
 -- For readers: in which rounds a session began, drank and ended, and a meal was wanted, had and ended. Rounds are counted from 1.
-use Rattle.std.specs.Prelude.{◌≡◌, ℕ, ◌+◌, Bool, true, false, ◌||◌, List, [], ◌∷◌, ◌++◌, Option, None, Some, map, filter, if◌then◌else◌}
+use Rattle.std.specs.Prelude.{ℕ, ◌+◌, Bool, true, false, List, [], ◌∷◌, ◌++◌, Option, None, Some, map, if◌then◌else◌}
 use Rattle.legal_steps.specs.declared.event.Event.{Event}
 use Rattle.legal_steps.specs.declared.event.Event.TheVariants.{Thirst, Hunger, Sit, Leave, Drink, Quit, Withdraw}
 use Rattle.locality.specs.History.{events_by}
-use Rattle.session_rounds.specs.declared.session.Session.{Session}
-use Rattle.session_rounds.specs.declared.session.Meal.{Meal}
+use Rattle.waiting.specs.declared.session.Session.{Session}
+use Rattle.waiting.specs.declared.session.Meal.{Meal}
 
 -- ---- kinds of events
 

@@ -3,9 +3,9 @@ use Rattle.std.specs.Prelude.{ℕ, ◌+◌, ◌-◌, zero, suc, ◌==◌, Bool, 
 use Rattle.std.specs.List.{flat_map, range_with_len, sum_by}
 use Rattle.lab_plan.specs.LabPlan.{LabPlan}
 use Rattle.lab_plan.specs.Texts.{job_name}
-use Rattle.session_rounds.specs.declared.session.Session.{Session}
-use Rattle.session_rounds.specs.declared.waits.Longest.{Longest}
-use Rattle.session_rounds.specs.Waited.{waited, longest_of, longest_after, no_wait}
+use Rattle.waiting.specs.declared.session.Session.{Session}
+use Rattle.waiting.specs.declared.waits.Longest.{Longest}
+use Rattle.waiting.specs.LongestWait.{waited, longest_of, longest_after, no_wait}
 use Rattle.waiting.specs.Waits.{RunView, job_of}
 
 -- `rounds R finished` or `rounds R unfinished`

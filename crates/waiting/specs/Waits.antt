@@ -5,8 +5,8 @@ use Rattle.lab_plan.specs.LabPlan.{LabPlan}
 use Rattle.legal_steps.specs.declared.event.Event.{Event}
 use Rattle.waiting.specs.Rounds.{AreRoundsOf}
 use Rattle.waiting.specs.Sessions.{deeds_of, sessions_of, meals_of}
-use Rattle.session_rounds.specs.declared.session.Session.{Session}
-use Rattle.session_rounds.specs.declared.session.Meal.{Meal}
+use Rattle.waiting.specs.declared.session.Session.{Session}
+use Rattle.waiting.specs.declared.session.Meal.{Meal}
 
 -- the rounds of a job's sessions and meals
 pub record JobRounds : Type 0 where

@@ -2,8 +2,8 @@
 ghost use Rattle.std.specs.Prelude.{◌≡◌, OnOk};
 ghost use Rattle.waiting.specs.Noting.{fresh_log, log_then, sessions_then, meals_then};
 
+use crate::session::{Meal, Session, begins_meal, begins_session};
 use legal_steps::{Dining, Drinking, JobState};
-use session_rounds::{Meal, Session, begins_meal, begins_session};
 use std::alloc::{AllocError, Allocator, Global};
 use std::marker::Model;
 

@@ -9,8 +9,11 @@ mod driving;
 mod job_log;
 mod longest;
 mod run;
+mod session;
 mod text;
+mod waits;
 
 pub use driving::run_by_rounds;
 pub use run::RoundsRun;
+pub use session::{Meal, Session};
 pub use text::{add_outcome, add_rounds, add_waits};

@@ -3,8 +3,8 @@ ghost use Rattle.std.specs.Prelude.{◌≡◌, ◌≢◌, ◌<◌, ◌≤◌, le
 ghost use Rattle.waiting.specs.Text.{longest_below};
 
 use crate::run::RoundsRun;
+use crate::waits::{Longest, longest_after};
 use lab_plan::JobNo;
-use session_rounds::{Longest, longest_after};
 use std::alloc::Allocator;
 
 /// The first of the longest of the sessions of the first jobs, so many.

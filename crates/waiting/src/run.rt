@@ -3,8 +3,8 @@ ghost use Rattle.std.specs.Prelude.{◌≡◌, ◌<◌, length};
 ghost use Rattle.waiting.specs.Waits.{job_of};
 
 use crate::job_log::JobLog;
+use crate::session::{Meal, Session};
 use lab_plan::JobNo;
-use session_rounds::{Meal, Session};
 use std::alloc::{Allocator, Global};
 use std::marker::Model;
 

@@ -6,9 +6,10 @@ ghost use Rattle.waiting.specs.Text.{rounds_line, ending, done_text, outcome_tex
 
 use crate::longest::longest_below;
 use crate::run::RoundsRun;
+use crate::session::Session;
+use crate::waits::{Longest, longest_of, total};
 use itoa::Buffer;
 use lab_plan::{JobNo, Plan};
-use session_rounds::{Longest, Session, longest_of, total};
 use std::alloc::{AllocError, Allocator};
 
 /// Adds a word and a number.

@@ -1,16 +1,13 @@
 -- A run by threads, from what the workers did and what closing the bench gives.
-use Rattle.std.proofs.Common.{◌≡◌, ◌≢◌, ℕ, ◌<◌, ◌≤◌, Bool, true, false, List, [], ◌∷◌, length, refl, sym, ap, ◌∙◌, subst}
+use Rattle.std.proofs.Common.{◌≡◌, ◌≢◌, ℕ, ◌≤◌, Bool, true, false, List, length, refl, sym, ap, ◌∙◌, subst}
 use Rattle.atomic_table.specs.Seated.{TableId}
 use Rattle.lab_plan.specs.LabPlan.{LabPlan}
 use Rattle.legal_steps.specs.declared.event.Event.{Event}
 use Rattle.legal_steps.specs.Opening.{the_opening}
-use Rattle.locality.specs.History.{events_by}
-use Rattle.locality.specs.Lists.{Each}
-use Rattle.locality.specs.Patience.{no_wait}
-use Rattle.turns.specs.Turns.{Stands, flat, but_glances}
+use Rattle.turns.specs.Turns.{Stands, but_glances}
 use Rattle.edge_rule.specs.DeskView.{DeskView, BenchView, fresh_desk}
 use Rattle.edge_rule.specs.ClosedView.{ClosedView}
-use Rattle.edge_rule.specs.Ending.{Any, HasAll, IsEnd}
+use Rattle.edge_rule.specs.Ending.{Any, IsEnd}
 use Rattle.report.specs.Events.{retired_after}
 use Rattle.rounds.specs.Company.{first_front, all_retired}
 use Rattle.locality.specs.AtTheEnd.{AllRetired}
@@ -20,7 +17,7 @@ use Rattle.round_laws.specs.FromOpening.{opened}
 use Rattle.round_laws.proofs.Fresh.{each_any, fresh_one}
 use Rattle.rounds.specs.declared.ended.Ended.{Ended}
 use Rattle.rounds.specs.declared.ended.Ended.TheVariants as reasons
-use Rattle.workers.specs.Team.{Driven, Threaded}
+use Rattle.workers.specs.Driven.{Driven, Threaded}
 use Rattle.workers.specs.Closed.{TurnsSince, TurnsInHistory}
 use Rattle.whole_runs.specs.Turns.{TakesTurns, TakeTurns}
 use Rattle.whole_runs.specs.Runs.{IsRunByTurns}

@@ -1,17 +1,16 @@
 -- What a bench that was closed shows is what its history leads to.
-use Rattle.std.proofs.Common.{◌≡◌, ◌≢◌, ℕ, zero, suc, ◌+◌, ◌<◌, Bool, true, false, ◌&&◌, List, [], ◌∷◌, length, take, arith, refl, sym, ap, ◌∙◌, subst}
-use Rattle.std.specs.List.{All, list_all, range_with_len}
+use Rattle.std.proofs.Common.{◌≡◌, ◌≢◌, ℕ, zero, suc, ◌+◌, ◌<◌, Bool, true, false, ◌&&◌, List, length, arith, refl, sym, ap, ◌∙◌}
+use Rattle.std.specs.List.{list_all, range_with_len}
 use Rattle.lab_plan.specs.LabPlan.{LabPlan}
 use Rattle.instrument_log.specs.InstrumentLog.{LogView}
 use Rattle.legal_steps.specs.declared.event.Event.{Event}
 use Rattle.legal_steps.specs.declared.phase.JobState.{JobState}
-use Rattle.legal_steps.specs.State.{State}
 use Rattle.legal_steps.specs.Opening.{the_opening}
-use Rattle.locality.specs.History.{state_after, events_by}
+use Rattle.locality.specs.History.{events_by}
 use Rattle.locality.specs.Patience.{Waited, no_wait}
 use Rattle.turns.specs.Turns.{Group, AreGrouped, Stands, flat, but_glances}
 use Rattle.edge_rule.specs.DeskView.{DeskView}
-use Rattle.edge_rule.specs.ClosedView.{ClosedView, log_in, phase_in, counts_in}
+use Rattle.edge_rule.specs.ClosedView.{ClosedView}
 use Rattle.legal_steps.specs.declared.counts.Counts.{Counts}
 use Rattle.edge_rule.specs.Ending.{IsEnd}
 use Rattle.report.specs.Report.{is_retired, jobs}

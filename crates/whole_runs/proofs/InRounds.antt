@@ -1,5 +1,5 @@
 -- A run in rounds, from what was driven and what closing the bench gives.
-use Rattle.std.proofs.Common.{◌≡◌, ◌≢◌, ℕ, zero, suc, ◌<◌, ◌≤◌, Bool, false, if◌then◌else◌, List, [], ◌∷◌, ◌++◌, length, arith, refl, sym, ap, ◌∙◌, subst, append-nil, append_assoc}
+use Rattle.std.proofs.Common.{◌≡◌, ◌≢◌, ℕ, ◌<◌, Bool, false, if◌then◌else◌, List, [], ◌∷◌, ◌++◌, length, refl, sym, ap, ◌∙◌, subst, append-nil}
 use Rattle.std.proofs.lemmas.Bool.{eq-eqb}
 use Rattle.std.proofs.lemmas.List.Elements.{filter-append}
 use Rattle.lab_plan.specs.LabPlan.{LabPlan}
@@ -10,7 +10,7 @@ use Rattle.locality.specs.History.{is_by, events_by}
 use Rattle.locality.specs.Lists.{StartsWith, Each}
 use Rattle.edge_rule.specs.DeskView.{DeskView, BenchView}
 use Rattle.edge_rule.specs.ClosedView.{ClosedView}
-use Rattle.edge_rule.specs.Ending.{Any, HasAll, IsEnd}
+use Rattle.edge_rule.specs.Ending.{HasAll, IsEnd}
 use Rattle.report.specs.Events.{retired_after}
 use Rattle.rounds.specs.declared.ended.Ended.{Ended}
 use Rattle.rounds.specs.declared.ended.Ended.TheVariants as reasons
@@ -23,8 +23,8 @@ use Rattle.round_laws.specs.FromOpening.{opened, fresh_players, DrivesFromOpenin
 use Rattle.round_laws.proofs.Opened.{players_once}
 use Rattle.round_laws.proofs.Fresh.{each_any, fresh_player}
 use Rattle.round_laws.proofs.RoundTurns.{turns_in_rounds}
-use Rattle.whole_runs.specs.Turns.{TakesTurns, TakeTurns}
-use Rattle.whole_runs.specs.Runs.{IsRunByTurns, IsRunInRounds}
+use Rattle.whole_runs.specs.Turns.{TakeTurns}
+use Rattle.whole_runs.specs.Runs.{IsRunInRounds}
 use Rattle.whole_runs.proofs.Ends.{taken, shows, not_retired}
 
 -- ---- nobody did anything after the last round

@@ -9,8 +9,8 @@ use Rattle.session_layer.specs.Grown.{TookTurns}
 use Rattle.session_layer.proofs.Grows.{stands_more}
 use Rattle.rounds.specs.Company.{all_retired}
 use Rattle.rounds.proofs.Lists.{zip_each}
-use Rattle.worker_teams.specs.Team.{TookUpTo}
-use Rattle.workers.specs.Team.{FromOne, Driven}
+use Rattle.workers.specs.Team.{TookUpTo}
+use Rattle.workers.specs.Driven.{FromOne, Driven}
 use Rattle.workers.specs.Closed.{TurnsSince, TurnsInHistory}
 
 since : (n : ℕ) (d e : DeskView) (h : List Event) → TookTurns n d e → events_by e.job h ≡ e.deeds → StartsWith h e.front → TurnsSince n d h

@@ -4,10 +4,10 @@ use Rattle.std.proofs.lemmas.Bool.{false≢true}
 use Rattle.edge_rule.specs.DeskView.{DeskView}
 use Rattle.session_layer.specs.Grown.{TookTurns}
 use Rattle.rounds.specs.Company.{all_retired}
-use Rattle.team_rounds.specs.Pairs.{Pairs}
-use Rattle.team_rounds.proofs.Pairs.{pairs_map}
-use Rattle.worker_teams.specs.Team.{TookUpTo}
-use Rattle.workers.specs.Team.{TookRest}
+use Rattle.workers.specs.Pairs.{Pairs}
+use Rattle.workers.proofs.Pairs.{pairs_map}
+use Rattle.workers.specs.Team.{TookUpTo}
+use Rattle.workers.specs.Driven.{TookRest}
 
 pub rest_early : (n rest : ℕ) (old new : List DeskView) → n ≤ rest → Pairs (TookTurns n) old new → all_retired new ≡ true → TookRest rest old new
 rest_early n rest old new l t gone = record {

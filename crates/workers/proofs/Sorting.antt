@@ -21,13 +21,13 @@ use Rattle.rounds.proofs.Reasons.{then_retired}
 use Rattle.legal_steps.specs.State.{drinking}
 use Rattle.locality.specs.History.{known_by}
 use Rattle.session_layer.specs.Retired.{has_retired}
-use Rattle.team_rounds.specs.Pairs.{Pairs}
-use Rattle.team_rounds.proofs.Pairs.{pairs_each}
-use Rattle.worker_teams.specs.declared.halt.Halt.{Halt}
-use Rattle.worker_teams.specs.declared.halt.Halt.TheVariants as halts
-use Rattle.worker_teams.specs.Team.{TookUpTo, taken, Worked}
-use Rattle.worker_teams.proofs.TeamTurns.{took_then, took_up_to, whole}
-use Rattle.workers.specs.Team.{TookRest, FromOne, Ascending, Driven}
+use Rattle.workers.specs.Pairs.{Pairs}
+use Rattle.workers.proofs.Pairs.{pairs_each}
+use Rattle.workers.specs.declared.halt.Halt.{Halt}
+use Rattle.workers.specs.declared.halt.Halt.TheVariants as halts
+use Rattle.workers.specs.Team.{TookUpTo, taken, Worked}
+use Rattle.workers.proofs.TeamTurns.{took_then, took_up_to, whole}
+use Rattle.workers.specs.Driven.{TookRest, FromOne, Ascending, Driven}
 use Rattle.workers.proofs.AnyOrder.{each_perm, each_in, any_among, any_perm, each_index, distinct_perm}
 
 -- ---- desks
@@ -210,13 +210,3 @@ module _ (b : BenchView) (turns : ℕ) (old mid : List DeskView) (h : Halt) (bac
           full = λ not_all. met_from (TookTurns turns) full_met old done new met (full_by h t more not_all);
           company = knows.company;
         }
-
--- no desks at all
-pub driven_none : (b : BenchView) (turns : ℕ) → HasAll b.plan [] → Driven b turns [] []
-driven_none b turns all = record {
-  order = tt;
-  all = all;
-  took = tt;
-  full = λ _. tt;
-  company = record { own = tt; rest = tt; legal = tt; starts = tt; whole = tt };
-}

@@ -9,7 +9,7 @@ use Rattle.edge_rule.specs.DeskView.{DeskView, BenchView, known, shown, waits}
 use Rattle.edge_rule.specs.Ending.{Any, IsEnd}
 use Rattle.turns.specs.Turns.{Group, AreGrouped, Stands, flat, but_glances}
 use Rattle.rounds.specs.Company.{all_retired}
-use Rattle.workers.specs.Team.{Driven}
+use Rattle.workers.specs.Driven.{Driven}
 
 -- The history has the desk's record as its job's first events. But for Glances the job's later events are n turns one after another, by what it knew then,
 -- and their groups stand unbroken, in this order, in the part of the history that the desk hadn't seen; so an exchange that was due is lost only if its

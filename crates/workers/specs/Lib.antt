@@ -1,2 +1,4 @@
+pub mod Pairs
 pub mod Team
+pub mod Driven
 pub mod Closed

@@ -3,15 +3,16 @@ ghost use Rattle.std.specs.Prelude.{◌≡◌, ◌<◌, ◌≤◌, length};
 ghost use Rattle.locality.specs.Lists.{Each};
 ghost use Rattle.edge_rule.specs.DeskView.{Owns};
 ghost use Rattle.edge_rule.specs.Ending.{HasAll};
-ghost use Rattle.workers.specs.Team.{Threaded};
+ghost use Rattle.workers.specs.Driven.{Threaded};
 
 use crate::finishing::finish;
+use crate::gate::{Gate, Through};
+use crate::halving::{Orders, in_teams};
+use crate::muster::Muster;
 use edge_rule::{Bench, Desk, meet_all};
 use rounds::{Ended, all_retired, are_at_rest};
 use std::alloc::Allocator;
 use std::thread::Threads;
-use team_rounds::{Gate, Through};
-use worker_teams::{Muster, Orders, in_teams};
 
 // Drives the desks of the slice. Their order may change, unless no memory is left.
 fn drive<R: Threads + Sync, S: Allocator, A: Allocator + Send + Sync, G: Gate>(

@@ -2,12 +2,13 @@
 ghost use Rattle.std.specs.Prelude.{◌-◌};
 ghost use Rattle.locality.specs.Lists.{Each};
 ghost use Rattle.edge_rule.specs.DeskView.{Owns};
-ghost use Rattle.workers.specs.Team.{TookRest};
+ghost use Rattle.workers.specs.Driven.{TookRest};
 
+use crate::gate::Passage;
+use crate::round::team_round;
 use edge_rule::{Bench, Desk};
 use rounds::all_retired;
 use std::alloc::Allocator;
-use team_rounds::{Passage, team_round};
 
 /// Rounds of all desks, each of which has taken so many turns: they end once all jobs are retired, or all turns are taken. The turns are
 /// counted on, and the gate is passed before each.

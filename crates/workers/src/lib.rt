@@ -6,11 +6,19 @@
 
 mod driving;
 mod finishing;
+mod gate;
+mod halt;
+mod halving;
 mod laws;
+mod muster;
+mod round;
+mod team;
 
 pub use driving::threads;
 pub use finishing::finish;
+pub use gate::{Gate, NoGate, Passage, Through};
+pub use halt::Halt;
 pub use laws::turns_in_history;
+pub use muster::Muster;
 pub use rounds::{Ended, rounds};
-pub use team_rounds::{Gate, NoGate, Passage, Through};
-pub use worker_teams::{Halt, Muster, work};
+pub use team::work;

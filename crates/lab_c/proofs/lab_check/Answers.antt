@@ -1,5 +1,5 @@
 use Rattle.lab_program.specs.Answers.{ScriptRefuses}
-use Rattle.script_runs.specs.Runs.{Checks}
+use Rattle.lab_runs.specs.Scripts.{Checks}
 use Rattle.lab_c.proofs.Called.{answered}
 use Rattle.lab_c.proofs.lab_check.Goals as goal
 

@@ -1,4 +1,4 @@
-use Rattle.replay_runs.specs.Replays.{ReplaysScript, ReplayRefuses}
+use Rattle.lab_runs.specs.Replays.{ReplaysScript, ReplayRefuses}
 use Rattle.lab_c.proofs.Called.{answered}
 use Rattle.lab_c.proofs.lab_replay.Goals as goal
 

@@ -26,8 +26,9 @@ fn words(rt: HostRuntime) {
         (["labrun", "replay"].as_slice(), Some(Task::Replay)),
         (["./labrun", "check"].as_slice(), Some(Task::Check)),
         (["", "upgrade"].as_slice(), Some(Task::Upgrade)),
-        ([].as_slice(), None),
+        ([].as_slice(), rounds(10_000)),
         (["labrun"].as_slice(), rounds(10_000)),
+        (["labrun", "--"].as_slice(), rounds(10_000)),
         (["labrun", "rounds", "0"].as_slice(), rounds(0)),
         (["labrun", "rounds", "7"].as_slice(), rounds(7)),
         (["labrun", "rounds", "007"].as_slice(), rounds(7)),
@@ -50,7 +51,41 @@ fn words(rt: HostRuntime) {
         ),
         (["labrun", "rounds"].as_slice(), None),
         (["labrun", "rounds", ""].as_slice(), None),
-        (["labrun", "rounds", "+7"].as_slice(), None),
+        (["labrun", "rounds", "+7"].as_slice(), rounds(7)),
+        (["labrun", "rounds", "+007"].as_slice(), rounds(7)),
+        (["labrun", "rounds", "--", "7"].as_slice(), rounds(7)),
+        (["labrun", "rounds", "7", "--"].as_slice(), rounds(7)),
+        (
+            ["labrun", "threads", "--", "2", "7"].as_slice(),
+            threads(2, 7),
+        ),
+        (
+            ["labrun", "threads", "2", "--", "7"].as_slice(),
+            threads(2, 7),
+        ),
+        (
+            ["labrun", "threads", "2", "7", "--"].as_slice(),
+            threads(2, 7),
+        ),
+        (["labrun", "threads", "+2", "7"].as_slice(), threads(2, 7)),
+        (["labrun", "replay", "--"].as_slice(), Some(Task::Replay)),
+        (["labrun", "check", "--"].as_slice(), Some(Task::Check)),
+        (["labrun", "rounds", "++7"].as_slice(), None),
+        (["labrun", "rounds", "+"].as_slice(), None),
+        (["labrun", "rounds", "+-7"].as_slice(), None),
+        (["labrun", "rounds", "-"].as_slice(), None),
+        (["labrun", "rounds", "--"].as_slice(), None),
+        (["labrun", "rounds", "--", "--", "7"].as_slice(), None),
+        (["labrun", "rounds", "--", "-7"].as_slice(), None),
+        (["labrun", "rounds", "7", "--", "7"].as_slice(), None),
+        (["labrun", "rounds", "--", "7", "--"].as_slice(), None),
+        (["labrun", "threads", "2", "--"].as_slice(), None),
+        (["labrun", "replay", "--", "x"].as_slice(), None),
+        (["labrun", "replay", "--", "--"].as_slice(), None),
+        (["labrun", "--", "rounds", "7"].as_slice(), None),
+        (["labrun", "--", "--"].as_slice(), None),
+        (["labrun", "rounds", "-x"].as_slice(), None),
+        (["labrun", "rounds", "--rounds", "7"].as_slice(), None),
         (["labrun", "rounds", "-0"].as_slice(), None),
         (["labrun", "rounds", "7 "].as_slice(), None),
         (["labrun", "rounds", " 7"].as_slice(), None),
@@ -78,7 +113,6 @@ fn words(rt: HostRuntime) {
         (["labrun", "threads", "0", "7"].as_slice(), None),
         (["labrun", "threads", "33", "7"].as_slice(), None),
         (["labrun", "threads", "2", "1000000001"].as_slice(), None),
-        (["labrun", "threads", "+2", "7"].as_slice(), None),
         (["labrun", "threads", "2", "-7"].as_slice(), None),
         (["labrun", "threads", "2", "7", "7"].as_slice(), None),
         (["labrun", "thread", "2", "7"].as_slice(), None),
@@ -86,16 +120,15 @@ fn words(rt: HostRuntime) {
         (["labrun", "repla"].as_slice(), None),
         (["labrun", "Replay"].as_slice(), None),
         (["labrun", "replay", "x"].as_slice(), None),
-        (["labrun", "replay", "--"].as_slice(), None),
         (["labrun", "--", "replay"].as_slice(), None),
         (["labrun", "check", "upgrade"].as_slice(), None),
-        (["labrun", "-h"].as_slice(), None),
         (["labrun", "--hel"].as_slice(), None),
         (["labrun", "--help=x"].as_slice(), None),
-        (["labrun", "--help", "replay"].as_slice(), None),
-        (["labrun", "rounds", "--help"].as_slice(), None),
-        (["labrun", "--help", "--help"].as_slice(), None),
-        (["labrun", "replay", "--help"].as_slice(), None),
+        (["labrun", "rounds", "x", "--help"].as_slice(), None),
+        (["labrun", "rounds", "--", "--help"].as_slice(), None),
+        (["labrun", "x", "--help"].as_slice(), None),
+        (["labrun", "replay", "--version"].as_slice(), None),
+        (["labrun", "-V"].as_slice(), None),
         (["labrun", "--version"].as_slice(), None),
         (["labrun", "help"].as_slice(), None),
     ];
@@ -110,17 +143,17 @@ const HELP: &str = "Runs command scripts on the simulated instruments of a share
 Usage: labrun [COMMAND]
 
 Commands:
-  rounds N     run a script on one thread, one turn of each job a round, at most N rounds, print the report
-  threads W N  run a script by W worker threads, at most N turns of each job, print the report
-  replay       read a script and its steps, take each step where it is legal, print the report
-  check        read a script and print its counts
-  upgrade      read a script of either version and print it in version 2
+  rounds   run a script on one thread, one turn of each job a round, at most N rounds, print the report
+  threads  run a script by W worker threads, at most N turns of each job, print the report
+  replay   read a script and its steps, take each step where it is legal, print the report
+  check    read a script and print its counts
+  upgrade  read a script of either version and print it in version 2
 
 Options:
-      --help  print this help
+  -h, --help  Print help
 
-Without a command it runs as `rounds 10000`. N is a number from 0 to 1000000000, W one from
-1 to 32, in plain digits.
+The values: `rounds N`, `threads W N`. Without a command it runs as `rounds 10000`. N is a number
+from 0 to 1000000000, W one from 1 to 32, in digits.
 
 The script comes from standard input, at most 16777216 bytes. What is printed goes to
 standard output, and a fault in one line to standard error.
@@ -144,6 +177,46 @@ fn help(rt: HostRuntime) {
         _ => String::new(rt.alloc()),
     };
     assert!(rt; text.as_str() == HELP, "{text}");
+}
+
+const THREADS_HELP: &str =
+    "run a script by W worker threads, at most N turns of each job, print the report
+
+Usage: labrun threads <W> <N>
+
+Arguments:
+  <W>  the workers
+  <N>  the most turns of each job
+
+Options:
+  -h, --help  Print help
+";
+
+/// Which lines ask for help, and for which.
+#[test]
+fn lines_that_ask_for_help(rt: HostRuntime) {
+    for (words, wanted) in [
+        (["labrun", "-h"].as_slice(), HELP),
+        (["labrun", "--help", "replay"].as_slice(), HELP),
+        (["labrun", "--help", "--help"].as_slice(), HELP),
+        (["labrun", "-h", "x"].as_slice(), HELP),
+        (["labrun", "threads", "--help"].as_slice(), THREADS_HELP),
+        (["labrun", "threads", "-h"].as_slice(), THREADS_HELP),
+        (
+            ["labrun", "threads", "2", "-h", "7"].as_slice(),
+            THREADS_HELP,
+        ),
+        (
+            ["labrun", "threads", "2", "7", "--help"].as_slice(),
+            THREADS_HELP,
+        ),
+    ] {
+        let text = match read_words(rt.alloc(), words) {
+            Err(NoTask::Help(text)) => text,
+            _ => String::new(rt.alloc()),
+        };
+        assert!(rt; text.as_str() == wanted, "{text}");
+    }
 }
 
 fn script_fault(line: usize, cause: ScriptCause) -> RunFault {

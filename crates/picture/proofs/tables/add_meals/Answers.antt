@@ -1,5 +1,5 @@
 use Rattle.std.proofs.Common.{ℕ, ◌≡◌, List, ◌++◌, codes, decimal}
-use Rattle.report_lines.specs.Line.{state_word}
+use Rattle.report_reader.specs.Line.{state_word}
 use Rattle.picture.proofs.Adding.{more, by_equal}
 use Rattle.picture.proofs.tables.add_meals.Goals as goal
 

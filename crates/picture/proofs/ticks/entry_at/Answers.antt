@@ -1,5 +1,5 @@
 use Rattle.std.proofs.Common.{map, sym, ◌∙◌}
-use Rattle.report_lines.specs.Form.{job_text}
+use Rattle.report_reader.specs.Form.{job_text}
 use Rattle.picture.proofs.Places.{nothing_drawn}
 use Rattle.picture.proofs.ticks.entry_at.Goals as goal
 

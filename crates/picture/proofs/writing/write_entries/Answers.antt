@@ -1,7 +1,7 @@
 use Rattle.std.proofs.Common.{ℕ, ◌+◌, ◌<◌, ◌≤◌, List, length, map, arith, ap, sym, ◌∙◌}
 use Rattle.std.specs.List.{flat_map, range_with_len}
 use Rattle.std.proofs.lemmas.List.{length-map}
-use Rattle.report_lines.specs.Form.{entry_text, job_text}
+use Rattle.report_reader.specs.Form.{entry_text, job_text}
 use Rattle.report.proofs.Prefixes.{all_numbers, appends_same, prefix_same, each_goes, each_stops, number_at, number_inside, writes_err}
 use Rattle.picture.specs.Picture.{entry_at}
 use Rattle.picture.proofs.writing.write_entries.Goals as goal

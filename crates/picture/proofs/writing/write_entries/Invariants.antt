@@ -2,7 +2,7 @@
 use Rattle.std.proofs.Common.{◌≡◌, length, map, take}
 use Rattle.std.specs.List.{flat_map, range_with_len}
 use Rattle.std.specs.Io.KnownBytes.{Appends}
-use Rattle.report_lines.specs.Form.{entry_text, job_text}
+use Rattle.report_reader.specs.Form.{entry_text, job_text}
 use Rattle.picture.specs.Picture.{entry_at}
 use Rattle.picture.proofs.writing.write_entries.Given as goal
 

@@ -1,7 +1,7 @@
 use Rattle.std.proofs.Common.{ℕ, ◌≡◌, ◌+◌, ◌<◌, ◌≤◌, List, length, arith, ap, sym, ◌∙◌}
 use Rattle.std.specs.List.{flat_map, range_with_len}
 use Rattle.std.proofs.lemmas.List.{length-map}
-use Rattle.report_lines.specs.Form.{job_text}
+use Rattle.report_reader.specs.Form.{job_text}
 use Rattle.report.proofs.Prefixes.{all_numbers, appends_same, each_goes, each_stops, number_at, number_inside, writes_err}
 use Rattle.picture.specs.Picture.{job_at}
 use Rattle.picture.proofs.writing.write_jobs.Goals as goal

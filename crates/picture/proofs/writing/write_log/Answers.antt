@@ -1,6 +1,6 @@
 use Rattle.std.proofs.Common.{◌≡◌, ◌+◌, ◌<◌, ◌++◌, length, map, codes, arith, ap, ◌∙◌}
 use Rattle.std.proofs.KnownBytes.{Appends-trans}
-use Rattle.report_lines.specs.Form.{entry_text, job_text}
+use Rattle.report_reader.specs.Form.{entry_text, job_text}
 use Rattle.report.proofs.Prefixes.{in_first, in_second, appends_same, prefix_same, writes_same, writes_err, writes_after}
 use Rattle.picture.specs.Tables.{row_text}
 use Rattle.picture.specs.Picture.{entries_text, log_at}

@@ -2,7 +2,7 @@ use Rattle.std.proofs.Common.{◌≡◌, ◌+◌, ◌++◌, length, sym, ap, ◌
 use Rattle.std.specs.List.{flat_map, range_with_len}
 use Rattle.std.proofs.lemmas.List.{length-map}
 use Rattle.std.proofs.KnownBytes.{Appends-trans}
-use Rattle.report_lines.specs.Form.{job_text}
+use Rattle.report_reader.specs.Form.{job_text}
 use Rattle.report.proofs.Prefixes.{in_first, in_second, appends_same, prefix_same, writes_same, writes_err, writes_after}
 use Rattle.picture.specs.Tables.{head_text, end_text}
 use Rattle.picture.specs.Picture.{log_at, job_at, picture_of}

@@ -1,5 +1,5 @@
 use Rattle.std.proofs.Common.{is_ok, arith}
-use Rattle.report_lines.specs.Form.{entry_text}
+use Rattle.report_reader.specs.Form.{entry_text}
 use Rattle.report_reader.specs.State.{with_entry}
 use Rattle.report_reader.proofs.OnLast.{on_last-item}
 use Rattle.report_reader.proofs.reader.push_entry.Goals as goal

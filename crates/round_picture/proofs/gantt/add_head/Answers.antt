@@ -1,7 +1,7 @@
 use Rattle.std.proofs.Common.{◌≡◌, ℕ, List, ◌++◌, codes, ap, ◌∙◌}
 use Rattle.std.proofs.lemmas.Result.{IfOk-weaker}
 use Rattle.waiting.specs.Text.{rounds_line}
-use Rattle.round_shapes.proofs.Pieces.{two}
+use Rattle.round_picture.proofs.Pieces.{two}
 use Rattle.round_picture.specs.Gantt.{full_width, full_height, size_text, legend, thin, head_text}
 use Rattle.round_picture.proofs.gantt.add_head.Goals as goal
 

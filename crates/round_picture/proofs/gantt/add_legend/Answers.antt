@@ -1,6 +1,6 @@
-use Rattle.std.proofs.Common.{◌≡◌, ℕ, List, ◌++◌, codes, decimal, refl}
+use Rattle.std.proofs.Common.{◌≡◌, ℕ, List, ◌++◌, codes}
 use Rattle.std.proofs.lemmas.Result.{IfOk-weaker}
-use Rattle.round_shapes.proofs.Pieces.{two}
+use Rattle.round_picture.proofs.Pieces.{two}
 use Rattle.round_picture.specs.Gantt.{legend}
 use Rattle.round_picture.proofs.gantt.add_legend.Goals as goal
 

@@ -1,7 +1,7 @@
 use Rattle.std.proofs.Common.{◌≡◌, ℕ, List, ◌++◌, codes, decimal, refl}
 use Rattle.std.proofs.lemmas.Result.{IfOk-weaker}
-use Rattle.round_shapes.proofs.Pieces.{two, first, more}
-use Rattle.round_shapes.specs.Scale.{place}
+use Rattle.round_picture.proofs.Pieces.{two, first, more}
+use Rattle.round_picture.specs.Scale.{place}
 use Rattle.round_picture.specs.Gantt.{row_head}
 use Rattle.round_picture.proofs.gantt.add_row_head.Goals as goal
 

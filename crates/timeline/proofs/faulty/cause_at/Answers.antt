@@ -1,5 +1,5 @@
 use Rattle.std.proofs.Common.{sym, ◌∙◌, map, arith}
-use Rattle.report_lines.specs.Form.{job_text}
+use Rattle.report_reader.specs.Form.{job_text}
 use Rattle.timeline.proofs.Failing.{fails_alone, fails_so, out_of_order, some_none, clean_at, ordered_at, first_clean}
 use Rattle.timeline.proofs.faulty.cause_at.Goals as goal
 use Rattle.timeline.proofs.faulty.cause_at.Goals.{else-place-gt0-via-then-place-gt0+else-is_out_of_order, else-place-gt0-via-else-place-gt0}

@@ -2,7 +2,7 @@ use Rattle.std.proofs.Common.{ℕ, ◌+◌, ◌<◌, map, length, slice_index_or
 use Rattle.std.proofs.lemmas.Option.{slice_get_read, get_or_from_slice_get}
 use borrow.Author.Count.{below_more}
 use Rattle.report_reader.specs.Report.{LogText}
-use Rattle.report_lines.specs.Form.{job_text}
+use Rattle.report_reader.specs.Form.{job_text}
 use Rattle.timeline.specs.Clean.{IsClean}
 use Rattle.timeline.proofs.faulty.entry_fault.Goals as goal
 

@@ -1,7 +1,7 @@
 -- the logs so far are clean
 use Rattle.std.proofs.Common.{ℕ, ◌<◌, map, slice_index_or}
 use Rattle.report_reader.specs.Report.{LogText}
-use Rattle.report_lines.specs.Form.{job_text}
+use Rattle.report_reader.specs.Form.{job_text}
 use Rattle.timeline.specs.Clean.{IsClean}
 use Rattle.timeline.proofs.faulty.entry_fault.Given as goal
 

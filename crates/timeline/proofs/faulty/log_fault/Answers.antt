@@ -1,7 +1,7 @@
 use Rattle.std.proofs.Common.{◌≡◌, ◌≤◌, length, map, arith}
 use Rattle.std.proofs.lemmas.List.{length-map}
 use borrow.Author.Count.{below_more}
-use Rattle.report_lines.specs.Form.{entry_text, job_text}
+use Rattle.report_reader.specs.Form.{entry_text, job_text}
 use Rattle.timeline.specs.Clean.{IsCleanAt}
 use Rattle.timeline.proofs.Failing.{all_clean}
 use Rattle.timeline.proofs.faulty.log_fault.Goals as goal

@@ -1,6 +1,6 @@
 -- the entries so far are clean
 use Rattle.std.proofs.Common.{ℕ, ◌<◌, map}
-use Rattle.report_lines.specs.Form.{entry_text, job_text}
+use Rattle.report_reader.specs.Form.{entry_text, job_text}
 use Rattle.timeline.specs.Clean.{IsCleanAt}
 use Rattle.timeline.proofs.faulty.log_fault.Given as goal
 

@@ -1,6 +1,6 @@
 use Rattle.std.proofs.Common.{List, Bool, sym, subst}
 use Rattle.std.specs.Prelude.{MatchOption}
-use Rattle.session_orders.specs.Orders.{ArePairs, AreSlots, AreStuck, AreOrdered}
+use Rattle.timeline.specs.Orders.{ArePairs, AreSlots, AreStuck, AreOrdered}
 use Rattle.timeline.proofs.Complete.{below, is_timeline, none}
 use Rattle.timeline.proofs.timeline.slow_timeline_of.Goals as goal
 

@@ -1,6 +1,6 @@
 use Rattle.std.proofs.Common.{List, subst}
-use Rattle.session_columns.specs.declared.span.Span.{Span}
-use Rattle.session_columns.specs.Timelines.{TimelineView, AllAgree}
+use Rattle.timeline.specs.declared.span.Span.{Span}
+use Rattle.timeline.specs.Timelines.{TimelineView, AllAgree}
 use Rattle.timeline.proofs.timeline.timeline_of.Goals as goal
 
 pub returns-then-all_agree : goal.returns-then-all_agree

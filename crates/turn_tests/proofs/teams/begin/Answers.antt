@@ -1,4 +1,4 @@
-use Rattle.worker_teams.proofs.TeamTurns.{worked_owns}
+use Rattle.workers.proofs.TeamTurns.{worked_owns}
 use Rattle.turn_tests.proofs.teams.begin.Goals as goal
 
 pub returns : goal.returns

@@ -1,6 +1,6 @@
 use Rattle.std.proofs.Common.{Bool, sym, ap, ◌∙◌, if◌then◌else◌, ◌++◌, [], ◌∷◌}
 use Rattle.waiting.specs.Noting.{on_last}
-use Rattle.session_rounds.specs.Noted.{begun_session, session_then}
+use Rattle.waiting.specs.OneRound.{begun_session, session_then}
 use Rattle.waiting.proofs.Last.{set_last, no_last}
 use Rattle.waiting.proofs.job_log.note_sessions.Goals as goal
 

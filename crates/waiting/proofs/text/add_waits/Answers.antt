@@ -1,7 +1,7 @@
 use Rattle.std.proofs.Common.{◌≡◌, ◌++◌, List, ℕ, length, ap, ◌∙◌}
 use Rattle.std.specs.List.{flat_map}
 use Rattle.std.proofs.lemmas.Result.{IfOk-weaker}
-use Rattle.session_rounds.specs.declared.waits.Longest.{Longest}
+use Rattle.waiting.specs.declared.waits.Longest.{Longest}
 use Rattle.waiting.specs.Text.{rounds_line, sessions_text, job_text, jobs, longest_line, longest_below, chain_line, waits_text}
 use Rattle.waiting.proofs.Pieces.{five}
 use Rattle.waiting.proofs.text.add_waits.Goals as goal

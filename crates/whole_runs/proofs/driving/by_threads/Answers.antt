@@ -1,11 +1,11 @@
-use Rattle.std.proofs.Common.{◌≡◌, ◌≢◌, List, rules, tests, sym, ap, ◌∙◌, subst}
+use Rattle.std.proofs.Common.{◌≢◌, List, rules, tests, subst}
 use Rattle.std.proofs.lemmas.Result.{IfOk-weaker}
 use Rattle.lab_plan.specs.LabPlan.{LabPlan}
 use Rattle.edge_rule.specs.DeskView.{DeskView, BenchView}
 use Rattle.edge_rule.specs.Ending.{IsEnd}
 use Rattle.rounds.specs.declared.ended.Ended.TheVariants as reasons
 use Rattle.round_laws.specs.FromOpening.{opened}
-use Rattle.workers.specs.Team.{Driven, Threaded}
+use Rattle.workers.specs.Driven.{Driven}
 use Rattle.whole_runs.specs.Runs.{IsRunByTurns}
 use Rattle.whole_runs.proofs.ByThreads.{driven, ran_by_turns}
 use Rattle.whole_runs.proofs.driving.by_threads.Goals as goal

@@ -1,7 +1,7 @@
-use Rattle.std.proofs.Common.{◌≡◌, List, length, sym, ap, ◌∙◌, subst}
+use Rattle.std.proofs.Common.{◌≡◌, length, sym, ap, ◌∙◌, subst}
 use Rattle.lab_plan.specs.LabPlan.{LabPlan}
 use Rattle.locality.specs.Lists.{Each}
-use Rattle.edge_rule.specs.DeskView.{DeskView, BenchView, Owns, fresh_desks}
+use Rattle.edge_rule.specs.DeskView.{BenchView, Owns, fresh_desks}
 use Rattle.edge_rule.specs.Ending.{HasAll}
 use Rattle.round_laws.specs.FromOpening.{opened}
 use Rattle.round_laws.proofs.Fresh.{opened_own, opened_all}

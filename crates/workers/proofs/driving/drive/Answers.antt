@@ -1,7 +1,7 @@
 use Rattle.std.proofs.Common.{rules, ◌-◌, ℕ, sym, ◌∙◌, subst, []}
 use Rattle.std.proofs.lemmas.List.Sorted.{IsNonDecreasingBy-from_sort_by_key}
-use Rattle.workers.specs.Team.{TookRest}
-use Rattle.worker_teams.specs.declared.halt.Halt.TheVariants as halts
+use Rattle.workers.specs.Driven.{TookRest}
+use Rattle.workers.specs.declared.halt.Halt.TheVariants as halts
 use Rattle.workers.proofs.Sorting.{job_of, own_mid, own_sorted, own_done, apart_done, driven}
 use Rattle.workers.proofs.driving.drive.Goals as goal
 

@@ -4,7 +4,7 @@ use Rattle.std.proofs.lemmas.Bool.Decides.{nat_tests}
 use Rattle.edge_rule.specs.DeskView.{BenchView, DeskView}
 use Rattle.edge_rule.specs.Ending.{HasAll}
 use Rattle.rounds.specs.Company.{all_retired}
-use Rattle.workers.specs.Team.{Driven}
+use Rattle.workers.specs.Driven.{Driven}
 use Rattle.workers.proofs.driving.threads.Goals as goal
 
 -- where there are no jobs, nobody has a turn

@@ -1,5 +1,5 @@
 use Rattle.std.proofs.Common.{◌-◌, sym, ◌∙◌, arith}
-use Rattle.worker_teams.proofs.TeamTurns.{all_own, took_nothing, round_more}
+use Rattle.workers.proofs.TeamTurns.{all_own, took_nothing, round_more}
 use Rattle.workers.proofs.RestTurns.{rest_early, rest_full}
 use Rattle.workers.proofs.finishing.finish.Goals as goal
 

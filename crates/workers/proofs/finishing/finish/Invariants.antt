@@ -1,7 +1,7 @@
 -- as many turns of each as there were rounds
 use Rattle.std.proofs.Common.{◌≤◌, ◌-◌}
 use Rattle.session_layer.specs.Grown.{TookTurns}
-use Rattle.team_rounds.specs.Pairs.{Pairs}
+use Rattle.workers.specs.Pairs.{Pairs}
 use Rattle.workers.proofs.finishing.finish.Given as goal
 
 abbrev pub invariant-loop-number : goal.invariant-loop-number

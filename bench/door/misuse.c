@@ -1,0 +1,361 @@
+/* misuse.c: each status and each misuse of a bench that a call can tell. At each of them nothing changes: the handle, how far each job
+   is, and what the caller's structs held.
+   cc -I include bench/door/misuse.c FOLDER/liblabrun.a */
+#include "tests.h"
+
+#define POISON 0xa5
+
+static const char two[] = "lab 2\njob a\nsession\nscale add 1\nlamp set 7\nscale read\nend\nsession\nlamp read\nend\n"
+                          "job b\nsession patience 3\nscale add 2\nend\njob c\n";
+static const char lone[] = "lab 1\njob only\nsession\ndial add 999999\ndial add 5\nend\n";
+
+static struct lab_bench bench;
+
+/* Room for whatever a call tells, poisoned before the call. */
+static union {
+    uint8_t bytes[512];
+    struct lab_told told;
+    struct lab_size size;
+    struct lab_session session;
+    struct lab_turned turned;
+    struct lab_state state;
+    struct lab_entry entry;
+    struct {
+        size_t written;
+        uint8_t name[64];
+    } name;
+} out;
+
+static void poison(void) { memset(out.bytes, POISON, sizeof out.bytes); }
+
+static int untouched(size_t from) {
+    for (size_t at = from; at < sizeof out.bytes; at++)
+        if (out.bytes[at] != POISON) return 0;
+    return 1;
+}
+
+struct all {
+    struct lab_bench bench;
+    uint32_t status[4];
+    struct lab_state states[4];
+};
+
+static struct all all_of_it(struct lab_bench *of) {
+    struct all all;
+    memset(&all, 0, sizeof all);
+    all.bench.live = of->live;
+    for (uint32_t job = 0; job < 4; job++) all.status[job] = lab_state(of, job, &all.states[job]);
+    return all;
+}
+
+static int is_same(struct lab_bench *of, struct all before) {
+    struct all after = all_of_it(of);
+    return memcmp(&before, &after, sizeof before) == 0;
+}
+
+/* A call that has to answer `wanted` and to change and to tell nothing. */
+#define REFUSED(wanted, call)                                                                                      \
+    do {                                                                                                           \
+        struct all before_it = all_of_it(&bench);                                                                  \
+        poison();                                                                                                  \
+        uint32_t got = (call);                                                                                     \
+        expect(got == (wanted) && untouched(0) && is_same(&bench, before_it), "line %d: %s: status %u, wanted %u%s", __LINE__, #call, got, \
+               (unsigned)(wanted), untouched(0) ? "" : ", and something was told");                                \
+    } while (0)
+
+/* A call that has to answer `wanted` and to leave all jobs as they are; what it tells is looked at afterwards. */
+#define TELLS(wanted, call)                                                                                        \
+    do {                                                                                                           \
+        struct all before_it = all_of_it(&bench);                                                                  \
+        poison();                                                                                                  \
+        uint32_t got = (call);                                                                                     \
+        expect(got == (wanted) && is_same(&bench, before_it), "line %d: %s: status %u, wanted %u", __LINE__, #call, got, (unsigned)(wanted)); \
+    } while (0)
+
+#define IS(what) expect((what), "line %d: %s", __LINE__, #what)
+
+static uint32_t open_two(void) { return lab_bench_open((const uint8_t *)two, sizeof two - 1, &bench, &out.told); }
+
+/* Every call but open and free, on a handle that isn't open. The close has a report to tell where `is_closed`. */
+static void not_open(int is_closed) {
+    REFUSED(LAB_NOT_OPEN, lab_bench_size(&bench, &out.size));
+    REFUSED(LAB_NOT_OPEN, lab_job_name(&bench, 0, out.name.name, 16, &out.name.written));
+    REFUSED(LAB_NOT_OPEN, lab_job_name(&bench, 99, out.name.name, 16, &out.name.written));
+    REFUSED(LAB_NOT_OPEN, lab_instrument_name(&bench, 0, out.name.name, 16, &out.name.written));
+    REFUSED(LAB_NOT_OPEN, lab_session_of(&bench, 0, 1, &out.session));
+    REFUSED(LAB_NOT_OPEN, lab_state(&bench, 0, &out.state));
+    REFUSED(LAB_NOT_OPEN, lab_turn(&bench, 0, &out.turned));
+    REFUSED(LAB_NOT_OPEN, lab_turn(&bench, 0xffffffffu, &out.turned));
+    REFUSED(LAB_NOT_OPEN, lab_serve(&bench, 0, &out.turned));
+    REFUSED(LAB_NOT_OPEN, lab_serve_others(&bench, 0, &out.turned));
+    REFUSED(LAB_NOT_OPEN, lab_begin(&bench, 0, 10, &out.turned));
+    REFUSED(LAB_NOT_OPEN, lab_command(&bench, 0, &out.entry));
+    REFUSED(LAB_NOT_OPEN, lab_end(&bench, 0, &out.turned));
+    REFUSED(LAB_NOT_OPEN, lab_withdraw(&bench, 0));
+    REFUSED(LAB_NOT_OPEN, lab_retire(&bench, 0, 10, &out.turned));
+    if (!is_closed) {
+        uint8_t report[8] = {1, 2, 3, 4, 5, 6, 7, 8};
+        REFUSED(LAB_NOT_OPEN, lab_bench_close(&bench, report, sizeof report, &out.told));
+        IS(report[0] == 1 && report[7] == 8);
+    }
+}
+
+static void faults(void) {
+    static const struct {
+        const char *script;
+        size_t line;
+        uint32_t cause;
+    } rows[] = {
+        {"", 1, 1},
+        {"job a\n", 1, 1},
+        {"lab 1\nfly\n", 2, 2},
+        {"lab 1\njob a\nsteps\n", 3, 2},
+        {"lab 1\njob A\n", 2, 3},
+        {"lab 1\njob a\nsession\nscale set x\nend\n", 4, 4},
+        {"lab 1\njob a\njob a\n", 3, 5},
+        {"lab 1\njob a\nscale read\n", 3, 6},
+        {"lab 1\nsession\n", 2, 7},
+        {"lab 1\njob a\nsession\nend\n", 4, 8},
+        {"lab 1\njob a\nsession\nscale read\njob b\n", 5, 9},
+        {"lab 1\njob a\nsession\nscale read\n", 5, 9},
+    };
+    for (size_t row = 0; row < sizeof rows / sizeof *rows; row++) {
+        struct lab_told told = {77, 77, 77};
+        uint32_t status = lab_bench_open((const uint8_t *)rows[row].script, strlen(rows[row].script), &bench, &told);
+        expect(status == LAB_REFUSED && told.line == rows[row].line && told.cause == rows[row].cause && told.written == 0 && bench.live == 0,
+               "fault %zu: status %u, line %zu, cause %u", row, status, told.line, told.cause);
+        lab_bench_free(&bench);
+    }
+    uint8_t *large = malloc(MOST_BYTES);
+    if (!large) exit(70);
+    memset(large, '#', MOST_BYTES);
+    struct lab_told told = {0, 0, 0};
+    expect(lab_bench_open(large, MOST_BYTES, &bench, &told) == LAB_TOO_LONG && bench.live == 0, "a script that is too long");
+    free(large);
+}
+
+static void names(void) {
+    static const char *const jobs[] = {"a", "b", "c"}, *const instruments[] = {"scale", "lamp"};
+    for (uint32_t job = 0; job < 3; job++) {
+        TELLS(LAB_DONE, lab_job_name(&bench, job, out.name.name, 16, &out.name.written));
+        IS(out.name.written == 1 && out.name.name[0] == (uint8_t)jobs[job][0] && out.name.name[1] == POISON);
+    }
+    for (uint32_t instrument = 0; instrument < 2; instrument++) {
+        size_t length = strlen(instruments[instrument]);
+        for (size_t room = 0; room < 8; room++) {
+            TELLS(room < length ? LAB_NO_ROOM : LAB_DONE, lab_instrument_name(&bench, instrument, out.name.name, room, &out.name.written));
+            IS(out.name.written == length);
+            if (room < length)
+                IS(untouched(sizeof(size_t)));
+            else
+                IS(memcmp(out.name.name, instruments[instrument], length) == 0 && untouched(sizeof(size_t) + length));
+        }
+    }
+    REFUSED(LAB_NOT_THERE, lab_job_name(&bench, 3, out.name.name, 16, &out.name.written));
+    REFUSED(LAB_NOT_THERE, lab_job_name(&bench, 0xffffffffu, out.name.name, 16, &out.name.written));
+    REFUSED(LAB_NOT_THERE, lab_instrument_name(&bench, 2, out.name.name, 16, &out.name.written));
+    REFUSED(LAB_NOT_THERE, lab_instrument_name(&bench, 256, out.name.name, 16, &out.name.written));
+}
+
+static void sessions(void) {
+    TELLS(LAB_DONE, lab_session_of(&bench, 0, 1, &out.session));
+    IS(out.session.needs == 3 && out.session.commands == 3 && out.session.has_patience == 0 && out.session.patience == 0);
+    TELLS(LAB_DONE, lab_session_of(&bench, 0, 2, &out.session));
+    IS(out.session.needs == 2 && out.session.commands == 1 && out.session.has_patience == 0);
+    TELLS(LAB_DONE, lab_session_of(&bench, 1, 1, &out.session));
+    IS(out.session.needs == 1 && out.session.commands == 1 && out.session.has_patience == 1 && out.session.patience == 3);
+    REFUSED(LAB_NOT_THERE, lab_session_of(&bench, 0, 0, &out.session));
+    REFUSED(LAB_NOT_THERE, lab_session_of(&bench, 0, 3, &out.session));
+    REFUSED(LAB_NOT_THERE, lab_session_of(&bench, 2, 1, &out.session));
+    REFUSED(LAB_NOT_THERE, lab_session_of(&bench, 3, 1, &out.session));
+    REFUSED(LAB_NOT_THERE, lab_session_of(&bench, 0, 0xffffffffu, &out.session));
+}
+
+static void no_such_job(void) {
+    static const uint32_t absent[] = {3, 32, 255, 256, 0x80000000u, 0xffffffffu};
+    for (size_t which = 0; which < sizeof absent / sizeof *absent; which++) {
+        uint32_t job = absent[which];
+        REFUSED(LAB_NOT_THERE, lab_state(&bench, job, &out.state));
+        REFUSED(LAB_NOT_THERE, lab_turn(&bench, job, &out.turned));
+        REFUSED(LAB_NOT_THERE, lab_serve(&bench, job, &out.turned));
+        REFUSED(LAB_NOT_THERE, lab_serve_others(&bench, job, &out.turned));
+        REFUSED(LAB_NOT_THERE, lab_begin(&bench, job, 10, &out.turned));
+        REFUSED(LAB_NOT_THERE, lab_command(&bench, job, &out.entry));
+        REFUSED(LAB_NOT_THERE, lab_end(&bench, job, &out.turned));
+        REFUSED(LAB_NOT_THERE, lab_withdraw(&bench, job));
+        REFUSED(LAB_NOT_THERE, lab_retire(&bench, job, 10, &out.turned));
+    }
+}
+
+/* What a job that holds nothing is refused. */
+static void holds_not(uint32_t job) {
+    REFUSED(LAB_NOT_YET, lab_command(&bench, job, &out.entry));
+    struct all before = all_of_it(&bench);
+    poison();
+    IS(lab_end(&bench, job, &out.turned) == LAB_NOT_YET && is_same(&bench, before));
+}
+
+/* Turns of a job until it holds, with no other job's turn between. */
+static void until_it_holds(uint32_t job) {
+    uint32_t status = LAB_NOT_YET;
+    for (int tries = 0; tries < 20 && status == LAB_NOT_YET; tries++) status = lab_begin(&bench, job, 10, &out.turned);
+    expect(status == LAB_DONE, "job %u doesn't come to hold: status %u", job, status);
+    struct lab_state state;
+    lab_state(&bench, job, &state);
+    IS(state.drinking == 2 && state.position == 0);
+    TELLS(LAB_DONE, lab_begin(&bench, job, 10, &out.turned));
+    IS(out.turned.what == 0 && out.turned.count == 0);
+    TELLS(LAB_DONE, lab_begin(&bench, job, 0, &out.turned));
+}
+
+static void a_whole_run(void) {
+    struct lab_state state;
+    poison();
+    IS(open_two() == LAB_DONE && bench.live == 1);
+    REFUSED(LAB_NOT_OPEN, open_two());
+    TELLS(LAB_DONE, lab_bench_size(&bench, &out.size));
+    IS(out.size.jobs == 3 && out.size.instruments == 2);
+    names();
+    sessions();
+    no_such_job();
+
+    /* the opening */
+    TELLS(LAB_DONE, lab_state(&bench, 0, &out.state));
+    IS(out.state.dining == 0 && out.state.drinking == 0 && out.state.session == 0 && out.state.sessions == 2 && out.state.position == 0);
+    IS(out.state.sessions_done == 0 && out.state.withdrawn == 0 && out.state.meals == 0 && out.state.waited == 0 && out.state.turns == 0);
+
+    /* nobody holds, and nobody waits */
+    for (uint32_t job = 0; job < 3; job++) {
+        holds_not(job);
+        REFUSED(LAB_NOT_YET, lab_withdraw(&bench, job));
+    }
+    TELLS(LAB_NOT_YET, lab_begin(&bench, 0, 0, &out.turned));
+    TELLS(LAB_NOT_YET, lab_retire(&bench, 0, 0, &out.turned));
+    TELLS(LAB_NOT_YET, lab_retire(&bench, 0, 10, &out.turned));
+
+    /* a holds; b waits for the scale, which a keeps */
+    until_it_holds(0);
+    for (int tries = 0; tries < 3; tries++) IS(lab_begin(&bench, 1, 1, &out.turned) == LAB_NOT_YET);
+    lab_state(&bench, 1, &state);
+    IS(state.drinking == 1 && state.session == 1 && state.turns == 3);
+    holds_not(1);
+    IS(lab_retire(&bench, 0, 10, &out.turned) == LAB_NOT_YET);
+    lab_state(&bench, 0, &state);
+    IS(state.drinking == 2 && state.position == 0);
+    REFUSED(LAB_NOT_YET, lab_withdraw(&bench, 0));
+
+    /* a's commands, one by one */
+    IS(lab_command(&bench, 0, &out.entry) == LAB_DONE);
+    IS(out.entry.session == 1 && out.entry.place == 1 && out.entry.length == 2);
+    IS(out.entry.verb == 1 && out.entry.number == 1 && out.entry.value == 1);
+    lab_state(&bench, 0, &state);
+    IS(state.position == 1 && state.drinking == 2);
+    IS(lab_command(&bench, 0, &out.entry) == LAB_DONE);
+    IS(out.entry.place == 1 && out.entry.length == 1 && out.entry.verb == 0 && out.entry.number == 7 && out.entry.value == 7);
+    IS(lab_command(&bench, 0, &out.entry) == LAB_DONE);
+    IS(out.entry.place == 2 && out.entry.length == 2 && out.entry.verb == 2 && out.entry.number == 0 && out.entry.value == 1);
+    REFUSED(LAB_NOT_YET, lab_command(&bench, 0, &out.entry));
+    IS(lab_end(&bench, 0, &out.turned) == LAB_DONE && out.turned.what == 2 && out.turned.count >= 1);
+    lab_state(&bench, 0, &state);
+    IS(state.drinking == 0 && state.sessions_done == 1 && state.session == 1);
+    holds_not(0);
+
+    /* b waits no longer, by its own will */
+    lab_state(&bench, 1, &state);
+    if (state.drinking == 1) {
+        IS(lab_withdraw(&bench, 1) == LAB_DONE);
+        lab_state(&bench, 1, &state);
+        IS(state.drinking == 0 && state.withdrawn == 1 && state.sessions_done == 0);
+    }
+    REFUSED(LAB_NOT_YET, lab_withdraw(&bench, 1));
+    IS(lab_begin(&bench, 1, 10, &out.turned) == LAB_NO_SESSION);
+
+    /* a's second session, ended without a command of ours */
+    until_it_holds(0);
+    IS(lab_end(&bench, 0, &out.turned) == LAB_DONE && out.turned.what == 2);
+    IS(lab_begin(&bench, 0, 10, &out.turned) == LAB_NO_SESSION);
+    IS(lab_begin(&bench, 2, 10, &out.turned) == LAB_NO_SESSION);
+    for (uint32_t job = 0; job < 3; job++) {
+        uint32_t status = LAB_NOT_YET;
+        for (int tries = 0; tries < 20 && status == LAB_NOT_YET; tries++) status = lab_retire(&bench, job, 10, &out.turned);
+        IS(status == LAB_DONE);
+        TELLS(LAB_DONE, lab_retire(&bench, job, 10, &out.turned));
+        holds_not(job);
+        REFUSED(LAB_NOT_YET, lab_withdraw(&bench, job));
+        IS(lab_begin(&bench, job, 10, &out.turned) == LAB_NO_SESSION);
+    }
+}
+
+static const char wanted[] = "lab 2\ninstrument scale 2\na 1 1/2 add 1 = 1\na 1 2/2 read = 1\ninstrument lamp 2\na 1 1/1 set 7 = 7\n"
+                             "a 2 1/1 read = 7\n";
+
+static void closed(void) {
+    static uint8_t report[4096], before[4096];
+    struct lab_told told = {0, 0, 0};
+    memset(report, POISON, sizeof report);
+    memset(before, POISON, sizeof before);
+    IS(lab_bench_close(&bench, report, 0, &told) == LAB_NO_ROOM);
+    size_t length = told.written;
+    IS(length > sizeof wanted && memcmp(report, before, sizeof report) == 0);
+    for (size_t room = 1; room < length; room++) {
+        uint32_t status = lab_bench_close(&bench, report, room, &told);
+        expect(status == LAB_NO_ROOM && told.written == length && memcmp(report, before, sizeof report) == 0, "a room of %zu bytes", room);
+    }
+    for (int times = 0; times < 3; times++) {
+        memset(report, POISON, sizeof report);
+        IS(lab_bench_close(&bench, report, length + (size_t)times, &told) == LAB_DONE && told.written == length);
+        IS(memcmp(report, wanted, sizeof wanted - 1) == 0 && memcmp(report + length - 9, "finished\n", 9) == 0);
+        IS(memcmp(report + length, before + length, sizeof report - length) == 0);
+    }
+    not_open(1);
+    REFUSED(LAB_NOT_OPEN, open_two());
+    lab_bench_free(&bench);
+    IS(bench.live == 0);
+    not_open(0);
+    lab_bench_free(&bench);
+    IS(bench.live == 0);
+}
+
+/* A bench whose job stops in the midst of its session is closed as it is. */
+static void unfinished(void) {
+    struct text report;
+    struct lab_bench other = {0};
+    struct lab_told told;
+    IS(lab_bench_open((const uint8_t *)lone, sizeof lone - 1, &bench, &told) == LAB_DONE);
+    IS(lab_bench_open((const uint8_t *)lone, sizeof lone - 1, &other, &told) == LAB_DONE);
+    until_it_holds(0);
+    IS(lab_command(&bench, 0, &out.entry) == LAB_DONE && out.entry.value == 999999);
+    IS(close_bench(&bench, &report) == LAB_UNFINISHED);
+    static const char cut[] = "lab 1\ninstrument dial 1\nonly 1 1/2 add 999999 = 999999\njob only sessions 0 of 1 meals 0 waiting\nunfinished\n";
+    IS(report.length == sizeof cut - 1 && memcmp(report.bytes, cut, report.length) == 0);
+    free(report.bytes);
+    lab_bench_free(&bench);
+
+    /* the other bench knows nothing of this one; it is freed while its job holds */
+    bench = other;
+    until_it_holds(0);
+    IS(lab_command(&bench, 0, &out.entry) == LAB_DONE && lab_command(&bench, 0, &out.entry) == LAB_DONE && out.entry.value == 4);
+    lab_bench_free(&bench);
+    not_open(0);
+    IS(open_two() == LAB_DONE);
+    IS(close_bench(&bench, &report) == LAB_UNFINISHED);
+    free(report.bytes);
+    lab_bench_free(&bench);
+    IS(lab_bench_open((const uint8_t *)"lab 1\n", 6, &bench, &told) == LAB_DONE);
+    TELLS(LAB_DONE, lab_bench_size(&bench, &out.size));
+    IS(out.size.jobs == 0 && out.size.instruments == 0);
+    REFUSED(LAB_NOT_THERE, lab_turn(&bench, 0, &out.turned));
+    IS(close_bench(&bench, &report) == LAB_DONE && report.length == 15 && memcmp(report.bytes, "lab 1\nfinished\n", 15) == 0);
+    free(report.bytes);
+    lab_bench_free(&bench);
+}
+
+int main(void) {
+    not_open(0);
+    faults();
+    not_open(0);
+    a_whole_run();
+    closed();
+    unfinished();
+    return summary();
+}

@@ -1,0 +1,134 @@
+// Tests labrun.hpp: c++ -std=c++17 -I include bindings/cpp/threads.cpp -L FOLDER -llabrun -pthread
+#include "labrun.hpp"
+#include <atomic>
+#include <iostream>
+#include <random>
+#include <thread>
+
+using namespace std::chrono_literals;
+
+static int passed = 0, failed = 0;
+
+static void expect(const char *what, bool is_so) {
+    (is_so ? passed : failed)++;
+    if (!is_so) std::cout << "WRONG " << what << '\n';
+}
+
+template <class Fault, class Call> static bool throws(Call call) {
+    try {
+        call();
+    } catch (const Fault &) {
+        return true;
+    }
+    return false;
+}
+
+static const std::string two = "lab 1\njob a\nsession\nscale add 5\nend\nsession\nscale add 5\nend\njob b\nsession\nscale read\nend\n";
+
+static std::string load_script(int jobs, int sessions, int instruments, unsigned seed) {
+    std::mt19937 chance(seed);
+    std::string text = "lab 1\n";
+    for (int job = 0; job < jobs; job++) {
+        text += "job job-" + std::to_string(job) + "\n";
+        for (int number = 0; number < sessions; number++) {
+            text += "session\n";
+            for (unsigned left = 1 + chance() % 3; left; left--)
+                text += "i-" + std::to_string(chance() % static_cast<unsigned>(instruments)) + " add 1\n";
+            text += "end\n";
+        }
+    }
+    return text;
+}
+
+static void load(int wanted) {
+    int done = 0;
+    for (unsigned seed = 0; done < wanted; seed++) {
+        labrun::bench bench(load_script(32, std::min(1000, std::max(1, (wanted - done) / 32)), 20, seed));
+        std::vector<std::atomic<int>> holders(bench.instruments().size());
+        std::atomic<int> clashes{0}, sessions{0};
+        std::vector<std::thread> threads;
+        for (labrun::desk &desk : bench.desks())
+            threads.emplace_back([&] {
+                while (auto session = desk.begin()) {
+                    std::vector<std::size_t> held;
+                    for (std::size_t at = 0; at < holders.size(); at++)
+                        for (const std::string &name : session->instruments())
+                            if (name == bench.instruments()[at]) held.push_back(at);
+                    for (std::size_t at : held)
+                        if (holders[at]++) clashes++;
+                    std::this_thread::yield();
+                    for (std::size_t at : held) holders[at]--;
+                    sessions++;
+                }
+            });
+        for (std::thread &thread : threads) thread.join();
+        expect("no two hold", clashes == 0);
+        expect("finished", bench.close().finished);
+        done += sessions;
+    }
+}
+
+int main(int count, char **words) {
+    {
+        labrun::bench bench(two);
+        expect("names", bench.jobs() == std::vector<std::string>{"a", "b"} && bench.instruments() == std::vector<std::string>{"scale"});
+        labrun::desk &a = bench.desks()[0], &b = bench.desks()[1];
+        auto first = a.begin();
+        expect("holds", first && first->number() == 1 && first->instruments() == bench.instruments());
+        std::string told;
+        try {
+            b.begin(20ms);
+        } catch (const labrun::timed_out &late) {
+            told = late.what();
+            expect("keepers", late.keepers.size() == 1 && late.keepers[0].holds);
+        }
+        expect("time-out", told == "still waits, scale is held by a");
+        expect("no patience", !b.give_up());
+        expect("command", first->command()->value == 5 && !first->command());
+        first->finish();
+        first.reset();
+        expect("what is left keeps nobody waiting", a.begin(5s)->number() == 2);
+        auto left = b.begin();
+        const bool lapsed = !left;
+        left.reset();
+        expect("none left", !a.begin() && !b.begin());
+        const labrun::report report = bench.close();
+        expect("finished", report.finished && bench.close().text == report.text);
+        expect("lapsed", report.lapsed.size() == lapsed && (!lapsed || report.lapsed[0].first == "b"));
+        expect("closed", throws<labrun::closed>([&] { a.begin(); }));
+    }
+    {
+        labrun::bench bench(two);
+        auto held = bench.desks()[0].begin();
+        expect("late", throws<labrun::timed_out>([&] { bench.desks()[1].begin(20ms); }));
+        held.reset();
+        expect("it keeps its place", bench.desks()[1].begin(5s)->number() == 1);
+    }
+    {
+        labrun::bench bench(two);
+        expect("an exception lets go", throws<std::runtime_error>([&] {
+                   auto session = bench.desks()[0].begin();
+                   throw std::runtime_error("the scope caught fire");
+               }));
+        expect("the other goes on", bench.desks()[1].begin(5s).has_value());
+        expect("unfinished", !bench.close().finished);
+    }
+    {
+        const std::string patient =
+            "lab 2\njob a\nsession\nscale add 5\nend\njob b\nsession patience 999999\nscale read\nend\nsession patience 2\nscale read\nend\n";
+        labrun::bench bench(patient);
+        auto held = bench.desks()[0].begin();
+        expect("patient", throws<labrun::timed_out>([&] { bench.desks()[1].begin(20ms); }));
+        expect("withdrawn", bench.desks()[1].give_up());
+        expect("ran out", throws<labrun::withdrawn>([&] { bench.desks()[1].begin(20s); }));
+    }
+    expect("run", labrun::run(two).finished && !labrun::run(two, 0).finished);
+    expect("check", labrun::check(two) == "ok jobs 2 instruments 1 edges 1 sessions 3 commands 3\n");
+    expect("upgrade", labrun::upgrade(two) == "lab 2" + two.substr(5));
+    expect("replay", labrun::replay("lab 1\njob a\nsteps\nretire a\n").finished);
+    expect("refused", throws<labrun::refused>([] { labrun::bench bench("lab 1\njob A\n"); }));
+    expect("no file", throws<labrun::error>([] { labrun::bench::open("/nowhere"); }));
+    load(count > 1 ? std::stoi(words[1]) : 20000);
+    std::cout << passed << " passed, " << failed << " failed\n";
+    return failed != 0;
+}

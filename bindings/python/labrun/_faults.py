@@ -1,0 +1,77 @@
+"""What may go wrong, as exceptions."""
+
+from __future__ import annotations
+
+import builtins
+from typing import TYPE_CHECKING
+
+if TYPE_CHECKING:
+    from ._bench import Keeper, Session
+
+CAUSES = {
+    0: "step is not legal",
+    1: "S1 no lab header",
+    2: "S2 unknown word",
+    3: "S3 bad name",
+    4: "S4 bad number",
+    5: "S5 job twice",
+    6: "S6 not in a session",
+    7: "S7 not in a job",
+    8: "S8 empty session",
+    9: "S9 session not closed",
+    10: "S10 limit passed",
+    11: "S11 more than 28 instruments in common",
+    12: "S12 no memory",
+    13: "S13 bad step",
+}
+
+
+class LabrunError(Exception):
+    """The base of this package's exceptions."""
+
+
+class Refused(LabrunError, ValueError):
+    """A script or a step is refused. `line` counts from 1; `cause` is 1 to 13 for S1 to S13, 0 for a step that isn't legal."""
+
+    def __init__(self, line: int, cause: int) -> None:
+        super().__init__(f"line {line}: {CAUSES.get(cause, f'S{cause}')}")
+        self.line = line
+        self.cause = cause
+
+    def __reduce__(self) -> tuple[type[Refused], tuple[int, int]]:
+        return Refused, (self.line, self.cause)
+
+
+class TooLong(LabrunError, ValueError):
+    """The script has more than 16777216 bytes."""
+
+
+class TimeoutError(LabrunError, builtins.TimeoutError):  # noqa: A001 (a kind of the builtin, and caught as such)
+    """The time limit of an `acquire` passed. The session keeps its place in the line: acquire it again, or `give_up`. `keepers` says who
+    kept it waiting."""
+
+    def __init__(self, session: Session, keepers: tuple[Keeper, ...]) -> None:
+        by = ", ".join(str(keeper) for keeper in keepers) or "nobody: look again"
+        super().__init__(f"session {session.number} of {session.job.name} still waits: {by}")
+        self.session = session
+        self.keepers = keepers
+
+
+class Withdrawn(LabrunError):
+    """The session was given up: its patience ran out, or `withdraw` was called. It held nothing, and logs nothing."""
+
+    def __init__(self, session: Session) -> None:
+        super().__init__(f"session {session.number} of {session.job.name} was withdrawn")
+        self.session = session
+
+
+class NotHeld(LabrunError):
+    """What was asked for needs the session to hold its instruments, and it doesn't."""
+
+
+class Closed(LabrunError):
+    """The bench is closed."""
+
+
+class Stopped(LabrunError):
+    """The bench was stopped: no further session is begun. Sessions that are held go on to their end."""

@@ -1,0 +1,173 @@
+"""The C library: where it is found, and its calls with their types, as `include/labrun.h` has them."""
+
+from __future__ import annotations
+
+import ctypes
+import ctypes.util
+import os
+from typing import Any, Callable, Optional
+
+REFUSED, NO_SUCH, WAITS, TOO_LONG, NO_MEMORY, NO_ROOM, NOT_OPEN, NOT_NOW, NO_SESSION = 1, 2, 3, 4, 5, 6, 7, 8, 9
+ACTED = 2
+
+
+class Told(ctypes.Structure):
+    """`struct lab_told`."""
+
+    _fields_ = [("written", ctypes.c_size_t), ("line", ctypes.c_size_t), ("cause", ctypes.c_uint32)]
+    written: int
+    line: int
+    cause: int
+
+
+class Handle(ctypes.Structure):
+    """`struct lab_bench`."""
+
+    _fields_ = [("at", ctypes.c_void_p), ("live", ctypes.c_uint32)]
+
+
+class Size(ctypes.Structure):
+    """`struct lab_size`."""
+
+    _fields_ = [("jobs", ctypes.c_size_t), ("instruments", ctypes.c_size_t)]
+    jobs: int
+    instruments: int
+
+
+class SessionOf(ctypes.Structure):
+    """`struct lab_session`."""
+
+    _fields_ = [
+        ("needs", ctypes.c_uint64),
+        ("commands", ctypes.c_size_t),
+        ("patience", ctypes.c_uint32),
+        ("has_patience", ctypes.c_uint32),
+    ]
+    needs: int
+    commands: int
+    patience: int
+    has_patience: int
+
+
+class Turned(ctypes.Structure):
+    """`struct lab_turned`."""
+
+    _fields_ = [("what", ctypes.c_uint32), ("count", ctypes.c_uint32)]
+    what: int
+    count: int
+
+
+class State(ctypes.Structure):
+    """`struct lab_state`."""
+
+    _fields_ = [("turns", ctypes.c_uint64)] + [
+        (name, ctypes.c_uint32)
+        for name in ("dining", "drinking", "session", "sessions", "position", "sessions_done", "withdrawn", "meals", "waited")
+    ]
+    turns: int
+    dining: int
+    drinking: int
+    session: int
+    sessions: int
+    position: int
+    sessions_done: int
+    withdrawn: int
+    meals: int
+    waited: int
+
+
+class Entered(ctypes.Structure):
+    """`struct lab_entry`."""
+
+    _fields_ = [(name, ctypes.c_uint32) for name in ("session", "place", "length", "verb", "number", "value")]
+    session: int
+    place: int
+    length: int
+    verb: int
+    number: int
+    value: int
+
+
+_BYTES, _SIZE, _WORD = ctypes.c_char_p, ctypes.c_size_t, ctypes.c_uint32
+_ROOM = ctypes.c_void_p
+_HANDLE, _TOLD, _TURNED = ctypes.POINTER(Handle), ctypes.POINTER(Told), ctypes.POINTER(Turned)
+
+# calls that may take long: the interpreter's lock is let go meanwhile
+_LONG: dict[str, list[Any]] = {
+    "lab_rounds": [_BYTES, _SIZE, _WORD, _ROOM, _SIZE, _TOLD],
+    "lab_replay": [_BYTES, _SIZE, _ROOM, _SIZE, _TOLD],
+    "lab_check": [_BYTES, _SIZE, _ROOM, _SIZE, _TOLD],
+    "lab_upgrade": [_BYTES, _SIZE, _ROOM, _SIZE, _TOLD],
+    "lab_bench_open": [_BYTES, _SIZE, _HANDLE, _TOLD],
+    "lab_bench_close": [_HANDLE, _ROOM, _SIZE, _TOLD],
+}
+
+# calls that take microseconds and never wait: handing the interpreter's lock round for each would cost more than the call
+_SHORT: dict[str, list[Any]] = {
+    "lab_bench_size": [_HANDLE, ctypes.POINTER(Size)],
+    "lab_job_name": [_HANDLE, _WORD, _ROOM, _SIZE, ctypes.POINTER(_SIZE)],
+    "lab_instrument_name": [_HANDLE, _WORD, _ROOM, _SIZE, ctypes.POINTER(_SIZE)],
+    "lab_session_of": [_HANDLE, _WORD, _WORD, ctypes.POINTER(SessionOf)],
+    "lab_state": [_HANDLE, _WORD, ctypes.POINTER(State)],
+    "lab_turn": [_HANDLE, _WORD, _TURNED],
+    "lab_serve": [_HANDLE, _WORD, _TURNED],
+    "lab_command": [_HANDLE, _WORD, ctypes.POINTER(Entered)],
+    "lab_end": [_HANDLE, _WORD, _TURNED],
+    "lab_withdraw": [_HANDLE, _WORD],
+    "lab_retire": [_HANDLE, _WORD, _WORD, _TURNED],
+    "lab_bench_free": [_HANDLE],
+}
+
+
+class Library:
+    """The calls of one loaded library, each by its name in C."""
+
+    def __init__(self, path: str) -> None:
+        self.path = path
+        self._long, self._short = ctypes.CDLL(path), ctypes.PyDLL(path)
+        self._calls: dict[str, Callable[..., int]] = {}
+
+    def __getitem__(self, name: str) -> Callable[..., int]:
+        call = self._calls.get(name)
+        return self._bound(name) if call is None else call
+
+    def _bound(self, name: str) -> Callable[..., int]:
+        """A call, looked up once: an older library has the runs and no bench."""
+        library, arguments = (self._long, _LONG[name]) if name in _LONG else (self._short, _SHORT[name])
+        try:
+            call: Any = getattr(library, name)
+        except AttributeError:
+            raise OSError(f"{self.path} has no {name}: it is of another version of labrun") from None
+        call.argtypes, call.restype = arguments, None if name == "lab_bench_free" else _WORD
+        bound: Callable[..., int] = call
+        self._calls[name] = bound
+        return bound
+
+
+def library_path() -> str:
+    """The file that is loaded: `LABRUN_LIBRARY`, or `liblabrun.so` in the package's folder, or the system's."""
+    given = os.environ.get("LABRUN_LIBRARY")
+    if given:
+        return given
+    beside = os.path.join(os.path.dirname(os.path.realpath(__file__)), "liblabrun.so")
+    if os.path.exists(beside):
+        return beside
+    return ctypes.util.find_library("labrun") or "liblabrun.so"
+
+
+_loaded: Optional[Library] = None
+
+
+def library() -> Library:
+    """The library, loaded once. OSError says that there is none, and where it was looked for."""
+    global _loaded
+    if _loaded is None:
+        path = library_path()
+        try:
+            _loaded = Library(path)
+        except OSError as fault:
+            raise OSError(
+                f"no library of labrun at {path} ({fault}): build it by bench/door/build FOLDER, and then name"
+                " FOLDER/liblabrun.so by LABRUN_LIBRARY, copy it beside the package, or install it"
+            ) from fault
+    return _loaded

@@ -1,0 +1,642 @@
+"""The bench for threads: each method, time-outs, exceptions, threads that never come back, and whether two ever hold one instrument."""
+
+import asyncio
+import os
+import signal
+import subprocess
+import sys
+import tempfile
+import threading
+import time
+import unittest
+from typing import Any, Optional
+
+import labrun
+from tests.load import Counting, load_script
+
+# two jobs, one instrument; a's sessions log 5 each, b's one reads
+TWO = "lab 1\njob a\nsession\nscale add 5\nend\nsession\nscale add 5\nend\njob b\nsession\nscale read\nend\n"
+PATIENT = "lab 2\njob a\nsession\nscale add 5\nend\njob b\nsession patience 999999\nscale read\nend\nsession\nscale add 7\nend\n"
+SOON = "lab 2\njob a\nsession\nscale add 5\nend\njob b\nsession patience 2\nscale read\nend\nsession\nscale add 7\nend\n"
+
+TEN_LINES = """
+import labrun
+def measure(instruments):
+    assert "scope-1" in instruments
+with labrun.Bench.open("bay.lab") as bench:
+    def station(job):
+        for session in job.sessions():        # blocks, without burning a core, until all instruments are held
+            with session:                     # do the real work here; on leaving, the session's commands are logged and it lets go
+                measure(session.instruments)
+    bench.run(station)                        # a thread for each job, or threads of one's own, or asyncio (`async with`)
+print(bench.report.finished, bench.report.log("scope-1"))
+"""
+
+
+def logged(bench: labrun.Bench, name: str = "scale") -> list[str]:
+    return [str(entry) for entry in bench.report.log(name)]
+
+
+def in_thread(work: Any) -> threading.Thread:
+    thread = threading.Thread(target=work, daemon=True)
+    thread.start()
+    return thread
+
+
+class Alone(unittest.TestCase):
+    """What one thread sees."""
+
+    def test_ten_lines(self) -> None:
+        with tempfile.TemporaryDirectory() as folder:
+            with open(os.path.join(folder, "bay.lab"), "w", encoding="ascii") as file:
+                file.write("lab 1\njob a\nsession\nscope-1 set 3\nend\njob b\nsession\nscope-1 read\nend\n")
+            ran = subprocess.run([sys.executable, "-c", TEN_LINES], cwd=folder, env=child(), capture_output=True, text=True)
+        self.assertEqual(ran.stderr, "")
+        self.assertTrue(ran.stdout.startswith("True (Entry(job="), ran.stdout)
+        self.assertEqual(ran.stdout.count("Entry("), 2)
+
+    def test_names(self) -> None:
+        with labrun.Bench.from_text(TWO) as bench:
+            self.assertEqual([job.name for job in bench.jobs], ["a", "b"])
+            self.assertEqual(bench.instruments, ("scale",))
+            self.assertIs(bench.job("b"), bench.jobs[1])
+            with self.assertRaises(KeyError):
+                bench.job("c")
+
+    def test_sessions_one_after_another(self) -> None:
+        with labrun.Bench.from_text(TWO) as bench:
+            seen = []
+            for job in bench.jobs:
+                for session in job.sessions():
+                    self.assertEqual((session.state, len(session.commands), session.patience), ("new", 1, None))
+                    with session:
+                        self.assertTrue(session.held)
+                        self.assertTrue(job.state.holds)
+                        seen.append((job.name, session.number, session.instruments))
+                    self.assertEqual(session.state, "finished")
+        self.assertEqual(seen, [("a", 1, ("scale",)), ("a", 2, ("scale",)), ("b", 1, ("scale",))])
+        self.assertEqual(logged(bench), ["a 1 1/1 add 5 = 5", "a 2 1/1 add 5 = 10", "b 1 1/1 read = 10"])
+        self.assertTrue(bench.report.finished)
+
+    def test_state(self) -> None:
+        with labrun.Bench.from_text(TWO) as bench:
+            job = bench.jobs[0]
+            self.assertEqual((job.state.session, job.state.sessions, job.state.holds, job.state.waits), (0, 2, False, False))
+            session = job.next_session()
+            assert session
+            session.acquire()
+            self.assertEqual((job.state.session, job.state.holds), (1, True))
+            session.acquire()  # at once: it holds
+            session.release()
+            self.assertEqual((job.state.done, job.state.holds, job.state.retired), (1, False, False))
+            with self.assertRaises(labrun.NotHeld):
+                session.release()
+            with self.assertRaises(labrun.NotHeld):
+                session.acquire()
+
+    def test_commands(self) -> None:
+        script = "lab 1\njob a\nsession\nscale set 3\nlamp add 2\nscale read\nend\n"
+        with labrun.Bench.from_text(script) as bench:
+            for session in bench.jobs[0].sessions():
+                with self.assertRaises(labrun.NotHeld):
+                    session.command()
+                with session:
+                    self.assertEqual(session.instruments, ("scale", "lamp"))
+                    self.assertEqual(session.command(), labrun.Entry("a", 1, 1, 2, "set", 3, 3))
+                    self.assertEqual(session.command(), labrun.Entry("a", 1, 1, 1, "add", 2, 2))
+                    self.assertEqual(session.command(), labrun.Entry("a", 1, 2, 2, "read", None, 3))
+                    self.assertIsNone(session.command())
+                    self.assertTrue(session.held)
+        self.assertEqual(logged(bench), ["a 1 1/2 set 3 = 3", "a 1 2/2 read = 3"])
+
+    def test_commands_of_the_script(self) -> None:
+        text = "lab 2\r\n# job x\n\n job\ta \nsession patience 3\n\tscale  set 3\r\nlamp read\nend\njob b\nsession\nend add\nend"
+        with self.assertRaises(labrun.Refused):
+            labrun.Bench.from_text(text)
+        with labrun.Bench.from_text(text.replace("end add", "lamp add 0")) as bench:
+            first, second = bench.jobs[0].next_session(), bench.jobs[1].next_session()
+            assert first and second
+            self.assertEqual(first.commands, (labrun.Command("scale", "set", 3), labrun.Command("lamp", "read", None)))
+            self.assertEqual(second.commands, (labrun.Command("lamp", "add", 0),))
+            self.assertEqual((first.patience, second.patience), (3, None))
+
+    def test_some_commands_are_left(self) -> None:
+        script = "lab 1\njob a\nsession\nscale set 3\nscale add 2\nend\n"
+        with labrun.Bench.from_text(script) as bench:
+            for session in bench.jobs[0].sessions():
+                with session:
+                    session.command()
+        self.assertEqual(logged(bench), ["a 1 1/2 set 3 = 3", "a 1 2/2 add 2 = 5"])
+
+    def test_left_held_is_finished(self) -> None:
+        with labrun.Bench.from_text(TWO) as bench:
+            for session in bench.jobs[0].sessions():
+                session.acquire()
+            for session in bench.jobs[1].sessions():
+                session.acquire()
+                break
+        self.assertTrue(bench.report.job("a").retired)
+        self.assertEqual(bench.report.job("b").done, 1)
+
+    def test_closed(self) -> None:
+        bench = labrun.Bench.from_text(TWO)
+        session = bench.jobs[0].next_session()
+        assert session
+        with self.assertRaises(labrun.LabrunError):
+            bench.report
+        report = bench.close()
+        self.assertIs(bench.close(), report)
+        self.assertFalse(report.finished)
+        calls: list[Any] = [session.acquire, session.release, session.command, session.waits_for, bench.jobs[0].next_session]
+        for call in calls:
+            with self.assertRaises(labrun.Closed):
+                call()
+
+    def test_no_jobs_and_no_sessions(self) -> None:
+        with labrun.Bench.from_text("lab 1\n") as bench:
+            bench.run(lambda job: None)
+        self.assertTrue(bench.report.finished)
+        with labrun.Bench.from_text("lab 1\njob a\n") as bench:
+            self.assertEqual(list(bench.jobs[0].sessions()), [])
+        self.assertTrue(bench.report.finished)
+
+    def test_exception_in_the_body(self) -> None:
+        with self.assertRaises(ZeroDivisionError):
+            with labrun.Bench.from_text(TWO) as bench:
+                for session in bench.jobs[0].sessions():
+                    with session:
+                        1 / 0
+        self.assertEqual(session.state, "finished")
+        self.assertEqual(logged(bench), ["a 1 1/1 add 5 = 5"])
+        self.assertEqual((bench.report.job("a").done, bench.report.finished), (1, False))
+
+    def test_no_library(self) -> None:
+        words = [sys.executable, "-c", "import labrun; labrun.run('lab 1')"]
+        ran = subprocess.run(words, env={**child(), "LABRUN_LIBRARY": "/nowhere.so"}, capture_output=True, text=True)
+        self.assertIn("LABRUN_LIBRARY", ran.stderr)
+        self.assertIn("/nowhere.so", ran.stderr)
+
+
+class Waiting(unittest.TestCase):
+    """Sessions of several threads."""
+
+    def holding(self, script: str) -> tuple[labrun.Bench, labrun.Session, labrun.Session]:
+        """A bench where a holds the scale, and the session of b that wants it."""
+        bench = labrun.Bench.from_text(script)
+        self.addCleanup(bench.close)
+        first, second = bench.jobs[0].next_session(), bench.jobs[1].next_session()
+        assert first and second
+        first.acquire()
+        return bench, first, second
+
+    def test_time_out_says_who(self) -> None:
+        bench, first, second = self.holding(TWO)
+        begun = time.monotonic()
+        with self.assertRaises(labrun.TimeoutError) as caught:
+            second.acquire(timeout=0.2)
+        self.assertTrue(0.19 < time.monotonic() - begun < 1)
+        self.assertIsInstance(caught.exception, TimeoutError)
+        self.assertEqual(caught.exception.keepers, (labrun.Keeper("scale", "a", True),))
+        self.assertEqual(str(caught.exception), "session 1 of b still waits: scale is held by a")
+        self.assertEqual(second.state, "asked")
+        self.assertEqual(second.waits_for(), (labrun.Keeper("scale", "a", True),))
+        self.assertEqual(first.waits_for(), ())
+        with self.assertRaises(labrun.TimeoutError):
+            second.acquire(timeout=0)
+        first.release()
+        second.acquire(timeout=5)
+        self.assertEqual(second.waits_for(), ())
+        self.assertEqual(first.waits_for(), ())
+        second.release()
+        self.assertEqual(second.state, "finished")
+
+    def test_time_out_of_with(self) -> None:
+        bench, first, _ = self.holding(TWO)
+        tries = 0
+        for session in bench.jobs[1].sessions(timeout=0.05):
+            try:
+                with session:
+                    break
+            except labrun.TimeoutError:
+                tries += 1
+                if tries == 2:
+                    first.release()
+        self.assertEqual(tries, 2)
+        self.assertEqual(bench.close().job("b").done, 1)
+
+    def test_asked_keeps_its_place(self) -> None:
+        bench, first, second = self.holding(TWO)
+        with self.assertRaises(labrun.TimeoutError):
+            second.acquire(timeout=0.05)
+        first.release()
+        following = bench.jobs[0].next_session()
+        assert following
+        try:
+            following.acquire(timeout=0.3)
+            following.release()
+        except labrun.TimeoutError as late:
+            self.assertEqual(late.keepers, (labrun.Keeper("scale", "b", True),))
+        second.acquire(timeout=5)
+        second.release()
+        self.assertEqual(bench.lapsed, ())
+
+    def test_left_keeps_nobody_waiting(self) -> None:
+        bench, first, second = self.holding(TWO)
+        with self.assertRaises(labrun.TimeoutError):
+            second.acquire(timeout=0.05)
+        second.give_up()
+        self.assertEqual(second.state, "left")
+        first.release()
+        for session in bench.jobs[0].sessions(timeout=5):
+            with session:
+                pass
+        self.assertEqual(bench.jobs[0].state.done, 2)
+        report = bench.close()
+        # its turn came, or it still stands in the line: nobody waited for it
+        self.assertEqual(bench.lapsed, (("b", 1),) if report.job("b").done else ())
+        self.assertEqual(second.state, "lapsed" if report.job("b").done else "left")
+
+    def test_left_holds_until_somebody_waits(self) -> None:
+        bench, first, second = self.holding(TWO)
+        with self.assertRaises(labrun.TimeoutError):
+            second.acquire(timeout=0.05)
+        second.give_up()
+        first.release()
+        self.assertEqual(bench.lapsed, ())
+        second.acquire(timeout=5)  # its owner came back
+        second.release()
+        self.assertEqual((second.state, bench.lapsed), ("finished", ()))
+
+    def test_left_with_a_patience_is_withdrawn(self) -> None:
+        bench, first, second = self.holding(PATIENT)
+        with self.assertRaises(labrun.TimeoutError):
+            second.acquire(timeout=0.05)
+        second.give_up()
+        self.assertEqual(second.state, "withdrawn")
+        second.give_up()
+
+    def test_woken(self) -> None:
+        bench, first, second = self.holding(TWO)
+        came: list[float] = []
+
+        def wait() -> None:
+            with second:
+                came.append(time.monotonic())
+
+        thread = in_thread(wait)
+        time.sleep(0.2)
+        self.assertEqual(came, [])
+        self.assertTrue(bench.jobs[1].state.waits)
+        let_go = time.monotonic()
+        first.release()
+        thread.join(5)
+        self.assertLess(came[0] - let_go, 0.2)
+
+    def test_waiting_burns_nothing(self) -> None:
+        bench, first, second = self.holding(TWO)
+        thread = in_thread(second.acquire)
+        time.sleep(0.1)
+        before = time.process_time()
+        time.sleep(1.5)
+        self.assertLess(time.process_time() - before, 0.05)
+        first.release()
+        thread.join(5)
+
+    def test_two_wait_for_one_job(self) -> None:
+        bench, first, second = self.holding(TWO)
+        thread = in_thread(second.acquire)
+        while not bench.jobs[1].state.waits:
+            time.sleep(0.01)
+        with self.assertRaises(labrun.LabrunError):
+            second.acquire()
+        first.release()
+        thread.join(5)
+        self.assertTrue(second.held)
+
+    def test_withdraw(self) -> None:
+        bench, first, second = self.holding(PATIENT)
+        self.assertEqual(second.patience, 999999)
+        with self.assertRaises(labrun.NotHeld):
+            second.withdraw()  # it never asked
+        with self.assertRaises(labrun.TimeoutError):
+            second.acquire(timeout=0.05)
+        second.withdraw()
+        self.assertEqual(second.state, "withdrawn")
+        with self.assertRaises(labrun.Withdrawn):
+            second.acquire()
+        with self.assertRaises(labrun.NotHeld):
+            first.withdraw()
+        first.release()
+        for session in bench.jobs[1].sessions():
+            with session:
+                self.assertEqual(session.number, 2)
+        report = bench.close()
+        self.assertEqual((report.job("b").withdrawn, report.job("b").done, report.finished), (1, 1, True))
+
+    def test_withdraw_wakes(self) -> None:
+        bench, first, second = self.holding(PATIENT)
+        faults: list[BaseException] = []
+
+        def wait() -> None:
+            try:
+                second.acquire()
+            except labrun.Withdrawn as fault:
+                faults.append(fault)
+
+        thread = in_thread(wait)
+        while not bench.jobs[1].state.waits:
+            time.sleep(0.01)
+        second.withdraw()
+        thread.join(5)
+        self.assertEqual(str(faults[0]), "session 1 of b was withdrawn")
+
+    def test_no_patience_no_withdrawal(self) -> None:
+        bench, first, second = self.holding(TWO)
+        with self.assertRaises(labrun.TimeoutError):
+            second.acquire(timeout=0.05)
+        with self.assertRaises(labrun.NotHeld):
+            second.withdraw()
+
+    def test_patience_runs_out(self) -> None:
+        bench, first, second = self.holding(SOON)
+        with self.assertRaises(labrun.Withdrawn):
+            second.acquire(timeout=20)
+        self.assertEqual(second.state, "withdrawn")
+        first.release()
+        following = bench.jobs[1].next_session()
+        assert following
+        self.assertEqual(following.number, 2)
+
+    def test_stop(self) -> None:
+        for script, state in ((TWO, "left"), (PATIENT, "withdrawn")):
+            bench, first, second = self.holding(script)
+            faults: list[BaseException] = []
+
+            def wait() -> None:
+                try:
+                    second.acquire()
+                except labrun.Stopped as fault:
+                    faults.append(fault)
+
+            thread = in_thread(wait)
+            while not bench.jobs[1].state.waits:
+                time.sleep(0.01)
+            bench.stop()
+            thread.join(5)
+            self.assertEqual((len(faults), second.state), (1, state))
+            self.assertTrue(first.held)
+            first.release()
+            with self.assertRaises(labrun.Stopped):
+                bench.jobs[0].next_session()
+
+    def test_close_wakes(self) -> None:
+        bench, first, second = self.holding(TWO)
+        faults: list[BaseException] = []
+
+        def wait() -> None:
+            try:
+                second.acquire()
+            except labrun.Closed as fault:
+                faults.append(fault)
+
+        thread = in_thread(wait)
+        while not bench.jobs[1].state.waits:
+            time.sleep(0.01)
+        report = bench.close()
+        thread.join(5)
+        self.assertEqual(len(faults), 1)
+        self.assertFalse(report.finished)
+
+
+class Running(unittest.TestCase):
+    """`run`, by threads and by tasks."""
+
+    def test_run(self) -> None:
+        with labrun.Bench.from_text(load_script(8, 50, 5, 1)) as bench:
+            counting = Counting(bench)
+            bench.run(counting.station)
+        self.assertEqual((counting.clashes, counting.done), (0, 400))
+        self.assertTrue(bench.report.finished)
+
+    def test_own_threads(self) -> None:
+        with labrun.Bench.from_text(load_script(4, 20, 3, 2)) as bench:
+            counting = Counting(bench)
+            threads = [threading.Thread(target=counting.station, args=(job,)) for job in bench.jobs]
+            for thread in threads:
+                thread.start()
+            for thread in threads:
+                thread.join()
+        self.assertEqual((counting.clashes, counting.done, bench.report.finished), (0, 80, True))
+
+    def test_32_threads(self) -> None:
+        with labrun.Bench.from_text(load_script(32, 20, 20, 3)) as bench:
+            counting = Counting(bench, pause=0.0005)
+            bench.run(counting.station)
+        self.assertEqual((counting.clashes, counting.done), (0, 640))
+        self.assertTrue(bench.report.finished)
+        self.check_logs(bench.report)
+
+    def check_logs(self, report: labrun.Report) -> None:
+        """Each log is whole sessions, one after another."""
+        for name in report.instruments:
+            log = list(report.log(name))
+            while log:
+                first = log[0]
+                session, log = log[: first.length], log[first.length :]
+                self.assertEqual({(it.job, it.session) for it in session}, {(first.job, first.session)})
+                self.assertEqual([it.place for it in session], list(range(1, first.length + 1)))
+
+    def test_many(self) -> None:
+        """Very many sessions without a pause, until `LABRUN_SESSIONS` are done."""
+        wanted, done, seed = int(os.environ.get("LABRUN_SESSIONS", "20000")), 0, 0
+        while done < wanted:
+            with labrun.Bench.from_text(load_script(16, min(1000, max(1, (wanted - done) // 16)), 12, seed)) as bench:
+                counting = Counting(bench)
+                bench.run(counting.station)
+            self.assertEqual(counting.clashes, 0)
+            self.assertTrue(bench.report.finished)
+            done, seed = done + counting.done, seed + 1
+
+    def test_counting_sees_two(self) -> None:
+        with labrun.Bench.from_text(TWO) as bench:
+            counting = Counting(bench)
+            counting.came(("scale",))
+            counting.came(("scale",))
+            self.assertEqual(counting.clashes, 1)
+
+    def test_exception_in_a_station(self) -> None:
+        def station(job: labrun.Job) -> None:
+            for session in job.sessions():
+                with session:
+                    if job.name == "a":
+                        raise RuntimeError("the scope caught fire")
+
+        bench = labrun.Bench.from_text(TWO)
+        with self.assertRaisesRegex(RuntimeError, "caught fire"):
+            with bench:
+                bench.run(station)
+        self.assertTrue(bench.report.job("b").retired)
+        self.assertEqual(bench.report.job("a").done, 1)
+
+    def test_all_stations_raise(self) -> None:
+        def station(job: labrun.Job) -> None:
+            raise RuntimeError(job.name)
+
+        bench = labrun.Bench.from_text(TWO)
+        with self.assertRaisesRegex(RuntimeError, "[ab]"):
+            bench.run(station)
+        bench.close()
+
+    def test_never_comes_back(self) -> None:
+        """a holds the scale for ever: b's time-out says so, and `run` says who isn't back."""
+        for_ever = threading.Event()
+        self.addCleanup(for_ever.set)
+        told: list[str] = []
+
+        def station(job: labrun.Job) -> None:
+            for session in job.sessions(timeout=None if job.name == "a" else 0.3):
+                try:
+                    with session:
+                        if job.name == "a":
+                            for_ever.wait()
+                except labrun.TimeoutError as fault:
+                    told.append(str(fault))
+                    return
+                except labrun.Closed:
+                    return
+
+        script = TWO.replace("job b", "job c\nsession\nlamp set 1\nend\njob b")
+        bench = labrun.Bench.from_text(script)
+        held = bench.jobs[0].next_session()
+        assert held
+        held.acquire()
+        with self.assertRaises(labrun.NotBack) as caught:
+            # (a's thread goes on with the session that is held, and never lets go)
+            def wait(job: labrun.Job) -> None:
+                for_ever.wait() if job.name == "a" else station(job)
+
+            bench.run(wait, timeout=1)
+        self.assertEqual(caught.exception.jobs, ("a",))
+        self.assertEqual(told, ["session 1 of b still waits: scale is held by a"])
+        report = bench.close()
+        self.assertTrue(report.job("c").retired)
+        self.assertFalse(report.finished)
+
+    def test_async(self) -> None:
+        bench = labrun.Bench.from_text(load_script(8, 20, 5, 4))
+        counting = Counting(bench)
+
+        async def station(job: labrun.Job) -> None:
+            for session in job.sessions():
+                async with session:
+                    counting.came(session.instruments)
+                    await asyncio.sleep(0.0005)
+                    counting.went(session.instruments)
+
+        with bench:
+            asyncio.run(bench.run_async(station))
+        self.assertEqual((counting.clashes, counting.done, bench.report.finished), (0, 160, True))
+
+    def test_async_time_out_and_cancel(self) -> None:
+        async def main(script: str) -> str:
+            with labrun.Bench.from_text(script) as bench:
+                first, second = bench.jobs[0].next_session(), bench.jobs[1].next_session()
+                assert first and second
+                async with first:
+                    with self.assertRaises(labrun.TimeoutError):
+                        await second.acquire_async(timeout=0.05)
+                    task = asyncio.create_task(second.acquire_async())
+                    await asyncio.sleep(0.05)
+                    task.cancel()
+                    with self.assertRaises(asyncio.CancelledError):
+                        await task
+                    return second.state
+
+        self.assertEqual(asyncio.run(main(TWO)), "left")
+        self.assertEqual(asyncio.run(main(PATIENT)), "withdrawn")
+
+    def test_threads_and_tasks(self) -> None:
+        bench = labrun.Bench.from_text(TWO)
+        counting = Counting(bench)
+
+        async def task(job: labrun.Job) -> None:
+            for session in job.sessions():
+                async with session:
+                    counting.came(session.instruments)
+                    await asyncio.sleep(0.01)
+                    counting.went(session.instruments)
+
+        thread = in_thread(lambda: counting.station(bench.jobs[0]))
+        asyncio.run(task(bench.jobs[1]))
+        thread.join(5)
+        self.assertEqual((counting.clashes, counting.done), (0, 3))
+        self.assertTrue(bench.close().finished)
+
+
+INTERRUPTED = """
+import sys, time, threading, labrun
+WHERE, SCRIPT = sys.argv[1], sys.argv[2]
+bench = labrun.Bench.from_text(SCRIPT)
+first, second = bench.jobs[0].next_session(), bench.jobs[1].next_session()
+states = {}
+try:
+    with bench:
+        if WHERE == "body":
+            with first:
+                print("ready", flush=True)
+                time.sleep(30)
+        elif WHERE == "waiting":
+            first.acquire()
+            print("ready", flush=True)
+            with second:
+                pass
+        else:
+            def station(job):
+                for session in job.sessions():
+                    with session:
+                        states[job.name] = session
+                        if job.name == "a" and session.number == 1:
+                            print("ready", flush=True)
+                            time.sleep(1)
+            bench.run(station)
+except KeyboardInterrupt:
+    print(first.state, second.state, bench.report.job("a").done, bench.report.job("b").done, bench.report.finished)
+"""
+
+
+def child() -> dict[str, str]:
+    package = os.path.dirname(os.path.dirname(os.path.realpath(labrun.__file__)))
+    return {**os.environ, "PYTHONPATH": package, "LABRUN_LIBRARY": labrun.library_path()}
+
+
+class Interrupted(unittest.TestCase):
+    """KeyboardInterrupt, sent to a child process."""
+
+    def interrupted(self, where: str, script: str) -> str:
+        words = [sys.executable, "-c", INTERRUPTED, where, script]
+        ran = subprocess.Popen(words, env=child(), stdout=subprocess.PIPE, stderr=subprocess.PIPE, text=True)
+        try:
+            assert ran.stdout
+            self.assertEqual(ran.stdout.readline(), "ready\n")
+            time.sleep(0.3)
+            ran.send_signal(signal.SIGINT)
+            told, faults = ran.communicate(timeout=10)
+            self.assertEqual(faults, "")
+            return told.strip()
+        finally:
+            ran.kill()
+
+    def test_in_the_body(self) -> None:
+        self.assertEqual(self.interrupted("body", TWO), "finished new 1 0 False")
+
+    def test_while_it_waits(self) -> None:
+        self.assertEqual(self.interrupted("waiting", TWO), "held left 0 0 False")
+        self.assertEqual(self.interrupted("waiting", PATIENT), "held withdrawn 0 0 False")
+
+    def test_in_run(self) -> None:
+        # a works at its first session for a second: it ends that, and begins no other; b gave up, or had its session before
+        self.assertRegex(self.interrupted("run", TWO), r"\Anew new 1 [01] False\Z")
+
+
+if __name__ == "__main__":
+    unittest.main()

@@ -1,0 +1,68 @@
+"""The structures and calls of Python and Rust are those of include/labrun.h."""
+
+import ctypes
+import os
+import re
+import unittest
+
+from labrun import _library
+from tests.test_runs import TOP
+
+STRUCTURES = {
+    "told": (_library.Told, "Told"),
+    "bench": (_library.Handle, "Handle"),
+    "size": (_library.Size, "Size"),
+    "session": (_library.SessionOf, "SessionOf"),
+    "turned": (_library.Turned, "Turned"),
+    "state": (_library.State, "State"),
+    "entry": (_library.Entered, "Entered"),
+}
+IN_PYTHON = {"uint32_t": ctypes.c_uint32, "uint64_t": ctypes.c_uint64, "size_t": ctypes.c_size_t, "void *": ctypes.c_void_p}
+IN_RUST = {"uint32_t": "u32", "uint64_t": "u64", "size_t": "usize", "void *": "*mut c_void"}
+
+
+def text_of(path: str) -> str:
+    with open(os.path.join(TOP, path), encoding="utf-8") as file:
+        return file.read()
+
+
+def fields_of(name: str) -> list[tuple[str, str]]:
+    """The fields of a structure in the header, each with its type."""
+    header = re.sub(r"/\*.*?\*/", "", text_of("include/labrun.h"), flags=re.DOTALL)
+    found = re.search(rf"struct lab_{name} \{{(.*?)\}};", header, re.DOTALL)
+    assert found, name
+    fields = []
+    for line in found[1].split(";"):
+        one = re.fullmatch(r"\s*(\w+ \*|\w+ )\s*(\w+(?:, \w+)*)\s*", line)
+        if one:
+            fields += [(each, one[1].strip()) for each in one[2].split(", ")]
+    return fields
+
+
+class Header(unittest.TestCase):
+    def test_structures_of_python(self) -> None:
+        for name, (structure, _) in STRUCTURES.items():
+            wanted = [(field, IN_PYTHON[kind]) for field, kind in fields_of(name)]
+            self.assertEqual(list(structure._fields_), wanted, name)
+            self.assertTrue(wanted)
+
+    def test_structures_of_rust(self) -> None:
+        source = text_of("bindings/rust/src/ffi.rs")
+        for name, (_, called) in STRUCTURES.items():
+            found = re.search(rf"pub struct {called} \{{(.*?)\}}", source, re.DOTALL)
+            assert found, called
+            fields = re.findall(r"pub (\w+): ([^,]+),", found[1])
+            self.assertEqual(fields, [(field, IN_RUST[kind]) for field, kind in fields_of(name)], name)
+
+    def test_calls(self) -> None:
+        """Each call is in the header, with as many arguments."""
+        header = re.sub(r"/\*.*?\*/", "", text_of("include/labrun.h"), flags=re.DOTALL)
+        there = {name: given.count(",") + 1 for name, given in re.findall(r"(?:uint32_t|void) (lab_\w+)\(([^)]*)\)", header)}
+        for name, arguments in {**_library._LONG, **_library._SHORT}.items():
+            self.assertEqual(there.get(name), len(arguments), name)
+        for name, given in re.findall(r"pub fn (lab_\w+)\(([^)]*)\)", text_of("bindings/rust/src/ffi.rs")):
+            self.assertEqual(there.get(name), given.count(",") + 1, name)
+
+
+if __name__ == "__main__":
+    unittest.main()

@@ -1,0 +1,86 @@
+//! The calls and structures of `include/labrun.h`.
+use std::ffi::c_void;
+
+#[repr(C)]
+#[derive(Clone, Copy, Default)]
+pub struct Told {
+    pub written: usize,
+    pub line: usize,
+    pub cause: u32,
+}
+
+#[repr(C)]
+pub struct Handle {
+    pub at: *mut c_void,
+    pub live: u32,
+}
+
+#[repr(C)]
+#[derive(Clone, Copy, Default)]
+pub struct Size {
+    pub jobs: usize,
+    pub instruments: usize,
+}
+
+#[repr(C)]
+#[derive(Clone, Copy, Default)]
+pub struct SessionOf {
+    pub needs: u64,
+    pub commands: usize,
+    pub patience: u32,
+    pub has_patience: u32,
+}
+
+#[repr(C)]
+#[derive(Clone, Copy, Default)]
+pub struct Turned {
+    pub what: u32,
+    pub count: u32,
+}
+
+#[repr(C)]
+#[derive(Clone, Copy, Default)]
+pub struct State {
+    pub turns: u64,
+    pub dining: u32,
+    pub drinking: u32,
+    pub session: u32,
+    pub sessions: u32,
+    pub position: u32,
+    pub sessions_done: u32,
+    pub withdrawn: u32,
+    pub meals: u32,
+    pub waited: u32,
+}
+
+#[repr(C)]
+#[derive(Clone, Copy, Default)]
+pub struct Entered {
+    pub session: u32,
+    pub place: u32,
+    pub length: u32,
+    pub verb: u32,
+    pub number: u32,
+    pub value: u32,
+}
+
+extern "C" {
+    pub fn lab_rounds(script: *const u8, length: usize, limit: u32, report: *mut u8, room: usize, told: *mut Told) -> u32;
+    pub fn lab_replay(script: *const u8, length: usize, report: *mut u8, room: usize, told: *mut Told) -> u32;
+    pub fn lab_check(script: *const u8, length: usize, report: *mut u8, room: usize, told: *mut Told) -> u32;
+    pub fn lab_upgrade(script: *const u8, length: usize, report: *mut u8, room: usize, told: *mut Told) -> u32;
+    pub fn lab_bench_open(script: *const u8, length: usize, bench: *mut Handle, told: *mut Told) -> u32;
+    pub fn lab_bench_size(bench: *mut Handle, size: *mut Size) -> u32;
+    pub fn lab_job_name(bench: *mut Handle, job: u32, name: *mut u8, room: usize, written: *mut usize) -> u32;
+    pub fn lab_instrument_name(bench: *mut Handle, instrument: u32, name: *mut u8, room: usize, written: *mut usize) -> u32;
+    pub fn lab_session_of(bench: *mut Handle, job: u32, session: u32, what: *mut SessionOf) -> u32;
+    pub fn lab_state(bench: *mut Handle, job: u32, state: *mut State) -> u32;
+    pub fn lab_turn(bench: *mut Handle, job: u32, turned: *mut Turned) -> u32;
+    pub fn lab_serve(bench: *mut Handle, job: u32, turned: *mut Turned) -> u32;
+    pub fn lab_command(bench: *mut Handle, job: u32, entry: *mut Entered) -> u32;
+    pub fn lab_end(bench: *mut Handle, job: u32, turned: *mut Turned) -> u32;
+    pub fn lab_withdraw(bench: *mut Handle, job: u32) -> u32;
+    pub fn lab_retire(bench: *mut Handle, job: u32, turns: u32, turned: *mut Turned) -> u32;
+    pub fn lab_bench_close(bench: *mut Handle, report: *mut u8, room: usize, told: *mut Told) -> u32;
+    pub fn lab_bench_free(bench: *mut Handle);
+}

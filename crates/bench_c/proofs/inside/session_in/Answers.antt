@@ -1,0 +1,13 @@
+use Rattle.std.proofs.Common.{◌≡◌, ◌⊎◌, inl, inr, refl, sym, subst}
+use Rattle.bench_c.specs.Calls.{InHeld, TellsSession}
+use Rattle.bench_c.proofs.inside.session_in.Goals as goal
+
+pub returns-in-Some : goal.returns-in-Some
+returns-in-Some c =
+    subst (λ h. InHeld (TellsSession c.args.job c.args.session) h h c.args.told.now c.session_of.result 0) (sym c.in-Open.is)
+    (c.in-Open.lab, refl, (refl, inl (refl, c.in-Some.facts, c.in-Some.ensures, c.session_of.ensures)))
+
+pub returns-in-None : goal.returns-in-None
+returns-in-None c =
+    subst (λ h. InHeld (TellsSession c.args.job c.args.session) h h c.args.told.now c.args.told.now 2) (sym c.in-Open.is)
+    (c.in-Open.lab, refl, (refl, inr (refl, c.in-None.ensures, refl)))

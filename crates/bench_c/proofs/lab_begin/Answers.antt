@@ -1,0 +1,10 @@
+use Rattle.std.proofs.Common.{◌≡◌, refl, sym, subst}
+use Rattle.bench_door.specs.declared.going.Aim.TheVariants.{Hold}
+use Rattle.bench_c.specs.Calls.{InLab, InHeld, GoesOn}
+use Rattle.bench_c.proofs.lab_begin.Goals as goal
+
+pub returns-in-Some : goal.returns-in-Some
+returns-in-Some c =
+    let s = c.go_in-status in
+    subst (λ o. InLab (GoesOn Hold c.args.turns c.args.job) o c.put.new.self.slot.held c.args.turned.now s.new.turned s.result) (sym c.in-Some.ensures.old)
+    (s.new.held, c.put.ensures, subst (λ h. InHeld (GoesOn Hold c.args.turns c.args.job) h s.new.held c.args.turned.now s.new.turned s.result) c.deref_mut.ensures.value s.ensures)

@@ -1,0 +1,10 @@
+use Rattle.std.proofs.Common.{◌≡◌, refl, sym, subst}
+use Rattle.session_layer.specs.Turn.{Took}
+use Rattle.bench_c.specs.Calls.{InLab, InHeld, Drives}
+use Rattle.bench_c.proofs.lab_turn.Goals as goal
+
+pub returns-in-Some : goal.returns-in-Some
+returns-in-Some c =
+    let s = c.turn_in-status in
+    subst (λ o. InLab (Drives Took c.args.job) o c.put.new.self.slot.held c.args.turned.now s.new.turned s.result) (sym c.in-Some.ensures.old)
+    (s.new.held, c.put.ensures, subst (λ h. InHeld (Drives Took c.args.job) h s.new.held c.args.turned.now s.new.turned s.result) c.deref_mut.ensures.value s.ensures)

@@ -1,0 +1,138 @@
+-- For readers: what is told, and what is put into the caller's memory.
+use Rattle.std.specs.Prelude.{◌≡◌, ◌⊎◌, ℕ, ◌≤◌, ◌<◌, List, length, ◌++◌, drop, Option, Some, None, Result, Ok, Err}
+use Rattle.instrument_log.specs.declared.entry.Entry.{Entry}
+use Rattle.lab_plan.specs.declared.verb.Verb.{Verb}
+use Rattle.lab_plan.specs.declared.verb.Verb.TheVariants.{Set, Add, Read as Reads}
+use Rattle.legal_steps.specs.declared.phase.Dining.{Dining}
+use Rattle.legal_steps.specs.declared.phase.Dining.TheVariants as dines
+use Rattle.legal_steps.specs.declared.phase.Drinking.{Drinking}
+use Rattle.legal_steps.specs.declared.phase.Drinking.TheVariants as drinks
+use Rattle.session_layer.specs.declared.turning.Turned.{Turned}
+use Rattle.session_layer.specs.declared.turning.Turned.TheVariants.{Acted, Moved, Idle}
+use Rattle.script_reader.specs.declared.fault.ScriptCause.{ScriptCause}
+use Rattle.script_reader.specs.declared.fault.ScriptCause.TheVariants as causes
+use Rattle.lab_program.specs.declared.faults.RunFault.{RunFault}
+use Rattle.lab_program.specs.declared.faults.RunFault.TheVariants.{Script, Step, Read, TooLong, Write, NoMemory}
+use Rattle.lab_program.specs.declared.faults.Outcome.{Outcome}
+use Rattle.lab_program.specs.Faults.{status_of}
+use Rattle.bench_door.specs.declared.going.Aim.{Aim}
+use Rattle.bench_door.specs.declared.going.Aim.TheVariants.{Hold, Retire}
+use Rattle.bench_door.specs.declared.going.Stage.{Stage}
+use Rattle.bench_door.specs.declared.going.Stage.TheVariants.{There, OnTheWay, Barred}
+use Rattle.bench_door.specs.declared.going.Ended.{Ended}
+use Rattle.bench_door.specs.declared.going.Ended.TheVariants.{NotHeld, LetGo, StillHeld}
+use Rattle.bench_door.specs.declared.readers.SessionFacts.{SessionFacts}
+use Rattle.bench_door.specs.declared.readers.Standing.{Standing}
+use Rattle.bench_c.specs.declared.telling.Told.{Told}
+use Rattle.bench_c.specs.declared.told.LabTurned.{LabTurned}
+use Rattle.bench_c.specs.declared.told.LabSession.{LabSession}
+use Rattle.bench_c.specs.declared.told.LabState.{LabState}
+use Rattle.bench_c.specs.declared.told.LabEntry.{LabEntry}
+
+-- ---- what is told of a fault
+
+-- k for Sk
+abbrev pub cause_number : ScriptCause → ℕ
+cause_number causes.NoHeader = 1
+cause_number causes.UnknownWord = 2
+cause_number causes.BadName = 3
+cause_number causes.BadNumber = 4
+cause_number causes.JobTwice = 5
+cause_number causes.NotInSession = 6
+cause_number causes.NotInJob = 7
+cause_number causes.EmptySession = 8
+cause_number causes.SessionNotClosed = 9
+cause_number causes.LimitPassed = 10
+cause_number causes.TooManyInCommon = 11
+cause_number causes.NoMemory = 12
+cause_number causes.BadStep = 13
+
+-- the line that the fault names, and why; 0 where it names none
+abbrev pub told_of : RunFault → Told
+told_of (Script fault) = record { written = 0; line = fault.line; cause = cause_number fault.cause }
+told_of (Step line) = record { written = 0; line = line; cause = 0 }
+told_of _ = record { written = 0; line = 0; cause = 0 }
+
+-- the length of a text, and no fault
+abbrev pub told_length : ℕ → Told
+told_length written = record { written = written; line = 0; cause = 0 }
+
+-- ---- texts
+
+-- the text stands at the front of the room, and the rest of the room is as it was
+pub record Puts (text old new : List ℕ) : Type 0 where
+  pub fits : length text ≤ length old
+  pub bytes : new ≡ text ++ drop (length text) old
+
+-- a text was put, or there is no room for it and nothing is put; the status then is 6
+abbrev pub Gives : ℕ → List ℕ → List ℕ → List ℕ → ℕ → Type 0
+Gives full text old new status = ((status ≡ full) × Puts text old new) ⊎ ((status ≡ 6) × (length old < length text) × (new ≡ old))
+
+-- the same, and its length is told
+abbrev pub Delivers : ℕ → List ℕ → List ℕ → List ℕ → Told → ℕ → Type 0
+Delivers full text old new told status = (told ≡ told_length (length text)) × Gives full text old new status
+
+-- the room stays as it was, and the fault is told
+abbrev pub Fails : RunFault → List ℕ → List ℕ → Told → ℕ → Type 0
+Fails fault old new told status = (status ≡ status_of (Err fault)) × (new ≡ old) × (told ≡ told_of fault)
+
+-- ---- a turn, a session, a job, an entry
+
+abbrev pub turned_of : Turned → LabTurned
+turned_of (Acted n) = record { what = 2; count = n }
+turned_of Moved = record { what = 1; count = 0 }
+turned_of Idle = record { what = 0; count = 0 }
+
+-- a job that was to hold and has no session left is told apart (9)
+abbrev pub stage_status : Aim → Stage → ℕ
+stage_status aim There = 0
+stage_status aim OnTheWay = 8
+stage_status Hold Barred = 9
+stage_status Retire Barred = 8
+
+-- it let go (0); or it still holds, or it never held and nothing is told (8)
+abbrev pub TellsEnded : Ended → LabTurned → LabTurned → ℕ → Type 0
+TellsEnded (LetGo r) told told' status = (status ≡ 0) × (told' ≡ turned_of r)
+TellsEnded (StillHeld r) told told' status = (status ≡ 8) × (told' ≡ turned_of r)
+TellsEnded NotHeld told told' status = (status ≡ 8) × (told' ≡ told)
+
+abbrev pub turns_of : Option ℕ → ℕ × ℕ
+turns_of (Some turns) = (turns, 1)
+turns_of None = (0, 0)
+
+abbrev pub session_of : SessionFacts → LabSession
+session_of s = record { needs = s.needs; commands = s.commands; patience = (turns_of s.patience).0; has_patience = (turns_of s.patience).1 }
+
+abbrev pub dining_number : Dining → ℕ
+dining_number dines.Thinking = 0
+dining_number dines.Hungry = 1
+dining_number dines.Eating = 2
+
+abbrev pub drinking_number : Drinking → ℕ
+drinking_number drinks.Tranquil = 0
+drinking_number drinks.Thirsty = 1
+drinking_number drinks.Drinking = 2
+drinking_number drinks.Reaching = 3
+drinking_number drinks.Retired = 4
+
+abbrev pub state_of : Standing → LabState
+state_of s = record {
+  turns = s.turns;
+  dining = dining_number s.phase.dining;
+  drinking = drinking_number s.phase.drinking;
+  session = s.phase.session;
+  sessions = s.sessions;
+  position = s.phase.position;
+  sessions_done = s.counts.sessions_done;
+  withdrawn = s.counts.withdrawn;
+  meals = s.counts.meals;
+  waited = s.waited;
+}
+
+abbrev pub verb_numbers : Verb → ℕ × ℕ
+verb_numbers (Set n) = (0, n)
+verb_numbers (Add n) = (1, n)
+verb_numbers Reads = (2, 0)
+
+abbrev pub entry_of : Entry → LabEntry
+entry_of e = record { session = e.session; place = e.place; length = e.length; verb = (verb_numbers e.verb).0; number = (verb_numbers e.verb).1; value = e.value }

@@ -1,0 +1,188 @@
+//! Calls on what a handle has.
+ghost use Rattle.std.specs.Prelude.{◌≡◌, if◌then◌else◌};
+ghost use Rattle.session_layer.specs.Turn.{Took};
+ghost use Rattle.desk_user.specs.Serving.{Served};
+ghost use Rattle.bench_c.specs.Calls.{InHeld, Drives, GivesUp, DoesNext, TellsEntry, TellsSize, TellsSession, TellsState, TellsJobName, TellsInstrumentName};
+
+use crate::slot::Held;
+use crate::telling::put;
+use crate::told::{
+    LabEntry, LabSession, LabSize, LabState, LabTurned, entry_of, session_of, state_of, turned_of,
+};
+use instrument_log::Entry;
+
+pub(crate) const NO_JOB: u32 = 2;
+
+pub(crate) const NOT_OPEN: u32 = 7;
+
+pub(crate) const NOT_NOW: u32 = 8;
+
+fn withdrew(did: bool) -> u32
+    ensures { result ≡ (if did then 0 else 8) }
+{
+    if did { 0 } else { NOT_NOW }
+}
+
+fn tell_entry(entry: Option<Entry>, told: &mut LabEntry) -> u32
+    ensures { TellsEntry entry told.old told.new result }
+{
+    match entry {
+        Some(entry) => {
+            *told = entry_of(entry);
+            0
+        }
+        None => NOT_NOW,
+    }
+}
+
+pub(crate) fn turn_in(held: &mut Held, job: u32, turned: &mut LabTurned) -> u32
+    ensures { InHeld (Drives Took job) held.old held.new turned.old turned.new result }
+{
+    match held {
+        Held::Open(lab) => match lab.turn(job as usize) {
+            Some(answer) => {
+                *turned = turned_of(answer);
+                0
+            }
+            None => NO_JOB,
+        },
+        Held::Ended(_) => NOT_OPEN,
+        Held::Reported(_) => NOT_OPEN,
+        Held::Moved => NOT_OPEN,
+    }
+}
+
+pub(crate) fn serve_in(held: &mut Held, job: u32, turned: &mut LabTurned) -> u32
+    ensures { InHeld (Drives Served job) held.old held.new turned.old turned.new result }
+{
+    match held {
+        Held::Open(lab) => match lab.serve(job as usize) {
+            Some(answer) => {
+                *turned = turned_of(answer);
+                0
+            }
+            None => NO_JOB,
+        },
+        Held::Ended(_) => NOT_OPEN,
+        Held::Reported(_) => NOT_OPEN,
+        Held::Moved => NOT_OPEN,
+    }
+}
+
+pub(crate) fn withdraw_in(held: &mut Held, job: u32) -> u32
+    ensures { InHeld (GivesUp job) held.old held.new tt tt result }
+{
+    match held {
+        Held::Open(lab) => match lab.withdraw(job as usize) {
+            Some(did) => withdrew(did),
+            None => NO_JOB,
+        },
+        Held::Ended(_) => NOT_OPEN,
+        Held::Reported(_) => NOT_OPEN,
+        Held::Moved => NOT_OPEN,
+    }
+}
+
+pub(crate) fn command_in(held: &mut Held, job: u32, told: &mut LabEntry) -> u32
+    ensures { InHeld (DoesNext job) held.old held.new told.old told.new result }
+{
+    match held {
+        Held::Open(lab) => match lab.command(job as usize) {
+            Some(entry) => tell_entry(entry, told),
+            None => NO_JOB,
+        },
+        Held::Ended(_) => NOT_OPEN,
+        Held::Reported(_) => NOT_OPEN,
+        Held::Moved => NOT_OPEN,
+    }
+}
+
+pub(crate) fn size_in(held: &Held, size: &mut LabSize) -> u32
+    ensures { InHeld TellsSize held.now held.now size.old size.new result }
+{
+    match held {
+        Held::Open(lab) => {
+            *size = LabSize {
+                jobs: lab.jobs(),
+                instruments: lab.instruments(),
+            };
+            0
+        }
+        Held::Ended(_) => NOT_OPEN,
+        Held::Reported(_) => NOT_OPEN,
+        Held::Moved => NOT_OPEN,
+    }
+}
+
+pub(crate) fn session_in(held: &Held, job: u32, session: u32, told: &mut LabSession) -> u32
+    ensures { InHeld (TellsSession job session) held.now held.now told.old told.new result }
+{
+    match held {
+        Held::Open(lab) => match lab.session(job, session) {
+            Some(facts) => {
+                *told = session_of(facts);
+                0
+            }
+            None => NO_JOB,
+        },
+        Held::Ended(_) => NOT_OPEN,
+        Held::Reported(_) => NOT_OPEN,
+        Held::Moved => NOT_OPEN,
+    }
+}
+
+pub(crate) fn state_in(held: &Held, job: u32, state: &mut LabState) -> u32
+    ensures { InHeld (TellsState job) held.now held.now state.old state.new result }
+{
+    match held {
+        Held::Open(lab) => match lab.standing(job as usize) {
+            Some(standing) => {
+                *state = state_of(standing);
+                0
+            }
+            None => NO_JOB,
+        },
+        Held::Ended(_) => NOT_OPEN,
+        Held::Reported(_) => NOT_OPEN,
+        Held::Moved => NOT_OPEN,
+    }
+}
+
+pub(crate) fn job_name_in(held: &Held, job: u32, room: &mut [u8], written: &mut usize) -> u32
+    ensures { InHeld (TellsJobName job) held.now held.now (room.old, written.old) (room.new, written.new) result }
+{
+    match held {
+        Held::Open(lab) => match lab.job_name(job) {
+            Some(name) => {
+                *written = name.len();
+                put(0, name, room)
+            }
+            None => NO_JOB,
+        },
+        Held::Ended(_) => NOT_OPEN,
+        Held::Reported(_) => NOT_OPEN,
+        Held::Moved => NOT_OPEN,
+    }
+}
+
+pub(crate) fn instrument_name_in(
+    held: &Held,
+    instrument: u32,
+    room: &mut [u8],
+    written: &mut usize,
+) -> u32
+    ensures { InHeld (TellsInstrumentName instrument) held.now held.now (room.old, written.old) (room.new, written.new) result }
+{
+    match held {
+        Held::Open(lab) => match lab.instrument_name(instrument) {
+            Some(name) => {
+                *written = name.len();
+                put(0, name, room)
+            }
+            None => NO_JOB,
+        },
+        Held::Ended(_) => NOT_OPEN,
+        Held::Reported(_) => NOT_OPEN,
+        Held::Moved => NOT_OPEN,
+    }
+}

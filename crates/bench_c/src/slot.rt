@@ -1,0 +1,65 @@
+//! A box as the one pointer that C keeps.
+ghost use Rattle.std.specs.Prelude.{◌≡◌, Option, Some, None};
+ghost use Rattle.std.specs.Coded.{coded_option};
+ghost use Rattle.bench_c.specs.contracts.slot.Held.{the_row};
+ghost use Rattle.bench_c.specs.declared.slot.Held.{Held};
+ghost use Rattle.bench_c.specs.Owned.{slot_owns, holds};
+
+use bench_door::{Lab, Printed};
+use box_parts::Parts;
+use edge_rule::Closed;
+use std::alloc::Global;
+use std::marker::Model;
+
+/// What a handle has.
+#[derive(Drop)]
+pub enum Held {
+    /// A lab that goes on.
+    Open(Lab),
+    /// The end of a lab whose report found no memory yet.
+    Ended(Closed<'static, Global>),
+    /// The report of a lab that has ended.
+    Reported(Printed),
+    /// Nothing, within a call that puts something else there before it returns.
+    Moved,
+}
+
+/// A pointer to what a handle has, or nothing.
+#[repr(C)]
+#[derive(Drop)]
+pub struct Slot {
+    at: *mut u8,
+    pub ghost held: { Option Held } by { coded_option the_row.coded },
+}
+
+impl Model for Slot {
+    ghost also_owns = { λ h. slot_owns the_row h.at h.held };
+}
+
+impl Slot {
+    pub(crate) fn vacant() -> Slot
+        ensures { result.held ≡ None }
+    {
+        Slot {
+            at: std::ptr::null_mut(),
+        }
+    }
+
+    pub(crate) fn of(parts: Parts<Held, Global>) -> Slot
+        ensures { result.held ≡ Some parts.value }
+    {
+        let Parts { ptr, alloc: _ } = parts;
+        Slot { at: ptr as *mut u8 }
+    }
+
+    pub(crate) fn into_parts(self, alloc: Global) -> Parts<Held, Global>
+        requires { holds self.held ≡ 1 }
+        ensures { Some result.value ≡ self.held }
+    {
+        let Slot { at } = self;
+        Parts {
+            ptr: at as *mut Held,
+            alloc,
+        }
+    }
+}

@@ -1,0 +1,8 @@
+-- That each desk is of the bench is a fact with one proof at most.
+use Rattle.std.specs.Prelude.{◌≡◌, List, [], ◌∷◌}
+use mathlib.Core.Path.{refl}
+use Rattle.locality.specs.Lists.{Each}
+
+pub each_prop : {A : Type 0} (P : A → Type 0) → ((x : A) → IsProp (P x)) → (xs : List A) → IsProp (Each P xs)
+each_prop P prop [] a b = refl
+each_prop P prop (x ∷ xs) a b = λ i. (prop x a.0 b.0 i, each_prop P prop xs a.1 b.1 i)

@@ -1,0 +1,67 @@
+//! The end of a lab, and its report.
+ghost use Rattle.std.specs.Prelude.{◌≡◌, IfOk, IfErr, IfSome};
+ghost use Rattle.edge_rule.specs.Ending.{IsEnd};
+ghost use Rattle.bench_door.specs.Doors.{IsPrint, EndsHaveReports};
+
+use crate::kept::Kept;
+use crate::lab::Lab;
+use edge_rule::{CloseRefused, Closed};
+use headline::holds_of_every_run;
+use lab_program::Outcome;
+use report::laws::one_report;
+use report::{all_retired, write_report};
+use std::alloc::Global;
+use whole_runs::AtEnd;
+
+/// A report, and how the run ended.
+#[derive(Drop)]
+pub struct Printed {
+    pub text: Vec<u8, Global>,
+    pub outcome: Outcome,
+}
+
+impl Lab {
+    /// Closes the bench with all its desks. If memory is refused, the lab comes back as it was.
+    pub fn close(self, alloc: Global) -> Result<Closed<'static, Global>, Lab>
+        ensures ended { IfOk result (λ c. IsEnd self.bench.plan self.desks.items c) }
+        ensures back { IfErr result (λ l. (l.bench ≡ self.bench) × (l.desks.items ≡ self.desks.items)) }
+    {
+        let Lab { bench, desks } = self;
+        match bench.close(alloc, desks) {
+            Ok(closed) => Ok(closed),
+            Err(refused) => {
+                let CloseRefused {
+                    cause: _,
+                    bench,
+                    desks,
+                } = refused;
+                Err(Lab { bench, desks })
+            }
+        }
+    }
+}
+
+/// The report of a closed bench, or none without memory. The headline holds of it.
+pub fn print(alloc: Global, closed: &Closed<'static, Global>) -> Option<Printed>
+    ensures text { IfSome result (λ p. IsPrint closed.now p.text.items p.outcome) }
+    ensures holds { EndsHaveReports }
+{
+    one_report();
+    holds_of_every_run();
+    let run = AtEnd { closed };
+    let mut sink = Kept::new(alloc);
+    match write_report(&run, &mut sink) {
+        Ok(()) => {
+            let outcome = if all_retired(&run) {
+                Outcome::Finished
+            } else {
+                Outcome::Unfinished
+            };
+            Some(Printed {
+                text: sink.into_bytes(),
+                outcome,
+            })
+        }
+        Err(_) => None,
+    }
+}

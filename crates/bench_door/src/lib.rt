@@ -1,0 +1,17 @@
+//! A bench with all its desks, for callers that name a job by its number: any job's desk may be driven by any call, one call at a time.
+//!
+//! A call that names a job that isn't there changes nothing and answers `None`.
+#![tactic(auto)]
+
+mod closing;
+mod driving;
+mod going;
+mod kept;
+mod lab;
+mod readers;
+
+pub use closing::{Printed, print};
+pub use going::{Aim, Ended, Stage};
+pub use kept::Kept;
+pub use lab::Lab;
+pub use readers::{SessionFacts, Standing};

@@ -1,0 +1,3 @@
+pub mod Ranking
+pub mod Sums
+pub mod Text

@@ -1,0 +1,10 @@
+//! Who keeps whom waiting, in words: a line for each job, neighbour and instrument, and a line for each instrument.
+#![tactic(auto)]
+
+mod block;
+mod ranking;
+mod sums;
+mod text;
+
+pub use block::Block;
+pub use text::add_blocks;

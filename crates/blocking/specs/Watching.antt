@@ -1,0 +1,62 @@
+-- Desks that are looked at after each round, and what is counted then.
+use Rattle.std.specs.Prelude.{◌≡◌, ℕ, ◌<◌, nat_lt, Bool, ◌&&◌, List, [], ◌∷◌, length, slice_index_or, if◌then◌else◌}
+use Rattle.lab_plan.specs.LabPlan.{LabPlan, bottles}
+use Rattle.lab_plan.specs.InstrumentSets.{holds}
+use Rattle.legal_steps.specs.declared.event.Event.{Event}
+use Rattle.legal_steps.specs.State.{IsOwn, neighbour, phase}
+use Rattle.legal_steps.specs.Legal.{instrument_of}
+use Rattle.locality.specs.Patience.{one_more}
+use Rattle.edge_rule.specs.DeskView.{DeskView, known}
+use Rattle.rounds.specs.Rounds.{known_in}
+use Rattle.block_lines.specs.declared.block.Block.{Block}
+use Rattle.blocking.specs.declared.places.Place.{Place}
+use Rattle.blocking.specs.Waiting.{waits_at, holds_in}
+use Rattle.blocking.specs.Blocks.{IsBlockedRun}
+
+-- a bottle of one of the job's edges
+pub record IsPlace (plan : LabPlan) (x : Place) : Type 0 where
+  pub job : x.job < length plan.jobs
+  pub own : IsOwn plan x.job x.edge
+  pub bottle : x.bottle < length (bottles plan x.edge)
+
+-- the desk is job j's, and knows what the job does by its events of this history
+pub record KnowsJob (plan : LabPlan) (h : List Event) (j : ℕ) (d : DeskView) : Type 0 where
+  pub plan_is : d.plan ≡ plan
+  pub job_is : d.job ≡ j
+  pub known_is : known d ≡ known_in plan h j
+
+-- there is a desk of each job, in their order
+pub record KnowAll (plan : LabPlan) (h : List Event) (desks : List DeskView) : Type 0 where
+  pub many : length desks ≡ length plan.jobs
+  pub each : (j : ℕ) (d : DeskView) → j < length plan.jobs → KnowsJob plan h j (slice_index_or desks j d)
+
+abbrev pub set_at : List ℕ → ℕ → ℕ
+set_at sets j = slice_index_or sets j 0
+
+-- for each job the instruments that it holds
+pub record AreHeld (plan : LabPlan) (h : List Event) (sets : List ℕ) : Type 0 where
+  pub many : length sets ≡ length plan.jobs
+  pub each : (j : ℕ) → j < length plan.jobs → (i : ℕ) → holds (set_at sets j) i ≡ holds_in plan j (phase (known_in plan h j) j) i
+
+-- the neighbour holds the instrument when the job's turn is over, by what was held before the round and after it
+abbrev pub holds_then : LabPlan → List ℕ → List ℕ → Place → Bool
+holds_then plan before after x =
+    holds (set_at (if nat_lt (neighbour plan x.job x.edge) x.job then after else before) (neighbour plan x.job x.edge)) (instrument_of plan x.edge x.bottle)
+
+abbrev pub counted_if : Bool → ℕ → ℕ
+counted_if b n = if b then one_more 4294967295 n else n
+
+-- what a round adds to the counts of a place
+abbrev pub block_then : LabPlan → List Event → List ℕ → List ℕ → Place → Block → Block
+block_then plan h before after x b = record b {
+  rounds = counted_if (waits_at plan (known_in plan h x.job) x) b.rounds;
+  held = counted_if (waits_at plan (known_in plan h x.job) x && holds_then plan before after x) b.held;
+}
+
+abbrev pub blocks_then : LabPlan → List Event → List ℕ → List ℕ → List Place → List Block → List Block
+blocks_then plan h before after [] blocks = blocks
+blocks_then plan h before after (x ∷ places) [] = []
+blocks_then plan h before after (x ∷ places) (b ∷ blocks) = block_then plan h before after x b ∷ blocks_then plan h before after places blocks
+
+abbrev pub Counted : LabPlan → ℕ → ℕ → Bool → List Block → Type 0
+Counted plan limit number retired blocks = IsBlockedRun plan limit (record { number = number; retired = retired; blocks = blocks })

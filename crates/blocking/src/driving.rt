@@ -1,0 +1,99 @@
+//! A bench that is driven one round at a time, and who waits for whom after each.
+ghost use Rattle.std.specs.Prelude.{◌≡◌, [], length, map, replicate, IfOk};
+ghost use Rattle.round_laws.specs.FromOpening.{opened};
+ghost use Rattle.blocking.specs.Blocks.{places as all_places, block_of, IsBlockedRun};
+ghost use Rattle.blocking.specs.Watching.{Counted};
+ghost use Rattle.waiting.specs.Watching.{is_all_retired};
+
+use crate::counting::{count_round, fresh_blocks, note_held};
+use crate::places::{Place, places};
+use crate::run::BlockedRun;
+use block_lines::Block;
+use edge_rule::{Bench, Desk};
+use lab_plan::Plan;
+use rounds::{Ended, rounds};
+use std::alloc::{AllocError, Allocator};
+
+/// Whether turns ended because all jobs were retired.
+fn is_all_retired(ended: Ended) -> bool
+    ensures { result ≡ is_all_retired ended }
+{
+    matches!(ended, Ended::AllRetired)
+}
+
+/// A set of no instruments for each of so many jobs.
+fn no_sets<A: Allocator>(alloc: A, jobs: usize) -> Result<Vec<u64, A>, AllocError>
+    ensures { IfOk result (λ sets. sets.items ≡ replicate jobs 0) }
+{
+    let mut sets = Vec::new(alloc);
+    for _job in 0..jobs {
+        sets.push(0)?;
+    }
+    Ok(sets)
+}
+
+/// Drives the desks by at most so many rounds, and counts each. Answers how many were done, and whether all jobs are retired
+/// then.
+fn watch<A: Allocator>(
+    bench: &Bench<A>,
+    desks: &mut [Desk<A>],
+    before: &mut [u64],
+    after: &mut [u64],
+    places: &[Place],
+    blocks: &mut [Block],
+    limit: u32,
+) -> (u32, bool)
+    requires opened { desks.old ≡ opened bench.now }
+    requires before { length before.old ≡ length desks.old }
+    requires after { length after.old ≡ length desks.old }
+    requires places { places.now ≡ all_places bench.now.plan }
+    requires fresh { blocks.old ≡ map (block_of bench.now.plan []) places.now }
+    ensures { Counted bench.now.plan limit result.0 result.1 blocks.new }
+{
+    let plan = bench.plan();
+    note_held(plan, desks, before);
+    for number in 0..limit {
+        let (_, done) = rounds(bench, desks, 1);
+        if done == 0 {
+            return (number, true);
+        }
+        note_held(plan, desks, after);
+        count_round(plan, desks, before, after, places, blocks);
+        note_held(plan, desks, before);
+    }
+    let (ended, _) = rounds(bench, desks, 0);
+    (limit, is_all_retired(ended))
+}
+
+/// Who kept whom waiting in the run of a plan by at most so many rounds.
+///
+/// Memory is taken for a bench, and for each bottle of an edge at either end of it: 27776 at most.
+pub fn blocks_by_rounds<A: Allocator + Copy>(
+    alloc: A,
+    plan: &Plan<A>,
+    limit: u32,
+) -> Result<BlockedRun<A>, AllocError>
+    ensures { IfOk result (IsBlockedRun plan.now limit) }
+{
+    let Ok((bench, mut desks)) = Bench::open(alloc, plan) else {
+        return Err(AllocError);
+    };
+    let places = places(alloc, plan)?;
+    let mut blocks = fresh_blocks(alloc, plan, &places)?;
+    let mut before = no_sets(alloc, desks.len())?;
+    let mut after = no_sets(alloc, desks.len())?;
+    let (number, retired) = watch(
+        &bench,
+        desks.as_mut_slice(),
+        before.as_mut_slice(),
+        after.as_mut_slice(),
+        &places,
+        blocks.as_mut_slice(),
+        limit,
+    );
+    Ok(BlockedRun {
+        number,
+        retired,
+        blocks,
+    })
+}

@@ -1,0 +1,62 @@
+//! Where jobs may wait: for each bottle of each of its edges.
+ghost use Rattle.std.specs.Prelude.{◌≡◌, ◌<◌, ◌++◌, length, IfOk, OnOk, map};
+ghost use Rattle.std.specs.List.{flat_map, range_with_len};
+ghost use Rattle.lab_plan.specs.LabPlan.{edges, edges_of};
+ghost use Rattle.blocking.specs.Blocks.{places_on, places_of, places};
+
+use lab_plan::{EdgeNo, JobNo, Plan};
+use std::alloc::{AllocError, Allocator};
+
+/// A job, and a bottle of one of its edges.
+#[derive(Clone, Copy, PartialEq, Eq, Debug)]
+pub(crate) struct Place {
+    pub(crate) job: JobNo,
+    pub(crate) edge: EdgeNo,
+    pub(crate) bottle: u32,
+}
+
+/// Adds the places of a job on one of its edges.
+fn add_on_edge<A: Allocator, B: Allocator>(
+    out: &mut Vec<Place, A>,
+    plan: &Plan<B>,
+    job: JobNo,
+    edge: EdgeNo,
+) -> Result<(), AllocError>
+    requires { edge < length (edges plan.now) }
+    ensures { OnOk result (out.new.items ≡ out.old.items ++ places_on plan.now job edge) }
+{
+    for bottle in 0..plan.bottles(edge) {
+        out.push(Place { job, edge, bottle })?;
+    }
+    Ok(())
+}
+
+/// Adds the places of a job.
+fn add_of_job<A: Allocator, B: Allocator>(
+    out: &mut Vec<Place, A>,
+    plan: &Plan<B>,
+    job: JobNo,
+) -> Result<(), AllocError>
+    requires { job < length plan.now.jobs }
+    ensures { OnOk result (out.new.items ≡ out.old.items ++ places_of plan.now job) }
+{
+    let own = plan.edges_of(job);
+    for edge in own {
+        add_on_edge(out, plan, job, *edge)?;
+    }
+    Ok(())
+}
+
+/// The places of all jobs, in the order of the script.
+pub(crate) fn places<A: Allocator, B: Allocator>(
+    alloc: A,
+    plan: &Plan<B>,
+) -> Result<Vec<Place, A>, AllocError>
+    ensures { IfOk result (λ all. all.items ≡ places plan.now) }
+{
+    let mut all = Vec::new(alloc);
+    for job in 0..plan.jobs() {
+        add_of_job(&mut all, plan, JobNo(job as u8))?;
+    }
+    Ok(all)
+}

@@ -1,0 +1,6 @@
+pub mod Answers
+pub mod Flags
+pub mod Numbers
+pub mod Leaves
+pub mod Tops
+pub mod Walks

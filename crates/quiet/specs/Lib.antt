@@ -1,2 +1,0 @@
-pub mod LastLooks
-pub mod QuietRound

@@ -1,3 +1,0 @@
-pub mod Scale
-pub mod Shapes
-pub mod Meals

@@ -1,2 +1,0 @@
-pub mod CountSums
-pub mod UpgradeStable

@@ -1,3 +1,0 @@
-pub mod Marked
-pub mod OneByOne
-pub mod Pairs

@@ -1,8 +1,0 @@
--- the pairs are those of the logs so far
-use Rattle.std.proofs.Common.{map}
-use Rattle.report_lines.specs.Form.{job_text}
-use Rattle.session_orders.proofs.Pairs.{PairsBelow}
-use Rattle.session_orders.proofs.behind.pairs_of.Given as goal
-
-abbrev pub invariant-loop-log : goal.invariant-loop-log
-invariant-loop-log g l = PairsBelow (map job_text l.jobs) l.logs l.log-index l.pairs.items

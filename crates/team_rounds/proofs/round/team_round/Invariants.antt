@@ -1,7 +1,0 @@
--- a turn of each so far
-use Rattle.session_layer.specs.Grown.{TookTurns}
-use Rattle.team_rounds.proofs.Ahead.{Ahead}
-use Rattle.team_rounds.proofs.round.team_round.Given as goal
-
-abbrev pub invariant-loop-place : goal.invariant-loop-place
-invariant-loop-place g l = Ahead (TookTurns 1) l.place l.fn.desks l.desks

@@ -1,0 +1,183 @@
+// What `labview blocks` writes, by its bytes.
+use lab_program::{FromRead, Outcome, RunFault};
+use lab_views::run_blocks;
+use report::ToWrite;
+use script_reader::{ScriptCause, ScriptFault};
+use std::alloc::Global;
+
+fn told(alloc: Global, input: &str, limit: u32) -> (Vec<u8>, Result<Outcome, RunFault>) {
+    let mut bytes = Vec::new(alloc);
+    let mut source = FromRead::new(input.as_bytes());
+    let mut sink = ToWrite::new(&mut bytes);
+    let answer = run_blocks(alloc, &mut source, &mut sink, limit);
+    (bytes, answer)
+}
+
+// Two jobs that share a scale. The fork and the bottle start at a, so b precedes a.
+const SHARED: &str = "lab 1\njob a\nsession\nscale add 1\nend\njob b\nsession\nscale add 1\nend\n";
+
+// By hand: in round 1 both are thirsty, and b sees the bottle at a, as it does up to round 4; a drinks in rounds 2 and 3, and
+// has ended its session in round 4 before b's turn; b drinks in round 5.
+const ALL_ROUNDS: &str = "rounds 9 finished
+blocked b by a on scale rounds 4 held 2
+instrument scale blocked 4 held 2
+";
+
+const THREE_ROUNDS: &str = "rounds 3 unfinished
+blocked b by a on scale rounds 3 held 2
+instrument scale blocked 3 held 2
+";
+
+// b gives up in round 2, and in round 1 the other is thirsty too.
+const IMPATIENT: &str =
+    "lab 2\njob a\nsession\nscale add 1\nend\njob b\nsession patience 0\nscale add 1\nend\n";
+
+const GIVEN_UP: &str = "rounds 5 finished
+blocked b by a on scale rounds 1 held 0
+instrument scale blocked 1 held 0
+";
+
+#[test]
+fn blocks_by_hand(rt: HostRuntime) {
+    for (script, limit, wanted) in [
+        (SHARED, 1000000000, ALL_ROUNDS),
+        (SHARED, 3, THREE_ROUNDS),
+        (SHARED, 0, "rounds 0 unfinished\n"),
+        (IMPATIENT, 20, GIVEN_UP),
+        ("lab 1\n", 7, "rounds 0 finished\n"),
+    ] {
+        let (text, answer) = told(rt.alloc(), script, limit);
+        assert!(rt;
+            answer == Ok(Outcome::Finished) && text.as_slice() == wanted.as_bytes(),
+            "{wanted}"
+        );
+    }
+}
+
+// Eight benches in a ring, each with a supply and a scope that it shares with a neighbour.
+const RING: &str = "lab 1
+job bench-1
+session
+supply-1 set 12000
+scope-1 add 1
+supply-1 read
+end
+session
+supply-1 set 0
+end
+session
+scope-1 read
+end
+job bench-2
+session
+supply-2 set 12000
+scope-1 add 1
+supply-2 read
+end
+session
+supply-2 set 0
+end
+session
+scope-1 read
+end
+job bench-3
+session
+supply-2 set 5000
+scope-2 add 1
+supply-2 read
+end
+session
+supply-2 set 0
+end
+session
+scope-2 read
+end
+job bench-4
+session
+supply-3 set 5000
+scope-2 add 1
+supply-3 read
+end
+session
+supply-3 set 0
+end
+session
+scope-2 read
+end
+job bench-5
+session
+supply-3 set 3300
+scope-3 add 1
+supply-3 read
+end
+session
+supply-3 set 0
+end
+session
+scope-3 read
+end
+job bench-6
+session
+supply-4 set 3300
+scope-3 add 1
+supply-4 read
+end
+session
+supply-4 set 0
+end
+session
+scope-3 read
+end
+job bench-7
+session
+supply-4 set 24000
+scope-4 add 1
+supply-4 read
+end
+session
+supply-4 set 0
+end
+session
+scope-4 read
+end
+job bench-8
+session
+supply-1 set 24000
+scope-4 add 1
+supply-1 read
+end
+session
+supply-1 set 0
+end
+session
+scope-4 read
+end
+";
+
+// By a reckoning of its own: each waits longest for the next, which keeps a bottle because it is thirsty itself.
+const RING_BLOCKS: &str = "rounds 74 finished
+blocked bench-2 by bench-3 on supply-2 rounds 41 held 5
+blocked bench-3 by bench-4 on scope-2 rounds 35 held 4
+blocked bench-1 by bench-2 on scope-1 rounds 33 held 4
+blocked bench-4 by bench-5 on supply-3 rounds 29 held 5
+blocked bench-5 by bench-6 on scope-3 rounds 23 held 4
+blocked bench-6 by bench-7 on supply-4 rounds 17 held 5
+blocked bench-7 by bench-8 on scope-4 rounds 11 held 4
+blocked bench-8 by bench-1 on supply-1 rounds 9 held 6
+";
+
+#[test]
+fn blocks_of_a_ring(rt: HostRuntime) {
+    let (text, answer) = told(rt.alloc(), RING, 10000);
+    assert!(rt; answer == Ok(Outcome::Finished) && text.starts_with(RING_BLOCKS.as_bytes()));
+}
+
+#[test]
+fn no_script_has_no_blocks(rt: HostRuntime) {
+    let (text, answer) = told(rt.alloc(), "lab 1\nsession\n", 7);
+    let fault = ScriptFault {
+        line: 2,
+        cause: ScriptCause::NotInJob,
+    };
+    assert!(rt; answer == Err(RunFault::Script(fault)) && text.is_empty());
+}
