@@ -1,5 +1,5 @@
 -- Chains that are longest.
-use Rattle.std.proofs.Common.{◌≡◌, ℕ, zero, suc, ◌+◌, ◌<◌, ◌≤◌, true, false, List, [], ◌∷◌, ◌++◌, length, get_or, refl, sym, ap, ◌∙◌, subst, inl, inr, arith, Option, None, Some}
+use Rattle.std.proofs.Common.{◌≡◌, ℕ, zero, suc, ◌+◌, ◌<◌, ◌≤◌, true, false, List, [], ◌∷◌, length, get_or, refl, sym, ap, subst, inl, inr, arith, Option, None, Some}
 use Rattle.std.proofs.lemmas.Bool.{cases_eq, ltb-true, ltb-false}
 use Rattle.std.specs.List.{All}
 use Rattle.lab_plan.specs.LabPlan.{LabPlan}
@@ -88,33 +88,6 @@ module _ (plan : LabPlan) where
       | inr apart ↦ (let a = most k (omega (arith, less, apart)) p in
           let c = ltb-true (length (chain_at chains best)) (length (chain_at chains n)) longer in omega (arith, a, c))
     ],
-  )
-
-  -- ---- one chain more
-
-  at_end : {A : Type 0} (l : List A) (x d : A) → get_or (l ++ x ∷ []) (length l) d ≡ x
-  at_end [] x d = refl
-  at_end (y ∷ l) x d = at_end l x d
-
-  before_end : {A : Type 0} (l : List A) (x d : A) (k : ℕ) → k < length l → get_or (l ++ x ∷ []) k d ≡ get_or l k d
-  before_end [] x d k less = absurd (omega (arith, less))
-  before_end (y ∷ l) x d zero less = refl
-  before_end (y ∷ l) x d (suc k) less = before_end l x d k (omega (arith, less))
-
-  length_end : {A : Type 0} (l : List A) (x : A) → length (l ++ x ∷ []) ≡ length l + 1
-  length_end [] x = refl
-  length_end (y ∷ l) x = let r = length_end l x in let e : suc (length (l ++ x ∷ [])) ≡ suc (length l) + 1 = omega (arith, r) in e
-
-  pub all_more : (chains : List (List ℕ)) (job : ℕ) (chain : List ℕ) → length chains ≡ job → AreLongest plan chains → IsLongestFrom plan job chain
-      → AreLongest plan (chains ++ chain ∷ []) × (length (chains ++ chain ∷ []) ≡ job + 1)
-  all_more chains job chain long all is = (
-    λ k less. elim (cases_eq k job) [
-      | inl same ↦ subst (λ (z : ℕ × List ℕ). IsLongestFrom plan z.0 z.1)
-          (λ i. (sym same i, (sym (at_end chains chain []) ∙ ap (λ m. get_or (chains ++ chain ∷ []) m []) (long ∙ sym same)) i)) is
-      | inr apart ↦ (let n = length_end chains chain in let small : k < length chains = omega (arith, less, apart, long, n) in
-          subst (IsLongestFrom plan k) (sym (before_end chains chain [] k small)) (all k small))
-    ],
-    (let n = length_end chains chain in omega (arith, n, long)),
   )
 
   -- ---- the longest of all

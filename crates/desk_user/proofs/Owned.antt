@@ -110,21 +110,11 @@ opened_as b plan desks is are = are ∙ ap (λ (p : LabPlan). fresh_desks b.tabl
 
 -- ---- the desks of a slice, each changed by its owner
 
-pub each_at : (P : DeskView → Type 0) (l : List DeskView) (k : ℕ) (x : DeskView) → k < length l → x ≡ get_or l k x → Each P l → P x
-each_at P [] k x h is e = absurd (omega arith)
-each_at P (y ∷ l) zero x h is e = subst P (sym is) e.0
-each_at P (y ∷ l) (suc k) x h is e = each_at P l k x (omega arith) is e.1
-
 abbrev AreKept : BenchView → List DeskView → List DeskView → Type 0
 AreKept b old new = (i : ℕ) (d : DeskView) → i < length old → Keeps b (get_or old i d) (get_or new i d)
 
 kept_later : (b : BenchView) (d e : DeskView) (old new : List DeskView) → AreKept b (d ∷ old) (e ∷ new) → AreKept b old new
 kept_later b d e old new kept i x less = kept (suc i) x (omega arith)
-
-pub kept_own : (b : BenchView) (old new : List DeskView) → length new ≡ length old → AreKept b old new → Each (Owns b) new
-kept_own b old [] same kept = tt
-kept_own b [] (e ∷ new) same kept = absurd (omega (arith, same))
-kept_own b (d ∷ old) (e ∷ new) same kept = ((kept 0 d (omega arith)).0, kept_own b old new (omega (arith, same)) (kept_later b d e old new kept))
 
 pub kept_jobs : (b : BenchView) (old new : List DeskView) → length new ≡ length old → AreKept b old new → jobs_of new ≡ jobs_of old
 kept_jobs b [] [] same kept = refl

@@ -185,11 +185,6 @@ module _ (counts : List Counts) (x : DeskView) where
   abbrev new_counts : List Counts
   new_counts = set counts x.job (counts_of x.job x.deeds)
 
-  others_counted : (desks : List DeskView) → Each (λ (k : ℕ). k ≢ x.job) (jobs_of desks) → AreCounted counts desks → AreCounted new_counts desks
-  others_counted [] other counted = tt
-  others_counted (d ∷ desks) other counted =
-      (get_or-set_other counts x.job d.job (counts_of x.job x.deeds) no_counts other.0 ∙ counted.0, others_counted desks other.1 counted.1)
-
   not_x : (desks : List DeskView) (i j : ℕ) → i < length desks → x ≡ get_or desks i x → Each (λ (k : ℕ). k ≢ j) (jobs_of desks) → x.job ≢ j
   not_x [] i j inside is other = absurd (omega arith)
   not_x (d ∷ desks) zero j inside is other = λ e. other.0 (sym (ap (λ (z : DeskView). z.job) is) ∙ e)

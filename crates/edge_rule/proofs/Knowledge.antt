@@ -31,12 +31,6 @@ module _ {A : Type 0} (d : Inside A) (y : DeskView) (is : view_of d ≡ y) (ok :
   pub known_counts : d.counts ≡ counts_of y.job y.deeds
   known_counts = sym ok.counts ∙ ap (λ (z : DeskView). counts_of z.job z.deeds) is
 
-  pub known_job : d.job ≡ y.job
-  known_job = sym ok.job ∙ ap (λ (z : DeskView). z.job) is
-
-  pub known_phase : d.phase ≡ phase (known y) y.job
-  known_phase = ap (λ (x : Seat). x.phase) (sym ok.own) ∙ ap (λ (z : DeskView). phase (known z) z.job) is
-
   pub known_mark : (e n : ℕ) → n ≡ e → get_or d.fork_marks.items n false ≡ fork_mark (known y) y.job e
   known_mark e n at = ap (λ k. get_or d.fork_marks.items k false) at
       ∙ (ap (λ (x : Seat). get_or x.fork_marks e false) (sym ok.own) ∙ ap (λ (z : DeskView). fork_mark (known z) z.job e) is)

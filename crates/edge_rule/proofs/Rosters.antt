@@ -2,8 +2,8 @@
 use Rattle.std.proofs.Common.{◌≡◌, ◌≢◌, ℕ, suc, ◌+◌, ◌<◌, ◌≤◌, ◌==◌, inl, inr, cond, List, [], ◌∷◌, ◌++◌, length, take, get_or, zero-add, arith, refl, sym, ap, ◌∙◌, subst}
 use Rattle.std.specs.List.{count_by}
 use Rattle.std.proofs.lemmas.Bool.{cases_eq, eq-eqb, ne_eqb}
-use Rattle.std.proofs.lemmas.List.{get_or-map, length-take, take_all}
-use Rattle.std.proofs.lemmas.List.Sums.{sum_by-cons, count_by_more_yes, count_by_more_no, count_by-le-length}
+use Rattle.std.proofs.lemmas.List.{get_or-map, take_all}
+use Rattle.std.proofs.lemmas.List.Sums.{sum_by-cons, count_by_more_yes, count_by_more_no}
 use Rattle.locality.specs.Lists.{Each}
 use Rattle.edge_rule.specs.DeskView.{DeskView}
 use Rattle.edge_rule.specs.Company.{Distinct, jobs_of}
@@ -111,12 +111,6 @@ none_counted desks i x j n inside is so_far other =
     let long : length (jobs_of desks) ≡ length desks = jobs_count desks in
     so_far ∙ sym (count_by_more_no (λ k. k == j) (jobs_of desks) i 0 (omega arith)
     (ne_eqb (get_or (jobs_of desks) i 0) j (λ e. other (sym (job_at desks i x inside is) ∙ e))))
-
-pub few_counted : (desks : List DeskView) (i j : ℕ) → i < length desks → times j (take i (jobs_of desks)) ≤ i
-few_counted desks i j inside =
-    let short = count_by-le-length (λ k. k == j) (take i (jobs_of desks)) in
-    let long = length-take i (jobs_of desks) in
-    omega (arith, short, long)
 
 pub all_counted : (desks : List DeskView) (n i j : ℕ) → length desks ≤ i → n ≡ times j (take i (jobs_of desks)) → n ≡ times j (jobs_of desks)
 all_counted desks n i j past is =

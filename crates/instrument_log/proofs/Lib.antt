@@ -1,4 +1,3 @@
-pub mod AppendLemmas
 pub mod EntryLemmas
 pub mod LogLemmas
 pub mod PartLemmas

@@ -71,12 +71,6 @@ goes_on event counts can = still counts event (λ k. refl) (λ k. refl) (λ k. r
 
 -- ---- longer lists
 
-of_nothing : (x : Counts) (k : ℕ) → x ≡ both_counts x (counts_of k [])
-of_nothing x k = same_counts _ _ (omega arith) (omega arith) (omega arith)
-
-pub goes_on_none : (counts : List Counts) → GoOnBy counts [] counts
-goes_on_none counts = record { one_each = refl; counted = λ k below. of_nothing (count_at counts k) k }
-
 count_joined : (p : Event → Bool) (xs ys : List Event) → count_by p (xs ++ ys) ≡ count_by p xs + count_by p ys
 count_joined p xs ys = sum_by-append (λ e. cond (p e) 1 0) xs ys
 

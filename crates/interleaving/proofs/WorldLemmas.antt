@@ -6,12 +6,11 @@ use Rattle.std.proofs.lemmas.Option.{slice_get_read}
 use Rattle.lab_plan.specs.LabPlan.{LabPlan}
 use Rattle.legal_steps.specs.declared.event.Event.{Event}
 use Rattle.legal_steps.specs.declared.event.Event.TheVariants.{Act, Sit, Quit, Withdraw}
-use Rattle.legal_steps.specs.State.{State, phase}
-use Rattle.legal_steps.specs.Fitting.{IsPhaseOf}
+use Rattle.legal_steps.specs.State.{State}
 use Rattle.legal_steps.specs.Legal.{May, IsLegal}
 use Rattle.legal_steps.specs.Run.{StopsAt}
 use Rattle.legal_steps.specs.Reached.{IsReached}
-use Rattle.legal_steps.proofs.ReachedLemmas.{reached_fits, reached_legal}
+use Rattle.legal_steps.proofs.ReachedLemmas.{reached_legal}
 use Rattle.legal_steps.proofs.RunLemmas.{runs_more}
 use Rattle.legal_steps.proofs.AppendLaw.{act_appends, next_within_limits}
 use Rattle.legal_steps.proofs.MealLaw.{meals_few}
@@ -20,7 +19,7 @@ use Rattle.legal_steps.specs.declared.counts.Counts.{Counts}
 use Rattle.interleaving.specs.Step.{TakesEntry}
 use Rattle.interleaving.specs.Counting.{GoOnBy, CanCount, HasFewCounts}
 use Rattle.interleaving.specs.World.{WorldView, IsReachedWith, LeadsTo}
-use Rattle.interleaving.proofs.CountLemmas.{goes_on_none, goes_on_push, counts_push}
+use Rattle.interleaving.proofs.CountLemmas.{goes_on_push, counts_push}
 
 -- in a reached state the log of a legal Act takes its entry
 pub takes_entry : (plan : LabPlan) (s : State) (event : Event) → IsReached plan s → TakesEntry plan s event
@@ -57,15 +56,7 @@ reached_with plan s s' counts counts' event h step more = record {
   counted = counts_push plan h.reached.events event counts counts' h.counted more;
 }
 
--- a job of a reached world stands within its plan
-pub world_phase : (plan : LabPlan) (s : State) (counts : List Counts) (j : ℕ)
-    → IsReachedWith plan s counts → j < length plan.jobs → IsPhaseOf plan j (phase s j)
-world_phase plan s counts j h job = ((reached_fits plan s h.reached).seats_fit j job).phase_within
-
 -- ---- replays
-
-pub leads_none : (w : WorldView) → LeadsTo w [] w
-leads_none w = record { run = record { legal = tt; leads = refl }; counted = goes_on_none w.counts; same_plan = refl }
 
 pub leads_more : (w mid new : WorldView) (events : List Event) (n : ℕ) (event : Event)
     → n < length events → event ≡ slice_index_or events n event → LeadsTo w (take n events) mid

@@ -5,14 +5,12 @@ use Rattle.lab_plan.specs.IsPlan.{IsPlan}
 use Rattle.legal_steps.specs.declared.event.Event.{Event}
 use Rattle.legal_steps.specs.State.{State}
 use Rattle.legal_steps.specs.Fitting.{Fits}
-use Rattle.legal_steps.specs.Legal.{May, IsLegal, after}
-use Rattle.legal_steps.specs.Holding.{AreTruthful, IsExclusive}
+use Rattle.legal_steps.specs.Legal.{IsLegal}
 use Rattle.legal_steps.specs.Opening.{IsOpening}
 use Rattle.legal_steps.specs.Precedence.{IsAcyclic}
 use Rattle.legal_steps.specs.Reached.{IsReached}
 use Rattle.legal_steps.proofs.RunLemmas.{runs_push}
-use Rattle.legal_steps.proofs.ExclusionLaw.{exclusive}
-use Rattle.legal_steps.proofs.ReachedInvariant.{IsSound, sound_opening, sound_after_all, truthful, acyclic_after_all}
+use Rattle.legal_steps.proofs.ReachedInvariant.{IsSound, sound_opening, sound_after_all, acyclic_after_all}
 
 abbrev pub reached_opening : (plan : LabPlan) (s : State) → IsPlan plan → IsOpening plan s → IsAcyclic plan s → IsReached plan s
 reached_opening plan s is_plan opens acyclic = record {
@@ -34,21 +32,12 @@ reached_legal plan s event s' h step = record {
   run = runs_push plan h.opening s s' h.events event h.run step;
 }
 
-pub reached_step : (plan : LabPlan) (s : State) (event : Event) → IsReached plan s → May plan s event → IsReached plan (after plan s event)
-reached_step plan s event h may = reached_legal plan s event (after plan s event) h (record { may = may; leads = refl })
-
 pub reached_sound : (plan : LabPlan) (s : State) → IsReached plan s → IsSound plan s
 reached_sound plan s h =
     subst (IsSound plan) (sym h.run.leads) (sound_after_all plan h.opening h.events (sound_opening plan h.opening h.is_opening) h.run.legal)
 
 pub reached_fits : (plan : LabPlan) (s : State) → IsReached plan s → Fits plan s
 reached_fits plan s h = (reached_sound plan s h).fits
-
-pub reached_truthful : (plan : LabPlan) (s : State) → IsReached plan s → AreTruthful plan s
-reached_truthful plan s h = truthful plan s (reached_sound plan s h)
-
-pub reached_exclusive : (plan : LabPlan) (s : State) → IsReached plan s → IsExclusive plan s
-reached_exclusive plan s h = exclusive plan s h.is_plan (reached_sound plan s h).served
 
 pub reached_acyclic : (plan : LabPlan) (s : State) → IsReached plan s → IsAcyclic plan s
 reached_acyclic plan s h =

@@ -182,11 +182,6 @@ module _ (p : LabPlan) where
       let e : suc j ≡ j + 1 = omega arith in
       ap (λ (z : List Hand). let v : View = record { hands = rest_hands z; front = []; told = [] } in v) (undealt_next j l) ∙ ap (undealt p) e
 
-  pub undealt_first : undealt p 0 ≡ first_view p
-  undealt_first =
-      let e : length p.jobs - 0 ≡ length p.jobs = omega arith in
-      ap (λ (z : ℕ). let v : View = record { hands = fresh p 0 z; front = []; told = [] } in v) e
-
   pub undealt_last : undealt p (length p.jobs) ≡ nothing
   undealt_last =
       let e : length p.jobs - length p.jobs ≡ 0 = omega arith in

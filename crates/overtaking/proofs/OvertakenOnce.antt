@@ -2,7 +2,6 @@
 use Rattle.std.proofs.Common.{◌≡◌, ◌≢◌, ◌⊎◌, ℕ, zero, suc, ◌+◌, ◌-◌, ◌<◌, ◌≤◌, length, slice_index_or, slice_set, drop, not, ◌&&◌, ◌||◌, Bool, true, false, cond, List, [], ◌∷◌, arith, refl, sym, subst, ap, ◌∙◌, inl, inr, slice_get, Some, add-one}
 use Rattle.std.proofs.lemmas.Bool.Decides.{nat_tests}
 use Rattle.std.proofs.lemmas.Bool.{cases_eq, cases_Bool, false≢true}
-use Rattle.std.proofs.lemmas.List.{drop_more}
 use Rattle.std.proofs.lemmas.List.Sums.{sum_by-cons}
 use Rattle.lab_plan.specs.LabPlan.{LabPlan}
 use Rattle.legal_steps.specs.declared.end.End.{End}
@@ -420,14 +419,3 @@ overtaken_once plan opening events place j e opens legal here =
     let own = asks_own plan opening events place j e legal here in
     rw add-one (from_ask plan j (neighbour plan j e) e (neighbour_own plan j e own)
     (neighbour_apart plan j e own) opening events place (sound_opening plan opening opens) legal here)
-
--- counted one event at a time
-pub stops_there : (u v : ℕ) (events : List Event) (k : ℕ) (event : Event) → k < length events
-    → event ≡ slice_index_or events k event → is_sit u event ≡ true → meals_before v u (drop k events) ≡ 0
-stops_there u v events k event inside is stop =
-    ap (meals_before v u) (drop_more events k event inside ∙ ap (λ x. x ∷ drop (k + 1) events) (sym is)) ∙ stopped u v event (drop (k + 1) events) stop
-
-pub counts_on : (u v : ℕ) (events : List Event) (k : ℕ) (event : Event) → k < length events → event ≡ slice_index_or events k event
-    → is_sit u event ≡ false → meals_before v u (drop k events) ≡ begins (is_sit v event) + meals_before v u (drop (k + 1) events)
-counts_on u v events k event inside is go =
-    ap (meals_before v u) (drop_more events k event inside ∙ ap (λ x. x ∷ drop (k + 1) events) (sym is)) ∙ goes_on u v event (drop (k + 1) events) go

@@ -23,16 +23,6 @@ pub record IsReading (done : List (List ℕ)) (number : ℕ) (s : State) : Type 
   pub shown : shown s ≡ lines
   pub tied : IsTied s
 
-pub starts : IsReading [] 1 opening
-starts = record {
-  placed = omega arith;
-  lines = [];
-  are = refl;
-  leads = refl;
-  shown = refl;
-  tied = record { fresh = λ h. (refl, refl, refl); due = λ h. (refl, refl) };
-}
-
 leads_on : (s : State) (lines : List Line) (t u : State) (line : Line) → Leads s lines t → cause_in t line ≡ None → u ≡ after t line
     → Leads s (lines ++ line ∷ []) u
 leads_on s [] t u line h clean is = (subst (λ x. cause_in x line ≡ None) (sym h) clean, ap (λ x. after x line) h ∙ sym is)
@@ -112,9 +102,6 @@ are_words (part ∷ parts) (line ∷ lines) e =
 pub ends_well : (parts : List (List ℕ)) (n : ℕ) (s : State) (report : ReportText) → IsReading parts n s → Ends s (Ok report)
     → map words parts ≡ map words_of (lines_of report)
 ends_well parts n s report h e = are_words parts h.lines h.are ∙ ap (map words_of) (sym h.shown ∙ whole s report h.tied e)
-
-pub left_over : (parts : List (List ℕ)) (tail : List ℕ) (n : ℕ) (s : State) → IsReading parts n s → (tail ≡ [] → ⊥) → IsCutOff parts tail n NotWhole
-left_over parts tail n s h more = (s, known parts n s h, h.placed, refl, inl more)
 
 pub ends_badly : (parts : List (List ℕ)) (tail : List ℕ) (n : ℕ) (s : State) (cause : ReportCause) → IsReading parts n s → Ends s (Err cause)
     → IsCutOff parts tail n cause

@@ -171,9 +171,6 @@ visits_append plan j s (v ∷ vs) us a b = (
       (subst (λ (z : State). AreVisits plan j z us) (learned_all-append plan s (visit_events j v) (visits_events j vs)) b),
 )
 
-pub visits_none : (j : ℕ) (w : WorldView) (l : List Event) → VisitsEdges w l j [] w l
-visits_none j w l = record { visits = []; edges = refl; due = tt; none_lost = refl; does = does_none w l }
-
 pub visits_both : (j : ℕ) (old mid new : WorldView) (before between later : List Event) (es fs : List ℕ) → VisitsEdges old before j es mid between →
     VisitsEdges mid between j fs new later → VisitsEdges old before j (es ++ fs) new later
 visits_both j old mid new before between later es fs a b =

@@ -12,8 +12,8 @@ use Rattle.script_reader.specs.declared.fault.ScriptCause.TheVariants.{NoHeader,
 use Rattle.script_reader.specs.declared.form.Version.TheVariants.{One, Two}
 use Rattle.script_reader.specs.Line.{Line, Header, Job, Session, PatientSession, Command, End, Steps, Unknown, is_job_line, is_session, is_command, is_lab_two, verb_number}
 use Rattle.script_reader.specs.Plan.{plan_of, jobs_of, job_of, instruments_of, up_to_next, patience_of, verb_of}
-use Rattle.script_reader.specs.Script.{is_open, is_empty, count, has, cause_at, cause_at_end}
-use Rattle.script_reader.specs.State.{state_of, cause_in, end_cause_in, at, is_two}
+use Rattle.script_reader.specs.Script.{is_open, is_empty, count, has, cause_at}
+use Rattle.script_reader.specs.State.{state_of, cause_in, at, is_two}
 use Rattle.script_reader.specs.Number.{is_number}
 use Rattle.script_reader.proofs.OneMore.{begins, jobs-session, jobs-command, jobs-other}
 use Rattle.script_reader.proofs.OnLast.{last_pushed, last_changed, same_length}
@@ -107,6 +107,3 @@ cause_is before (Command name verb) counted =
 cause_is before End counted = refl
 cause_is before Steps counted = refl
 cause_is before Unknown counted = refl
-
-pub end_cause_is : (before : List Line) → cause_at_end before ≡ end_cause_in (state_of before)
-end_cause_is before = refl

@@ -1,5 +1,5 @@
 -- The loop over the script part of a text with steps.
-use Rattle.std.proofs.Common.{◌≡◌, ℕ, ◌+◌, ◌≤◌, true, false, List, [], ◌∷◌, ◌++◌, length, drop, refl, sym, ap, ◌∙◌, subst, arith, length-append, length-drop, append_assoc, append-nil, ⊎_elim, inr, suc, zero}
+use Rattle.std.proofs.Common.{◌≡◌, ℕ, ◌+◌, ◌≤◌, true, false, List, [], ◌∷◌, ◌++◌, length, drop, refl, sym, ap, ◌∙◌, subst, arith, length-drop, append_assoc, append-nil, ⊎_elim, inr, suc, zero}
 use Rattle.std.specs.Prelude.{Ok, Err}
 use Rattle.std.proofs.Math.ListN.{drop_of_length-le, length-map}
 use Rattle.bstr.specs.Text.{lines_from, line_len}
@@ -10,9 +10,9 @@ use Rattle.script_reader.specs.declared.fault.ScriptCause.{ScriptCause}
 use Rattle.script_reader.specs.declared.fault.ScriptFault.{ScriptFault}
 use Rattle.script_reader.specs.Line.{form_of}
 use Rattle.script_reader.specs.Script.{text_lines, LinesMean, Refuses}
-use Rattle.script_reader.specs.State.{State, state_of, ReadsForm, Ends}
+use Rattle.script_reader.specs.State.{State, ReadsForm, Ends}
 use Rattle.script_reader.specs.Steps.{is_steps_line, script_part, steps_part, first_step, AreSteps, RefusesSteps, StepsMean, StepsRefuse}
-use Rattle.script_reader.proofs.ReaderLoop.{IsReading, starts, reads, stops, stops_at_end, ends_well, all_read}
+use Rattle.script_reader.proofs.ReaderLoop.{IsReading, reads, stops, stops_at_end, ends_well, all_read}
 
 -- ---- how many lines there are
 
@@ -31,18 +31,6 @@ few_lines text = let few = few_from (length text) text in simp length-map few
 pub record IsAt (lines done rest : List (List ℕ)) (number : ℕ) (s : State) : Type 0 where
   pub split : lines ≡ done ++ rest
   pub reading : IsReading (script_part lines) done (script_part rest) number s
-
-pub begins : (lines : List (List ℕ)) → IsAt lines [] lines 1 (state_of [])
-begins lines = record { split = refl; reading = starts (script_part lines) }
-
--- the number fits
-pub fits : (text : List ℕ) (done rest : List (List ℕ)) (number : ℕ) (s : State) → IsAt (text_lines text) done rest number s → number ≤ length text + 1
-fits text done rest number s h =
-    let few = few_lines text in
-    let all = ap length h.split in
-    let sum = length-append done rest in
-    let count = h.reading.placed in
-    omega (arith, few, all, sum, count)
 
 -- a line that isn't `steps`
 other : (line : List ℕ) (rest : List (List ℕ)) → is_steps_line line ≡ false → script_part (line ∷ rest) ≡ line ∷ script_part rest

@@ -1,5 +1,5 @@
 -- The loop over the lines of a step list.
-use Rattle.std.proofs.Common.{◌≡◌, ℕ, ◌+◌, ◌≤◌, List, [], ◌∷◌, ◌++◌, length, refl, sym, ap, ◌∙◌, subst, arith, length-append, append_assoc, append-nil, ◌⊎◌, ⊎_elim, inl, inr}
+use Rattle.std.proofs.Common.{◌≡◌, ℕ, ◌+◌, ◌≤◌, List, [], ◌∷◌, ◌++◌, length, refl, sym, ap, ◌∙◌, subst, arith, length-append, append_assoc, ◌⊎◌, ⊎_elim, inl, inr}
 use Rattle.std.specs.Prelude.{Option, None, Some, Ok, Err, map, nat_le}
 use Rattle.std.proofs.lemmas.List.{map-append}
 use Rattle.std.proofs.lemmas.Bool.{cases_Bool, leb-false}
@@ -8,7 +8,7 @@ use Rattle.legal_steps.specs.declared.event.Step.{Step}
 use Rattle.legal_steps.specs.declared.event.StepLine.{StepLine}
 use Rattle.script_reader.specs.declared.fault.ScriptCause.{ScriptCause}
 use Rattle.script_reader.specs.declared.fault.ScriptCause.TheVariants.{NoHeader, UnknownWord, BadName, BadNumber, JobTwice, NotInSession, NotInJob, EmptySession, SessionNotClosed, LimitPassed, TooManyInCommon, NoMemory, BadStep}
-use Rattle.script_reader.specs.Steps.{step_in, list_of, placed, AreSteps, step_cause, IsFaultInSteps, AreCleanUpTo, ReadsStep}
+use Rattle.script_reader.specs.Steps.{step_in, list_of, placed, step_cause, IsFaultInSteps, AreCleanUpTo, ReadsStep}
 use Rattle.script_reader.proofs.ReaderLoop.{numbered-append, one_line, no_line, counts}
 
 -- these lines are read, and these are left
@@ -17,9 +17,6 @@ pub record IsListing (plan : LabPlan) (first : ℕ) (lines done rest : List (Lis
   pub counted : number ≡ first + length done
   pub are : list_of plan first done ≡ map placed steps
   pub few : length steps ≤ 1000000
-
-pub begins : (plan : LabPlan) (first : ℕ) (lines : List (List ℕ)) → IsListing plan first lines [] lines first []
-begins plan first lines = record { split = refl; counted = omega arith; are = refl; few = omega arith }
 
 -- the number of the next line fits
 pub fits : (plan : LabPlan) (first : ℕ) (lines : List (List ℕ)) (line : List ℕ) (done rest : List (List ℕ)) (number : ℕ) (steps : List StepLine)
@@ -100,8 +97,3 @@ stops plan first lines line done rest n steps steps' (Some found) LimitPassed is
 stops plan first lines line done rest n steps steps' (Some found) TooManyInCommon is h e =
     faulty plan first lines line done rest n steps found TooManyInCommon h is e
 stops plan first lines line done rest n steps steps' (Some found) BadStep is h e = faulty plan first lines line done rest n steps found BadStep h is e
-
--- the end
-pub ends : (plan : LabPlan) (first : ℕ) (lines done : List (List ℕ)) (n : ℕ) (steps : List StepLine)
-    → IsListing plan first lines done [] n steps → AreSteps plan first lines steps
-ends plan first lines done n steps h = (ap (list_of plan first) (h.split ∙ append-nil done) ∙ h.are, h.few)

@@ -32,10 +32,6 @@ dark_shown (b ∷ bytes) dark =
 
 -- ---- the lines of a text
 
-length_zero : (bytes : List ℕ) → length bytes ≤ 0 → bytes ≡ []
-length_zero [] h = refl
-length_zero (b ∷ bytes) h = absurd (omega arith)
-
 line_len_some : (b : ℕ) (bytes : List ℕ) → 0 < line_len (b ∷ bytes)
 unfolding line_len
 line_len_some b bytes = ⊎_elim (λ is. rw is (omega arith)) (λ is. rw is (omega arith)) (cases_Bool (b == 10))

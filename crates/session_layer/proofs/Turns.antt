@@ -82,9 +82,6 @@ count-snoc : (f : Visit → Bool) (vs : List Visit) (v : Visit) → count f (vs 
 count-snoc f [] v = omega arith
 count-snoc f (x ∷ vs) v = let e = count-snoc f vs v in omega (arith, e)
 
-pub along_none : (d : DeskView) → Along d [] 0 0 d
-along_none d = record { visits = []; edges = refl; all = refl; done_is = refl; lost_is = refl; plan = refl; job = refl; table = refl }
-
 pub along_more : (d m d' : DeskView) (es : List ℕ) (e done lost : ℕ) (r : Visited) → Along d es done lost m
     → IsVisited m e r d' → Along d (es ++ e ∷ []) (done + done_by r) (lost + lost_by r) d'
 along_more d m d' es e done lost r a v = let f = visits_frame m v.visit d' v.visits in record {

@@ -1,6 +1,6 @@
 -- What is wrong with entries and job lines, where they lie.
-use Rattle.std.proofs.Common.{◌≡◌, ℕ, Bool, true, false, not, cond, ◌+◌, ◌-◌, ◌<◌, ◌≤◌, List, [], ◌∷◌}
-use Rattle.std.proofs.Common.{Option, None, Some, length, map, slice_index_or, arith, refl, sym, ap, ◌∙◌, subst, inl, inr, nat_lt, nat_eq}
+use Rattle.std.proofs.Common.{◌≡◌, ℕ, Bool, true, false, not, ◌+◌, ◌-◌, ◌<◌, ◌≤◌, List}
+use Rattle.std.proofs.Common.{Option, None, Some, length, map, slice_index_or, arith, refl, sym, ap, ◌∙◌, subst, inl, inr, nat_eq}
 use Rattle.std.specs.List.{slice_get}
 use Rattle.std.specs.Option.{option_eq}
 use Rattle.std.proofs.lemmas.Bool.{false≢true, cases_lt}

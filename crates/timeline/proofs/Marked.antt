@@ -1,11 +1,11 @@
 -- Marks, and which of some stand behind another of them.
-use Rattle.std.proofs.Common.{◌≡◌, ℕ, zero, suc, ◌+◌, ◌<◌, ◌≤◌, Bool, true, false, List, [], ◌∷◌, length, slice_index_or, get_or, set, inl, inr, refl, sym, ◌∙◌, ap, subst, arith, get_or-set_other, get_or-set_same, length-set, ◌≢◌}
-use Rattle.std.specs.Prelude.{◌⊎◌, replicate, not, Option, None, Some, MatchOption}
+use Rattle.std.proofs.Common.{◌≡◌, ℕ, zero, suc, ◌+◌, ◌<◌, ◌≤◌, Bool, true, false, List, [], ◌∷◌, length, slice_index_or, set, inl, inr, refl, sym, ◌∙◌, ap, subst, arith, get_or-set_other, get_or-set_same, length-set, ◌≢◌}
+use Rattle.std.specs.Prelude.{◌⊎◌, not, Option, None, Some, MatchOption}
 use Rattle.std.specs.Option.{is_some}
 use Rattle.std.specs.List.{Contains}
 use Rattle.std.proofs.lemmas.Bool.{cases_eq, cases_lt, false≢true}
-use Rattle.std.proofs.lemmas.List.Elements.{Contains-get_or, at_from_Contains}
-use Rattle.timeline.specs.Orders.{IsOpen, IsBehind, AreBehindBelow, AreBehind, AreStuck}
+use Rattle.std.proofs.lemmas.List.Elements.{Contains-get_or}
+use Rattle.timeline.specs.Orders.{IsOpen, IsBehind, AreBehindBelow, AreStuck}
 
 pub open_within : (marks : List Bool) (y : ℕ) → IsOpen marks y → y < length marks
 open_within [] y is = absurd (false≢true is)
@@ -62,27 +62,6 @@ behind_yes pairs marks behind k x y inside is first second b = record {
   ];
 }
 
-pub behind_no : (pairs : List (ℕ × ℕ)) (marks behind : List Bool) (k x y : ℕ) → slice_index_or pairs k (0, 0) ≡ (x, y)
-    → (IsOpen marks x → IsOpen marks y → ⊥) → AreBehindBelow pairs marks k behind → AreBehindBelow pairs marks (k + 1) behind
-behind_no pairs marks behind k x y is not_both b = record {
-  long = b.long;
-  only = b.only;
-  all = λ i v w below at one two. elim (cases_eq i k) [
-    | inl same ↦
-        let pair : (v, w) ≡ (x, y) = sym at ∙ ap (λ j. slice_index_or pairs j (0, 0)) same ∙ is in
-        absurd (not_both (subst (IsOpen marks) (ap (λ (p : ℕ × ℕ). p.0) pair) one) (subst (IsOpen marks) (ap (λ (p : ℕ × ℕ). p.1) pair) two))
-    | inr other ↦ b.all i v w (omega (arith, below, other)) at one two
-  ];
-}
-
-pub none_open : (n y : ℕ) (marks : List Bool) → marks ≡ replicate n false → IsOpen marks y → ⊥
-none_open n y marks is marked = false≢true (sym (at_false n y) ∙ ap (λ m. get_or m y false) (sym is) ∙ marked)
-  where
-    at_false : (n y : ℕ) → get_or (replicate n false) y false ≡ false
-    at_false zero y = refl
-    at_false (suc n) zero = refl
-    at_false (suc n) (suc y) = at_false n y
-
 pub each_marked : (marks : List Bool) (n : ℕ) (P : ℕ → Type 0) → length marks ≤ n → ((k : ℕ) → k < n → IsOpen marks k → P k) → (y : ℕ) → IsOpen marks y → P y
 each_marked marks n P past below y is =
     let within = open_within marks y is in
@@ -90,11 +69,6 @@ each_marked marks n P past below y is =
 
 pub none_marked : (marks : List Bool) (n : ℕ) → length marks ≤ n → ((k : ℕ) → k < n → ¬ IsOpen marks k) → (y : ℕ) → ¬ IsOpen marks y
 none_marked marks n past below y is = each_marked marks n (λ _. ⊥) past below y is
-
-pub is_marked : (pairs : List (ℕ × ℕ)) (marks behind : List Bool) (y : ℕ) → AreBehind pairs marks behind → IsBehind pairs marks y → IsOpen behind y
-is_marked pairs marks behind y are is =
-    let at = at_from_Contains pairs (is.x, y) is.pair in
-    are.all at.0 is.x y at.1 (at.2 (0, 0)) is.first is.marked
 
 -- where one is marked and none of the marked is ready, they are stuck
 pub stuck_of : (pairs : List (ℕ × ℕ)) (marks : List Bool) (one found : Option ℕ) (no_one no_ready : Bool)

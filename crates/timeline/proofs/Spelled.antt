@@ -1,6 +1,6 @@
 -- Lists that are read where they lie, and as they are spelled.
 use Rattle.std.proofs.Common.{◌≡◌, ℕ, Bool, not, cond, ◌+◌, ◌<◌, ◌≤◌, List, [], ◌∷◌}
-use Rattle.std.proofs.Common.{Option, None, Some, length, map, slice_index_or, arith, refl, sym, ap, ◌∙◌, subst, nat_lt}
+use Rattle.std.proofs.Common.{None, Some, length, map, slice_index_or, arith, refl, sym, ap, ◌∙◌, subst, nat_lt}
 use Rattle.std.specs.List.{position, position_or_len, prefix_len, slice_get}
 use Rattle.std.specs.Option.{option_map}
 use Rattle.std.proofs.lemmas.Option.{slice_get-map, slice_get-get_or, slice_get_within}

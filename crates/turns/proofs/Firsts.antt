@@ -12,10 +12,6 @@ pub refused : (b : Bool) (M : Type 0) → (b ≡ true) ↔ M → b ≡ false →
 refused b M test is m = false≢true (sym is ∙ test.1 m)
 
 module _ (plan : LabPlan) (s : State) (j waited : ℕ) where
-  pub passed_over : (x : Event) (later events : List Event) → ¬ Counts plan s j waited x
-      → AreFirst plan s j waited later events → AreFirst plan s j waited (x ∷ later) events
-  passed_over x later events other rest = inr (other, rest)
-
   pub illegal : (x : Event) → ¬ May plan s x → ¬ Counts plan s j waited x
   illegal x other c = other c.0
 

@@ -66,9 +66,6 @@ no_events m j e h = empty_on m.give_fork (m.give_bottles == 0) m.ask_fork (m.ask
 abbrev look_of : ℕ → Visit → Event
 look_of j v = Look j v.edge v.saw
 
-looks_of : ℕ → List Visit → List Event
-looks_of j vs = map (λ (v : Visit). Look j v.edge v.saw) vs
-
 none_either : (lost : Bool) (events : List Event) → events ≡ [] → (if lost then [] else events) ≡ []
 none_either true events is = refl
 none_either false events is = is
