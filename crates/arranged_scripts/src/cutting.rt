@@ -1,5 +1,5 @@
-// A script is cut into its head and a block of lines for each job. Comments directly above a job's line are the job's own.
-// How it is cut is judged by what the pieces are read as, in another order.
+//! A script is cut into its head and a block of lines for each job. Comments directly above a job's line are the job's own.
+//! How it is cut is judged by what the pieces are read as, in another order.
 ghost use Rattle.std.specs.Prelude.{◌≡◌, ◌≤◌, ◌<◌, ◌++◌, ℕ, [], length, map, slice_index_or, OnOk, IfOk, IfSome};
 ghost use Rattle.std.specs.List.{All, flat_map, concat};
 ghost use Rattle.std.specs.Io.BufRead.{ends_with_byte};

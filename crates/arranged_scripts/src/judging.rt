@@ -1,4 +1,4 @@
-// A script with its jobs in another order, judged by what it is read as.
+//! A script with its jobs in another order, judged by what it is read as.
 ghost use Rattle.std.specs.Prelude.{IfOk, IfSome};
 ghost use Rattle.script_reader.specs.Script.{ScriptMeans};
 ghost use Rattle.arranged_scripts.specs.Arranged.{IsArranged};

@@ -1,4 +1,4 @@
-// What holds of arranged scripts. The law is the contract of a function that does nothing.
+//! What holds of arranged scripts. The law is the contract of a function that does nothing.
 ghost use Rattle.arranged_scripts.specs.Arranged.{ArrangedTextsHaveShortChains};
 
 use arranging::laws::arranged_chains_are_short;

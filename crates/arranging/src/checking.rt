@@ -1,4 +1,4 @@
-// Whether colours of jobs are a colouring.
+//! Whether colours of jobs are a colouring.
 ghost use Rattle.std.specs.Prelude.{◌≡◌, ◌≢◌, ℕ, ◌<◌, ◌≤◌, true, length, slice_index};
 ghost use Rattle.std.specs.List.{All};
 ghost use Rattle.lab_plan.specs.LabPlan.{edges, ends};

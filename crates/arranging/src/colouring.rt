@@ -1,4 +1,4 @@
-// Colours of a plan's jobs.
+//! Colours of a plan's jobs.
 ghost use Rattle.std.specs.Prelude.{◌≡◌, ◌≤◌, IfOk, length};
 ghost use Rattle.std.specs.List.{range_with_len};
 ghost use Rattle.lab_plan.specs.Limits.{most_jobs};

@@ -1,4 +1,4 @@
-// A colouring by saturation (DSATUR, Brélaz 1979). Nothing is said of it in contracts: what it finds is checked.
+//! A colouring by saturation (DSATUR, Brélaz 1979). Nothing is said of it in contracts: what it finds is checked.
 ghost use Rattle.std.specs.Prelude.{◌≡◌, ◌<◌, ◌≤◌, length, IfSome, IfOk};
 
 use lab_plan::{JobNo, MOST_JOBS, Plan};

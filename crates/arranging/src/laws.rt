@@ -1,4 +1,4 @@
-// What holds of orders by colour. Each law is the contract of a function that does nothing.
+//! What holds of orders by colour. Each law is the contract of a function that does nothing.
 ghost use Rattle.arranging.specs.Colours.{OrdersKeepJobs, OrdersClimb};
 ghost use Rattle.arranging.specs.Chains.{ChainsAreShort};
 ghost use Rattle.arranging.specs.Reordered.{ArrangedChainsAreShort};

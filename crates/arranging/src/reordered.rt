@@ -1,4 +1,4 @@
-// Whether a plan has the jobs of another in the order of their colours.
+//! Whether a plan has the jobs of another in the order of their colours.
 ghost use Rattle.std.specs.Prelude.{◌≡◌, ◌≢◌, ◌↔◌, ℕ, ◌<◌, IsTrue, length, slice_index};
 ghost use Rattle.std.specs.List.{All};
 ghost use Rattle.lab_plan.specs.LabPlan.{edges, ends};

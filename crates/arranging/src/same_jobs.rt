@@ -1,4 +1,4 @@
-// Whether jobs of two plans are the same, with their instruments by name.
+//! Whether jobs of two plans are the same, with their instruments by name.
 ghost use Rattle.std.specs.Prelude.{◌≡◌, ◌<◌, ◌≤◌, ◌↔◌, IsTrue, length, map};
 ghost use Rattle.std.specs.List.{All};
 ghost use Rattle.lab_plan.specs.LabPlan.{sessions, session_at, job_at};

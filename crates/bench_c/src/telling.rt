@@ -1,4 +1,4 @@
-// How a call ends: what it leaves in the caller's memory, and its status.
+//! How a call ends: what it leaves in the caller's memory, and its status.
 ghost use Rattle.std.specs.Prelude.{◌≡◌, Err};
 ghost use Rattle.bench_c.specs.Telling.{cause_number, told_of, Gives, Fails};
 ghost use Rattle.lab_program.specs.Faults.{status_of};

@@ -1,4 +1,4 @@
-// The benches that the tests open, and the scripts of their plans.
+//! The benches that the tests open, and the scripts of their plans.
 ghost use Rattle.std.specs.Prelude.{IsTrue};
 ghost use Rattle.legal_steps.specs.State.{IsOwn};
 ghost use Rattle.locality.specs.Lists.{Each};

@@ -1,4 +1,4 @@
-// Calls on desks, and what they answer.
+//! Calls on desks, and what they answer.
 ghost use Rattle.legal_steps.specs.State.{IsOwn};
 ghost use Rattle.locality.specs.Lists.{Each};
 ghost use Rattle.edge_rule.specs.DeskView.{Owns};

@@ -1,4 +1,4 @@
-// Worked runs, whose answers were worked out by hand: forks, bottles, all moves at once, marks, counts and patience.
+//! Worked runs, whose answers were worked out by hand: forks, bottles, all moves at once, marks, counts and patience.
 use crate::benches::{A, AB, AC, B, BC, C, IMPATIENT, THREE, TWICE, TWO};
 use crate::calls::Answer::{Far, Found, Is, Word};
 use crate::calls::Call::{Glance, Look, May, Seen, Store, Try};

@@ -1,4 +1,4 @@
-// Benches that are closed: what they leave, and desks that are missing.
+//! Benches that are closed: what they leave, and desks that are missing.
 ghost use Rattle.std.specs.Prelude.{◌≡◌, ◌++◌, ◌∷◌, []};
 ghost use Rattle.locality.specs.Lists.{Each};
 ghost use Rattle.edge_rule.specs.DeskView.{Owns};

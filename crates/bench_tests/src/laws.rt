@@ -1,4 +1,4 @@
-// That each law can be called: it is the contract of a function that does nothing.
+//! That each law can be called: it is the contract of a function that does nothing.
 
 #[test]
 fn laws_of_locality() {

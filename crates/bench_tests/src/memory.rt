@@ -1,4 +1,4 @@
-// Memory that is refused when a bench is opened or closed, each growth in turn.
+//! Memory that is refused when a bench is opened or closed, each growth in turn.
 use crate::benches::{THREE, TWO, plan_of};
 use crate::closes::{BOTH_DRANK, BOTH_DRINK, closes};
 use edge_rule::{Bench, OpenError};

@@ -1,4 +1,4 @@
-// Desks that meet, that tell each other what they saw, and that threads call at once.
+//! Desks that meet, that tell each other what they saw, and that threads call at once.
 ghost use Rattle.locality.specs.Lists.{Each};
 ghost use Rattle.edge_rule.specs.DeskView.{Owns};
 

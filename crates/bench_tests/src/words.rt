@@ -1,5 +1,5 @@
-// Words by what they say. The word of an edge is that of its fork and those of its bottles, as `DIRTY_A | BOTTLE_A`: A stands for the edge's
-// lower job, and B for the higher. A thing is ASKED where its request token is at the same job: the other has asked for it.
+//! Words by what they say. The word of an edge is that of its fork and those of its bottles, as `DIRTY_A | BOTTLE_A`: A stands for the edge's
+//! lower job, and B for the higher. A thing is ASKED where its request token is at the same job: the other has asked for it.
 use edge_word::{EdgeWord, PhaseWord};
 use legal_steps::{EdgeState, JobState};
 

@@ -1,4 +1,4 @@
-// The command line as clap is told of it.
+//! The command line as clap is told of it.
 ghost use Rattle.std.specs.Prelude.{◌≡◌, IfOk, false};
 ghost use Rattle.clap.specs.Words.{app_of, rule_of, with_subcommand};
 ghost use Rattle.command_line.specs.Command.{number_rule, program_app, word_app};

@@ -1,4 +1,4 @@
-// What clap found in the words.
+//! What clap found in the words.
 ghost use Rattle.std.specs.Prelude.{◌≡◌};
 ghost use Rattle.clap.specs.Words.{found_of, kind_of, rows_of};
 ghost use Rattle.command_line.specs.Reading.{IsReason, number_found};

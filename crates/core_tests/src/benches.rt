@@ -1,4 +1,4 @@
-// The benches that the tests run: scripts of their plans, and steps that are taken on them.
+//! The benches that the tests run: scripts of their plans, and steps that are taken on them.
 ghost use Rattle.std.specs.Prelude.{IsTrue};
 ghost use Rattle.legal_steps.specs.Steps.{IsStepOf};
 

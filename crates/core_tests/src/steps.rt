@@ -1,4 +1,4 @@
-// Worked cases, whose answers were worked out by hand.
+//! Worked cases, whose answers were worked out by hand.
 ghost use Rattle.std.specs.Prelude.{IsTrue};
 ghost use Rattle.std.specs.List.{All};
 ghost use Rattle.legal_steps.specs.Steps.{IsStepOf};

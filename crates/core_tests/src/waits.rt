@@ -1,4 +1,4 @@
-// What a job that waits can count on: worked cases, whose answers were worked out by hand.
+//! What a job that waits can count on: worked cases, whose answers were worked out by hand.
 ghost use Rattle.std.specs.Prelude.{IsTrue};
 ghost use Rattle.legal_steps.specs.State.{IsOwn};
 

@@ -1,4 +1,4 @@
-// The search for a cycle.
+//! The search for a cycle.
 ghost use Rattle.std.specs.Prelude.{◌≡◌, ℕ, ◌<◌, ◌≤◌, ◌++◌, length, drop, take, slice_index_or, MatchOption, IfOk, IfSome};
 ghost use Rattle.std.specs.List.{All};
 ghost use Rattle.cycles.specs.Cycles.{AreBelow, IsAmong, IsCycleOf, HasNoCycle, BeginsWithSmallest};

@@ -1,4 +1,4 @@
-// The one reason to refuse.
+//! The one reason to refuse.
 use std::alloc::{AllocError, AllocFailed};
 
 /// A growth was refused.

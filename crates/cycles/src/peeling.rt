@@ -1,4 +1,4 @@
-// Taking out jobs that lead on to none that is left. `left` says by number which jobs are left.
+//! Taking out jobs that lead on to none that is left. `left` says by number which jobs are left.
 ghost use Rattle.std.specs.Prelude.{◌≡◌, ℕ, ◌<◌, length, MatchOption, IfSome};
 ghost use Rattle.cycles.specs.Cycles.{AreBelow};
 ghost use Rattle.cycles.specs.Peeling.{IsLeft, LeadsOn, IsSink, IsSinkLeft, EachLeadsOn, NoCycleBeginsOut};

@@ -1,4 +1,4 @@
-// Ranking jobs along pairs that have no cycle.
+//! Ranking jobs along pairs that have no cycle.
 ghost use Rattle.std.specs.Prelude.{◌≡◌, ℕ, ◌≤◌, IfOk};
 ghost use Rattle.cycles.specs.Cycles.{AreBelow, IsAmong, HasNoCycle};
 ghost use Rattle.cycles.specs.Rankings.{IsRanking};

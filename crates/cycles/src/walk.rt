@@ -1,4 +1,4 @@
-// A walk that comes back.
+//! A walk that comes back.
 ghost use Rattle.std.specs.Prelude.{◌≡◌, ℕ, ◌<◌, List, length, slice_index_or, IfOk};
 ghost use Rattle.std.specs.List.{Contains};
 ghost use Rattle.cycles.specs.Cycles.{AreBelow, IsAmong, IsCycleOf};

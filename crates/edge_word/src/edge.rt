@@ -1,4 +1,4 @@
-// The word of an edge.
+//! The word of an edge.
 ghost use Rattle.std.specs.Prelude.{◌≡◌, ◌≢◌, ℕ, ◌%◌, ◌^◌, ◌<◌, ◌≤◌, [], ◌∷◌, IfSome, IfNone, IsTrue, ◌↔◌};
 ghost use Rattle.lab_plan.specs.Limits.{most_bottles};
 ghost use Rattle.legal_steps.specs.declared.edge_state.EdgeState.{EdgeState};

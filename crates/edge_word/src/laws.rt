@@ -1,4 +1,4 @@
-// What holds of all words. Each law is the contract of a function that does nothing.
+//! What holds of all words. Each law is the contract of a function that does nothing.
 ghost use Rattle.edge_word.specs.WordLaws.{HasTheBitsOfTheTable, HasTheFieldsOfTheTable, NoTwoEdgesShareAWord, NoTwoPhasesShareAWord, OpensAsTheOpening, OpensAtZero, MovesAreEvents, MovesChangeOnlyTheirEdge, StaysOfItsBottles, LegalMovesAreOfTheEdge, LegalGroupsAreShort, MovesAreReadBack};
 
 /// The word of an edge is the one number that has the bits of the table at `EdgeWord`.

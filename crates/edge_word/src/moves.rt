@@ -1,4 +1,4 @@
-// The moves that one job does on one edge in one step.
+//! The moves that one job does on one edge in one step.
 ghost use Rattle.std.specs.Prelude.{◌≡◌, ◌≤◌, IsTrue, ◌↔◌};
 
 /// Moves of one job on one edge, done at once in the order of the fields. Bit `k` of a set stands for bottle `k`

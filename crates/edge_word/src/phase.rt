@@ -1,4 +1,4 @@
-// The word of a job's phase.
+//! The word of a job's phase.
 ghost use Rattle.std.specs.Prelude.{◌≡◌, ◌≢◌, ◌^◌, ◌<◌, IfSome, IfNone, IsTrue, ◌↔◌};
 ghost use Rattle.legal_steps.specs.declared.phase.JobState.{JobState};
 ghost use Rattle.edge_word.specs.Phases.{dining_code, drinking_code, phase_word_of, FitsPhaseWord, IsPhaseWord};

@@ -1,4 +1,4 @@
-// What is said of a list of steps.
+//! What is said of a list of steps.
 ghost use Rattle.std.specs.Prelude.{◌≡◌, ◌++◌, decimal, map, IfOk, OnOk};
 ghost use Rattle.std.specs.List.{All};
 ghost use Rattle.legal_steps.specs.Legal.{May};

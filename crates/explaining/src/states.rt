@@ -1,4 +1,4 @@
-// How a job and its edges are.
+//! How a job and its edges are.
 ghost use Rattle.std.specs.Prelude.{◌≡◌, ◌<◌, ◌++◌, length, decimal, OnOk};
 ghost use Rattle.lab_plan.specs.LabPlan.{edges, bottles};
 ghost use Rattle.legal_steps.specs.State.{IsOwn};

@@ -1,4 +1,4 @@
-// How a command turns a dial.
+//! How a command turns a dial.
 ghost use Rattle.std.specs.Prelude.{◌≡◌, ◌≤◌};
 ghost use Rattle.lab_plan.specs.Limits.{largest_number};
 ghost use Rattle.lab_plan.specs.Verbs.{Fits};

@@ -1,4 +1,4 @@
-// An entry of a log.
+//! An entry of a log.
 ghost use Rattle.std.specs.Prelude.{◌≡◌, IsTrue, ◌↔◌};
 
 use lab_plan::{JobNo, LARGEST_NUMBER, MOST_COMMANDS, MOST_JOBS, MOST_SESSIONS, Verb};

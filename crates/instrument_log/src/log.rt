@@ -1,4 +1,4 @@
-// The log of one instrument.
+//! The log of one instrument.
 ghost use Rattle.std.specs.Prelude.{◌≡◌, ◌≢◌, ◌+◌, ◌-◌, ◌<◌, ◌≤◌, length, map, slice_get, Some, IfOk, IsTrue, ◌↔◌};
 ghost use Rattle.std.specs.Option.{MatchOption, option_map_or};
 ghost use Rattle.instrument_log.specs.Entries.{IsWithinLimits, entry_bytes};

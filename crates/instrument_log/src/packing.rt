@@ -1,4 +1,4 @@
-// An entry as 16 bytes.
+//! An entry as 16 bytes.
 ghost use Rattle.std.specs.Prelude.{◌≡◌, ◌≢◌, ℕ, ◌+◌, ◌*◌, IfSome, IfNone};
 ghost use Rattle.lab_plan.specs.Verbs.{verb_number};
 ghost use Rattle.instrument_log.specs.declared.entry.Entry.{Entry};

@@ -1,4 +1,4 @@
-// Why a log refuses an entry.
+//! Why a log refuses an entry.
 
 /// Why a log refuses an entry. Of several reasons the first in this order is given.
 #[derive(Clone, Copy, PartialEq, Eq, Debug)]

@@ -1,4 +1,4 @@
-// Commands that are done: entries at the ends of logs.
+//! Commands that are done: entries at the ends of logs.
 ghost use Rattle.std.specs.Prelude.{◌≡◌, ℕ, ◌<◌, ◌≤◌, ◌↔◌, IsTrue, length};
 ghost use Rattle.instrument_log.specs.Dial.{turned, dial};
 ghost use Rattle.instrument_log.specs.Entries.{IsWithinLimits};

@@ -1,4 +1,4 @@
-// What each job has done so far.
+//! What each job has done so far.
 ghost use Rattle.std.specs.Prelude.{◌≡◌, ◌<◌, length, replicate, IfOk};
 ghost use Rattle.legal_steps.specs.Counting.{no_counts};
 ghost use Rattle.interleaving.specs.Counting.{count_at, counted, CanCount};

@@ -1,4 +1,4 @@
-// Hunger, forks and meals.
+//! Hunger, forks and meals.
 ghost use Rattle.std.specs.Prelude.{◌≡◌, ◌↔◌, IsTrue};
 ghost use Rattle.legal_steps.specs.declared.event.Event.TheVariants.{AskFork, GiveFork, Soil, Hunger, Sit, Leave};
 ghost use Rattle.legal_steps.specs.Legal.{May, after};

@@ -1,4 +1,4 @@
-// Sessions: thirst, commands that are reached for, and the ends of sessions.
+//! Sessions: thirst, commands that are reached for, and the ends of sessions.
 ghost use Rattle.std.specs.Prelude.{◌≡◌, ◌↔◌, IsTrue};
 ghost use Rattle.legal_steps.specs.declared.event.Event.TheVariants.{Thirst, Drink, Reach, Quit, Retire, Withdraw};
 ghost use Rattle.legal_steps.specs.Legal.{May, after};

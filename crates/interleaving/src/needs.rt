@@ -1,4 +1,4 @@
-// What a job needs: marks on its edges, and bottles.
+//! What a job needs: marks on its edges, and bottles.
 ghost use Rattle.std.specs.Prelude.{◌≡◌, ℕ, ◌<◌, ◌≤◌, ◌↔◌, IsTrue, length};
 ghost use Rattle.lab_plan.specs.Limits.{most_bottles};
 ghost use Rattle.lab_plan.specs.LabPlan.{edges, edges_of, bottles};

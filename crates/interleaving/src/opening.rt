@@ -1,4 +1,4 @@
-// The tables of an opening state.
+//! The tables of an opening state.
 ghost use Rattle.std.specs.Prelude.{◌≡◌, ℕ, ◌<◌, ◌≤◌, ◌↔◌, IsTrue, length, replicate, false, IfOk, slice_index_or};
 ghost use Rattle.lab_plan.specs.LabPlan.{edges};
 ghost use Rattle.legal_steps.specs.State.{IsOfEdge, idle_phase};

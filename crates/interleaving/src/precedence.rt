@@ -1,4 +1,4 @@
-// Precedence among jobs: who eats first on each edge.
+//! Precedence among jobs: who eats first on each edge.
 ghost use Rattle.std.specs.Prelude.{◌≡◌, ℕ, ◌<◌, ◌↔◌, IsTrue, true, false, length, IfOk};
 ghost use Rattle.std.specs.List.{Contains};
 ghost use Rattle.cycles.specs.Cycles.{IsAmong, AreBelow};

@@ -1,4 +1,4 @@
-// Why a world isn't started.
+//! Why a world isn't started.
 use cycles::NoMemory;
 use std::alloc::AllocError;
 

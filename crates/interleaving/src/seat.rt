@@ -1,4 +1,4 @@
-// One job's seat: how far it is and its marks, by edge number.
+//! One job's seat: how far it is and its marks, by edge number.
 ghost use Rattle.std.specs.Prelude.{◌≡◌, ◌<◌, length, slice_index_or, false, replicate, IfOk};
 ghost use Rattle.legal_steps.specs.State.{idle_phase};
 ghost use Rattle.legal_steps.specs.Legal.{with_fork_mark, with_bottle_marks, turned_to};

@@ -1,4 +1,4 @@
-// What a job sees: its edges, and how far others are.
+//! What a job sees: its edges, and how far others are.
 ghost use Rattle.std.specs.Prelude.{◌≡◌, ◌↔◌, IsTrue};
 ghost use Rattle.legal_steps.specs.declared.event.Event.TheVariants.{Look, Glance};
 ghost use Rattle.legal_steps.specs.Legal.{May, after};

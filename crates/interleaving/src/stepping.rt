@@ -1,4 +1,4 @@
-// One event of any kind.
+//! One event of any kind.
 ghost use Rattle.std.specs.Prelude.{◌≡◌, ◌↔◌, IsTrue};
 ghost use Rattle.legal_steps.specs.Legal.{May, after};
 ghost use Rattle.interleaving.specs.Step.{IsStep, TakesEntry};

@@ -1,4 +1,4 @@
-// Steps as they are written in a list: what a look or a glance sees is what is there.
+//! Steps as they are written in a list: what a look or a glance sees is what is there.
 ghost use Rattle.std.specs.Prelude.{◌≡◌, map};
 ghost use Rattle.std.specs.List.{All};
 ghost use Rattle.legal_steps.specs.Steps.{IsStepOf, event_of, step_events};

@@ -1,4 +1,4 @@
-// A world: a plan, and a state of its bench that legal events have led to from an opening without a cycle.
+//! A world: a plan, and a state of its bench that legal events have led to from an opening without a cycle.
 ghost use Rattle.std.specs.Prelude.{◌≡◌, ℕ, ◌<◌, ◌↔◌, IsTrue, length, IfOk, IfErr};
 ghost use Rattle.cycles.specs.Cycles.{IsAmong, AreBelow};
 ghost use Rattle.lab_plan.specs.LabPlan.{edges};

@@ -1,4 +1,4 @@
-// A source over bytes in memory. No read of it fails.
+//! A source over bytes in memory. No read of it fails.
 ghost use Rattle.std.specs.Prelude.{◌≡◌, Some};
 
 use lab_program::Source;

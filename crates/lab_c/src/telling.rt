@@ -1,4 +1,4 @@
-// How a call ends: what it leaves in the caller's memory, and its status.
+//! How a call ends: what it leaves in the caller's memory, and its status.
 ghost use Rattle.std.specs.Prelude.{◌≡◌};
 ghost use Rattle.lab_c.specs.Calls.{cause_number, told_of, Tells};
 

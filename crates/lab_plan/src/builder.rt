@@ -1,4 +1,4 @@
-// Building a plan, one line of its script at a time.
+//! Building a plan, one line of its script at a time.
 ghost use Rattle.std.specs.Prelude.{◌≡◌, ℕ, ◌<◌, ◌≤◌, length, None, Some, true, IsTrue, ◌↔◌, ◌&&◌, ◌||◌, nat_le, IfOk, IfErr, OnOk};
 ghost use Rattle.std.specs.Option.{ForSome};
 ghost use Rattle.lab_plan.specs.LabPlan.{LabPlan, all_commands};

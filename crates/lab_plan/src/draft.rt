@@ -1,4 +1,4 @@
-// What a builder builds and a plan keeps: the jobs and the names of the instruments.
+//! What a builder builds and a plan keeps: the jobs and the names of the instruments.
 ghost use Rattle.std.specs.Prelude.{◌≡◌, ◌≢◌, ℕ, ◌-◌, ◌<◌, ◌≤◌, ◌&&◌, nat_lt, length, take, slice_index_or, [], ◌∷◌, ◌++◌, is_ok, if◌then◌else◌, IfNone, true};
 ghost use Rattle.std.specs.List.{position, AllPairs};
 ghost use Rattle.std.specs.Str.{bytes_eq};

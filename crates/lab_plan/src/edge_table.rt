@@ -1,4 +1,4 @@
-// The edges of a plan: their ends, the number of a pair of jobs, and the edges of each job.
+//! The edges of a plan: their ends, the number of a pair of jobs, and the edges of each job.
 ghost use Rattle.std.specs.Prelude.{◌≡◌, ℕ, ◌+◌, ◌*◌, ◌<◌, ◌≤◌, ◌++◌, length, filter, map, slice_index_or, slice_get, Contains, IfOk, IfSome, IfNone};
 ghost use Rattle.std.specs.List.{All, range_with_len};
 ghost use Rattle.lab_plan.specs.Limits.{most_jobs, most_instruments};

@@ -1,4 +1,4 @@
-// Sets of instruments, a bit for each.
+//! Sets of instruments, a bit for each.
 ghost use Rattle.std.specs.Prelude.{◌≡◌, ℕ, ◌<◌, ◌≤◌, ◌||◌, ◌==◌, length, filter};
 ghost use Rattle.std.specs.List.{All, list_any, range_with_len};
 ghost use Rattle.lab_plan.specs.Limits.{most_instruments};

@@ -1,4 +1,4 @@
-// Jobs and their sessions.
+//! Jobs and their sessions.
 ghost use Rattle.std.specs.Prelude.{◌≡◌, ℕ, ◌-◌, ◌≤◌, ◌<◌, ◌&&◌, ◌==◌, nat_lt, [], ◌∷◌, ◌++◌, length, slice_index_or, is_ok, if◌then◌else◌};
 ghost use Rattle.std.specs.Str.{bytes_eq};
 ghost use Rattle.lab_plan.specs.LabPlan.{no_session};

@@ -1,4 +1,4 @@
-// The limits of a plan. `specs/Limits.antt` has them in words, and `proofs/SameLimits.antt` says that these are they.
+//! The limits of a plan. `specs/Limits.antt` has them in words, and `proofs/SameLimits.antt` says that these are they.
 
 /// Jobs of a plan. The format of scripts sets it, as the other limits (`docs/FORMATS.md`, *Numbers and limits*).
 pub const MOST_JOBS: usize = 32;

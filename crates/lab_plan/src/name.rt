@@ -1,4 +1,4 @@
-// Names of jobs and instruments.
+//! Names of jobs and instruments.
 ghost use Rattle.std.specs.Prelude.{◌≡◌, IfOk};
 ghost use Rattle.std.specs.List.{list_all};
 ghost use Rattle.std.specs.Str.{bytes_eq};

@@ -1,4 +1,4 @@
-// Which instruments each job names, as sets.
+//! Which instruments each job names, as sets.
 ghost use Rattle.std.specs.Prelude.{◌≡◌, ℕ, ◌<◌, ◌≤◌, length, slice_index_or};
 ghost use Rattle.std.specs.List.{All, list_any};
 ghost use Rattle.lab_plan.specs.Limits.{most_jobs, most_instruments};

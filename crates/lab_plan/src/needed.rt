@@ -1,4 +1,4 @@
-// The bottles that a session needs.
+//! The bottles that a session needs.
 ghost use Rattle.std.specs.Prelude.{◌<◌, ◌≤◌, length};
 ghost use Rattle.lab_plan.specs.LabPlan.{edges, sessions};
 ghost use Rattle.lab_plan.specs.NeededBottles.{AreNamed};

@@ -1,4 +1,4 @@
-// The place of a command.
+//! The place of a command.
 
 /// The place of a command within its session's part on its instrument.
 #[derive(Clone, Copy, PartialEq, Eq, Debug)]

@@ -1,4 +1,4 @@
-// A plan, kept with the tables of its edges and bottles.
+//! A plan, kept with the tables of its edges and bottles.
 ghost use Rattle.std.specs.Prelude.{◌≡◌, ℕ, ◌-◌, ◌^◌, ◌<◌, ◌≤◌, length, slice_index, slice_index_or, slice_get, All, Contains, IfSome, IfNone, if◌then◌else◌, []};
 ghost use Rattle.std.specs.Int.{bit_at};
 

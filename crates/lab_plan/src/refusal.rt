@@ -1,4 +1,4 @@
-// Why a plan's builder refuses a call.
+//! Why a plan's builder refuses a call.
 use std::alloc::{AllocError, AllocFailed};
 
 /// Why a plan's builder refuses a call. Of several reasons the first of these is given: an empty

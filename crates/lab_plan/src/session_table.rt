@@ -1,4 +1,4 @@
-// What is kept of each session: what it needs, its parts, and the place of each command in its part.
+//! What is kept of each session: what it needs, its parts, and the place of each command in its part.
 ghost use Rattle.std.specs.Prelude.{◌≡◌, ℕ, ◌<◌, ◌≤◌, ◌-◌, length, slice_index_or, IfOk};
 ghost use Rattle.std.specs.List.{All};
 ghost use Rattle.lab_plan.specs.Limits.{most_instruments, most_commands};

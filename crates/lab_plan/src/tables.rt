@@ -1,4 +1,4 @@
-// The tables of a plan, made from its draft in one go.
+//! The tables of a plan, made from its draft in one go.
 ghost use Rattle.std.specs.Prelude.{◌≡◌, ℕ, ◌-◌, ◌<◌, ◌≤◌, [], length, slice_index_or, IfOk};
 ghost use Rattle.lab_plan.specs.IsPlan.{IsDraft};
 ghost use Rattle.lab_plan.specs.SessionTables.{no_table};

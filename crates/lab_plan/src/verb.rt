@@ -1,4 +1,4 @@
-// What a command does to an instrument's dial.
+//! What a command does to an instrument's dial.
 ghost use Rattle.std.specs.Prelude.{IsTrue, ◌↔◌};
 
 use crate::limits::LARGEST_NUMBER;

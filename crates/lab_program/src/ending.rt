@@ -1,4 +1,4 @@
-// How a program ends: what it says, and its status.
+//! How a program ends: what it says, and its status.
 ghost use Rattle.std.specs.Prelude.{◌≡◌};
 ghost use Rattle.std.specs.Process.{exit_status};
 ghost use Rattle.lab_program.specs.Faults.{status_of};

@@ -1,4 +1,4 @@
-// How a run ends, and why it fails.
+//! How a run ends, and why it fails.
 ghost use Rattle.std.specs.Prelude.{◌≡◌};
 ghost use Rattle.lab_program.specs.Faults.{status_of, status_of_cause};
 

@@ -1,4 +1,4 @@
-// Numbers of the command line: plain digits, with any number of leading zeros.
+//! Numbers of the command line: plain digits, with any number of leading zeros.
 ghost use Rattle.std.specs.Prelude.{◌≡◌, ◌≤◌, true, min, IfSome};
 ghost use Rattle.std.specs.List.{list_all};
 ghost use Rattle.lab_plan.specs.Names.{is_digit};

@@ -1,4 +1,4 @@
-// The whole input, up to its limit.
+//! The whole input, up to its limit.
 ghost use Rattle.std.specs.Prelude.{◌≡◌, ◌+◌, ◌-◌, ◌≤◌, vec_len, IfOk, OnOk, IfSome, IsErrOf};
 ghost use Rattle.lab_program.specs.Input.{ConsumesUpTo, Grows, IsTooLong};
 ghost use Rattle.lab_program.specs.Faults.{read_failures};

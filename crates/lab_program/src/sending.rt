@@ -1,4 +1,4 @@
-// What is written: a text and then a flush.
+//! What is written: a text and then a flush.
 ghost use Rattle.std.specs.Prelude.{◌≡◌, []};
 ghost use Rattle.report.specs.Taken.{Sends};
 

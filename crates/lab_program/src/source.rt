@@ -1,4 +1,4 @@
-// Where bytes come from, as contracts see it.
+//! Where bytes come from, as contracts see it.
 ghost use Rattle.std.specs.Prelude.{◌≡◌, ◌+◌, ◌<◌, ℕ, List, Option, None, length, is_ok, if◌then◌else◌};
 ghost use Rattle.std.specs.Io.{ReadsAtMost};
 ghost use Rattle.std.specs.Io.KnownBytes.{ReadConsumes};

@@ -1,4 +1,4 @@
-// What the words of both programs have in common, and their help.
+//! What the words of both programs have in common, and their help.
 ghost use Rattle.std.specs.Prelude.{◌≡◌, map};
 ghost use Rattle.std.specs.Str.{bytes_eq};
 ghost use Rattle.lab_program.specs.Words.{asks_for_help};

@@ -1,4 +1,4 @@
-// The counts of a plan.
+//! The counts of a plan.
 ghost use Rattle.std.specs.Prelude.{◌≡◌, ◌<◌, ◌≤◌, length, IfOk, string_bytes};
 ghost use Rattle.lab_plan.specs.IsPlan.{IsPlan};
 ghost use Rattle.lab_plan.specs.LabPlan.{sessions};

@@ -1,4 +1,4 @@
-// What the program does with a script and its steps: replay them.
+//! What the program does with a script and its steps: replay them.
 ghost use Rattle.std.specs.Prelude.{◌≡◌, ◌+◌};
 ghost use Rattle.std.specs.List.{All};
 ghost use Rattle.legal_steps.specs.Opening.{the_opening};

@@ -1,4 +1,4 @@
-// What the program does with a script alone: check it, upgrade it.
+//! What the program does with a script alone: check it, upgrade it.
 ghost use Rattle.std.specs.Prelude.{◌≡◌, ◌+◌};
 ghost use Rattle.lab_program.specs.Input.{ConsumesUpTo};
 ghost use Rattle.lab_program.specs.Faults.{failed_reads, failed_writes};

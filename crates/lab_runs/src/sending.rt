@@ -1,4 +1,4 @@
-// What an upgrade writes: a script and then a flush.
+//! What an upgrade writes: a script and then a flush.
 ghost use Rattle.lab_plan.specs.Upgrade.{script_text};
 ghost use Rattle.report.specs.Taken.{Sends};
 

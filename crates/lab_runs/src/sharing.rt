@@ -1,4 +1,4 @@
-// What the program does with a script on a shared bench: its jobs take turns, in rounds or by threads.
+//! What the program does with a script on a shared bench: its jobs take turns, in rounds or by threads.
 ghost use Rattle.std.specs.Prelude.{◌≡◌, ◌+◌, ◌≤◌};
 ghost use Rattle.lab_program.specs.Input.{ConsumesUpTo};
 ghost use Rattle.lab_program.specs.Faults.{failed_reads, failed_writes};

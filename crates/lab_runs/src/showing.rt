@@ -1,4 +1,4 @@
-// The report of a run, and how the run has ended.
+//! The report of a run, and how the run has ended.
 ghost use Rattle.std.specs.Prelude.{◌≡◌, ◌+◌};
 ghost use Rattle.report.specs.Taken.{Sends};
 ghost use Rattle.report.specs.Report.{report_of, all_retired};

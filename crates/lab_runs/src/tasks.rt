@@ -1,4 +1,4 @@
-// Which task runs what.
+//! Which task runs what.
 ghost use Rattle.std.specs.Prelude.{◌≡◌, ◌+◌};
 ghost use Rattle.lab_program.specs.Input.{ConsumesUpTo};
 ghost use Rattle.lab_program.specs.Faults.{failed_reads, failed_writes};

@@ -1,4 +1,4 @@
-// The picture over time of a script's run by rounds.
+//! The picture over time of a script's run by rounds.
 ghost use Rattle.std.specs.Prelude.{◌≡◌, ◌+◌, length, IfOk};
 ghost use Rattle.round_picture.specs.Gantt.{gantt_of};
 ghost use Rattle.lab_program.specs.Input.{ConsumesUpTo};

@@ -1,4 +1,4 @@
-// How a picture, a trace and an arrangement end: what is said, and the status.
+//! How a picture, a trace and an arrangement end: what is said, and the status.
 ghost use Rattle.std.specs.Prelude.{◌≡◌};
 ghost use Rattle.std.specs.Process.{exit_status};
 ghost use Rattle.lab_program.specs.Faults.{status_of};

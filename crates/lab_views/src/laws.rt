@@ -1,4 +1,4 @@
-// What holds of traces, and of pictures and tables of what was printed. Each law is the contract of a function that does nothing.
+//! What holds of traces, and of pictures and tables of what was printed. Each law is the contract of a function that does nothing.
 ghost use Rattle.lab_views.specs.Printed.{PrintedIsDrawn, PrintedIsTabulated};
 ghost use Rattle.lab_views.specs.Traces.{TracesTheRun, TraceIsReplayed};
 

@@ -1,4 +1,4 @@
-// Why no picture is drawn.
+//! Why no picture is drawn.
 ghost use Rattle.std.specs.Prelude.{◌≡◌};
 ghost use Rattle.lab_views.specs.Pictures.{status_of_picture, for_report, for_timeline, for_reading};
 

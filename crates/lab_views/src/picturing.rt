@@ -1,4 +1,4 @@
-// Pictures of reports.
+//! Pictures of reports.
 ghost use Rattle.std.specs.Prelude.{◌≡◌, ◌+◌};
 ghost use Rattle.report.specs.Taken.{Sends};
 ghost use Rattle.timeline.specs.Timelines.{IsTimeline};

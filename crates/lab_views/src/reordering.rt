@@ -1,4 +1,4 @@
-// A script with its jobs in another order, in which chains at the start are short.
+//! A script with its jobs in another order, in which chains at the start are short.
 ghost use Rattle.std.specs.Prelude.{◌≡◌, ◌+◌};
 ghost use Rattle.lab_program.specs.Input.{ConsumesUpTo};
 ghost use Rattle.lab_program.specs.Faults.{failed_reads, failed_writes};

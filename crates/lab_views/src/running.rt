@@ -1,4 +1,4 @@
-// Explanations of the steps of an input.
+//! Explanations of the steps of an input.
 ghost use Rattle.std.specs.Prelude.{◌≡◌, ◌+◌};
 ghost use Rattle.lab_program.specs.Input.{ConsumesUpTo};
 ghost use Rattle.lab_program.specs.Faults.{failed_reads, failed_writes};

@@ -1,4 +1,4 @@
-// Tables of reports.
+//! Tables of reports.
 ghost use Rattle.std.specs.Prelude.{◌≡◌, ◌+◌};
 ghost use Rattle.lab_program.specs.Input.{ConsumesUpTo};
 ghost use Rattle.lab_views.specs.Pictures.{failed_picture_reads, failed_picture_writes};

@@ -1,4 +1,4 @@
-// Who keeps whom waiting in a script's run by rounds.
+//! Who keeps whom waiting in a script's run by rounds.
 ghost use Rattle.std.specs.Prelude.{◌≡◌, ◌+◌, IfOk};
 ghost use Rattle.std.specs.List.{All};
 ghost use Rattle.block_lines.specs.Text.{IsOfPlan, blocks_text};

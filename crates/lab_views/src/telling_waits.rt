@@ -1,4 +1,4 @@
-// Where the waiting of a script's run by rounds comes from, as numbers.
+//! Where the waiting of a script's run by rounds comes from, as numbers.
 ghost use Rattle.std.specs.Prelude.{◌≡◌, ◌+◌, ◌<◌, length, IfOk};
 ghost use Rattle.std.specs.List.{All};
 ghost use Rattle.waiting.specs.Text.{waits_text};

@@ -1,4 +1,4 @@
-// The run of a script by rounds, as a script with its steps.
+//! The run of a script by rounds, as a script with its steps.
 ghost use Rattle.std.specs.Prelude.{◌≡◌, ◌++◌, ◌+◌, OnOk, IfOk};
 ghost use Rattle.std.specs.List.{All};
 ghost use Rattle.std.specs.Io.BufRead.{ends_with_byte};

@@ -1,4 +1,4 @@
-// The words of the command line.
+//! The words of the command line.
 ghost use Rattle.std.specs.Prelude.{◌≡◌, map};
 ghost use Rattle.lab_views.specs.Words.{AnswersWords, view_named, view_of, view_of_rounds, view_over};
 

@@ -1,4 +1,4 @@
-// The words of the command line.
+//! The words of the command line.
 ghost use Rattle.std.specs.Prelude.{◌≡◌, map, codes, IfOk};
 ghost use Rattle.clap.specs.Words.{app_of, subcommand_rows_of, with_subcommand};
 ghost use Rattle.command_line.specs.Command.{word_of_number, word_of_numbers};

@@ -1,4 +1,4 @@
-// All moves of a plan's jobs, legal or not.
+//! All moves of a plan's jobs, legal or not.
 ghost use Rattle.std.specs.Prelude.{◌≡◌, ◌<◌, ◌++◌, length, IfOk, OnOk};
 ghost use Rattle.lab_plan.specs.LabPlan.{edges};
 ghost use Rattle.legal_moves.specs.Moves.{own_moves, fork_moves, bottle_moves, edge_moves, moves_of, all_moves};

@@ -1,4 +1,4 @@
-// What the list of moves leaves out. Each law is the contract of a function that does nothing.
+//! What the list of moves leaves out. Each law is the contract of a function that does nothing.
 ghost use Rattle.legal_moves.specs.Laws.{IsAlwaysLegal, IsEveryStep, AreBottlesAlone};
 
 /// A look at an edge of one's own and a glance at another job are legal in every state.

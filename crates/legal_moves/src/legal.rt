@@ -1,4 +1,4 @@
-// The moves that are legal now.
+//! The moves that are legal now.
 ghost use Rattle.std.specs.Prelude.{IfOk};
 ghost use Rattle.std.specs.List.{All};
 ghost use Rattle.legal_steps.specs.Steps.{IsStepOf};

@@ -1,4 +1,4 @@
-// Sets of bottles, as the bits of a number.
+//! Sets of bottles, as the bits of a number.
 ghost use Rattle.std.specs.Prelude.{◌≡◌, ◌<◌, ◌↔◌, IsTrue};
 ghost use Rattle.legal_steps.specs.State.{Has, bottle_end as end_of_bottle};
 

@@ -1,4 +1,4 @@
-// Where the things of an edge are.
+//! Where the things of an edge are.
 ghost use Rattle.std.specs.Prelude.{◌≡◌, ◌<◌, ◌↔◌, IsTrue, length};
 ghost use Rattle.lab_plan.specs.LabPlan.{edges};
 

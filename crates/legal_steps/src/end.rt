@@ -1,4 +1,4 @@
-// The two ends of an edge.
+//! The two ends of an edge.
 ghost use Rattle.std.specs.Prelude.{◌≡◌};
 
 use lab_plan::{EdgeNo, JobNo, Plan};

@@ -1,4 +1,4 @@
-// Atomic steps, as events and as they are written in a list of steps.
+//! Atomic steps, as events and as they are written in a list of steps.
 use crate::edge_state::EdgeState;
 use crate::phase::JobState;
 use lab_plan::{EdgeNo, JobNo};

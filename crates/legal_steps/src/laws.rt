@@ -1,4 +1,4 @@
-// The laws of marks, instruments, things and precedence. Each is the contract of a function that does nothing.
+//! The laws of marks, instruments, things and precedence. Each is the contract of a function that does nothing.
 ghost use Rattle.legal_steps.specs.Laws.{HasOneHolder, HasOnePlace, MarksAreTruthful, OpeningsAreChosen, StaysAcyclic, StaysWithinPlan, TheOpeningIsAcyclic};
 
 /// After each beginning of a legal list of events, all numbers of the state are the plan's:

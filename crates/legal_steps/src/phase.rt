@@ -1,4 +1,4 @@
-// How far a job is: what it dines, what it drinks, and where in its sessions it stands.
+//! How far a job is: what it dines, what it drinks, and where in its sessions it stands.
 ghost use Rattle.std.specs.Prelude.{◌≡◌, ◌≢◌, ◌+◌, ◌<◌, ◌≤◌, ◌↔◌, IsSome, IsTrue, length};
 ghost use Rattle.std.specs.Option.{ForSome};
 ghost use Rattle.lab_plan.specs.LabPlan.{commands, patience, sessions};

@@ -1,4 +1,4 @@
-// The laws of waiting. Each is the contract of a function that does nothing.
+//! The laws of waiting. Each is the contract of a function that does nothing.
 ghost use Rattle.overtaking.specs.Laws.{IsOvertakenOnce, IsNeverStuck, QuietIsRetired};
 
 pub use legal_steps::laws::no_cycle;

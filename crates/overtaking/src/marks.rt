@@ -1,4 +1,4 @@
-// Whether a job's marks are what a look would set.
+//! Whether a job's marks are what a look would set.
 ghost use Rattle.std.specs.Prelude.{◌↔◌, IsTrue};
 ghost use Rattle.legal_steps.specs.State.{IsOwn};
 ghost use Rattle.overtaking.specs.Stuck.{IsUpToDate};

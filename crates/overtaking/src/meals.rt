@@ -1,4 +1,4 @@
-// Overtaking, counted in a list of events.
+//! Overtaking, counted in a list of events.
 ghost use Rattle.std.specs.Prelude.{◌≡◌, ◌≤◌, ◌<◌, length, slice_get, Some};
 ghost use Rattle.lab_plan.specs.LabPlan.{edges};
 ghost use Rattle.legal_steps.specs.declared.event.Event.TheVariants.{AskFork};

@@ -1,4 +1,4 @@
-// Jobs in the order in which they precede one another.
+//! Jobs in the order in which they precede one another.
 ghost use Rattle.std.specs.Prelude.{IfOk};
 ghost use Rattle.overtaking.specs.Rankings.{IsRankingOf};
 

@@ -1,4 +1,4 @@
-// A way on: an event that is legal and changes the state.
+//! A way on: an event that is legal and changes the state.
 ghost use Rattle.std.specs.Prelude.{◌≡◌, ℕ, ◌<◌, ◌↔◌, IsTrue, length, IfSome, IfNone};
 ghost use Rattle.std.specs.List.{All};
 ghost use Rattle.lab_plan.specs.LabPlan.{edges, bottles};

@@ -1,4 +1,4 @@
-// What is drawn in the row of an instrument.
+//! What is drawn in the row of an instrument.
 ghost use Rattle.std.specs.Prelude.{◌≡◌, ◌+◌, ◌*◌, ◌-◌, ◌≤◌, ◌++◌, ◌<◌, ◌^◌, length};
 ghost use Rattle.report_reader.specs.Form.{entry_text};
 ghost use Rattle.picture.specs.Boxes.{edges, edges_end, label, session_title, named_box, titled_box, box_text, tick, deed, deed_title, tick_at, tick_text, entry_line};

@@ -1,4 +1,4 @@
-// Where columns begin.
+//! Where columns begin.
 ghost use Rattle.std.specs.Prelude.{◌≡◌, ◌<◌, ◌^◌};
 ghost use Rattle.picture.specs.Columns.{has_room, left_of};
 

@@ -1,4 +1,4 @@
-// The lines of a picture.
+//! The lines of a picture.
 ghost use Rattle.std.specs.Prelude.{◌≡◌, ◌+◌, ◌≤◌, ◌++◌, length};
 ghost use Rattle.picture.specs.Looks.{name_text};
 

@@ -1,4 +1,4 @@
-// The line of an entry, field by field.
+//! The line of an entry, field by field.
 ghost use Rattle.std.specs.Prelude.{◌≡◌, ◌++◌, OnOk};
 ghost use Rattle.report_reader.specs.Form.{entry_text};
 ghost use Rattle.picture.specs.LogTable.{name_field, number_field, verb_fields, place_fields, session_fields, entry_line};

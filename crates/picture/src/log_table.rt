@@ -1,4 +1,4 @@
-// The table of a report.
+//! The table of a report.
 ghost use Rattle.std.specs.Prelude.{◌≡◌, ◌+◌, ◌<◌, ◌++◌, length, map, slice_index_or, OnOk, IfOk};
 ghost use Rattle.std.specs.List.{flat_map};
 ghost use Rattle.report_reader.specs.Form.{entry_text};

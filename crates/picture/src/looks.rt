@@ -1,4 +1,4 @@
-// How jobs are told apart.
+//! How jobs are told apart.
 ghost use Rattle.std.specs.Prelude.{◌≡◌, ◌+◌, ◌≤◌, ◌++◌, ◌<◌, length};
 ghost use Rattle.picture.specs.Looks.{colour, dashes, look};
 

@@ -1,4 +1,4 @@
-// The head of the picture, the head of a row, the lines of the table of jobs, and the end.
+//! The head of the picture, the head of a row, the lines of the table of jobs, and the end.
 ghost use Rattle.std.specs.Prelude.{◌≡◌, ◌+◌, ◌*◌, ◌≤◌, ◌++◌, ◌<◌, length, max};
 ghost use Rattle.lab_plan.specs.Limits.{most_jobs, most_instruments};
 ghost use Rattle.report_reader.specs.Line.{state_word, last_word};

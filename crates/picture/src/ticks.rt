@@ -1,4 +1,4 @@
-// The entries of a log, each by its place in it.
+//! The entries of a log, each by its place in it.
 ghost use Rattle.std.specs.Prelude.{◌≡◌, ◌<◌, length, map};
 ghost use Rattle.report_reader.specs.Form.{entry_text, job_text};
 ghost use Rattle.picture.specs.Picture.{is_first, is_open, entry_at};

@@ -1,4 +1,4 @@
-// The picture of a report, a line at a time.
+//! The picture of a report, a line at a time.
 ghost use Rattle.std.specs.Prelude.{◌≡◌, ◌<◌, ◌≤◌, length, map, codes};
 ghost use Rattle.std.specs.List.{flat_map, range_with_len};
 ghost use Rattle.lab_plan.specs.Limits.{most_jobs, most_instruments};

@@ -1,4 +1,4 @@
-// A job's next command, and the entry that it adds to the log of its instrument.
+//! A job's next command, and the entry that it adds to the log of its instrument.
 ghost use Rattle.std.specs.Prelude.{◌≡◌, ◌<◌, [], length};
 ghost use Rattle.lab_plan.specs.LabPlan.{command_at};
 ghost use Rattle.instrument_log.specs.Dial.{turned, dial};

@@ -1,4 +1,4 @@
-// Empty logs with room for all that a plan puts into them.
+//! Empty logs with room for all that a plan puts into them.
 ghost use Rattle.std.specs.Prelude.{◌≡◌, ℕ, ◌+◌, ◌<◌, ◌≤◌, length, slice_index_or, IfOk};
 ghost use Rattle.lab_plan.specs.IsPlan.{IsPlan};
 ghost use Rattle.lab_plan.specs.LabPlan.{sessions, part};

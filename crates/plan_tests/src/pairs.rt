@@ -1,4 +1,4 @@
-// Cycles and rankings of pairs of jobs, worked out by hand, and memory that is refused.
+//! Cycles and rankings of pairs of jobs, worked out by hand, and memory that is refused.
 ghost use Rattle.std.specs.List.{All};
 ghost use Rattle.cycles.specs.Cycles.{AreBelow};
 

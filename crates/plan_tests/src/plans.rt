@@ -1,5 +1,5 @@
-// What no clause says of the builder: that its calls succeed, and go on once memory is there again; and
-// each reader of a plan on plans worked out by hand.
+//! What no clause says of the builder: that its calls succeed, and go on once memory is there again; and
+//! each reader of a plan on plans worked out by hand.
 use crate::rows::check;
 use asking::{ends_of, instrument_name, job_of, session_of};
 use lab_plan::name::is_name;

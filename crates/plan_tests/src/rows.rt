@@ -1,4 +1,4 @@
-// What rows of tables compare. The check stands here once, as each place that can end a test makes its proof longer.
+//! What rows of tables compare. The check stands here once, as each place that can end a test makes its proof longer.
 use std::fmt::Debug;
 use std::process::Abort;
 

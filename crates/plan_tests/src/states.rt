@@ -1,4 +1,4 @@
-// That each law can be called, and the answers of the functions that have one.
+//! That each law can be called, and the answers of the functions that have one.
 use crate::plans::{Line, plan_of};
 use crate::rows::check;
 use lab_plan::{EdgeNo, JobNo, Plan, PlanBuilder, Verb};

@@ -1,4 +1,4 @@
-// Worked words: the opening, what is refused, each change, and two groups of moves; and that each law can be called.
+//! Worked words: the opening, what is refused, each change, and two groups of moves; and that each law can be called.
 use crate::rows::check;
 use edge_word::{EdgeMoves, EdgeWord, PhaseWord, is_bottle_set, laws};
 use legal_steps::{Dining, Drinking, End, JobState};

@@ -1,4 +1,4 @@
-// What is read of a report that was printed. Each law is the contract of a function that does nothing.
+//! What is read of a report that was printed. Each law is the contract of a function that does nothing.
 ghost use Rattle.printed_reports.specs.HasTimeline.{HasNoOtherFault, HasTimeline};
 ghost use Rattle.printed_reports.specs.ReadBack.{IsReportReadBack};
 

@@ -1,4 +1,4 @@
-// What is asked of a world: its jobs, their edges, how far they are, and what they need.
+//! What is asked of a world: its jobs, their edges, how far they are, and what they need.
 ghost use Rattle.std.specs.Prelude.{◌≡◌, ◌<◌, ◌↔◌, IsTrue, length};
 ghost use Rattle.lab_plan.specs.Limits.{most_bottles};
 ghost use Rattle.lab_plan.specs.LabPlan.{edges, bottles};

@@ -1,4 +1,4 @@
-// Requests for bottles, and bottles that are given.
+//! Requests for bottles, and bottles that are given.
 ghost use Rattle.std.specs.Prelude.{◌≡◌, ℕ, ◌<◌, length, MatchOption};
 ghost use Rattle.lab_plan.specs.LabPlan.{edges, bottles};
 ghost use Rattle.legal_steps.specs.declared.event.Event.TheVariants.{AskBottles, GiveBottles};

@@ -1,4 +1,4 @@
-// The causes for which an event isn't legal.
+//! The causes for which an event isn't legal.
 use lab_plan::EdgeNo;
 
 /// Why an event isn't legal in a state: the part of its guard that fails. "Here" is the acting job's

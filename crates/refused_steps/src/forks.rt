@@ -1,4 +1,4 @@
-// Looks, and what is done with forks.
+//! Looks, and what is done with forks.
 ghost use Rattle.std.specs.Prelude.{◌≡◌};
 ghost use Rattle.legal_steps.specs.declared.event.Event.TheVariants.{Look, AskFork, GiveFork, Soil};
 ghost use Rattle.refused_steps.specs.Causes.{Explains};

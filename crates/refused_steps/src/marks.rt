@@ -1,4 +1,4 @@
-// Marks that a job doesn't have.
+//! Marks that a job doesn't have.
 ghost use Rattle.std.specs.Prelude.{◌≡◌, ◌<◌, ◌↔◌, IsTrue, length, MatchOption};
 ghost use Rattle.lab_plan.specs.LabPlan.{edges};
 ghost use Rattle.legal_steps.specs.State.{IsOwn};

@@ -1,4 +1,4 @@
-// Hunger and meals.
+//! Hunger and meals.
 ghost use Rattle.std.specs.Prelude.{◌≡◌};
 ghost use Rattle.legal_steps.specs.declared.event.Event.TheVariants.{Hunger, Sit, Leave};
 ghost use Rattle.refused_steps.specs.Causes.{Explains, Fails, IsUnmarked};

@@ -1,4 +1,4 @@
-// Sessions: thirst, commands that are reached for and done, and the ends of sessions.
+//! Sessions: thirst, commands that are reached for and done, and the ends of sessions.
 ghost use Rattle.std.specs.Prelude.{◌≡◌};
 ghost use Rattle.legal_steps.specs.declared.event.Event.TheVariants.{Thirst, Drink, Reach, Act, Quit, Retire, Withdraw};
 ghost use Rattle.refused_steps.specs.Causes.{Explains, Fails, IsMissing};

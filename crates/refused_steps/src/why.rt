@@ -1,4 +1,4 @@
-// Why an event of any kind isn't legal.
+//! Why an event of any kind isn't legal.
 ghost use Rattle.std.specs.Prelude.{◌≡◌, IfSome};
 ghost use Rattle.legal_steps.specs.declared.event.Event.TheVariants.{Glance};
 ghost use Rattle.legal_steps.specs.Legal.{May};

@@ -1,4 +1,4 @@
-// The first line of reports and scripts.
+//! The first line of reports and scripts.
 ghost use Rattle.lab_plan.specs.Texts.{header_line};
 ghost use Rattle.report.specs.Taken.{Sends};
 

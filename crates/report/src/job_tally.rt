@@ -1,4 +1,4 @@
-// What a report tells of a job.
+//! What a report tells of a job.
 
 /// What a report tells of a job: its sessions and how many of them it did and gave up, its meals, and
 /// whether it is retired.

@@ -1,4 +1,4 @@
-// The laws of reports. Each is the contract of a function that does nothing.
+//! The laws of reports. Each is the contract of a function that does nothing.
 ghost use Rattle.report.specs.Events.{HasOneReport, IsReportOfEvents};
 
 /// The report of a world is a function of its plan, its opening state and the events that led from there:

@@ -1,4 +1,4 @@
-// One line of a text, on the stack.
+//! One line of a text, on the stack.
 ghost use Rattle.std.specs.Prelude.{◌≡◌, ◌+◌, ◌≤◌, ◌++◌, [], length, decimal};
 ghost use Rattle.lab_plan.specs.Texts.{verb_text};
 

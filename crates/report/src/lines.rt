@@ -1,4 +1,4 @@
-// The lines of reports and scripts.
+//! The lines of reports and scripts.
 ghost use Rattle.std.specs.Prelude.{◌≡◌, ◌+◌, ◌≤◌, ◌++◌, [], length, Some};
 ghost use Rattle.lab_plan.specs.Texts.{header_line};
 ghost use Rattle.report.specs.Report.{instrument_line, entry_line, withdrawn_text, job_line};

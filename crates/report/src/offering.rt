@@ -1,4 +1,4 @@
-// A text goes out by a loop over `write`.
+//! A text goes out by a loop over `write`.
 ghost use Rattle.report.specs.Taken.{Sends};
 
 use crate::sink::{Failed, Sink};

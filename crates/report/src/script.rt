@@ -1,4 +1,4 @@
-// The upgraded script of a plan.
+//! The upgraded script of a plan.
 ghost use Rattle.std.specs.Prelude.{◌≡◌, ℕ, ◌+◌, ◌-◌, ◌<◌, ◌≤◌, length};
 ghost use Rattle.std.specs.List.{All, flat_map};
 ghost use Rattle.lab_plan.specs.LabPlan.{session_at, sessions, patience, job_at};

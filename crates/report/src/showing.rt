@@ -1,4 +1,4 @@
-// What is shown of a run at its end, as a report reads it.
+//! What is shown of a run at its end, as a report reads it.
 ghost use Rattle.std.specs.Prelude.{◌≡◌, ℕ, ◌<◌, length, Some, slice_get};
 ghost use Rattle.lab_plan.specs.LabPlan.{LabPlan};
 ghost use Rattle.report.specs.Report.{Shown, tally_of};

@@ -1,4 +1,4 @@
-// The report of a run, a line at a time.
+//! The report of a run, a line at a time.
 ghost use Rattle.std.specs.Prelude.{◌≡◌, ℕ, ◌<◌, ◌≤◌, length};
 ghost use Rattle.std.specs.List.{flat_map};
 ghost use Rattle.lab_plan.specs.Texts.{job_name, instrument_name};

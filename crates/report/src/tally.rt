@@ -1,4 +1,4 @@
-// A count that contracts alone see. It takes no bytes, and nothing happens to it at run time.
+//! A count that contracts alone see. It takes no bytes, and nothing happens to it at run time.
 ghost use Rattle.std.specs.Prelude.{◌≡◌, ◌+◌, ℕ};
 ghost use Rattle.std.specs.Borrow.{ftrue};
 

@@ -1,4 +1,4 @@
-// The report of a world.
+//! The report of a world.
 ghost use Rattle.report.specs.Taken.{Sends};
 ghost use Rattle.report.specs.Report.{report_of};
 ghost use Rattle.report.specs.Worlds.{shown_by};

@@ -1,4 +1,4 @@
-// The parts of a text.
+//! The parts of a text.
 ghost use Rattle.std.specs.Prelude.{◌≡◌, ◌<◌, ◌==◌, length, map, IfOk};
 ghost use Rattle.std.specs.List.{slice_split};
 

@@ -1,4 +1,4 @@
-// Faults of reports.
+//! Faults of reports.
 use thiserror::Error;
 
 /// Why a line, or the end of the text, is refused. Its text is what a user reads.

@@ -1,4 +1,4 @@
-// The lines of a report.
+//! The lines of a report.
 use lab_plan::Verb;
 
 /// An entry: the job's session, counted from 1, did its command number `place` of `length` on the

@@ -1,4 +1,4 @@
-// Numbers as a report spells them.
+//! Numbers as a report spells them.
 ghost use Rattle.std.specs.Prelude.{◌≡◌};
 ghost use Rattle.report_reader.specs.Number.{number_of};
 

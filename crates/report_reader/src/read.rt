@@ -1,4 +1,4 @@
-// Reading the text of a report.
+//! Reading the text of a report.
 ghost use Rattle.std.specs.Prelude.{◌≡◌, map, MatchResult, Ok, Err};
 ghost use Rattle.report_reader.specs.Reading.{Answers, AnswersParts};
 

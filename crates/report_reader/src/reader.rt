@@ -1,4 +1,4 @@
-// Reads a report, line by line.
+//! Reads a report, line by line.
 ghost use Rattle.std.specs.Prelude.{◌≡◌, ◌<◌, length, map, is_ok, if◌then◌else◌};
 ghost use Rattle.std.specs.List.{list_all};
 ghost use Rattle.lab_plan.specs.Building.{on_last};

@@ -1,4 +1,4 @@
-// A report that was read.
+//! A report that was read.
 use crate::lines::{EntryLine, JobLine};
 use std::alloc::{AllocError, Allocator, Global};
 use std::marker::Model;

@@ -1,4 +1,4 @@
-// The whole picture.
+//! The whole picture.
 ghost use Rattle.std.specs.Prelude.{◌≡◌, ◌*◌, ◌≤◌, ◌<◌, ◌^◌, ◌++◌, length, OnOk};
 ghost use Rattle.std.specs.List.{flat_map};
 ghost use Rattle.lab_plan.specs.Limits.{most_jobs};

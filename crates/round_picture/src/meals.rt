@@ -1,4 +1,4 @@
-// What is drawn of meals.
+//! What is drawn of meals.
 ghost use Rattle.std.specs.Prelude.{◌≡◌, ◌++◌, OnOk};
 ghost use Rattle.std.specs.List.{flat_map};
 ghost use Rattle.round_picture.specs.Meals.{stretch, hungry_line, eating_line, lines, meal_text};

@@ -1,4 +1,4 @@
-// Where rounds stand in the picture, and its numbers.
+//! Where rounds stand in the picture, and its numbers.
 ghost use Rattle.std.specs.Prelude.{◌≡◌, ◌≤◌, ◌<◌, ◌^◌, ◌++◌, decimal, OnOk};
 ghost use Rattle.round_picture.specs.Scale.{round_width, place, width, step_in, step_of};
 

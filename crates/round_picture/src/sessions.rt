@@ -1,4 +1,4 @@
-// What is told of a session, and its shapes.
+//! What is told of a session, and its shapes.
 ghost use Rattle.std.specs.Prelude.{◌≡◌, ◌+◌, ◌≤◌, ◌<◌, ◌++◌, length, OnOk};
 ghost use Rattle.std.specs.List.{flat_map};
 ghost use Rattle.lab_plan.specs.LabPlan.{sessions, instrument_numbers};

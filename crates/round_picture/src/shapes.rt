@@ -1,4 +1,4 @@
-// What is drawn of a session.
+//! What is drawn of a session.
 ghost use Rattle.std.specs.Prelude.{◌≡◌, ◌++◌, OnOk};
 ghost use Rattle.round_picture.specs.Shapes.{until, box_of, thirsty_box, holding_box, room_for, number_text, cross, shapes};
 

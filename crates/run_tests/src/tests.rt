@@ -1,4 +1,4 @@
-// Whole runs by their bytes: worked scripts, readers and writers that fail, memory that runs out, and printed texts.
+//! Whole runs by their bytes: worked scripts, readers and writers that fail, memory that runs out, and printed texts.
 ghost use Rattle.std.specs.Prelude.{◌≡◌, true};
 ghost use Rattle.labrun_words.specs.Words.{MayRun};
 

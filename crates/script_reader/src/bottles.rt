@@ -1,4 +1,4 @@
-// Sets of bottles of an edge, by the names of their instruments.
+//! Sets of bottles of an edge, by the names of their instruments.
 ghost use Rattle.std.specs.Prelude.{◌≡◌, ◌<◌, length, None, Some, MatchOption};
 ghost use Rattle.lab_plan.specs.Limits.{most_bottles};
 ghost use Rattle.lab_plan.specs.LabPlan.{edges, bottles};

@@ -1,4 +1,4 @@
-// Faults of scripts and step lists.
+//! Faults of scripts and step lists.
 ghost use Rattle.std.specs.Prelude.{◌≡◌, Ok, Err, MatchResult};
 
 use lab_plan::PlanRefusal;

@@ -1,4 +1,4 @@
-// The fields of a line, which spaces and tabs separate.
+//! The fields of a line, which spaces and tabs separate.
 ghost use Rattle.std.specs.Prelude.{◌≡◌, ◌≢◌, ◌<◌, ◌≤◌, ◌↔◌, ℕ, [], ◌∷◌, All, length, slice_index, IfSome, IsNone, IsTrue, MatchOption};
 ghost use Rattle.script_reader.specs.Fields.{fields, is_gap, IsGap, IsInk, CutsField};
 

@@ -1,4 +1,4 @@
-// The forms of a script's lines.
+//! The forms of a script's lines.
 ghost use Rattle.std.specs.Prelude.{◌≡◌, MatchOption, None, Some};
 ghost use Rattle.script_reader.specs.Fields.{fields};
 ghost use Rattle.script_reader.specs.Line.{lab_line, job_line, session_line, alone, command_line, line_with, form_of, Unknown, Steps, End};

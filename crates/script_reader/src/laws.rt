@@ -1,4 +1,4 @@
-// What follows from the definitions alone.
+//! What follows from the definitions alone.
 ghost use Rattle.script_reader.specs.Laws.{HasOnePlan, HasPlanOrFault, HasOneFault, HasOneList, HasListOrFault, HasOneStepFault};
 
 /// A text has at most one meaning: a plan or a fault, and one of it.

@@ -1,4 +1,4 @@
-// Numbers as they are spelled in a script.
+//! Numbers as they are spelled in a script.
 ghost use Rattle.std.specs.Prelude.{◌≡◌, ◌≤◌, true};
 ghost use Rattle.std.specs.List.{list_all};
 ghost use Rattle.lab_plan.specs.Limits.{largest_number};

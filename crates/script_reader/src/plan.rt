@@ -1,4 +1,4 @@
-// Reading a script.
+//! Reading a script.
 ghost use Rattle.script_reader.specs.Script.{Answers};
 
 use crate::fault::{ScriptFault, at_line};

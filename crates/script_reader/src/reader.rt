@@ -1,4 +1,4 @@
-// Reads a script, line by line.
+//! Reads a script, line by line.
 ghost use Rattle.std.specs.Prelude.{◌≡◌, ◌≤◌, [], IfOk, IfErr, IsOk, MatchResult, ◌↔◌, true, false, not};
 ghost use Rattle.lab_plan.specs.Limits.{largest_number};
 ghost use Rattle.lab_plan.specs.Verbs.{Fits};

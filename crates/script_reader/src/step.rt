@@ -1,4 +1,4 @@
-// The steps of a step list, by the names in a plan.
+//! The steps of a step list, by the names in a plan.
 ghost use Rattle.std.specs.Prelude.{◌≡◌, ◌≢◌, ℕ, ◌<◌, ◌==◌, [], ◌∷◌, None, Some, length, if◌then◌else◌, MatchOption};
 ghost use Rattle.lab_plan.specs.LabPlan.{edges};
 ghost use Rattle.legal_steps.specs.declared.event.Step.TheVariants.{Glance};

@@ -1,4 +1,4 @@
-// Reading a script with a list of steps.
+//! Reading a script with a list of steps.
 ghost use Rattle.std.specs.Prelude.{◌≡◌, ◌+◌, ◌-◌, ◌^◌, ◌<◌, All, IfOk, MatchResult, Ok, Err, Some, length};
 ghost use Rattle.legal_steps.specs.Steps.{IsStepOf};
 ghost use Rattle.script_reader.specs.Script.{text_lines, LinesMean, Refuses};

@@ -1,4 +1,4 @@
-// The laws of upgraded scripts.
+//! The laws of upgraded scripts.
 ghost use Rattle.script_reader.specs.UpgradeLaw.{UpgradeMeansPlan, UpgradeIsShort};
 
 /// The upgraded script of a plan means that plan in version 2: each job, session, patience and command is kept,

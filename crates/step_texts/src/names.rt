@@ -1,4 +1,4 @@
-// The names that texts of steps tell.
+//! The names that texts of steps tell.
 ghost use Rattle.std.specs.Prelude.{◌≡◌, ◌<◌, ◌++◌, length, OnOk};
 ghost use Rattle.lab_plan.specs.LabPlan.{edges, bottles};
 ghost use Rattle.lab_plan.specs.Texts.{job_name};

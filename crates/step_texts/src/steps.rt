@@ -1,4 +1,4 @@
-// Steps as they are written in a list of steps.
+//! Steps as they are written in a list of steps.
 ghost use Rattle.std.specs.Prelude.{◌≡◌, ◌<◌, ◌++◌, length, codes, OnOk};
 ghost use Rattle.lab_plan.specs.LabPlan.{edges, bottles};
 ghost use Rattle.lab_plan.specs.Texts.{job_name};

@@ -1,4 +1,4 @@
-// What no clause says: the faults of given texts, by hand, and that good texts are read.
+//! What no clause says: the faults of given texts, by hand, and that good texts are read.
 ghost use Rattle.std.specs.Prelude.{◌≤◌, ◌<◌, length};
 ghost use Rattle.lab_plan.specs.LabPlan.{sessions};
 

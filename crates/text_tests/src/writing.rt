@@ -1,4 +1,4 @@
-// Reports and upgraded scripts by their bytes, and sinks that take little, nothing, or fail.
+//! Reports and upgraded scripts by their bytes, and sinks that take little, nothing, or fail.
 ghost use Rattle.std.specs.List.{All};
 ghost use Rattle.legal_steps.specs.Steps.{IsStepOf};
 

@@ -1,4 +1,4 @@
-// Whether the logs of a report agree with the columns of its sessions.
+//! Whether the logs of a report agree with the columns of its sessions.
 ghost use Rattle.std.specs.Prelude.{◌≡◌, true, map, Some};
 ghost use Rattle.std.specs.List.{All};
 ghost use Rattle.report_reader.specs.Form.{entry_text, job_text};

@@ -1,4 +1,4 @@
-// Which sessions a log has right before which, and which of some stand right behind another of them.
+//! Which sessions a log has right before which, and which of some stand right behind another of them.
 ghost use Rattle.std.specs.Prelude.{◌≡◌, ◌<◌, ◌+◌, ℕ, List, slice_index_or, true, false, None, map, length, IfSome, IfOk};
 ghost use Rattle.report_reader.specs.Form.{entry_text, job_text};
 ghost use Rattle.timeline.specs.Orders.{AreOf, IsOpen, Adds, ArePairs, AreBehindBelow, AreBehind};

@@ -1,4 +1,4 @@
-// Entries of one session.
+//! Entries of one session.
 ghost use Rattle.std.specs.Prelude.{◌≡◌};
 ghost use Rattle.report_reader.specs.Form.{entry_text};
 ghost use Rattle.timeline.specs.Spans.{is_same_session};

@@ -1,4 +1,4 @@
-// What is wrong with an entry of a log.
+//! What is wrong with an entry of a log.
 ghost use Rattle.std.specs.Prelude.{◌≡◌, map};
 ghost use Rattle.report_reader.specs.Form.{entry_text, job_text};
 ghost use Rattle.timeline.specs.Faults.{entry_cause, is_out_of_order};

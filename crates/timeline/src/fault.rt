@@ -1,4 +1,4 @@
-// Faults of timelines.
+//! Faults of timelines.
 use thiserror::Error;
 
 /// Why an entry has no place on a timeline. Its text is what a user reads.

@@ -1,4 +1,4 @@
-// Faults of a report that a look at each log by itself finds.
+//! Faults of a report that a look at each log by itself finds.
 ghost use Rattle.std.specs.Prelude.{◌≡◌, ◌+◌, ◌<◌, ◌≤◌, true, None, length, map, IfSome, IfOk, IfErr};
 ghost use Rattle.lab_plan.specs.Limits.{most_jobs, most_instruments};
 ghost use Rattle.report_reader.specs.Form.{entry_text, job_text};

@@ -1,4 +1,4 @@
-// The jobs of a report, by their names.
+//! The jobs of a report, by their names.
 ghost use Rattle.std.specs.Prelude.{◌≡◌, map};
 ghost use Rattle.std.specs.List.{position};
 ghost use Rattle.std.specs.Str.{bytes_eq};

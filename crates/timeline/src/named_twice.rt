@@ -1,4 +1,4 @@
-// Job lines whose name stands before them.
+//! Job lines whose name stands before them.
 ghost use Rattle.std.specs.Prelude.{map, IfSome};
 ghost use Rattle.report_reader.specs.Form.{job_text};
 ghost use Rattle.timeline.specs.Faults.{IsNamedBefore};

@@ -1,4 +1,4 @@
-// Columns for the sessions one by one: a session is put right of all before it once no session that is left stands right before it.
+//! Columns for the sessions one by one: a session is put right of all before it once no session that is left stands right before it.
 ghost use Rattle.std.specs.Prelude.{◌≡◌, ◌+◌, ◌≤◌, ◌*◌, ℕ, map, length, List, Bool, true, false, Some, None, IfOk, IfSome, MatchOption};
 ghost use Rattle.report_reader.specs.Form.{job_text};
 ghost use Rattle.timeline.specs.Orders.{IsOpen, IsBehind, AreSlots, AreStuck, AreOrdered};

@@ -1,5 +1,5 @@
-// Columns for the sessions: a session is placed once it stands next in each log that has it, right of all
-// that these logs have before it.
+//! Columns for the sessions: a session is placed once it stands next in each log that has it, right of all
+//! that these logs have before it.
 use crate::span::{SLOTS, Span, slot_of};
 use report_reader::{EntryLine, JobLine, Log};
 use std::alloc::{AllocError, Allocator};

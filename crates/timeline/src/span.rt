@@ -1,4 +1,4 @@
-// The columns of a session.
+//! The columns of a session.
 ghost use Rattle.std.specs.Prelude.{◌≡◌, map};
 ghost use Rattle.report_reader.specs.Form.{entry_text, job_text};
 ghost use Rattle.timeline.specs.Spans.{slot_of, span_of};

@@ -1,4 +1,4 @@
-// Timelines.
+//! Timelines.
 ghost use Rattle.std.specs.Prelude.{◌≤◌, length};
 ghost use Rattle.lab_plan.specs.Limits.{most_jobs, most_instruments};
 ghost use Rattle.timeline.specs.Faults.{Answers};

@@ -1,4 +1,4 @@
-// Calls one after another: moves of the layers, and moves by their names.
+//! Calls one after another: moves of the layers, and moves by their names.
 use crate::labs::{PATIENCE_1, TWO};
 use crate::seats::Answer::{
     Acted, Done, Far, Found, Legal as Allows, Moves, No, NotLegal, Saw, Stored, Value, Yes,

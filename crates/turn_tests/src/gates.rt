@@ -1,4 +1,4 @@
-// Gates of the tests, for four jobs and two workers.
+//! Gates of the tests, for four jobs and two workers.
 use crossbeam_utils::atomic::AtomicCell;
 use lab_plan::JobNo;
 use std::sync::atomic::{AtomicU64, Ordering};

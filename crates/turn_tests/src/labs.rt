@@ -1,4 +1,4 @@
-// The laboratories of the tests: scripts, their plans, and benches that are opened and closed.
+//! The laboratories of the tests: scripts, their plans, and benches that are opened and closed.
 ghost use Rattle.locality.specs.Lists.{Each};
 ghost use Rattle.edge_rule.specs.DeskView.{Owns};
 

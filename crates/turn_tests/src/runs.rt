@@ -1,4 +1,4 @@
-// Rounds from the opening to the closing of a bench: why they end, after how many, and what is left.
+//! Rounds from the opening to the closing of a bench: why they end, after how many, and what is left.
 ghost use Rattle.locality.specs.Lists.{Each};
 ghost use Rattle.edge_rule.specs.DeskView.{Owns};
 

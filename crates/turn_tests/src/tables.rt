@@ -1,4 +1,4 @@
-// Tables of calls: who makes which, what it answers, and what its job then knows. They were worked out by hand.
+//! Tables of calls: who makes which, what it answers, and what its job then knows. They were worked out by hand.
 use crate::labs::{opened, plan_of};
 use crate::seats::{Answer, Call, Phase, Seat, seated};
 use crate::words::edge;

@@ -1,4 +1,4 @@
-// The parts of a turn by themselves: a visit of an edge, and the phase act that is due.
+//! The parts of a turn by themselves: a visit of an edge, and the phase act that is due.
 use crate::labs::PATIENCE_1;
 use crate::seats::Answer::{Acted, Calm, Does, Done, No, Saw, Stored, Yes};
 use crate::seats::Call::{Act, ActDue, On, Settled, Table};

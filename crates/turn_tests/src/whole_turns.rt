@@ -1,4 +1,4 @@
-// Turns one after another.
+//! Turns one after another.
 use crate::labs::{
     ALONE, IDLER, PATIENCE_0, PATIENCE_1, PATIENCE_3, RING, TWICE, TWO, opened, plan_of,
     star_script,

@@ -1,5 +1,5 @@
-// The words of an edge with one bottle, by what they say: its fork and its bottle, as `DIRTY_A | BOTTLE_A`. A stands for the edge's lower
-// job, and B for the higher. A thing is ASKED where its request token is at the same job: the other has asked for it.
+//! The words of an edge with one bottle, by what they say: its fork and its bottle, as `DIRTY_A | BOTTLE_A`. A stands for the edge's lower
+//! job, and B for the higher. A thing is ASKED where its request token is at the same job: the other has asked for it.
 use edge_word::EdgeWord;
 use legal_steps::EdgeState;
 

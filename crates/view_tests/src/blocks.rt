@@ -1,4 +1,4 @@
-// What `labview blocks` writes, by its bytes.
+//! What `labview blocks` writes, by its bytes.
 use lab_program::{FromRead, Outcome, RunFault};
 use lab_views::run_blocks;
 use report::ToWrite;

@@ -1,4 +1,4 @@
-// What `labview gantt` draws, by its bytes.
+//! What `labview gantt` draws, by its bytes.
 use lab_program::{FromRead, Outcome, RunFault};
 use lab_views::run_gantt;
 use report::ToWrite;

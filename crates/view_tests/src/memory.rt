@@ -1,4 +1,4 @@
-// Memory that runs out: each growth of a view is refused in turn. That is told and nothing is written, or it is made up for.
+//! Memory that runs out: each growth of a view is refused in turn. That is told and nothing is written, or it is made up for.
 use lab_program::{FromRead, status_of};
 use lab_views::{
     View, run_arrange, run_blocks, run_explain, run_gantt, run_picture, run_table, run_trace,

@@ -1,4 +1,4 @@
-// Orders of jobs in which chains at the start are short, and what `labview arrange` writes, by its bytes.
+//! Orders of jobs in which chains at the start are short, and what `labview arrange` writes, by its bytes.
 use arranging::{colours_of, order_of};
 use lab_plan::JobNo;
 use lab_program::{FromRead, Outcome, RunFault};

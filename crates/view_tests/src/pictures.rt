@@ -1,4 +1,4 @@
-// The columns of sessions, by hand, the picture by its bytes, and the faults of reports that have no timeline.
+//! The columns of sessions, by hand, the picture by its bytes, and the faults of reports that have no timeline.
 use lab_program::FromRead;
 use lab_views::{PictureFault, run_picture, status_of_picture};
 use report::ToWrite;

@@ -1,4 +1,4 @@
-// Scripts made at random: each report that a run prints has a picture with all its sessions, and each trace is replayed.
+//! Scripts made at random: each report that a run prints has a picture with all its sessions, and each trace is replayed.
 use crate::traces::{replayed, reported, traced};
 use lab_program::{FromRead, Outcome};
 use lab_runs::run_threads;

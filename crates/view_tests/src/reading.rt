@@ -1,4 +1,4 @@
-// What no clause says: the faults of given texts, by hand, and that good texts are read.
+//! What no clause says: the faults of given texts, by hand, and that good texts are read.
 use lab_plan::Verb;
 use report_reader::ReportCause::{NotWhole, OtherVersion, OutOfPlace, UnknownLine, WrongEnd};
 use report_reader::laws::no_report;

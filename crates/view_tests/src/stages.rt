@@ -1,5 +1,5 @@
-// Stages of one run: at each of them why some events aren't legal, and at some all moves that are. All was reckoned by
-// hand from the table of guards.
+//! Stages of one run: at each of them why some events aren't legal, and at some all moves that are. All was reckoned by
+//! hand from the table of guards.
 use interleaving::{Dining, Drinking, EdgeState, End, Event, JobState, Step, World};
 use lab_plan::{EdgeNo, JobNo};
 use legal_moves::laws::{always_legal, bottles_alone, every_step};

@@ -1,4 +1,4 @@
-// The table of a report, by its bytes.
+//! The table of a report, by its bytes.
 use lab_program::FromRead;
 use lab_views::run_table;
 use report::ToWrite;

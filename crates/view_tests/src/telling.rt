@@ -1,4 +1,4 @@
-// Whole explanations, worked out by hand.
+//! Whole explanations, worked out by hand.
 use crate::stages::text_at;
 use explaining::explain;
 use script_reader::read_steps;

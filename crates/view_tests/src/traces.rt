@@ -1,4 +1,4 @@
-// What `labview trace` writes, by its bytes, and that a replay of it has the report of rounds.
+//! What `labview trace` writes, by its bytes, and that a replay of it has the report of rounds.
 use lab_program::{FromRead, Outcome, RunFault};
 use lab_runs::{run_replay, run_rounds};
 use lab_views::run_trace;

@@ -1,4 +1,4 @@
-// What `labview` writes, by its bytes, and its words.
+//! What `labview` writes, by its bytes, and its words.
 use crate::stages::text_at;
 use lab_program::{FromRead, NoTask, Outcome, RunFault};
 use lab_views::{View, read_words, run_explain};

@@ -1,4 +1,4 @@
-// What `labview waits` writes, by its bytes.
+//! What `labview waits` writes, by its bytes.
 use lab_program::{FromRead, Outcome, RunFault};
 use lab_views::run_waits;
 use report::ToWrite;

@@ -1,4 +1,4 @@
-// What is read of a step that `labview` wrote. Each law is the contract of a function that does nothing.
+//! What is read of a step that `labview` wrote. Each law is the contract of a function that does nothing.
 ghost use Rattle.written_steps.specs.Added.{AreLegalAtEnd, AreLegalInPlace};
 ghost use Rattle.written_steps.specs.ReadBack.{IsReadBack, AreLegalReadBack};
 ghost use Rattle.written_steps.specs.StepLists.{IsListReadBack};

@@ -1,4 +1,4 @@
-// Whole runs.
+//! Whole runs.
 use super::{BOTTLE, IDLE, NO_COUNTS, NONE, OPENED, OPENED_EDGE, Shown, Way, after, replayed};
 use crate::benches::{A, AB, STALE_MARK, TWICE, TWO, stage};
 use instrument_log::Entry;

@@ -1,5 +1,5 @@
-// Every short list of steps of a small plan: what is said to be enabled is what a step does, and a refused
-// step changes nothing.
+//! Every short list of steps of a small plan: what is said to be enabled is what a step does, and a refused
+//! step changes nothing.
 use super::{Way, shows, takes, told_of};
 use crate::benches::{A, AB, B, STALE_MARK, TWICE, plan_of};
 use interleaving::{Step, World};

@@ -1,4 +1,4 @@
-// Where events are legal, also where no law of runs would tell.
+//! Where events are legal, also where no law of runs would tell.
 use super::{IDLE, NO_COUNTS, OPENED, OPENED_EDGE, Shown, after};
 use crate::benches::{A, AB, B, IMPATIENT, STALE_MARK, TWICE, TWO, stage};
 use interleaving::{Counts, Drinking, EdgeState, Event, JobState, Step};

@@ -1,4 +1,4 @@
-// The marks of jobs after the steps of the stale mark.
+//! The marks of jobs after the steps of the stale mark.
 use super::{BOTH, BOTTLE, FORK, Marks, NONE, Way, replayed};
 use crate::benches::{STALE_MARK, TWICE, stage};
 

@@ -1,4 +1,4 @@
-// What the phase of a job allows by itself, at stages of three runs.
+//! What the phase of a job allows by itself, at stages of three runs.
 use super::guards::{ONE_SESSION, PATIENT};
 use super::{Way, told};
 use crate::benches::{IMPATIENT, STALE_MARK, TWICE, TWO, stage};

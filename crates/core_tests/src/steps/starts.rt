@@ -1,4 +1,4 @@
-// Starts, and memory that runs out.
+//! Starts, and memory that runs out.
 use crate::benches::{A, AB, THREE, TWO, plan_of};
 use interleaving::{EdgeState, End, EndChoice, Event, NoMemory, StartRefusal, World};
 use lab_plan::Plan;

@@ -1,4 +1,4 @@
-// An entry is made where the job reaches, and nowhere else; a replay stops at one that is made elsewhere.
+//! An entry is made where the job reaches, and nowhere else; a replay stops at one that is made elsewhere.
 use super::{OPENED_EDGE, Way, after, replayed};
 use crate::benches::{A, AB, B, STALE_MARK, TWICE, stage};
 use interleaving::{EdgeState, End, Event, NotLegal, Step, StepLine};

@@ -1,4 +1,4 @@
-// Meals and rankings.
+//! Meals and rankings.
 use super::{ALL_LOWER, FORKS_HIGHER, Question, ask, go_on, owns, take};
 use crate::benches::{
     A, AB, B, BEFORE_THE_MEAL, C, MEAL_OF_THREE, STALE_MARK, THREE, TWICE, event_of, stage,

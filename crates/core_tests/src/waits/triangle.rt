@@ -1,4 +1,4 @@
-// Three jobs, each two of which share an edge: who precedes whom, before and after a meal of the first.
+//! Three jobs, each two of which share an edge: who precedes whom, before and after a meal of the first.
 use super::{FORKS_HIGHER, Question, ask, go_on};
 use crate::benches::{A, AB, AC, B, BC, BEFORE_THE_MEAL, C, MEAL_OF_THREE, ONE_FORK_SOILED, THREE};
 use interleaving::{EdgeState, End, Step, World};

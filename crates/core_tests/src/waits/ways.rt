@@ -1,4 +1,4 @@
-// Ways on.
+//! Ways on.
 use super::{ALL_LOWER, FORKS_HIGHER, Question, ask, take};
 use crate::benches::{
     A, AB, B, IMPATIENT, MEAL_FIRST, MEAL_OF_THREE, STALE_MARK, THREE, THREE_ADD, TWICE, TWO,

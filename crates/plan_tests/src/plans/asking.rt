@@ -1,4 +1,4 @@
-// The readers of a plan, each asked once the plan is seen to have what it is asked for.
+//! The readers of a plan, each asked once the plan is seen to have what it is asked for.
 ghost use Rattle.std.specs.Prelude.{◌≤◌, ◌<◌, length};
 ghost use Rattle.lab_plan.specs.LabPlan.{edges, sessions};
 

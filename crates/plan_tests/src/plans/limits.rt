@@ -1,4 +1,4 @@
-// Names, verbs and each limit at its number and one past it, with the refusals in their order.
+//! Names, verbs and each limit at its number and one past it, with the refusals in their order.
 use super::asking::{ends_of, session_of};
 use super::{
     EXAMPLE, Line, check_example, counts, finished, name_of, plan_of, put_all, put_commands,

@@ -1,4 +1,4 @@
-// The logs of a plan: as many and as roomy as its commands, the next command of a job, and the entry that it adds.
+//! The logs of a plan: as many and as roomy as its commands, the next command of a job, and the entry that it adds.
 ghost use Rattle.plan_logs.specs.Logs.{IsAtCommand};
 
 use crate::logs::last_of;

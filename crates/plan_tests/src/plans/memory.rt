@@ -1,4 +1,4 @@
-// Memory that runs out: refused calls change nothing, and go on once memory is there again.
+//! Memory that runs out: refused calls change nothing, and go on once memory is there again.
 use super::{
     EXAMPLE, Line, check_example, finished, name_of, put, put_all, put_commands, put_one,
     put_sessions, refuse, refuse_line, share,

@@ -1,4 +1,4 @@
-// Readers of a plan: each on its happy path, at the largest conflict graph and at the longest session.
+//! Readers of a plan: each on its happy path, at the largest conflict graph and at the longest session.
 use super::asking::{
     bottle_of, edge_of, ends_of, instrument_of, job_of, needed_of, part_of, place_of, session_of,
 };

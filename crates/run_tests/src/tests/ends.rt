@@ -1,4 +1,4 @@
-// Readers and writers that give little, take little, or fail.
+//! Readers and writers that give little, take little, or fail.
 use super::{AMPLE, Pieces, Slow, TWO_ADD, told_at, told_by, told_from};
 use lab_program::{FromRead, Outcome, RunFault, Source};
 use lab_runs::{Task, run_rounds};

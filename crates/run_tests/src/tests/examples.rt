@@ -1,4 +1,4 @@
-// The worked scripts of examples/ that run by rounds, without their comments; their reports were worked out without the program.
+//! The worked scripts of examples/ that run by rounds, without their comments; their reports were worked out without the program.
 use super::reports::is_report_of;
 use super::{tells, told};
 use lab_program::Outcome;

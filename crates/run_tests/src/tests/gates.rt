@@ -1,4 +1,4 @@
-// Gates of runs by threads, for scripts of at most four jobs.
+//! Gates of runs by threads, for scripts of at most four jobs.
 use crossbeam_utils::atomic::AtomicCell;
 use lab_plan::JobNo;
 use std::thread::yield_now;

@@ -1,4 +1,4 @@
-// Scripts by rounds: what stands in the report after how many.
+//! Scripts by rounds: what stands in the report after how many.
 use super::{TWO_ADD, is_told, tells, told, told_by};
 use lab_program::{Outcome, RunFault};
 use lab_runs::Task;

@@ -1,4 +1,4 @@
-// Replays of worked scripts.
+//! Replays of worked scripts.
 use super::{TWO_ADD, tells};
 use lab_program::{Outcome, RunFault};
 use lab_runs::Task;

@@ -1,4 +1,4 @@
-// Reports of runs, checked whole by their scripts: what must be true of every schedule.
+//! Reports of runs, checked whole by their scripts: what must be true of every schedule.
 use std::alloc::{AllocError, Global};
 
 /// A command: its instrument, and what is done there.

@@ -1,4 +1,4 @@
-// Checks and upgrades of worked scripts.
+//! Checks and upgrades of worked scripts.
 use super::{TWO_ADD, tells};
 use lab_program::{Outcome, RunFault};
 use lab_runs::Task;

@@ -1,4 +1,4 @@
-// What no contract says: the words of command lines, the text of the help, and the texts and statuses of faults.
+//! What no contract says: the words of command lines, the text of the help, and the texts and statuses of faults.
 use lab_program::{NoTask, Outcome, RunFault, status_of};
 use lab_runs::{Task, read_words};
 use script_reader::{ScriptCause, ScriptFault};

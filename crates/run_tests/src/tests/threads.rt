@@ -1,4 +1,4 @@
-// Scripts by threads: what must be true of a report on every schedule.
+//! Scripts by threads: what must be true of a report on every schedule.
 use super::gates::{Counting, Flags};
 use super::in_rounds::SECOND_SESSION;
 use super::reports::is_report_of;

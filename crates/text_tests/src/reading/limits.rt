@@ -1,4 +1,4 @@
-// Each limit at its number and one past it, with the causes that come before it.
+//! Each limit at its number and one past it, with the causes that come before it.
 use super::{Fault, fault_of_plan, fault_of_steps, told};
 use crate::rows::check;
 use legal_steps::StepLine;

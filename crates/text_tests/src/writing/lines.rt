@@ -1,4 +1,4 @@
-// One line of a text, part by part.
+//! One line of a text, part by part.
 use crate::rows::check;
 use lab_plan::Verb;
 use report::Line;

@@ -1,4 +1,4 @@
-// The reports of worlds, after steps that are read with their script.
+//! The reports of worlds, after steps that are read with their script.
 use super::{TWO, check_report, joined, stop_of};
 use crate::rows::check;
 use script_reader::{ScriptCause, ScriptFault, read_plan};

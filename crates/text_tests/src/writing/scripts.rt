@@ -1,4 +1,4 @@
-// The upgraded scripts of plans.
+//! The upgraded scripts of plans.
 use super::{TWO, plan_of, script_by};
 use crate::rows::check;
 use std::alloc::Allocator;

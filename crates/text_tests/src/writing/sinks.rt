@@ -1,4 +1,4 @@
-// Sinks that take one byte a call, none, or fail at a call: exactly the first bytes went out.
+//! Sinks that take one byte a call, none, or fail at a call: exactly the first bytes went out.
 use super::{Slow, TWO, plan_of, report_by, script_by};
 use crate::rows::check;
 use interleaving::World;
