@@ -1,4 +1,4 @@
--- A chain of precedence at THE opening goes down in colours.
+-- A chain of precedence in the initial state goes down in colours.
 use Rattle.std.proofs.Common.{◌≡◌, ℕ, ◌+◌, ◌<◌, ◌≤◌, List, [], ◌∷◌, length, slice_index, arith, ap, ◌∙◌, inl, inr}
 use Rattle.std.specs.Prelude.{replicate}
 use Rattle.std.specs.List.Sorted.{IsNonDecreasing}

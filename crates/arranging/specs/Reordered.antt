@@ -41,7 +41,7 @@ pub record IsArrangement (plan : LabPlan) (made : ColouringView) (arranged : Lab
   pub same_jobs : HasJobsOf plan (in_order made.colours made.count) arranged
   pub colouring : IsColouring arranged (colours_along made.colours (in_order made.colours made.count)) made.count
 
--- at THE opening of the second plan no chain of precedence has more jobs than there are colours
+-- in the initial state of the second plan no chain of precedence has more jobs than there are colours
 abbrev pub ArrangedChainsAreShort : Type 0
 ArrangedChainsAreShort = (plan : LabPlan) (made : ColouringView) (arranged : LabPlan) → IsArrangement plan made arranged
     → (jobs : List ℕ) → IsChain arranged (the_opening arranged) jobs → length jobs ≤ made.count

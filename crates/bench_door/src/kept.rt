@@ -1,4 +1,4 @@
-//! A sink that keeps all that it takes. A write fails only if a growth is refused.
+//! A sink that keeps all that it takes. A write fails only if an allocation fails.
 ghost use Rattle.std.specs.Prelude.{◌≡◌, [], Some};
 
 use report::{Failed, Sink, Tally};

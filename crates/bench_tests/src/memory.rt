@@ -1,4 +1,4 @@
-//! Memory that is refused when a bench is opened or closed, each growth in turn.
+//! Memory that is refused when a bench is opened or closed, each allocation in turn.
 use crate::benches::{THREE, TWO, plan_of};
 use crate::closes::{BOTH_DRANK, BOTH_DRINK, closes};
 use edge_rule::{Bench, OpenError};
@@ -19,39 +19,39 @@ fn opens<T: Allocator + Copy>(rt: &impl Abort, small: T, plan: &Plan<T>) -> bool
     }
 }
 
-/// Whether a bench is opened on a heap that refuses this growth, and how many growths it asked for.
+/// Whether a bench is opened on a heap that refuses this allocation, and how many allocations it asked for.
 fn opens_without(rt: &impl Abort, alloc: Global, refused: u64) -> (bool, u64) {
     let ample = RefusingHeap::new(alloc, 0);
     let heap = RefusingHeap::new(alloc, refused);
     let plan = plan_of(rt, &ample, THREE);
-    (opens(rt, &heap, &plan), heap.growths())
+    (opens(rt, &heap, &plan), heap.allocations())
 }
 
 #[test]
-fn growths_of_an_opening(rt: HostRuntime) {
+fn allocations_of_an_opening(rt: HostRuntime) {
     let (is_open, all) = opens_without(&rt, rt.alloc(), 0);
     assert!(rt; is_open && all > 0);
     for number in 0..all {
         let (is_open, _) = opens_without(&rt, rt.alloc(), number + 1);
-        assert!(rt; !is_open, "growth {number}");
+        assert!(rt; !is_open, "allocation {number}");
     }
 }
 
-/// Whether a bench is closed on a heap that refuses this growth, and how many growths it asked for. A second close, with memory, leaves
+/// Whether a bench is closed on a heap that refuses this allocation, and how many allocations it asked for. A second close, with memory, leaves
 /// what the first would have left.
 fn closes_without(rt: &impl Abort, alloc: Global, refused: u64) -> (bool, u64) {
     let ample = RefusingHeap::new(alloc, 0);
     let heap = RefusingHeap::new(alloc, refused);
     let is_closed = closes(rt, &ample, &heap, TWO, &BOTH_DRINK, &BOTH_DRANK);
-    (is_closed, heap.growths())
+    (is_closed, heap.allocations())
 }
 
 #[test]
-fn growths_of_a_close(rt: HostRuntime) {
+fn allocations_of_a_close(rt: HostRuntime) {
     let (is_closed, all) = closes_without(&rt, rt.alloc(), 0);
     assert!(rt; is_closed && all > 0);
     for number in 0..all {
         let (is_closed, _) = closes_without(&rt, rt.alloc(), number + 1);
-        assert!(rt; !is_closed, "growth {number}");
+        assert!(rt; !is_closed, "allocation {number}");
     }
 }

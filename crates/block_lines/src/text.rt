@@ -140,7 +140,7 @@ fn add_all_instruments<A: Allocator, B: Allocator>(
 /// Adds what is told of the blocks of a run of so many rounds, after which all jobs were retired or not: those with rounds,
 /// largest first, and the instruments that were waited for, largest first.
 ///
-/// Where no growth is refused, the text is added whole. It takes time by the square of the blocks, which are in the order of
+/// Unless an allocation fails, the text is added whole. It takes time by the square of the blocks, which are in the order of
 /// the script and 27776 at most.
 #[tactic(auto, unfolding(crate::specs::Text::blocks_text))]
 pub fn add_blocks<S: Allocator + Copy, A: Allocator, B: Allocator>(

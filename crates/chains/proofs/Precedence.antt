@@ -1,4 +1,4 @@
--- Precedence at THE opening: on each edge the job with the higher number precedes the other.
+-- Precedence in the initial state: on each edge the job with the higher number precedes the other.
 use Rattle.std.proofs.Common.{◌≡◌, ◌↔◌, ◌⊎◌, ℕ, ◌<◌, true, length, replicate, refl, sym, ap, ◌∙◌, subst, inl, inr, arith, Option, None, Some}
 use Rattle.std.specs.Prelude.{is_some, min, max, ⊤}
 use Rattle.std.specs.Option.{MatchOption}

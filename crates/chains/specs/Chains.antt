@@ -1,10 +1,10 @@
--- For readers: chains of precedence at THE opening of a plan.
+-- For readers: chains of precedence in the initial state of a plan.
 use Rattle.std.specs.Prelude.{◌≡◌, ℕ, ◌<◌, ◌≤◌, Bool, true, nat_lt, List, [], ◌∷◌, length, Option, None, Some, slice_index_or}
 use Rattle.lab_plan.specs.LabPlan.{LabPlan}
 use Rattle.legal_steps.specs.Opening.{the_opening}
 use Rattle.legal_steps.specs.Precedence.{Precedes}
 
--- jobs of the plan, each of which precedes the next at THE opening
+-- jobs of the plan, each of which precedes the next in the initial state
 abbrev pub IsChain : LabPlan → List ℕ → Type 0
 IsChain plan [] = Unit {0}
 IsChain plan (job ∷ []) = job < length plan.jobs

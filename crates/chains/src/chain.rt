@@ -1,4 +1,4 @@
-//! A longest chain of precedence at THE opening.
+//! A longest chain of precedence in the initial state.
 ghost use Rattle.std.specs.Prelude.{◌≡◌, ◌<◌, ◌≤◌, ◌↔◌, ◌+◌, ◌∷◌, ℕ, [], length, IsTrue, IfOk, IfSome};
 ghost use Rattle.legal_steps.specs.Opening.{the_opening};
 ghost use Rattle.legal_steps.specs.Precedence.{Precedes};
@@ -47,7 +47,7 @@ impl<A: Allocator> Chain<A> {
     }
 }
 
-/// Whether a job precedes one with a lower number at THE opening: the lower has the fork, which is dirty.
+/// Whether a job precedes one with a lower number in the initial state: the lower has the fork, which is dirty.
 fn precedes<A: Allocator>(plan: &Plan<A>, job: JobNo, lower: JobNo) -> bool
     requires inside { job < length plan.now.jobs }
     requires lower { lower < job }
@@ -166,7 +166,7 @@ fn longest_place<A: Allocator>(chains: &[Chain<A>]) -> usize
     best
 }
 
-/// A longest chain of jobs, each of which precedes the next at THE opening. Time grows with the square of the jobs.
+/// A longest chain of jobs, each of which precedes the next in the initial state. Time grows with the square of the jobs.
 pub fn longest_chain<A: Allocator + Copy>(alloc: A, plan: &Plan<A>) -> Result<Chain<A>, AllocError>
     ensures { IfOk result (λ chain. IsLongestChain plan.now chain) }
 {

@@ -1,4 +1,4 @@
-//! Chains of precedence at THE opening: jobs, each of which precedes the next. While both are hungry, the next one waits for the meal
+//! Chains of precedence in the initial state: jobs, each of which precedes the next. While both are hungry, the next one waits for the meal
 //! of the one before it.
 #![tactic(auto)]
 

@@ -46,7 +46,7 @@ struct Shown {
     last: Option<Entry>,
 }
 
-// The edge of THE opening, with one bottle: fork and bottle at a, their tokens at b.
+// The edge of the initial state, with one bottle: fork and bottle at a, their tokens at b.
 const OPENED_EDGE: EdgeState = EdgeState {
     fork: End::Lower,
     dirty: true,
@@ -135,7 +135,7 @@ fn takes<T: Allocator>(rt: &impl Abort, world: &mut World<T>, step: &Step) -> bo
 // What a replay answers.
 type Replayed = Result<usize, (usize, NotLegal)>;
 
-// What is done from THE opening.
+// What is done from the initial state.
 #[derive(Clone, Copy)]
 enum Way<'a> {
     // A replay of these events.

@@ -44,7 +44,7 @@ fn smallest_place(jobs: &[JobNo]) -> usize
 /// Each pair leads from its first job to its second, and both are below `jobs`. A pair of a job with
 /// itself is a cycle of that job alone. Of several cycles any one is answered. Memory is taken in
 /// proportion to `jobs`; time at most to its square, times the number of pairs. The error comes only
-/// where a growth is refused.
+/// if an allocation fails.
 pub fn cycle_in<A: Allocator + Copy>(
     alloc: A,
     jobs: usize,

@@ -1,7 +1,7 @@
 //! The one reason to refuse.
 use std::alloc::{AllocError, AllocFailed};
 
-/// A growth was refused.
+/// An allocation failed.
 #[derive(Clone, Copy, PartialEq, Eq, Debug)]
 pub struct NoMemory;
 

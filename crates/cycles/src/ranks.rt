@@ -13,7 +13,7 @@ use std::alloc::Allocator;
 /// Each pair leads from its first job to its second, and both are below `jobs`. Sinks are taken out
 /// one by one, so the last of the ranking are found first. Of several rankings any one is answered.
 /// Memory is taken in proportion to `jobs`; time at most to its square, times the number of pairs.
-/// The error comes only if a growth is refused.
+/// The error comes only if an allocation fails.
 pub fn ranking<A: Allocator + Copy>(
     alloc: A,
     jobs: usize,

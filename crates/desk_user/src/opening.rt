@@ -9,7 +9,7 @@ use edge_rule::{Bench, Desk, OpenError};
 use lab_plan::Plan;
 use std::alloc::Allocator;
 
-/// A bench for the plan, in THE opening, and a desk for each job in ascending order, as `Bench::open` makes them. Each desk is of the bench, and each
+/// A bench for the plan, in the initial state, and a desk for each job in ascending order, as `Bench::open` makes them. Each desk is of the bench, and each
 /// job has one, which is what driving and closing them asks.
 pub fn open<'p, A: Allocator + Copy>(
     alloc: A,

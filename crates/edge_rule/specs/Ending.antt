@@ -64,7 +64,7 @@ pub record RestsInGroups (d : DeskView) : Type 0 where
 abbrev pub AreCounted : List Counts → List DeskView → Type 0
 AreCounted counts desks = Each (λ (d : DeskView). slice_index_or counts d.job no_counts ≡ counts_of d.job d.deeds) desks
 
--- There is one history, for exactly the records of these desks: it is legal from THE opening, the events of each job in it are its desk's record,
+-- There is one history, for exactly the records of these desks: it is legal from the initial state, the events of each job in it are its desk's record,
 -- in order, and nothing else is in it; each group of a record stands unbroken; each desk saw a beginning of it; and it ends as the closed bench shows
 pub record IsEnd (p : LabPlan) (desks : List DeskView) (c : ClosedView) : Type 0 where
   pub is_plan : IsPlan p

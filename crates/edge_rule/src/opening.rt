@@ -22,7 +22,7 @@ use one_history::board::{Board, Deals, View};
 use plan_logs::empty_logs;
 use std::alloc::{AllocError, Allocator};
 
-// The words of THE opening.
+// The words of the initial state.
 fn fresh_words<A: Allocator + Copy>(alloc: A, plan: &Plan<A>) -> Result<Vec<u64, A>, AllocError>
     ensures { IfOk result (λ v. Spelled plan.now (the_opening plan.now) v.items) }
 {
@@ -34,7 +34,7 @@ fn fresh_words<A: Allocator + Copy>(alloc: A, plan: &Plan<A>) -> Result<Vec<u64,
     Ok(words)
 }
 
-// The edges of THE opening, as a desk sees them.
+// The edges of the initial state, as a desk sees them.
 fn fresh_edges<A: Allocator + Copy>(
     alloc: A,
     plan: &Plan<A>,
@@ -116,7 +116,7 @@ fn deal<A: Allocator + Copy>(
     Ok(desks)
 }
 
-// A bench in THE opening, with its desks.
+// A bench in the initial state, with its desks.
 fn opened<'p, A: Allocator + Copy>(
     alloc: A,
     plan: &'p Plan<A>,
@@ -137,7 +137,7 @@ fn opened<'p, A: Allocator + Copy>(
 }
 
 impl<'p, A: Allocator + Copy> Bench<'p, A> {
-    /// A bench for the plan, in THE opening, and a desk for each job, in ascending order. The room of all logs is
+    /// A bench for the plan, in the initial state, and a desk for each job, in ascending order. The room of all logs is
     /// reserved here.
     pub fn open(alloc: A, plan: &'p Plan<A>) -> Result<(Bench<'p, A>, Vec<Desk<A>, A>), OpenError>
         ensures { IfOk result (λ r. (r.0.plan ≡ plan.now) × (r.1.items ≡ fresh_desks r.0.table plan.now (length plan.now.jobs))) }

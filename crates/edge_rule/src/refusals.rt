@@ -6,7 +6,7 @@ use std::alloc::{Allocator, Global};
 /// Why a bench isn't opened.
 #[derive(Clone, Copy, PartialEq, Eq, Debug)]
 pub enum OpenError {
-    /// A growth was refused.
+    /// An allocation failed.
     NoMemory,
 }
 
@@ -15,7 +15,7 @@ pub enum OpenError {
 pub enum CloseCause {
     /// Not every desk of the bench is there exactly once.
     NotEveryDesk,
-    /// A growth was refused.
+    /// An allocation failed.
     NoMemory,
 }
 

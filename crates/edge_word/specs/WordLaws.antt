@@ -32,7 +32,7 @@ NoTwoPhasesShareAWord = (x y : JobState) → FitsPhaseWord x → FitsPhaseWord y
 abbrev pub OpensAtZero : Type 0
 OpensAtZero = phase_word_of idle_phase ≡ 0
 
--- an edge of THE opening has the opening word of its number of bottles
+-- an edge of the initial state has the opening word of its number of bottles
 abbrev pub OpensAsTheOpening : Type 0
 OpensAsTheOpening = (plan : LabPlan) (e : ℕ) → e < length (edges plan) → edge (the_opening plan) e ≡ opening_edge (length (bottles plan e))
 

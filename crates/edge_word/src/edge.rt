@@ -128,7 +128,7 @@ fn mask_of(flips: Flips) -> u64
 }
 
 impl EdgeWord {
-    /// The word of an edge with so many bottles in THE opening: fork and bottles at the lower job, the fork dirty,
+    /// The word of an edge with so many bottles in the initial state: fork and bottles at the lower job, the fork dirty,
     /// every request token at the higher.
     pub fn opening(bottles: u32) -> EdgeWord
         requires few { bottles ≤ most_bottles }

@@ -23,13 +23,13 @@ pub fn one_word_for_each_phase()
     ensures { NoTwoPhasesShareAWord }
 {}
 
-/// In THE opening each edge is as `EdgeWord::opening` spells it.
+/// In the initial state each edge is as `EdgeWord::opening` spells it.
 #[tactic(auto, using(crate::proofs::OpeningWords::opens_as_the_opening))]
 pub fn opens_as_the_opening()
     ensures { OpensAsTheOpening }
 {}
 
-/// In THE opening each phase word is 0: a job before its first event thinks, is tranquil, and is in no session.
+/// In the initial state each phase word is 0: a job before its first event thinks, is tranquil, and is in no session.
 pub fn opens_at_zero()
     ensures { OpensAtZero }
 {}

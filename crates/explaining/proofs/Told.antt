@@ -1,4 +1,4 @@
--- What is told of a replay from THE opening.
+-- What is told of a replay from the initial state.
 use Rattle.std.proofs.Common.{◌≡◌, ℕ, ◌<◌, List, length, map, take, slice_index_or, arith, refl, sym, ap, ◌∙◌, subst}
 use Rattle.std.specs.Prelude.{slice_get, Some}
 use Rattle.std.specs.List.{All}

@@ -1,4 +1,4 @@
--- For readers: what is said of a list of steps from THE opening: of the first that isn't legal where its turn comes, or else of the end.
+-- For readers: what is said of a list of steps from the initial state: of the first that isn't legal where its turn comes, or else of the end.
 use Rattle.std.specs.Prelude.{◌≡◌, ℕ, List, ◌++◌, length, map, codes, decimal, Option, None, Some, slice_get}
 use Rattle.std.specs.List.{flat_map, range_with_len}
 use Rattle.lab_plan.specs.LabPlan.{LabPlan}
@@ -57,7 +57,7 @@ pub record TellsEnd (plan : LabPlan) (s : State) (steps : ℕ) (text : List ℕ)
   pub legal : AreLegalMoves plan s moves
   pub told : text ≡ end_text plan s steps moves
 
--- the events of the steps, from THE opening
+-- the events of the steps, from the initial state
 abbrev pub events_from_opening : LabPlan → List StepLine → List Event
 events_from_opening plan lines = step_events plan (the_opening plan) (map (λ line. line.step) lines)
 

@@ -1,4 +1,4 @@
--- For readers: what holds of a run, that is of a list of events that is legal from THE opening of its plan.
+-- For readers: what holds of a run, that is of a list of events that is legal from the initial state of its plan.
 use Rattle.std.specs.Prelude.{◌≡◌, ℕ, ◌≤◌, List, All, take, Some, slice_get}
 use Rattle.lab_plan.specs.LabPlan.{LabPlan}
 use Rattle.lab_plan.specs.IsPlan.{IsPlan}

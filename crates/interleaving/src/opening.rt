@@ -72,7 +72,7 @@ pub(crate) fn idle_seats<A: Allocator + Copy>(
     Ok(seats)
 }
 
-// The choices of THE opening: every fork and every bottle at the edge's lower job.
+// The choices of the initial state: every fork and every bottle at the edge's lower job.
 pub(crate) fn lower_choices<A: Allocator>(
     alloc: A,
     edges: usize,

@@ -7,7 +7,7 @@ use std::alloc::AllocError;
 pub enum StartRefusal {
     /// The choices are not one for each edge, or one names a bottle that its edge doesn't have.
     BadChoices,
-    /// A growth was refused.
+    /// An allocation failed.
     NoMemory,
     /// Precedence has a cycle.
     Cycle,

@@ -69,7 +69,7 @@ impl<'a, A: Allocator + Copy> Tables<'a, A> {
         })
     }
 
-    // The tables of THE opening.
+    // The tables of the initial state.
     pub(crate) fn opening(alloc: A, plan: &'a Plan<A>) -> Result<Tables<'a, A>, AllocError>
         ensures { IfOk result (λ tables. tables ≡ record { plan = plan.now; state = the_opening plan.now }) }
     {

@@ -77,7 +77,7 @@ pub(crate) fn tell(
             room[..text.len()].copy_from_slice(text);
             return u32::from(status_of(&answer));
         }
-        // Writes fail only if a growth is refused.
+        // Writes fail only if an allocation fails.
         Err(RunFault::Write) => RunFault::NoMemory,
         Err(fault) => fault,
     };

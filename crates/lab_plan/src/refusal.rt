@@ -13,7 +13,7 @@ pub enum PlanRefusal {
     JobTwice,
     /// Two jobs have more instruments in common than an edge may have bottles.
     TooManyInCommon,
-    /// A growth was refused.
+    /// An allocation failed.
     NoMemory,
 }
 

@@ -36,7 +36,7 @@ pub enum RunFault {
     /// A write or the last flush failed.
     #[error("write fault")]
     Write,
-    /// A growth was refused.
+    /// An allocation failed.
     #[error("no memory")]
     NoMemory,
 }

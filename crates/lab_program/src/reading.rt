@@ -16,7 +16,7 @@ pub enum ReadFault {
     Read,
     /// The input goes on past its limit.
     TooLong,
-    /// A growth was refused.
+    /// An allocation failed.
     NoMemory,
 }
 

@@ -15,7 +15,7 @@ pub enum NoTask {
     Help(String),
     /// The program doesn't know these words.
     Refused,
-    /// A growth was refused.
+    /// An allocation failed.
     NoMemory,
 }
 

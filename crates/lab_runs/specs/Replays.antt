@@ -14,7 +14,7 @@ use Rattle.lab_program.specs.declared.faults.Outcome.{Outcome}
 use Rattle.lab_program.specs.Answers.{AnswersTo}
 use Rattle.lab_runs.specs.Reports.{Reports}
 
--- ---- the run of some steps from THE opening
+-- ---- the run of some steps from the initial state
 
 -- their events, one after another
 abbrev pub run_of : LabPlan → List StepLine → List Event

@@ -1,4 +1,4 @@
-//! Steps from THE opening on.
+//! Steps from the initial state on.
 ghost use Rattle.std.specs.Prelude.{◌≡◌};
 ghost use Rattle.std.specs.List.{All};
 ghost use Rattle.legal_steps.specs.Steps.{IsStepOf};

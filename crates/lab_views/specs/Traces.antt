@@ -47,7 +47,7 @@ TraceAnswers limit left old new result = AnswersTo (Traces limit) ScriptRefuses 
 -- ---- the trace's run is that of `labrun rounds N`
 
 -- a trace and a run in rounds of the same input, with the same number: the report that is printed is that of the trace's history, and the events of
--- the trace's steps, taken one after another from THE opening, are this history
+-- the trace's steps, taken one after another from the initial state, are this history
 pub record ShowsRun (plan : LabPlan) (history : List Event) (report : List ℕ) (ended : Outcome) : Type 0 where
   pub report_is : report ≡ report_after plan (the_opening plan) history
   pub ended_is : ended ≡ outcome_of (retired_after plan (the_opening plan) history)

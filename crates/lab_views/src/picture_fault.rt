@@ -25,7 +25,7 @@ pub enum PictureFault {
     /// A write or the last flush failed.
     #[error("write fault")]
     Write,
-    /// A growth was refused.
+    /// An allocation failed.
     #[error("no memory")]
     NoMemory,
 }

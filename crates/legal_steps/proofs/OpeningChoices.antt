@@ -1,4 +1,4 @@
--- A choice of ends gives an opening state, and THE opening is one whose precedence has no cycle.
+-- A choice of ends gives an opening state, and the initial state is one whose precedence has no cycle.
 use Rattle.std.proofs.Common.{◌≡◌, ℕ, ◌+◌, ◌<◌, length, replicate, slice_index_or, List, [], ◌∷◌, arith, refl, sym, subst, ap, ◌∙◌, inl, inr}
 use Rattle.std.specs.Prelude.{bit_xor}
 use Rattle.std.specs.List.{enumerate_from}
@@ -60,7 +60,7 @@ opening_of_choices plan choices h =
       logs_empty = refl;
     }
 
--- ---- THE opening
+-- ---- the initial state
 
 pub the_choices : (plan : LabPlan) → AreChoices plan (replicate (length (edges plan)) lower_choice)
 the_choices plan = record {

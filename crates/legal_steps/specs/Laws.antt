@@ -38,7 +38,7 @@ abbrev pub StaysAcyclic : Type 0
 StaysAcyclic = (plan : LabPlan) (opening : State) (events : List Event) (n : ℕ) → IsPlan plan → IsOpening plan opening
     → IsAcyclic plan opening → IsLegalFrom plan opening events → IsAcyclic plan (after_all plan opening (take n events))
 
--- THE opening is an opening state whose precedence has no cycle
+-- the initial state is an opening state whose precedence has no cycle
 abbrev pub TheOpeningIsAcyclic : Type 0
 TheOpeningIsAcyclic = (plan : LabPlan) → IsOpening plan (the_opening plan) × IsAcyclic plan (the_opening plan)
 

@@ -47,6 +47,6 @@ opening_of plan choices = record {
   logs = replicate (length plan.instruments) [];
 }
 
--- THE opening: every fork and every bottle at the job with the lower number
+-- the initial state: every fork and every bottle at the job with the lower number
 abbrev pub the_opening : LabPlan → State
 the_opening plan = opening_of plan (replicate (length (edges plan)) (record { fork = Lower; bottles = 0 }))

@@ -34,7 +34,7 @@ pub fn no_cycle()
     ensures { StaysAcyclic }
 {}
 
-/// THE opening, with every fork and bottle at the lower job, is an opening state, and has no cycle of precedence:
+/// The initial state, with every fork and bottle at the lower job, is an opening state, and has no cycle of precedence:
 /// on each edge the higher number precedes.
 pub fn the_opening_is_acyclic()
     ensures { TheOpeningIsAcyclic }

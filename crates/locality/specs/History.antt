@@ -1,4 +1,4 @@
--- For readers: a history: a list of events that is legal from THE opening; the events of each job in it, the state after it, and what a job knows by its own
+-- For readers: a history: a list of events that is legal from the initial state; the events of each job in it, the state after it, and what a job knows by its own
 -- events.
 use Rattle.std.specs.Prelude.{ℕ, Bool, List, [], ◌∷◌, filter, ◌==◌}
 use Rattle.lab_plan.specs.LabPlan.{LabPlan}
@@ -16,7 +16,7 @@ is_by j event = actor event == j
 abbrev pub events_by : ℕ → List Event → List Event
 events_by j h = filter (is_by j) h
 
--- a list that is legal from THE opening, and the state after it
+-- a list that is legal from the initial state, and the state after it
 abbrev pub IsHistory : LabPlan → List Event → Type 0
 IsHistory plan h = IsLegalFrom plan (the_opening plan) h
 

@@ -75,7 +75,7 @@ EntryReadsAlike = (plan : LabPlan) (s t : State) (j : ℕ) → seat s j ≡ seat
 
 -- ---- what a job knows
 
--- the seat of a job after any list of events from THE opening, legal or not, is what the job knows by its own events in it
+-- the seat of a job after any list of events from the initial state, legal or not, is what the job knows by its own events in it
 abbrev pub KnowsItself : Type 0
 KnowsItself = (plan : LabPlan) (h : List Event) (j : ℕ) → j < length plan.jobs → seat (state_after plan h) j ≡ seat (known_by plan (events_by j h)) j
 

@@ -10,7 +10,7 @@ use std::alloc::Allocator;
 /// Every job of the world's plan once, each before all that it precedes (Chandy and Misra 1984).
 ///
 /// There is always such an order, because precedence has no cycle in any state of a world. If there are several, any one is answered.
-/// Memory is taken in proportion to the jobs and the edges. The error comes only if a growth is refused.
+/// Memory is taken in proportion to the jobs and the edges. The error comes only if an allocation fails.
 pub fn ranking<A: Allocator + Copy, B: Allocator>(
     alloc: A,
     world: &World<'_, B>,

@@ -167,9 +167,9 @@ fn has_memory_for_a_ranking(rt: &impl Abort, alloc: Global, size: usize) -> bool
     is_answered(rt, answer, &IN_ORDER)
 }
 
-/// Each growth is refused in turn, by a heap that is a little larger in each run.
+/// Each allocation is refused in turn, by a heap that is a little larger in each run.
 #[test]
-fn refuses_growth_of_a_cycle(rt: HostRuntime) {
+fn refuses_allocation_of_a_cycle(rt: HostRuntime) {
     let mut answers = 0u32;
     for budget in 1..40usize {
         let answered = has_memory_for_a_cycle(&rt, rt.alloc(), 16 * budget);
@@ -179,7 +179,7 @@ fn refuses_growth_of_a_cycle(rt: HostRuntime) {
 }
 
 #[test]
-fn refuses_growth_of_a_ranking(rt: HostRuntime) {
+fn refuses_allocation_of_a_ranking(rt: HostRuntime) {
     let mut answers = 0u32;
     for budget in 1..40usize {
         let answered = has_memory_for_a_ranking(&rt, rt.alloc(), 16 * budget);

@@ -6,7 +6,7 @@ use std::process::Abort;
 
 const ALL: u32 = 0xfff_ffff;
 
-// THE opening word of an edge with one bottle.
+// The initial word of an edge with one bottle.
 const OPENING: u64 = 4294967302;
 
 // That of an edge with 28.

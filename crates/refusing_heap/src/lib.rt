@@ -1,4 +1,4 @@
-//! Memory for tests of which one growth is refused: an allocator over another that counts what it is asked for. Threads may share it.
+//! Memory for tests that refuses one allocation: an allocator over another that counts what it is asked for. Threads may share it.
 #![tactic(auto)]
 
 ghost use Rattle.std.specs.Prelude.{◌≡◌, IfSome};
@@ -6,13 +6,13 @@ ghost use Rattle.std.specs.Prelude.{◌≡◌, IfSome};
 use std::alloc::{AllocError, Allocator};
 use std::sync::atomic::{AtomicU64, Ordering};
 
-/// An allocator that refuses one growth, by its number, and takes all others from `inner`. Whatever is to be made, and whatever has to
+/// An allocator that refuses one allocation, by its number, and takes all others from `inner`. Whatever is to be made, and whatever has to
 /// grow, counts as one, from 1 on, on whichever thread. With the number 0 nothing is refused.
 #[derive(Drop)]
 pub struct RefusingHeap<B> {
     inner: B,
     refused: u64,
-    growths: AtomicU64,
+    allocations: AtomicU64,
 }
 
 impl<B> RefusingHeap<B> {
@@ -20,20 +20,20 @@ impl<B> RefusingHeap<B> {
         RefusingHeap {
             inner,
             refused,
-            growths: AtomicU64::new(0),
+            allocations: AtomicU64::new(0),
         }
     }
 
-    /// How many growths it was asked for, the refused one counted.
-    pub fn growths(&self) -> u64 {
-        self.growths.load(Ordering::SeqCst)
+    /// How many allocations it was asked for, the refused one counted.
+    pub fn allocations(&self) -> u64 {
+        self.allocations.load(Ordering::SeqCst)
     }
 
-    // What gives the next growth, if it isn't the one that is refused.
+    // What gives the next allocation, if it isn't the one that is refused.
     fn next(&self) -> Option<&B>
         ensures { IfSome result (λ lent. lent.now ≡ self.now.inner) }
     {
-        let before = self.growths.fetch_add(1, Ordering::SeqCst);
+        let before = self.allocations.fetch_add(1, Ordering::SeqCst);
         if before.wrapping_add(1) == self.refused {
             return None;
         }

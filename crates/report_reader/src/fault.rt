@@ -19,7 +19,7 @@ pub enum ReportCause {
     /// The text ends before its last line, or within a line.
     #[error("report not whole")]
     NotWhole,
-    /// A growth was refused.
+    /// An allocation failed.
     #[error("no memory")]
     NoMemory,
 }

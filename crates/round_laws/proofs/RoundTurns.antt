@@ -159,7 +159,7 @@ module _ (plan : LabPlan) (j : ℕ) where
             (inr (subst (λ (s : State). Any (IsOf (waited_next plan j w s b.events)) rest) known b.then));
       }
 
-  -- ---- rounds from THE opening
+  -- ---- rounds from the initial state
 
   -- job j took n turns in the history
   pub record TurnsIn (n : ℕ) (h : List Event) (players' : List Player) : Type 0 where

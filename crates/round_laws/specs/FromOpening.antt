@@ -17,7 +17,7 @@ abbrev pub fresh_players : ℕ → List Player
 fresh_players zero = []
 fresh_players (suc n) = fresh_players n ++ record { job = n; waited = no_wait } ∷ []
 
--- what is driven of them is rounds of all jobs from THE opening
+-- what is driven of them is rounds of all jobs from the initial state
 abbrev pub DrivesFromOpening : Type 0
 DrivesFromOpening = (b : BenchView) (limit : ℕ) (ended : Ended) (n : ℕ) (desks : List DeskView) → Drove b limit (opened b) ended n desks
     → RanRounds b.plan limit (fresh_players (length b.plan.jobs)) [] ended n (first_front desks)

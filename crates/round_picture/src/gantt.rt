@@ -218,7 +218,7 @@ fn add_rows<A: Allocator, B: Allocator, C: Allocator>(
     Ok(())
 }
 
-/// Adds the picture over time of a run. Where no growth is refused, the text is added whole.
+/// Adds the picture over time of a run. Unless an allocation fails, the text is added whole.
 #[tactic(auto, unfolding(crate::specs::Gantt::gantt_of))]
 pub fn add_gantt<A: Allocator, B: Allocator, C: Allocator>(
     out: &mut Vec<u8, A>,

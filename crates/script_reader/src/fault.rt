@@ -40,7 +40,7 @@ pub enum ScriptCause {
     /// Two jobs have more instruments in common than an edge may have bottles.
     #[error("S11 more than 28 instruments in common")]
     TooManyInCommon,
-    /// A growth was refused.
+    /// An allocation failed.
     #[error("S12 no memory")]
     NoMemory,
     /// A line after `steps` that is no step of the script's plan.

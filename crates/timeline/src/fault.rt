@@ -42,7 +42,7 @@ pub enum TimelineFault {
     /// No order of the sessions agrees with every log.
     #[error("the logs contradict each other: no order of the sessions agrees with all of them")]
     Contradiction,
-    /// A growth was refused.
+    /// An allocation failed.
     #[error("no memory")]
     NoMemory,
 }

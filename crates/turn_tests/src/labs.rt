@@ -64,7 +64,7 @@ pub(crate) fn plan_of<T: Allocator + Copy>(rt: &impl Abort, alloc: T, script: &s
     }
 }
 
-/// A bench in THE opening, and the desks of its jobs.
+/// A bench in the initial state, and the desks of its jobs.
 pub(crate) fn opened<'p, T: Allocator + Copy>(
     rt: &impl Abort,
     alloc: T,

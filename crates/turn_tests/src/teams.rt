@@ -265,7 +265,7 @@ fn gate_comes_before_turn(rt: HostRuntime) {
     passes_before(&rt, rt.alloc(), &plan);
 }
 
-/// A bench and its desks; where a growth was refused, from a second call.
+/// A bench and its desks; if an allocation failed, from a second call.
 fn opened_at_last<'p, A: Allocator + Copy>(
     rt: &impl Abort,
     alloc: A,
@@ -279,7 +279,7 @@ fn opened_at_last<'p, A: Allocator + Copy>(
     }
 }
 
-/// Three turns of each desk by two workers. Where a growth was refused no desk has taken any, and a second call takes them.
+/// Three turns of each desk by two workers. If an allocation failed no desk has taken any, and a second call takes them.
 fn driven_at_last<R: Threads + Abort + Sync, A: Allocator + Copy + Send + Sync>(
     rt: &R,
     alloc: A,
@@ -302,7 +302,7 @@ fn driven_at_last<R: Threads + Abort + Sync, A: Allocator + Copy + Send + Sync>(
     desks
 }
 
-/// What is left of the bench; where a growth was refused, from a second call.
+/// What is left of the bench; if an allocation failed, from a second call.
 fn closed_at_last<'p, A: Allocator + Copy>(
     rt: &impl Abort,
     alloc: A,
@@ -327,10 +327,10 @@ fn all_count_up<T: Allocator>(rt: &impl Abort, left: &Closed<T>) {
     }
 }
 
-/// How many growths were asked for until the plan was read, the bench was open, its desks were driven, and it was closed.
+/// How many allocations were asked for until the plan was read, the bench was open, its desks were driven, and it was closed.
 type Growths = [u64; 4];
 
-/// A run on a heap that refuses this growth.
+/// A run on a heap that refuses this allocation.
 fn run_without<R: Threads + Abort + Sync>(
     rt: &R,
     alloc: Global,
@@ -339,26 +339,26 @@ fn run_without<R: Threads + Abort + Sync>(
 ) -> Growths {
     let heap = RefusingHeap::new(alloc, refused);
     let plan = plan_of(rt, &heap, script);
-    let read = heap.growths();
+    let read = heap.allocations();
     let (bench, desks) = opened_at_last(rt, &heap, &plan);
-    let open = heap.growths();
+    let open = heap.allocations();
     let desks = driven_at_last(rt, &heap, &bench, desks);
-    let driven = heap.growths();
+    let driven = heap.allocations();
     let left = closed_at_last(rt, &heap, bench, desks);
     all_count_up(rt, &left);
-    [read, open, driven, heap.growths()]
+    [read, open, driven, heap.allocations()]
 }
 
-/// Each growth of an opening, of the workers' call and of a closing is refused in turn, and the refused call is made again. Few desks are
-/// sorted without a growth; here are 32.
+/// Each allocation of an opening, of the workers' call and of a closing is refused in turn, and the refused call is made again. Few desks are
+/// sorted without an allocation; here are 32.
 #[test]
-fn growths_of_a_bench_and_its_workers(rt: HostRuntime) -> Result<(), Fail> {
+fn allocations_of_a_bench_and_its_workers(rt: HostRuntime) -> Result<(), Fail> {
     let script = star_script(rt.alloc())?;
     let [read, open, driven, all] = run_without(&rt, rt.alloc(), &script, 0);
     assert!(rt; read < open && open < driven && driven < all);
     for number in read..all {
         let [_, _, _, more] = run_without(&rt, rt.alloc(), &script, number + 1);
-        assert!(rt; more > all, "growth {number}");
+        assert!(rt; more > all, "allocation {number}");
     }
     Ok(())
 }

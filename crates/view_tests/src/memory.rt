@@ -1,4 +1,4 @@
-//! Memory that runs out: each growth of a view is refused in turn. That is told and nothing is written, or it is made up for.
+//! Memory that runs out: each allocation of a view is refused in turn. That is told and nothing is written, or it is made up for.
 use lab_program::{FromRead, status_of};
 use lab_views::{
     View, run_arrange, run_blocks, run_explain, run_gantt, run_picture, run_table, run_trace,
@@ -8,8 +8,8 @@ use refusing_heap::RefusingHeap;
 use report::ToWrite;
 use std::alloc::Global;
 
-/// A view on a heap that refuses this growth, over a writer that takes its memory elsewhere: how many bytes it wrote,
-/// its status, and how many growths it asked for.
+/// A view on a heap that refuses this allocation, over a writer that takes its memory elsewhere: how many bytes it wrote,
+/// its status, and how many allocations it asked for.
 fn told_without(out: Global, view: View, text: &[u8], refused: u64) -> (usize, u8, u64) {
     let heap = RefusingHeap::new(out, refused);
     let mut bytes = Vec::new(out);
@@ -25,7 +25,7 @@ fn told_without(out: Global, view: View, text: &[u8], refused: u64) -> (usize, u
         View::Blocks { limit } => status_of(&run_blocks(&heap, &mut source, &mut sink, limit)),
         View::Gantt { limit } => status_of(&run_gantt(&heap, &mut source, &mut sink, limit)),
     };
-    (bytes.len(), status, heap.growths())
+    (bytes.len(), status, heap.allocations())
 }
 
 /// Two jobs on one instrument.
@@ -38,7 +38,7 @@ const REPORT: &str =
     "lab 1\ninstrument scale 1\na 1 1/1 add 1 = 1\njob a sessions 1 of 1 meals 0 retired\nfinished\n";
 
 #[test]
-fn growths_of_each_view(rt: HostRuntime) {
+fn allocations_of_each_view(rt: HostRuntime) {
     for (view, text) in [
         (View::Explain, STEPS),
         (View::Picture, REPORT),
@@ -56,7 +56,7 @@ fn growths_of_each_view(rt: HostRuntime) {
             let (after, status, _) = told_without(rt.alloc(), view, text.as_bytes(), number + 1);
             // where a list is collected, less room is asked for after a refusal, and nothing is lost
             let made_up = after == written && status == 0;
-            assert!(rt; made_up || after == 0 && status == 5, "growth {number}");
+            assert!(rt; made_up || after == 0 && status == 5, "allocation {number}");
             if !made_up {
                 told = told.saturating_add(1);
             }

@@ -12,7 +12,7 @@ use Rattle.round_trace.specs.Traces.{why_ended}
 abbrev pub joined : List (List Event) → List Event
 joined rounds = flat_map (λ round. round) rounds
 
--- the history after so many rounds of all jobs from THE opening
+-- the history after so many rounds of all jobs from the initial state
 pub record IsAfter (plan : LabPlan) (number : ℕ) (history : List Event) : Type 0 where
   pub idle : Bool
   pub players : List Player

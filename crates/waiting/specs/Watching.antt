@@ -41,7 +41,7 @@ is_all_retired Quiet = false
 is_all_retired Limit = false
 is_all_retired NoMemory = false
 
--- the desks stand after so many rounds of all jobs from THE opening, and the logs tell of these rounds
+-- the desks stand after so many rounds of all jobs from the initial state, and the logs tell of these rounds
 pub record Stands (b : BenchView) (n : ℕ) (desks : List DeskView) (logs : List LogView) : Type 0 where
   pub jobs : jobs_of desks ≡ jobs_of (opened b)
   pub own : Each (Owns b) desks

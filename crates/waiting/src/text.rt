@@ -268,7 +268,7 @@ fn add_chain<A: Allocator, B: Allocator>(
     out.extend_from_slice(b"\n")
 }
 
-/// Adds what is told of the waits of a run, and of a chain of jobs. Where no growth is refused, the text is added whole.
+/// Adds what is told of the waits of a run, and of a chain of jobs. Unless an allocation fails, the text is added whole.
 #[tactic(auto, unfolding(crate::specs::Text::waits_text))]
 pub fn add_waits<A: Allocator, B: Allocator, C: Allocator>(
     out: &mut Vec<u8, A>,

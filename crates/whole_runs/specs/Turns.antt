@@ -7,7 +7,7 @@ use Rattle.locality.specs.History.{events_by}
 use Rattle.locality.specs.Patience.{Waited, no_wait}
 use Rattle.turns.specs.Turns.{Group, AreGrouped, Stands, flat, but_glances}
 
--- Job j took n turns in the run: without its Glances its events are these turns, one after another, from what it knows at THE opening on.
+-- Job j took n turns in the run: without its Glances its events are these turns, one after another, from what it knows in the initial state on.
 -- The groups of events that a turn does at once stand unbroken in the run, in this order. An exchange that was due is lost only if its edge was another by
 -- then than the look saw
 pub record TakesTurns (plan : LabPlan) (history : List Event) (j n : ℕ) : Type 0 where

@@ -14,7 +14,7 @@ use std::alloc::{AllocError, Allocator};
 use std::thread::Threads;
 use workers::{Gate, threads, turns_in_history};
 
-// A bench in THE opening, with the desks of all its jobs.
+// A bench in the initial state, with the desks of all its jobs.
 fn open<'p, A: Allocator + Copy>(
     alloc: A,
     plan: &'p Plan<A>,
@@ -51,7 +51,7 @@ fn close<'p, A: Allocator>(
 /// Runs a plan on this thread, in rounds: one turn of each job a round, in ascending order of the jobs, until all jobs are
 /// retired or this many rounds are done. The history follows from the plan and the limit.
 ///
-/// Memory is taken before the first turn and after the last; if a growth is refused, nothing is left of the run.
+/// Memory is taken before the first turn and after the last; if an allocation fails, nothing is left of the run.
 pub fn by_rounds<'p, A: Allocator + Copy>(
     alloc: A,
     plan: &'p Plan<A>,
@@ -59,7 +59,7 @@ pub fn by_rounds<'p, A: Allocator + Copy>(
 ) -> Result<Closed<'p, A>, AllocError>
     ensures { IfOk result (IsRunInRounds plan.now limit) }
 {
-    // Laws that the contract rests on: the rounds begin at THE opening, and don't end because one is quiet.
+    // Laws that the contract rests on: the rounds begin in the initial state, and don't end because one is quiet.
     drives_from_opening();
     never_ends_quiet();
     let (bench, mut desks) = open(alloc, plan)?;
@@ -71,7 +71,7 @@ pub fn by_rounds<'p, A: Allocator + Copy>(
 /// Runs a plan by worker threads: worker `w` takes the turns of the jobs whose number is `w` modulo the workers, at most this
 /// many turns of each, and passes the gate before each turn. It ends early once it has seen all jobs retired.
 ///
-/// Memory is taken before the first turn and after the last; if a growth is refused, nothing is left of the run. If a
+/// Memory is taken before the first turn and after the last; if an allocation fails, nothing is left of the run. If a
 /// thread can't be made, its turns are taken on another.
 pub fn by_threads<'p, R: Threads + Sync, A: Allocator + Copy + Send + Sync, G: Gate>(
     rt: &R,

@@ -130,7 +130,7 @@ fn starts<T: Allocator + Copy>(rt: &impl Abort, heap: T, plan: &Plan<T>) -> bool
     }
 }
 
-// The same for THE opening.
+// The same for the initial state.
 fn opens<T: Allocator + Copy>(heap: T, plan: &Plan<T>) -> bool {
     match World::opening(heap, plan) {
         Ok(world) => world.enabled(Event::Thirst(A)),
@@ -138,7 +138,7 @@ fn opens<T: Allocator + Copy>(heap: T, plan: &Plan<T>) -> bool {
     }
 }
 
-// Whether a heap that holds the plan has memory for a start, and for THE opening; none where it doesn't do for the plan.
+// Whether a heap that holds the plan has memory for a start, and for the initial state; none where it doesn't do for the plan.
 fn begins<T: Allocator + Copy>(rt: &impl Abort, heap: T) -> Option<(bool, bool)> {
     let Ok(plan) = read_plan(heap, TWO.as_bytes()) else {
         return None;
@@ -148,7 +148,7 @@ fn begins<T: Allocator + Copy>(rt: &impl Abort, heap: T) -> Option<(bool, bool)>
 
 // A heap that is a little larger in each run: from the first that does on, each does.
 #[test]
-fn growths_are_refused(rt: HostRuntime) -> Result<(), Fail> {
+fn allocations_are_refused(rt: HostRuntime) -> Result<(), Fail> {
     let (mut started, mut opened) = (false, false);
     let (mut starts_refused, mut openings_refused) = (false, false);
     for budget in 0..512 {

@@ -144,9 +144,9 @@ pub(super) fn has_room<T: Allocator>(
     }
 }
 
-/// Each growth is refused in turn, by a heap that is a little larger in each run.
+/// Each allocation is refused in turn, by a heap that is a little larger in each run.
 #[test]
-fn refuses_growth(rt: HostRuntime) -> Result<(), Fail> {
+fn refuses_allocation(rt: HostRuntime) -> Result<(), Fail> {
     let (mut refusals, mut answers) = (0u32, 0u32);
     for budget in 1..40usize {
         let heap = LocalHeap::new(rt.alloc(), 16 * budget)?;

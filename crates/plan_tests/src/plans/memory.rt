@@ -34,7 +34,7 @@ fn fill<'a>(rt: &impl Abort, alloc: Global, heap: &'a LocalHeap) -> Blocks<'a> {
     }
 }
 
-/// Adds the example's lines. The first growth that is refused lets the ballast go, and the line
+/// Adds the example's lines. The first allocation that is refused lets the ballast go, and the line
 /// then goes through.
 fn build<A: Allocator + Copy, B: Drop>(
     rt: &impl Abort,
@@ -86,7 +86,7 @@ fn ballast_of<'a>(rt: &impl Abort, heap: &'a LocalHeap, room: usize) -> Vec<u8, 
     }
 }
 
-/// Builds the example with so much room for its growths at first, and tells whether a line had to wait
+/// Builds the example with so much room for its allocations at first, and tells whether a line had to wait
 /// for the ballast, and whether its end had to.
 fn build_with_room(rt: &impl Abort, alloc: Global, room: usize) -> (bool, bool) {
     let heap = heap_of(rt, alloc, HEAP);
@@ -97,10 +97,10 @@ fn build_with_room(rt: &impl Abort, alloc: Global, room: usize) -> (bool, bool) 
     (waited, finish(rt, builder, ballast))
 }
 
-/// The room that is left at first grows by 16 bytes a run, so each growth in turn is the first
+/// The room that is left at first grows by 16 bytes a run, so each allocation in turn is the first
 /// that is refused; then the rest of the heap comes free.
 #[test]
-fn goes_on_after_each_refused_growth(rt: HostRuntime) {
+fn goes_on_after_each_refused_allocation(rt: HostRuntime) {
     let mut refused = 0u32;
     let mut refused_at_end = 0u32;
     for room in 1..800usize {

@@ -1,4 +1,4 @@
-//! Memory that runs out: each growth of a run is refused in turn, and nothing else is told.
+//! Memory that runs out: each allocation of a run is refused in turn, and nothing else is told.
 use super::{AMPLE, Pieces, Slow, TWO_ADD, Told, may_run};
 use lab_program::{FromRead, Outcome, RunFault};
 use lab_runs::{NoGate, Task, run_task};
@@ -10,7 +10,7 @@ use std::io::ErrorKind;
 use std::process::Abort;
 use std::thread::Threads;
 
-/// A run on a heap that refuses this growth, over a writer that takes its memory elsewhere; and how many growths it asked for.
+/// A run on a heap that refuses this allocation, over a writer that takes its memory elsewhere; and how many allocations it asked for.
 fn told_without<R: Threads + Abort + Sync>(
     rt: &R,
     out: Global,
@@ -34,7 +34,7 @@ fn told_without<R: Threads + Abort + Sync>(
     let mut sink = ToWrite::new(&mut slow);
     assert!(rt; may_run(&task));
     let answer = run_task(task, rt, &heap, &mut source, &mut sink, &NoGate);
-    ((slow.bytes, answer), heap.growths())
+    ((slow.bytes, answer), heap.allocations())
 }
 
 fn is_no_memory(answer: &Result<Outcome, RunFault>) -> bool {
@@ -45,8 +45,13 @@ fn is_no_memory(answer: &Result<Outcome, RunFault>) -> bool {
     }
 }
 
-/// Each growth of a run is refused. How many there are in all, and how many while it reads its script.
-fn growths<R: Threads + Abort + Sync>(rt: &R, out: Global, task: Task, text: &[u8]) -> (u64, u64) {
+/// Each allocation of a run is refused. How many there are in all, and how many while it reads its script.
+fn allocations<R: Threads + Abort + Sync>(
+    rt: &R,
+    out: Global,
+    task: Task,
+    text: &[u8],
+) -> (u64, u64) {
     let ((_, whole), all) = told_without(rt, out, task, text, 0);
     assert!(rt; whole.is_ok());
     let mut script = 0u64;
@@ -54,7 +59,7 @@ fn growths<R: Threads + Abort + Sync>(rt: &R, out: Global, task: Task, text: &[u
         let ((bytes, answer), _) = told_without(rt, out, task, text, number + 1);
         assert!(rt;
             is_no_memory(&answer) && bytes.is_empty(),
-            "growth {number}"
+            "allocation {number}"
         );
         if answer != Err(RunFault::NoMemory) {
             script = script.saturating_add(1);
@@ -67,9 +72,9 @@ fn growths<R: Threads + Abort + Sync>(rt: &R, out: Global, task: Task, text: &[u
 const STEPS: &str =
     "lab 1\njob a\nsession\nscale add 1\nend\njob b\nsession\nscale add 1\nend\nsteps\nthirst a\n";
 
-/// Some growths are refused while the script is read, and some behind it, but for an upgrade, which needs no more.
+/// Some allocations are refused while the script is read, and some behind it, but for an upgrade, which needs no more.
 #[test]
-fn growths_of_each_run(rt: HostRuntime) {
+fn allocations_of_each_run(rt: HostRuntime) {
     for (task, text) in [
         (Task::Replay, STEPS),
         (Task::Check, TWO_ADD),
@@ -79,7 +84,7 @@ fn growths_of_each_run(rt: HostRuntime) {
         (by(2), TWO_ADD),
         (by(32), TWO_ADD),
     ] {
-        let (all, script) = growths(&rt, rt.alloc(), task, text.as_bytes());
+        let (all, script) = allocations(&rt, rt.alloc(), task, text.as_bytes());
         assert!(rt; script > 0 && (script < all || task == Task::Upgrade));
     }
 }

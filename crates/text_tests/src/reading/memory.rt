@@ -1,4 +1,4 @@
-//! Memory that runs out: each growth in turn is the first that is refused, and nothing else is told.
+//! Memory that runs out: each allocation in turn is the first that is refused, and nothing else is told.
 use super::limits::steps_text;
 use super::{BENCH, check_bench};
 use crate::rows::check;
@@ -51,7 +51,7 @@ fn has_room_for_plan(rt: &impl Abort, alloc: Global, room: usize) -> bool {
 }
 
 #[test]
-fn growths_of_a_plan(rt: HostRuntime) {
+fn allocations_of_a_plan(rt: HostRuntime) {
     let mut read = 0u32;
     for room in 1..800usize {
         let has_room = has_room_for_plan(&rt, rt.alloc(), 16 * room);
@@ -102,7 +102,7 @@ fn count_lines(rt: &impl Abort, alloc: Global, text: &[u8]) -> (u32, u32) {
 }
 
 #[test]
-fn growths_of_a_list(rt: HostRuntime) {
+fn allocations_of_a_list(rt: HostRuntime) {
     let text = steps_text(&rt, rt.alloc(), "sit a\n", 600);
     let (refused, refused_at_steps) = count_lines(&rt, rt.alloc(), text.as_bytes());
     let is_some = refused > 10 && refused < 799;
