@@ -5,7 +5,7 @@ ghost use Rattle.dining_layer.specs.Tries.{tried_as};
 use edge_rule::Stepped;
 use edge_word::EdgeWord;
 
-/// What became of a move.
+/// What became of a move. `Moved` is said of the edge: the move is lost.
 #[must_use]
 #[derive(Clone, Copy, PartialEq, Eq, Debug)]
 pub enum Tried {

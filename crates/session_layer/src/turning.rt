@@ -19,13 +19,13 @@ use std::alloc::Allocator;
 pub enum Visited {
     /// Its moves were done.
     Done,
-    /// Another job changed the word first; nothing was done.
+    /// Lost: another job changed the word first; nothing was done.
     Lost,
     /// Nothing was due.
     Calm,
 }
 
-/// What became of a turn.
+/// What became of a turn. `Moved` is said of edges: each exchange that was due is lost.
 #[must_use]
 #[derive(Clone, Copy, PartialEq, Eq, Debug)]
 pub enum Turned {
