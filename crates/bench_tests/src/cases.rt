@@ -105,39 +105,31 @@ const AT_ONCE: [Line; 10] = [
     (B, Look(AB), Word(CLEAN_B_ASKED_BOTTLE_B_ASKED)),
 ];
 
-const NO_MOVES: EdgeMoves = EdgeMoves {
-    give_fork: false,
-    give_bottles: 0,
-    ask_fork: false,
-    ask_bottles: 0,
-    soil: false,
-};
-
 const ASK_BOTH: EdgeMoves = EdgeMoves {
     ask_fork: true,
     ask_bottles: 1,
-    ..NO_MOVES
+    ..EdgeMoves::NONE
 };
 
 const ASK_FORK: EdgeMoves = EdgeMoves {
     ask_fork: true,
-    ..NO_MOVES
+    ..EdgeMoves::NONE
 };
 
 const ASK_NO_BOTTLE_OF_THE_EDGE: EdgeMoves = EdgeMoves {
     ask_bottles: 2,
-    ..NO_MOVES
+    ..EdgeMoves::NONE
 };
 
 const GIVE_BOTTLE: EdgeMoves = EdgeMoves {
     give_bottles: 1,
-    ..NO_MOVES
+    ..EdgeMoves::NONE
 };
 
 const GIVE_BOTH: EdgeMoves = EdgeMoves {
     give_fork: true,
     give_bottles: 1,
-    ..NO_MOVES
+    ..EdgeMoves::NONE
 };
 
 const GIVE_BOTH_AND_ASK: EdgeMoves = EdgeMoves {
@@ -159,7 +151,7 @@ const IN_GROUPS: [Line; 17] = [
     (B, Store(Thirst), Far(THIRSTY)),
     (B, Store(Hunger), Far(THIRSTY_HUNGRY)),
     (B, May(These(ASK_BOTH), AB), Is(true)),
-    (B, May(These(NO_MOVES), AB), Is(false)),
+    (B, May(These(EdgeMoves::NONE), AB), Is(false)),
     // of two jobs there is but one edge
     (B, May(These(ASK_BOTH), AC), Is(false)),
     (B, May(These(ASK_NO_BOTTLE_OF_THE_EDGE), AB), Is(false)),
@@ -187,7 +179,7 @@ const IN_GROUPS: [Line; 17] = [
 /// All three bottles of an edge.
 const ASK_THREE: EdgeMoves = EdgeMoves {
     ask_bottles: 7,
-    ..NO_MOVES
+    ..EdgeMoves::NONE
 };
 
 /// The same moves on an edge of the job, and on one of the others.

@@ -6,9 +6,7 @@ ghost use Rattle.legal_steps.specs.Steps.{IsStepOf};
 use crate::benches::{A, AB, B, event_of, is_step_of, plan_of};
 use every_list::try_list;
 use instrument_log::Entry;
-use interleaving::{
-    Counts, Dining, Drinking, EdgeState, End, Event, JobState, NotLegal, Step, StepLine, World,
-};
+use interleaving::{Counts, EdgeState, End, Event, JobState, NotLegal, Step, StepLine, World};
 use lab_plan::{InstrumentNo, JobNo, Plan};
 use phases::{Allowed, allows};
 use std::alloc::Allocator;
@@ -55,13 +53,6 @@ const OPENED_EDGE: EdgeState = EdgeState {
     bottle_tokens: 1,
 };
 
-const IDLE: JobState = JobState {
-    dining: Dining::Thinking,
-    drinking: Drinking::Tranquil,
-    session: 0,
-    position: 0,
-};
-
 const NO_COUNTS: Counts = Counts {
     meals: 0,
     sessions_done: 0,
@@ -70,8 +61,8 @@ const NO_COUNTS: Counts = Counts {
 
 const OPENED: Shown = Shown {
     edge: OPENED_EDGE,
-    a: IDLE,
-    b: IDLE,
+    a: JobState::IDLE,
+    b: JobState::IDLE,
     counts: NO_COUNTS,
     counts_of_b: NO_COUNTS,
     marks: NONE,

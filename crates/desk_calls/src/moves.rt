@@ -9,14 +9,6 @@ use edge_word::EdgeMoves;
 use lab_plan::EdgeNo;
 use std::alloc::Allocator;
 
-const NONE: EdgeMoves = EdgeMoves {
-    give_fork: false,
-    give_bottles: 0,
-    ask_fork: false,
-    ask_bottles: 0,
-    soil: false,
-};
-
 /// Sends the request token of the edge's fork to the other end.
 pub fn ask_fork<A: Allocator>(bench: &Bench<A>, desk: &mut Desk<A>, edge: EdgeNo) -> Stepped
     requires own { Owns bench.now desk.old }
@@ -25,7 +17,7 @@ pub fn ask_fork<A: Allocator>(bench: &Bench<A>, desk: &mut Desk<A>, edge: EdgeNo
 {
     let moves = EdgeMoves {
         ask_fork: true,
-        ..NONE
+        ..EdgeMoves::NONE
     };
     exchange(bench, desk, edge, moves)
 }
@@ -38,7 +30,7 @@ pub fn give_fork<A: Allocator>(bench: &Bench<A>, desk: &mut Desk<A>, edge: EdgeN
 {
     let moves = EdgeMoves {
         give_fork: true,
-        ..NONE
+        ..EdgeMoves::NONE
     };
     exchange(bench, desk, edge, moves)
 }
@@ -49,7 +41,10 @@ pub fn soil<A: Allocator>(bench: &Bench<A>, desk: &mut Desk<A>, edge: EdgeNo) ->
     requires may { May desk.old.plan (known desk.old) (Soil desk.old.job edge) }
     ensures { Made desk.old (Soil desk.old.job edge) edge result desk.new }
 {
-    let moves = EdgeMoves { soil: true, ..NONE };
+    let moves = EdgeMoves {
+        soil: true,
+        ..EdgeMoves::NONE
+    };
     exchange(bench, desk, edge, moves)
 }
 
@@ -66,7 +61,7 @@ pub fn ask_bottles<A: Allocator>(
 {
     let moves = EdgeMoves {
         ask_bottles: set,
-        ..NONE
+        ..EdgeMoves::NONE
     };
     exchange(bench, desk, edge, moves)
 }
@@ -84,7 +79,7 @@ pub fn give_bottles<A: Allocator>(
 {
     let moves = EdgeMoves {
         give_bottles: set,
-        ..NONE
+        ..EdgeMoves::NONE
     };
     exchange(bench, desk, edge, moves)
 }

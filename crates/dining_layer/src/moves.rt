@@ -23,10 +23,7 @@ pub fn give<A: Allocator>(bench: &Bench<A>, desk: &mut Desk<A>, edge: EdgeNo) ->
     }
     let moves = EdgeMoves {
         give_fork: true,
-        give_bottles: 0,
-        ask_fork: false,
-        ask_bottles: 0,
-        soil: false,
+        ..EdgeMoves::NONE
     };
     answered(exchange(bench, desk, edge, moves))
 }
@@ -41,11 +38,8 @@ pub fn ask<A: Allocator>(bench: &Bench<A>, desk: &mut Desk<A>, edge: EdgeNo) -> 
         return Tried::NotLegal;
     }
     let moves = EdgeMoves {
-        give_fork: false,
-        give_bottles: 0,
         ask_fork: true,
-        ask_bottles: 0,
-        soil: false,
+        ..EdgeMoves::NONE
     };
     answered(exchange(bench, desk, edge, moves))
 }
@@ -60,11 +54,8 @@ pub fn soil<A: Allocator>(bench: &Bench<A>, desk: &mut Desk<A>, edge: EdgeNo) ->
         return Tried::NotLegal;
     }
     let moves = EdgeMoves {
-        give_fork: false,
-        give_bottles: 0,
-        ask_fork: false,
-        ask_bottles: 0,
         soil: true,
+        ..EdgeMoves::NONE
     };
     answered(exchange(bench, desk, edge, moves))
 }

@@ -107,14 +107,7 @@ pub fn all_gifts<A: Allocator>(bench: &Bench<A>, desk: &Desk<A>, edge: EdgeNo) -
     requires edge { IsOwn desk.now.plan desk.now.job edge }
     ensures { IsGreatest desk.now.plan edge result (MayGiveBottle desk.now.plan (known desk.now) desk.now.job edge) }
 {
-    let none = EdgeMoves {
-        give_fork: false,
-        give_bottles: 0,
-        ask_fork: false,
-        ask_bottles: 0,
-        soil: false,
-    };
-    with_bottles(bench, desk, edge, none).give_bottles
+    with_bottles(bench, desk, edge, EdgeMoves::NONE).give_bottles
 }
 
 /// All bottles that may be asked for, by the word last seen.

@@ -21,11 +21,8 @@ pub fn serve_bottles<A: Allocator>(bench: &Bench<A>, desk: &mut Desk<A>, edge: E
         return Tried::NotLegal;
     }
     let moves = EdgeMoves {
-        give_fork: false,
         give_bottles: set,
-        ask_fork: false,
-        ask_bottles: 0,
-        soil: false,
+        ..EdgeMoves::NONE
     };
     answered(exchange(bench, desk, edge, moves))
 }
@@ -41,11 +38,8 @@ pub fn want_bottles<A: Allocator>(bench: &Bench<A>, desk: &mut Desk<A>, edge: Ed
         return Tried::NotLegal;
     }
     let moves = EdgeMoves {
-        give_fork: false,
-        give_bottles: 0,
-        ask_fork: false,
         ask_bottles: set,
-        soil: false,
+        ..EdgeMoves::NONE
     };
     answered(exchange(bench, desk, edge, moves))
 }

@@ -17,7 +17,7 @@ use atomic_table::{Seat, Table};
 use edge_word::EdgeWord;
 use instrument_log::InstrumentLog;
 use lab_plan::{EdgeNo, JobNo, Plan};
-use legal_steps::{Dining, Drinking, JobState, NO_COUNTS};
+use legal_steps::{JobState, NO_COUNTS};
 use one_history::board::{Board, Deals, View};
 use plan_logs::empty_logs;
 use std::alloc::{AllocError, Allocator};
@@ -70,12 +70,7 @@ fn next_desk<A: Allocator + Copy>(
     let seen = fresh_edges(alloc, plan)?;
     let calm = Vec::from_elem(alloc, NO_WORD, count)?;
     let needed = Vec::from_elem(alloc, 0u32, count)?;
-    let phase = JobState {
-        dining: Dining::Thinking,
-        drinking: Drinking::Tranquil,
-        session: 0,
-        position: 0,
-    };
+    let phase = JobState::IDLE;
     let number = JobNo(job as u8);
     let seat = table.shared.split_seat::<Deals>(keeper);
     Ok(Desk {

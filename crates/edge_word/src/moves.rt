@@ -21,6 +21,15 @@ impl EdgeMoves {
     ghost use Rattle.lab_plan.specs.Limits.{most_bottles};
     ghost use Rattle.edge_word.specs.Moves.{AreOfBottles, is_nothing, fork_mark_after, bottle_marks_after};
 
+    /// No move.
+    pub const NONE: EdgeMoves = EdgeMoves {
+        give_fork: false,
+        give_bottles: 0,
+        ask_fork: false,
+        ask_bottles: 0,
+        soil: false,
+    };
+
     /// Whether there is no move.
     pub fn is_empty(&self) -> bool
         ensures { result ≡ is_nothing self.now }

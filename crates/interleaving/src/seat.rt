@@ -3,7 +3,7 @@ ghost use Rattle.std.specs.Prelude.{◌≡◌, ◌<◌, length, slice_index_or, 
 ghost use Rattle.legal_steps.specs.State.{idle_phase};
 ghost use Rattle.legal_steps.specs.Legal.{with_fork_mark, with_bottle_marks, turned_to};
 
-use legal_steps::{Dining, Drinking, JobState};
+use legal_steps::{Dining, JobState};
 use std::alloc::{AllocError, Allocator, Global};
 use std::marker::Model;
 
@@ -27,14 +27,8 @@ impl<A: Allocator + Copy> JobSeat<A> {
     pub(crate) fn idle(alloc: A, edges: usize) -> Result<JobSeat<A>, AllocError>
         ensures { IfOk result (λ seat. seat ≡ record { phase = idle_phase; fork_marks = replicate edges false; bottle_marks = replicate edges 0 }) }
     {
-        let phase = JobState {
-            dining: Dining::Thinking,
-            drinking: Drinking::Tranquil,
-            session: 0,
-            position: 0,
-        };
         Ok(JobSeat {
-            phase,
+            phase: JobState::IDLE,
             fork_marks: vec![in alloc; false; edges]?,
             bottle_marks: vec![in alloc; 0; edges]?,
         })

@@ -48,6 +48,14 @@ pub struct JobState {
 impl JobState {
     ghost use Rattle.legal_steps.specs.State.{IsDrinking, IsInSession};
 
+    /// A job before its first event.
+    pub const IDLE: JobState = JobState {
+        dining: Dining::Thinking,
+        drinking: Drinking::Tranquil,
+        session: 0,
+        position: 0,
+    };
+
     /// Whether the job is in a session: it is thirsty, drinks or reaches.
     pub fn is_in_session(self) -> bool
         ensures { IsTrue result ↔ IsInSession self.drinking }

@@ -12,14 +12,6 @@ const OPENING: u64 = 4294967302;
 // That of an edge with 28.
 const OPENING_OF_28: u64 = 1152921500311879686;
 
-const NO_MOVE: EdgeMoves = EdgeMoves {
-    give_fork: false,
-    give_bottles: 0,
-    ask_fork: false,
-    ask_bottles: 0,
-    soil: false,
-};
-
 #[test]
 fn opening_words(rt: HostRuntime) {
     let most = EdgeWord::opening(28).pack();
@@ -195,24 +187,24 @@ fn follow(rt: &impl Abort, groups: &[(EdgeMoves, u64)]) {
 
 const ASK_BOTTLE: EdgeMoves = EdgeMoves {
     ask_bottles: 1,
-    ..NO_MOVE
+    ..EdgeMoves::NONE
 };
 
 const ASK_FORK: EdgeMoves = EdgeMoves {
     ask_fork: true,
-    ..NO_MOVE
+    ..EdgeMoves::NONE
 };
 
 const GIVE_BOTH: EdgeMoves = EdgeMoves {
     give_fork: true,
     give_bottles: 1,
-    ..NO_MOVE
+    ..EdgeMoves::NONE
 };
 
 const ASK_BOTH: EdgeMoves = EdgeMoves {
     ask_fork: true,
     ask_bottles: 1,
-    ..NO_MOVE
+    ..EdgeMoves::NONE
 };
 
 const GIVE_BOTH_AND_ASK: EdgeMoves = EdgeMoves {
@@ -245,12 +237,12 @@ fn sets_are_of_an_edge(rt: HostRuntime) {
 const ASK_SECOND: EdgeMoves = EdgeMoves {
     give_bottles: 1,
     ask_bottles: 2,
-    ..NO_MOVE
+    ..EdgeMoves::NONE
 };
 
 #[test]
 fn moves_are_of_an_edge(rt: HostRuntime) {
-    check(&rt, 1, NO_MOVE.are_of_bottles(1), true);
+    check(&rt, 1, EdgeMoves::NONE.are_of_bottles(1), true);
     check(&rt, 2, ASK_SECOND.are_of_bottles(2), true);
     check(&rt, 1, ASK_SECOND.are_of_bottles(1), false);
 }
@@ -258,7 +250,7 @@ fn moves_are_of_an_edge(rt: HostRuntime) {
 const GIVE: EdgeMoves = EdgeMoves {
     give_fork: true,
     give_bottles: 6,
-    ..NO_MOVE
+    ..EdgeMoves::NONE
 };
 
 const GIVE_AND_SOIL: EdgeMoves = EdgeMoves { soil: true, ..GIVE };
@@ -268,8 +260,8 @@ fn fork_marks_after_moves(rt: HostRuntime) {
     for (moves, old, wanted) in [
         (GIVE, true, false),
         (GIVE_AND_SOIL, false, true),
-        (NO_MOVE, true, true),
-        (NO_MOVE, false, false),
+        (EdgeMoves::NONE, true, true),
+        (EdgeMoves::NONE, false, false),
     ] {
         check(&rt, (moves, old), moves.fork_mark(old), wanted);
     }
@@ -278,7 +270,7 @@ fn fork_marks_after_moves(rt: HostRuntime) {
 #[test]
 fn bottle_marks_after_moves(rt: HostRuntime) {
     check(&rt, GIVE, GIVE.bottle_marks(7), 1);
-    check(&rt, NO_MOVE, NO_MOVE.bottle_marks(5), 5);
+    check(&rt, EdgeMoves::NONE, EdgeMoves::NONE.bottle_marks(5), 5);
 }
 
 #[test]
@@ -299,27 +291,27 @@ fn laws_of_words() {
 
 const GIVE_FORK: EdgeMoves = EdgeMoves {
     give_fork: true,
-    ..NO_MOVE
+    ..EdgeMoves::NONE
 };
 
 const GIVE_BOTTLE: EdgeMoves = EdgeMoves {
     give_bottles: 1,
-    ..NO_MOVE
+    ..EdgeMoves::NONE
 };
 
 const ASK_OTHER: EdgeMoves = EdgeMoves {
     ask_bottles: 2,
-    ..NO_MOVE
+    ..EdgeMoves::NONE
 };
 
 const SOIL: EdgeMoves = EdgeMoves {
     soil: true,
-    ..NO_MOVE
+    ..EdgeMoves::NONE
 };
 
 #[test]
 fn a_group_is_empty_where_it_has_no_move(rt: HostRuntime) {
-    check(&rt, NO_MOVE, NO_MOVE.is_empty(), true);
+    check(&rt, EdgeMoves::NONE, EdgeMoves::NONE.is_empty(), true);
     for moves in [GIVE_FORK, GIVE_BOTTLE, ASK_FORK, ASK_OTHER, SOIL] {
         check(&rt, moves, moves.is_empty(), false);
     }

@@ -88,37 +88,21 @@ fn bottles_and_drinking(rt: HostRuntime) {
     check(&rt, rt.alloc(), TWO, &A_BOTTLE, &[0, 0]);
 }
 
-/// Nothing to move.
-const CALM: EdgeMoves = EdgeMoves {
-    give_fork: false,
-    give_bottles: 0,
-    ask_fork: false,
-    ask_bottles: 0,
-    soil: false,
-};
-
 const ASKS_FORK: EdgeMoves = EdgeMoves {
-    give_fork: false,
-    give_bottles: 0,
     ask_fork: true,
-    ask_bottles: 0,
-    soil: false,
+    ..EdgeMoves::NONE
 };
 
 const ASKS_BOTH: EdgeMoves = EdgeMoves {
-    give_fork: false,
-    give_bottles: 0,
     ask_fork: true,
     ask_bottles: 1,
-    soil: false,
+    ..EdgeMoves::NONE
 };
 
 const GIVES_AND_ASKS_FORK: EdgeMoves = EdgeMoves {
     give_fork: true,
-    give_bottles: 0,
     ask_fork: true,
-    ask_bottles: 0,
-    soil: false,
+    ..EdgeMoves::NONE
 };
 
 const GIVES_AND_ASKS_BOTH: EdgeMoves = EdgeMoves {
@@ -126,15 +110,12 @@ const GIVES_AND_ASKS_BOTH: EdgeMoves = EdgeMoves {
     give_bottles: 1,
     ask_fork: true,
     ask_bottles: 1,
-    soil: false,
+    ..EdgeMoves::NONE
 };
 
 const SOILS: EdgeMoves = EdgeMoves {
-    give_fork: false,
-    give_bottles: 0,
-    ask_fork: false,
-    ask_bottles: 0,
     soil: true,
+    ..EdgeMoves::NONE
 };
 
 /// All that is due on an edge goes in one exchange: a gives fork and bottle, and asks for both again.
@@ -152,8 +133,8 @@ const ALL_AT_ONCE: [Row; 19] = rows! {
     A: On(AB, Due) => Moves(GIVES_AND_ASKS_BOTH), [DIRTY_A_ASKED_BOTTLE_A_ASKED], Hungry Thirsty 1 0;
     A: Turn => Acted(1), [CLEAN_B_ASKED_BOTTLE_B_ASKED], Hungry Thirsty 1 0;
     B: On(AB, Look) => Saw(CLEAN_B_ASKED_BOTTLE_B_ASKED), [CLEAN_B_ASKED_BOTTLE_B_ASKED], Hungry Thirsty 1 0;
-    B: On(AB, Forks) => Moves(CALM), [CLEAN_B_ASKED_BOTTLE_B_ASKED], Hungry Thirsty 1 0;
-    B: On(AB, Due) => Moves(CALM), [CLEAN_B_ASKED_BOTTLE_B_ASKED], Hungry Thirsty 1 0;
+    B: On(AB, Forks) => Moves(EdgeMoves::NONE), [CLEAN_B_ASKED_BOTTLE_B_ASKED], Hungry Thirsty 1 0;
+    B: On(AB, Due) => Moves(EdgeMoves::NONE), [CLEAN_B_ASKED_BOTTLE_B_ASKED], Hungry Thirsty 1 0;
     B: Store(Sit) => Done, [CLEAN_B_ASKED_BOTTLE_B_ASKED], Eating Thirsty 1 0;
     B: On(AB, Forks) => Moves(SOILS), [CLEAN_B_ASKED_BOTTLE_B_ASKED], Eating Thirsty 1 0;
     B: On(AB, Due) => Moves(SOILS), [CLEAN_B_ASKED_BOTTLE_B_ASKED], Eating Thirsty 1 0;

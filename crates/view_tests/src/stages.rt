@@ -69,13 +69,6 @@ const CLEAN: EdgeState = EdgeState {
     bottle_tokens: 3,
 };
 
-const IDLE: JobState = JobState {
-    dining: Dining::Thinking,
-    drinking: Drinking::Tranquil,
-    session: 0,
-    position: 0,
-};
-
 const THIRSTY: JobState = JobState {
     dining: Dining::Thinking,
     drinking: Drinking::Thirsty,
@@ -90,15 +83,21 @@ struct Case(Event, Option<Cause>);
 // Before the first step: looks, glances, and numbers beyond the plan.
 const SIGHTS: [Case; 10] = [
     Case(Event::Look(A, AB, OPENED), None),
-    Case(Event::Glance(A, B, IDLE), None),
+    Case(Event::Glance(A, B, JobState::IDLE), None),
     Case(Event::Thirst(NOBODY), Some(Cause::NotJob)),
-    Case(Event::Glance(NOBODY, A, IDLE), Some(Cause::NotJob)),
+    Case(
+        Event::Glance(NOBODY, A, JobState::IDLE),
+        Some(Cause::NotJob),
+    ),
     Case(Event::Look(A, EdgeNo(1), OPENED), Some(Cause::NotOwn)),
     Case(Event::Soil(NOBODY, AB), Some(Cause::NotOwn)),
     Case(Event::Look(A, AB, CLEAN), Some(Cause::SeesElse)),
     Case(Event::Glance(A, B, THIRSTY), Some(Cause::SeesElse)),
-    Case(Event::Glance(A, NOBODY, IDLE), Some(Cause::OtherNotJob)),
-    Case(Event::Glance(A, A, IDLE), Some(Cause::Itself)),
+    Case(
+        Event::Glance(A, NOBODY, JobState::IDLE),
+        Some(Cause::OtherNotJob),
+    ),
+    Case(Event::Glance(A, A, JobState::IDLE), Some(Cause::Itself)),
 ];
 
 // Before the first step: what a job does by itself.

@@ -71,12 +71,7 @@ impl<A: Allocator> JobLog<A> {
         ensures { result ≡ fresh_log }
     {
         JobLog {
-            phase: JobState {
-                dining: Dining::Thinking,
-                drinking: Drinking::Tranquil,
-                session: 0,
-                position: 0,
-            },
+            phase: JobState::IDLE,
             sessions: Vec::new(alloc),
             meals: Vec::new(alloc),
         }

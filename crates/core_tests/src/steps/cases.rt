@@ -1,5 +1,5 @@
 //! Whole runs.
-use super::{BOTTLE, IDLE, NO_COUNTS, NONE, OPENED, OPENED_EDGE, Shown, Way, after, replayed};
+use super::{BOTTLE, NO_COUNTS, NONE, OPENED, OPENED_EDGE, Shown, Way, after, replayed};
 use crate::benches::{A, AB, STALE_MARK, TWICE, TWO, stage};
 use instrument_log::Entry;
 use interleaving::{
@@ -120,7 +120,7 @@ const SAT_TWICE: Shown = Shown {
     b: JobState {
         drinking: Drinking::Drinking,
         session: 1,
-        ..IDLE
+        ..JobState::IDLE
     },
     counts: Counts {
         meals: 2,

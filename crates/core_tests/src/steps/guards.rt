@@ -1,5 +1,5 @@
 //! Where events are legal, also where no law of runs would tell.
-use super::{IDLE, NO_COUNTS, OPENED, OPENED_EDGE, Shown, after};
+use super::{NO_COUNTS, OPENED, OPENED_EDGE, Shown, after};
 use crate::benches::{A, AB, B, IMPATIENT, STALE_MARK, TWICE, TWO, stage};
 use interleaving::{Counts, Drinking, EdgeState, Event, JobState, Step};
 use lab_plan::{EdgeNo, JobNo};
@@ -156,7 +156,7 @@ const OF_PATIENCE: [Case; 5] = [
 const THIRSTY: JobState = JobState {
     drinking: Drinking::Thirsty,
     session: 1,
-    ..IDLE
+    ..JobState::IDLE
 };
 
 const CLEAN: EdgeState = EdgeState {
@@ -169,11 +169,11 @@ const OF_SIGHTS: [Case; 8] = [
     Case(stage::OPENING, Event::Look(A, AB, OPENED_EDGE), true),
     Case(stage::OPENING, Event::Look(B, AB, OPENED_EDGE), true),
     Case(stage::OPENING, Event::Look(A, AB, CLEAN), false),
-    Case(stage::OPENING, Event::Glance(A, B, IDLE), true),
+    Case(stage::OPENING, Event::Glance(A, B, JobState::IDLE), true),
     Case(stage::OPENING, Event::Glance(A, B, THIRSTY), false),
     Case(stage::B_THIRSTS, Event::Glance(A, B, THIRSTY), true),
-    Case(stage::B_THIRSTS, Event::Glance(A, B, IDLE), false),
-    Case(stage::OPENING, Event::Glance(A, A, IDLE), false),
+    Case(stage::B_THIRSTS, Event::Glance(A, B, JobState::IDLE), false),
+    Case(stage::OPENING, Event::Glance(A, A, JobState::IDLE), false),
 ];
 
 const NOBODY: JobNo = JobNo(2);
@@ -182,7 +182,7 @@ const BEYOND_THE_PLAN: [Case; 9] = [
     Case(0, Event::Thirst(NOBODY), false),
     Case(0, Event::Sit(NOBODY), false),
     Case(0, Event::Act(NOBODY), false),
-    Case(0, Event::Glance(A, NOBODY, IDLE), false),
+    Case(0, Event::Glance(A, NOBODY, JobState::IDLE), false),
     Case(0, Event::Look(NOBODY, AB, OPENED_EDGE), false),
     Case(0, Event::Look(A, EdgeNo(1), OPENED_EDGE), false),
     Case(A_QUITS, Event::GiveBottles(A, AB, 0), false),
@@ -205,7 +205,10 @@ fn guards(rt: HostRuntime) {
 
 // Job b gave its session up.
 const GIVEN_UP: Shown = Shown {
-    b: JobState { session: 1, ..IDLE },
+    b: JobState {
+        session: 1,
+        ..JobState::IDLE
+    },
     counts_of_b: Counts {
         withdrawn: 1,
         ..NO_COUNTS
