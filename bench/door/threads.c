@@ -24,7 +24,7 @@
 
 #define MOST_THREADS 32
 #define MOST_INSTRUMENTS 56
-#define PATIENCE_SECONDS 20
+#define PATIENCE_SECONDS 120 /* without any change: then a thread waits in vain, however busy the machine is */
 
 struct shop {
     struct lab_bench bench;
@@ -216,7 +216,9 @@ static void *go_freely(void *given) {
             if (until.tv_nsec >= 1000000000) until.tv_sec++, until.tv_nsec -= 1000000000;
             by_time = pthread_cond_timedwait(&shop->changed, &shop->mutex, &until) == ETIMEDOUT && seen == shop->changes;
         }
-        if (now() - last > PATIENCE_SECONDS) {
+        if (seen != shop->changes) {
+            last = now();
+        } else if (now() - last > PATIENCE_SECONDS) {
             expect(0, "%s: thread %u of %u waited for %d seconds", shop->name, me->number, shop->threads, PATIENCE_SECONDS);
             shop->stop = 1;
         }

@@ -87,7 +87,7 @@ int main(int count, char **words) {
         expect("command", first->command()->value == 5 && !first->command());
         first->finish();
         first.reset();
-        expect("what is left keeps nobody waiting", a.begin(5s)->number() == 2);
+        expect("what is left keeps nobody waiting", a.begin(300s)->number() == 2);
         auto left = b.begin();
         const bool lapsed = !left;
         left.reset();
@@ -102,7 +102,7 @@ int main(int count, char **words) {
         auto held = bench.desks()[0].begin();
         expect("late", throws<labrun::timed_out>([&] { bench.desks()[1].begin(20ms); }));
         held.reset();
-        expect("it keeps its place", bench.desks()[1].begin(5s)->number() == 1);
+        expect("it keeps its place", bench.desks()[1].begin(300s)->number() == 1);
     }
     {
         labrun::bench bench(two);
@@ -110,7 +110,7 @@ int main(int count, char **words) {
                    auto session = bench.desks()[0].begin();
                    throw std::runtime_error("the scope caught fire");
                }));
-        expect("the other goes on", bench.desks()[1].begin(5s).has_value());
+        expect("the other goes on", bench.desks()[1].begin(300s).has_value());
         expect("unfinished", !bench.close().finished);
     }
     {
@@ -120,7 +120,7 @@ int main(int count, char **words) {
         auto held = bench.desks()[0].begin();
         expect("patient", throws<labrun::timed_out>([&] { bench.desks()[1].begin(20ms); }));
         expect("withdrawn", bench.desks()[1].give_up());
-        expect("ran out", throws<labrun::withdrawn>([&] { bench.desks()[1].begin(20s); }));
+        expect("ran out", throws<labrun::withdrawn>([&] { bench.desks()[1].begin(300s); }));
     }
     expect("run", labrun::run(two).finished && !labrun::run(two, 0).finished);
     expect("check", labrun::check(two) == "ok jobs 2 instruments 1 edges 1 sessions 3 commands 3\n");

@@ -6,7 +6,8 @@
      ./broker --how locks [SCRIPT]                 a lock for each instrument instead, taken in the order in which the script names them:
                                                    the stations soon wait for each other for ever, which a time-out shows; status 4
      ./broker --how sorted [SCRIPT]                the same locks, all taken in one order
-     ./broker --threads N --seconds S              a load test: N stations (2 to 32) on six instruments, for S seconds (1 to 600), no pause
+     ./broker --threads N --seconds S              a load test: N stations (2 to 32) on six instruments, for S seconds (1 to 3600), no pause
+     ./broker --threads N --sessions M             the same until M sessions are done, or a few more
 
    Each instrument is a small server on 127.0.0.1 that speaks a line at a time (*IDN?, CONF N, ADD N, MEAS?, BYE). It refuses a second
    client while one talks to it, and counts that: so a broker that lets two stations at one instrument is seen from outside. The
@@ -32,7 +33,8 @@
 #define LINE 64
 #define TIME_OUT 5 /* seconds that a station waits for its instruments before it says who keeps it waiting */
 #define LOCK_TIME_OUT 2
-#define MOST_PASSES 20 /* of locks in the script's order, until they dead-lock */
+#define SORTED_TIME_OUT 60 /* it doesn't come to that, also on a busy machine */
+#define MOST_PASSES 1000 /* of locks in the script's order, until they dead-lock */
 
 enum how { BY_BENCH, BY_LOCKS, BY_SORTED_LOCKS };
 
@@ -430,7 +432,7 @@ static int session_by_locks(struct station *me, const struct told_session *sessi
     double start = now();
     int in_time = 1;
     for (; taken < count; taken++) {
-        struct timespec until = after(how == BY_LOCKS ? LOCK_TIME_OUT : 10 * LOCK_TIME_OUT);
+        struct timespec until = after(how == BY_LOCKS ? LOCK_TIME_OUT : SORTED_TIME_OUT);
         uint32_t it = order[taken];
         if (pthread_mutex_timedlock(&locks[it], &until)) {
             int who = __atomic_load_n(&holder[it], __ATOMIC_RELAXED);
@@ -487,17 +489,17 @@ static char *script_of(const char *path) {
     return script;
 }
 
-/* A script for a load test: so many stations with a thousand sessions, each at two or three of six instruments, in any order. */
-static char *script_for(uint32_t threads) {
+/* A script for a load test: so many stations with so many sessions, each at two or three of six instruments, in any order. */
+static char *script_for(uint32_t threads, long sessions) {
     static const char *const names[] = {"scope", "supply-1", "supply-2", "meter", "generator", "analyser"};
-    size_t room = (size_t)threads * 1000 * 120 + 1000, length;
+    size_t room = (size_t)threads * (size_t)sessions * 120 + 1000, length;
     char *script = malloc(room);
     unsigned seed = 1;
     if (!script) stop("memory");
     length = (size_t)sprintf(script, "lab 1\n");
     for (uint32_t job = 0; job < threads; job++) {
         length += (size_t)sprintf(script + length, "job station-%u\n", job + 1);
-        for (int session = 0; session < 1000; session++) {
+        for (long session = 0; session < sessions; session++) {
             unsigned first = (unsigned)rand_r(&seed) % 6, step = 1 + (unsigned)rand_r(&seed) % 2, count = 2 + (unsigned)rand_r(&seed) % 2;
             length += (size_t)sprintf(script + length, "session\n");
             for (unsigned at = 0; at < count; at++) length += (size_t)sprintf(script + length, "%s add %u\n", names[(first + at * step) % 6], at + 1);
@@ -559,14 +561,20 @@ static int run_all(void *(*way)(void *)) {
     return gave_up;
 }
 
+static long sessions_done(void) {
+    long done = 0;
+    for (uint32_t at = 0; at < station_count; at++) done += stations[at].done;
+    return done;
+}
+
 static int usage(void) {
-    fputs("broker [--how bench|locks|sorted] [--threads N --seconds S] [SCRIPT]\n", stderr);
+    fputs("broker [--how bench|locks|sorted] [--threads N --seconds S | --threads N --sessions M] [SCRIPT]\n", stderr);
     return 2;
 }
 
 int main(int count, char **words) {
     const char *path = "examples/broker/bay.lab";
-    long threads = 0, seconds = 0;
+    long threads = 0, seconds = 0, wanted = 0;
     for (int at = 1; at < count; at++) {
         const char *next = at + 1 < count ? words[at + 1] : "";
         if (strcmp(words[at], "--how") == 0 && strcmp(next, "bench") == 0) how = BY_BENCH, at++;
@@ -574,13 +582,16 @@ int main(int count, char **words) {
         else if (strcmp(words[at], "--how") == 0 && strcmp(next, "sorted") == 0) how = BY_SORTED_LOCKS, at++;
         else if (strcmp(words[at], "--threads") == 0) threads = atol(next), at++;
         else if (strcmp(words[at], "--seconds") == 0) seconds = atol(next), at++;
+        else if (strcmp(words[at], "--sessions") == 0) wanted = atol(next), at++;
         else if (words[at][0] == '-') return usage();
         else path = words[at];
     }
-    if ((threads != 0) != (seconds != 0) || (threads && (threads < 2 || threads > 32 || seconds < 1 || seconds > 600))) return usage();
-    is_load = threads != 0;
+    is_load = threads || seconds || wanted;
+    if (is_load && (threads < 2 || threads > 32 || seconds < 0 || seconds > 3600 || wanted < 0 || !seconds == !wanted)) return usage();
     setvbuf(stdout, NULL, _IOLBF, 0);
-    char *script = is_load ? script_for((uint32_t)threads) : script_of(path);
+    /* (a script has at most 1000 sessions of a job) */
+    long each = wanted && wanted < threads * 1000 ? (wanted + threads - 1) / threads : 1000;
+    char *script = is_load ? script_for((uint32_t)threads, each) : script_of(path);
     open_bench(script);
     read_sessions(script);
     for (uint32_t at = 0; at < instrument_count; at++) {
@@ -596,19 +607,21 @@ int main(int count, char **words) {
     double start = now();
     uint32_t status = LAB_DONE;
     long passes = 0;
-    ends_at = start + (double)seconds;
+    int more = 0;
+    ends_at = wanted ? start + 1e9 : start + (double)seconds;
     do {
         if (how == BY_BENCH) {
             run_all(by_bench);
             status = close_bench(!is_load);
             if (status != LAB_DONE && status != LAB_UNFINISHED) break;
             turn_to_zero();
-            if (is_load && now() < ends_at) open_bench(script);
         } else if (run_all(by_locks)) {
             break;
         }
         passes++;
-    } while (is_load ? now() < ends_at : how == BY_LOCKS && passes < MOST_PASSES);
+        more = wanted ? sessions_done() < wanted : is_load ? now() < ends_at : how == BY_LOCKS && passes < MOST_PASSES;
+        if (more && how == BY_BENCH) open_bench(script);
+    } while (more);
     double took = now() - start;
     if (how != BY_BENCH) lab_bench_free(&bench);
     for (uint32_t at = 0; at < instrument_count; at++) stop_instrument(&instruments[at]);

@@ -5,6 +5,7 @@ usage: python3 broker.py [SCRIPT]                      the stations' sessions, b
        python3 broker.py --by sorted-order [SCRIPT]    the same, taken in the order of their names
        python3 broker.py --by nothing [SCRIPT]         the same without any: the instruments refuse
        python3 broker.py --threads N --seconds S       as many short sessions as N stations (1 to 32) do in S seconds
+       python3 broker.py --threads N --sessions M      M short sessions, or a few more, each station as many
 
 The package is found by PYTHONPATH (bindings/python), the library by LABRUN_LIBRARY. The status is 0 if all sessions were done and no
 instrument refused a client."""
@@ -18,21 +19,22 @@ import sys
 import threading
 import time
 from contextlib import ExitStack
-from typing import Callable
+from typing import Callable, Optional
 
 import labrun
 from instruments import Bay, Busy
 
 HERE = os.path.dirname(os.path.realpath(__file__))
 START = time.monotonic()
+MOST = 1000  # sessions of a job that a script may have
 
 
 def say(station: str, text: str) -> None:
     sys.stdout.write(f"{time.monotonic() - START:6.2f} s  {station:8} {text}\n")
 
 
-def work(bay: Bay, station: str, number: int, names: tuple[str, ...], seconds: float) -> None:
-    """The real work of a session: talks to its instruments, all at once, for some time."""
+def work(bay: Bay, station: str, number: int, names: tuple[str, ...], seconds: float) -> bool:
+    """The real work of a session: talks to its instruments, all at once, for some time. No if one refused."""
     try:
         with ExitStack() as talks:
             for name in names:
@@ -40,8 +42,10 @@ def work(bay: Bay, station: str, number: int, names: tuple[str, ...], seconds: f
                 if talk.ask("*IDN?") != name:
                     raise AssertionError(name)
             time.sleep(seconds)
+        return True
     except Busy:
         say(station, f"session {number}: an instrument refused")
+        return False
 
 
 def seconds_of(station: str, number: int) -> float:
@@ -87,8 +91,8 @@ def in_order(names: list[str]) -> list[str]:
     return sorted(names)
 
 
-def by_locks(script: bytes, bay: Bay, order: Callable[[list[str]], list[str]], repeats: int) -> bool:
-    """Without the bench: a lock for each instrument. A lock that isn't had within two seconds, of sessions of 0.2, is taken for a
+def by_locks(script: bytes, bay: Bay, order: Callable[[list[str]], list[str]], repeats: int, limit: float) -> bool:
+    """Without the bench: a lock for each instrument. A lock that isn't had within `limit` seconds, of sessions of 0.2, is taken for a
     dead-lock, and all stations give up."""
     jobs = sessions_of(script)
     locks = {name: threading.Lock() for sessions in jobs.values() for names in sessions for name in names}
@@ -99,9 +103,9 @@ def by_locks(script: bytes, bay: Bay, order: Callable[[list[str]], list[str]], r
         for number, names in enumerate(jobs[name] * repeats, 1):
             with ExitStack() as got:
                 for instrument in order(names):
-                    if not locks[instrument].acquire(timeout=2):
+                    if not locks[instrument].acquire(timeout=limit):
                         stuck.set()
-                        say(name, f"session {number} has waited 2 s for {instrument}, which {held.get(instrument)} has: dead-lock")
+                        say(name, f"session {number} has waited {limit:g} s for {instrument}, which {held.get(instrument)} has: dead-lock")
                         time.sleep(0.5)  # (lets the others say so too)
                     if stuck.is_set():
                         return
@@ -120,37 +124,45 @@ def by_locks(script: bytes, bay: Bay, order: Callable[[list[str]], list[str]], r
 
 
 def by_nothing(script: bytes, bay: Bay) -> bool:
+    """Over and over, until an instrument has refused a station."""
     jobs = sessions_of(script)
+    refused = threading.Event()
 
     def station(name: str) -> None:
         for number, names in enumerate(jobs[name], 1):
-            work(bay, name, number, tuple(names), seconds_of(name, number))
+            if not work(bay, name, number, tuple(names), seconds_of(name, number)):
+                refused.set()
 
-    threads = [threading.Thread(target=station, args=(name,)) for name in jobs]
-    for thread in threads:
-        thread.start()
-    for thread in threads:
-        thread.join()
+    for _ in range(20):
+        threads = [threading.Thread(target=station, args=(name,)) for name in jobs]
+        for thread in threads:
+            thread.start()
+        for thread in threads:
+            thread.join()
+        if refused.is_set():
+            break
     return True
 
 
-def load_script(names: list[str], stations: int, seed: int) -> str:
-    """Stations with as many sessions as a script may have, each of one to three of the instruments."""
+def load_script(names: list[str], stations: int, sessions: int, seed: int) -> str:
+    """Stations with so many sessions, each of one to three of the instruments."""
     chance = random.Random(seed)
     lines = ["lab 1"]
     for station in range(stations):
         lines.append(f"job station-{station + 1}")
-        for _ in range(1000):
+        for _ in range(sessions):
             chosen = chance.sample(names, chance.randint(1, 3))
             lines += ["session", *(f"{name} add 1" for name in chosen), "end"]
     return "\n".join(lines) + "\n"
 
 
-def by_load(names: list[str], stations: int, seconds: float, bay: Bay) -> bool:
-    """Bench after bench, until the time is over."""
-    ends, done, benches = time.monotonic() + seconds, 0, 0
-    while time.monotonic() < ends:
-        with labrun.Bench.from_text(load_script(names, stations, benches)) as bench:
+def by_load(names: list[str], stations: int, wanted: Optional[int], seconds: float, bay: Bay) -> bool:
+    """Bench after bench, each of as many sessions as a script may have, until so many are done, or the time is over."""
+    begun, done, benches, finished = time.monotonic(), 0, 0, True
+    ends = begun + seconds
+    while time.monotonic() < ends if wanted is None else done < wanted:
+        sessions = MOST if wanted is None else min(MOST, -((done - wanted) // stations))
+        with labrun.Bench.from_text(load_script(names, stations, sessions, benches)) as bench:
 
             def station(job: labrun.Job) -> None:
                 for session in job.sessions():
@@ -158,13 +170,15 @@ def by_load(names: list[str], stations: int, seconds: float, bay: Bay) -> bool:
                         work(bay, job.name, session.number, session.instruments, 0)
 
             timer = threading.Timer(max(0.0, ends - time.monotonic()), bench.stop)
-            timer.start()
+            if wanted is None:
+                timer.start()
             bench.run(station)
             timer.cancel()
         done += sum(job.done for job in bench.report.jobs)
         benches += 1
-    print(f"{done} sessions by {stations} threads in {seconds:g} s")
-    return True
+        finished = finished and (wanted is None or bench.report.finished)
+    print(f"{done} sessions by {stations} threads in {time.monotonic() - begun:.1f} s")
+    return finished
 
 
 def main() -> int:
@@ -173,20 +187,21 @@ def main() -> int:
     words.add_argument("--by", choices=("bench", "script-order", "sorted-order", "nothing"), default="bench")
     words.add_argument("--threads", type=int, choices=range(1, 33), metavar="N")
     words.add_argument("--seconds", type=float, default=10, metavar="S")
+    words.add_argument("--sessions", type=int, metavar="M")
     given = words.parse_args()
     with open(given.script, "rb") as file:
         script = file.read()
     names = sorted({name for sessions in sessions_of(script).values() for names in sessions for name in names})
     with Bay(names) as bay:
         if given.threads:
-            good = by_load(names, given.threads, min(given.seconds, 3600), bay)
+            good = by_load(names, given.threads, given.sessions, min(given.seconds, 3600), bay)
         elif given.by == "bench":
             good = by_bench(script, bay)
         elif given.by == "nothing":
             good = by_nothing(script, bay)
         else:
-            # (what may dead-lock is done over and over, until it does)
-            good = by_locks(script, bay, list, 20) if given.by == "script-order" else by_locks(script, bay, in_order, 1)
+            # (what may dead-lock is done over and over, until it does; what can't has time enough on a busy machine)
+            good = by_locks(script, bay, list, 1000, 2) if given.by == "script-order" else by_locks(script, bay, in_order, 1, 60)
     talks = sum(talks for talks, _ in bay.counts.values())
     print(f"{talks} talks with {len(names)} instruments, {bay.refused} refused")
     return 0 if good and not bay.refused else 1

@@ -178,10 +178,13 @@ class Session:
             with bench._mutex:
                 wait = bench._ask(self, wake)
             while wait.outcome is None:
+                # (not wait_for: before Python 3.12 it loses a cancellation that comes together with the event)
+                timer = loop.call_later(self._span(until), event.set)
                 try:
-                    await asyncio.wait_for(event.wait(), self._span(until))
-                except asyncio.TimeoutError:
-                    pass
+                    await event.wait()
+                finally:
+                    timer.cancel()
+                event.clear()
                 with bench._mutex:
                     if wait.outcome is None:
                         bench._may_go_on()
@@ -457,10 +460,14 @@ class Bench:
         failures: list[tuple[Job, BaseException]] = []
         # (not Thread.join: before Python 3.13 a join that is interrupted may take a thread for ended that isn't)
         back = [threading.Event() for _ in self.jobs]
+        # stations begin once all threads are there: so an interrupt before leaves none behind that has begun
+        all_there, called_off = threading.Event(), threading.Event()
 
         def work(job: Job) -> None:
+            all_there.wait()
             try:
-                station(job)
+                if not called_off.is_set():
+                    station(job)
             except Stopped:
                 pass
             except BaseException as fault:
@@ -470,16 +477,20 @@ class Bench:
                 back[job.index].set()
 
         until = None if timeout is None else time.monotonic() + timeout
-        started = 0
         try:
             for job in self.jobs:
                 threading.Thread(target=work, args=(job,), name=job.name, daemon=True).start()
-                started += 1
+            all_there.set()
             for event in back:
                 event.wait(None if until is None else max(0.0, until - time.monotonic()))
         except BaseException:
             self.stop()
-            for event in back[:started]:
+            begun = back if all_there.is_set() else []
+            if not begun:
+                called_off.set()
+            # (again, because an interrupt may have come in the midst of it)
+            all_there.set()
+            for event in begun:
                 event.wait(None if until is None else max(0.0, until - time.monotonic()))
             raise
         late = tuple(job.name for job, event in zip(self.jobs, back) if not event.is_set())

@@ -7,12 +7,12 @@ import sys
 import tempfile
 import unittest
 
-from tests.test_bench import child
+from tests.test_bench import LIMIT, child
 from tests.test_runs import TOP
 
 
 def ran(words: list[str], folder: str = TOP) -> "subprocess.CompletedProcess[str]":
-    return subprocess.run([sys.executable, *words], cwd=folder, env=child(), capture_output=True, text=True, timeout=100)
+    return subprocess.run([sys.executable, *words], cwd=folder, env=child(), capture_output=True, text=True, timeout=LIMIT)
 
 
 def broker(*words: str) -> "subprocess.CompletedProcess[str]":
@@ -27,10 +27,16 @@ class Broker(unittest.TestCase):
         self.assertRegex(done.stdout, r"(?m)^32 talks with 6 instruments, 0 refused$")
 
     def test_load(self) -> None:
-        done = broker("--threads", "16", "--seconds", "2")
+        done = broker("--threads", "16", "--sessions", "1000")
         self.assertEqual((done.returncode, done.stderr), (0, ""))
-        self.assertRegex(done.stdout, r"(?m)^[1-9]\d* sessions by 16 threads")
+        self.assertRegex(done.stdout, r"(?m)^1008 sessions by 16 threads")
         self.assertRegex(done.stdout, r"(?m)^[1-9]\d* talks with 6 instruments, 0 refused$")
+
+    def test_load_for_a_time(self) -> None:
+        done = broker("--threads", "4", "--seconds", "0.5")
+        self.assertEqual((done.returncode, done.stderr), (0, ""))
+        self.assertRegex(done.stdout, r"(?m)^\d+ sessions by 4 threads in \d+\.\d s$")
+        self.assertRegex(done.stdout, r"(?m)^\d+ talks with 6 instruments, 0 refused$")
 
     def test_script_order_locks(self) -> None:
         done = broker("--by", "script-order")

@@ -83,7 +83,7 @@ fn a_panic_lets_go() {
         panic!("the scope caught fire");
     });
     assert!(catch_unwind(body).is_err());
-    assert_eq!(b.begin_within(Duration::from_secs(5)).unwrap().unwrap().number(), 1);
+    assert_eq!(b.begin_within(Duration::from_secs(300)).unwrap().unwrap().number(), 1);
     assert_eq!(bench.close().unwrap().log("scale").len(), 2);
 }
 
@@ -95,7 +95,7 @@ fn a_time_out_keeps_its_place() {
     assert_eq!(told.to_string(), "still waits, scale is held by a");
     drop(held);
     // it keeps its place in the line
-    drop(b.begin_within(Duration::from_secs(5)).unwrap().unwrap());
+    drop(b.begin_within(Duration::from_secs(300)).unwrap().unwrap());
     drop(a.begin().unwrap());
     assert!(a.begin().unwrap().is_none() && b.begin().unwrap().is_none());
     let report = bench.close().unwrap();
@@ -109,7 +109,7 @@ fn what_is_left_keeps_nobody_waiting() {
     assert!(b.begin_within(Duration::from_millis(20)).is_err());
     assert!(!b.give_up());
     drop(held);
-    assert_eq!(a.begin_within(Duration::from_secs(5)).unwrap().unwrap().number(), 2);
+    assert_eq!(a.begin_within(Duration::from_secs(300)).unwrap().unwrap().number(), 2);
     drop(b);
     let report = bench.close().unwrap();
     // its turn came, or it still stands in the line
@@ -134,7 +134,7 @@ fn patience_runs_out() {
     let script = b"lab 2\njob a\nsession\nscale add 5\nend\njob b\nsession patience 2\nscale read\nend\n";
     let (_bench, mut a, mut b) = two(script);
     let _held = a.begin().unwrap();
-    assert_eq!(b.begin_within(Duration::from_secs(20)).err(), Some(Error::Withdrawn));
+    assert_eq!(b.begin_within(Duration::from_secs(300)).err(), Some(Error::Withdrawn));
 }
 
 #[test]
