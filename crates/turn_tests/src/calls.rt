@@ -1,4 +1,7 @@
 //! Calls one after another: moves of the layers, and moves by their names.
+//!
+//! A row says who calls what and what it answers, the words that this job then saw last on its edges, and how far it is (dining,
+//! drinking, session, position). The numbers at the end of `check` say how many turns each job's session has waited after the rows.
 use crate::labs::{PATIENCE_1, TWO};
 use crate::seats::Answer::{
     Acted, Done, Far, Found, Legal as Allows, Moves, No, NotLegal, Saw, Stored, Value, Yes,

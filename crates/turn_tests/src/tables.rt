@@ -67,7 +67,7 @@ pub(crate) fn follow<T: Allocator>(rt: &impl Abort, seats: &mut [Seat<T>], rows:
     }
 }
 
-/// The rows hold, from the opening of the script on, and at the end the sessions have waited so long.
+/// The rows hold from the opening of the script on, and after them each job's session has waited this many turns.
 pub(crate) fn check<T: Allocator + Copy>(
     rt: &impl Abort,
     alloc: T,

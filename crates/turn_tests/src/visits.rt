@@ -1,4 +1,7 @@
 //! The parts of a turn by themselves: a visit of an edge, and the phase act that is due.
+//!
+//! A row says who calls what and what it answers, the words that this job then saw last on its edges, and how far it is (dining,
+//! drinking, session, position). The numbers at the end of `check` say how many turns each job's session has waited after the rows.
 use crate::labs::PATIENCE_1;
 use crate::seats::Answer::{Acted, Calm, Does, Done, No, Saw, Stored, Yes};
 use crate::seats::Call::{Act, ActDue, On, Settled, Table};

@@ -1,4 +1,7 @@
 //! Turns one after another.
+//!
+//! A row says who calls what and what it answers, the words that this job then saw last on its edges, and how far it is (dining,
+//! drinking, session, position). The numbers at the end of `check` say how many turns each job's session has waited after the rows.
 use crate::labs::{
     ALONE, IDLER, PATIENCE_0, PATIENCE_1, PATIENCE_3, RING, TWICE, TWO, opened, plan_of,
     star_script,
