@@ -13,7 +13,7 @@ SHAPE is one of
   disjoint  each job has instruments of its own
   random    each session picks any instruments
 and the keys, with what they are if not said, are jobs=8 (1 to 32), instruments=8 (1 to 56), sessions=3 (of each job, 0 to
-1000), commands=4 (at most so many in a session, 1 to 20), version=1, patience=10 (the greatest; version 2 alone),
+1000), commands=4 (the most in a session, 1 to 20), version=1, patience=10 (the greatest; version 2 alone),
 patient=50 (so many sessions of a hundred have one), own=0 (instruments of each job's own besides, where there is room),
 seed=1.
 """
