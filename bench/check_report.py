@@ -24,7 +24,7 @@ a session holds all its instruments from its first command to its end; a turn do
 - All logs together: the order of sessions that they show, with each job's own order, has no cycle. Whoever is still in a
   session is last in the log of each instrument that it used, and no two of them share an instrument.
 - A job has at most one meal for each session begun that shares an instrument; a job that shares none has no meal.
-- With `turns`: nobody did more than so many turns allow, and a job that shares no instrument did exactly what they give.
+- With `turns`: nobody did more than that many turns allow, and a job that shares no instrument did exactly what they give.
 """
 import os
 import random

@@ -3,7 +3,7 @@
 
 Usage:
   bench/make_scripts.py SHAPE [KEY=NUMBER ..]        one script, on standard output
-  bench/make_scripts.py --all FOLDER COUNT [SEED]    so many small ones of all shapes, into a folder
+  bench/make_scripts.py --all FOLDER COUNT [SEED]    COUNT small ones of all shapes, into a folder
 
 SHAPE is one of
   ring      job k shares an instrument with each of its two neighbours
@@ -14,7 +14,7 @@ SHAPE is one of
   random    each session picks any instruments
 and the keys, with what they are if not said, are jobs=8 (1 to 32), instruments=8 (1 to 56), sessions=3 (of each job, 0 to
 1000), commands=4 (the most in a session, 1 to 20), version=1, patience=10 (the greatest; version 2 alone),
-patient=50 (so many sessions of a hundred have one), own=0 (instruments of each job's own besides, where there is room),
+patient=50 (how many of a hundred sessions have one), own=0 (instruments of each job's own besides, where there is room),
 seed=1.
 """
 import os

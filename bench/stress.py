@@ -48,7 +48,7 @@ import check_report
 import make_scripts
 import simulate
 
-LOOKS = 300_000   # about so many looks of one script does the simulator take
+LOOKS = 300_000   # about how many looks of one script the simulator takes
 SECONDS = 120
 
 
@@ -76,7 +76,7 @@ class Reckoned:
             self.known[limit] = (run.report(), run.status())
 
     def after(self, limit):
-        """The report and the status after so many rounds, of the limits that were prepared."""
+        """The report and the status after this many rounds, of the limits that were prepared."""
         return self.known[min(limit, self.whole)]
 
     def groups(self):

@@ -27,7 +27,7 @@ static int lock(void) {
     return died;
 }
 
-/* Waits until the job holds, at most for so many milliseconds without a change. */
+/* Waits until the job holds, at most for this many milliseconds without a change. */
 static uint32_t begin(uint32_t job, long milliseconds) {
     struct lab_turned turned;
     uint32_t status;

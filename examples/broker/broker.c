@@ -489,7 +489,7 @@ static char *script_of(const char *path) {
     return script;
 }
 
-/* A script for a load test: so many stations with so many sessions, each at two or three of six instruments, in any order. */
+/* A script for a load test: this many stations with this many sessions, each at two or three of six instruments, in any order. */
 static char *script_for(uint32_t threads, long sessions) {
     static const char *const names[] = {"scope", "supply-1", "supply-2", "meter", "generator", "analyser"};
     size_t room = (size_t)threads * (size_t)sessions * 120 + 1000, length;

@@ -145,7 +145,7 @@ def by_nothing(script: bytes, bay: Bay) -> bool:
 
 
 def load_script(names: list[str], stations: int, sessions: int, seed: int) -> str:
-    """Stations with so many sessions, each of one to three of the instruments."""
+    """Stations with this many sessions, each of one to three of the instruments."""
     chance = random.Random(seed)
     lines = ["lab 1"]
     for station in range(stations):
@@ -157,7 +157,7 @@ def load_script(names: list[str], stations: int, sessions: int, seed: int) -> st
 
 
 def by_load(names: list[str], stations: int, wanted: Optional[int], seconds: float, bay: Bay) -> bool:
-    """Bench after bench, each of as many sessions as a script may have, until so many are done, or the time is over."""
+    """Bench after bench, each of as many sessions as a script may have, until this many are done, or the time is over."""
     begun, done, benches, finished = time.monotonic(), 0, 0, True
     ends = begun + seconds
     while time.monotonic() < ends if wanted is None else done < wanted:

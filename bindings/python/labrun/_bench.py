@@ -41,7 +41,7 @@ VERBS = ("set", "add", "read")
 _TRANQUIL, _THIRSTY, _DRINKING, _REACHING, _RETIRED = range(5)
 _HOLDS = (_DRINKING, _REACHING)
 
-# A wake-up that got lost would be a fault of this file. If it happens nevertheless, a session waits so many seconds longer.
+# A wake-up that got lost would be a fault of this file. If it happens nevertheless, a session waits this many seconds longer.
 _NET = 1.0
 # A session with a patience takes a turn at least so often, so that it does run out. Its patience is in turns, and no measure of time.
 _TICK = 0.1

@@ -1,7 +1,7 @@
 """Many sessions, with a counter for each instrument that sees two holders.
 
 usage, in bindings/python:  python3 -m tests.load SESSIONS [THREADS] [INSTRUMENTS] [MILLISECONDS]
-                            benches one after another until so many sessions are done; then how many two held at once, and the times"""
+                            benches one after another until that many sessions are done; then how many two held at once, and the times"""
 
 import random
 import sys
@@ -13,7 +13,7 @@ import labrun
 
 
 def load_script(jobs: int, sessions: int, instruments: int, seed: int) -> str:
-    """Jobs with so many sessions each, every one of one to three instruments by chance."""
+    """Jobs with this many sessions each, every one of one to three instruments by chance."""
     chance, lines = random.Random(seed), ["lab 1"]
     for job in range(jobs):
         lines.append(f"job job-{job}")

@@ -94,7 +94,7 @@ fn run(opened: (Bench, Vec<Desk>), station: impl Fn(&Session) -> bool + Sync) ->
     Ok((bench.close()?, refused.into_inner()))
 }
 
-/// Stations with so many sessions, each of one to three of the instruments.
+/// Stations with this many sessions, each of one to three of the instruments.
 fn load_script(names: &[String], stations: u32, sessions: u32, seed: u64) -> String {
     let mut state = seed * 2 + 1;
     let mut below = |limit: usize| {
@@ -116,7 +116,7 @@ fn load_script(names: &[String], stations: u32, sessions: u32, seed: u64) -> Str
     text
 }
 
-/// Bench after bench, each of as many sessions as a script may have, until so many are done.
+/// Bench after bench, each of as many sessions as a script may have, until this many are done.
 fn load(bay: &Bay, names: &[String], stations: u32, wanted: u32) -> Result<(bool, u32), labrun::Error> {
     let (begun, mut done, mut finished, mut refused) = (Instant::now(), 0, true, 0);
     for seed in 0.. {

@@ -5,7 +5,7 @@ use std::panic::{catch_unwind, AssertUnwindSafe};
 use std::sync::atomic::{AtomicU32, Ordering::SeqCst};
 use std::time::Duration;
 
-/// Jobs with so many sessions each, of one to three instruments, by a generator of numbers of its own.
+/// Jobs with this many sessions each, of one to three instruments, by a generator of numbers of its own.
 fn load_script(jobs: u32, sessions: u32, instruments: u32, seed: u64) -> String {
     let mut state = seed * 2 + 1;
     let mut below = |limit: u32| {
