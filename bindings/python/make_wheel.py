@@ -1,6 +1,8 @@
 """Makes the wheel that pip installs, by the standard library alone: so `pip install` of this folder needs no network. pip calls
 `build_wheel`."""
 
+from __future__ import annotations
+
 import base64
 import hashlib
 import os
@@ -11,17 +13,17 @@ import zipfile
 HERE = os.path.dirname(os.path.realpath(__file__))
 
 
-def read(name):
+def read(name: str) -> bytes:
     with open(os.path.join(HERE, name), "rb") as file:
         return file.read()
 
 
-def facts():
+def facts() -> dict[str, str]:
     """What pyproject.toml says of the package: name, version, description, and so on."""
     return dict(re.findall(r'(?m)^([\w-]+) = "(.*)"$', read("pyproject.toml").decode()))
 
 
-def build_wheel(wheel_directory, config_settings=None, metadata_directory=None):
+def build_wheel(wheel_directory: str, config_settings: object = None, metadata_directory: object = None) -> str:
     """Writes the wheel into a folder, and returns its name."""
     of, names = facts(), sorted(it for it in os.listdir(os.path.join(HERE, "labrun")) if it.endswith((".py", ".typed", ".so")))
     platform = re.sub(r"\W", "_", sysconfig.get_platform()) if "liblabrun.so" in names else "any"
