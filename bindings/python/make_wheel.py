@@ -1,0 +1,45 @@
+"""Makes the wheel that pip installs, by the standard library alone: so `pip install` of this folder needs no network. pip calls
+`build_wheel`."""
+
+from __future__ import annotations
+
+import base64
+import hashlib
+import os
+import re
+import sysconfig
+import zipfile
+
+HERE = os.path.dirname(os.path.realpath(__file__))
+
+
+def read(name: str) -> bytes:
+    with open(os.path.join(HERE, name), "rb") as file:
+        return file.read()
+
+
+def facts() -> dict[str, str]:
+    """What pyproject.toml says of the package: name, version, description, and so on."""
+    return dict(re.findall(r'(?m)^([\w-]+) = "(.*)"$', read("pyproject.toml").decode()))
+
+
+def build_wheel(wheel_directory: str, config_settings: object = None, metadata_directory: object = None) -> str:
+    """Writes the wheel into a folder, and returns its name."""
+    of, names = facts(), sorted(it for it in os.listdir(os.path.join(HERE, "labrun")) if it.endswith((".py", ".typed", ".so")))
+    platform = re.sub(r"\W", "_", sysconfig.get_platform()) if "liblabrun.so" in names else "any"
+    tag, about = f"py3-none-{platform}", f"{of['name']}-{of['version']}.dist-info"
+    head = f"Metadata-Version: 2.1\nName: {of['name']}\nVersion: {of['version']}\nSummary: {of['description']}\n"
+    head += f"Requires-Python: {of['requires-python']}\nDescription-Content-Type: text/markdown\n\n"
+    wheel = f"Wheel-Version: 1.0\nGenerator: make_wheel\nRoot-Is-Purelib: {str(platform == 'any').lower()}\nTag: {tag}\n"
+    files = {f"labrun/{it}": read(f"labrun/{it}") for it in names}
+    files |= {f"{about}/METADATA": head.encode() + read("README.md"), f"{about}/WHEEL": wheel.encode()}
+    record = ""
+    for name, data in files.items():
+        digest = base64.urlsafe_b64encode(hashlib.sha256(data).digest()).decode().rstrip("=")
+        record += f"{name},sha256={digest},{len(data)}\n"
+    files[f"{about}/RECORD"] = (record + f"{about}/RECORD,,\n").encode()
+    made = f"{of['name']}-{of['version']}-{tag}.whl"
+    with zipfile.ZipFile(os.path.join(wheel_directory, made), "w", zipfile.ZIP_DEFLATED) as out:
+        for name, data in files.items():
+            out.writestr(name, data)
+    return made
