@@ -8,10 +8,11 @@ use script_reader::ScriptCause;
 use std::alloc::Global;
 use std::io::ErrorKind;
 use std::process::Abort;
+use std::sync::Wait;
 use std::thread::Threads;
 
 /// A run on a heap that refuses this growth, over a writer that takes its memory elsewhere; and how many growths it asked for.
-fn told_without<R: Threads + Abort + Sync>(
+fn told_without<R: Threads + Wait + Abort + Sync>(
     rt: &R,
     out: Global,
     task: Task,
@@ -46,7 +47,12 @@ fn is_no_memory(answer: &Result<Outcome, RunFault>) -> bool {
 }
 
 /// Each growth of a run is refused. How many there are in all, and how many while it reads its script.
-fn growths<R: Threads + Abort + Sync>(rt: &R, out: Global, task: Task, text: &[u8]) -> (u64, u64) {
+fn growths<R: Threads + Wait + Abort + Sync>(
+    rt: &R,
+    out: Global,
+    task: Task,
+    text: &[u8],
+) -> (u64, u64) {
     let ((_, whole), all) = told_without(rt, out, task, text, 0);
     assert!(rt; whole.is_ok());
     let mut script = 0u64;
