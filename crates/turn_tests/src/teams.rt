@@ -264,8 +264,8 @@ fn one_after_another<R: Wait + Abort>(rt: &R, alloc: Global, plan: &Plan, turns:
     all_count_up(rt, &left);
 }
 
-/// So many turns are enough for the jobs of TWO, by rounds after a round that each has taken in vain.
-const ENOUGH: u32 = 12;
+/// So many turns are enough for the jobs of TWO: nine by rounds, after four of the first team, which stops after its second idle one.
+const ENOUGH: u32 = 13;
 
 #[test]
 fn teams_that_never_begin(rt: HostRuntime) {
