@@ -3,6 +3,7 @@
 
 Usage: bench/stress.py PROGRAM [runs=N] [seed=S] [minutes=M] [keep=FOLDER] [faults=no] [gates=yes]
        bench/stress.py PROGRAM stops [keep=FOLDER] [gates=yes]
+       bench/stress.py PROGRAM sleeps [runs=N] [seed=S]
 
 PROGRAM is the built program (crates/labrun/out/labrun), or whatever takes the same words: bench/simulate.py, a peer of
 bench/peers. It makes N runs (1000 unless said), or as many as M minutes allow. Each script is of one of six shapes and of
@@ -26,8 +27,12 @@ and the examples. With each limit from 0 to past the end, `rounds` and `threads`
 with two and three workers and each number of turns from 0 to 20, some times each, every report is checked.
 
 With gates=yes PROGRAM is the program with a gate, which bench/gated/build builds. Nine of ten runs by threads then go through one
-(`threads W N KIND SEED`), which holds workers up before turns that the seed chooses: they yield, are delayed, or wait until
-another job has begun some more turns. The checks are the same.
+(`threads W N KIND SEED`), which holds workers up before turns that the seed chooses: they yield, are delayed, so long that
+others fall asleep now and then, or wait until another job has begun some more turns. The checks are the same.
+
+With `sleeps` PROGRAM is the one that bench/idle/build builds. Two or five threads need one instrument by turns, and whoever holds it
+works for a millisecond, so all others fall asleep in each session. Each thread is held up at moments that the seed chooses: after
+what it did, before it wakes the others, and after its last idle look, before it sleeps. Each run has to come to its end.
 
 Nothing may stand on standard error but the line of a fault, and no run may take longer than 120 seconds. At the end it
 prints how many runs there were and how many problems; the script of each problem is kept, with the words and what the
@@ -137,7 +142,7 @@ class Stress:
     def threads(self, reckoned, workers, turns):
         words = ["threads", str(workers), str(turns)]
         if self.gates and self.chance.randrange(10):
-            words += [self.chance.choice(("yields", "delays", "pins", "mixed")), str(self.chance.randrange(10**9))]
+            words += [self.chance.choice(("yields", "delays", "pins", "holds", "mixed")), str(self.chance.randrange(10**9))]
             self.counts["threads through a gate"] += 1
         got = self.run(words, reckoned.text)
         self.counts["threads"] += 1
@@ -251,12 +256,34 @@ def stop_everywhere(stress):
         print("%s: stopped after each of 0 to %d rounds" % (name, limits[-1]), flush=True)
 
 
+def all_sleep(program, runs, seed):
+    """Runs in which every thread sleeps in each session; how many didn't come to their end."""
+    chance, problems, late, handed = random.Random(seed), 0, 0, 0
+    for _ in range(runs):
+        words = [program, str(chance.choice((2, 5))), str(chance.randint(1, 4)), str(chance.randint(1, 2)), "sleep", str(chance.randint(1, 10**9))]
+        try:
+            got = subprocess.run(words, stdin=subprocess.DEVNULL, capture_output=True, text=True, timeout=SECONDS)
+            fine, times = got.returncode == 0 and not got.stderr, [int(line) for line in got.stdout.split()]
+        except subprocess.TimeoutExpired:
+            fine, times = False, []
+        handed += len(times)
+        late += sum(time >= 5000 for time in times)
+        if not fine:
+            problems += 1
+            print("no end: %s" % " ".join(words), flush=True)
+    print("%d runs in which all sleep, %d problems; of %d times that an instrument was handed on, %d took 5 ms or more" % (
+        runs, problems, handed, late))
+    return 1 if problems else 0
+
+
 def main(words):
     if not words or words[0] == "--help":
         print(__doc__, end="")
         return 0 if words else 2
-    stops = words[1:2] == ["stops"]
-    keys = dict(word.split("=") for word in words[1 + stops:])
+    stops, sleeps = words[1:2] == ["stops"], words[1:2] == ["sleeps"]
+    keys = dict(word.split("=") for word in words[1 + (stops or sleeps):])
+    if sleeps:
+        return all_sleep(os.path.abspath(words[0]), int(keys.get("runs", "1000")), int(keys.get("seed", "1")))
     most = int(keys["runs"]) if "runs" in keys else 10**9 if "minutes" in keys else 1000
     end = time.monotonic() + 60 * float(keys["minutes"]) if "minutes" in keys else None
     chance = random.Random(int(keys.get("seed", "1")))

@@ -3,10 +3,12 @@ ghost use Rattle.edge_rule.specs.DeskView.{Owns};
 ghost use Rattle.desk_user.specs.Use.{Keeps};
 ghost use Rattle.desk_user.specs.Serving.{IsMeal, Served};
 
+use crate::waiting::Waiting;
 use dining_layer::{may_leave, may_sit};
 use edge_rule::{Bench, Desk, PhaseEvent, store_phase};
 use session_layer::{Turned, visit_all};
 use std::alloc::Allocator;
+use std::sync::Wait;
 
 /// Ends the job's meal or starts one, if either is legal. Answers how many it did: 1 or 0.
 pub fn meal<A: Allocator>(bench: &Bench<A>, desk: &mut Desk<A>) -> u32
@@ -35,4 +37,19 @@ pub fn serve<A: Allocator>(bench: &Bench<A>, desk: &mut Desk<A>) -> Turned
     let (done, lost) = visit_all(bench, desk);
     let all = done + meal(bench, desk);
     Turned::of(all, lost)
+}
+
+/// As `serve`. If it did something, others are woken; if there was nothing to do, the thread waits a while before this returns.
+pub fn serve_and_wait<R: Wait, A: Allocator>(
+    bench: &Bench<A>,
+    desk: &mut Desk<A>,
+    waiting: &mut Waiting<'_, R>,
+) -> Turned
+    requires own { Owns bench.now desk.old }
+    ensures keeps { Keeps bench.now desk.old desk.new }
+    ensures served { Served desk.old result desk.new }
+{
+    let turned = serve(bench, desk);
+    waiting.after(turned);
+    turned
 }

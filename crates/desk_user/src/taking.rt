@@ -6,10 +6,11 @@ ghost use Rattle.session_layer.specs.Turn.{Took};
 ghost use Rattle.desk_user.specs.Use.{IsAt, Keeps, Looked, TookUntil, TookUntilAll, TookUpTo};
 
 use crate::until::{Until, is_at};
+use crate::waiting::Waiting;
 use edge_rule::{Bench, Desk};
 use session_layer::{Turned, all_retired, turn};
 use std::alloc::Allocator;
-use std::thread::yield_now;
+use std::sync::Wait;
 
 /// One turn, as `session_layer::turn` takes it.
 pub fn take_turn<A: Allocator>(bench: &Bench<A>, desk: &mut Desk<A>) -> Turned
@@ -21,12 +22,13 @@ pub fn take_turn<A: Allocator>(bench: &Bench<A>, desk: &mut Desk<A>) -> Turned
 }
 
 /// Takes turns until the job has come so far, at most this many, and answers whether it has. If it has already, no turn is taken. A turn also begins the
-/// next session, if the job is in none and has one left.
-pub fn turns_until<A: Allocator>(
+/// next session, if the job is in none and has one left. What an idle turn waits for is another thread's to do.
+pub fn turns_until<R: Wait, A: Allocator>(
     bench: &Bench<A>,
     desk: &mut Desk<A>,
     until: Until,
     most: u32,
+    waiting: &mut Waiting<'_, R>,
 ) -> bool
     requires own { Owns bench.now desk.old }
     ensures keeps { Keeps bench.now desk.old desk.new }
@@ -38,11 +40,10 @@ pub fn turns_until<A: Allocator>(
         if is_at(bench, desk, until) {
             return true;
         }
-        if turn(bench, desk) == Turned::Idle {
-            // What it waits for is another thread's to do.
-            yield_now();
-        }
+        let turned = turn(bench, desk);
+        waiting.after(turned);
     }
+    waiting.leave();
     is_at(bench, desk, until)
 }
 
@@ -60,10 +61,11 @@ fn saw_all_retired<A: Allocator>(bench: &Bench<A>, desk: &mut Desk<A>) -> bool
 
 /// Takes turns until the desk saw that all jobs are retired, at most this many, and answers whether it did. A retired job goes on giving what it is asked
 /// for in its turns.
-pub fn turns_until_all_retired<A: Allocator>(
+pub fn turns_until_all_retired<R: Wait, A: Allocator>(
     bench: &Bench<A>,
     desk: &mut Desk<A>,
     most: u32,
+    waiting: &mut Waiting<'_, R>,
 ) -> bool
     requires own { Owns bench.now desk.old }
     ensures keeps { Keeps bench.now desk.old desk.new }
@@ -72,12 +74,14 @@ pub fn turns_until_all_retired<A: Allocator>(
     ensures stops { TookUntilAll most desk.old result desk.new }
 {
     for _number in 0..most {
+        // The last job to retire rings: this look too comes after the thread has said that it may sleep.
         if saw_all_retired(bench, desk) {
+            waiting.leave();
             return true;
         }
-        if turn(bench, desk) == Turned::Idle {
-            yield_now();
-        }
+        let turned = turn(bench, desk);
+        waiting.after(turned);
     }
+    waiting.leave();
     saw_all_retired(bench, desk)
 }

@@ -14,6 +14,7 @@ use round_laws::laws::one_run;
 use script_reader::laws::one_meaning;
 use script_reader::read_plan;
 use std::alloc::Allocator;
+use std::sync::Wait;
 use std::thread::Threads;
 use whole_runs::{AtEnd, by_rounds, by_threads};
 use workers::Gate;
@@ -62,7 +63,7 @@ pub fn run_rounds<A: Allocator + Copy, R: Source, W: Sink>(
 }
 
 /// Runs the script of an input by threads.
-fn by_workers<X: Threads + Sync, A: Allocator + Copy + Send + Sync, W: Sink, G: Gate>(
+fn by_workers<X: Threads + Wait + Sync, A: Allocator + Copy + Send + Sync, W: Sink, G: Gate>(
     rt: &X,
     alloc: A,
     input: &[u8],
@@ -91,7 +92,7 @@ fn by_workers<X: Threads + Sync, A: Allocator + Copy + Send + Sync, W: Sink, G: 
 /// ends early once it has seen that all jobs are retired. If a thread can't be made, its turns are taken on another.
 /// Finished says that every job is retired then; otherwise each job took as many turns as were asked for.
 pub fn run_threads<
-    X: Threads + Sync,
+    X: Threads + Wait + Sync,
     A: Allocator + Copy + Send + Sync,
     R: Source,
     W: Sink,

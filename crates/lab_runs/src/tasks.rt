@@ -12,18 +12,18 @@ use lab_program::{Outcome, RunFault, Source};
 use labrun_words::Task;
 use report::Sink;
 use std::alloc::Allocator;
+use std::sync::Wait;
 use std::thread::Threads;
 use workers::Gate;
 
 /// Runs a task over a source and a sink. Only a task by threads starts any, and only its turns pass the gate.
-pub fn run_task<X: Threads + Sync, A: Allocator + Copy + Send + Sync, R: Source, W: Sink, G: Gate>(
-    task: Task,
-    rt: &X,
-    alloc: A,
-    source: &mut R,
-    sink: &mut W,
-    gate: &G,
-) -> Result<Outcome, RunFault>
+pub fn run_task<
+    X: Threads + Wait + Sync,
+    A: Allocator + Copy + Send + Sync,
+    R: Source,
+    W: Sink,
+    G: Gate,
+>(task: Task, rt: &X, alloc: A, source: &mut R, sink: &mut W, gate: &G) -> Result<Outcome, RunFault>
     requires { MayRun task }
     ensures answer { TaskAnswers task (R.left source.old) (W.taken sink.old) (W.taken sink.new) result }
     ensures most { ConsumesUpTo (R.left source.old) (R.left source.new) 16777217 }

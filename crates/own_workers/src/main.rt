@@ -6,14 +6,16 @@ mod lab;
 mod shop;
 mod work;
 
-use desk_user::{on_threads, open};
+use desk_user::{Bell, on_threads, open};
 use edge_rule::{Closed, Desk};
 use lab::{INSTRUMENTS, JOBS, planned};
 use lab_plan::{InstrumentNo, JobNo};
 use shop::Shop;
 use std::alloc::Global;
 use std::io;
+use std::sync::Wait;
 use std::thread::Threads;
+use work::Owners;
 
 #[derive(Debug, Drop)]
 enum Stopped {
@@ -63,14 +65,20 @@ fn print_instruments(rt: &impl Print, closed: &Closed, shop: &Shop) -> io::Resul
     Ok(())
 }
 
-fn run<R: Threads + Sync + Print + Eprint>(rt: &R, alloc: Global) -> Result<(), Stopped> {
+fn run<R: Threads + Wait + Sync + Print + Eprint>(rt: &R, alloc: Global) -> Result<(), Stopped> {
     let Some(plan) = planned(alloc) else {
         return Err(Stopped::NoPlan);
     };
     let (bench, mut desks) = open(alloc, &plan).map_err(|_| Stopped::NoMemory)?;
     let shop = Shop::new();
+    let bell = Bell::new();
+    let owners = Owners {
+        rt,
+        shop: &shop,
+        bell: &bell,
+    };
     // Each desk is worked at by a thread of its own; all have ended when this returns.
-    on_threads(rt, &bench, desks.as_mut_slice(), &shop);
+    on_threads(rt, &bench, desks.as_mut_slice(), &owners);
     tell_turns(rt, desks.as_slice(), &shop).map_err(Stopped::NotPrinted)?;
     let Ok(closed) = bench.close(alloc, desks) else {
         return Err(Stopped::NoMemory);

@@ -3,21 +3,29 @@ ghost use Rattle.edge_rule.specs.DeskView.{Owns};
 ghost use Rattle.desk_user.specs.Use.{Keeps};
 
 use crate::shop::Shop;
-use desk_user::{Owner, Until, serve, turns_until, turns_until_all_retired};
+use desk_user::{
+    Bell, How, Owner, Until, Waiting, serve_and_wait, turns_until, turns_until_all_retired,
+};
 use edge_rule::{Bench, Desk};
 use lab_plan::JobNo;
 use std::alloc::Allocator;
-use std::thread::yield_now;
+use std::sync::Wait;
 
-// More than any of these waits takes where threads run side by side; a thread that has used them up gives up, so the program ends.
-const TURNS: u32 = 20_000_000;
+// More than any of these waits takes where threads run side by side; a thread that has used them up gives up, so the program ends. A
+// sleeping thread takes some hundred a second.
+const TURNS: u32 = 50_000;
 
 fn sessions_of(job: JobNo) -> u32 {
     if job == JobNo(0) { 2 } else { 1 }
 }
 
 // Until there is work, the neighbours get what they ask for. A turn would begin the session at once.
-fn wait_for_work<A: Allocator>(shop: &Shop, bench: &Bench<A>, desk: &mut Desk<A>)
+fn wait_for_work<R: Wait, A: Allocator>(
+    shop: &Shop,
+    bench: &Bench<A>,
+    desk: &mut Desk<A>,
+    waiting: &mut Waiting<'_, R>,
+)
     requires own { Owns bench.now desk.old }
     ensures { Keeps bench.now desk.old desk.new }
 {
@@ -25,66 +33,89 @@ fn wait_for_work<A: Allocator>(shop: &Shop, bench: &Bench<A>, desk: &mut Desk<A>
         if shop.has_work(desk.job()) {
             return;
         }
-        let _ = serve(bench, desk);
-        yield_now();
+        let _ = serve_and_wait(bench, desk, waiting);
     }
 }
 
 // What the job does while it holds its instruments. It may take long: the neighbours get what this session doesn't need meanwhile.
-fn work_at_them<A: Allocator>(bench: &Bench<A>, desk: &mut Desk<A>)
+fn work_at_them<R: Wait, A: Allocator>(
+    bench: &Bench<A>,
+    desk: &mut Desk<A>,
+    waiting: &mut Waiting<'_, R>,
+)
     requires own { Owns bench.now desk.old }
     ensures { Keeps bench.now desk.old desk.new }
 {
+    // It has work to do, so it doesn't sleep.
+    waiting.change(How::Yield);
     for _number in 0..1000u32 {
-        let _ = serve(bench, desk);
-        yield_now();
+        let _ = serve_and_wait(bench, desk, waiting);
     }
+    waiting.change(How::Sleep);
 }
 
 // One session, from waiting for work to the end. Answers whether it came to its end within the turns.
-fn one_session<A: Allocator>(
+fn one_session<R: Wait, A: Allocator>(
     shop: &Shop,
     bench: &Bench<A>,
     desk: &mut Desk<A>,
     session: u32,
+    waiting: &mut Waiting<'_, R>,
 ) -> bool
     requires own { Owns bench.now desk.old }
     ensures { Keeps bench.now desk.old desk.new }
 {
     let job = desk.job();
-    wait_for_work(shop, bench, desk);
+    wait_for_work(shop, bench, desk, waiting);
     let before = desk.turns();
-    if !turns_until(bench, desk, Until::Holds, TURNS) {
+    if !turns_until(bench, desk, Until::Holds, TURNS, waiting) {
         return false;
     }
     shop.add_waited(job, desk.turns().saturating_sub(before));
     shop.take(job, session);
-    work_at_them(bench, desk);
-    let done = turns_until(bench, desk, Until::CommandsDone, TURNS);
+    work_at_them(bench, desk, waiting);
+    let done = turns_until(bench, desk, Until::CommandsDone, TURNS, waiting);
     // Before the turn that ends the session: from then on another may hold them.
     shop.put_back(job, session);
-    let out = turns_until(bench, desk, Until::IsOut, TURNS);
+    let out = turns_until(bench, desk, Until::IsOut, TURNS, waiting);
     shop.has_done(job);
+    // Another may wait for just this, and the bench knows nothing of it.
+    waiting.ring();
     done && out
 }
 
-fn all_sessions<A: Allocator>(shop: &Shop, bench: &Bench<A>, desk: &mut Desk<A>) -> bool
+fn all_sessions<R: Wait, A: Allocator>(
+    shop: &Shop,
+    bench: &Bench<A>,
+    desk: &mut Desk<A>,
+    waiting: &mut Waiting<'_, R>,
+) -> bool
     requires own { Owns bench.now desk.old }
     ensures { Keeps bench.now desk.old desk.new }
 {
     for session in 0..sessions_of(desk.job()) {
-        if !one_session(shop, bench, desk, session + 1) {
+        if !one_session(shop, bench, desk, session + 1, waiting) {
             return false;
         }
     }
     true
 }
 
-impl Owner for Shop {
+/// The owners of all desks: what they share, and how they wait.
+#[derive(Drop)]
+pub(crate) struct Owners<'w, R> {
+    pub(crate) rt: &'w R,
+    pub(crate) shop: &'w Shop,
+    pub(crate) bell: &'w Bell,
+}
+
+impl<R: Wait + Sync> Owner for Owners<'_, R> {
     fn work<A: Allocator>(&self, bench: &Bench<A>, desk: &mut Desk<A>) {
-        if all_sessions(self, bench, desk) {
+        // Whoever waits sleeps, however long another works.
+        let mut waiting = Waiting::new(How::Sleep, self.rt, self.bell);
+        if all_sessions(self.shop, bench, desk, &mut waiting) {
             // A retired job goes on giving what it is asked for, until nobody can ask any more.
-            let _ = turns_until_all_retired(bench, desk, TURNS);
+            let _ = turns_until_all_retired(bench, desk, TURNS, &mut waiting);
         }
     }
 }

@@ -8,6 +8,7 @@ use report::ToWrite;
 use std::alloc::{AllocError, Global};
 use std::io::{self, ErrorKind, Read, Write};
 use std::process::Abort;
+use std::sync::Wait;
 use std::thread::Threads;
 
 mod ends;
@@ -93,7 +94,7 @@ fn may_run(task: &Task) -> bool
 }
 
 /// A run over a reader, by calls of the writer.
-fn told_from<R: Threads + Abort + Sync>(
+fn told_from<R: Threads + Wait + Abort + Sync>(
     rt: &R,
     alloc: Global,
     task: Task,
@@ -113,7 +114,7 @@ fn told_from<R: Threads + Abort + Sync>(
 }
 
 /// A run over a text, by calls of the reader, which is interrupted behind them, and of the writer.
-fn told_at<R: Threads + Abort + Sync>(
+fn told_at<R: Threads + Wait + Abort + Sync>(
     rt: &R,
     alloc: Global,
     task: Task,
@@ -131,7 +132,7 @@ fn told_at<R: Threads + Abort + Sync>(
 }
 
 /// A run over a text that comes whole and a writer that takes all.
-fn told<R: Threads + Abort + Sync>(rt: &R, alloc: Global, task: Task, text: &[u8]) -> Told {
+fn told<R: Threads + Wait + Abort + Sync>(rt: &R, alloc: Global, task: Task, text: &[u8]) -> Told {
     told_at(rt, alloc, task, text, AMPLE, AMPLE)
 }
 
@@ -152,7 +153,7 @@ fn is_told(
 }
 
 /// A run over this input ends so, and writes this text.
-fn tells<R: Threads + Abort + Sync>(
+fn tells<R: Threads + Wait + Abort + Sync>(
     rt: &R,
     alloc: Global,
     task: Task,
@@ -165,7 +166,7 @@ fn tells<R: Threads + Abort + Sync>(
 }
 
 /// The same, where the writer takes at most so many bytes a call and no more calls than these.
-fn told_by<R: Threads + Abort + Sync>(
+fn told_by<R: Threads + Wait + Abort + Sync>(
     rt: &R,
     alloc: Global,
     task: Task,

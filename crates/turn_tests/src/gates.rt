@@ -89,6 +89,9 @@ pub(crate) const ALL_MEET: [Wait; 8] = [
 /// Job 1 takes three turns before the first of job 0, which comes before its fourth.
 pub(crate) const THREE_FIRST: [Wait; 2] = [(0, 1, 1, 4), (1, 4, 0, 2)];
 
+/// Both jobs of two workers begin, and then job 0 does nothing for job 1, however long that waits, until it comes to its fortieth turn.
+pub(crate) const FORTIETH: [Wait; 3] = [(0, 1, 1, 1), (1, 1, 0, 1), (0, 3, 1, 40)];
+
 /// Lets jobs wait for one another before their turns.
 #[derive(Drop)]
 pub(crate) struct Meeting {

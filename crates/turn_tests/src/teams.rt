@@ -3,7 +3,7 @@ ghost use Rattle.std.specs.Prelude.{◌<◌, length};
 ghost use Rattle.locality.specs.Lists.{Each};
 ghost use Rattle.edge_rule.specs.DeskView.{Owns};
 
-use crate::gates::{ALL_MEET, Counting, Flags, Meeting, THREE_FIRST};
+use crate::gates::{ALL_MEET, Counting, FORTIETH, Flags, Meeting, THREE_FIRST};
 use crate::labs::{FOUR, NOBODY, RING, TWICE, TWO, closed, opened, plan_of, star_script};
 use crate::words::{CLEAN_B_ASKED_BOTTLE_B_ASKED, HUNGRY_DRINKS, HUNGRY_THIRSTY};
 use edge_rule::{Bench, CloseCause, Closed, Desk};
@@ -13,12 +13,13 @@ use refusing_heap::RefusingHeap;
 use rounds::{Ended, all_retired, are_at_rest};
 use std::alloc::{Allocator, Global};
 use std::process::Abort;
+use std::sync::Wait;
 use std::test::Fail;
 use std::thread::Threads;
 use workers::{Gate, Halt, Muster, NoGate, Through, finish, threads, work};
 
 /// Threads on all desks of the bench, which come back in ascending order.
-fn driven<R: Threads + Abort + Sync, A: Allocator + Copy + Send + Sync, G: Gate>(
+fn driven<R: Threads + Wait + Abort + Sync, A: Allocator + Copy + Send + Sync, G: Gate>(
     rt: &R,
     alloc: A,
     bench: &Bench<A>,
@@ -40,7 +41,7 @@ fn driven<R: Threads + Abort + Sync, A: Allocator + Copy + Send + Sync, G: Gate>
 }
 
 /// Calls `threads` until all jobs are retired: in each call every desk gets its turns, whatever the schedule.
-fn until_retired<R: Threads + Abort + Sync>(
+fn until_retired<R: Threads + Wait + Abort + Sync>(
     rt: &R,
     alloc: Global,
     bench: &Bench,
@@ -88,7 +89,7 @@ fn are_full<T: Allocator>(rt: &impl Abort, left: &Closed<T>) {
 }
 
 /// A run by so many workers to the end.
-fn runs_by<R: Threads + Abort + Sync>(rt: &R, alloc: Global, plan: &Plan, workers: u32) {
+fn runs_by<R: Threads + Wait + Abort + Sync>(rt: &R, alloc: Global, plan: &Plan, workers: u32) {
     let (bench, desks) = opened(rt, alloc, plan);
     let desks = until_retired(rt, alloc, &bench, desks, workers);
     let left = closed(rt, alloc, bench, desks);
@@ -97,7 +98,7 @@ fn runs_by<R: Threads + Abort + Sync>(rt: &R, alloc: Global, plan: &Plan, worker
     all_count_up(rt, &left);
 }
 
-fn runs_by_each<R: Threads + Abort + Sync>(rt: &R, alloc: Global, script: &str) {
+fn runs_by_each<R: Threads + Wait + Abort + Sync>(rt: &R, alloc: Global, script: &str) {
     let plan = plan_of(rt, alloc, script);
     for workers in [1, 2, 3, 7, 32] {
         runs_by(rt, alloc, &plan, workers);
@@ -126,7 +127,7 @@ fn passed_each<T: Allocator>(rt: &impl Abort, desks: &[Desk<T>], gate: &Counting
 }
 
 /// No turns; three; and many through a gate that counts from 1 again.
-fn counts_passes<R: Threads + Abort + Sync>(rt: &R, alloc: Global, plan: &Plan) {
+fn counts_passes<R: Threads + Wait + Abort + Sync>(rt: &R, alloc: Global, plan: &Plan) {
     let (bench, desks) = opened(rt, alloc, plan);
     let none = Counting::new();
     let (desks, ended) = driven(rt, alloc, &bench, desks, 2, 0, &none);
@@ -139,7 +140,7 @@ fn counts_passes<R: Threads + Abort + Sync>(rt: &R, alloc: Global, plan: &Plan) 
 }
 
 /// Many turns, up to the last of them or until all jobs are retired.
-fn counts_to_the_end<R: Threads + Abort + Sync>(rt: &R, alloc: Global, plan: &Plan) {
+fn counts_to_the_end<R: Threads + Wait + Abort + Sync>(rt: &R, alloc: Global, plan: &Plan) {
     let (bench, desks) = opened(rt, alloc, plan);
     let gate = Counting::new();
     let (desks, _) = driven(rt, alloc, &bench, desks, 2, 10000, &gate);
@@ -153,7 +154,7 @@ fn gate_counts_turns(rt: HostRuntime) {
     counts_to_the_end(&rt, rt.alloc(), &plan);
 }
 
-fn meets<R: Threads + Abort + Sync>(rt: &R, alloc: Global, plan: &Plan) {
+fn meets<R: Threads + Wait + Abort + Sync>(rt: &R, alloc: Global, plan: &Plan) {
     let (bench, desks) = opened(rt, alloc, plan);
     let gate = Meeting::new(&ALL_MEET);
     let (desks, ended) = driven(rt, alloc, &bench, desks, 2, 3, &gate);
@@ -167,7 +168,24 @@ fn jobs_of_two_workers_meet(rt: HostRuntime) {
     meets(&rt, rt.alloc(), &plan);
 }
 
-fn sees_both_flags<R: Threads + Abort + Sync>(rt: &R, alloc: Global, plan: &Plan) {
+fn holds_out<R: Threads + Wait + Abort + Sync>(rt: &R, alloc: Global, plan: &Plan) {
+    let (bench, desks) = opened(rt, alloc, plan);
+    let gate = Meeting::new(&FORTIETH);
+    let (desks, _) = driven(rt, alloc, &bench, desks, 2, 100_000, &gate);
+    assert!(rt; gate.all_met());
+    for desk in desks.as_slice() {
+        assert!(rt; desk.turns() >= 3);
+    }
+}
+
+/// A worker whose job waits for one that holds goes on, however many of its rounds are idle, and on a thread of its own.
+#[test]
+fn worker_goes_on_through_idle_rounds(rt: HostRuntime) {
+    let plan = plan_of(&rt, rt.alloc(), TWO);
+    holds_out(&rt, rt.alloc(), &plan);
+}
+
+fn sees_both_flags<R: Threads + Wait + Abort + Sync>(rt: &R, alloc: Global, plan: &Plan) {
     let (bench, desks) = opened(rt, alloc, plan);
     let gate = Flags::new();
     let (_, ended) = driven(rt, alloc, &bench, desks, 2, 100_000, &gate);
@@ -181,7 +199,7 @@ fn two_workers_meet(rt: HostRuntime) {
     sees_both_flags(&rt, rt.alloc(), &plan);
 }
 
-fn ends_early<R: Threads + Abort + Sync>(rt: &R, alloc: Global, plan: &Plan) {
+fn ends_early<R: Threads + Wait + Abort + Sync>(rt: &R, alloc: Global, plan: &Plan) {
     let (bench, desks) = opened(rt, alloc, plan);
     let (desks, ended) = driven(rt, alloc, &bench, desks, 1, 10000, &NoGate);
     assert!(rt; ended == Ended::AllRetired);
@@ -196,12 +214,18 @@ fn worker_ends_early(rt: HostRuntime) {
 }
 
 /// A team at work on turns that pass no gate.
-fn begin<A: Allocator>(bench: &Bench<A>, muster: &Muster, turns: u32, team: &mut [Desk<A>]) -> Halt
+fn begin<R: Wait, A: Allocator>(
+    rt: &R,
+    bench: &Bench<A>,
+    muster: &Muster,
+    turns: u32,
+    team: &mut [Desk<A>],
+) -> Halt
     requires some { 0 < length team.old }
     requires own { Each (Owns bench.now) team.old }
     ensures { Each (Owns bench.now) team.new }
 {
-    work(bench, &Through { gate: &NoGate }, muster, turns, team)
+    work(rt, bench, &Through { gate: &NoGate }, muster, turns, team)
 }
 
 /// The turns that are left of so many.
@@ -215,13 +239,14 @@ fn take_rest<A: Allocator>(bench: &Bench<A>, taken: u32, turns: u32, desks: &mut
 /// The desks of TWO, each of which has a team of its own; the team of the second begins once that of the first has ended. Then the turns
 /// that are left are taken.
 #[tactic(auto, using(crate::proofs::Owned::both_owned))]
-fn one_after_another(rt: &impl Abort, alloc: Global, plan: &Plan, turns: u32) {
+fn one_after_another<R: Wait + Abort>(rt: &R, alloc: Global, plan: &Plan, turns: u32) {
     let (bench, mut desks) = opened(rt, alloc, plan);
     assert!(rt; desks.len() == 2);
-    let muster = Muster::new(2);
+    // One sleep is patience enough: nobody comes.
+    let muster = Muster::new(2, 1);
     let (front, back) = desks.as_mut_slice().split_at_mut(1);
-    let first = begin(&bench, &muster, turns, front);
-    let second = begin(&bench, &muster, turns, back);
+    let first = begin(rt, &bench, &muster, turns, front);
+    let second = begin(rt, &bench, &muster, turns, back);
     let most = first.taken(0).max(second.taken(0));
     take_rest(&bench, first.taken(0), most, front);
     take_rest(&bench, second.taken(0), most, back);
@@ -231,12 +256,16 @@ fn one_after_another(rt: &impl Abort, alloc: Global, plan: &Plan, turns: u32) {
         turns_are(rt, desks.as_slice(), u64::from(turns));
         assert!(rt; turns < ENOUGH);
     }
+    // Nobody goes on once all are retired, however many turns are left.
+    for desk in desks.as_slice() {
+        assert!(rt; desk.turns() <= u64::from(ENOUGH));
+    }
     let left = closed(rt, alloc, bench, desks);
     all_count_up(rt, &left);
 }
 
-/// So many turns are enough for the jobs of TWO, by rounds after a round that each has taken in vain.
-const ENOUGH: u32 = 12;
+/// So many turns are enough for the jobs of TWO: nine by rounds, after four of the first team, which stops after its second idle one.
+const ENOUGH: u32 = 13;
 
 #[test]
 fn teams_that_never_begin(rt: HostRuntime) {
@@ -244,10 +273,11 @@ fn teams_that_never_begin(rt: HostRuntime) {
     for turns in 0..21 {
         one_after_another(&rt, rt.alloc(), &plan, turns);
     }
+    one_after_another(&rt, rt.alloc(), &plan, 1_000_000_000);
 }
 
 /// A job waits at the gate before its turn, and not after it: so a finds what b asked for in its first turn, gives it, and asks for it again.
-fn passes_before<R: Threads + Abort + Sync>(rt: &R, alloc: Global, plan: &Plan) {
+fn passes_before<R: Threads + Wait + Abort + Sync>(rt: &R, alloc: Global, plan: &Plan) {
     let (bench, desks) = opened(rt, alloc, plan);
     let gate = Meeting::new(&THREE_FIRST);
     let (desks, ended) = driven(rt, alloc, &bench, desks, 2, 4, &gate);
@@ -280,7 +310,7 @@ fn opened_at_last<'p, A: Allocator + Copy>(
 }
 
 /// Three turns of each desk by two workers. If an allocation failed no desk has taken any, and a second call takes them.
-fn driven_at_last<R: Threads + Abort + Sync, A: Allocator + Copy + Send + Sync>(
+fn driven_at_last<R: Threads + Wait + Abort + Sync, A: Allocator + Copy + Send + Sync>(
     rt: &R,
     alloc: A,
     bench: &Bench<A>,
@@ -331,7 +361,7 @@ fn all_count_up<T: Allocator>(rt: &impl Abort, left: &Closed<T>) {
 type Growths = [u64; 4];
 
 /// A run on a heap that refuses this allocation.
-fn run_without<R: Threads + Abort + Sync>(
+fn run_without<R: Threads + Wait + Abort + Sync>(
     rt: &R,
     alloc: Global,
     script: &str,

@@ -6,6 +6,7 @@ use lab_views::run_picture;
 use report::ToWrite;
 use std::alloc::{AllocError, Global};
 use std::process::Abort;
+use std::sync::Wait;
 use std::test::Fail;
 use std::thread::Threads;
 use workers::NoGate;
@@ -71,7 +72,7 @@ fn is_drawn(alloc: Global, report: &[u8]) -> bool {
             == count(report, b" 1/").saturating_add(count(report, b"\njob "))
 }
 
-fn threaded<R: Threads + Sync>(rt: &R, alloc: Global, input: &[u8], turns: u32) -> Vec<u8> {
+fn threaded<R: Threads + Wait + Sync>(rt: &R, alloc: Global, input: &[u8], turns: u32) -> Vec<u8> {
     let mut bytes = Vec::new(alloc);
     let mut source = FromRead::new(input);
     let mut sink = ToWrite::new(&mut bytes);

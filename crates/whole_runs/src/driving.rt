@@ -11,6 +11,7 @@ use lab_plan::Plan;
 use round_laws::laws::{drives_from_opening, never_ends_quiet};
 use rounds::{Ended, rounds};
 use std::alloc::{AllocError, Allocator};
+use std::sync::Wait;
 use std::thread::Threads;
 use workers::{Gate, threads, turns_in_history};
 
@@ -72,8 +73,8 @@ pub fn by_rounds<'p, A: Allocator + Copy>(
 /// many turns of each, and passes the gate before each turn. It ends early once it has seen all jobs retired.
 ///
 /// Memory is taken before the first turn and after the last; if an allocation fails, nothing is left of the run. If a
-/// thread can't be made, its turns are taken on another.
-pub fn by_threads<'p, R: Threads + Sync, A: Allocator + Copy + Send + Sync, G: Gate>(
+/// thread can't be made, its turns are taken on another. A worker that waits for others sleeps.
+pub fn by_threads<'p, R: Threads + Wait + Sync, A: Allocator + Copy + Send + Sync, G: Gate>(
     rt: &R,
     alloc: A,
     plan: &'p Plan<A>,

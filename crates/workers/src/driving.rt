@@ -7,15 +7,16 @@ ghost use Rattle.workers.specs.Driven.{Threaded};
 
 use crate::finishing::finish;
 use crate::gate::{Gate, Through};
-use crate::halving::{Orders, in_teams};
-use crate::muster::Muster;
+use crate::muster::{Muster, PATIENCE};
+use crate::starting::{Orders, in_teams};
 use edge_rule::{Bench, Desk, meet_all};
 use rounds::{Ended, all_retired, are_at_rest};
 use std::alloc::Allocator;
+use std::sync::Wait;
 use std::thread::Threads;
 
 // Drives the desks of the slice. Their order may change, unless no memory is left.
-fn drive<R: Threads + Sync, S: Allocator, A: Allocator + Send + Sync, G: Gate>(
+fn drive<R: Threads + Wait + Sync, S: Allocator, A: Allocator + Send + Sync, G: Gate>(
     rt: &R,
     alloc: S,
     bench: &Bench<A>,
@@ -38,9 +39,10 @@ fn drive<R: Threads + Sync, S: Allocator, A: Allocator + Send + Sync, G: Gate>(
     }
     // A worker without desks isn't a team.
     let teams = workers.min(u32::try_from(desks.len()).unwrap_or(u32::MAX));
-    let muster = Muster::new(teams);
+    let muster = Muster::new(teams, PATIENCE);
     let through = Through { gate };
     let orders = Orders {
+        rt,
         bench,
         gate: &through,
         muster: &muster,
@@ -61,9 +63,10 @@ fn drive<R: Threads + Sync, S: Allocator, A: Allocator + Send + Sync, G: Gate>(
 /// before each turn. It ends after its turns, or after a round in which its first desk saw all jobs retired. A worker without desks isn't
 /// started. `alloc` is asked once, before the first worker starts.
 ///
-/// If a thread can't be made, a worker's rounds run on another. Workers that are idle, while others don't begin, then stop early, and the
-/// calling thread takes the turns that are left, one of each desk a round in ascending order.
-pub fn threads<R: Threads + Sync, S: Allocator, A: Allocator + Send + Sync, G: Gate>(
+/// A worker that was idle in many rounds sleeps, until another does something, or for some milliseconds. If a thread can't be made, its
+/// worker's rounds run on the calling thread after that one's own. Workers that are idle for about a second, while others don't begin,
+/// then stop early, and the calling thread takes the turns that are left, one of each desk a round in ascending order.
+pub fn threads<R: Threads + Wait + Sync, S: Allocator, A: Allocator + Send + Sync, G: Gate>(
     rt: &R,
     alloc: S,
     bench: &Bench<A>,

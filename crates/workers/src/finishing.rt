@@ -6,6 +6,7 @@ ghost use Rattle.workers.specs.Driven.{TookRest};
 
 use crate::gate::Passage;
 use crate::round::team_round;
+use bell::{Bell, Listener};
 use edge_rule::{Bench, Desk};
 use rounds::all_retired;
 use std::alloc::Allocator;
@@ -22,10 +23,13 @@ pub fn finish<A: Allocator, P: Passage>(
     requires own { Each (Owns bench.now) desks.old }
     ensures { TookRest (turns - taken) desks.old desks.new }
 {
+    // Nobody else is at work any more.
+    let bell = Bell::new();
+    let mut listener = Listener::new(&bell);
     for number in taken..turns {
         if all_retired(desks) {
             return;
         }
-        team_round(bench, gate, desks, u64::from(number) + 1);
+        team_round(bench, gate, &mut listener, desks, u64::from(number) + 1);
     }
 }

@@ -1,17 +1,17 @@
 //! Threads drive the desks of one bench: each worker has desks of its own, and takes one turn of each in a round.
 //!
-//! What is promised doesn't depend on threads. If one can't be made, its worker's rounds run on another thread, before or after that one's
-//! own; workers then stop early, and the calling thread takes the turns that are left.
+//! What is promised doesn't depend on threads. If one can't be made, its worker's rounds run on the calling thread after that one's own;
+//! workers then stop early, and the calling thread takes the turns that are left. Workers with nothing to do sleep, and are woken.
 #![tactic(auto)]
 
 mod driving;
 mod finishing;
 mod gate;
 mod halt;
-mod halving;
 mod laws;
 mod muster;
 mod round;
+mod starting;
 mod team;
 
 pub use driving::threads;

@@ -5,6 +5,7 @@ ghost use Rattle.session_layer.specs.Grown.{TookTurns};
 ghost use Rattle.workers.specs.Pairs.{Pairs};
 
 use crate::gate::Passage;
+use bell::Listener;
 use edge_rule::{Bench, Desk};
 use session_layer::{Turned, turn};
 use std::alloc::Allocator;
@@ -17,10 +18,12 @@ fn desk_turn<A: Allocator>(bench: &Bench<A>, desk: &mut Desk<A>) -> Turned
     turn(bench, desk)
 }
 
-/// One turn of each desk, which has this number. Answers whether all were idle.
+/// One turn of each desk, which has this number. Whoever waits is woken after each that did something: the next may be held up at the gate.
+/// Answers whether all were idle.
 pub(crate) fn team_round<A: Allocator, P: Passage>(
     bench: &Bench<A>,
     gate: &P,
+    listener: &mut Listener<'_>,
     desks: &mut [Desk<A>],
     number: u64,
 ) -> bool
@@ -32,6 +35,9 @@ pub(crate) fn team_round<A: Allocator, P: Passage>(
         gate.pass(desks[place].job(), number);
         let turned = desk_turn(bench, &mut desks[place]);
         idle &= turned == Turned::Idle;
+        if let Turned::Acted(_) = turned {
+            listener.acted();
+        }
     }
     idle
 }

@@ -10,10 +10,11 @@ use crate::gate::Passage;
 use crate::halt::Halt;
 use crate::muster::Muster;
 use crate::round::team_round;
+use bell::{Bell, Listener};
 use edge_rule::{Bench, Desk};
 use session_layer::all_retired as sees_all_retired;
 use std::alloc::Allocator;
-use std::thread::yield_now;
+use std::sync::Wait;
 
 // Whether the desk saw that all jobs are retired. It looks at the others once its own job is: a look takes a word away from
 // the worker that writes it.
@@ -25,8 +26,10 @@ fn saw_all_retired<A: Allocator>(bench: &Bench<A>, desk: &mut Desk<A>) -> bool
 }
 
 /// A worker: one turn of each desk a round, and the gate is passed before each turn. It ends after its turns, or after a round where its
-/// first desk saw all jobs retired, or after an idle round where other teams don't begin.
-pub fn work<A: Allocator, P: Passage>(
+/// first desk saw all jobs retired, or after an idle round where other teams have no thread. After many idle rounds it sleeps between
+/// them, until another team does something.
+pub fn work<R: Wait, A: Allocator, P: Passage>(
+    rt: &R,
     bench: &Bench<A>,
     gate: &P,
     muster: &Muster,
@@ -38,20 +41,21 @@ pub fn work<A: Allocator, P: Passage>(
     ensures worked { Worked turns desks.old result desks.new }
     ensures looks { AtFirst (LooksOut turns result) desks.old desks.new }
 {
+    let mut listener = Listener::new(muster.bell());
     muster.begin();
     for number in 0..turns {
-        let idle = team_round(bench, gate, desks, u64::from(number) + 1);
+        let idle = team_round(bench, gate, &mut listener, desks, u64::from(number) + 1);
+        // This look too comes after the worker has said that it may sleep: that the last job retired is seen here, or rings.
         if saw_all_retired(bench, &mut desks[0]) {
+            listener.leave();
             return Halt::AllRetired;
         }
-        if idle {
-            yield_now();
-            // Others are to ask for something before this team has another turn for it.
-            if !muster.is_complete() {
-                return Halt::After(number + 1);
-            }
+        if idle && !muster.goes_on(rt, &mut listener) {
+            return Halt::After(number + 1);
         }
     }
+    listener.leave();
+    muster.end();
     Halt::After(turns)
 }
 
@@ -66,7 +70,10 @@ pub(crate) fn catch_up<A: Allocator, P: Passage>(
     requires own { Each (Owns bench.now) desks.old }
     ensures { Pairs (TookTurns (turns - taken)) desks.old desks.new }
 {
+    // Nobody waits for a team that catches up.
+    let bell = Bell::new();
+    let mut listener = Listener::new(&bell);
     for number in taken..turns {
-        team_round(bench, gate, desks, u64::from(number) + 1);
+        team_round(bench, gate, &mut listener, desks, u64::from(number) + 1);
     }
 }

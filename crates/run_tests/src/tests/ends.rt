@@ -6,6 +6,7 @@ use report::ToWrite;
 use std::alloc::Global;
 use std::io::{self, ErrorKind, Read};
 use std::process::Abort;
+use std::sync::Wait;
 use std::thread::Threads;
 
 /// The report of two jobs before their first event.
@@ -42,7 +43,12 @@ fn pieces_of_any_length(rt: HostRuntime) {
 }
 
 /// The k-th read fails, for each k up to the one that finds the end.
-fn reads_fail<R: Threads + Abort + Sync>(rt: &R, alloc: Global, task: Task, error: ErrorKind) {
+fn reads_fail<R: Threads + Wait + Abort + Sync>(
+    rt: &R,
+    alloc: Global,
+    task: Task,
+    error: ErrorKind,
+) {
     let text = TWO_ADD.as_bytes();
     for calls in 0..text.len() + 1 {
         let pieces = Pieces {
@@ -140,7 +146,13 @@ fn writer_takes_a_byte(rt: HostRuntime) {
 }
 
 /// A run that writes this text, of so many lines: a write of a line that fails is told, and so is the flush behind them.
-fn flushes<R: Threads + Abort + Sync>(rt: &R, alloc: Global, task: Task, lines: u8, text: &[u8]) {
+fn flushes<R: Threads + Wait + Abort + Sync>(
+    rt: &R,
+    alloc: Global,
+    task: Task,
+    lines: u8,
+    text: &[u8],
+) {
     let lines = usize::from(lines);
     for calls in 0..lines + 1 {
         let (bytes, answer) = told_by(rt, alloc, task, TWO_ADD.as_bytes(), (4096, calls));

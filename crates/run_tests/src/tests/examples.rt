@@ -5,6 +5,7 @@ use lab_program::Outcome;
 use lab_runs::Task;
 use std::alloc::Global;
 use std::process::Abort;
+use std::sync::Wait;
 use std::test::Fail;
 use std::thread::Threads;
 
@@ -1060,7 +1061,7 @@ finished
 ";
 
 /// By so many rounds the report is this; by as many turns on four threads it is one of a run of the script.
-fn runs<R: Threads + Abort + Sync>(
+fn runs<R: Threads + Wait + Abort + Sync>(
     rt: &R,
     alloc: Global,
     limit: u32,

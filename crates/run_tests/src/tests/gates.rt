@@ -51,6 +51,55 @@ impl Gate for Flags {
     }
 }
 
+/// So many first turns of three jobs are taken abreast.
+const ABREAST: u64 = 8;
+
+/// Before each of their first turns three jobs wait for one another, so none of them may stop, or be driven on the thread of another, while
+/// it has nothing to do.
+#[derive(Drop)]
+pub(crate) struct Abreast {
+    turns: [AtomicCell<u64>; 3],
+    given_up: AtomicCell<bool>,
+}
+
+impl Abreast {
+    pub(crate) fn new() -> Abreast {
+        Abreast {
+            turns: [AtomicCell::new(0), AtomicCell::new(0), AtomicCell::new(0)],
+            given_up: AtomicCell::new(false),
+        }
+    }
+
+    /// Whether all took these turns, and nobody gave up.
+    pub(crate) fn all_met(&self) -> bool {
+        self.turns.iter().all(|turn| turn.load() >= ABREAST) && !self.given_up.load()
+    }
+
+    fn wait_for(&self, other: &AtomicCell<u64>, turn: u64) {
+        for _ in 0..LOOKS {
+            if other.load() >= turn || self.given_up.load() {
+                return;
+            }
+            yield_now();
+        }
+        self.given_up.store(true);
+    }
+}
+
+impl Gate for Abreast {
+    fn pass(&self, job: JobNo, turn: u64) {
+        if turn > ABREAST {
+            return;
+        }
+        if let Some(own) = self.turns.get(usize::from(job.0)) {
+            own.store(turn);
+        }
+        for other in &self.turns {
+            self.wait_for(other, turn);
+        }
+    }
+}
+
 /// Counts the passes of each of four jobs, and notes where one isn't the next of its job, or not in the order of its worker: of two workers
 /// the first drives jobs 0 and 2, the second jobs 1 and 3, the lower job first in each round.
 #[derive(Drop)]

@@ -5,11 +5,12 @@ use lab_runs::Task;
 use script_reader::{ScriptCause, ScriptFault};
 use std::alloc::{AllocError, Global};
 use std::process::Abort;
+use std::sync::Wait;
 use std::test::Fail;
 use std::thread::Threads;
 
 /// A run in rounds of this script ends so, and writes this report.
-fn ends<R: Threads + Abort + Sync>(
+fn ends<R: Threads + Wait + Abort + Sync>(
     rt: &R,
     alloc: Global,
     limit: u32,

@@ -8,10 +8,11 @@ use script_reader::ScriptCause;
 use std::alloc::Global;
 use std::io::ErrorKind;
 use std::process::Abort;
+use std::sync::Wait;
 use std::thread::Threads;
 
 /// A run on a heap that refuses this allocation, over a writer that takes its memory elsewhere; and how many allocations it asked for.
-fn told_without<R: Threads + Abort + Sync>(
+fn told_without<R: Threads + Wait + Abort + Sync>(
     rt: &R,
     out: Global,
     task: Task,
@@ -46,7 +47,7 @@ fn is_no_memory(answer: &Result<Outcome, RunFault>) -> bool {
 }
 
 /// Each allocation of a run is refused. How many there are in all, and how many while it reads its script.
-fn allocations<R: Threads + Abort + Sync>(
+fn allocations<R: Threads + Wait + Abort + Sync>(
     rt: &R,
     out: Global,
     task: Task,

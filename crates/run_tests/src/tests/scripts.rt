@@ -5,6 +5,7 @@ use lab_runs::Task;
 use script_reader::{ScriptCause, ScriptFault};
 use std::alloc::{AllocError, Global};
 use std::process::Abort;
+use std::sync::Wait;
 use std::test::Fail;
 use std::thread::Threads;
 
@@ -24,7 +25,7 @@ fn in_common(alloc: Global, instruments: usize) -> Result<String, AllocError> {
 }
 
 /// What a check of this script tells.
-fn counts<R: Threads + Abort + Sync>(
+fn counts<R: Threads + Wait + Abort + Sync>(
     rt: &R,
     alloc: Global,
     script: &str,
@@ -35,7 +36,7 @@ fn counts<R: Threads + Abort + Sync>(
 }
 
 /// Each upgrade of this script is this one in version 2.
-fn upgrades_to<R: Threads + Abort + Sync>(rt: &R, alloc: Global, script: &str, text: &str) {
+fn upgrades_to<R: Threads + Wait + Abort + Sync>(rt: &R, alloc: Global, script: &str, text: &str) {
     let finished = Ok(Outcome::Finished);
     tells(rt, alloc, Task::Upgrade, script, finished, text);
     tells(rt, alloc, Task::Upgrade, text, finished, text);

@@ -1,5 +1,5 @@
 //! Scripts by threads: what must be true of a report on every schedule.
-use super::gates::{Counting, Flags};
+use super::gates::{Abreast, Counting, Flags};
 use super::in_rounds::SECOND_SESSION;
 use super::reports::is_report_of;
 use super::{Pieces, Slow, TWO_ADD, Told, may_run, told};
@@ -9,13 +9,15 @@ use report::ToWrite;
 use std::alloc::{AllocError, Global};
 use std::io::ErrorKind;
 use std::process::Abort;
+use std::sync::Wait;
 use std::test::Fail;
 use std::thread::Threads;
 
-/// The program's task by two workers, whose turns pass the gate.
-fn told_through<R: Threads + Abort + Sync, G: Gate>(
+/// The program's task by so many workers, whose turns pass the gate.
+fn told_through<R: Threads + Wait + Abort + Sync, G: Gate>(
     rt: &R,
     alloc: Global,
+    workers: u32,
     turns: u32,
     gate: &G,
     text: &[u8],
@@ -33,7 +35,7 @@ fn told_through<R: Threads + Abort + Sync, G: Gate>(
     };
     let mut source = FromRead::new(&mut pieces);
     let mut sink = ToWrite::new(&mut slow);
-    let task = Task::Threads { workers: 2, turns };
+    let task = Task::Threads { workers, turns };
     assert!(rt; may_run(&task));
     let answer = run_task(task, rt, alloc, &mut source, &mut sink, gate);
     (slow.bytes, answer)
@@ -43,8 +45,18 @@ fn told_through<R: Threads + Abort + Sync, G: Gate>(
 #[test]
 fn two_workers_meet(rt: HostRuntime) {
     let gate = Flags::new();
-    let (_, answer) = told_through(&rt, rt.alloc(), 100_000, &gate, TWO_ADD.as_bytes());
+    let (_, answer) = told_through(&rt, rt.alloc(), 2, 100_000, &gate, TWO_ADD.as_bytes());
     assert!(rt; gate.both_saw());
+    assert!(rt; answer == Ok(Outcome::Finished) || answer == Ok(Outcome::Unfinished));
+}
+
+/// Three workers are three threads, and stay so through rounds in which they have nothing to do: of three jobs that share what they need,
+/// two wait while one holds.
+#[test]
+fn three_workers_go_on(rt: HostRuntime) {
+    let gate = Abreast::new();
+    let (_, answer) = told_through(&rt, rt.alloc(), 3, 100_000, &gate, CLIQUE.as_bytes());
+    assert!(rt; gate.all_met());
     assert!(rt; answer == Ok(Outcome::Finished) || answer == Ok(Outcome::Unfinished));
 }
 
@@ -52,10 +64,10 @@ fn two_workers_meet(rt: HostRuntime) {
 #[test]
 fn gate_counts_turns(rt: HostRuntime) {
     let few = Counting::new();
-    let (_, answer) = told_through(&rt, rt.alloc(), 3, &few, RING.as_bytes());
+    let (_, answer) = told_through(&rt, rt.alloc(), 2, 3, &few, RING.as_bytes());
     assert!(rt; answer == Ok(Outcome::Unfinished) && few.is_in_order());
     let many = Counting::new();
-    let (_, answer) = told_through(&rt, rt.alloc(), 10000, &many, RING.as_bytes());
+    let (_, answer) = told_through(&rt, rt.alloc(), 2, 10000, &many, RING.as_bytes());
     assert!(rt; answer.is_ok() && many.is_in_order());
     for job in 0..4u8 {
         assert!(rt; few.passes(job) == 3);
@@ -108,7 +120,7 @@ fn two_wide_edges(alloc: Global) -> Result<String, AllocError> {
 }
 
 /// The report is one of a run of the script, and the answer says how it ended.
-fn is_of<R: Threads + Abort + Sync>(
+fn is_of<R: Threads + Wait + Abort + Sync>(
     rt: &R,
     alloc: Global,
     task: Task,

@@ -7,9 +7,9 @@ loop-number-init g c = (took_none c.args.desk.now, refl)
 
 pub loop-number-preserved : goal.loop-number-preserved
 loop-number-preserved g c = (
-  took_more c.loop-number._number c.args.desk.now c.loop-number.desk c.turn.new.desk c.turn.result c.loop-number.invariant.0 c.turn.ensures,
-  before_more c.args.until c.loop-number._number c.args.desk.now c.loop-number.desk c.turn.new.desk c.turn.result c.loop-number.invariant.1
-      (λ at. let yes = c.is_at.ensures.1 at in cc) c.turn.ensures,
+  took_more c.loop-number._number c.args.desk.now c.loop-number.desk c.turn-turned.new.desk c.turn-turned.result c.loop-number.invariant.0 c.turn-turned.ensures,
+  before_more c.args.until c.loop-number._number c.args.desk.now c.loop-number.desk c.turn-turned.new.desk c.turn-turned.result c.loop-number.invariant.1
+      (λ at. let yes = c.is_at.ensures.1 at in cc) c.turn-turned.ensures,
 )
 
 pub returns-then-is_at-clause-stops : goal.returns-then-is_at-clause-stops

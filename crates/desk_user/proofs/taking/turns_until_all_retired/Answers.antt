@@ -30,9 +30,9 @@ loop-number-preserved g c =
     let m : DeskView = c.loop-number.desk in
     let e : DeskView = c.saw_all_retired.new.desk in
     let looked : Looked m false e = subst (λ r. Looked m r e) c.if-saw_all_retired.false c.saw_all_retired.ensures.looked in (
-      took_more n d e c.turn.new.desk c.turn.result
-          (took_then n d m e c.loop-number.invariant.0 (none_taken m e c.saw_all_retired.ensures.took)) c.turn.ensures,
-      before_all_more n d m e c.turn.new.desk c.turn.result c.loop-number.invariant.1 looked c.turn.ensures,
+      took_more n d e c.turn-turned.new.desk c.turn-turned.result
+          (took_then n d m e c.loop-number.invariant.0 (none_taken m e c.saw_all_retired.ensures.took)) c.turn-turned.ensures,
+      before_all_more n d m e c.turn-turned.new.desk c.turn-turned.result c.loop-number.invariant.1 looked c.turn-turned.ensures,
     )
 
 pub returns-clause-took : goal.returns-clause-took

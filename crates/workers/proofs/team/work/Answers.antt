@@ -59,8 +59,8 @@ returns-then-saw_all_retired-clause-looks g c =
     ends n old mid new x y t s some is c.args.turns (let l = c.loop-number-test.true in omega arith) c.loop-number.invariant.1
     (subst (λ r. LookedOut x r y) c.if-saw_all_retired.true c.saw_all_retired.ensures)
 
-pub returns-then-not-is_complete-clause-worked : goal.returns-then-not-is_complete-clause-worked
-returns-then-not-is_complete-clause-worked g c =
+pub returns-then-not-goes_on-clause-worked : goal.returns-then-not-goes_on-clause-worked
+returns-then-not-goes_on-clause-worked g c =
     let old : List DeskView = c.args.desks.now in
     let mid : List DeskView = c.loop-number.desks in
     let new : List DeskView = c.team_round-idle.new.desks in
@@ -73,8 +73,8 @@ returns-then-not-is_complete-clause-worked g c =
     let is : x ≡ get_or new 0 x = ap (get_or new 0) c.index-desks-0.is in
     ((let l = c.loop-number-test.true in omega arith), round_took n old mid new x y t s some is c.saw_all_retired.result c.saw_all_retired.ensures)
 
-pub returns-then-not-is_complete-clause-looks : goal.returns-then-not-is_complete-clause-looks
-returns-then-not-is_complete-clause-looks g c =
+pub returns-then-not-goes_on-clause-looks : goal.returns-then-not-goes_on-clause-looks
+returns-then-not-goes_on-clause-looks g c =
     let old : List DeskView = c.args.desks.now in
     let mid : List DeskView = c.loop-number.desks in
     let new : List DeskView = c.team_round-idle.new.desks in

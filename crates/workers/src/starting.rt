@@ -13,6 +13,7 @@ use crate::muster::Muster;
 use crate::team::{catch_up, work};
 use edge_rule::{Bench, Desk};
 use std::alloc::Allocator;
+use std::sync::Wait;
 use std::thread::{Threads, join_mut};
 
 /// What teams do with their desks.
@@ -36,14 +37,16 @@ pub trait Crew<A: Allocator>: Sync {
 
 /// What all teams of one call are given.
 #[derive(Drop)]
-pub struct Orders<'b, 'p, A: Allocator, P> {
+pub struct Orders<'b, 'p, R, A: Allocator, P> {
+    pub rt: &'b R,
     pub bench: &'b Bench<'p, A>,
     pub gate: &'b P,
     pub muster: &'b Muster,
     pub turns: u32,
 }
 
-impl<A: Allocator + Send + Sync, P: Passage + Sync> Crew<A> for Orders<'_, '_, A, P> {
+impl<R: Wait + Sync, A: Allocator + Send + Sync, P: Passage + Sync> Crew<A>
+    for Orders<'_, '_, R, A, P> {
     ghost bench = { λ o. o.bench.now };
 
     ghost turns = { λ o. o.turns };
@@ -52,7 +55,14 @@ impl<A: Allocator + Send + Sync, P: Passage + Sync> Crew<A> for Orders<'_, '_, A
         if desks.is_empty() {
             return Halt::After(self.turns);
         }
-        work(self.bench, self.gate, self.muster, self.turns, desks)
+        work(
+            self.rt,
+            self.bench,
+            self.gate,
+            self.muster,
+            self.turns,
+            desks,
+        )
     }
 
     fn catch_up(&self, taken: u32, most: u32, desks: &mut [Desk<A>]) {
@@ -61,9 +71,10 @@ impl<A: Allocator + Send + Sync, P: Passage + Sync> Crew<A> for Orders<'_, '_, A
 }
 
 /// The teams from `first` on, so many of them. Team `t` has the desks whose job is `t` modulo the workers, and the desks stand in the order
-/// of their teams. Half of the teams go to another thread where one can be made.
-// A part that stopped earlier catches up, so that one number says how far all its desks are.
-#[cycle(halves)]
+/// of their teams. Each team but the last gets a thread of its own where one can be made, and the calling thread works as the last.
+// Threads are started one right after another, all by the calling thread: were one to start the next, the last would begin later by as
+// many starts. A part that stopped earlier catches up, so that one number says how far all its desks are.
+#[cycle(parts)]
 pub(crate) fn in_teams<R: Threads + Sync, A: Allocator + Send + Sync, C: Crew<A>>(
     rt: &R,
     crew: &C,
@@ -79,12 +90,12 @@ pub(crate) fn in_teams<R: Threads + Sync, A: Allocator + Send + Sync, C: Crew<A>
     if count < 2 {
         return crew.work(desks);
     }
-    let low = count / 2;
+    let low = 1;
     let high = count - low;
     let middle = first.saturating_add(low);
     let cut = desks.partition_point(|desk| u32::from(desk.job().0) % workers < middle);
     let (front, back) = desks.split_at_mut(cut);
-    let (one, other) = in_halves(rt, crew, workers, first, low, front, middle, high, back);
+    let (one, other) = in_parts(rt, crew, workers, first, low, front, middle, high, back);
     let m = match one {
         Halt::After(m) => m,
         Halt::AllRetired => return Halt::AllRetired,
@@ -99,9 +110,9 @@ pub(crate) fn in_teams<R: Threads + Sync, A: Allocator + Send + Sync, C: Crew<A>
     Halt::After(most)
 }
 
-// Both halves, one of them on a thread of its own; where none can be made, `join_mut` runs both on this one, one after the other.
-#[cycle(halves)]
-fn in_halves<R: Threads + Sync, A: Allocator + Send + Sync, C: Crew<A>>(
+// Both parts, the first on a thread of its own; where none can be made, `join_mut` runs both on this one, the first after the other.
+#[cycle(parts)]
+fn in_parts<R: Threads + Sync, A: Allocator + Send + Sync, C: Crew<A>>(
     rt: &R,
     crew: &C,
     workers: u32,

@@ -1,0 +1,81 @@
+//! How one thread waits: it looks again for a while, and then sleeps by a bell.
+use crate::bell::Bell;
+use std::sync::Wait;
+use std::thread::yield_now;
+
+/// How many idle rounds a thread only yields after. What it waits for often comes within microseconds, and a sleep costs more.
+const YIELDS: u32 = 200;
+
+/// A thread that waits by a bell. It is told what came of each round, and sleeps after many idle ones in a row.
+#[derive(Drop)]
+pub struct Listener<'b> {
+    bell: &'b Bell,
+    // Idle rounds in a row, up to the limit.
+    idle: u32,
+    // How often the bell was rung, once the thread has said that it may sleep.
+    heard: Option<u64>,
+}
+
+impl<'b> Listener<'b> {
+    /// Of this bell.
+    pub fn new(bell: &'b Bell) -> Listener<'b> {
+        Listener {
+            bell,
+            idle: 0,
+            heard: None,
+        }
+    }
+
+    /// Something was done: whoever may wait for it is woken.
+    pub fn acted(&mut self) {
+        self.idle = 0;
+        self.leave();
+        self.bell.ring();
+    }
+
+    /// A round was idle: yields; or says that the thread may sleep, after which it has to look once more; or sleeps, if that
+    /// look was idle too.
+    pub fn idled<R: Wait>(&mut self, rt: &R) {
+        if self.idle < YIELDS {
+            self.idle += 1;
+            yield_now();
+            return;
+        }
+        match self.heard {
+            None => self.heard = Some(self.bell.listen()),
+            Some(heard) => {
+                if self.bell.sleep(rt, heard) {
+                    // More may come soon.
+                    self.idle = 0;
+                }
+                self.leave();
+            }
+        }
+    }
+
+    /// A round was idle, and another would be in vain before the bell rings: as `idled`, but sleeps so many times. Answers no if the bell
+    /// wasn't rung in all that time.
+    pub fn outlasts<R: Wait>(&mut self, rt: &R, sleeps: u32) -> bool {
+        let Some(heard) = self.heard else {
+            self.heard = Some(self.bell.listen());
+            return true;
+        };
+        let mut rung = false;
+        for _ in 0..sleeps {
+            rung = self.bell.sleep(rt, heard);
+            if rung {
+                break;
+            }
+        }
+        self.leave();
+        rung
+    }
+
+    /// The thread doesn't sleep now. A listener that is dropped has left before, or others ring for nobody.
+    pub fn leave(&mut self) {
+        if self.heard.is_some() {
+            self.heard = None;
+            self.bell.leave();
+        }
+    }
+}
