@@ -599,7 +599,9 @@ class Running(unittest.TestCase):
 
 
 INTERRUPTED = """
-import sys, time, threading, labrun
+import signal, sys, time, threading, labrun
+# (what a shell runs in the background ignores the signal, and so do its children)
+signal.signal(signal.SIGINT, signal.default_int_handler)
 WHERE, SCRIPT = sys.argv[1], sys.argv[2]
 bench = labrun.Bench.from_text(SCRIPT)
 def tell_once_it_waits():
