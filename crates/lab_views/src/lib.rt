@@ -13,10 +13,10 @@ mod tabulating;
 mod telling_blocks;
 mod telling_waits;
 mod tracing;
-mod words;
 
 pub use drawing_gantt::run_gantt;
 pub use ending::{end_arranged, end_picture, end_trace};
+pub use labview_words::{PROGRAM, View, read_words};
 pub use picture_fault::{PictureFault, status_of_picture};
 pub use picturing::run_picture;
 pub use reordering::run_arrange;
@@ -25,4 +25,3 @@ pub use tabulating::run_table;
 pub use telling_blocks::run_blocks;
 pub use telling_waits::run_waits;
 pub use tracing::run_trace;
-pub use words::{PROGRAM, View, read_words};

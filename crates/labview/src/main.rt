@@ -1,7 +1,8 @@
 //! The program `labview`: its words, standard input, output and error, handed to `lab_views`, which does the work.
 #![tactic(auto)]
 
-use lab_program::{FromRead, NoTask, RunFault, end, end_without_task, given_words};
+use command_line::{NoTask, end_saying_why, given_words};
+use lab_program::{FromRead, RunFault, end};
 use lab_views::{
     PROGRAM, View, end_arranged, end_picture, end_trace, read_words, run_arrange, run_blocks,
     run_explain, run_gantt, run_picture, run_table, run_trace, run_waits,
@@ -18,7 +19,7 @@ fn given_view(rt: &HostRuntime) -> Result<View, NoTask> {
 fn main(rt: HostRuntime) -> ExitCode {
     let view = match given_view(&rt) {
         Ok(view) => view,
-        Err(reason) => return end_without_task(&rt, PROGRAM, reason),
+        Err(reason) => return end_saying_why(&rt, PROGRAM, reason),
     };
     let alloc = rt.alloc();
     let Ok(output) = BufWriter::new(alloc, io::writer(&rt)) else {
