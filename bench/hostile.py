@@ -1,14 +1,16 @@
 #!/usr/bin/env python3
-"""The built program on input, output, words and memory that it can't like: each with its status and its one line.
+"""The built programs on input, output, words and memory that they can't like: each with its status and its one line.
 
-Usage: bench/hostile.py PROGRAM [memory=no] [refused=no]
+Usage: bench/hostile.py PROGRAM [labview=PROGRAM] [memory=no] [refused=no]
 
-PROGRAM is the built program (crates/labrun/out/labrun). One line goes out for each case; the status is 1 where one isn't as
+PROGRAM is the built program (crates/labrun/out/labrun), and that of labview, of which the words are tried, may follow
+(labview=crates/labview/out/labview). One line goes out for each case; the status is 1 where one isn't as
 it should be. The cases: words that are refused, with a standard input that never ends; every fault of a script; inputs of
 16777216 bytes and of one more; a folder as input; outputs that are full, closed, or taken one byte at a time; as many jobs,
 sessions and commands as there can be, by rounds and by threads; 32 workers and a thousand million turns; and (where memory
 isn't no) less and less memory, down to none: then the whole report, or want of memory, and nothing else. Last, where refused isn't no,
-each growth of each kind of run is refused in turn, and each start of a thread, by bench/refuse.c, which needs a C compiler.
+each growth of each kind of run is refused in turn, and each start of a thread, and each growth while words are read, by
+bench/refuse.c, which needs a C compiler.
 """
 import os
 import resource
@@ -29,7 +31,7 @@ SECONDS = 300
 
 class Cases:
     def __init__(self, program):
-        self.program, self.problems, self.count = program, 0, 0
+        self.program, self.name, self.problems, self.count = program, os.path.basename(program), 0, 0
 
     def run(self, words, data=b"", **more):
         """Standard output, standard error and status."""
@@ -49,7 +51,7 @@ class Cases:
 
     def ends(self, what, got, status, errors, out=b""):
         """A run has this status, this line on standard error (none: nothing), and this output (None: not looked at)."""
-        line = "labrun: %s\n" % errors if errors else ""
+        line = "%s: %s\n" % (self.name, errors) if errors else ""
         fine = got[2] == status and got[1] == line and (out is None or got[0] == out)
         self.tell(what, None if fine else "status %s, standard error %r, standard output %r" % (
             got[2], got[1][:200], (got[0] or b"")[:200]))
@@ -80,6 +82,29 @@ def check_words(cases):
         out = whole if words != "threads 32 1000000000" else None
         cases.ends("words: " + words, cases.run(words.split(), PAIR), 0, "", out)
     cases.ends("no words", cases.run([], PAIR), 0, "", whole)
+
+
+def check_view_words(cases):
+    """Those of labview: a word that is refused is named, and so is the help."""
+    value = "invalid value '%s' for '<N>': "
+    for words, why in (
+            ("", "a command is missing"), ("wait 9", "unrecognized subcommand 'wait'"), ("Waits 9", "unrecognized subcommand 'Waits'"),
+            ("waits", "the following required arguments were not provided: <N>"), ("gantt 9 9", "unexpected argument '9' found"),
+            ("picture --all", "unexpected argument '--all' found"), ("blocks nine", value % "nine" + "invalid digit found in string"),
+            ("trace 1000000001", value % "1000000001" + "1000000001 is not in 0..=1000000000")):
+        with open("/dev/zero", "rb") as endless:
+            cases.ends("words: labview " + words, cases.run(words.split(), stdin=endless), 2,
+                       "command line refused: %s; see labview --help" % why)
+    for words in ("--help", "-h", "waits --help", "gantt 9 -h"):
+        out, errors, status = cases.run(words.split())
+        cases.tell("labview " + words, None if status == 0 and not errors and b"Usage: labview" in out else out)
+    report = simulate.simulate(PAIR, 9)[0].encode()
+    for words in ("picture", "table"):
+        cases.ends("a script for labview " + words, cases.run([words], PAIR), 1,
+                   "line 2: this is a script; %s reads a report: labrun < script | labview %s" % (words, words))
+    for words in ("explain", "arrange", "trace 9", "waits 9", "blocks 9", "gantt 9"):
+        cases.ends("a report for labview " + words, cases.run(words.split(), report), 1,
+                   "line 2: this is a report; %s reads a script" % words.split()[0])
 
 
 def check_faults(cases):
@@ -173,6 +198,45 @@ def check_memory(cases, runs=(["rounds", "1000000"], ["threads", "4", "100000"])
         cases.tell("%s with less and less memory (%s)" % (" ".join(words), told), None if "finished" in ends else "never finished")
 
 
+def refusing(folder):
+    """The library that refuses growths, or none if it can't be made."""
+    library = os.path.join(folder, "refuse.so")
+    source = os.path.join(os.path.dirname(os.path.abspath(__file__)), "refuse.c")
+    failed = subprocess.run(["cc", "-shared", "-fPIC", "-O1", "-o", library, source, "-ldl", "-pthread"]).returncode
+    return None if failed else library
+
+
+# Lines of words, by program. Standard input is a folder, so that nothing grows once the words are read.
+WORDS = {
+    "labrun": ("", "rounds 9", "rounds -- +9", "threads 2 9", "replay --", "check", "--help", "threads -h", "walk", "rounds nine"),
+    "labview": ("explain", "table --", "arrange", "trace 9", "waits +9", "gantt -- 9", "--help", "blocks -h", "walk", "waits nine")}
+
+
+def check_refused_words(cases):
+    """Each growth while words are read is refused in turn: want of memory is told, and nothing else."""
+    folder = tempfile.mkdtemp(prefix="labrun-refused-")
+    library, told = refusing(folder), os.path.join(folder, "told")
+    if not library:
+        return cases.tell("growths that are refused", "no library that refuses them")
+
+    def refused(words, growth):
+        ways = dict(os.environ, LD_PRELOAD=library, REFUSE_TOLD=told, REFUSE_GROWTH=str(growth), REFUSE_START="0")
+        nothing = os.open("/", os.O_RDONLY)
+        got = cases.run(words.split(), stdin=nothing, env=ways)
+        os.close(nothing)
+        with open(told) as numbers:
+            return got, int(numbers.read().split()[0])
+
+    for words in WORDS[cases.name]:
+        whole, growths = refused(words, 0)
+        wrong = [] if growths and whole[2] in (0, 2, 4) else ["nothing refused: %r" % (whole,)]
+        for number in range(1, growths + 1):
+            got = refused(words, number)[0]
+            if got != (b"", "%s: no memory\n" % cases.name, 5):
+                wrong.append("growth %d: %r" % (number, got))
+        cases.tell("words: %s %s: each of %d growths is refused" % (cases.name, words, growths), "; ".join(wrong)[:600])
+
+
 def is_no_memory(got):
     """Want of memory: its status, its one line, and no output."""
     out, errors, status = got
@@ -184,9 +248,8 @@ def check_refused(cases):
     """Each growth is refused in turn: want of memory is told, and nothing else; or, where the program can do without, the whole report, as
     where a start of a thread is refused, or each of them."""
     folder = tempfile.mkdtemp(prefix="labrun-refused-")
-    library, told = os.path.join(folder, "refuse.so"), os.path.join(folder, "told")
-    source = os.path.join(os.path.dirname(os.path.abspath(__file__)), "refuse.c")
-    if subprocess.run(["cc", "-shared", "-fPIC", "-O1", "-o", library, source, "-ldl", "-pthread"]).returncode:
+    library, told = refusing(folder), os.path.join(folder, "told")
+    if not library:
         return cases.tell("growths that are refused", "no library that refuses them")
     script = make_scripts.make("ring", make_scripts.random.Random(4), jobs=9, sessions=2, commands=3)
     steps = simulate.text(simulate.PAIR).decode() + "steps\nthirst a\nhunger a\nlook a b\nsit a\n"
@@ -246,7 +309,14 @@ def main(words):
     if "memory=no" not in words:
         check_memory(cases)
     if "refused=no" not in words:
+        check_refused_words(cases)
         check_refused(cases)
+    views = [Cases(os.path.abspath(word.partition("=")[2])) for word in words if word.startswith("labview=")]
+    for view in views:
+        check_view_words(view)
+        if "refused=no" not in words:
+            check_refused_words(view)
+        cases.count, cases.problems = cases.count + view.count, cases.problems + view.problems
     print("%d cases, %d problems" % (cases.count, cases.problems))
     return 1 if cases.problems else 0
 

@@ -3,10 +3,35 @@ ghost use Rattle.std.specs.Prelude.{◌≡◌};
 ghost use Rattle.clap.specs.Words.{found_of, kind_of, rows_of};
 ghost use Rattle.command_line.specs.Reading.{IsReason, number_found};
 
+use crate::words::NoTask;
 use clap::error::ErrorKind;
 use clap::{ArgMatches, Error};
-use lab_program::NoTask;
-use std::alloc::Global;
+use std::alloc::{AllocError, Global};
+
+/// What clap says first of its error, in one line: what stands before the first empty line.
+fn in_one_line(alloc: Global, text: &str) -> Result<String, AllocError> {
+    let text = match text.strip_prefix("error: ") {
+        Some(rest) => rest,
+        None => text,
+    };
+    let mut line = String::new(alloc);
+    for part in text.lines() {
+        if part.is_empty() {
+            break;
+        }
+        if !line.is_empty() {
+            line.push(' ')?;
+        }
+        line.push_str(part.trim())?;
+    }
+    Ok(line)
+}
+
+/// Why clap refuses words, in one line.
+fn reason_of(alloc: Global, error: &Error) -> Result<String, AllocError> {
+    let text = format!(in alloc; "{error}")?;
+    in_one_line(alloc, text.as_str())
+}
 
 /// Why there is no task, by the error of clap.
 pub fn why_no_task(alloc: Global, error: &Error) -> NoTask
@@ -18,7 +43,10 @@ pub fn why_no_task(alloc: Global, error: &Error) -> NoTask
             Ok(text) => NoTask::Help(text),
             Err(_) => NoTask::NoMemory,
         },
-        _ => NoTask::Refused,
+        _ => match reason_of(alloc, error) {
+            Ok(reason) => NoTask::Refused(reason),
+            Err(_) => NoTask::NoMemory,
+        },
     }
 }
 

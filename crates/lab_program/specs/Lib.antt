@@ -1,5 +1,3 @@
 pub mod Input
 pub mod Faults
 pub mod Answers
-pub mod Numbers
-pub mod Words

@@ -2,6 +2,7 @@
 //! bytes. A script is checked, upgraded, replayed from the opening on, or run on a bench, by rounds or by threads.
 #![tactic(auto)]
 
+mod asking;
 mod counting;
 mod replaying;
 mod scripts;
@@ -11,6 +12,7 @@ mod showing;
 mod steps;
 mod tasks;
 
+pub use asking::run_words;
 pub use labrun_words::{PROGRAM, Task, read_words};
 pub use replaying::run_replay;
 pub use scripts::{run_check, run_upgrade};

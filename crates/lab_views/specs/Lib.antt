@@ -1,5 +1,5 @@
 pub mod Views
-pub mod Words
+pub mod Answered
 pub mod Pictures
 pub mod Tables
 pub mod Traces

@@ -1,25 +1,16 @@
 //! The program `labrun`: its words, standard input, output and error, handed to `lab_runs`, which does the work.
 #![tactic(auto)]
 
-ghost use Rattle.std.specs.Prelude.{IfOk};
-ghost use Rattle.labrun_words.specs.Words.{MayRun};
-
-use lab_program::{FromRead, NoTask, RunFault, end, end_without_task, given_words};
-use lab_runs::{NoGate, PROGRAM, Task, read_words, run_task};
+use command_line::{end_without_task, given_words};
+use lab_program::{FromRead, RunFault, end};
+use lab_runs::{PROGRAM, run_words};
 use report::ToWrite;
 use std::io::{self, BufWriter};
 use std::process::ExitCode;
 
-fn given_task(rt: &HostRuntime) -> Result<Task, NoTask>
-    ensures { IfOk result MayRun }
-{
-    let words = given_words(rt)?;
-    read_words(rt.alloc(), words.as_slice())
-}
-
 fn main(rt: HostRuntime) -> ExitCode {
-    let task = match given_task(&rt) {
-        Ok(task) => task,
+    let words = match given_words(&rt) {
+        Ok(words) => words,
         Err(reason) => return end_without_task(&rt, PROGRAM, reason),
     };
     let alloc = rt.alloc();
@@ -28,6 +19,5 @@ fn main(rt: HostRuntime) -> ExitCode {
     };
     let mut source = FromRead::new(rt.reader());
     let mut sink = ToWrite::new(output);
-    let answer = run_task(task, &rt, alloc, &mut source, &mut sink, &NoGate);
-    end(&rt, PROGRAM, answer)
+    run_words(&rt, &rt, alloc, words.as_slice(), &mut source, &mut sink)
 }

@@ -6,9 +6,9 @@ use Rattle.clap.specs.Words.{IsAmong, Text, fault_of}
 use Rattle.clap.specs.declared.error.kind.ErrorKind.{ErrorKind}
 use Rattle.clap.specs.declared.error.kind.ErrorKind.TheVariants as kind
 use Rattle.command_line.specs.Grammar.{asks_for_help, number_within, values_given}
-use Rattle.command_line.specs.Reading.{IsReason}
-use Rattle.lab_program.specs.declared.words.NoTask.{NoTask}
-use Rattle.lab_program.specs.declared.words.NoTask.TheVariants.{Help, Refused, NoMemory}
+use Rattle.command_line.specs.Reading.{IsReason, IsRefusal}
+use Rattle.command_line.specs.declared.words.NoTask.{NoTask}
+use Rattle.command_line.specs.declared.words.NoTask.TheVariants.{Help, Refused, NoMemory}
 use Rattle.command_line.proofs.Answers.{among_none, among_one, never, not_true}
 use Rattle.command_line.proofs.Leaves.{number_bounds}
 use Rattle.labrun_words.specs.Answers.{AnswersWords}
@@ -29,7 +29,7 @@ by_error words k (Help text) is kinds =
       | inl none ↦ let bad : kind.DisplayHelp ≡ kind.OutOfMemory = sym is ∙ none in cc
       | inr among ↦ (fails words k among, subst (λ x. IsAmong x (fault_of labrun_app words)) is among)
     ]
-by_error words k Refused is kinds =
+by_error words k (Refused why) is kinds =
     elim kinds [
       | inl none ↦ absurd (is.0 none)
       | inr among ↦ (
@@ -39,8 +39,10 @@ by_error words k Refused is kinds =
       )
     ]
 
-pub by_none : (words : List Text) → fault_of labrun_app words ≡ [] → task_of words ≡ None → AnswersWords words (Err Refused)
-by_none words fault none = (
+pub by_none : (words : List Text) (r : NoTask) → IsRefusal r → fault_of labrun_app words ≡ [] → task_of words ≡ None → AnswersWords words (Err r)
+by_none words NoMemory is fault none = tt
+by_none words (Help text) is fault none = absurd is
+by_none words (Refused why) is fault none = (
   none,
   not_true (asks_for_help words) (λ h. let bad : [] ≡ kind.DisplayHelp ∷ [] = sym fault ∙ helps words h in cc),
   λ h. let bad : [] ≡ kind.DisplayHelp ∷ [] = sym fault ∙ h in cc,

@@ -3,8 +3,8 @@ use Rattle.std.specs.Prelude.{◌≡◌, ℕ, false, List, [], ◌∷◌, None, 
 use Rattle.clap.specs.Words.{IsAmong, fault_of}
 use Rattle.clap.specs.declared.error.kind.ErrorKind.TheVariants as kind
 use Rattle.command_line.specs.Grammar.{asks_for_help}
-use Rattle.lab_program.specs.declared.words.NoTask.{NoTask}
-use Rattle.lab_program.specs.declared.words.NoTask.TheVariants.{Help, Refused, NoMemory}
+use Rattle.command_line.specs.declared.words.NoTask.{NoTask}
+use Rattle.command_line.specs.declared.words.NoTask.TheVariants.{Help, Refused, NoMemory}
 use Rattle.labrun_words.specs.Command.{labrun_app}
 use Rattle.labrun_words.specs.Words.{task_of}
 use Rattle.labrun_words.specs.declared.words.Task.{Task}
@@ -14,6 +14,6 @@ use Rattle.labrun_words.specs.declared.words.Task.{Task}
 abbrev pub AnswersWords : List (List ℕ) → Result Task NoTask → Type 0
 AnswersWords words (Ok task) = task_of words ≡ Some task
 AnswersWords words (Err (Help text)) = (task_of words ≡ None) × IsAmong kind.DisplayHelp (fault_of labrun_app words)
-AnswersWords words (Err Refused) =
+AnswersWords words (Err (Refused why)) =
     (task_of words ≡ None) × (asks_for_help words ≡ false) × (fault_of labrun_app words ≡ kind.DisplayHelp ∷ [] → ⊥)
 AnswersWords words (Err NoMemory) = Unit

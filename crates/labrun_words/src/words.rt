@@ -7,8 +7,7 @@ ghost use Rattle.labrun_words.specs.Command.{labrun_app, task_found};
 ghost use Rattle.labrun_words.specs.Words.{MayRun};
 
 use clap::{ArgMatches, Command};
-use command_line::{number, number_of, program, why_no_task, with_word};
-use lab_program::NoTask;
+use command_line::{NoTask, number, number_of, program, refused, why_no_task, with_word};
 use std::alloc::{AllocError, Global};
 use std::convert::AsStr;
 
@@ -134,7 +133,7 @@ pub fn read_words<S: AsStr>(alloc: Global, words: &[S]) -> Result<Task, NoTask>
     match command.try_get_matches_from(words) {
         Ok(matches) => match task_of(&matches) {
             Some(task) => Ok(task),
-            None => Err(NoTask::Refused),
+            None => Err(refused(alloc, "a command is missing")),
         },
         Err(error) => Err(why_no_task(alloc, &error)),
     }

@@ -5,6 +5,8 @@
 #[cfg(test)]
 mod blocks;
 #[cfg(test)]
+mod commands;
+#[cfg(test)]
 mod gantts;
 #[cfg(test)]
 mod memory;

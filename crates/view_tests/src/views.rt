@@ -1,6 +1,7 @@
 //! What `labview` writes, by its bytes, and its words.
 use crate::stages::text_at;
-use lab_program::{FromRead, NoTask, Outcome, RunFault};
+use command_line::NoTask;
+use lab_program::{FromRead, Outcome, RunFault};
 use lab_views::{View, read_words, run_explain};
 use report::ToWrite;
 use script_reader::{ScriptCause, ScriptFault};
@@ -83,19 +84,20 @@ const HELP: &str = "Shows and explains the runs of labrun
 Usage: labview [COMMAND]
 
 Commands:
-  explain   read a script and its steps, tell why the first that isn't legal is refused, and what is legal there
-  picture   read a report of labrun, and draw its timeline as SVG
-  table     read a report of labrun, and write its logs as comma-separated values
-  trace N   read a script, write it with the steps of its run by at most N rounds, for labrun replay
-  waits N   read a script, tell who waits in its run by at most N rounds, and for how long
-  blocks N  read a script, tell who keeps whom waiting in its run by at most N rounds, and for which instrument
-  gantt N   read a script, and draw its run by at most N rounds over time, as SVG
-  arrange   read a script, write it with its jobs in an order in which chains at the start are short
+  explain  read a script and its steps, tell why the first that isn't legal is refused, and what is legal there
+  picture  read a report of labrun, and draw its timeline as SVG
+  table    read a report of labrun, and write its logs as comma-separated values
+  arrange  read a script, write it with its jobs in an order in which chains at the start are short
+  trace    read a script, write it with the steps of its run by at most N rounds, for labrun replay
+  waits    read a script, tell who waits in its run by at most N rounds, and for how long
+  blocks   read a script, tell who keeps whom waiting in its run by at most N rounds, and for which instrument
+  gantt    read a script, and draw its run by at most N rounds over time, as SVG
 
 Options:
-      --help  print this help
+  -h, --help  Print help
 
-N is a number from 0 to 1000000000, in plain digits.
+The values: `trace N`, `waits N`, `blocks N`, `gantt N`. N is a number from 0 to 1000000000, in
+digits.
 
 The input comes from standard input, at most 16777216 bytes. What is printed goes to
 standard output, and a fault in one line to standard error.
@@ -109,6 +111,24 @@ Statuses:
   4  reading or writing failed, or the input is longer than 16777216 bytes
   5  no memory
 ";
+
+const GANTT_HELP: &str = "read a script, and draw its run by at most N rounds over time, as SVG
+
+Usage: labview gantt <N>
+
+Arguments:
+  <N>  the most rounds
+
+Options:
+  -h, --help  Print help
+";
+
+fn help_of(alloc: Global, words: &[&str]) -> String {
+    match read_words(alloc, words) {
+        Err(NoTask::Help(text)) => text,
+        _ => String::new(alloc),
+    }
+}
 
 #[test]
 fn words(rt: HostRuntime) {
@@ -124,8 +144,12 @@ fn words(rt: HostRuntime) {
         (["labview", "Explain"].as_slice(), None),
         (["labview", "explai"].as_slice(), None),
         (["labview", "explain", "explain"].as_slice(), None),
-        (["labview", "explain", "--help"].as_slice(), None),
-        (["labview", "-h"].as_slice(), None),
+        (["labview", "explain", "--version"].as_slice(), None),
+        (["labview", "--hel"].as_slice(), None),
+        (["labview", "--"].as_slice(), None),
+        (["labview", "--", "explain"].as_slice(), None),
+        (["labview", "explain", "--"].as_slice(), Some(View::Explain)),
+        (["labview", "explain", "--", "--"].as_slice(), None),
         (["labview", "help"].as_slice(), None),
         (["labview", "replay"].as_slice(), None),
         (["explain"].as_slice(), None),
@@ -136,7 +160,20 @@ fn words(rt: HostRuntime) {
             ["labview", "trace", "007"].as_slice(),
             Some(View::Trace { limit: 7 }),
         ),
-        (["labview", "trace", "+7"].as_slice(), None),
+        (
+            ["labview", "trace", "+7"].as_slice(),
+            Some(View::Trace { limit: 7 }),
+        ),
+        (
+            ["labview", "gantt", "--", "7"].as_slice(),
+            Some(View::Gantt { limit: 7 }),
+        ),
+        (
+            ["labview", "blocks", "7", "--"].as_slice(),
+            Some(View::Blocks { limit: 7 }),
+        ),
+        (["labview", "waits", "-7"].as_slice(), None),
+        (["labview", "waits", "7", "7"].as_slice(), None),
         (
             ["labview", "waits", "74"].as_slice(),
             Some(View::Waits { limit: 74 }),
@@ -159,13 +196,17 @@ fn words(rt: HostRuntime) {
     for (i, (words, wanted)) in lines.into_iter().enumerate() {
         match read_words(rt.alloc(), words) {
             Ok(view) => assert!(rt; wanted == Some(view), "line {i}"),
-            Err(NoTask::Refused) => assert!(rt; wanted.is_none(), "line {i}"),
+            Err(NoTask::Refused(_)) => assert!(rt; wanted.is_none(), "line {i}"),
             Err(_) => panic!(rt; "line {i}"),
         }
     }
-    let text = match read_words(rt.alloc(), &["labview", "--help"]) {
-        Err(NoTask::Help(text)) => text,
-        _ => String::new(rt.alloc()),
-    };
-    assert!(rt; text.as_str() == HELP, "{text}");
+    for words in [
+        ["labview", "--help"].as_slice(),
+        ["labview", "-h"].as_slice(),
+        ["labview", "--help", "explain"].as_slice(),
+    ] {
+        assert!(rt; help_of(rt.alloc(), words).as_str() == HELP);
+    }
+    let text = help_of(rt.alloc(), &["labview", "gantt", "--help"]);
+    assert!(rt; text.as_str() == GANTT_HELP, "{text}");
 }

@@ -1,5 +1,6 @@
 //! What no contract says: the words of command lines, the text of the help, and the texts and statuses of faults.
-use lab_program::{NoTask, Outcome, RunFault, status_of};
+use command_line::NoTask;
+use lab_program::{Outcome, RunFault, status_of};
 use lab_runs::{Task, read_words};
 use script_reader::{ScriptCause, ScriptFault};
 use std::test::Fail;
@@ -7,7 +8,7 @@ use std::test::Fail;
 fn is_told(answer: &Result<Task, NoTask>, want: Option<Task>) -> bool {
     match (answer, want) {
         (Ok(task), Some(wanted)) => *task == wanted,
-        (Err(NoTask::Refused), None) => true,
+        (Err(NoTask::Refused(_)), None) => true,
         _ => false,
     }
 }

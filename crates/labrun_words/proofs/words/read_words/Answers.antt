@@ -29,7 +29,7 @@ returns-in-Ok-clause-answer g c =
     let app = c.in_ok-command.ensures in
     let stop = (c.in-Ok.ensures.matches (ap is_simple app ∙ simple)).1 ∙ ap (λ (a : App). subcommand_of a words) app in
     let fault : fault_of labrun_app words ≡ [] = ap (λ (a : App). fault_of a words) (sym app) ∙ c.in-Ok.ensures.kinds (ap is_simple_and_free app ∙ free) in
-    by_none words fault (sym (sound words fault) ∙ sym (ap task_found stop) ∙ sym c.task_of.ensures ∙ c.in-None.is)
+    by_none words c.refused.result c.refused.ensures fault (sym (sound words fault) ∙ sym (ap task_found stop) ∙ sym c.task_of.ensures ∙ c.in-None.is)
 
 pub returns-clause-answer : goal.returns-clause-answer
 returns-clause-answer g c =

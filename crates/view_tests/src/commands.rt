@@ -1,0 +1,194 @@
+//! Whole command lines of both programs: what goes out, what is printed on standard error, and the status.
+use lab_program::FromRead;
+use report::ToWrite;
+use std::alloc::{AllocError, Global};
+use std::cell::RefCell;
+use std::fmt::Display;
+use std::io;
+use std::process::{Abort, ExitCode};
+use std::thread::Threads;
+
+/// A runtime that keeps what is printed: on standard output, and on standard error.
+#[derive(Drop)]
+struct Kept {
+    out: RefCell<String>,
+    errors: RefCell<String>,
+}
+
+impl Kept {
+    fn new(alloc: Global) -> Kept {
+        Kept {
+            out: RefCell::new(String::new(alloc)),
+            errors: RefCell::new(String::new(alloc)),
+        }
+    }
+}
+
+fn keep<D: Display + Drop>(kept: &RefCell<String>, value: D, end: &str) -> io::Result<()> {
+    match kept.try_borrow_mut() {
+        Ok(mut text) => {
+            write!(text, "{value}{end}")?;
+            Ok(())
+        }
+        Err(_) => Err(io::Error::from(AllocError)),
+    }
+}
+
+impl Print for Kept {
+    fn print<D: Display + Drop>(&self, value: D) -> io::Result<()> {
+        keep(&self.out, value, "")
+    }
+
+    fn println<D: Display + Drop>(&self, value: D) -> io::Result<()> {
+        keep(&self.out, value, "\n")
+    }
+
+    fn write_all(&self, bytes: &[u8]) -> io::Result<()> {
+        keep(&self.out, str::from_utf8(bytes).unwrap_or("no text"), "")
+    }
+}
+
+impl Eprint for Kept {
+    fn eprint<D: Display + Drop>(&self, value: D) -> io::Result<()> {
+        keep(&self.errors, value, "")
+    }
+
+    fn eprintln<D: Display + Drop>(&self, value: D) -> io::Result<()> {
+        keep(&self.errors, value, "\n")
+    }
+}
+
+/// Two jobs on one instrument.
+const SCRIPT: &str = "lab 1\njob a\nsession\nscale add 1\nend\njob b\nsession\nscale add 1\nend\n";
+
+/// What a run of it prints.
+const REPORT: &str = "lab 1
+instrument scale 2
+a 1 1/1 add 1 = 1
+b 1 1/1 add 1 = 2
+job a sessions 1 of 1 meals 0 retired
+job b sessions 1 of 1 meals 1 retired
+finished
+";
+
+/// What a command line sends to its sink, prints, and prints on standard error; and its status.
+type Told = (Vec<u8>, Kept, ExitCode);
+
+fn labrun<R: Threads + Sync>(rt: &R, alloc: Global, words: &[&str], input: &str) -> Told {
+    let kept = Kept::new(alloc);
+    let mut bytes = Vec::new(alloc);
+    let mut source = FromRead::new(input.as_bytes());
+    let mut sink = ToWrite::new(&mut bytes);
+    let status = lab_runs::run_words(rt, &kept, alloc, words, &mut source, &mut sink);
+    (bytes, kept, status)
+}
+
+fn labview(alloc: Global, words: &[&str], input: &str) -> Told {
+    let kept = Kept::new(alloc);
+    let mut bytes = Vec::new(alloc);
+    let mut source = FromRead::new(input.as_bytes());
+    let mut sink = ToWrite::new(&mut bytes);
+    let status = lab_views::run_words(&kept, alloc, words, &mut source, &mut sink);
+    (bytes, kept, status)
+}
+
+fn ends(rt: &impl Abort, told: Told, out: &str, errors: &str, status: u8) {
+    let (bytes, kept, code) = told;
+    let sent = str::from_utf8(bytes.as_slice()).unwrap_or("no text");
+    assert!(rt; sent == out, "sent:\n{sent}\nwanted:\n{out}");
+    let said = kept.errors.into_inner();
+    assert!(rt; said.as_str() == errors, "said: {said}wanted: {errors}");
+    assert!(rt; kept.out.into_inner().is_empty());
+    assert!(rt; code == ExitCode::from(status), "{code:?}, not {status}");
+}
+
+#[test]
+fn command_lines_of_labrun(rt: HostRuntime) {
+    let refused = "labrun: command line refused\n";
+    let counts = "ok jobs 2 instruments 1 edges 1 sessions 2 commands 2\n";
+    let waiting =
+        "lab 1\ninstrument scale 0\njob a sessions 0 of 1 meals 0 waiting\njob b sessions 0 of 1 meals 0 waiting\nunfinished\n";
+    let no_header = "labrun: line 1: S1 no lab header\n";
+    for (words, input, out, errors, status) in [
+        ([].as_slice(), SCRIPT, REPORT, "", 0),
+        (["labrun", "rounds", "9"].as_slice(), SCRIPT, REPORT, "", 0),
+        (
+            ["labrun", "threads", "2", "0"].as_slice(),
+            SCRIPT,
+            waiting,
+            "",
+            3,
+        ),
+        (["labrun", "check"].as_slice(), SCRIPT, counts, "", 0),
+        (["labrun", "upgrade"].as_slice(), "", "", no_header, 1),
+        (["labrun", "walk"].as_slice(), SCRIPT, "", refused, 2),
+    ] {
+        let told = labrun(&rt, rt.alloc(), words, input);
+        ends(&rt, told, out, errors, status);
+    }
+}
+
+#[test]
+fn command_lines_of_labview(rt: HostRuntime) {
+    let table = "instrument,entry,job,session,place,length,verb,number,value\n";
+    for (words, input, errors, status) in [
+        (
+            ["labview"].as_slice(),
+            SCRIPT,
+            "labview: command line refused: a command is missing; see labview --help\n",
+            2,
+        ),
+        (
+            ["labview", "wait", "9"].as_slice(),
+            SCRIPT,
+            "labview: command line refused: unrecognized subcommand 'wait'; see labview --help\n",
+            2,
+        ),
+        (
+            ["labview", "waits"].as_slice(),
+            SCRIPT,
+            "labview: command line refused: the following required arguments were not provided: <N>; see labview --help\n",
+            2,
+        ),
+        (
+            ["labview", "picture"].as_slice(),
+            SCRIPT,
+            "labview: line 2: this is a script; picture reads a report: labrun < script | labview picture\n",
+            1,
+        ),
+        (
+            ["labview", "table"].as_slice(),
+            SCRIPT,
+            "labview: line 2: this is a script; table reads a report: labrun < script | labview table\n",
+            1,
+        ),
+        (
+            ["labview", "picture"].as_slice(),
+            "lab 1\nscale\n",
+            "labview: line 2: not a line of a report\n",
+            1,
+        ),
+        (
+            ["labview", "gantt", "9"].as_slice(),
+            REPORT,
+            "labview: line 2: this is a report; gantt reads a script\n",
+            1,
+        ),
+        (
+            ["labview", "explain"].as_slice(),
+            REPORT,
+            "labview: line 2: this is a report; explain reads a script\n",
+            1,
+        ),
+        (
+            ["labview", "waits", "9"].as_slice(),
+            "",
+            "labview: line 1: S1 no lab header\n",
+            1,
+        ),
+    ] {
+        ends(&rt, labview(rt.alloc(), words, input), "", errors, status);
+    }
+    let told = labview(rt.alloc(), &["labview", "table"], "lab 1\nfinished\n");
+    ends(&rt, told, table, "", 0);
+}
