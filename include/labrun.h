@@ -146,6 +146,13 @@ struct lab_entry {
     uint32_t value;  /* what the dial then showed */
 };
 
+/* A command as the script has it. */
+struct lab_planned {
+    uint32_t instrument;
+    uint32_t verb;   /* as in `struct lab_entry` */
+    uint32_t number;
+};
+
 /* Opens a bench for a script. 0; 1 with `told->line` and `told->cause`; 4; 5; 7 if the handle is in use. */
 uint32_t lab_bench_open(const uint8_t *script, size_t length, struct lab_bench *bench, struct lab_told *told);
 
@@ -158,6 +165,10 @@ uint32_t lab_instrument_name(struct lab_bench *bench, uint32_t instrument, uint8
 
 /* What a session of a job is, as the script has it. 0, 2, 7. */
 uint32_t lab_session_of(struct lab_bench *bench, uint32_t job, uint32_t session, struct lab_session *what);
+
+/* A command of a session as the script has it; its commands are counted from 0. Where `lab_state` says `position`, the next command
+   (`lab_command`) is the one with this number: so it says on which instrument. 0, 2, 7. */
+uint32_t lab_planned(struct lab_bench *bench, uint32_t job, uint32_t session, uint32_t place, struct lab_planned *command);
 
 /* How far a job is. 0, 2, 7. */
 uint32_t lab_state(struct lab_bench *bench, uint32_t job, struct lab_state *state);
@@ -246,6 +257,10 @@ LAB_AT(lab_entry, length, 8);
 LAB_AT(lab_entry, verb, 12);
 LAB_AT(lab_entry, number, 16);
 LAB_AT(lab_entry, value, 20);
+LAB_IS(sizeof(struct lab_planned) == 12);
+LAB_AT(lab_planned, instrument, 0);
+LAB_AT(lab_planned, verb, 4);
+LAB_AT(lab_planned, number, 8);
 #undef LAB_AT
 #undef LAB_IS
 #endif

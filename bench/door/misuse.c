@@ -20,6 +20,7 @@ static union {
     struct lab_turned turned;
     struct lab_state state;
     struct lab_entry entry;
+    struct lab_planned planned;
     struct {
         size_t written;
         uint8_t name[64];
@@ -83,6 +84,7 @@ static void not_open(int is_closed) {
     REFUSED(LAB_NOT_OPEN, lab_job_name(&bench, 99, out.name.name, 16, &out.name.written));
     REFUSED(LAB_NOT_OPEN, lab_instrument_name(&bench, 0, out.name.name, 16, &out.name.written));
     REFUSED(LAB_NOT_OPEN, lab_session_of(&bench, 0, 1, &out.session));
+    REFUSED(LAB_NOT_OPEN, lab_planned(&bench, 0, 1, 0, &out.planned));
     REFUSED(LAB_NOT_OPEN, lab_state(&bench, 0, &out.state));
     REFUSED(LAB_NOT_OPEN, lab_turn(&bench, 0, &out.turned));
     REFUSED(LAB_NOT_OPEN, lab_turn(&bench, 0xffffffffu, &out.turned));
@@ -171,6 +173,21 @@ static void sessions(void) {
     REFUSED(LAB_NOT_THERE, lab_session_of(&bench, 0, 0xffffffffu, &out.session));
 }
 
+static void commands(void) {
+    TELLS(LAB_DONE, lab_planned(&bench, 0, 1, 1, &out.planned));
+    IS(out.planned.instrument == 1 && out.planned.verb == 0 && out.planned.number == 7 && untouched(sizeof out.planned));
+    TELLS(LAB_DONE, lab_planned(&bench, 0, 1, 2, &out.planned));
+    IS(out.planned.instrument == 0 && out.planned.verb == 2 && out.planned.number == 0);
+    TELLS(LAB_DONE, lab_planned(&bench, 1, 1, 0, &out.planned));
+    IS(out.planned.instrument == 0 && out.planned.verb == 1 && out.planned.number == 2);
+    REFUSED(LAB_NOT_THERE, lab_planned(&bench, 0, 1, 3, &out.planned));
+    REFUSED(LAB_NOT_THERE, lab_planned(&bench, 0, 1, 0xffffffffu, &out.planned));
+    REFUSED(LAB_NOT_THERE, lab_planned(&bench, 0, 0, 0, &out.planned));
+    REFUSED(LAB_NOT_THERE, lab_planned(&bench, 0, 3, 0, &out.planned));
+    REFUSED(LAB_NOT_THERE, lab_planned(&bench, 2, 1, 0, &out.planned));
+    REFUSED(LAB_NOT_THERE, lab_planned(&bench, 3, 1, 0, &out.planned));
+}
+
 static void no_such_job(void) {
     static const uint32_t absent[] = {3, 32, 255, 256, 0x80000000u, 0xffffffffu};
     for (size_t which = 0; which < sizeof absent / sizeof *absent; which++) {
@@ -217,6 +234,7 @@ static void a_whole_run(void) {
     IS(out.size.jobs == 3 && out.size.instruments == 2);
     names();
     sessions();
+    commands();
     no_such_job();
 
     /* the opening */

@@ -4,7 +4,6 @@ use Rattle.instrument_log.specs.declared.entry.Entry.{Entry}
 use Rattle.lab_plan.specs.LabPlan.{LabPlan, job_at}
 use Rattle.legal_steps.specs.declared.event.Event.{Event}
 use Rattle.edge_rule.specs.DeskView.{BenchView, DeskView}
-use Rattle.edge_rule.specs.ClosedView.{ClosedView}
 use Rattle.edge_rule.specs.Ending.{IsEnd}
 use Rattle.session_layer.specs.declared.turning.Turned.{Turned}
 use Rattle.script_reader.specs.Script.{ScriptMeans}
@@ -14,14 +13,18 @@ use Rattle.lab_program.specs.declared.faults.Outcome.{Outcome}
 use Rattle.lab_program.specs.Faults.{status_of}
 use Rattle.desk_user.specs.Use.{opened}
 use Rattle.bench_door.specs.declared.lab.Lab.{Lab}
+use Rattle.bench_door.specs.declared.closing.LabEnd.{LabEnd}
 use Rattle.bench_door.specs.declared.closing.Printed.{Printed}
 use Rattle.bench_door.specs.declared.readers.SessionFacts.{SessionFacts}
 use Rattle.bench_door.specs.declared.readers.Standing.{Standing}
+use Rattle.bench_door.specs.declared.planned.Planned.{Planned}
 use Rattle.bench_door.specs.declared.going.Aim.{Aim}
 use Rattle.bench_door.specs.declared.going.Stage.{Stage}
 use Rattle.bench_door.specs.declared.going.Ended.{Ended as HowItEnded}
 use Rattle.bench_door.specs.Going.{OthersServed, Goes, EndsSession}
-use Rattle.bench_door.specs.Doors.{IsWhyNot, IsPrint, IsSession, IsStandingAt, IsInstrumentName, TurnsAt, Withdraws, Reaches}
+use Rattle.bench_door.specs.Planned.{IsPlanned}
+use Rattle.bench_door.specs.Ends.{IsPrint, HasReport, HasSomeReport}
+use Rattle.bench_door.specs.Doors.{IsWhyNot, IsSession, IsStandingAt, IsInstrumentName, TurnsAt, Withdraws, Reaches}
 use Rattle.bench_c.specs.declared.slot.Held.{Held}
 use Rattle.bench_c.specs.declared.slot.Held.TheVariants.{Open, Ended, Reported, Moved as Gone}
 use Rattle.bench_c.specs.declared.telling.Told.{Told}
@@ -30,7 +33,8 @@ use Rattle.bench_c.specs.declared.told.LabSize.{LabSize}
 use Rattle.bench_c.specs.declared.told.LabSession.{LabSession}
 use Rattle.bench_c.specs.declared.told.LabState.{LabState}
 use Rattle.bench_c.specs.declared.told.LabEntry.{LabEntry}
-use Rattle.bench_c.specs.Telling.{told_of, Gives, Delivers, Fails, turned_of, session_of, state_of, entry_of, stage_status, TellsEnded}
+use Rattle.bench_c.specs.declared.told.LabPlanned.{LabPlanned}
+use Rattle.bench_c.specs.Telling.{told_of, Gives, Delivers, Fails, turned_of, session_of, state_of, entry_of, planned_of, stage_status, TellsEnded}
 
 -- what was taken out of a handle
 abbrev pub IsHeld : {B : Type 0} → (B → Held) → Option B → Option Held → Type 0
@@ -51,7 +55,7 @@ Opens script None new told told' status =
 -- the open lab went from one to another; or there is none, and nothing changed (7)
 abbrev pub InHeld : {T : Type 0} → (Lab → Lab → T → T → ℕ → Type 0) → Held → Held → T → T → ℕ → Type 0
 InHeld Did (Open a) new told told' status = (b : Lab) × (new ≡ Open b) × Did a b told told' status
-InHeld Did (Ended c) new told told' status = (status ≡ 7) × (new ≡ Ended c) × (told' ≡ told)
+InHeld Did (Ended e) new told told' status = (status ≡ 7) × (new ≡ Ended e) × (told' ≡ told)
 InHeld Did (Reported p) new told told' status = (status ≡ 7) × (new ≡ Reported p) × (told' ≡ told)
 InHeld Did Gone new told told' status = (status ≡ 7) × (new ≡ Gone) × (told' ≡ told)
 
@@ -126,6 +130,13 @@ TellsState job a b told told' status =
     × (((status ≡ 0) × (s : Standing) × IsStandingAt a.desks.items job (Some s) × (told' ≡ state_of s))
     ⊎ ((status ≡ 2) × IsStandingAt a.desks.items job None × (told' ≡ told)))
 
+-- the command of the session is told (0), or there is no such job, session or command (2)
+abbrev pub TellsPlanned : ℕ → ℕ → ℕ → Lab → Lab → LabPlanned → LabPlanned → ℕ → Type 0
+TellsPlanned job session place a b told told' status =
+    (b ≡ a)
+    × (((status ≡ 0) × (c : Planned) × IsPlanned a.bench.plan job session place (Some c) × (told' ≡ planned_of c))
+    ⊎ ((status ≡ 2) × IsPlanned a.bench.plan job session place None × (told' ≡ told)))
+
 -- a room and how long the text is that was asked for
 abbrev pub Written : Type 0
 Written = List ℕ × ℕ
@@ -154,16 +165,19 @@ abbrev pub NoRoomYet : List ℕ → List ℕ → Told → ℕ → Type 0
 NoRoomYet room room' told' status = Fails NoMemory room room' told' status
 
 -- An open lab was closed, and its report, which is printed of its end, is in the handle and given; or memory was refused, and the handle has the lab, or its end.
--- The end of a lab is printed, or stays without memory. A report is given again
+-- The end of a lab is printed, or stays without memory. A report is given again. Of every report that is given the headline holds, whatever the calls were:
+-- of that of an open lab as a report of its own plan, and of the others it is known that there is such a run
 abbrev pub ClosesHeld : Held → Held → List ℕ → List ℕ → Told → Told → ℕ → Type 0
 ClosesHeld (Open a) new room room' told told' status =
-    ((c : ClosedView) × (p : Printed) × IsEnd a.bench.plan a.desks.items c × IsPrint c p.text.items p.outcome × (new ≡ Reported p) × Reports p room room' told' status)
+    ((e : LabEnd) × (p : Printed) × IsEnd a.bench.plan a.desks.items e.closed × IsPrint e.closed p.text.items p.outcome
+    × HasReport a.bench.plan p.text.items p.outcome × (new ≡ Reported p) × Reports p room room' told' status)
     ⊎ ((b : Lab) × (b.bench ≡ a.bench) × (b.desks.items ≡ a.desks.items) × (new ≡ Open b) × NoRoomYet room room' told' status)
-    ⊎ ((c : ClosedView) × IsEnd a.bench.plan a.desks.items c × (new ≡ Ended c) × NoRoomYet room room' told' status)
-ClosesHeld (Ended c) new room room' told told' status =
-    ((p : Printed) × IsPrint c p.text.items p.outcome × (new ≡ Reported p) × Reports p room room' told' status)
-    ⊎ ((new ≡ Ended c) × NoRoomYet room room' told' status)
-ClosesHeld (Reported p) new room room' told told' status = (new ≡ Reported p) × Reports p room room' told' status
+    ⊎ ((e : LabEnd) × IsEnd a.bench.plan a.desks.items e.closed × (new ≡ Ended e) × NoRoomYet room room' told' status)
+ClosesHeld (Ended e) new room room' told told' status =
+    ((p : Printed) × IsPrint e.closed p.text.items p.outcome × ∥ HasReport e.closed.plan p.text.items p.outcome ∥₁ × (new ≡ Reported p) × Reports p room room' told' status)
+    ⊎ ((new ≡ Ended e) × NoRoomYet room room' told' status)
+ClosesHeld (Reported p) new room room' told told' status =
+    ∥ HasSomeReport p.text.items p.outcome ∥₁ × (new ≡ Reported p) × Reports p room room' told' status
 ClosesHeld Gone new room room' told told' status = (status ≡ 7) × (new ≡ Gone) × (room' ≡ room) × (told' ≡ told)
 
 -- the same of a handle, which may have nothing (7)

@@ -23,11 +23,13 @@ use Rattle.bench_door.specs.declared.going.Ended.{Ended}
 use Rattle.bench_door.specs.declared.going.Ended.TheVariants.{NotHeld, LetGo, StillHeld}
 use Rattle.bench_door.specs.declared.readers.SessionFacts.{SessionFacts}
 use Rattle.bench_door.specs.declared.readers.Standing.{Standing}
+use Rattle.bench_door.specs.declared.planned.Planned.{Planned}
 use Rattle.bench_c.specs.declared.telling.Told.{Told}
 use Rattle.bench_c.specs.declared.told.LabTurned.{LabTurned}
 use Rattle.bench_c.specs.declared.told.LabSession.{LabSession}
 use Rattle.bench_c.specs.declared.told.LabState.{LabState}
 use Rattle.bench_c.specs.declared.told.LabEntry.{LabEntry}
+use Rattle.bench_c.specs.declared.told.LabPlanned.{LabPlanned}
 
 -- ---- what is told of a fault
 
@@ -136,3 +138,6 @@ verb_numbers Reads = (2, 0)
 
 abbrev pub entry_of : Entry → LabEntry
 entry_of e = record { session = e.session; place = e.place; length = e.length; verb = (verb_numbers e.verb).0; number = (verb_numbers e.verb).1; value = e.value }
+
+abbrev pub planned_of : Planned → LabPlanned
+planned_of c = record { instrument = c.instrument; verb = (verb_numbers c.verb).0; number = (verb_numbers c.verb).1 }

@@ -26,21 +26,21 @@ pub(crate) fn ended(alloc: Global, held: Held, room: &mut [u8], told: &mut Told)
 {
     match held {
         Held::Open(lab) => match lab.close(alloc) {
-            Ok(closed) => match print(alloc, &closed) {
+            Ok(end) => match print(alloc, &end) {
                 Some(printed) => {
                     let status = give(&printed, room, told);
                     (Held::Reported(printed), status)
                 }
-                None => (Held::Ended(closed), fail(RunFault::NoMemory, told)),
+                None => (Held::Ended(end), fail(RunFault::NoMemory, told)),
             },
             Err(lab) => (Held::Open(lab), fail(RunFault::NoMemory, told)),
         },
-        Held::Ended(closed) => match print(alloc, &closed) {
+        Held::Ended(end) => match print(alloc, &end) {
             Some(printed) => {
                 let status = give(&printed, room, told);
                 (Held::Reported(printed), status)
             }
-            None => (Held::Ended(closed), fail(RunFault::NoMemory, told)),
+            None => (Held::Ended(end), fail(RunFault::NoMemory, told)),
         },
         Held::Reported(printed) => {
             let status = give(&printed, room, told);

@@ -2,12 +2,13 @@
 ghost use Rattle.std.specs.Prelude.{◌≡◌, if◌then◌else◌};
 ghost use Rattle.session_layer.specs.Turn.{Took};
 ghost use Rattle.desk_user.specs.Serving.{Served};
-ghost use Rattle.bench_c.specs.Calls.{InHeld, Drives, GivesUp, DoesNext, TellsEntry, TellsSize, TellsSession, TellsState, TellsJobName, TellsInstrumentName};
+ghost use Rattle.bench_c.specs.Calls.{InHeld, Drives, GivesUp, DoesNext, TellsEntry, TellsSize, TellsSession, TellsPlanned, TellsState, TellsJobName, TellsInstrumentName};
 
 use crate::slot::Held;
 use crate::telling::put;
 use crate::told::{
-    LabEntry, LabSession, LabSize, LabState, LabTurned, entry_of, session_of, state_of, turned_of,
+    LabEntry, LabPlanned, LabSession, LabSize, LabState, LabTurned, entry_of, planned_of,
+    session_of, state_of, turned_of,
 };
 use instrument_log::Entry;
 
@@ -121,6 +122,29 @@ pub(crate) fn session_in(held: &Held, job: u32, session: u32, told: &mut LabSess
         Held::Open(lab) => match lab.session(job, session) {
             Some(facts) => {
                 *told = session_of(facts);
+                0
+            }
+            None => NO_JOB,
+        },
+        Held::Ended(_) => NOT_OPEN,
+        Held::Reported(_) => NOT_OPEN,
+        Held::Moved => NOT_OPEN,
+    }
+}
+
+pub(crate) fn planned_in(
+    held: &Held,
+    job: u32,
+    session: u32,
+    place: u32,
+    told: &mut LabPlanned,
+) -> u32
+    ensures { InHeld (TellsPlanned job session place) held.now held.now told.old told.new result }
+{
+    match held {
+        Held::Open(lab) => match lab.planned(job, session, place) {
+            Some(command) => {
+                *told = planned_of(command);
                 0
             }
             None => NO_JOB,

@@ -5,7 +5,7 @@ ghost use Rattle.std.specs.Prelude.{◌≡◌, None};
 ghost use Rattle.session_layer.specs.Turn.{Took};
 ghost use Rattle.desk_user.specs.Serving.{Served};
 ghost use Rattle.bench_door.specs.declared.going.Aim.TheVariants.{Hold, Retire};
-ghost use Rattle.bench_c.specs.Calls.{Opens, InLab, Drives, ServesRest, GoesOn, LetsGo, GivesUp, DoesNext, TellsSize, TellsSession, TellsState, TellsJobName, TellsInstrumentName, Closes};
+ghost use Rattle.bench_c.specs.Calls.{Opens, InLab, Drives, ServesRest, GoesOn, LetsGo, GivesUp, DoesNext, TellsSize, TellsSession, TellsPlanned, TellsState, TellsJobName, TellsInstrumentName, Closes};
 
 mod ending;
 mod going;
@@ -20,15 +20,15 @@ use ending::ended;
 use going::{end_in, go_in, serve_others_in};
 pub use handle::Handle;
 use inside::{
-    NOT_OPEN, command_in, instrument_name_in, job_name_in, serve_in, session_in, size_in, state_in,
-    turn_in, withdraw_in,
+    NOT_OPEN, command_in, instrument_name_in, job_name_in, planned_in, serve_in, session_in,
+    size_in, state_in, turn_in, withdraw_in,
 };
 use lab_program::RunFault;
 use slot::Held;
 use std::alloc::Global;
 pub use telling::Told;
 use telling::fail;
-pub use told::{LabEntry, LabSession, LabSize, LabState, LabTurned};
+pub use told::{LabEntry, LabPlanned, LabSession, LabSize, LabState, LabTurned};
 
 /// Opens a lab for a script. A handle that is in use stays as it is.
 #[unsafe(no_mangle)]
@@ -126,6 +126,28 @@ pub extern "C" fn lab_session_of(
     match bench.take(alloc) {
         Some(held) => {
             let status = session_in(&held, job, session, what);
+            bench.put(held);
+            status
+        }
+        None => NOT_OPEN,
+    }
+}
+
+/// Tells a command of a job's session, as the script has it; commands are counted from 0.
+#[unsafe(no_mangle)]
+pub extern "C" fn lab_planned(
+    alloc: Global,
+    bench: &mut Handle,
+    job: u32,
+    session: u32,
+    place: u32,
+    command: &mut LabPlanned,
+) -> u32
+    ensures { InLab (TellsPlanned job session place) bench.old.slot.held bench.new.slot.held command.old command.new result }
+{
+    match bench.take(alloc) {
+        Some(held) => {
+            let status = planned_in(&held, job, session, place, command);
             bench.put(held);
             status
         }

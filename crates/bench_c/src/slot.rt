@@ -5,9 +5,8 @@ ghost use Rattle.bench_c.specs.contracts.slot.Held.{the_row};
 ghost use Rattle.bench_c.specs.declared.slot.Held.{Held};
 ghost use Rattle.bench_c.specs.Owned.{slot_owns, holds};
 
-use bench_door::{Lab, Printed};
+use bench_door::{Lab, LabEnd, Printed};
 use box_parts::Parts;
-use edge_rule::Closed;
 use std::alloc::Global;
 use std::marker::Model;
 
@@ -17,7 +16,7 @@ pub enum Held {
     /// A lab that goes on.
     Open(Lab),
     /// The end of a lab whose report found no memory yet.
-    Ended(Closed<'static, Global>),
+    Ended(LabEnd),
     /// The report of a lab that has ended.
     Reported(Printed),
     /// Nothing, within a call that puts something else there before it returns.
@@ -35,6 +34,9 @@ pub struct Slot {
 impl Model for Slot {
     ghost also_owns = { λ h. slot_owns the_row h.at h.held };
 }
+
+// What C passes from one thread to another must be of such a type.
+unsafe impl Send for Slot {}
 
 impl Slot {
     pub(crate) fn vacant() -> Slot

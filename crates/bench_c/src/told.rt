@@ -1,8 +1,8 @@
 //! What a call tells of a lab.
 ghost use Rattle.std.specs.Prelude.{◌≡◌};
-ghost use Rattle.bench_c.specs.Telling.{turned_of, state_of, entry_of, session_of};
+ghost use Rattle.bench_c.specs.Telling.{turned_of, state_of, entry_of, session_of, planned_of, verb_numbers};
 
-use bench_door::{SessionFacts, Standing};
+use bench_door::{Planned, SessionFacts, Standing};
 use instrument_log::Entry;
 use lab_plan::Verb;
 use legal_steps::{Dining, Drinking};
@@ -124,14 +124,20 @@ pub struct LabEntry {
     pub value: u32,
 }
 
-pub(crate) fn entry_of(entry: Entry) -> LabEntry
-    ensures { result ≡ entry_of entry }
+fn verb_numbers(verb: Verb) -> (u32, u32)
+    ensures { result ≡ verb_numbers verb }
 {
-    let (verb, number) = match entry.verb {
+    match verb {
         Verb::Set(number) => (0, number),
         Verb::Add(number) => (1, number),
         Verb::Read => (2, 0),
-    };
+    }
+}
+
+pub(crate) fn entry_of(entry: Entry) -> LabEntry
+    ensures { result ≡ entry_of entry }
+{
+    let (verb, number) = verb_numbers(entry.verb);
     LabEntry {
         session: entry.session,
         place: entry.place,
@@ -139,5 +145,26 @@ pub(crate) fn entry_of(entry: Entry) -> LabEntry
         verb,
         number,
         value: entry.value,
+    }
+}
+
+/// A command as the script has it. In C: `struct lab_planned { uint32_t instrument, verb, number; };`
+#[repr(C)]
+#[derive(Clone, Copy)]
+pub struct LabPlanned {
+    pub instrument: u32,
+    /// As in `LabEntry`.
+    pub verb: u32,
+    pub number: u32,
+}
+
+pub(crate) fn planned_of(command: Planned) -> LabPlanned
+    ensures { result ≡ planned_of command }
+{
+    let (verb, number) = verb_numbers(command.verb);
+    LabPlanned {
+        instrument: command.instrument,
+        verb,
+        number,
     }
 }

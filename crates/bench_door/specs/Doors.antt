@@ -3,21 +3,14 @@ use Rattle.std.specs.Prelude.{◌≡◌, ◌≢◌, ◌⊎◌, ℕ, ◌≤◌, �
 use Rattle.std.specs.Int.{bit_at}
 use Rattle.lab_plan.specs.LabPlan.{LabPlan, sessions, commands, patience, session_names}
 use Rattle.instrument_log.specs.declared.entry.Entry.{Entry}
-use Rattle.legal_steps.specs.declared.event.Event.{Event}
 use Rattle.legal_steps.specs.declared.event.Event.TheVariants.{Withdraw, Reach}
 use Rattle.legal_steps.specs.Counting.{counts_of}
 use Rattle.legal_steps.specs.Legal.{May}
 use Rattle.legal_steps.specs.State.{phase}
 use Rattle.edge_rule.specs.DeskView.{DeskView, Adds, Commanded, known, waited}
-use Rattle.edge_rule.specs.ClosedView.{ClosedView}
-use Rattle.edge_rule.specs.Ending.{IsEnd}
-use Rattle.report.specs.Report.{report_of, all_retired}
-use Rattle.whole_runs.specs.Shown.{shown_in}
 use Rattle.lab_program.specs.Answers.{ScriptRefuses}
-use Rattle.lab_program.specs.declared.faults.Outcome.{Outcome}
 use Rattle.lab_program.specs.declared.faults.RunFault.{RunFault}
 use Rattle.lab_program.specs.declared.faults.RunFault.TheVariants.{TooLong, NoMemory}
-use Rattle.lab_runs.specs.Reports.{Reports, outcome_of}
 use Rattle.bench_door.specs.declared.readers.SessionFacts.{SessionFacts}
 use Rattle.bench_door.specs.declared.readers.Standing.{Standing}
 
@@ -74,17 +67,3 @@ standing_of d = record {
 abbrev pub IsStandingAt : List DeskView → ℕ → Option Standing → Type 0
 IsStandingAt desks place (Some standing) = (d : DeskView) × (slice_get desks place ≡ Some d) × (standing ≡ standing_of d)
 IsStandingAt desks place None = length desks ≤ place
-
--- ---- the end
-
--- the text is the report of what the closed bench shows, and the outcome says whether every job is retired there
-abbrev pub IsPrint : ClosedView → List ℕ → Outcome → Type 0
-IsPrint c text outcome = (text ≡ report_of c.plan (shown_in c)) × (outcome ≡ outcome_of (all_retired c.plan (shown_in c)))
-
--- the text is the report of one list of events of the plan, each legal after the ones before it from the initial state on, and the headline holds of it
-abbrev pub HasReport : LabPlan → List ℕ → Outcome → Type 0
-HasReport plan text outcome = (history : List Event) × Reports plan history text outcome
-
--- whatever a bench's desks did, what is printed of its end is such a report
-abbrev pub EndsHaveReports : Type 0
-EndsHaveReports = (plan : LabPlan) (desks : List DeskView) (c : ClosedView) → IsEnd plan desks c → (text : List ℕ) (outcome : Outcome) → IsPrint c text outcome → HasReport plan text outcome

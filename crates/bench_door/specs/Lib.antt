@@ -1,3 +1,5 @@
 pub mod Doors
+pub mod Ends
 pub mod Going
 pub mod Own
+pub mod Planned

@@ -1,7 +1,7 @@
 //! The end of a lab, and its report.
 ghost use Rattle.std.specs.Prelude.{◌≡◌, IfOk, IfErr, IfSome};
 ghost use Rattle.edge_rule.specs.Ending.{IsEnd};
-ghost use Rattle.bench_door.specs.Doors.{IsPrint, EndsHaveReports};
+ghost use Rattle.bench_door.specs.Ends.{IsEndOfDesks, IsPrint, HasSomeReport, EndsHaveReports};
 
 use crate::kept::Kept;
 use crate::lab::Lab;
@@ -13,22 +13,30 @@ use report::{all_retired, write_report};
 use std::alloc::Global;
 use whole_runs::AtEnd;
 
+/// The end of a lab: what its bench shows after all that was done at the desks.
+#[derive(Drop)]
+pub struct LabEnd {
+    pub closed: Closed<'static, Global>,
+    ghost ended: { ∥ IsEndOfDesks closed ∥₁ },
+}
+
 /// A report, and how the run ended.
 #[derive(Drop)]
 pub struct Printed {
     pub text: Vec<u8, Global>,
     pub outcome: Outcome,
+    ghost reported: { ∥ HasSomeReport text.items outcome ∥₁ },
 }
 
 impl Lab {
     /// Closes the bench with all its desks. If memory is refused, the lab comes back as it was.
-    pub fn close(self, alloc: Global) -> Result<Closed<'static, Global>, Lab>
-        ensures ended { IfOk result (λ c. IsEnd self.bench.plan self.desks.items c) }
+    pub fn close(self, alloc: Global) -> Result<LabEnd, Lab>
+        ensures ended { IfOk result (λ e. IsEnd self.bench.plan self.desks.items e.closed) }
         ensures back { IfErr result (λ l. (l.bench ≡ self.bench) × (l.desks.items ≡ self.desks.items)) }
     {
         let Lab { bench, desks } = self;
         match bench.close(alloc, desks) {
-            Ok(closed) => Ok(closed),
+            Ok(closed) => Ok(LabEnd { closed }),
             Err(refused) => {
                 let CloseRefused {
                     cause: _,
@@ -41,13 +49,11 @@ impl Lab {
     }
 }
 
-/// The report of a closed bench, or none without memory. The headline holds of it.
-pub fn print(alloc: Global, closed: &Closed<'static, Global>) -> Option<Printed>
-    ensures text { IfSome result (λ p. IsPrint closed.now p.text.items p.outcome) }
-    ensures holds { EndsHaveReports }
+// The report of a closed bench, and how its run ended, or none without memory.
+fn written(alloc: Global, closed: &Closed<'static, Global>) -> Option<(Vec<u8, Global>, Outcome)>
+    ensures { IfSome result (λ w. IsPrint closed.now w.0.items w.1) }
 {
     one_report();
-    holds_of_every_run();
     let run = AtEnd { closed };
     let mut sink = Kept::new(alloc);
     match write_report(&run, &mut sink) {
@@ -57,11 +63,21 @@ pub fn print(alloc: Global, closed: &Closed<'static, Global>) -> Option<Printed>
             } else {
                 Outcome::Unfinished
             };
-            Some(Printed {
-                text: sink.into_bytes(),
-                outcome,
-            })
+            Some((sink.into_bytes(), outcome))
         }
         Err(_) => None,
+    }
+}
+
+/// The report of a lab that has ended, or none without memory. The headline holds of it.
+pub fn print(alloc: Global, end: &LabEnd) -> Option<Printed>
+    ensures text { IfSome result (λ p. IsPrint end.now.closed p.text.items p.outcome) }
+    ensures holds { EndsHaveReports }
+{
+    one_report();
+    holds_of_every_run();
+    match written(alloc, &end.closed) {
+        Some((text, outcome)) => Some(Printed { text, outcome }),
+        None => None,
     }
 }

@@ -8,10 +8,12 @@ mod driving;
 mod going;
 mod kept;
 mod lab;
+mod planned;
 mod readers;
 
-pub use closing::{Printed, print};
+pub use closing::{LabEnd, Printed, print};
 pub use going::{Aim, Ended, Stage};
 pub use kept::Kept;
 pub use lab::Lab;
+pub use planned::Planned;
 pub use readers::{SessionFacts, Standing};

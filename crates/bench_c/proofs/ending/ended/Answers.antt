@@ -1,12 +1,22 @@
-use Rattle.std.proofs.Common.{◌≡◌, ◌⊎◌, inl, inr, refl, sym, subst}
+use Rattle.std.proofs.Common.{◌≡◌, ◌⊎◌, ℕ, List, inl, inr, refl, sym, subst}
+use Rattle.std.proofs.Math.Logic.{∥∥₁_map}
+use Rattle.bench_door.specs.declared.closing.LabEnd.{LabEnd}
+use Rattle.bench_door.specs.declared.closing.Printed.{Printed}
+use Rattle.bench_door.specs.Ends.{IsPrint, HasReport, EndsHaveReports}
 use Rattle.bench_c.specs.Calls.{ClosesHeld}
 use Rattle.bench_c.specs.declared.slot.Held.TheVariants.{Open, Ended, Reported}
 use Rattle.bench_c.proofs.ending.ended.Goals as goal
 
+-- what is printed of a lab that has ended is a report of its plan
+its_report : EndsHaveReports → (e : LabEnd) (p : Printed) → IsPrint e.closed p.text.items p.outcome → ∥ HasReport e.closed.plan p.text.items p.outcome ∥₁
+its_report have e p print = ∥∥₁_map e.ended (λ d. have e.closed.plan d.0 e.closed d.1 p.text.items p.outcome print)
+
 pub returns-in-Some : goal.returns-in-Some
 returns-in-Some c =
-    subst (λ h. ClosesHeld h (Reported c.in-Some.printed) c.args.room.now c.give-status.new.room c.args.told.now c.give-status.new.told c.give-status.result) (sym c.in-Open.is)
-    (inl (c.in-Ok.closed, c.in-Some.printed, c.in-Ok.ensures.ended, c.in-Some.ensures.text, refl, c.give-status.ensures))
+    let p = c.in-Some.printed in let e = c.in-Ok.end in let end = c.in-Ok.ensures.ended in let a = c.in-Open.lab in let print = c.in-Some.ensures.text in
+    let report = c.print.ensures.holds a.bench.plan a.desks.items e.closed end p.text.items p.outcome print in
+    subst (λ h. ClosesHeld h (Reported p) c.args.room.now c.give-status.new.room c.args.told.now c.give-status.new.told c.give-status.result) (sym c.in-Open.is)
+    (inl (e, p, end, print, report, refl, c.give-status.ensures))
 
 pub returns-in-Err : goal.returns-in-Err
 returns-in-Err c =
@@ -16,6 +26,7 @@ returns-in-Err c =
 
 pub returns-in-Some-print : goal.returns-in-Some-print
 returns-in-Some-print c =
-    let given = c.give-status-in-Some-print in
-    subst (λ h. ClosesHeld h (Reported c.in-Some-print.printed) c.args.room.now given.new.room c.args.told.now given.new.told given.result) (sym c.in-Ended.is)
-    (inl (c.in-Some-print.printed, c.in-Some-print.ensures.text, refl, given.ensures))
+    let given = c.give-status-in-Some-print in let p = c.in-Some-print.printed in let e = c.in-Ended.end in let print = c.in-Some-print.ensures.text in
+    let report = its_report c.print-in-Ended.ensures.holds e p print in
+    subst (λ h. ClosesHeld h (Reported p) c.args.room.now given.new.room c.args.told.now given.new.told given.result) (sym c.in-Ended.is)
+    (inl (p, print, report, refl, given.ensures))
