@@ -1,5 +1,5 @@
 -- What is made of a script, and what follows.
-use Rattle.std.proofs.Common.{◌≡◌, ℕ, ◌<◌, List, length, subst, sym, arith}
+use Rattle.std.proofs.Common.{◌≡◌, ℕ, ◌<◌, ◌≤◌, List, length, subst, sym, arith}
 use Rattle.std.specs.List.{All}
 use Rattle.std.proofs.lemmas.List.FromFn.{length-range_with_len}
 use Rattle.std.proofs.lemmas.List.Sorted.{length_permutation}
@@ -24,12 +24,13 @@ within plan colours order count is by =
     (λ k d below. omega (arith, of_plan plan colours count is k d below, size, all, is.one_each))
 
 pub arranged_as : (plan other : LabPlan) (made : ColouringView) (input whole order text sent : List ℕ) → IsColouring plan made.colours made.count
-    → whole ≡ with_line_end input → order ≡ in_order made.colours made.count → MovesBlocks whole order text → sent ≡ text
+    → whole ≡ with_line_end input → order ≡ in_order made.colours made.count → MovesBlocks whole order text → length text ≤ 16777216 → sent ≡ text
     → ScriptMeans sent other → IsArrangement plan made other → IsArranged plan input text
-arranged_as plan other made input whole order text sent is ended by moved same means judged = record {
+arranged_as plan other made input whole order text sent is ended by moved short same means judged = record {
   made = made;
   is_colouring = is;
   moved = subst (λ (l : List ℕ). MovesBlocks l (in_order made.colours made.count) text) ended (subst (λ (l : List ℕ). MovesBlocks whole l text) by moved);
+  short = short;
   arranged = other;
   read_back = subst (λ (l : List ℕ). ScriptMeans l other) same means;
   is_arrangement = judged;

@@ -21,12 +21,13 @@ pub record MovesBlocks (text : List ℕ) (order : List ℕ) (moved : List ℕ) :
   pub one_each : length blocks ≡ length order
   pub joined : moved ≡ head ++ flat_map (λ job. slice_index_or blocks job []) order
 
--- There are colours of the plan's jobs, and the text is the input with the blocks of its jobs in the order of these colours. It is read
--- as a plan that has the same jobs in that order, each with its own sessions, commands and patience
+-- There are colours of the plan's jobs, and the text is the input with the blocks of its jobs in the order of these colours. It is no longer
+-- than a run reads, and it is read as a plan that has the same jobs in that order, each with its own sessions, commands and patience
 pub record IsArranged (plan : LabPlan) (input text : List ℕ) : Type 0 where
   pub made : ColouringView
   pub is_colouring : IsColouring plan made.colours made.count
   pub moved : MovesBlocks (with_line_end input) (in_order made.colours made.count) text
+  pub short : length text ≤ 16777216
   pub arranged : LabPlan
   pub read_back : ScriptMeans text arranged
   pub is_arrangement : IsArrangement plan made arranged

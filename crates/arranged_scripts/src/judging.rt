@@ -9,6 +9,9 @@ use lab_plan::Plan;
 use script_reader::{ScriptCause, read_plan};
 use std::alloc::{AllocError, Allocator};
 
+/// The longest text that a run reads; `INPUT_LIMIT` of `lab_program`, which isn't below this crate.
+const MOST_BYTES: usize = 16_777_216;
+
 /// The plan that a text made by `arranged_script` is read as; none if it is no script.
 fn read_back<A: Allocator + Copy>(alloc: A, text: &[u8]) -> Result<Option<Plan<A>>, AllocError>
     ensures { IfOk result (λ read. IfSome read (λ plan. ScriptMeans text.now plan)) }
@@ -24,7 +27,8 @@ fn read_back<A: Allocator + Copy>(alloc: A, text: &[u8]) -> Result<Option<Plan<A
 
 /// A script of this plan with its jobs in the order of their colours: jobs that share an instrument get different ones, as few as
 /// DSATUR finds. Comments directly above a job's line stay with it. What was made is read again and judged: None where it isn't read
-/// as these jobs in this order, which was never met. Memory is taken for the text twice, and for a second plan.
+/// as these jobs in this order, which was never met. None too where it has more bytes than a run reads, which is so only if the input
+/// has all but the end of its last line. Memory is taken for the text twice, and for a second plan.
 pub fn arranged_script<A: Allocator + Copy>(
     alloc: A,
     plan: &Plan<A>,
@@ -41,6 +45,9 @@ pub fn arranged_script<A: Allocator + Copy>(
     let Some(text) = made else {
         return Ok(None);
     };
+    if text.len() > MOST_BYTES {
+        return Ok(None);
+    }
     let read = read_back(alloc, &text)?;
     let Some(other) = read else {
         return Ok(None);

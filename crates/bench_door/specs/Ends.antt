@@ -18,7 +18,7 @@ IsEndOfDesks c = (desks : List DeskView) × IsEnd c.plan desks c
 abbrev pub IsPrint : ClosedView → List ℕ → Outcome → Type 0
 IsPrint c text outcome = (text ≡ report_of c.plan (shown_in c)) × (outcome ≡ outcome_of (all_retired c.plan (shown_in c)))
 
--- the text is the report of one list of events of the plan, each legal after the ones before it from THE opening on, and the headline holds of it
+-- the text is the report of one list of events of the plan, each legal after the ones before it from the initial state on, and the headline holds of it
 abbrev pub HasReport : LabPlan → List ℕ → Outcome → Type 0
 HasReport plan text outcome = (history : List Event) × Reports plan history text outcome
 

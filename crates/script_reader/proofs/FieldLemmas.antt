@@ -1,42 +1,91 @@
--- What a cut says of the fields.
-use Rattle.std.proofs.Common.{◌≡◌, ◌<◌, ℕ, true, false, List, [], ◌∷◌, ◌++◌, length, refl, sym, ap, ◌∙◌, arith, suc, ⊎_elim, append-nil}
+-- What a gap in a line says of its fields.
+use Rattle.std.proofs.Common.{◌≡◌, ◌<◌, ◌+◌, ℕ, Bool, true, false, ◌||◌, suc, List, [], ◌∷◌, ◌++◌, length, take, drop, refl, sym, ap, ◌∙◌, subst, arith, take-append-drop, drop-cons, length-take-le, take_all, ◌≤◌}
 use Rattle.std.specs.Prelude.{All, slice_index, ◌==◌}
-use Rattle.std.specs.List.{filter}
-use Rattle.std.proofs.lemmas.List.Splits.{slice_split-cons_yes, slice_split_none, slice_split_at}
-use Rattle.std.proofs.lemmas.Bool.Decides.{Decides-eqb}
+use Rattle.std.specs.List.{filter, slice_split}
 use Rattle.std.proofs.lemmas.Bool.{false_from_ne_true}
-use Rattle.script_reader.specs.Fields.{fields, is_gap, is_some_field, IsGap, IsInk, CutsField}
+use Rattle.std.proofs.lemmas.List.{get_or-take}
+use Rattle.std.proofs.lemmas.List.Elements.{All-from_get_or}
+use Rattle.std.proofs.lemmas.List.Splits.{slice_split-cons_yes, slice_split_none, slice_split_at}
+use Rattle.bstr.specs.Find.{Nowhere, Passes}
+use Rattle.bstr.specs.Bytes.{is_in}
+use Rattle.script_reader.specs.Fields.{fields, is_gap, is_some_field}
 
-gap : (b : ℕ) → IsGap b → is_gap b ≡ true
-gap b h = ⊎_elim (λ e. rw e refl) (λ e. rw e refl) h
+-- none of the bytes is a gap
+abbrev pub IsInk : List ℕ → Type 0
+IsInk bytes = All (λ b. is_gap b ≡ false) bytes
 
-ink : (b : ℕ) → IsInk b → is_gap b ≡ false
-ink b h = rw (false_from_ne_true (b == 32) (λ e. h.0 ((Decides-eqb b 32).0 e)), false_from_ne_true (b == 9) (λ e. h.1 ((Decides-eqb b 9).0 e))) refl
+-- the two bytes that fields are cut at
+abbrev pub gaps : List ℕ
+gaps = 32 ∷ 9 ∷ []
 
-after_gap : (b : ℕ) (bs : List ℕ) → is_gap b ≡ true → fields (b ∷ bs) ≡ fields bs
+or_false : (b : Bool) → b || false ≡ b
+or_false true = refl
+or_false false = refl
+
+same_test : (b : ℕ) → is_in gaps b ≡ is_gap b
+unfolding is_in
+same_test b = ap (λ t. b == 32 || t) (or_false (b == 9))
+
+-- a part of a line is a field if it isn't empty
+kept : (part : List ℕ) (more : List (List ℕ)) → 0 < length part → filter is_some_field (part ∷ more) ≡ part ∷ filter is_some_field more
+kept [] more some = absurd (omega (arith, some))
+kept (b ∷ bs) more some = refl
+
+left_out : (part : List ℕ) (more : List (List ℕ)) → length part ≡ 0 → filter is_some_field (part ∷ more) ≡ filter is_some_field more
+left_out [] more none = refl
+left_out (b ∷ bs) more none = absurd (omega (arith, none))
+
+pub no_fields : fields [] ≡ []
 unfolding fields
-after_gap b bs is = ap (filter is_some_field) (slice_split-cons_yes is_gap b bs is)
+no_fields = refl
 
-after_gaps : (gaps line : List ℕ) → All IsGap gaps → fields (gaps ++ line) ≡ fields line
-after_gaps [] line all = refl
-after_gaps (b ∷ gaps) line all = after_gap b (gaps ++ line) (gap b (all 0 b (omega arith))) ∙ after_gaps gaps line (λ k d inside. all (suc k) d (omega arith))
-
-pub no_fields : (line : List ℕ) → All IsGap line → fields line ≡ []
+pub behind_gap : (b : ℕ) (rest : List ℕ) → is_gap b ≡ true → fields (b ∷ rest) ≡ fields rest
 unfolding fields
-no_fields line all = ap fields (sym (append-nil line)) ∙ after_gaps line [] all
+behind_gap b rest gap = ap (filter is_some_field) (slice_split-cons_yes is_gap b rest gap)
 
-some : (field : List ℕ) → 0 < length field → is_some_field field ≡ true
-some [] h = absurd (omega arith)
-some (b ∷ bs) h = refl
-
-first_of : (field rest : List ℕ) → All IsInk field → 0 < length field
-    → (0 < length rest → IsGap (slice_index rest 0)) → fields (field ++ rest) ≡ field ∷ fields rest
+pub lone_field : (field : List ℕ) → IsInk field → 0 < length field → fields field ≡ field ∷ []
 unfolding fields
-first_of field [] all long ends =
-    ap fields (append-nil field) ∙ ap (filter is_some_field) (slice_split_none is_gap field (λ k d inside. ink _ (all k d inside))) ∙ rw (some field long) refl
-first_of field (b ∷ rest) all long ends =
-    ap (filter is_some_field) (slice_split_at is_gap field b rest (λ k d inside. ink _ (all k d inside)) (gap b (ends (omega arith))))
-    ∙ rw (some field long) (ap (λ l. field ∷ l) (sym (after_gap b rest (gap b (ends (omega arith))))))
+lone_field field ink some = ap (filter is_some_field) (slice_split_none is_gap field ink) ∙ kept field [] some
 
-pub cut_fields : (line field rest : List ℕ) → CutsField line field rest → fields line ≡ field ∷ fields rest
-cut_fields line field rest h = ap fields h.1 ∙ after_gaps h.0 (field ++ rest) h.2 ∙ first_of field rest h.3 h.4 h.5
+pub field_then : (field : List ℕ) (b : ℕ) (rest : List ℕ) → IsInk field → is_gap b ≡ true → 0 < length field → fields (field ++ b ∷ rest) ≡ field ∷ fields rest
+unfolding fields
+field_then field b rest ink gap some = ap (filter is_some_field) (slice_split_at is_gap field b rest ink gap) ∙ kept field (slice_split is_gap rest) some
+
+-- ---- a line, cut where a search for a gap ended
+
+cut_line : (line : List ℕ) (n : ℕ) → n < length line → line ≡ take n line ++ slice_index line n ∷ drop (n + 1) line
+cut_line line n inside =
+    let next : suc n ≡ n + 1 = omega arith in
+    sym (take-append-drop n line) ∙ ap (λ l. take n line ++ l) (drop-cons line n 0 inside) ∙ ap (λ k. take n line ++ slice_index line n ∷ drop k line) next
+
+is_ink : (line : List ℕ) (n : ℕ) → n ≤ length line → Nowhere (Passes (is_in gaps) line) 0 n → IsInk (take n line)
+is_ink line n within none =
+    All-from_get_or (λ b. is_gap b ≡ false) (take n line) 0 (λ i lt.
+    let less : i < n = omega (arith, lt, length-take-le n line within) in
+    subst (λ b. is_gap b ≡ false) (sym (get_or-take n line i 0 less))
+    (false_from_ne_true _ (λ gap. none i (omega arith) less (same_test (slice_index line i) ∙ gap))))
+
+pub field_to_gap : (line : List ℕ) (n : ℕ) → n < length line → Nowhere (Passes (is_in gaps) line) 0 n → Passes (is_in gaps) line n
+    → 0 < length (take n line) → fields line ≡ take n line ∷ fields (drop (n + 1) line)
+field_to_gap line n inside none gap some =
+    ap fields (cut_line line n inside)
+    ∙ field_then (take n line) (slice_index line n) (drop (n + 1) line) (is_ink line n (omega (arith, inside)) none) (sym (same_test (slice_index line n)) ∙ gap) some
+
+pub gap_to_gap : (line : List ℕ) (n : ℕ) → n < length line → Nowhere (Passes (is_in gaps) line) 0 n → Passes (is_in gaps) line n
+    → length (take n line) ≡ 0 → fields line ≡ fields (drop (n + 1) line)
+unfolding fields
+gap_to_gap line n inside none gap empty =
+    ap fields (cut_line line n inside)
+    ∙ ap (filter is_some_field)
+    (slice_split_at is_gap (take n line) (slice_index line n) (drop (n + 1) line) (is_ink line n (omega (arith, inside)) none) (sym (same_test (slice_index line n)) ∙ gap))
+    ∙ left_out (take n line) (slice_split is_gap (drop (n + 1) line)) empty
+
+pub field_to_end : (line : List ℕ) → Nowhere (Passes (is_in gaps) line) 0 (length line) → 0 < length line → fields line ≡ line ∷ fields []
+field_to_end line none some = lone_field line (subst IsInk (take_whole line) (is_ink line (length line) (omega arith) none)) some ∙ ap (λ l. line ∷ l) (sym no_fields)
+  where
+    take_whole : (l : List ℕ) → take (length l) l ≡ l
+    take_whole l = take_all (length l) l (omega arith)
+
+pub no_bytes : (line : List ℕ) → length line ≡ 0 → fields line ≡ []
+no_bytes [] none = no_fields
+no_bytes (b ∷ bs) none = absurd (omega (arith, none))

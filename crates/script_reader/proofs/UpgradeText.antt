@@ -6,11 +6,10 @@ use Rattle.std.proofs.lemmas.Bool.{cases_Bool, and_parts}
 use Rattle.std.proofs.lemmas.Bool.Decides.{nat_tests}
 use Rattle.std.proofs.lemmas.List.{take_at, drop_at}
 use Rattle.std.proofs.lemmas.List.Elements.{All-cons, All-nil}
-use Rattle.std.proofs.lemmas.List.Splits.{slice_split-cons_yes}
 use Rattle.bstr.specs.Text.{line_len, lines_from, lines_of, no_cr, without_terminator}
-use Rattle.script_reader.specs.Fields.{fields, is_gap, is_some_field, IsGap, IsInk}
+use Rattle.script_reader.specs.Fields.{fields, is_gap}
 use Rattle.script_reader.specs.Script.{text_lines}
-use Rattle.script_reader.proofs.FieldLemmas.{cut_fields, no_fields}
+use Rattle.script_reader.proofs.FieldLemmas.{IsInk, lone_field, field_then}
 use Rattle.script_reader.proofs.OnLast.{last_pushed}
 
 -- a byte that ends no line, and one that besides is no space
@@ -119,28 +118,17 @@ no_text = ap (map without_terminator) (no_lines 0)
 
 -- ---- the fields of a line
 
-ink_all : (word : List ℕ) → list_all is_dark word ≡ true → All IsInk word
-ink_all [] dark = All-nil IsInk
+ink_all : (word : List ℕ) → list_all is_dark word ≡ true → IsInk word
+ink_all [] dark = All-nil (λ b. is_gap b ≡ false)
 ink_all (b ∷ word) dark =
     let parts = and_parts (is_dark b) (list_all is_dark word) dark in
-    All-cons IsInk b word (ink b parts.0) (ink_all word parts.1)
+    All-cons (λ b. is_gap b ≡ false) b word (ink b parts.0) (ink_all word parts.1)
   where
-    above : (b : ℕ) → is_dark b ≡ true → 33 ≤ b
-    above b h = grind (arith, nat_tests, h)
-
-    ink : (b : ℕ) → is_dark b ≡ true → IsInk b
-    ink b h = let least = above b h in (λ e. omega (arith, least, e), λ e. omega (arith, least, e))
+    ink : (b : ℕ) → is_dark b ≡ true → is_gap b ≡ false
+    ink b h = grind (arith, nat_tests, h)
 
 pub fields_one : (word : List ℕ) → list_all is_dark word ≡ true → 0 < length word → fields word ≡ word ∷ []
-fields_one word dark some =
-    cut_fields word word [] ([], sym (append-nil word), All-nil IsGap, ink_all word dark, some, λ more. absurd (omega (arith, more)))
-    ∙ ap (λ l. word ∷ l) (no_fields [] (All-nil IsGap))
-
-behind_gap : (rest : List ℕ) → fields (32 ∷ rest) ≡ fields rest
-unfolding fields
-behind_gap rest = ap (filter is_some_field) (slice_split-cons_yes is_gap 32 rest refl)
+fields_one word dark some = lone_field word (ink_all word dark) some
 
 pub fields_more : (word rest : List ℕ) → list_all is_dark word ≡ true → 0 < length word → fields (word ++ 32 ∷ rest) ≡ word ∷ fields rest
-fields_more word rest dark some =
-    cut_fields (word ++ 32 ∷ rest) word (32 ∷ rest) ([], refl, All-nil IsGap, ink_all word dark, some, λ more. inl refl)
-    ∙ ap (λ l. word ∷ l) (behind_gap rest)
+fields_more word rest dark some = field_then word 32 rest (ink_all word dark) refl some

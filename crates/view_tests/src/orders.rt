@@ -1,16 +1,16 @@
 //! Orders of jobs in which chains at the start are short, and what `labview arrange` writes, by its bytes.
 use arranging::{colours_of, order_of};
 use lab_plan::JobNo;
-use lab_program::{FromRead, Outcome, RunFault};
+use lab_program::{FromRead, INPUT_LIMIT, Outcome, RunFault};
 use lab_views::run_arrange;
 use report::ToWrite;
 use script_reader::{ScriptCause, ScriptFault, read_plan};
 use std::alloc::{AllocError, Global};
 use std::test::Fail;
 
-fn told(alloc: Global, input: &str) -> (Vec<u8>, Result<Outcome, RunFault>) {
+fn told(alloc: Global, input: &[u8]) -> (Vec<u8>, Result<Outcome, RunFault>) {
     let mut bytes = Vec::new(alloc);
-    let mut source = FromRead::new(input.as_bytes());
+    let mut source = FromRead::new(input);
     let mut sink = ToWrite::new(&mut bytes);
     let answer = run_arrange(alloc, &mut source, &mut sink);
     (bytes, answer)
@@ -132,6 +132,50 @@ ea read
 end
 ";
 
+// Eight in a ring: every second job gets the first colour.
+const RING_OF_EIGHT: &str = "lab 1
+job a
+session
+ha read
+ab read
+end
+job b
+session
+ab read
+bc read
+end
+job c
+session
+bc read
+cd read
+end
+job d
+session
+cd read
+de read
+end
+job e
+session
+de read
+ef read
+end
+job f
+session
+ef read
+fg read
+end
+job g
+session
+fg read
+gh read
+end
+job h
+session
+gh read
+ha read
+end
+";
+
 #[test]
 fn arranged_by_hand(rt: HostRuntime) {
     for (script, wanted) in [
@@ -142,7 +186,7 @@ fn arranged_by_hand(rt: HostRuntime) {
         ("lab 1\n", "lab 1\n"),
         ("# none\nlab 2", "# none\nlab 2\n"),
     ] {
-        let (text, answer) = told(rt.alloc(), script);
+        let (text, answer) = told(rt.alloc(), script.as_bytes());
         assert!(rt;
             answer == Ok(Outcome::Finished) && text.as_slice() == wanted.as_bytes(),
             "{wanted}"
@@ -152,12 +196,31 @@ fn arranged_by_hand(rt: HostRuntime) {
 
 #[test]
 fn no_script_is_not_arranged(rt: HostRuntime) {
-    let (text, answer) = told(rt.alloc(), "lab 1\njob a\nsteps\n");
+    let (text, answer) = told(rt.alloc(), b"lab 1\njob a\nsteps\n");
     let fault = ScriptFault {
         line: 3,
         cause: ScriptCause::UnknownWord,
     };
     assert!(rt; answer == Err(RunFault::Script(fault)) && text.is_empty());
+}
+
+// A job, and a comment in the last line, as long as it is let be.
+const LONG: &[u8] = b"lab 1\njob a\nsession\ns read\nend\n#";
+
+// The last line has no end. If it got one, the longest of all inputs would be longer than a run reads; so it goes out as it was.
+#[test]
+fn longest_input(rt: HostRuntime) -> Result<(), Fail> {
+    let mut script = Vec::from_slice(rt.alloc(), LONG)?;
+    let dashes = Vec::from_elem(rt.alloc(), b'-', INPUT_LIMIT)?;
+    script.extend_from_slice(&dashes)?;
+    script.truncate(INPUT_LIMIT);
+    let (text, answer) = told(rt.alloc(), &script);
+    assert!(rt; answer == Ok(Outcome::Unfinished) && text.as_slice() == script.as_slice());
+    script.truncate(INPUT_LIMIT - 1);
+    let (text, answer) = told(rt.alloc(), &script);
+    script.push(b'\n')?;
+    assert!(rt; answer == Ok(Outcome::Finished) && text.as_slice() == script.as_slice());
+    Ok(())
 }
 
 /// The colours of a script's jobs, how many there are, and the order of the jobs.
@@ -182,6 +245,12 @@ fn colours_by_hand(rt: HostRuntime) -> Result<(), Fail> {
             [0, 1, 0, 1, 2].as_slice(),
             3,
             [0, 2, 1, 3, 4].as_slice(),
+        ),
+        (
+            RING_OF_EIGHT,
+            [0, 1, 0, 1, 0, 1, 0, 1].as_slice(),
+            2,
+            [0, 2, 4, 6, 1, 3, 5, 7].as_slice(),
         ),
         ("lab 1\n", [].as_slice(), 0, [].as_slice()),
     ] {

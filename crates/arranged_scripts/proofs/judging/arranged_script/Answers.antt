@@ -17,4 +17,4 @@ returns g c =
     let means = (rw c.in-Some-read.is at c.in_ok-read.ensures) in
     arranged_as c.args.plan.now c.in-Some-read.other c.in_ok-colouring.colouring c.args.input.now c.deref.result.now c.deref-2.result.now text.items
     c.deref-3.result.now c.in_ok-colouring.ensures.colouring (c.deref.ensures.value ∙ c.in_ok-whole.ensures) (c.deref-2.ensures.value ∙ c.in_ok-order.ensures)
-    moves c.deref-3.ensures.value means (c.is_arrangement.ensures.0 c.if-not-is_arrangement.false)
+    moves (omega (arith, c.if-len-gt-MOST_BYTES.false)) c.deref-3.ensures.value means (c.is_arrangement.ensures.0 c.if-not-is_arrangement.false)
