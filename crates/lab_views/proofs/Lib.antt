@@ -1,4 +1,3 @@
-pub mod Answered
 pub mod Explained
 pub mod Drawn
 pub mod Traced

@@ -1,5 +1,4 @@
 pub mod Views
-pub mod Answered
 pub mod Pictures
 pub mod Tables
 pub mod Traces

@@ -32,7 +32,7 @@ fn waits_of<A: Allocator>(
 }
 
 /// Writes the waits of an input.
-pub(crate) fn waits_input<A: Allocator + Copy, W: Sink>(
+fn waits_input<A: Allocator + Copy, W: Sink>(
     alloc: A,
     input: &[u8],
     sink: &mut W,
