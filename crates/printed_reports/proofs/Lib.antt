@@ -10,4 +10,5 @@ pub mod ReportBack
 pub mod Orders
 pub mod Places
 pub mod PrintedTimeline
+pub mod OwnOrder
 pub mod NoFault

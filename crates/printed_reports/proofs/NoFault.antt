@@ -30,21 +30,8 @@ use Rattle.printed_reports.specs.HasTimeline.{HasNoOtherFault}
 use Rattle.printed_reports.proofs.Orders.{rank, Chained, log_chained}
 use Rattle.printed_reports.proofs.Written.{IsWritten, logs_written}
 use Rattle.printed_reports.proofs.Places.{some_is, none_some, entry_at, written_at, next_at}
-use Rattle.printed_reports.proofs.PrintedTimeline.{got, number_is, told, names_differ, has_timeline}
-
--- ---- what stands at a place
-
--- a value of a list that is made number by number
-made : {X : Type 0} (f : ℕ → X) (a n k : ℕ) (x : X) → slice_get (map f (range_with_len a n)) k ≡ Some x → (k < n) × (x ≡ f (a + k))
-made f a n k x at = elim (cases_lt k n) [
-  | inl below ↦ (below, sym (some_is (f (a + k)) x (sym (got f a n k below) ∙ at)))
-  | inr past ↦ absurd (none_some x (sym (none f a n k past) ∙ at))
-]
-  where
-    none : {X : Type 0} (f : ℕ → X) (a n k : ℕ) → n ≤ k → slice_get (map f (range_with_len a n)) k ≡ None
-    none f a zero k past = refl
-    none f a (suc n) zero past = absurd (omega (arith, past))
-    none f a (suc n) (suc k) past = none f (a + 1) n k (omega (arith, past))
+use Rattle.printed_reports.proofs.PrintedTimeline.{number_is, told}
+use Rattle.printed_reports.proofs.OwnOrder.{made, one_job, has_timeline}
 
 -- ---- the order of a log
 
@@ -72,15 +59,6 @@ climbs r (x ∷ y ∷ entries) (suc p) (suc q) a b chained order at_p at_q =
     climbs r (y ∷ entries) p q a b chained.1 (omega (arith, order)) at_p at_q
 
 -- ---- sessions by what is told of them
-
-one_job : (plan : LabPlan) (j k : ℕ) → IsPlan plan → j < length plan.jobs → k < length plan.jobs → job_name plan j ≡ job_name plan k → j ≡ k
-one_job plan j k is own other same = elim (cases_lt j k) [
-  | inl less ↦ absurd (names_differ plan k j is less other same)
-  | inr more ↦ elim (cases_lt k j) [
-    | inl less ↦ absurd (names_differ plan j k is less own (sym same))
-    | inr both ↦ omega (arith, more, both)
-  ]
-]
 
 one_session : (plan : LabPlan) (a b : LogEntry) → IsPlan plan → IsWritten plan a → IsWritten plan b
     → is_same_session (printed_entry plan a) (printed_entry plan b) ≡ true → (a.job ≡ b.job) × (a.session ≡ b.session)

@@ -12,7 +12,7 @@ use Rattle.legal_steps.proofs.WholeLaw.{drinking_inside}
 
 -- ---- the order of sessions
 
-abbrev is_own : ℕ × ℕ → ℕ × ℕ → Bool
+abbrev pub is_own : ℕ × ℕ → ℕ × ℕ → Bool
 is_own a b = (a.0 == b.0) && (a.1 == b.1)
 
 -- how many of the sessions stand before this one; all do where it isn't one of them
@@ -32,7 +32,7 @@ rank_few (first ∷ ended) own = either (is_own first own) (rank_few ended own)
 abbrev IsNone : ℕ × ℕ → List (ℕ × ℕ) → Type 0
 IsNone own ended = AllByRecursion (λ other. is_own other own ≡ false) ended
 
-rank_last : (ended : List (ℕ × ℕ)) (own : ℕ × ℕ) → IsNone own ended → rank ended own ≡ length ended
+pub rank_last : (ended : List (ℕ × ℕ)) (own : ℕ × ℕ) → IsNone own ended → rank ended own ≡ length ended
 rank_last [] own none = refl
 rank_last (first ∷ ended) own none = ap (λ t. if t then 0 else suc (rank ended own)) none.0 ∙ ap suc (rank_last ended own none.1)
 
@@ -48,7 +48,7 @@ before_apart a b before = elim (cases_eq a.0 b.0) [
   | inr other ↦ ap (λ t. t && (a.1 == b.1)) (ne_eqb a.0 b.0 other)
 ]
 
-all_before : (own : ℕ × ℕ) (ended : List (ℕ × ℕ)) → ((k : ℕ) (d : ℕ × ℕ) → k < length ended → IsBefore (slice_index_or ended k d) own) → IsNone own ended
+pub all_before : (own : ℕ × ℕ) (ended : List (ℕ × ℕ)) → ((k : ℕ) (d : ℕ × ℕ) → k < length ended → IsBefore (slice_index_or ended k d) own) → IsNone own ended
 all_before own [] h = tt
 all_before own (first ∷ ended) h =
     (before_apart first own (h zero first (omega arith)), all_before own ended (λ k d below. h (suc k) d (omega (arith, below))))
@@ -127,7 +127,7 @@ high_both r c [] ys hx hy = hy
 high_both r c (x ∷ xs) ys hx hy = (hx.0, high_both r c xs ys hx.1 hy)
 
 -- the lines of a part, from a place on
-abbrev lines_from : ℕ → ℕ → ℕ → ℕ → List (ℕ × Verb) → List LogLine
+abbrev pub lines_from : ℕ → ℕ → ℕ → ℕ → List (ℕ × Verb) → List LogLine
 lines_from j session total place own = map (λ numbered. (j, session, numbered.0, total, numbered.1.1)) (enumerate_from place own)
 
 part_chained : (r : ℕ × ℕ → ℕ) (j session total place : ℕ) (own : List (ℕ × Verb)) → Chained r (lines_from j session total place own)

@@ -38,14 +38,14 @@ use Rattle.printed_reports.proofs.Written.{IsWritten, logs_written}
 -- ---- columns by rank
 
 -- as many columns for each rank as a session may have commands
-abbrev span_at : ℕ → Span
+abbrev pub span_at : ℕ → Span
 span_at n = record { start = most_commands * n; width = most_commands }
 
 -- the session of a slot
 abbrev session_in : ℕ → ℕ × ℕ
 session_in slot = (slot / most_sessions, slot % most_sessions + 1)
 
-abbrev spans_by : (ℕ × ℕ → ℕ) → ℕ → List Span
+abbrev pub spans_by : (ℕ × ℕ → ℕ) → ℕ → List Span
 spans_by r count = map (λ slot. span_at (r (session_in slot))) (range_with_len 0 (most_sessions * count))
 
 pub got : {X : Type 0} (f : ℕ → X) (a n k : ℕ) → k < n → slice_get (map f (range_with_len a n)) k ≡ Some (f (a + k))
@@ -97,7 +97,7 @@ number_is plan shown j is job =
 abbrev pub told : LabPlan → Shown → List JobText
 told plan shown = map (printed_job plan shown) (jobs plan)
 
-entry_span : (plan : LabPlan) (shown : Shown) (r : ℕ × ℕ → ℕ) (entry : LogEntry) → IsPlan plan → IsWritten plan entry
+pub entry_span : (plan : LabPlan) (shown : Shown) (r : ℕ × ℕ → ℕ) (entry : LogEntry) → IsPlan plan → IsWritten plan entry
     → span_of (told plan shown) (spans_by r (length plan.jobs)) (printed_entry plan entry) ≡ Some (span_at (r (entry.job, entry.session)))
 unfolding span_of slot_of
 entry_span plan shown r entry is h =
@@ -111,7 +111,7 @@ entry_span plan shown r entry is h =
     ∙ span_got r (length plan.jobs) entry.job entry.session h.job w.session_from w.session_to
 
 -- the columns
-abbrev view_by : LabPlan → List (ℕ × ℕ) → TimelineView
+abbrev pub view_by : LabPlan → List (ℕ × ℕ) → TimelineView
 view_by plan ended = record { spans = spans_by (rank ended) (length plan.jobs); columns = most_commands * (length ended + 1) }
 
 entry_stands : (plan : LabPlan) (shown : Shown) (ended : List (ℕ × ℕ)) (entry : LogEntry) → IsPlan plan → IsWritten plan entry
@@ -127,7 +127,7 @@ entry_stands plan shown ended entry is h =
       inside = omega (arith, few);
     }
 
-all_stand : (plan : LabPlan) (shown : Shown) (ended : List (ℕ × ℕ)) (entries : List LogEntry) → IsPlan plan → AllByRecursion (IsWritten plan) entries
+pub all_stand : (plan : LabPlan) (shown : Shown) (ended : List (ℕ × ℕ)) (entries : List LogEntry) → IsPlan plan → AllByRecursion (IsWritten plan) entries
     → All (Stands (told plan shown) (view_by plan ended)) (map (printed_entry plan) entries)
 all_stand plan shown ended [] is all = All-nil (Stands (told plan shown) (view_by plan ended))
 all_stand plan shown ended (entry ∷ entries) is all =
@@ -148,7 +148,7 @@ next_is plan shown r a b is ha hb (inr less) = inr (record {
   before = omega (arith, less);
 })
 
-all_follow : (plan : LabPlan) (shown : Shown) (r : ℕ × ℕ → ℕ) (entries : List LogEntry) → IsPlan plan → AllByRecursion (IsWritten plan) entries
+pub all_follow : (plan : LabPlan) (shown : Shown) (r : ℕ × ℕ → ℕ) (entries : List LogEntry) → IsPlan plan → AllByRecursion (IsWritten plan) entries
     → Chained r (map line_of entries) → EachNext (IsNextOf (told plan shown) (spans_by r (length plan.jobs))) (map (printed_entry plan) entries)
 all_follow plan shown r entries is all chained k a b at next =
     let x = entry_at plan entries k a at in
@@ -156,34 +156,3 @@ all_follow plan shown r entries is all chained k a b at next =
     let R = IsNextOf (told plan shown) (spans_by r (length plan.jobs)) in
     subst (λ z. R z b) (sym x.2) (subst (R (printed_entry plan x.0)) (sym y.2) (next_is plan shown r x.0 y.0 is
     (written_at plan entries k x.0 all x.1) (written_at plan entries (k + 1) y.0 all y.1) (next_at r entries k x.0 y.0 chained x.1 y.1)))
-
--- ---- logs
-
-each_log : (P : LogText → Type 0) (f : ℕ → LogText) (a n : ℕ) → ((i : ℕ) → P (f i)) → All P (map f (range_with_len a n))
-each_log P f a zero h = All-nil P
-each_log P f a (suc n) h = All-cons P (f a) (map f (range_with_len (a + 1) n)) (h a) (each_log P f (a + 1) n h)
-
-pub has_timeline : HasTimeline
-has_timeline plan opening events is opens legal =
-    let s = after_all plan opening events in
-    let shown = shown_after plan opening events in
-    let ended = ended_sessions plan opening events in
-    let kept = (logged plan opening events is opens legal).books_kept in
-    let view = view_by plan ended in
-    let agrees : (i : ℕ) → Agrees (told plan shown) view (printed_log plan shown i).entries = λ i. record {
-      stands = all_stand plan shown ended (log s i) is (logs_written plan opening events is opens legal i);
-      follows = all_follow plan shown (rank ended) (log s i) is (logs_written plan opening events is opens legal i)
-          (log_chained plan (books s) ended i kept.ended_so (kept.kept i));
-    } in (
-      view,
-      record {
-        few_jobs = omega (arith, length-map (jobs plan) (printed_job plan shown), length-range_with_len 0 (length plan.jobs), is.draft.few_jobs);
-        few_instruments = omega (
-          arith,
-          length-map (instruments plan) (printed_log plan shown),
-          length-range_with_len 0 (length plan.instruments),
-          is.draft.few_instruments,
-        );
-        agree = each_log (λ (one : LogText). Agrees (told plan shown) view one.entries) (printed_log plan shown) 0 (length plan.instruments) agrees;
-      },
-    )

@@ -13,7 +13,7 @@ use Rattle.timeline.specs.Faults.{IsFaultOf}
 use Rattle.timeline.specs.Timelines.{TimelineView, IsTimeline}
 use Rattle.printed_reports.specs.Printed.{printed_report}
 
--- the law: some columns for its sessions agree with all of its logs
+-- the law: some columns for its sessions agree with all of its logs and with each job's own order
 abbrev pub HasTimeline : Type 0
 HasTimeline = (plan : LabPlan) (opening : State) (events : List Event) → IsPlan plan → IsOpening plan opening → IsLegalFrom plan opening events
     → (view : TimelineView) × IsTimeline (printed_report plan (shown_after plan opening events)) view

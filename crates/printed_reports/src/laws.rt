@@ -8,7 +8,7 @@ pub fn is_read_back()
     ensures { IsReportReadBack }
 {}
 
-/// Its logs have one order, that in which sessions ended: so it has a timeline.
+/// Its logs, and each job's own sessions, have one order, that in which sessions ended: so it has a timeline.
 pub fn has_timeline()
     ensures { HasTimeline }
 {}

@@ -1,98 +1,37 @@
 -- Of logs without faults, columns that keep the pairs apart are a timeline; sessions that are stuck leave a report none.
-use Rattle.std.proofs.Common.{◌≡◌, if◌then◌else◌, ℕ, ◌+◌, ◌*◌, ◌-◌, ◌<◌, ◌≤◌, ◌==◌, ◌&&◌, Bool, true, false, List, [], None, Some, length, slice_index_or, inl, inr, refl, sym, ◌∙◌, ap, arith, nat_lt}
-use Rattle.std.specs.Prelude.{nat_le, slice_get}
-use Rattle.std.specs.Str.{bytes_eq}
-use Rattle.std.proofs.lemmas.Bool.{cases_Bool, and_parts, false≢true}
-use Rattle.std.proofs.lemmas.Bool.Decides.{nat_tests}
-use Rattle.std.proofs.lemmas.List.Quantifiers.{position-Some}
-use Rattle.std.proofs.lemmas.Option.{option_and_then_some, slice_get-get_or}
-use Rattle.std.proofs.lemmas.Slice.Eq.{bytes_eq-Decides}
+use Rattle.std.proofs.Common.{◌≡◌, ℕ, ◌+◌, ◌*◌, ◌<◌, ◌≤◌, Bool, true, false, List, Some, length, slice_index_or, inl, inr, refl, sym, ◌∙◌, ap, arith}
+use Rattle.std.specs.Prelude.{slice_get}
+use Rattle.std.specs.List.{Contains}
+use Rattle.std.proofs.lemmas.Bool.{cases_Bool, false≢true}
+use Rattle.std.proofs.lemmas.Option.{slice_get-get_or}
 use Rattle.lab_plan.specs.Limits.{most_jobs, most_instruments, most_sessions}
 use Rattle.report_reader.specs.Line.{EntryText, JobText}
 use Rattle.report_reader.specs.Report.{LogText, ReportText}
 use Rattle.timeline.specs.declared.span.Span.{Span}
-use Rattle.timeline.specs.Spans.{job_number, slot_of, is_same_session}
 use Rattle.timeline.specs.Faults.{entry_cause, is_out_of_order, HasNone}
-use Rattle.timeline.specs.Timelines.{Agrees, AllAgree, IsTimeline}
-use Rattle.timeline.specs.Orders.{StandsBefore, ArePairs, AreSlots, AreOrdered, AreStuck, IsOpen, IsWide, IsRight}
+use Rattle.timeline.specs.Timelines.{TimelineView, Stands, Agrees, AllAgree, KeepsOwnOrder, IsTimeline}
+use Rattle.timeline.specs.Orders.{StandsBefore, AreUsed, AreOwnPairs, ArePairs, AreSlots, AreOrdered, AreStuck, IsOpen, IsWide, IsRight, AreRight}
 use Rattle.timeline.specs.Clean.{IsClean, AllClean}
-use Rattle.timeline.proofs.Failing.{some_none}
-use Rattle.timeline.proofs.Stuck.{stuck_has_none}
+use Rattle.timeline.proofs.Slots.{slot_below, slot_known, same_of, slots_of}
+use Rattle.timeline.proofs.OwnPairs.{right_own}
+use Rattle.timeline.proofs.Stuck.{all_got, slot_span, apart, apart_own, stuck_has_none}
 use Rattle.timeline.proofs.Apart.{IsSound, no_cause, sound, sound_slot, sound_stands, sound_next}
 
--- ---- a slot is of one session
-
--- the session that a slot is of
-record IsSlot (jobs : List JobText) (e : EntryText) (x : ℕ) : Type 0 where
-  job : ℕ
-  named : job_number jobs e.job ≡ Some job
-  few : job < most_jobs
-  from : 1 ≤ e.session
-  to : e.session ≤ most_sessions
-  is : most_sessions * job + (e.session - 1) ≡ x
-
-tested : (t : Bool) (v x : ℕ) → (if t then Some v else None) ≡ Some x → (t ≡ true) × (v ≡ x)
-tested true v x is = (refl, let e : Some v ≡ Some x = is in cc)
-tested false v x is = some_none x (sym is)
-
-below_is : (a b : ℕ) → nat_lt a b ≡ true → a < b
-below_is a b h = grind (arith, nat_tests, h)
-
-at_most_is : (a b : ℕ) → nat_le a b ≡ true → a ≤ b
-at_most_is a b h = grind (arith, nat_tests, h)
-
-equal_is : (a b : ℕ) → a ≡ b → (a == b) ≡ true
-equal_is a b h = grind (arith, nat_tests, h)
-
-slot_is : (jobs : List JobText) (e : EntryText) (x : ℕ) → slot_of jobs e ≡ Some x → IsSlot jobs e x
-unfolding slot_of
-slot_is jobs e x is =
-    option_and_then_some (λ j. if nat_lt j most_jobs && nat_le 1 e.session && nat_le e.session most_sessions
-    then Some (most_sessions * j + (e.session - 1)) else None) (job_number jobs e.job) x is (λ j named found. (
-    let holds = tested (nat_lt j most_jobs && nat_le 1 e.session && nat_le e.session most_sessions) (most_sessions * j + (e.session - 1)) x found in
-    let both = and_parts (nat_lt j most_jobs && nat_le 1 e.session) (nat_le e.session most_sessions) holds.0 in
-    let firsts = and_parts (nat_lt j most_jobs) (nat_le 1 e.session) both.0 in
-    record {
-      job = j;
-      named = named;
-      few = below_is j most_jobs firsts.0;
-      from = at_most_is 1 e.session firsts.1;
-      to = at_most_is e.session most_sessions both.1;
-      is = holds.1;
-    }))
-
-slot_below : (jobs : List JobText) (e : EntryText) (x : ℕ) → slot_of jobs e ≡ Some x → x < most_jobs * most_sessions
-slot_below jobs e x is =
-    let s = slot_is jobs e x is in
-    let few = s.few in let from = s.from in let to = s.to in let at = s.is in
-    omega (arith, few, from, to, at)
+-- ---- pairs of slots
 
 -- the slots of pairs are slots
 pub below : (jobs : List JobText) (logs : List LogText) (pairs : List (ℕ × ℕ)) → ArePairs jobs logs pairs → AreSlots pairs
-below jobs logs pairs are x y pair =
-    let f = (are.only x y pair).follows in
-    (slot_below jobs f.before x f.are.of_first, slot_below jobs f.entry y f.are.of_second)
-
-named_so : (jobs : List JobText) (name : List ℕ) (j : ℕ) (d : JobText) → job_number jobs name ≡ Some j → (slice_index_or jobs j d).name ≡ name
-named_so jobs name j d is =
-    let found = position-Some (λ (job : JobText). bytes_eq job.name name) jobs j d is in
-    (bytes_eq-Decides (slice_index_or jobs j d).name name).0 found.1
-
--- one slot is of one session
-same_of : (jobs : List JobText) (a b : EntryText) (x : ℕ) → slot_of jobs a ≡ Some x → slot_of jobs b ≡ Some x → is_same_session a b ≡ true
-same_of jobs a b x is_a is_b =
-    let s = slot_is jobs a x is_a in
-    let t = slot_is jobs b x is_b in
-    let at_s = s.is in let from_s = s.from in let to_s = s.to in
-    let at_t = t.is in let from_t = t.from in let to_t = t.to in
-    let job : s.job ≡ t.job = omega (arith, at_s, from_s, to_s, at_t, from_t, to_t) in
-    let session : a.session ≡ b.session = omega (arith, at_s, from_s, to_s, at_t, from_t, to_t) in
-    let unnamed : JobText = record { name = []; done = 0; sessions = 0; withdrawn = None; meals = 0; is_retired = false } in
-    let names : a.job ≡ b.job = sym (named_so jobs a.job s.job unnamed s.named) ∙ ap (λ j. (slice_index_or jobs j unnamed).name) job
-    ∙ named_so jobs b.job t.job unnamed t.named in
-    let one : bytes_eq a.job b.job ≡ true = (bytes_eq-Decides a.job b.job).1 names in
-    let two : (a.session == b.session) ≡ true = equal_is a.session b.session session in
-    λ i. one i && two i
+below jobs logs pairs are x y pair = elim (are.only x y pair) [
+  | inl own ↦
+      let next = are.are_own.only x y own in
+      (used_below jobs logs are.are_own.used x are.are_own.are_used next.first, used_below jobs logs are.are_own.used y are.are_own.are_used next.second)
+  | inr p ↦
+      let f = p.follows in
+      (slot_below jobs f.before x f.are.of_first, slot_below jobs f.entry y f.are.of_second)
+]
+  where
+    used_below : (jobs : List JobText) (logs : List LogText) (used : List Bool) (x : ℕ) → AreUsed jobs logs used → IsOpen used x → x < most_jobs * most_sessions
+    used_below jobs logs used x are marked = let u = are.only x marked in slot_below jobs u.is_in.entry x u.is_in.of
 
 -- ---- columns that keep the pairs apart
 
@@ -150,19 +89,51 @@ agrees jobs logs pairs spans columns few clean are ordered = λ k d inside.
       follows = follows;
     })))
 
+-- the sessions of each job are in its own order, where the pairs of these are
+pub own_order : (jobs : List JobText) (logs : List LogText) (own : List (ℕ × ℕ)) (view : TimelineView) → AllAgree jobs view logs → AreOwnPairs jobs logs own
+    → AreRight view.spans own → KeepsOwnOrder jobs view.spans logs
+own_order jobs logs own view agree are right a b in_a in_b earlier =
+    let agrees_a : Agrees jobs view in_a.log.entries = all_got (λ (log : LogText). Agrees jobs view log.entries) logs in_a.i in_a.log agree in_a.stands in
+    let agrees_b : Agrees jobs view in_b.log.entries = all_got (λ (log : LogText). Agrees jobs view log.entries) logs in_b.i in_b.log agree in_b.stands in
+    let stands_a = all_got (Stands jobs view) in_a.log.entries in_a.k a agrees_a.stands in_a.there in
+    let stands_b = all_got (Stands jobs view) in_b.log.entries in_b.k b agrees_b.stands in_b.there in
+    let x = slot_known jobs view.spans a stands_a.span stands_a.known in
+    let y = slot_known jobs view.spans b stands_b.span stands_b.known in
+    let of_one = slots_of jobs a b x.0 y.0 x.1 y.1 earlier in
+    let first = are.are_used.all x.0 (record { i = in_a.i; log = in_a.log; stands = in_a.stands; is_in = record { place = in_a.k; entry = a; there = in_a.there; of = x.1 } }) in
+    let second = are.are_used.all y.0 (record { i = in_b.i; log = in_b.log; stands = in_b.stands; is_in = record { place = in_b.k; entry = b; there = in_b.there; of = y.1 } }) in
+    let r = right_own are.used view.spans (λ v w next. right v w (are.all v w next)) (y.0 + 1) x.0 y.0 (omega arith) first second of_one.0 of_one.1 in
+    record {
+      left = r.left;
+      right = r.right;
+      of_first = slot_span jobs view.spans a x.0 x.1 ∙ r.of_first;
+      of_second = slot_span jobs view.spans b y.0 y.1 ∙ r.of_second;
+      before = r.before;
+    }
+
 pub is_timeline : (report : ReportText) (pairs : List (ℕ × ℕ)) (spans : List Span) (columns : ℕ) → length report.jobs ≤ most_jobs
     → length report.logs ≤ most_instruments → AllClean report.jobs report.logs → ArePairs report.jobs report.logs pairs → AreOrdered pairs spans columns
     → IsTimeline report (record { spans = spans; columns = columns })
-is_timeline report pairs spans columns few few_logs clean are ordered = record {
-  few_jobs = few;
-  few_instruments = few_logs;
-  agree = agrees report.jobs report.logs pairs spans columns few clean are ordered;
-}
+is_timeline report pairs spans columns few few_logs clean are ordered =
+    let agree = agrees report.jobs report.logs pairs spans columns few clean are ordered in
+    record {
+      few_jobs = few;
+      few_instruments = few_logs;
+      agree = agree;
+      own_order = own_order report.jobs report.logs are.own (record { spans = spans; columns = columns }) agree are.are_own
+          (λ x y own. ordered.right x y (are.all_own x y own));
+    }
 
 -- ---- sessions that are stuck
 
 pub none : (report : ReportText) (pairs : List (ℕ × ℕ)) (marks : List Bool) → ArePairs report.jobs report.logs pairs → AreStuck pairs marks → HasNone report
 none report pairs marks are stuck =
-    stuck_has_none report (IsOpen marks) stuck.some stuck.marked (λ y marked. (
-    let b = stuck.behind y marked in
-    (b.x, b.first, are.only b.x y b.pair)))
+    stuck_has_none report (IsOpen marks) stuck.some stuck.marked (λ view is y marked. (
+    let b = stuck.behind y marked in (
+      b.x,
+      b.first,
+      elim (are.only b.x y b.pair) [
+        | inl own ↦ apart_own report view are.own b.x y is are.are_own own
+        | inr p ↦ apart report view b.x y is p
+      ],
+    )))

@@ -3,6 +3,8 @@ pub mod Marked
 pub mod OneByOne
 pub mod Pairs
 pub mod Failing
+pub mod Slots
+pub mod OwnPairs
 pub mod Stuck
 pub mod Apart
 pub mod Complete

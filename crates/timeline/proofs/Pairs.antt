@@ -1,17 +1,15 @@
 -- The pairs of a log's entries.
 use Rattle.std.proofs.Common.{◌≡◌, ℕ, ◌+◌, ◌<◌, ◌≤◌, List, [], ◌∷◌, ◌++◌, Some, length, inl, inr, sym, ◌∙◌, ap, subst, arith}
-use Rattle.std.specs.Prelude.{slice_get, IfSome, Option}
+use Rattle.std.specs.Prelude.{◌⊎◌, slice_get, IfSome, Option}
 use Rattle.std.specs.List.{Contains}
 use Rattle.std.proofs.lemmas.Bool.{cases_eq}
 use Rattle.std.proofs.lemmas.Option.{slice_get_within}
-use Rattle.std.proofs.lemmas.List.Elements.{at_from_Contains, Contains-push, Contains-push_cases, Contains-append_left}
+use Rattle.std.proofs.lemmas.List.Elements.{Contains-push, Contains-push_cases, Contains-append_left}
 use Rattle.report_reader.specs.Line.{EntryText, JobText}
 use Rattle.timeline.specs.Spans.{slot_of}
 use Rattle.report_reader.specs.Report.{LogText}
-use Rattle.timeline.specs.Orders.{AreOf, StandsBefore, Precedes, ArePairs, AddsBelow, Adds}
-
-some_one : {X : Type 0} (x y : X) → Some x ≡ Some y → x ≡ y
-some_one x y e = cc
+use Rattle.timeline.specs.Orders.{AreOf, StandsBefore, Precedes, AreOwnPairs, ArePairs, AddsBelow, Adds}
+use Rattle.timeline.proofs.Slots.{some_one}
 
 -- the slots of two neighbours are those of the entries there
 same_pair : (jobs : List JobText) (entries : List EntryText) (n x y : ℕ) (a b : EntryText) (s : StandsBefore jobs entries x y) → s.place ≡ n
@@ -82,24 +80,23 @@ pub pair_are : (jobs : List JobText) (a b : EntryText) (found : Option (ℕ × �
     → AreOf jobs a b pair.0 pair.1
 pair_are jobs a b found pair some is = subst (λ o. IfSome o (λ (x, y). AreOf jobs a b x y)) is some
 
--- the pairs are those of the first logs
-pub record PairsBelow (jobs : List JobText) (logs : List LogText) (n : ℕ) (pairs : List (ℕ × ℕ)) : Type 0 where
-  pub only : (x y : ℕ) → Contains pairs (x, y) → Precedes jobs logs x y
+-- the pairs are each job's own, and those of the first logs
+pub record PairsBelow (jobs : List JobText) (logs : List LogText) (own : List (ℕ × ℕ)) (n : ℕ) (pairs : List (ℕ × ℕ)) : Type 0 where
+  pub only : (x y : ℕ) → Contains pairs (x, y) → Contains own (x, y) ⊎ Precedes jobs logs x y
+  pub all_own : (x y : ℕ) → Contains own (x, y) → Contains pairs (x, y)
   pub all : (x y : ℕ) (p : Precedes jobs logs x y) → p.i < n → Contains pairs (x, y)
 
-pub pairs_start : (jobs : List JobText) (logs : List LogText) (pairs : List (ℕ × ℕ)) → pairs ≡ [] → PairsBelow jobs logs 0 pairs
-pairs_start jobs logs pairs none = record {
-  only = λ x y has. absurd (let at = at_from_Contains [] (x, y) (subst (λ l. Contains l (x, y)) none has) in let within = at.1 in omega (arith, within));
-  all = λ x y p below. absurd (omega (arith, below));
-}
+pub pairs_start : (jobs : List JobText) (logs : List LogText) (own : List (ℕ × ℕ)) → PairsBelow jobs logs own 0 own
+pairs_start jobs logs own = record { only = λ x y has. inl has; all_own = λ x y has. has; all = λ x y p below. absurd (omega (arith, below)) }
 
-pub pairs_next : (jobs : List JobText) (logs : List LogText) (n : ℕ) (log : LogText) (old new : List (ℕ × ℕ)) → slice_get logs n ≡ Some log
-    → Adds jobs log.entries old new → PairsBelow jobs logs n old → PairsBelow jobs logs (n + 1) new
-pairs_next jobs logs n log old new stands added p = record {
+pub pairs_next : (jobs : List JobText) (logs : List LogText) (own : List (ℕ × ℕ)) (n : ℕ) (log : LogText) (old new : List (ℕ × ℕ)) → slice_get logs n ≡ Some log
+    → Adds jobs log.entries old new → PairsBelow jobs logs own n old → PairsBelow jobs logs own (n + 1) new
+pairs_next jobs logs own n log old new stands added p = record {
   only = λ x y has. elim (added.only x y has) [
     | inl before ↦ p.only x y before
-    | inr here ↦ record { i = n; log = log; stands = stands; follows = here }
+    | inr here ↦ inr (record { i = n; log = log; stands = stands; follows = here })
   ];
+  all_own = λ x y has. added.kept x y (p.all_own x y has);
   all = λ x y q below. elim (cases_eq q.i n) [
     | inl at ↦
         let is : q.log ≡ log = some_one q.log log (sym q.stands ∙ ap (slice_get logs) at ∙ stands) in
@@ -112,8 +109,12 @@ pairs_next jobs logs n log old new stands added p = record {
     slice_get_before : {x y : ℕ} (entries : List EntryText) (s : StandsBefore jobs entries x y) → s.place < length entries
     slice_get_before entries s = let inside = slice_get_within entries (s.place + 1) s.entry s.second in omega (arith, inside)
 
-pub pairs_end : (jobs : List JobText) (logs : List LogText) (n : ℕ) (pairs : List (ℕ × ℕ)) → length logs ≤ n → PairsBelow jobs logs n pairs → ArePairs jobs logs pairs
-pairs_end jobs logs n pairs past p = record {
+pub pairs_end : (jobs : List JobText) (logs : List LogText) (own : List (ℕ × ℕ)) (n : ℕ) (pairs : List (ℕ × ℕ)) → length logs ≤ n → AreOwnPairs jobs logs own
+    → PairsBelow jobs logs own n pairs → ArePairs jobs logs pairs
+pairs_end jobs logs own n pairs past are p = record {
+  own = own;
+  are_own = are;
   only = p.only;
+  all_own = p.all_own;
   all = λ x y q. p.all x y q (let inside = slice_get_within logs q.i q.log q.stands in omega (arith, inside, past));
 }

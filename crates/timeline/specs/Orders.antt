@@ -1,5 +1,5 @@
 -- Which session stands right behind which, and columns that are given to one session after another.
-use Rattle.std.specs.Prelude.{ℕ, ◌≡◌, ◌≢◌, ◌⊎◌, ◌+◌, ◌*◌, ◌<◌, ◌≤◌, Bool, true, false, Some, slice_index_or, List, length, slice_get}
+use Rattle.std.specs.Prelude.{ℕ, ◌≡◌, ◌≢◌, ◌⊎◌, ◌+◌, ◌*◌, ◌/◌, ◌<◌, ◌≤◌, Bool, true, false, Some, slice_index_or, List, length, slice_get}
 use Rattle.std.specs.List.{Contains, count_by}
 use Rattle.lab_plan.specs.Limits.{most_jobs, most_sessions, most_commands}
 use Rattle.report_reader.specs.Line.{EntryText, JobText}
@@ -33,6 +33,52 @@ pub record Precedes (jobs : List JobText) (logs : List LogText) (x y : ℕ) : Ty
 abbrev pub IsOpen : List Bool → ℕ → Type 0
 IsOpen marks slot = slice_index_or marks slot false ≡ true
 
+-- a log has an entry of the session in this slot
+pub record IsIn (jobs : List JobText) (entries : List EntryText) (x : ℕ) : Type 0 where
+  pub place : ℕ
+  pub entry : EntryText
+  pub there : slice_get entries place ≡ Some entry
+  pub of : slot_of jobs entry ≡ Some x
+
+-- in some log of the report it does
+pub record IsUsed (jobs : List JobText) (logs : List LogText) (x : ℕ) : Type 0 where
+  pub i : ℕ
+  pub log : LogText
+  pub stands : slice_get logs i ≡ Some log
+  pub is_in : IsIn jobs log.entries x
+
+-- besides those that were marked, the slots are of which the first entries of a log are
+pub record MarksBelow (jobs : List JobText) (entries : List EntryText) (n : ℕ) (old new : List Bool) : Type 0 where
+  pub long : length new ≡ length old
+  pub kept : (x : ℕ) → IsOpen old x → IsOpen new x
+  pub only : (x : ℕ) → IsOpen new x → IsOpen old x ⊎ IsIn jobs entries x
+  pub all : (x : ℕ) (is : IsIn jobs entries x) → is.place < n → IsOpen new x
+
+-- those of all entries of it
+abbrev pub Marks : List JobText → List EntryText → List Bool → List Bool → Type 0
+Marks jobs entries old new = MarksBelow jobs entries (length entries) old new
+
+-- of all slots those are marked that logs have entries of
+pub record AreUsed (jobs : List JobText) (logs : List LogText) (used : List Bool) : Type 0 where
+  pub long : length used ≡ most_jobs * most_sessions
+  pub only : (x : ℕ) → IsOpen used x → IsUsed jobs logs x
+  pub all : (x : ℕ) → IsUsed jobs logs x → IsOpen used x
+
+-- of the marked slots of one job the second is the next after the first
+pub record IsNextOwn (used : List Bool) (x y : ℕ) : Type 0 where
+  pub first : IsOpen used x
+  pub second : IsOpen used y
+  pub one_job : x / most_sessions ≡ y / most_sessions
+  pub later : x < y
+  pub none_between : (z : ℕ) → x < z → z < y → ¬ IsOpen used z
+
+-- the pairs are of the sessions that logs have entries of, each with the next one of its job
+pub record AreOwnPairs (jobs : List JobText) (logs : List LogText) (pairs : List (ℕ × ℕ)) : Type 0 where
+  pub used : List Bool
+  pub are_used : AreUsed jobs logs used
+  pub only : (x y : ℕ) → Contains pairs (x, y) → IsNextOwn used x y
+  pub all : (x y : ℕ) → IsNextOwn used x y → Contains pairs (x, y)
+
 -- to a list the pairs were added of which the first entries of a log have the first session right before the second, and no others
 pub record AddsBelow (jobs : List JobText) (entries : List EntryText) (n : ℕ) (old new : List (ℕ × ℕ)) : Type 0 where
   pub kept : (x y : ℕ) → Contains old (x, y) → Contains new (x, y)
@@ -43,9 +89,12 @@ pub record AddsBelow (jobs : List JobText) (entries : List EntryText) (n : ℕ) 
 abbrev pub Adds : List JobText → List EntryText → List (ℕ × ℕ) → List (ℕ × ℕ) → Type 0
 Adds jobs entries old new = AddsBelow jobs entries (length entries) old new
 
--- the pairs are of the sessions of which a log has the first right before the second
+-- the pairs are each job's own, and those of the sessions of which a log has the first right before the second
 pub record ArePairs (jobs : List JobText) (logs : List LogText) (pairs : List (ℕ × ℕ)) : Type 0 where
-  pub only : (x y : ℕ) → Contains pairs (x, y) → Precedes jobs logs x y
+  pub own : List (ℕ × ℕ)
+  pub are_own : AreOwnPairs jobs logs own
+  pub only : (x y : ℕ) → Contains pairs (x, y) → Contains own (x, y) ⊎ Precedes jobs logs x y
+  pub all_own : (x y : ℕ) → Contains own (x, y) → Contains pairs (x, y)
   pub all : (x y : ℕ) → Precedes jobs logs x y → Contains pairs (x, y)
 
 -- the slot is marked, and a pair has it behind another that is
@@ -72,6 +121,10 @@ pub record IsRight (spans : List Span) (x y : ℕ) : Type 0 where
   pub of_first : slice_get spans x ≡ Some left
   pub of_second : slice_get spans y ≡ Some right
   pub before : left.start + left.width ≤ right.start
+
+-- of each pair it has
+abbrev pub AreRight : List Span → List (ℕ × ℕ) → Type 0
+AreRight spans pairs = (x y : ℕ) → Contains pairs (x, y) → IsRight spans x y
 
 -- as many columns as a session may have commands, within so many
 pub record IsWide (spans : List Span) (columns : ℕ) (x : ℕ) : Type 0 where

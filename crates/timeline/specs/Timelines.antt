@@ -52,8 +52,27 @@ pub record Agrees (jobs : List JobText) (view : TimelineView) (entries : List En
 abbrev pub AllAgree : List JobText → TimelineView → List LogText → Type 0
 AllAgree jobs view logs = All (λ (log : LogText). Agrees jobs view log.entries) logs
 
--- a timeline of a report: it has no more jobs and instruments than a lab, and every log agrees with the columns
+-- the entry stands in one of the logs
+pub record IsEntryOf (logs : List LogText) (entry : EntryText) : Type 0 where
+  pub i : ℕ
+  pub k : ℕ
+  pub log : LogText
+  pub stands : slice_get logs i ≡ Some log
+  pub there : slice_get log.entries k ≡ Some entry
+
+-- two entries of one job, the first of an earlier session
+pub record IsEarlier (a b : EntryText) : Type 0 where
+  pub job : a.job ≡ b.job
+  pub session : a.session < b.session
+
+-- the sessions of each job stand in its own order, whichever logs have them: a later one right of an earlier one
+abbrev pub KeepsOwnOrder : List JobText → List Span → List LogText → Type 0
+KeepsOwnOrder jobs spans logs = (a b : EntryText) → IsEntryOf logs a → IsEntryOf logs b → IsEarlier a b → IsRightOf jobs spans a b
+
+-- a timeline of a report: it has no more jobs and instruments than a lab, every log agrees with the columns, and so does each job's
+-- own order
 pub record IsTimeline (report : ReportText) (view : TimelineView) : Type 0 where
   pub few_jobs : length report.jobs ≤ most_jobs
   pub few_instruments : length report.logs ≤ most_instruments
   pub agree : AllAgree report.jobs view report.logs
+  pub own_order : KeepsOwnOrder report.jobs view.spans report.logs

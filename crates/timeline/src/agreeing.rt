@@ -1,7 +1,8 @@
-//! Whether the logs of a report agree with the columns of its sessions.
-ghost use Rattle.std.specs.Prelude.{◌≡◌, true, map, Some};
+//! Whether the logs of a report, and its jobs' own orders, agree with the columns of its sessions.
+ghost use Rattle.std.specs.Prelude.{◌≡◌, ◌+◌, ◌≤◌, true, map, Some};
 ghost use Rattle.std.specs.List.{All};
 ghost use Rattle.report_reader.specs.Form.{entry_text, job_text};
+ghost use Rattle.timeline.specs.Orders.{AreRight, IsRight};
 ghost use Rattle.timeline.specs.Timelines.{TimelineView, Stands, GoesOn, IsRightOf, AllAgree, IsNextOf, EachNext};
 
 use crate::entries::same_session;
@@ -29,6 +30,16 @@ fn goes_on(before: &EntryLine, entry: &EntryLine) -> bool
     same_session(before, entry) && before.length == entry.length && before.place < entry.place
 }
 
+/// Whether columns end before others begin.
+fn ends_before(left: Span, right: Span) -> bool
+    ensures { result ≡ true → left.start + left.width ≤ right.start }
+{
+    match left.start.checked_add(left.width) {
+        Some(end) => end <= right.start,
+        None => false,
+    }
+}
+
 /// Whether the session of an entry stands right of that of the one before it.
 fn is_right_of(jobs: &[JobLine], spans: &[Span], before: &EntryLine, entry: &EntryLine) -> bool
     ensures { result ≡ true → IsRightOf (map job_text jobs.now) spans.now (entry_text before.now) (entry_text entry.now) }
@@ -39,10 +50,7 @@ fn is_right_of(jobs: &[JobLine], spans: &[Span], before: &EntryLine, entry: &Ent
     let Some(right) = span_of(jobs, spans, entry) else {
         return false;
     };
-    match left.start.checked_add(left.width) {
-        Some(end) => end <= right.start,
-        None => false,
-    }
+    ends_before(left, right)
 }
 
 /// Whether an entry may stand behind the one before it.
@@ -88,6 +96,31 @@ pub(crate) fn all_agree<'a, A: Allocator>(
     for log in logs {
         let entries = log.entries();
         if !all_stand(jobs, spans, columns, entries) || !all_follow(jobs, spans, entries) {
+            return false;
+        }
+    }
+    true
+}
+
+/// Whether the session in one slot stands right of that in another.
+fn is_right(spans: &[Span], x: usize, y: usize) -> bool
+    ensures { result ≡ true → IsRight spans.now x y }
+{
+    let Some(&left) = spans.get(x) else {
+        return false;
+    };
+    let Some(&right) = spans.get(y) else {
+        return false;
+    };
+    ends_before(left, right)
+}
+
+/// Whether the second of each pair stands right of the first.
+pub(crate) fn all_right(pairs: &[(usize, usize)], spans: &[Span]) -> bool
+    ensures { result ≡ true → AreRight spans.now pairs.now }
+{
+    for &(x, y) in pairs {
+        if !is_right(spans, x, y) {
             return false;
         }
     }

@@ -1,8 +1,9 @@
-//! Which sessions a log has right before which, and which of some stand right behind another of them.
+//! Which sessions stand right before which, in a log or among their job's own, and which of some stand right behind another of them.
 ghost use Rattle.std.specs.Prelude.{◌≡◌, ◌<◌, ◌+◌, ℕ, List, slice_index_or, true, false, None, map, length, IfSome, IfOk};
 ghost use Rattle.report_reader.specs.Form.{entry_text, job_text};
 ghost use Rattle.timeline.specs.Orders.{AreOf, IsOpen, Adds, ArePairs, AreBehindBelow, AreBehind};
 
+use crate::own::own_pairs;
 use crate::span::slot_of;
 use report_reader::{EntryLine, JobLine, Log};
 use std::alloc::{AllocError, Allocator};
@@ -41,7 +42,7 @@ fn add_log<A: Allocator>(
     Ok(())
 }
 
-/// The sessions of which a log has the first right before the second, by their slots.
+/// The sessions of which the second is the next of its job after the first, or a log has the first right before the second, by their slots.
 pub(crate) fn pairs_of<'a, A: Allocator + Copy>(
     alloc: A,
     jobs: &[JobLine],
@@ -49,7 +50,7 @@ pub(crate) fn pairs_of<'a, A: Allocator + Copy>(
 ) -> Result<Vec<(usize, usize), A>, AllocError>
     ensures { IfOk result (λ pairs. ArePairs (map job_text jobs.now) logs.now pairs.items) }
 {
-    let mut pairs = Vec::new(alloc);
+    let mut pairs = own_pairs(alloc, jobs, logs)?;
     for log in logs {
         add_log(jobs, log.entries(), &mut pairs)?;
     }

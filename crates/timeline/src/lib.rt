@@ -1,5 +1,5 @@
 //! A timeline of a report: each session has columns of its own, the same in every log, and stands right of
-//! each session that any log has before it.
+//! each session that any log has before it, and of each earlier session of its job.
 #![tactic(auto)]
 
 mod agreeing;
@@ -11,6 +11,7 @@ mod faulty;
 mod jobs;
 mod named_twice;
 mod ordering;
+mod own;
 mod placing;
 mod span;
 pub mod timeline;

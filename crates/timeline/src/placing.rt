@@ -1,6 +1,7 @@
-//! Columns for the sessions: a session is placed once it stands next in each log that has it, right of all
-//! that these logs have before it.
+//! Columns for the sessions: a session is placed once it stands next in each log that has it and among its job's own, right of all
+//! that stand before it there.
 use crate::span::{SLOTS, Span, slot_of};
+use lab_plan::{MOST_JOBS, MOST_SESSIONS};
 use report_reader::{EntryLine, JobLine, Log};
 use std::alloc::{AllocError, Allocator};
 
@@ -11,7 +12,7 @@ struct Part {
     length: u32,
 }
 
-/// A log by its parts, of which those before `next` are placed, and the end of the last of these.
+/// A log, or a job's own sessions, by parts, of which those before `next` are placed, and the end of the last of these.
 #[derive(Drop)]
 struct Row<A: Allocator> {
     parts: Vec<Part, A>,
@@ -19,10 +20,10 @@ struct Row<A: Allocator> {
     end: u32,
 }
 
-/// How many logs have a session as their next, where it may start at the soonest, and its longest part.
+/// How many rows have a session as their next, where it may start at the soonest, and its longest part.
 #[derive(Clone, Copy)]
 struct Waiting {
-    logs: u32,
+    rows: u32,
     start: u32,
     width: u32,
 }
@@ -81,6 +82,41 @@ fn rows_of<'a, A: Allocator + Copy>(
     Ok(rows)
 }
 
+/// The row of a job: its own sessions, each as long as a log makes it.
+fn own_row<A: Allocator + Copy>(
+    alloc: A,
+    own: &[(usize, usize)],
+    job: usize,
+) -> Result<Row<A>, AllocError> {
+    let mut parts = Vec::new(alloc);
+    for &(slot, next) in own {
+        if slot / MOST_SESSIONS as usize == job {
+            if parts.is_empty() {
+                parts.push(Part { slot, length: 0 })?;
+            }
+            let slot = next;
+            parts.push(Part { slot, length: 0 })?;
+        }
+    }
+    Ok(Row {
+        parts,
+        next: 0,
+        end: 0,
+    })
+}
+
+/// Adds a row for each job.
+fn add_own_rows<A: Allocator + Copy>(
+    alloc: A,
+    own: &[(usize, usize)],
+    rows: &mut Vec<Row<A>, A>,
+) -> Result<(), AllocError> {
+    for job in 0..MOST_JOBS {
+        rows.push(own_row(alloc, own, job)?)?;
+    }
+    Ok(())
+}
+
 /// Counts the parts of a row, each for its session.
 fn count_row<A: Allocator>(counts: &mut [u32], row: &Row<A>) {
     for part in &row.parts {
@@ -102,14 +138,14 @@ fn counts_of<A: Allocator + Copy>(alloc: A, rows: &[Row<A>]) -> Result<Vec<u32, 
 /// How a session is waited for.
 fn waiting_for<A: Allocator>(rows: &[Row<A>], slot: usize) -> Waiting {
     let mut waiting = Waiting {
-        logs: 0,
+        rows: 0,
         start: 0,
         width: 0,
     };
     for row in rows {
         if let Some(part) = row.next() {
             if part.slot == slot {
-                waiting.logs = waiting.logs.saturating_add(1);
+                waiting.rows = waiting.rows.saturating_add(1);
                 waiting.start = waiting.start.max(row.end);
                 waiting.width = waiting.width.max(part.length);
             }
@@ -132,7 +168,7 @@ fn place_part<A: Allocator>(
     slot: usize,
 ) -> bool {
     let waiting = waiting_for(rows, slot);
-    if counts.get(slot).copied() != Some(waiting.logs) {
+    if counts.get(slot).copied() != Some(waiting.rows) {
         return false;
     }
     let Waiting { start, width, .. } = waiting;
@@ -165,13 +201,16 @@ fn last_end<A: Allocator>(rows: &[Row<A>]) -> u32 {
     end
 }
 
-/// Columns for the sessions as far as the logs don't contradict each other, and how many there are.
+/// Columns for the sessions as far as the logs and the jobs' own orders don't contradict each other, and how many there are. The pairs are
+/// of each session that logs have, with the next of its job.
 pub(crate) fn place<'a, A: Allocator + Copy>(
     alloc: A,
     jobs: &[JobLine],
     logs: &[Log<'a, A>],
+    own: &[(usize, usize)],
 ) -> Result<(Vec<Span, A>, u32), AllocError> {
     let mut rows = rows_of(alloc, jobs, logs)?;
+    add_own_rows(alloc, own, &mut rows)?;
     let counts = counts_of(alloc, &rows)?;
     let none = Span { start: 0, width: 0 };
     let mut spans = vec![in alloc; none; SLOTS]?;

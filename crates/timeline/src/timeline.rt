@@ -4,11 +4,12 @@ ghost use Rattle.lab_plan.specs.Limits.{most_jobs, most_instruments};
 ghost use Rattle.timeline.specs.Faults.{Answers};
 ghost use Rattle.timeline.specs.Clean.{AllClean};
 
-use crate::agreeing::all_agree;
+use crate::agreeing::{all_agree, all_right};
 use crate::behind::pairs_of;
 use crate::fault::TimelineFault;
 use crate::faulty::{check, contradiction};
 use crate::ordering::order_beside;
+use crate::own::own_pairs;
 use crate::placing::place;
 use crate::span::Span;
 use report_reader::Report;
@@ -77,10 +78,13 @@ pub fn timeline_of<A: Allocator + Copy>(
     ensures { Answers report.now result }
 {
     check(report)?;
-    let Ok((spans, columns)) = place(alloc, report.jobs(), report.logs()) else {
+    let Ok(own) = own_pairs(alloc, report.jobs(), report.logs()) else {
         return Err(TimelineFault::NoMemory);
     };
-    if all_agree(report.jobs(), &spans, columns, report.logs()) {
+    let Ok((spans, columns)) = place(alloc, report.jobs(), report.logs(), &own) else {
+        return Err(TimelineFault::NoMemory);
+    };
+    if all_agree(report.jobs(), &spans, columns, report.logs()) && all_right(&own, &spans) {
         return Ok(Timeline { spans, columns });
     }
     slow_timeline_of(alloc, report, &spans)

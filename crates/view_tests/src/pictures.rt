@@ -7,7 +7,8 @@ use std::alloc::Global;
 use std::test::Fail;
 use timeline::{Span, span_of, timeline_of};
 
-// b stands right of a by the scale, and c right of b by the lamp; b has three columns by the lamp.
+// b stands right of a by the scale, and c right of b by the lamp; b has three columns by the lamp. The second session of a stands
+// right of its first, which has two columns, though no log has both.
 const THREE: &str = "lab 1
 instrument scale 3
 a 1 1/2 add 1 = 1
@@ -45,7 +46,7 @@ fn sessions_have_columns(rt: HostRuntime) {
         (1, 0, 2, 3),
         (1, 3, 5, 1),
         (2, 0, 0, 1),
-        (2, 1, 1, 1),
+        (2, 1, 2, 1),
     ];
     for (instrument, place, start, width) in wanted {
         let logs = report.logs();
@@ -131,6 +132,10 @@ fn faults_of_reports(rt: HostRuntime) -> Result<(), Fail> {
         ),
         (
             "lab 1\ninstrument x 2\na 1 1/1 read = 0\na 2 1/1 read = 0\ninstrument y 2\na 2 1/1 read = 0\na 1 1/1 read = 0\njob a sessions 0 of 0 meals 0 retired\nfinished\n",
+            "the logs contradict each other: no order of the sessions agrees with all of them",
+        ),
+        (
+            "lab 1\ninstrument x 2\na 2 1/1 read = 0\nb 1 1/1 read = 0\ninstrument y 2\nb 1 1/1 read = 0\na 1 1/1 read = 0\njob a sessions 0 of 0 meals 0 retired\njob b sessions 0 of 0 meals 0 retired\nfinished\n",
             "the logs contradict each other: no order of the sessions agrees with all of them",
         ),
     ];

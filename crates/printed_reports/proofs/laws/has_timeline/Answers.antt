@@ -1,4 +1,4 @@
-use Rattle.printed_reports.proofs.PrintedTimeline.{has_timeline}
+use Rattle.printed_reports.proofs.OwnOrder.{has_timeline}
 use Rattle.printed_reports.proofs.laws.has_timeline.Goals as goal
 
 pub returns : goal.returns
