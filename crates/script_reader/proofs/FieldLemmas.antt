@@ -39,10 +39,6 @@ pub no_fields : fields [] ≡ []
 unfolding fields
 no_fields = refl
 
-pub behind_gap : (b : ℕ) (rest : List ℕ) → is_gap b ≡ true → fields (b ∷ rest) ≡ fields rest
-unfolding fields
-behind_gap b rest gap = ap (filter is_some_field) (slice_split-cons_yes is_gap b rest gap)
-
 pub lone_field : (field : List ℕ) → IsInk field → 0 < length field → fields field ≡ field ∷ []
 unfolding fields
 lone_field field ink some = ap (filter is_some_field) (slice_split_none is_gap field ink) ∙ kept field [] some

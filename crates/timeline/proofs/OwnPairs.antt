@@ -112,26 +112,6 @@ used_end jobs logs n used past u = record {
 abbrev pub NoneBetween : List Bool → ℕ → ℕ → Type 0
 NoneBetween used x y = (z : ℕ) → x < z → z < y → ¬ IsOpen used z
 
-pub none_more : (used : List Bool) (x n : ℕ) → ¬ IsOpen used n → NoneBetween used x n → NoneBetween used x (n + 1)
-none_more used x n bare none z after below = elim (cases_eq z n) [
-  | inl same ↦ λ here. bare (subst (IsOpen used) same here)
-  | inr other ↦ none z after (omega (arith, below, other))
-]
-
--- the next one stands neither past a slot of another job nor past the last
-pub no_next : (used : List Bool) (x n y : ℕ) → NoneBetween used x n → x < n → (n / 1000 ≡ x / 1000 → ⊥) → IsNextOwn used x y → ⊥
-no_next used x n y none later other next = elim (cases_lt y n) [
-  | inl less ↦ none y next.later less next.second
-  | inr past ↦
-      let job : x / 1000 ≡ y / 1000 = next.one_job in
-      other (omega (arith, job, later, past))
-]
-
-pub no_more : (used : List Bool) (x n y : ℕ) → NoneBetween used x n → length used ≤ n → IsNextOwn used x y → ⊥
-no_more used x n y none past next =
-    let within = open_within used y next.second in
-    none y next.later (omega (arith, within, past)) next.second
-
 pub next_is_one : (used : List Bool) (x y z : ℕ) → IsNextOwn used x y → IsNextOwn used x z → y ≡ z
 next_is_one used x y z one two = elim (cases_lt y z) [
   | inl less ↦ absurd (two.none_between y one.later less one.second)
