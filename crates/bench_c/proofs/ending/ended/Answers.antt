@@ -30,3 +30,9 @@ returns-in-Some-print c =
     let report = its_report c.print-in-Ended.ensures.holds e p print in
     subst (λ h. ClosesHeld h (Reported p) c.args.room.now given.new.room c.args.told.now given.new.told given.result) (sym c.in-Ended.is)
     (inl (p, print, report, refl, given.ensures))
+
+pub returns-in-None : goal.returns-in-None
+returns-in-None c =
+    let e = c.in-Ok.end in let failed = c.fail-in-None.ensures in
+    subst (λ h. ClosesHeld h (Ended e) c.args.room.now c.args.room.now c.args.told.now c.fail-in-None.new.told c.fail-in-None.result) (sym c.in-Open.is)
+    (inr (inr (e, c.in-Ok.ensures.ended, refl, (failed.status, refl, failed.told))))
