@@ -98,7 +98,7 @@ end_send : IsSend LabEnd.the_row
 end_send = declared_send LabEnd.the_type (closed_send Heap.the_row ghosts heap.frees heap.send heap.sync _, tt)
 
 pub held_send : IsSend Held.the_row
-held_send = variants_send Held.the_type ((labs.the_send, tt), ((end_send, tt), ((printed.the_send, tt), (tt, tt))))
+held_send = variants_send Held.enum ((labs.the_send, tt), ((end_send, tt), ((printed.the_send, tt), (tt, tt))))
 
 pub slot_keyless : (p : Ptr) (o : Option (Held.the_row).Denot) → Keyless (slot_owns Held.the_row p o)
 slot_keyless p (Some x) = (lies Held.the_row held_send p x, heap.frees.frees _ (raw (lone (Held.the_row).mir)) p)

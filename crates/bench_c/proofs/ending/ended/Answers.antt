@@ -33,6 +33,6 @@ returns-in-Some-print c =
 
 pub returns-in-None : goal.returns-in-None
 returns-in-None c =
-    let e = c.in-Ok.end in let failed = c.fail-in-None.ensures in
-    subst (λ h. ClosesHeld h (Ended e) c.args.room.now c.args.room.now c.args.told.now c.fail-in-None.new.told c.fail-in-None.result) (sym c.in-Open.is)
+    let e = c.in-Ok.end in let failed = c.fail.ensures in
+    subst (λ h. ClosesHeld h (Ended e) c.args.room.now c.args.room.now c.args.told.now c.fail.new.told c.fail.result) (sym c.in-Open.is)
     (inr (inr (e, c.in-Ok.ensures.ended, refl, (failed.status, refl, failed.told))))
