@@ -303,16 +303,23 @@ class Session:
             raise
 
     def __exit__(self, kind: Optional[type[BaseException]], fault: Optional[BaseException], at: Optional[TracebackType]) -> None:
-        if self.held:
-            self.release()
+        self._leave(kind is not None)
 
     async def __aenter__(self) -> Session:
         await self.acquire_async(self.timeout)
         return self
 
     async def __aexit__(self, kind: Optional[type[BaseException]], fault: Optional[BaseException], at: Optional[TracebackType]) -> None:
-        if self.held:
-            self.release()
+        self._leave(kind is not None)
+
+    def _leave(self, raised: bool) -> None:
+        """The body is over, by an exception or not."""
+        if not self.held:
+            return
+        if raised:
+            with self.job.bench._mutex:
+                self.job.bench._raised.append((self.job.name, self.number))
+        self.release()
 
 
 class Job:
@@ -406,6 +413,8 @@ class Bench:
         # the sessions that were given up and can't be withdrawn, by job, and those of them that lapsed
         self._left: dict[int, Session] = {}
         self._lapsed: list[tuple[str, int]] = []
+        # the sessions whose body raised while they held
+        self._raised: list[tuple[str, int]] = []
         # whether a round of turns was cut short by an exception: then nobody knows who came to hold
         self._torn = False
         size = Size()
@@ -449,6 +458,12 @@ class Bench:
         nobody did their work."""
         with self._mutex:
             return tuple(self._lapsed)
+
+    @property
+    def raised(self) -> tuple[tuple[str, int], ...]:
+        """The sessions, as (job, number), whose body raised while they held: their commands are in the logs all the same."""
+        with self._mutex:
+            return tuple(self._raised)
 
     def run(self, station: Callable[[Job], object], timeout: Optional[float] = None) -> None:
         """Calls `station(job)` on a thread for each job, and returns when all are back.

@@ -188,6 +188,7 @@ class Alone(unittest.TestCase):
         self.assertEqual(session.state, "finished")
         self.assertEqual(logged(bench), ["a 1 1/1 add 5 = 5"])
         self.assertEqual((bench.report.job("a").done, bench.report.finished), (1, False))
+        self.assertEqual((bench.raised, bench.lapsed), ((("a", 1),), ()))
 
     def test_no_library(self) -> None:
         words = [sys.executable, "-c", "import labrun; labrun.run('lab 1')"]
@@ -495,6 +496,7 @@ class Running(unittest.TestCase):
                 bench.run(station)
         self.assertTrue(bench.report.job("b").retired)
         self.assertEqual(bench.report.job("a").done, 1)
+        self.assertEqual(bench.raised, (("a", 1),))
 
     def test_all_stations_raise(self) -> None:
         def station(job: labrun.Job) -> None:

@@ -1,6 +1,6 @@
 -- Marks, and which of some stand behind another of them.
-use Rattle.std.proofs.Common.{◌≡◌, ℕ, zero, suc, ◌+◌, ◌<◌, ◌≤◌, Bool, true, false, List, [], ◌∷◌, length, slice_index_or, set, inl, inr, refl, sym, ◌∙◌, ap, subst, arith, get_or-set_other, get_or-set_same, length-set, ◌≢◌}
-use Rattle.std.specs.Prelude.{◌⊎◌, not, Option, None, Some, MatchOption}
+use Rattle.std.proofs.Common.{◌≡◌, ℕ, zero, suc, ◌+◌, ◌<◌, ◌≤◌, Bool, true, false, List, [], ◌∷◌, length, slice_index_or, get_or, set, inl, inr, refl, sym, ◌∙◌, ap, subst, arith, get_or-set_other, get_or-set_same, length-set, ◌≢◌}
+use Rattle.std.specs.Prelude.{◌⊎◌, replicate, not, Option, None, Some, MatchOption}
 use Rattle.std.specs.Option.{is_some}
 use Rattle.std.specs.List.{Contains}
 use Rattle.std.proofs.lemmas.Bool.{cases_eq, cases_lt, false≢true}
@@ -61,6 +61,14 @@ behind_yes pairs marks behind k x y inside is first second b = record {
     | inr other ↦ set_kept behind y w (b.all i v w (omega (arith, below, other)) at one two)
   ];
 }
+
+pub none_open : (n y : ℕ) (marks : List Bool) → marks ≡ replicate n false → IsOpen marks y → ⊥
+none_open n y marks is marked = false≢true (sym (at_false n y) ∙ ap (λ m. get_or m y false) (sym is) ∙ marked)
+  where
+    at_false : (n y : ℕ) → get_or (replicate n false) y false ≡ false
+    at_false zero y = refl
+    at_false (suc n) zero = refl
+    at_false (suc n) (suc y) = at_false n y
 
 pub each_marked : (marks : List Bool) (n : ℕ) (P : ℕ → Type 0) → length marks ≤ n → ((k : ℕ) → k < n → IsOpen marks k → P k) → (y : ℕ) → IsOpen marks y → P y
 each_marked marks n P past below y is =
