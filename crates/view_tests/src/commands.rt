@@ -6,6 +6,7 @@ use std::cell::RefCell;
 use std::fmt::Display;
 use std::io;
 use std::process::{Abort, ExitCode};
+use std::sync::Wait;
 use std::thread::Threads;
 
 /// A runtime that keeps what is printed: on standard output, and on standard error.
@@ -74,7 +75,7 @@ finished
 /// What a command line sends to its sink, prints, and prints on standard error; and its status.
 type Told = (Vec<u8>, Kept, ExitCode);
 
-fn labrun<R: Threads + Sync>(rt: &R, alloc: Global, words: &[&str], input: &str) -> Told {
+fn labrun<R: Threads + Wait + Sync>(rt: &R, alloc: Global, words: &[&str], input: &str) -> Told {
     let kept = Kept::new(alloc);
     let mut bytes = Vec::new(alloc);
     let mut source = FromRead::new(input.as_bytes());
