@@ -7,7 +7,7 @@ use Rattle.lab_program.specs.declared.reading.ReadFault.TheVariants as reading
 use Rattle.lab_program.specs.declared.faults.RunFault.{RunFault}
 use Rattle.lab_program.specs.declared.faults.Outcome.{Outcome}
 use Rattle.lab_program.specs.declared.faults.Outcome.TheVariants.{Finished, Unfinished}
-use Rattle.lab_program.specs.Faults.{fault_of, reads_failed_by}
+use Rattle.lab_program.specs.Faults.{fault_of}
 use Rattle.lab_program.specs.Input.{IsTooLong}
 use Rattle.lab_program.specs.Answers.{AnswersFor, AnswersTo, ScriptRefuses}
 use Rattle.lab_program.proofs.RunAnswers.{for_read, not_read}
@@ -25,7 +25,7 @@ use Rattle.lab_views.specs.Traces.{Traces}
 use Rattle.lab_views.specs.Waits.{TellsWaits}
 use Rattle.lab_views.specs.Blocks.{TellsBlocks}
 use Rattle.lab_views.specs.Gantts.{DrawsRun}
-use Rattle.lab_views.specs.Answered.{ForReport, ForScript, IsGiven, IsReport, IsScript, NotRead, TellsOfReport, TellsOfScript, ViewAnswers, ViewAnswersFor, failed_view_reads, failed_view_writes}
+use Rattle.lab_views.specs.Answered.{ForReport, ForScript, IsGiven, IsReport, IsScript, NotRead, TellsOfReport, TellsOfScript, ViewAnswers, ViewAnswersFor}
 
 -- ---- what is told of an answer
 
@@ -130,42 +130,3 @@ unread (Trace limit) left old e told is long = script_unread (Traces limit) Scri
 unread (Waits limit) left old e told is long = script_unread (TellsWaits limit) ScriptRefuses left old e told is long
 unread (Blocks limit) left old e told is long = script_unread (TellsBlocks limit) ScriptRefuses left old e told is long
 unread (Gantt limit) left old e told is long = script_unread (DrawsRun limit) ScriptRefuses left old e told is long
-
--- ---- what is counted then
-
--- what is told of an input that was not read
-by_view : (P : ViewFault → Type 0) (view : View) (e : ReadFault) (told : ViewFault) → NotRead view e told → P (OfScript (fault_of e)) → P (OfReport (for_reading e)) → P told
-by_view P Explain e told is script report = subst P (sym is) script
-by_view P Picture e told is script report = subst P (sym is) report
-by_view P Table e told is script report = subst P (sym is) report
-by_view P Arrange e told is script report = subst P (sym is) script
-by_view P (Trace limit) e told is script report = subst P (sym is) script
-by_view P (Waits limit) e told is script report = subst P (sym is) script
-by_view P (Blocks limit) e told is script report = subst P (sym is) script
-by_view P (Gantt limit) e told is script report = subst P (sym is) script
-
-script_reads : (e : ReadFault) → failed_view_reads (Err (OfScript (fault_of e))) ≡ reads_failed_by e
-script_reads reading.Read = refl
-script_reads reading.TooLong = refl
-script_reads reading.NoMemory = refl
-
-report_reads : (e : ReadFault) → failed_view_reads (Err (OfReport (for_reading e))) ≡ reads_failed_by e
-report_reads reading.Read = refl
-report_reads reading.TooLong = refl
-report_reads reading.NoMemory = refl
-
-pub reads_of : (view : View) (e : ReadFault) (told : ViewFault) → NotRead view e told → failed_view_reads (Err told) ≡ reads_failed_by e
-reads_of view e told is = by_view (λ t. failed_view_reads (Err t) ≡ reads_failed_by e) view e told is (script_reads e) (report_reads e)
-
-script_writes : (e : ReadFault) → failed_view_writes (Err (OfScript (fault_of e))) ≡ 0
-script_writes reading.Read = refl
-script_writes reading.TooLong = refl
-script_writes reading.NoMemory = refl
-
-report_writes : (e : ReadFault) → failed_view_writes (Err (OfReport (for_reading e))) ≡ 0
-report_writes reading.Read = refl
-report_writes reading.TooLong = refl
-report_writes reading.NoMemory = refl
-
-pub writes_of : (view : View) (e : ReadFault) (told : ViewFault) → NotRead view e told → failed_view_writes (Err told) ≡ 0
-writes_of view e told is = by_view (λ t. failed_view_writes (Err t) ≡ 0) view e told is (script_writes e) (report_writes e)
