@@ -11,7 +11,7 @@ use Rattle.lab_program.specs.declared.reading.ReadFault.{ReadFault}
 use Rattle.lab_program.specs.declared.faults.RunFault.{RunFault}
 use Rattle.lab_program.specs.declared.faults.RunFault.TheVariants as run
 use Rattle.lab_program.specs.declared.faults.Outcome.{Outcome}
-use Rattle.lab_program.specs.declared.faults.Outcome.TheVariants.{Finished, Unfinished}
+use Rattle.lab_program.specs.declared.faults.Outcome.TheVariants.{Finished}
 use Rattle.lab_program.specs.Faults.{failed_reads, failed_writes, fault_of, status_of}
 use Rattle.lab_program.specs.Input.{IsInput}
 use Rattle.lab_program.specs.Answers.{AnswersFor, ScriptRefuses}
