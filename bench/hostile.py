@@ -98,6 +98,13 @@ def check_view_words(cases):
     for words in ("--help", "-h", "waits --help", "gantt 9 -h"):
         out, errors, status = cases.run(words.split())
         cases.tell("labview " + words, None if status == 0 and not errors and b"Usage: labview" in out else out)
+    report = simulate.simulate(PAIR, 9)[0].encode()
+    for words in ("picture", "table"):
+        cases.ends("a script for labview " + words, cases.run([words], PAIR), 1,
+                   "line 2: this is a script; %s reads a report: labrun < script | labview %s" % (words, words))
+    for words in ("explain", "arrange", "trace 9", "waits 9", "blocks 9", "gantt 9"):
+        cases.ends("a report for labview " + words, cases.run(words.split(), report), 1,
+                   "line 2: this is a report; %s reads a script" % words.split()[0])
 
 
 def check_faults(cases):

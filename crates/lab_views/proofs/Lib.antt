@@ -1,3 +1,4 @@
+pub mod Answered
 pub mod Explained
 pub mod Drawn
 pub mod Traced

@@ -1,4 +1,5 @@
 pub mod Views
+pub mod Answered
 pub mod Pictures
 pub mod Tables
 pub mod Traces

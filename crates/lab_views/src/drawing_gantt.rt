@@ -29,7 +29,7 @@ fn text_of<A: Allocator>(
 }
 
 /// Draws the run of an input.
-fn draw_run<A: Allocator + Copy, W: Sink>(
+pub(crate) fn draw_run<A: Allocator + Copy, W: Sink>(
     alloc: A,
     input: &[u8],
     sink: &mut W,

@@ -2,6 +2,7 @@
 //! settled by its bytes.
 #![tactic(auto)]
 
+mod asking;
 mod drawing_gantt;
 mod ending;
 pub mod laws;
@@ -13,9 +14,12 @@ mod tabulating;
 mod telling_blocks;
 mod telling_waits;
 mod tracing;
+mod view_fault;
+mod viewing;
 
+pub use asking::run_words;
 pub use drawing_gantt::run_gantt;
-pub use ending::{end_arranged, end_picture, end_trace};
+pub use ending::end_view;
 pub use labview_words::{PROGRAM, View, read_words};
 pub use picture_fault::{PictureFault, status_of_picture};
 pub use picturing::run_picture;
@@ -25,3 +29,5 @@ pub use tabulating::run_table;
 pub use telling_blocks::run_blocks;
 pub use telling_waits::run_waits;
 pub use tracing::run_trace;
+pub use view_fault::{ViewFault, status_of_view};
+pub use viewing::run_view;

@@ -30,7 +30,7 @@ fn send_picture<A: Allocator, W: Sink>(
 }
 
 /// Writes the picture of an input.
-fn draw_input<A: Allocator + Copy, W: Sink>(
+pub(crate) fn draw_input<A: Allocator + Copy, W: Sink>(
     alloc: A,
     input: &[u8],
     sink: &mut W,

@@ -12,7 +12,7 @@ use script_reader::read_plan;
 use std::alloc::Allocator;
 
 /// Writes an input with its jobs in another order.
-fn arrange_input<A: Allocator + Copy, W: Sink>(
+pub(crate) fn arrange_input<A: Allocator + Copy, W: Sink>(
     alloc: A,
     input: &[u8],
     sink: &mut W,

@@ -12,7 +12,7 @@ use script_reader::read_steps;
 use std::alloc::Allocator;
 
 /// Writes the explanation of an input.
-fn explain_input<A: Allocator + Copy, W: Sink>(
+pub(crate) fn explain_input<A: Allocator + Copy, W: Sink>(
     alloc: A,
     input: &[u8],
     sink: &mut W,

@@ -12,7 +12,7 @@ use report_reader::read_report;
 use std::alloc::Allocator;
 
 /// Writes the table of an input.
-fn tabulate_input<A: Allocator + Copy, W: Sink>(
+pub(crate) fn tabulate_input<A: Allocator + Copy, W: Sink>(
     alloc: A,
     input: &[u8],
     sink: &mut W,

@@ -37,7 +37,7 @@ fn blocks_of<A: Allocator + Copy>(
 }
 
 /// Writes who keeps whom waiting, of an input.
-fn blocks_input<A: Allocator + Copy, W: Sink>(
+pub(crate) fn blocks_input<A: Allocator + Copy, W: Sink>(
     alloc: A,
     input: &[u8],
     sink: &mut W,

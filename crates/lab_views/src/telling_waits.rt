@@ -32,7 +32,7 @@ fn waits_of<A: Allocator>(
 }
 
 /// Writes the waits of an input.
-fn waits_input<A: Allocator + Copy, W: Sink>(
+pub(crate) fn waits_input<A: Allocator + Copy, W: Sink>(
     alloc: A,
     input: &[u8],
     sink: &mut W,

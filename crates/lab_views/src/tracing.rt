@@ -108,7 +108,7 @@ fn outcome_for(events: &[Event], text: &[u8]) -> Outcome
 }
 
 /// Writes the trace of an input.
-fn trace_input<A: Allocator + Copy, W: Sink>(
+pub(crate) fn trace_input<A: Allocator + Copy, W: Sink>(
     alloc: A,
     input: &[u8],
     sink: &mut W,

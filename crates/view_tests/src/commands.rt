@@ -1,4 +1,4 @@
-//! Whole command lines: what goes out, what is printed on standard error, and the status.
+//! Whole command lines of both programs: what goes out, what is printed on standard error, and the status.
 use lab_program::FromRead;
 use report::ToWrite;
 use std::alloc::{AllocError, Global};
@@ -6,6 +6,7 @@ use std::cell::RefCell;
 use std::fmt::Display;
 use std::io;
 use std::process::{Abort, ExitCode};
+use std::sync::Wait;
 use std::thread::Threads;
 
 /// A runtime that keeps what is printed: on standard output, and on standard error.
@@ -74,12 +75,21 @@ finished
 /// What a command line sends to its sink, prints, and prints on standard error; and its status.
 type Told = (Vec<u8>, Kept, ExitCode);
 
-fn labrun<R: Threads + Sync>(rt: &R, alloc: Global, words: &[&str], input: &str) -> Told {
+fn labrun<R: Threads + Wait + Sync>(rt: &R, alloc: Global, words: &[&str], input: &str) -> Told {
     let kept = Kept::new(alloc);
     let mut bytes = Vec::new(alloc);
     let mut source = FromRead::new(input.as_bytes());
     let mut sink = ToWrite::new(&mut bytes);
     let status = lab_runs::run_words(rt, &kept, alloc, words, &mut source, &mut sink);
+    (bytes, kept, status)
+}
+
+fn labview(alloc: Global, words: &[&str], input: &str) -> Told {
+    let kept = Kept::new(alloc);
+    let mut bytes = Vec::new(alloc);
+    let mut source = FromRead::new(input.as_bytes());
+    let mut sink = ToWrite::new(&mut bytes);
+    let status = lab_views::run_words(&kept, alloc, words, &mut source, &mut sink);
     (bytes, kept, status)
 }
 
@@ -117,4 +127,69 @@ fn command_lines_of_labrun(rt: HostRuntime) {
         let told = labrun(&rt, rt.alloc(), words, input);
         ends(&rt, told, out, errors, status);
     }
+}
+
+#[test]
+fn command_lines_of_labview(rt: HostRuntime) {
+    let table = "instrument,entry,job,session,place,length,verb,number,value\n";
+    for (words, input, errors, status) in [
+        (
+            ["labview"].as_slice(),
+            SCRIPT,
+            "labview: command line refused: a command is missing; see labview --help\n",
+            2,
+        ),
+        (
+            ["labview", "wait", "9"].as_slice(),
+            SCRIPT,
+            "labview: command line refused: unrecognized subcommand 'wait'; see labview --help\n",
+            2,
+        ),
+        (
+            ["labview", "waits"].as_slice(),
+            SCRIPT,
+            "labview: command line refused: the following required arguments were not provided: <N>; see labview --help\n",
+            2,
+        ),
+        (
+            ["labview", "picture"].as_slice(),
+            SCRIPT,
+            "labview: line 2: this is a script; picture reads a report: labrun < script | labview picture\n",
+            1,
+        ),
+        (
+            ["labview", "table"].as_slice(),
+            SCRIPT,
+            "labview: line 2: this is a script; table reads a report: labrun < script | labview table\n",
+            1,
+        ),
+        (
+            ["labview", "picture"].as_slice(),
+            "lab 1\nscale\n",
+            "labview: line 2: not a line of a report\n",
+            1,
+        ),
+        (
+            ["labview", "gantt", "9"].as_slice(),
+            REPORT,
+            "labview: line 2: this is a report; gantt reads a script\n",
+            1,
+        ),
+        (
+            ["labview", "explain"].as_slice(),
+            REPORT,
+            "labview: line 2: this is a report; explain reads a script\n",
+            1,
+        ),
+        (
+            ["labview", "waits", "9"].as_slice(),
+            "",
+            "labview: line 1: S1 no lab header\n",
+            1,
+        ),
+    ] {
+        ends(&rt, labview(rt.alloc(), words, input), "", errors, status);
+    }
+    let told = labview(rt.alloc(), &["labview", "table"], "lab 1\nfinished\n");
+    ends(&rt, told, table, "", 0);
 }

@@ -1,0 +1,132 @@
+-- From what a view answers for an input to what it answers for a source.
+use Rattle.std.proofs.Common.{◌≡◌, ℕ, ◌≤◌, List, Option, Result, Ok, Err, length, refl, sym, subst}
+use Rattle.std.specs.Prelude.{IfSome}
+use Rattle.std.proofs.KnownBytes.{Keeps-refl}
+use Rattle.lab_program.specs.declared.reading.ReadFault.{ReadFault}
+use Rattle.lab_program.specs.declared.reading.ReadFault.TheVariants as reading
+use Rattle.lab_program.specs.declared.faults.RunFault.{RunFault}
+use Rattle.lab_program.specs.declared.faults.Outcome.{Outcome}
+use Rattle.lab_program.specs.declared.faults.Outcome.TheVariants.{Finished, Unfinished}
+use Rattle.lab_program.specs.Faults.{fault_of}
+use Rattle.lab_program.specs.Input.{IsTooLong}
+use Rattle.lab_program.specs.Answers.{AnswersFor, AnswersTo, ScriptRefuses}
+use Rattle.lab_program.proofs.RunAnswers.{for_read, not_read}
+use Rattle.labview_words.specs.declared.words.View.{View}
+use Rattle.labview_words.specs.declared.words.View.TheVariants.{Explain, Picture, Table, Arrange, Trace, Waits, Blocks, Gantt}
+use Rattle.lab_views.specs.declared.picture_fault.PictureFault.{PictureFault}
+use Rattle.lab_views.specs.declared.picture_fault.PictureFault.TheVariants.{Report, Timeline, Read, TooLong, Write, NoMemory}
+use Rattle.lab_views.specs.declared.view_fault.ViewFault.{ViewFault}
+use Rattle.lab_views.specs.declared.view_fault.ViewFault.TheVariants.{OfScript, OfReport, GivenScript, GivenReport}
+use Rattle.lab_views.specs.Views.{Explains, StepsAreRefused}
+use Rattle.lab_views.specs.Pictures.{DrawsFor, PictureAnswers, for_reading}
+use Rattle.lab_views.specs.Tables.{TabulatesFor, TableAnswers}
+use Rattle.lab_views.specs.Arranged.{Arranges}
+use Rattle.lab_views.specs.Traces.{Traces}
+use Rattle.lab_views.specs.Waits.{TellsWaits}
+use Rattle.lab_views.specs.Blocks.{TellsBlocks}
+use Rattle.lab_views.specs.Gantts.{DrawsRun}
+use Rattle.lab_views.specs.Answered.{ForReport, ForScript, IsGiven, IsReport, IsScript, NotRead, TellsOfReport, TellsOfScript, ViewAnswers, ViewAnswersFor}
+
+-- ---- what is told of an answer
+
+of_script_on : (A B : Type 0) → (A → B) → (answer : Result Outcome RunFault) (r : Result Outcome ViewFault) → TellsOfScript A answer r → TellsOfScript B answer r
+of_script_on A B f answer (Ok outcome) t = t
+of_script_on A B f answer (Err (OfScript fault)) t = t
+of_script_on A B f answer (Err (OfReport fault)) t = t
+of_script_on A B f answer (Err (GivenScript line view)) t = t
+of_script_on A B f answer (Err (GivenReport line view)) t = (t.0, t.1, t.2, f t.3)
+
+of_report_on : (A B : Type 0) → (A → B) → (answer : Result (Unit {0}) PictureFault) (r : Result Outcome ViewFault) → TellsOfReport A answer r → TellsOfReport B answer r
+of_report_on A B f answer (Ok Finished) t = t
+of_report_on A B f answer (Ok Unfinished) t = t
+of_report_on A B f answer (Err (OfScript fault)) t = t
+of_report_on A B f answer (Err (OfReport fault)) t = t
+of_report_on A B f answer (Err (GivenScript line view)) t = (t.0, t.1, t.2, f t.3)
+of_report_on A B f answer (Err (GivenReport line view)) t = t
+
+-- ---- inputs that are read
+
+given : (Is : List ℕ → Type 0) (left : Option (List ℕ)) (seen input : List ℕ) → seen ≡ input → IfSome left (λ all. input ≡ all) → length input ≤ 16777216
+    → Is seen → IsGiven Is left
+given Is left seen input is whole within it = (input, record { whole = whole; within = within }, subst Is is it)
+
+script_at : (Writes : List ℕ → List ℕ → Outcome → Type 0) (Refuses : List ℕ → RunFault → Type 0)
+    (left old new : Option (List ℕ)) (seen input : List ℕ) (r : Result Outcome ViewFault)
+    → seen ≡ input → IfSome left (λ all. input ≡ all) → length input ≤ 16777216
+    → ForScript (λ a. AnswersFor Writes Refuses seen old new a) (IsReport seen) r → ForScript (λ a. AnswersTo Writes Refuses left old new a) (IsGiven IsReport left) r
+script_at W R left old new seen input r is whole within a = (
+  a.0,
+  for_read W R left old new seen input a.0 is whole within a.1,
+  of_script_on (IsReport seen) (IsGiven IsReport left) (given IsReport left seen input is whole within) a.0 r a.2,
+)
+
+picture_at : (left old new : Option (List ℕ)) (input : List ℕ) (a : Result (Unit {0}) PictureFault)
+    → IfSome left (λ all. input ≡ all) → length input ≤ 16777216 → DrawsFor input old new a → PictureAnswers left old new a
+picture_at left old new input (Ok done) whole within d = (input, record { whole = whole; within = within }, d)
+picture_at left old new input (Err (Report fault)) whole within d = (input, record { whole = whole; within = within }, d)
+picture_at left old new input (Err (Timeline fault)) whole within d = (input, record { whole = whole; within = within }, d)
+picture_at left old new input (Err Write) whole within d = (input, record { whole = whole; within = within }, d)
+picture_at left old new input (Err Read) whole within d = absurd d
+picture_at left old new input (Err TooLong) whole within d = absurd d
+picture_at left old new input (Err NoMemory) whole within d = d
+
+table_at : (left old new : Option (List ℕ)) (input : List ℕ) (a : Result (Unit {0}) PictureFault)
+    → IfSome left (λ all. input ≡ all) → length input ≤ 16777216 → TabulatesFor input old new a → TableAnswers left old new a
+table_at left old new input (Ok done) whole within d = (input, record { whole = whole; within = within }, d)
+table_at left old new input (Err (Report fault)) whole within d = (input, record { whole = whole; within = within }, d)
+table_at left old new input (Err (Timeline fault)) whole within d = absurd d
+table_at left old new input (Err Write) whole within d = (input, record { whole = whole; within = within }, d)
+table_at left old new input (Err Read) whole within d = absurd d
+table_at left old new input (Err TooLong) whole within d = absurd d
+table_at left old new input (Err NoMemory) whole within d = d
+
+pub at_source : (view : View) (left old new : Option (List ℕ)) (seen input : List ℕ) (r : Result Outcome ViewFault)
+    → seen ≡ input → IfSome left (λ all. input ≡ all) → length input ≤ 16777216 → ViewAnswersFor view seen old new r → ViewAnswers view left old new r
+at_source Explain left old new seen input r is whole within a = script_at Explains StepsAreRefused left old new seen input r is whole within a
+at_source Picture left old new seen input r is whole within a = (
+  a.0,
+  picture_at left old new input a.0 whole within (subst (λ t. DrawsFor t old new a.0) is a.1),
+  of_report_on (IsScript seen) (IsGiven IsScript left) (given IsScript left seen input is whole within) a.0 r a.2,
+)
+at_source Table left old new seen input r is whole within a = (
+  a.0,
+  table_at left old new input a.0 whole within (subst (λ t. TabulatesFor t old new a.0) is a.1),
+  of_report_on (IsScript seen) (IsGiven IsScript left) (given IsScript left seen input is whole within) a.0 r a.2,
+)
+at_source Arrange left old new seen input r is whole within a = script_at Arranges ScriptRefuses left old new seen input r is whole within a
+at_source (Trace limit) left old new seen input r is whole within a = script_at (Traces limit) ScriptRefuses left old new seen input r is whole within a
+at_source (Waits limit) left old new seen input r is whole within a = script_at (TellsWaits limit) ScriptRefuses left old new seen input r is whole within a
+at_source (Blocks limit) left old new seen input r is whole within a = script_at (TellsBlocks limit) ScriptRefuses left old new seen input r is whole within a
+at_source (Gantt limit) left old new seen input r is whole within a = script_at (DrawsRun limit) ScriptRefuses left old new seen input r is whole within a
+
+-- ---- inputs that are not read
+
+script_unread : (Writes : List ℕ → List ℕ → Outcome → Type 0) (Refuses : List ℕ → RunFault → Type 0) (left old : Option (List ℕ)) (e : ReadFault) (told : ViewFault)
+    → told ≡ OfScript (fault_of e) → (e ≡ reading.TooLong → IsTooLong left)
+    → ForScript (λ a. AnswersTo Writes Refuses left old old a) (IsGiven IsReport left) (Err told)
+script_unread W R left old e told is long =
+    subst (λ t. ForScript (λ a. AnswersTo W R left old old a) (IsGiven IsReport left) (Err t)) (sym is)
+    (Err (fault_of e), not_read W R left old e (Err (fault_of e)) refl long, refl)
+
+picture_unread : (left old : Option (List ℕ)) (e : ReadFault) → (e ≡ reading.TooLong → IsTooLong left) → PictureAnswers left old old (Err (for_reading e))
+picture_unread left old reading.Read long = Keeps-refl old
+picture_unread left old reading.TooLong long = (long refl, Keeps-refl old)
+picture_unread left old reading.NoMemory long = Keeps-refl old
+
+table_unread : (left old : Option (List ℕ)) (e : ReadFault) → (e ≡ reading.TooLong → IsTooLong left) → TableAnswers left old old (Err (for_reading e))
+table_unread left old reading.Read long = Keeps-refl old
+table_unread left old reading.TooLong long = (long refl, Keeps-refl old)
+table_unread left old reading.NoMemory long = Keeps-refl old
+
+pub unread : (view : View) (left old : Option (List ℕ)) (e : ReadFault) (told : ViewFault) → NotRead view e told → (e ≡ reading.TooLong → IsTooLong left)
+    → ViewAnswers view left old old (Err told)
+unread Explain left old e told is long = script_unread Explains StepsAreRefused left old e told is long
+unread Picture left old e told is long =
+    subst (λ t. ForReport (λ a. PictureAnswers left old old a) (IsGiven IsScript left) (Err t)) (sym is) (Err (for_reading e), picture_unread left old e long, refl)
+unread Table left old e told is long =
+    subst (λ t. ForReport (λ a. TableAnswers left old old a) (IsGiven IsScript left) (Err t)) (sym is) (Err (for_reading e), table_unread left old e long, refl)
+unread Arrange left old e told is long = script_unread Arranges ScriptRefuses left old e told is long
+unread (Trace limit) left old e told is long = script_unread (Traces limit) ScriptRefuses left old e told is long
+unread (Waits limit) left old e told is long = script_unread (TellsWaits limit) ScriptRefuses left old e told is long
+unread (Blocks limit) left old e told is long = script_unread (TellsBlocks limit) ScriptRefuses left old e told is long
+unread (Gantt limit) left old e told is long = script_unread (DrawsRun limit) ScriptRefuses left old e told is long
