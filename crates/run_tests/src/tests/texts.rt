@@ -13,6 +13,14 @@ fn is_told(answer: &Result<Task, NoTask>, want: Option<Task>) -> bool {
     }
 }
 
+/// Whether help was asked for, and this is its text.
+fn is_help(answer: &Result<Task, NoTask>, wanted: &str) -> bool {
+    match answer {
+        Err(NoTask::Help(text)) => text.as_str() == wanted,
+        _ => false,
+    }
+}
+
 fn rounds(limit: u32) -> Option<Task> {
     Some(Task::Rounds { limit })
 }
@@ -173,11 +181,8 @@ Example: two jobs take turns on a scale, and each turns its dial on by 1
 
 #[test]
 fn help(rt: HostRuntime) {
-    let text = match read_words(rt.alloc(), &["labrun", "--help"]) {
-        Err(NoTask::Help(text)) => text,
-        _ => String::new(rt.alloc()),
-    };
-    assert!(rt; text.as_str() == HELP, "{text}");
+    let answer = read_words(rt.alloc(), &["labrun", "--help"]);
+    assert!(rt; is_help(&answer, HELP));
 }
 
 const THREADS_HELP: &str =
@@ -212,11 +217,8 @@ fn lines_that_ask_for_help(rt: HostRuntime) {
             THREADS_HELP,
         ),
     ] {
-        let text = match read_words(rt.alloc(), words) {
-            Err(NoTask::Help(text)) => text,
-            _ => String::new(rt.alloc()),
-        };
-        assert!(rt; text.as_str() == wanted, "{text}");
+        let answer = read_words(rt.alloc(), words);
+        assert!(rt; is_help(&answer, wanted));
     }
 }
 
