@@ -2,6 +2,8 @@
 #![tactic(auto)]
 
 #[cfg(test)]
+mod millions;
+#[cfg(test)]
 mod reading;
 #[cfg(test)]
 mod rows;

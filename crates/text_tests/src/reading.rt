@@ -17,7 +17,7 @@ use std::alloc::{Allocator, Global};
 use std::fmt::Display;
 use std::process::Abort;
 
-mod limits;
+pub(crate) mod limits;
 mod memory;
 
 type Fault = Option<(usize, ScriptCause)>;
@@ -425,7 +425,7 @@ fn fault_of_plan(rt: &impl Abort, alloc: Global, parts: &[&str]) -> Fault {
 }
 
 /// That of a script with steps.
-fn fault_of_steps(rt: &impl Abort, alloc: Global, parts: &[&str]) -> Fault {
+pub(crate) fn fault_of_steps(rt: &impl Abort, alloc: Global, parts: &[&str]) -> Fault {
     let text = joined(rt, alloc, parts);
     told(read_steps(alloc, &text))
 }

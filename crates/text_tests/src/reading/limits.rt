@@ -3,8 +3,8 @@ use super::{Fault, fault_of_plan, fault_of_steps, told};
 use crate::rows::check;
 use legal_steps::StepLine;
 use script_reader::ScriptCause::{
-    BadName, BadNumber, BadStep, JobTwice, LimitPassed, NotInSession, SessionNotClosed,
-    TooManyInCommon, UnknownWord,
+    BadName, BadNumber, JobTwice, LimitPassed, NotInSession, SessionNotClosed, TooManyInCommon,
+    UnknownWord,
 };
 use script_reader::{read_plan, read_steps};
 use std::alloc::{Allocator, Global};
@@ -131,7 +131,7 @@ fn causes_before_limits(rt: HostRuntime) {
 }
 
 /// A job, and these lines so many times behind the word `steps`.
-pub(super) fn steps_text(rt: &impl Abort, alloc: Global, lines: &str, times: usize) -> String {
+pub(crate) fn steps_text(rt: &impl Abort, alloc: Global, lines: &str, times: usize) -> String {
     let mut text = String::new(alloc);
     add(rt, &mut text, "lab 1\njob a\nsteps\n");
     for _ in 0..times {
@@ -141,7 +141,7 @@ pub(super) fn steps_text(rt: &impl Abort, alloc: Global, lines: &str, times: usi
 }
 
 /// The text has so many steps of one job, in a list with no more room than this.
-fn check_sits<A: Allocator + Copy>(
+pub(crate) fn check_sits<A: Allocator + Copy>(
     rt: &impl Abort,
     alloc: A,
     text: &str,
@@ -160,21 +160,6 @@ fn check_sits<A: Allocator + Copy>(
         }
         Err(fault) => check(rt, count, Some(fault), None),
     }
-}
-
-#[test]
-fn steps(rt: HostRuntime) {
-    let text = steps_text(&rt, rt.alloc(), "sit a\n", 1_000_000);
-    check_sits(&rt, rt.alloc(), &text, 1_000_000, 1 << 21);
-    let past = fault_of_steps(&rt, rt.alloc(), &[&text, "#\n\nsit a"]);
-    check(&rt, "one more", past, Some((1_000_006, LimitPassed)));
-}
-
-#[test]
-fn bad_step_past_the_limit(rt: HostRuntime) {
-    let text = steps_text(&rt, rt.alloc(), "sit a\n", 1_000_000);
-    let bad = fault_of_steps(&rt, rt.alloc(), &[&text, "sit"]);
-    check(&rt, "bad", bad, Some((1_000_004, BadStep)));
 }
 
 /// A step takes 16 bytes, and the list has room for at most twice as many steps as it has.
