@@ -9,6 +9,7 @@ use Rattle.edge_word.specs.Words.{word_of, IsOfBottles}
 use Rattle.edge_word.specs.Phases.{phase_word_of, FitsPhaseWord}
 use Rattle.one_history.specs.Rule.{edge_place, phase_place, word_count}
 use Rattle.edge_rule.specs.ClosedView.{ClosedView}
+use Rattle.edge_rule.specs.Ending.{HasLegalLogs}
 use Rattle.edge_rule.specs.declared.closed.Closed.TheInside.{Inside}
 
 abbrev pub view_of : {A : Type 0} → Inside A → ClosedView
@@ -26,3 +27,4 @@ pub record IsClosed {A : Type 0} (c : Inside A) : Type 0 where
   pub words : AreWords c.plan.now (slots_items c.left.words)
   pub logs_there : length (slots_items c.left.slots) ≡ length c.plan.now.instruments
   pub counts_there : length c.counts.items ≡ length c.plan.now.jobs
+  pub legal_logs : HasLegalLogs c.plan.now (view_of c)

@@ -79,3 +79,10 @@ pub record IsEnd (p : LabPlan) (desks : List DeskView) (c : ClosedView) : Type 0
   pub phases : (j : ℕ) → j < length p.jobs → phase_in c j ≡ phase (state_after p history) j
   pub logs : (i : ℕ) → i < length p.instruments → log_in c i ≡ log_with_room p (state_after p history) i
   pub counts : (j : ℕ) → j < length p.jobs → counts_in c j ≡ counts_of j history
+
+-- the logs of a closed bench are those at the end of a list of events that is legal from THE opening
+pub record HasLegalLogs (p : LabPlan) (c : ClosedView) : Type 0 where
+  pub is_plan : IsPlan p
+  pub history : List Event
+  pub legal : IsHistory p history
+  pub logs : (i : ℕ) → i < length p.instruments → log_in c i ≡ log_with_room p (state_after p history) i

@@ -6,6 +6,7 @@ ghost use Rattle.edge_word.specs.Words.{IsOfBottles};
 ghost use Rattle.edge_word.specs.Phases.{FitsPhaseWord};
 ghost use Rattle.legal_steps.specs.declared.phase.Drinking.TheVariants.{Retired};
 ghost use Rattle.edge_rule.specs.ClosedView.{edge_in, phase_in, log_in, counts_in};
+ghost use Rattle.edge_rule.specs.Ending.{HasLegalLogs};
 
 use crate::words::{edge_place, job_number, phase_place, unpacked, unpacked_phase};
 use atomic_table::Closed as Left;
@@ -70,7 +71,8 @@ impl<'p, A: Allocator> Closed<'p, A> {
     /// The log of an instrument.
     pub fn log(&self, instrument: InstrumentNo) -> &InstrumentLog<A>
         requires { instrument < length self.now.plan.instruments }
-        ensures { result.now ≡ log_in self.now instrument }
+        ensures log { result.now ≡ log_in self.now instrument }
+        ensures legal { HasLegalLogs self.now.plan self.now }
     {
         self.left.slots.get(instrument.0 as usize)
     }

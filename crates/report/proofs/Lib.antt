@@ -1,3 +1,4 @@
 pub mod Prefixes
+pub mod OfPlan
 pub mod OneReport
 pub mod EventReport

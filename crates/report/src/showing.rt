@@ -29,7 +29,8 @@ pub trait Showing<P: Allocator> {
     fn entry(&self, instrument: InstrumentNo, index: usize) -> Entry
         requires is_instrument { instrument < length (plan self.now).instruments }
         requires is_entry { index < length ((shown self.now).log instrument) }
-        ensures { slice_get ((shown self.now).log instrument) index ≡ Some result };
+        ensures entry { slice_get ((shown self.now).log instrument) index ≡ Some result }
+        ensures of_plan { result.job < length (plan self.now).jobs };
 
     /// What is told of a job.
     fn tally(&self, job: JobNo) -> JobTally

@@ -1,7 +1,7 @@
 //! The report of a run, a line at a time.
-ghost use Rattle.std.specs.Prelude.{◌≡◌, ℕ, ◌<◌, ◌≤◌, length};
+ghost use Rattle.std.specs.Prelude.{◌≡◌, ℕ, ◌<◌, length};
 ghost use Rattle.std.specs.List.{flat_map};
-ghost use Rattle.lab_plan.specs.Texts.{job_name, instrument_name};
+ghost use Rattle.lab_plan.specs.Texts.{instrument_name};
 ghost use Rattle.report.specs.Taken.{Sends};
 ghost use Rattle.report.specs.Report.{instrument_line, entry_text, log_text, tally_text, all_retired, last_line, report_of, jobs, instruments};
 
@@ -11,7 +11,7 @@ use crate::offering::{WriteFault, offer};
 use crate::showing::Showing;
 use crate::sink::Sink;
 use instrument_log::Entry;
-use lab_plan::{InstrumentNo, JobNo, Plan};
+use lab_plan::{InstrumentNo, JobNo};
 use std::alloc::Allocator;
 
 /// An instrument, with the number of its entries.
@@ -28,19 +28,6 @@ fn write_instrument<R: Showing<P>, P: Allocator, W: Sink>(
     offer(sink, line.as_bytes())
 }
 
-/// The name of an entry's job. It is empty where the plan has no such job: no bench and no world has such an entry, but `Showing`
-/// doesn't ask for a proof of it.
-fn writer_name<P: Allocator>(plan: &Plan<P>, job: JobNo) -> &[u8]
-    ensures name { result.now ≡ job_name plan.now job }
-    ensures short { length result.now ≤ 16 }
-{
-    if usize::from(job.0) < plan.jobs() {
-        plan.job_name(job)
-    } else {
-        b""
-    }
-}
-
 /// An entry of a log, in place of what the line had.
 fn write_entry<R: Showing<P>, P: Allocator, W: Sink>(
     run: &R,
@@ -48,10 +35,11 @@ fn write_entry<R: Showing<P>, P: Allocator, W: Sink>(
     line: &mut TextLine,
     sink: &mut W,
 ) -> Result<(), WriteFault>
+    requires { entry.job < length (R.plan run.now).jobs }
     ensures { Sends W.taken W.failures sink.old sink.new (entry_text (R.plan run.now) entry) result }
 {
     line.clear();
-    add_entry(line, writer_name(run.plan(), entry.job), &entry);
+    add_entry(line, run.plan().job_name(entry.job), &entry);
     offer(sink, line.as_bytes())
 }
 

@@ -9,7 +9,7 @@ use Rattle.one_history.specs.declared.board.View.{View}
 use Rattle.edge_rule.specs.ClosedView.{ClosedView}
 use Rattle.edge_rule.specs.ClosedInside.{AreWords}
 use Rattle.edge_rule.specs.DeskView.{DeskView, BenchView, Owns}
-use Rattle.edge_rule.specs.Ending.{HasAll, IsEnd}
+use Rattle.edge_rule.specs.Ending.{HasAll, HasLegalLogs, IsEnd}
 use Rattle.locality.proofs.Runs.{each_map}
 use Rattle.edge_rule.proofs.Endings.{ends, words_fit, logs_fit}
 use Rattle.one_history.proofs.Seats.{enters}
@@ -37,12 +37,20 @@ invariant_of-result g0 c =
     let plan : p ≡ c.bench.inside.plan.now = c.bench.invariant.plan in
     let same : p ≡ c.args.bench.plan = ap (λ (z : BenchView). z.plan) c.bench.view_is in
     let f = c.close_with.ensures.values in
+    let view : ClosedView = record { plan = c.bench.inside.plan.now; words = ws; logs = ls; counts = c.args.counts.items } in
+    let end : IsEnd p c.args.desks.items view =
+    ends p c.gather.new.keeper.id c.args.desks.items view (sym plan)
+    (each_map (Owns c.args.bench) (λ (d : DeskView). d.plan ≡ p) (λ d o. o.1 ∙ sym same) c.args.desks.items c.requires.own)
+    (subst (λ (z : LabPlan). HasAll z c.args.desks.items) (sym same) c.requires.all) c.gather.ensures.rests c.requires.counts.1
+    (subst (λ (z : View). Final (Seen (Kept p) c.gather.new.keeper.id z) ws ls) (ap (λ m. m.0) c.gather.ensures.keeper.1) f.2) in
     record {
       is_plan = subst IsPlan plan c.bench.invariant.is_plan;
       full = (f.0, f.1);
       words = subst (λ (z : LabPlan). AreWords z ws) plan (words_fit p c.gather.new.keeper.id c.gather.new.keeper.me.0 ws ls f.2);
       logs_there = logs_fit p c.gather.new.keeper.id c.gather.new.keeper.me.0 ws ls f.2 ∙ ap (λ (z : LabPlan). length z.instruments) plan;
       counts_there = c.requires.counts.0 ∙ ap (λ (z : LabPlan). length z.jobs) (sym same ∙ plan);
+      legal_logs = subst (λ (z : LabPlan). HasLegalLogs z view) plan
+          (record { is_plan = end.is_plan; history = end.history; legal = end.legal; logs = end.logs });
     }
 
 pub returns : goal.returns

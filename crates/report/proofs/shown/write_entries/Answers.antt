@@ -9,7 +9,7 @@ returns-in_err-write_entry g c =
     let log = (g.R.Showing.shown c.args.run.now).log c.args.instrument in
     let entry = c.entry.result in
     let inside : c.loop-index.index < length log = omega arith in
-    let here : entry ≡ slice_index_or log c.loop-index.index entry = sym (get_or_from_slice_get log c.loop-index.index entry entry c.entry.ensures) in
+    let here : entry ≡ slice_index_or log c.loop-index.index entry = sym (get_or_from_slice_get log c.loop-index.index entry entry c.entry.ensures.entry) in
     writes_err _ _ _ _ _ _ c.from_residual.ensures.0
     (each_stops (entry_text (g.R.Showing.plan c.args.run.now)) log c.loop-index.index entry entry _ _ _ inside here c.loop-index.invariant.0
     c.in_err-write_entry.ensures.0)
@@ -20,7 +20,7 @@ loop-index-preserved g c =
     let log = (g.R.Showing.shown c.args.run.now).log c.args.instrument in
     let entry = c.entry.result in
     let inside : c.loop-index.index < length log = omega arith in
-    let here : entry ≡ slice_index_or log c.loop-index.index entry = sym (get_or_from_slice_get log c.loop-index.index entry entry c.entry.ensures) in (
+    let here : entry ≡ slice_index_or log c.loop-index.index entry = sym (get_or_from_slice_get log c.loop-index.index entry entry c.entry.ensures.entry) in (
       each_goes (entry_text (g.R.Showing.plan c.args.run.now)) log c.loop-index.index entry entry _ _ _ inside here c.loop-index.invariant.0
           c.in_ok-write_entry.ensures.0,
       c.in_ok-write_entry.ensures.1 ∙ c.loop-index.invariant.1,
