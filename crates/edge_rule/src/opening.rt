@@ -57,7 +57,8 @@ fn next_desk<A: Allocator + Copy>(
     plan: &Plan<A>,
     job: usize,
 ) -> Result<Desk<A>, AllocError>
-    requires table { (table.now.shared.key ≡ plan.now) × (keeper.old.table_id ≡ table.now.shared.table_id) × (table.now.shared.table_id.words ≡ word_count plan.now) }
+    requires table { (table.now.shared.key ≡ plan.now) × (keeper.old.table_id ≡ table.now.shared.table_id)
+        × (table.now.shared.table_id.words ≡ word_count plan.now) }
     requires job { job < length plan.now.jobs }
     requires left { keeper.old.me ≡ (undealt plan.now job, []) }
     ensures keeper { IfOk result (λ d. (keeper.new.table_id ≡ keeper.old.table_id) × (keeper.new.me ≡ (undealt plan.now (job + 1), []))) }
@@ -98,7 +99,8 @@ fn deal<A: Allocator + Copy>(
     keeper: &mut Seat<InstrumentLog<A>, View>,
     plan: &Plan<A>,
 ) -> Result<Vec<Desk<A>, A>, AllocError>
-    requires table { (table.now.shared.key ≡ plan.now) × (keeper.old.table_id ≡ table.now.shared.table_id) × (table.now.shared.table_id.words ≡ word_count plan.now) }
+    requires table { (table.now.shared.key ≡ plan.now) × (keeper.old.table_id ≡ table.now.shared.table_id)
+        × (table.now.shared.table_id.words ≡ word_count plan.now) }
     requires left { keeper.old.me ≡ (first_view plan.now, []) }
     ensures keeper { IfOk result (λ v. (keeper.new.table_id ≡ keeper.old.table_id) × (keeper.new.me ≡ (nothing, []))) }
     ensures desks { IfOk result (λ v. v.items ≡ fresh_desks keeper.old.table_id plan.now (length plan.now.jobs)) }

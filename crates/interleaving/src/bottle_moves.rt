@@ -60,7 +60,9 @@ impl<'a, A: Allocator> Tables<'a, A> {
     #[tactic(auto, using(legal_steps::proofs::BottleSets::has_none))]
     fn kept_bottles(&self, job: JobNo, edge: EdgeNo) -> u32
         requires { IsOwn self.now.plan job edge }
-        ensures { (k : ℕ) → k < length (bottles self.now.plan edge) → Has result k ↔ (Needs self.now.plan self.now.state job (instrument_of self.now.plan edge k) × (IsDrinking (phase_at self.now.state job) ⊎ Here self.now.plan job edge (fork self.now.state edge))) }
+        ensures { (k : ℕ) → k < length (bottles self.now.plan edge)
+            → Has result k ↔ (Needs self.now.plan self.now.state job (instrument_of self.now.plan edge k)
+            × (IsDrinking (phase_at self.now.state job) ⊎ Here self.now.plan job edge (fork self.now.state edge))) }
     {
         let fork_here = self.edge(edge).fork == self.own_end(job, edge);
         if self.is_drinking(job) || fork_here {

@@ -45,7 +45,8 @@ impl<'a, A: Allocator> Tables<'a, A> {
     pub(crate) fn needed_bottles(&self, job: JobNo, edge: EdgeNo) -> u32
         requires is_job { IsJob self.now.plan job }
         requires is_edge { edge < length (edges self.now.plan) }
-        ensures { (k : ℕ) → k < length (bottles self.now.plan edge) → Has result k ↔ Needs self.now.plan self.now.state job (instrument_of self.now.plan edge k) }
+        ensures { (k : ℕ) → k < length (bottles self.now.plan edge)
+            → Has result k ↔ Needs self.now.plan self.now.state job (instrument_of self.now.plan edge k) }
     {
         let phase = self.phase(job);
         if !phase.is_in_session() {

@@ -63,7 +63,8 @@ pub(crate) fn idle_seats<A: Allocator + Copy>(
     jobs: usize,
     edges: usize,
 ) -> Result<Vec<JobSeat<A>, A>, AllocError>
-    ensures { IfOk result (λ seats. seats.items ≡ replicate jobs (record { phase = idle_phase; fork_marks = replicate edges false; bottle_marks = replicate edges 0 })) }
+    ensures { IfOk result (λ seats. seats.items ≡ replicate jobs
+        (record { phase = idle_phase; fork_marks = replicate edges false; bottle_marks = replicate edges 0 })) }
 {
     let mut seats = Vec::new(alloc);
     for _job in 0..jobs {

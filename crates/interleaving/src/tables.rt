@@ -1,7 +1,8 @@
 //! The tables of a world: a plan and a state of its bench that fits it. Every write keeps that.
 ghost use Rattle.std.specs.Prelude.{◌≡◌, ℕ, ◌<◌, ◌≤◌, ◌↔◌, IsTrue, length, IfOk};
 ghost use Rattle.lab_plan.specs.LabPlan.{edges};
-ghost use Rattle.legal_steps.specs.State.{IsOwn, IsOfEdge, end_of, edge as edge_at, phase as phase_at, seat, fork_mark as fork_mark_at, bottle_marks as bottle_marks_at, log as log_at};
+ghost use Rattle.legal_steps.specs.State.{IsOwn, IsOfEdge, end_of, edge as edge_at, phase as phase_at, seat};
+ghost use Rattle.legal_steps.specs.State.{fork_mark as fork_mark_at, bottle_marks as bottle_marks_at, log as log_at};
 ghost use Rattle.legal_steps.specs.Legal.{IsJob, with_edge, with_seat, with_phase, with_fork_mark, with_bottle_marks, turned_to, with_entry};
 ghost use Rattle.legal_steps.specs.Fitting.{Fits, IsPhaseOf};
 ghost use Rattle.legal_steps.specs.Opening.{AreChoices, opening_of, the_opening};

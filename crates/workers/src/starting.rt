@@ -132,11 +132,13 @@ fn in_parts<R: Threads + Sync, A: Allocator + Send + Sync, C: Crew<A>>(
     ensures back { Worked (C.turns crew.now) back.old result.1 back.new }
 {
     let mut one = || -> Halt
-        requires { IsSync R.row × IsSync A.row × IsSend A.row × IsSync C.row × Frees A.Allocator A.dealloc_token × (0 < low) × (0 < workers) × Each (Owns (C.bench crew.now)) front.now }
+        requires { IsSync R.row × IsSync A.row × IsSend A.row × IsSync C.row × Frees A.Allocator A.dealloc_token × (0 < low) × (0 < workers)
+            × Each (Owns (C.bench crew.now)) front.now }
         ensures { Worked (C.turns crew.entry.now) front.entry.now result front.exit.now }
     { in_teams(rt, crew, workers, first, low, front) };
     let mut other = || -> Halt
-        requires { IsSync R.row × IsSync A.row × IsSend A.row × IsSync C.row × Frees A.Allocator A.dealloc_token × (0 < high) × (0 < workers) × Each (Owns (C.bench crew.now)) back.now }
+        requires { IsSync R.row × IsSync A.row × IsSend A.row × IsSync C.row × Frees A.Allocator A.dealloc_token × (0 < high) × (0 < workers)
+            × Each (Owns (C.bench crew.now)) back.now }
         ensures { Worked (C.turns crew.entry.now) back.entry.now result back.exit.now }
     { in_teams(rt, crew, workers, middle, high, back) };
     join_mut(rt, &mut one, &mut other)
