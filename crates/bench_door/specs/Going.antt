@@ -63,7 +63,8 @@ StageAt aim job desks stage = (d : DeskView) × (slice_get desks job ≡ Some d)
 
 -- the job took a turn, and then each other was served
 abbrev pub IsRound : ℕ → List DeskView → Turned → List DeskView → Type 0
-IsRound job old r new = (s : Turned) × (mid : List DeskView) × (t : Turned) × TurnsAt Took job old (Some s) mid × OthersServed job mid (Some t) new × (r ≡ both s t)
+IsRound job old r new =
+    (s : Turned) × (mid : List DeskView) × (t : Turned) × TurnsAt Took job old (Some s) mid × OthersServed job mid (Some t) new × (r ≡ both s t)
 
 -- so many rounds, one after another, and before each of them the job was on its way
 abbrev pub Rounds : Aim → ℕ → ℕ → List DeskView → Turned → List DeskView → Type 0

@@ -126,7 +126,8 @@ fn add_all_instruments<A: Allocator, B: Allocator>(
 ) -> Result<(), AllocError>
     requires counts { length counts.now ≡ length plan.now.instruments }
     requires inside { All (λ place. place < length counts.now) order.now }
-    ensures { OnOk result (out.new.items ≡ out.old.items ++ flat_map (λ place. instrument_line plan.now place (count_at counts.now place) (held_on blocks.now place)) order.now) }
+    ensures { OnOk result (out.new.items ≡ out.old.items
+        ++ flat_map (λ place. instrument_line plan.now place (count_at counts.now place) (held_on blocks.now place)) order.now) }
 {
     for place in order {
         let _ = plan.instruments();
