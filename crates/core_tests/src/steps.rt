@@ -137,7 +137,7 @@ enum Way<'a> {
     Steps(&'a [Step]),
     // The same, and then the event.
     Then(&'a [Step], &'a Event),
-    // The same, and then so many of the steps that a number codes.
+    // The same, and then this many of the steps that a number codes.
     List(&'a [Step], usize, usize),
 }
 

@@ -22,7 +22,7 @@ fn desks_of<A: Allocator>(desks: &[Desk<A>], job: JobNo) -> usize
     count
 }
 
-// Whether each of so many jobs has a desk.
+// Whether each of this many jobs has a desk.
 fn has_each<A: Allocator>(desks: &[Desk<A>], jobs: usize) -> bool
     requires { jobs < 256 }
     ensures { IsTrue result ↔ HasEach jobs desks.now }

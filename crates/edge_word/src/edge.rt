@@ -86,7 +86,7 @@ const NO_FLIP: Flips = Flips {
     bottle_tokens: 0,
 };
 
-/// Whether the set is not empty and names only bottles of an edge that has so many.
+/// Whether the set is not empty and names only bottles of an edge that has this many.
 pub fn is_bottle_set(set: u32, bottles: u32) -> bool
     requires few { bottles ≤ most_bottles }
     ensures is_set { IsTrue result ↔ IsSetOf bottles set }
@@ -128,7 +128,7 @@ fn mask_of(flips: Flips) -> u64
 }
 
 impl EdgeWord {
-    /// The word of an edge with so many bottles in the initial state: fork and bottles at the lower job, the fork dirty,
+    /// The word of an edge with this many bottles in the initial state: fork and bottles at the lower job, the fork dirty,
     /// every request token at the higher.
     pub fn opening(bottles: u32) -> EdgeWord
         requires few { bottles ≤ most_bottles }

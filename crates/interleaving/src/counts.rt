@@ -23,7 +23,7 @@ impl<A: Allocator> Model for JobCounts<A> {
 }
 
 impl<A: Allocator> JobCounts<A> {
-    // No counts yet, of so many jobs.
+    // No counts yet, of this many jobs.
     pub(crate) fn new(alloc: A, jobs: usize) -> Result<JobCounts<A>, AllocError>
         ensures { IfOk result (λ tally. tally ≡ replicate jobs no_counts) }
     {

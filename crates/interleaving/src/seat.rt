@@ -23,7 +23,7 @@ impl<A: Allocator> Model for JobSeat<A> {
 }
 
 impl<A: Allocator + Copy> JobSeat<A> {
-    // The seat of a job before its first event, with marks for so many edges.
+    // The seat of a job before its first event, with marks for this many edges.
     pub(crate) fn idle(alloc: A, edges: usize) -> Result<JobSeat<A>, AllocError>
         ensures { IfOk result (λ seat. seat ≡ record { phase = idle_phase; fork_marks = replicate edges false; bottle_marks = replicate edges 0 }) }
     {

@@ -160,7 +160,7 @@ fn changed(rt: &impl Abort, edge: EdgeWord, change: Change) -> EdgeWord {
     }
 }
 
-/// The word after the change, if the first is one of an edge with so many bottles.
+/// The word after the change, if the first is one of an edge with this many bottles.
 fn word_after(rt: &impl Abort, word: u64, bottles: u32, change: Change) -> Option<u64> {
     assert!(rt; 1 <= bottles && bottles <= 28);
     let edge = EdgeWord::unpack(word, bottles)?;

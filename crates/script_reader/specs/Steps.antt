@@ -144,7 +144,7 @@ placed step = (step.line, Some step.step)
 abbrev pub AreSteps : LabPlan → ℕ → List (List ℕ) → List StepLine → Type 0
 AreSteps plan first lines steps = (list_of plan first lines ≡ map placed steps) × (length steps ≤ 1000000)
 
--- behind so many steps, the line meets the cause
+-- behind this many steps, the line meets the cause
 abbrev pub meets_step : ℕ → Option Step → ScriptCause → Bool
 meets_step count found BadStep = not (is_some found)
 meets_step count found LimitPassed = nat_le 1000000 count

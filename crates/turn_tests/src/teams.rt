@@ -358,7 +358,7 @@ fn all_count_up<T: Allocator>(rt: &impl Abort, left: &Closed<T>) {
 }
 
 /// How many allocations were asked for until the plan was read, the bench was open, its desks were driven, and it was closed.
-type Growths = [u64; 4];
+type Allocations = [u64; 4];
 
 /// A run on a heap that refuses this allocation.
 fn run_without<R: Threads + Wait + Abort + Sync>(
@@ -366,7 +366,7 @@ fn run_without<R: Threads + Wait + Abort + Sync>(
     alloc: Global,
     script: &str,
     refused: u64,
-) -> Growths {
+) -> Allocations {
     let heap = RefusingHeap::new(alloc, refused);
     let plan = plan_of(rt, &heap, script);
     let read = heap.allocations();

@@ -27,7 +27,7 @@ pub struct Muster {
 }
 
 impl Muster {
-    /// Of so many teams, none of which has begun. A team that is idle waits so many sleeps for those that don't begin.
+    /// Of this many teams, none of which has begun. A team that is idle waits this many sleeps for those that don't begin.
     pub fn new(teams: u32, patience: u32) -> Muster
         ensures { result.teams ≡ teams }
     {

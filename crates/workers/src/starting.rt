@@ -29,7 +29,7 @@ pub trait Crew<A: Allocator>: Sync {
         requires { Each (Owns (bench self.now)) desks.old }
         ensures { Worked (turns self.now) desks.old result desks.new };
 
-    /// Rounds of desks that have taken so many turns, until they have taken as many as the others.
+    /// Rounds of desks that have taken this many turns, until they have taken as many as the others.
     fn catch_up(&self, taken: u32, most: u32, desks: &mut [Desk<A>])
         requires { Each (Owns (bench self.now)) desks.old }
         ensures { Pairs (TookTurns (most - taken)) desks.old desks.new };
@@ -70,7 +70,7 @@ impl<R: Wait + Sync, A: Allocator + Send + Sync, P: Passage + Sync> Crew<A>
     }
 }
 
-/// The teams from `first` on, so many of them. Team `t` has the desks whose job is `t` modulo the workers, and the desks stand in the order
+/// The teams from `first` on, this many of them. Team `t` has the desks whose job is `t` modulo the workers, and the desks stand in the order
 /// of their teams. Each team but the last gets a thread of its own where one can be made, and the calling thread works as the last.
 // Threads are started one right after another, all by the calling thread: were one to start the next, the last would begin later by as
 // many starts. A part that stopped earlier catches up, so that one number says how far all its desks are.

@@ -59,7 +59,7 @@ pub fn work<R: Wait, A: Allocator, P: Passage>(
     Halt::After(turns)
 }
 
-/// Rounds of desks that have taken so many turns, until they have taken as many as the others.
+/// Rounds of desks that have taken this many turns, until they have taken as many as the others.
 pub(crate) fn catch_up<A: Allocator, P: Passage>(
     bench: &Bench<A>,
     gate: &P,

@@ -44,7 +44,7 @@ fn line_of(step: Step) -> StepLine {
     StepLine { line: 1, step }
 }
 
-// Those 16 steps, with `act b` put in after so many of them, and their events.
+// Those 16 steps, with `act b` put in after this many of them, and their events.
 fn with_act_of_b(place: usize) -> ([StepLine; 17], [Event; 17]) {
     let mut lines = [line_of(Step::Act(B)); 17];
     let mut events = [Event::Act(B); 17];
