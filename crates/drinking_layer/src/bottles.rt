@@ -19,7 +19,7 @@ use lab_plan::EdgeNo;
 use legal_steps::{EdgeState, End, JobState};
 use std::alloc::Allocator;
 
-// The moves with the bottles that are given and asked for.
+/// The moves with the bottles that are given and asked for.
 fn with_sets(phase: JobState, needed: u32, mine: EdgeState, moves: EdgeMoves) -> EdgeMoves
     ensures { result ≡ sets_added phase needed mine moves }
 {

@@ -19,7 +19,7 @@ use lab_plan::JobNo;
 use one_history::board::{Board, Glances, Lends, Notes, Returns, View};
 use std::alloc::Allocator;
 
-// The other's hand is lent to `me` for one load of the word, which is the other's phase word.
+/// The other's hand is lent to `me` for one load of the word, which is the other's phase word.
 fn glance_at<A: Allocator>(
     table: &Board<A>,
     me: &mut Seat<InstrumentLog<A>, View>,

@@ -22,7 +22,7 @@ use one_history::board::{Board, Deals, View};
 use plan_logs::empty_logs;
 use std::alloc::{AllocError, Allocator};
 
-// The words of the initial state.
+/// The words of the initial state.
 fn fresh_words<A: Allocator + Copy>(alloc: A, plan: &Plan<A>) -> Result<Vec<u64, A>, AllocError>
     ensures { IfOk result (λ v. Spelled plan.now (the_opening plan.now) v.items) }
 {
@@ -34,7 +34,7 @@ fn fresh_words<A: Allocator + Copy>(alloc: A, plan: &Plan<A>) -> Result<Vec<u64,
     Ok(words)
 }
 
-// The edges of the initial state, as a desk sees them.
+/// The edges of the initial state, as a desk sees them.
 fn fresh_edges<A: Allocator + Copy>(
     alloc: A,
     plan: &Plan<A>,
@@ -49,7 +49,7 @@ fn fresh_edges<A: Allocator + Copy>(
     Ok(seen)
 }
 
-// The desk of the next job, by a seat that is cut off.
+/// The desk of the next job, by a seat that is cut off.
 fn next_desk<A: Allocator + Copy>(
     alloc: A,
     table: &Board<A>,
@@ -113,7 +113,7 @@ fn deal<A: Allocator + Copy>(
     Ok(desks)
 }
 
-// A bench in the initial state, with its desks.
+/// A bench in the initial state, with its desks.
 fn opened<'p, A: Allocator + Copy>(
     alloc: A,
     plan: &'p Plan<A>,

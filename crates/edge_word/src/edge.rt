@@ -12,7 +12,7 @@ use crate::moves::EdgeMoves;
 use legal_steps::{EdgeState, End};
 use std::marker::Model;
 
-// The places of the fields in a word.
+/// The places of the fields in a word.
 const FORK: u32 = 0;
 
 const DIRTY: u32 = 1;
@@ -25,10 +25,10 @@ const BOTTLES: u32 = 4;
 
 const BOTTLE_TOKENS: u32 = 32;
 
-// The fork is at the lower end and dirty, and its token at the higher.
+/// The fork is at the lower end and dirty, and its token at the higher.
 const DIRTY_AND_ASKABLE: u64 = (1 << TOKEN) + (1 << DIRTY);
 
-// As many bits as an edge has bottles at most.
+/// As many bits as an edge has bottles at most.
 const ALL_BOTTLES: u64 = 0xfff_ffff;
 
 /// The state of an edge in one word. Ends are 0 at the lower job and 1 at the higher.

@@ -53,7 +53,7 @@ impl<'a, A: Allocator> Model for Tables<'a, A> {
 }
 
 impl<'a, A: Allocator + Copy> Tables<'a, A> {
-    // The tables of the opening state that the choices give.
+    /// The tables of the opening state that the choices give.
     pub(crate) fn opened(
         alloc: A,
         plan: &'a Plan<A>,
@@ -70,7 +70,7 @@ impl<'a, A: Allocator + Copy> Tables<'a, A> {
         })
     }
 
-    // The tables of the initial state.
+    /// The tables of the initial state.
     pub(crate) fn opening(alloc: A, plan: &'a Plan<A>) -> Result<Tables<'a, A>, AllocError>
         ensures { IfOk result (λ tables. tables ≡ record { plan = plan.now; state = the_opening plan.now }) }
     {
@@ -94,7 +94,7 @@ impl<'a, A: Allocator> Tables<'a, A> {
         (job.0 as usize) < self.seats.len()
     }
 
-    // Whether the edge is one of the job's.
+    /// Whether the edge is one of the job's.
     pub(crate) fn owns(&self, job: JobNo, edge: EdgeNo) -> bool
         ensures owns { IsTrue result ↔ IsOwn self.now.plan job edge }
         ensures is_job { IsOwn self.now.plan job edge → IsJob self.now.plan job }
@@ -106,7 +106,7 @@ impl<'a, A: Allocator> Tables<'a, A> {
         lower == job || higher == job
     }
 
-    // The job's own end of the edge.
+    /// The job's own end of the edge.
     pub(crate) fn own_end(&self, job: JobNo, edge: EdgeNo) -> End
         requires { IsOwn self.now.plan job edge }
         ensures end { result ≡ end_of self.now.plan job edge }
@@ -177,7 +177,7 @@ impl<'a, A: Allocator> Tables<'a, A> {
         seat.set_bottle_marks(edge.0 as usize, marks);
     }
 
-    // Both marks of the job at an edge.
+    /// Both marks of the job at an edge.
     pub(crate) fn set_marks(&mut self, job: JobNo, edge: EdgeNo, mark: bool, marks: u32)
         requires is_job { IsJob self.old.plan job }
         requires is_edge { edge < length (edges self.old.plan) }
@@ -189,7 +189,7 @@ impl<'a, A: Allocator> Tables<'a, A> {
         seat.set_marks(edge.0 as usize, mark, marks);
     }
 
-    // The job dines so, without any fork mark.
+    /// The job dines so, without any fork mark.
     #[tactic(auto, using(legal_steps::proofs::FitsWrites::fits_with_seat, legal_steps::proofs::FitsWrites::seat_fits_turned))]
     pub(crate) fn turn_to(&mut self, job: JobNo, dining: Dining)
         requires { IsJob self.old.plan job }
@@ -200,7 +200,7 @@ impl<'a, A: Allocator> Tables<'a, A> {
         seat.turn_to(dining);
     }
 
-    // Whether the job has a fork mark for one of its edges.
+    /// Whether the job has a fork mark for one of its edges.
     pub(crate) fn fork_mark(&self, job: JobNo, edge: EdgeNo) -> bool
         requires is_job { IsJob self.now.plan job }
         requires is_edge { edge < length (edges self.now.plan) }
@@ -209,7 +209,7 @@ impl<'a, A: Allocator> Tables<'a, A> {
         self.seats[job.0 as usize].fork_mark(edge.0 as usize)
     }
 
-    // The job's bottle marks for one of its edges.
+    /// The job's bottle marks for one of its edges.
     pub(crate) fn bottle_marks(&self, job: JobNo, edge: EdgeNo) -> u32
         requires is_job { IsJob self.now.plan job }
         requires is_edge { edge < length (edges self.now.plan) }
@@ -228,7 +228,7 @@ impl<'a, A: Allocator> Tables<'a, A> {
         &self.logs[instrument.0 as usize]
     }
 
-    // One more entry at the end of a log that takes it.
+    /// One more entry at the end of a log that takes it.
     pub(crate) fn push_entry(&mut self, instrument: InstrumentNo, entry: Entry)
         requires there { instrument < length self.old.plan.instruments }
         requires may { MayAppend (log_with_room self.old.plan self.old.state instrument) entry }

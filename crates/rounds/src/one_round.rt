@@ -9,7 +9,7 @@ use session_layer::{Turned, turn};
 use std::alloc::Allocator;
 
 /// One turn of the desk at the place, which first hears what was seen so far. Answers too what was seen then.
-// Whether the others did nothing meanwhile is known later, when all meet.
+/// Whether the others did nothing meanwhile is known later, when all meet.
 fn turn_at<A: Allocator>(
     bench: &Bench<A>,
     desks: &mut [Desk<A>],
