@@ -9,7 +9,7 @@ it should be. The cases: words that are refused, with a standard input that neve
 16777216 bytes and of one more; a folder as input; outputs that are full, closed, or taken one byte at a time; as many jobs,
 sessions and commands as there can be, by rounds and by threads; 32 workers and a thousand million turns; and (where memory
 isn't no) less and less memory, down to none: then the whole report, or want of memory, and nothing else. Last, where refused isn't no,
-each growth of each kind of run is refused in turn, and each start of a thread, and each growth while words are read, by
+each allocation of each kind of run is refused in turn, and each start of a thread, and each allocation while words are read, by
 bench/refuse.c, which needs a C compiler.
 """
 import os
@@ -199,7 +199,7 @@ def check_memory(cases, runs=(["rounds", "1000000"], ["threads", "4", "100000"])
 
 
 def refusing(folder):
-    """The library that refuses growths, or none if it can't be made."""
+    """The library that refuses allocations, or none if it can't be made."""
     library = os.path.join(folder, "refuse.so")
     source = os.path.join(os.path.dirname(os.path.abspath(__file__)), "refuse.c")
     failed = subprocess.run(["cc", "-shared", "-fPIC", "-O1", "-o", library, source, "-ldl", "-pthread"]).returncode
@@ -213,14 +213,14 @@ WORDS = {
 
 
 def check_refused_words(cases):
-    """Each growth while words are read is refused in turn: want of memory is told, and nothing else."""
+    """Each allocation while words are read is refused in turn: want of memory is told, and nothing else."""
     folder = tempfile.mkdtemp(prefix="labrun-refused-")
     library, told = refusing(folder), os.path.join(folder, "told")
     if not library:
-        return cases.tell("growths that are refused", "no library that refuses them")
+        return cases.tell("allocations that are refused", "no library that refuses them")
 
-    def refused(words, growth):
-        ways = dict(os.environ, LD_PRELOAD=library, REFUSE_TOLD=told, REFUSE_GROWTH=str(growth), REFUSE_START="0")
+    def refused(words, allocation):
+        ways = dict(os.environ, LD_PRELOAD=library, REFUSE_TOLD=told, REFUSE_ALLOCATION=str(allocation), REFUSE_START="0")
         nothing = os.open("/", os.O_RDONLY)
         got = cases.run(words.split(), stdin=nothing, env=ways)
         os.close(nothing)
@@ -228,13 +228,13 @@ def check_refused_words(cases):
             return got, int(numbers.read().split()[0])
 
     for words in WORDS[cases.name]:
-        whole, growths = refused(words, 0)
-        wrong = [] if growths and whole[2] in (0, 2, 4) else ["nothing refused: %r" % (whole,)]
-        for number in range(1, growths + 1):
+        whole, allocations = refused(words, 0)
+        wrong = [] if allocations and whole[2] in (0, 2, 4) else ["nothing refused: %r" % (whole,)]
+        for number in range(1, allocations + 1):
             got = refused(words, number)[0]
             if got != (b"", "%s: no memory\n" % cases.name, 5):
-                wrong.append("growth %d: %r" % (number, got))
-        cases.tell("words: %s %s: each of %d growths is refused" % (cases.name, words, growths), "; ".join(wrong)[:600])
+                wrong.append("allocation %d: %r" % (number, got))
+        cases.tell("words: %s %s: each of %d allocations is refused" % (cases.name, words, allocations), "; ".join(wrong)[:600])
 
 
 def is_no_memory(got):
@@ -245,18 +245,18 @@ def is_no_memory(got):
 
 
 def check_refused(cases):
-    """Each growth is refused in turn: want of memory is told, and nothing else; or, where the program can do without, the whole report, as
+    """Each allocation is refused in turn: want of memory is told, and nothing else; or, where the program can do without, the whole report, as
     where a start of a thread is refused, or each of them."""
     folder = tempfile.mkdtemp(prefix="labrun-refused-")
     library, told = refusing(folder), os.path.join(folder, "told")
     if not library:
-        return cases.tell("growths that are refused", "no library that refuses them")
+        return cases.tell("allocations that are refused", "no library that refuses them")
     script = make_scripts.make("ring", make_scripts.random.Random(4), jobs=9, sessions=2, commands=3)
     steps = simulate.text(simulate.PAIR).decode() + "steps\nthirst a\nhunger a\nlook a b\nsit a\n"
 
-    def refused(words, text, growth=0, start=0):
-        """What it answers, and how many growths and starts it asked for."""
-        ways = dict(os.environ, LD_PRELOAD=library, REFUSE_TOLD=told, REFUSE_GROWTH=str(growth), REFUSE_START=str(start))
+    def refused(words, text, allocation=0, start=0):
+        """What it answers, and how many allocations and starts it asked for."""
+        ways = dict(os.environ, LD_PRELOAD=library, REFUSE_TOLD=told, REFUSE_ALLOCATION=str(allocation), REFUSE_START=str(start))
         got = cases.run(words, text.encode(), env=ways)
         with open(told) as numbers:
             return got, [int(number) for number in numbers.read().split()]
@@ -268,20 +268,20 @@ def check_refused(cases):
 
     for name in ("rounds 40", "threads 1 40", "threads 4 40", "threads 9 40", "threads 32 100000", "check", "upgrade", "replay"):
         words, text = name.split(), steps if name == "replay" else script
-        whole, (growths, starts) = refused(words, text)
+        whole, (allocations, starts) = refused(words, text)
         wrong = [] if whole[2] in (0, 3) and is_whole(words, text, whole, whole) else ["nothing refused: %r" % (whole,)]
         none = 0
-        for number in range(1, growths + 1):
-            got = refused(words, text, growth=number)[0]
+        for number in range(1, allocations + 1):
+            got = refused(words, text, allocation=number)[0]
             none += is_no_memory(got)
             if not is_no_memory(got) and not is_whole(words, text, got, whole):
-                wrong.append("growth %d: %r" % (number, got))
+                wrong.append("allocation %d: %r" % (number, got))
         for number in (*range(1, starts + 1), -1):
             got = refused(words, text, start=number)[0]
             if not is_whole(words, text, got, whole):
                 wrong.append("start %d: %r" % (number, got))
-        cases.tell("%s: each of %d growths is refused (%d times want of memory is told), and each of %d starts" % (
-            name, growths, none, starts), "; ".join(wrong)[:600])
+        cases.tell("%s: each of %d allocations is refused (%d times want of memory is told), and each of %d starts" % (
+            name, allocations, none, starts), "; ".join(wrong)[:600])
 
     # Where a thread can't be made, or none, the jobs still come to their end, and soon.
     for name in ("threads 2 1000000000", "threads 4 1000000000", "threads 9 1000000000", "threads 32 1000000000"):

@@ -1,8 +1,8 @@
-// Refuses growths and starts of threads of a program that is run with this library before the others:
+// Refuses allocations and starts of threads of a program that is run with this library before the others:
 //   cc -shared -fPIC -O1 -o refuse.so refuse.c -ldl -pthread
-//   REFUSE_GROWTH=N REFUSE_START=N REFUSE_TOLD=FILE LD_PRELOAD=./refuse.so PROGRAM ..
-// The growth and the start of these numbers are refused (from 1 on; 0: none; -1: all of them). At the end FILE has two numbers: how many
-// growths and how many starts the program asked for.
+//   REFUSE_ALLOCATION=N REFUSE_START=N REFUSE_TOLD=FILE LD_PRELOAD=./refuse.so PROGRAM ..
+// The allocation and the start of these numbers are refused (from 1 on; 0: none; -1: all of them). At the end FILE has two numbers: how many
+// allocations and how many starts the program asked for.
 #define _GNU_SOURCE
 #include <dlfcn.h>
 #include <errno.h>
@@ -17,8 +17,8 @@ extern void *__libc_malloc(size_t);
 extern void *__libc_calloc(size_t, size_t);
 extern void *__libc_realloc(void *, size_t);
 
-static atomic_long growths, starts;
-static long refused_growth, refused_start;
+static atomic_long allocations, starts;
+static long refused_allocation, refused_start;
 static int counting;
 
 static long number_of(const char *name) {
@@ -27,7 +27,7 @@ static long number_of(const char *name) {
 }
 
 __attribute__((constructor)) static void begin(void) {
-    refused_growth = number_of("REFUSE_GROWTH");
+    refused_allocation = number_of("REFUSE_ALLOCATION");
     refused_start = number_of("REFUSE_START");
     counting = 1;
 }
@@ -37,7 +37,7 @@ static void tell(void) {
     counting = 0;
     FILE *told = name ? fopen(name, "w") : NULL;
     if (told) {
-        fprintf(told, "%ld %ld\n", (long)growths, (long)starts);
+        fprintf(told, "%ld %ld\n", (long)allocations, (long)starts);
         fclose(told);
     }
 }
@@ -62,11 +62,11 @@ static void *none(void) {
     return NULL;
 }
 
-void *malloc(size_t size) { return is_refused(&growths, refused_growth) ? none() : __libc_malloc(size); }
+void *malloc(size_t size) { return is_refused(&allocations, refused_allocation) ? none() : __libc_malloc(size); }
 
-void *calloc(size_t count, size_t size) { return is_refused(&growths, refused_growth) ? none() : __libc_calloc(count, size); }
+void *calloc(size_t count, size_t size) { return is_refused(&allocations, refused_allocation) ? none() : __libc_calloc(count, size); }
 
-void *realloc(void *old, size_t size) { return is_refused(&growths, refused_growth) ? none() : __libc_realloc(old, size); }
+void *realloc(void *old, size_t size) { return is_refused(&allocations, refused_allocation) ? none() : __libc_realloc(old, size); }
 
 int pthread_create(pthread_t *thread, const pthread_attr_t *with, void *(*run)(void *), void *data) {
     static int (*real)(pthread_t *, const pthread_attr_t *, void *(*)(void *), void *);

@@ -1,4 +1,4 @@
-/* memory.c SCRIPT ..: each growth of each call is refused in turn. The status is then 5, the report as it was, and no block is left.
+/* memory.c SCRIPT ..: each allocation of each call is refused in turn. The status is then 5, the report as it was, and no block is left.
    cc -I include bench/door/memory.c FOLDER/liblabrun.a -Wl,--wrap=malloc -Wl,--wrap=realloc -Wl,--wrap=free */
 #include "labrun.h"
 #include <stdio.h>
@@ -42,19 +42,19 @@ int main(int count, char **words) {
         for (int which = 0; which < 4; which++) {
             refused = 0;
             uint32_t status = call(which, length);
-            long growths = asked;
+            long allocations = asked;
             if (blocks) return printf("%s: %ld blocks left\n", words[at], blocks), 1;
-            if (growths > most) most = growths;
-            for (refused = 1; refused <= growths; refused++, calls++) {
+            if (allocations > most) most = allocations;
+            for (refused = 1; refused <= allocations; refused++, calls++) {
                 memcpy(report, before, sizeof report);
                 uint32_t got = call(which, length);
                 if (got != 5 && got != status) return printf("%s: status %u for %u\n", words[at], got, status), 1;
                 if (got == 5 && (told.written || memcmp(report, before, sizeof report))) return printf("%s: wrote at 5\n", words[at]), 1;
-                if (got != 5) printf("%s: call %d, growth %ld of %ld: status %u\n", words[at], which, refused, growths, got);
+                if (got != 5) printf("%s: call %d, allocation %ld of %ld: status %u\n", words[at], which, refused, allocations, got);
                 if (blocks) return printf("%s: %ld blocks left\n", words[at], blocks), 1;
             }
         }
     }
-    printf("%ld refused growths, at most %ld in a call: all as they should be\n", calls, most);
+    printf("%ld refused allocations, at most %ld in a call: all as they should be\n", calls, most);
     return 0;
 }

@@ -1,4 +1,4 @@
-/* refused.c SCRIPT ..: in a whole life of a bench, from open to free, each growth of each call is refused in turn. The call then answers 5
+/* refused.c SCRIPT ..: in a whole life of a bench, from open to free, each allocation of each call is refused in turn. The call then answers 5
    and changes nothing; called again it goes on, and the report at the end is the one without a refusal. No block is left, but for what an open keeps (the number is printed).
    cc -I include bench/door/refused.c FOLDER/liblabrun.a -Wl,--wrap=malloc -Wl,--wrap=realloc -Wl,--wrap=free */
 #include "tests.h"
@@ -26,10 +26,10 @@ void __wrap_free(void *old) {
 static struct lab_bench bench;
 static uint8_t report[4000000], untouched[4000000], first[4000000];
 static size_t first_length;
-static long growths[MOST_CALLS]; /* how many a call has when none is refused */
+static long allocations[MOST_CALLS]; /* how many a call has when none is refused */
 static long kept, opens;         /* how many blocks are left by a life without a refusal; how many opens this life had */
-static int calls, at_call;       /* the call that a growth is refused in; none if 0 */
-static long at_growth, tried, unmet;
+static int calls, at_call;       /* the call that an allocation is refused in; none if 0 */
+static long at_allocation, tried, unmet;
 static const char *name;
 
 struct all {
@@ -51,13 +51,13 @@ static struct all before, after;
 /* Of blocks, at the end of a life. */
 static void count_left(const char *what) {
     if (at_call == 0) kept = blocks;
-    expect(blocks <= kept * opens, "%s: %s, call %d, growth %ld: %ld blocks are left", name, what, at_call, at_growth, blocks);
+    expect(blocks <= kept * opens, "%s: %s, call %d, allocation %ld: %ld blocks are left", name, what, at_call, at_allocation, blocks);
 }
 
 static void prepare(void) {
     calls++;
     asked = 0;
-    refused = calls == at_call ? at_growth : 0;
+    refused = calls == at_call ? at_allocation : 0;
     if (refused) look(&before);
     asked = 0;
 }
@@ -65,7 +65,7 @@ static void prepare(void) {
 /* After a call: yes if it has to be made again. */
 static int again(const char *what, uint32_t status) {
     long was = refused;
-    if (at_call == 0 && calls < MOST_CALLS) growths[calls] = asked;
+    if (at_call == 0 && calls < MOST_CALLS) allocations[calls] = asked;
     refused = 0;
     if (!was) {
         if (status == LAB_NO_MEMORY) expect(0, "%s: %s: no memory, though none was refused", name, what);
@@ -79,7 +79,7 @@ static int again(const char *what, uint32_t status) {
     look(&after);
     /* (a close that got as far as to close the bench keeps it closed) */
     if (after.status[0] != LAB_NOT_OPEN || before.status[0] == LAB_NOT_OPEN)
-        expect(memcmp(&before, &after, sizeof before) == 0, "%s: %s, growth %ld: something changed at 5", name, what, was);
+        expect(memcmp(&before, &after, sizeof before) == 0, "%s: %s, allocation %ld: something changed at 5", name, what, was);
     return 1;
 }
 
@@ -140,8 +140,8 @@ static void life(struct text script) {
         first_length = told.written;
         memcpy(first, report, told.written);
     } else {
-        expect(told.written == first_length && memcmp(first, report, first_length) == 0, "%s: call %d, growth %ld: another report", name,
-               at_call, at_growth);
+        expect(told.written == first_length && memcmp(first, report, first_length) == 0, "%s: call %d, allocation %ld: another report", name,
+               at_call, at_allocation);
     }
     lab_bench_free(&bench);
     count_left("a life");
@@ -173,19 +173,19 @@ int main(int count, char **words) {
             if (memcmp(script.bytes + at, "\nsteps\n", 7) == 0) script.length = at + 1;
         for (int way = 0; way < 2; way++) {
             void (*run)(struct text) = way ? closed_at_once : life;
-            memset(growths, 0, sizeof growths);
+            memset(allocations, 0, sizeof allocations);
             at_call = 0;
             run(script);
             int most = calls < MOST_CALLS ? calls : MOST_CALLS - 1;
             for (int call = 1; call <= most; call++)
-                for (long growth = 1; growth <= growths[call]; growth++) {
+                for (long allocation = 1; allocation <= allocations[call]; allocation++) {
                     at_call = call;
-                    at_growth = growth;
+                    at_allocation = allocation;
                     run(script);
                 }
         }
         free(script.bytes);
     }
-    printf("growths refused: %ld, answered otherwise than by 5: %ld; blocks that an open keeps: %ld\n", tried, unmet, kept);
+    printf("allocations refused: %ld, answered otherwise than by 5: %ld; blocks that an open keeps: %ld\n", tried, unmet, kept);
     return summary();
 }

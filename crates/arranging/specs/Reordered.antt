@@ -34,7 +34,8 @@ HasJobsOf plan order other = map (named_job other) other.jobs ≡ map (λ j. nam
 abbrev pub colours_along : List ℕ → List ℕ → List ℕ
 colours_along colours order = map (slice_index colours) order
 
--- The second plan is of the same version, and has the jobs of the first in the order of their colours, each once; each keeps its colour, and that is a colouring again
+-- The second plan is of the same version, and has the jobs of the first in the order of their colours, each once; each keeps its colour,
+-- and that is a colouring again
 pub record IsArrangement (plan : LabPlan) (made : ColouringView) (arranged : LabPlan) : Type 0 where
   pub version : arranged.version ≡ plan.version
   pub each_once : IsPermutation (jobs_by_number made.colours) (in_order made.colours made.count)

@@ -10,7 +10,8 @@ use std::alloc::Allocator;
 /// Whether the two jobs of each edge have different colours.
 pub(crate) fn all_differ<A: Allocator>(plan: &Plan<A>, colours: &[u8]) -> bool
     requires { length colours.now ≡ length plan.now.jobs }
-    ensures { result ≡ true → (e : ℕ) → e < length (edges plan.now) → slice_index colours.now (ends plan.now e).0 ≢ slice_index colours.now (ends plan.now e).1 }
+    ensures { result ≡ true → (e : ℕ) → e < length (edges plan.now)
+        → slice_index colours.now (ends plan.now e).0 ≢ slice_index colours.now (ends plan.now e).1 }
 {
     for edge in 0..plan.edges() {
         let (low, high) = plan.ends(EdgeNo(edge));

@@ -14,7 +14,8 @@ use std::alloc::Allocator;
 fn differ_along<A: Allocator>(plan: &Plan<A>, colours: &[u8], order: &[JobNo]) -> bool
     requires jobs { length order.now ≡ length plan.now.jobs }
     requires coloured { All (λ job. job < length colours.now) order.now }
-    ensures { IsTrue result ↔ ((e : ℕ) → e < length (edges plan.now) → slice_index colours.now (slice_index order.now (ends plan.now e).0) ≢ slice_index colours.now (slice_index order.now (ends plan.now e).1)) }
+    ensures { IsTrue result ↔ ((e : ℕ) → e < length (edges plan.now)
+        → slice_index colours.now (slice_index order.now (ends plan.now e).0) ≢ slice_index colours.now (slice_index order.now (ends plan.now e).1)) }
 {
     for edge in 0..plan.edges() {
         let (low, high) = plan.ends(EdgeNo(edge));

@@ -43,7 +43,8 @@ IsHeld value None held = held ≡ None
 
 -- ---- opening
 
--- an empty handle has the lab of the script now (0), or no lab was opened, the handle is as it was and the fault is told; or the handle is in use, and nothing changed (7)
+-- an empty handle has the lab of the script now (0), or no lab was opened, the handle is as it was and the fault is told; or the handle
+-- is in use, and nothing changed (7)
 abbrev pub Opens : List ℕ → Option Held → Option Held → Told → Told → ℕ → Type 0
 Opens script (Some held) new told told' status = (status ≡ 7) × (new ≡ Some held) × (told' ≡ told)
 Opens script None new told told' status =
@@ -101,7 +102,8 @@ ServesRest job a b told told' status =
 abbrev pub GoesOn : Aim → ℕ → ℕ → Lab → Lab → LabTurned → LabTurned → ℕ → Type 0
 GoesOn aim most job a b told told' status =
     (b.bench ≡ a.bench)
-    × (((stage : Stage) × (r : Turned) × Goes aim most job a.desks.items (Some (stage, r)) b.desks.items × (status ≡ stage_status aim stage) × (told' ≡ turned_of r))
+    × (((stage : Stage) × (r : Turned) × Goes aim most job a.desks.items (Some (stage, r)) b.desks.items
+    × (status ≡ stage_status aim stage) × (told' ≡ turned_of r))
     ⊎ ((status ≡ 2) × Goes aim most job a.desks.items None b.desks.items × (told' ≡ told)))
 
 -- the job did the commands that were left and let go (0); or it doesn't hold (8), or there is no such job (2), and nothing changed
@@ -164,7 +166,8 @@ Reports p room room' told' status = Delivers (status_of (Ok p.outcome)) p.text.i
 abbrev pub NoRoomYet : List ℕ → List ℕ → Told → ℕ → Type 0
 NoRoomYet room room' told' status = Fails NoMemory room room' told' status
 
--- An open lab was closed, and its report, which is printed of its end, is in the handle and given; or memory was refused, and the handle has the lab, or its end.
+-- An open lab was closed, and its report, which is printed of its end, is in the handle and given; or memory was refused, and the handle
+-- has the lab, or its end.
 -- The end of a lab is printed, or stays without memory. A report is given again. Of every report that is given the headline holds, whatever the calls were:
 -- of that of an open lab as a report of its own plan, and of the others it is known that there is such a run
 abbrev pub ClosesHeld : Held → Held → List ℕ → List ℕ → Told → Told → ℕ → Type 0
@@ -174,7 +177,8 @@ ClosesHeld (Open a) new room room' told told' status =
     ⊎ ((b : Lab) × (b.bench ≡ a.bench) × (b.desks.items ≡ a.desks.items) × (new ≡ Open b) × NoRoomYet room room' told' status)
     ⊎ ((e : LabEnd) × IsEnd a.bench.plan a.desks.items e.closed × (new ≡ Ended e) × NoRoomYet room room' told' status)
 ClosesHeld (Ended e) new room room' told told' status =
-    ((p : Printed) × IsPrint e.closed p.text.items p.outcome × ∥ HasReport e.closed.plan p.text.items p.outcome ∥₁ × (new ≡ Reported p) × Reports p room room' told' status)
+    ((p : Printed) × IsPrint e.closed p.text.items p.outcome × ∥ HasReport e.closed.plan p.text.items p.outcome ∥₁
+    × (new ≡ Reported p) × Reports p room room' told' status)
     ⊎ ((new ≡ Ended e) × NoRoomYet room room' told' status)
 ClosesHeld (Reported p) new room room' told told' status =
     ∥ HasSomeReport p.text.items p.outcome ∥₁ × (new ≡ Reported p) × Reports p room room' told' status

@@ -137,7 +137,14 @@ verb_numbers (Add n) = (1, n)
 verb_numbers Reads = (2, 0)
 
 abbrev pub entry_of : Entry → LabEntry
-entry_of e = record { session = e.session; place = e.place; length = e.length; verb = (verb_numbers e.verb).0; number = (verb_numbers e.verb).1; value = e.value }
+entry_of e = record {
+  session = e.session;
+  place = e.place;
+  length = e.length;
+  verb = (verb_numbers e.verb).0;
+  number = (verb_numbers e.verb).1;
+  value = e.value;
+}
 
 abbrev pub planned_of : Planned → LabPlanned
 planned_of c = record { instrument = c.instrument; verb = (verb_numbers c.verb).0; number = (verb_numbers c.verb).1 }

@@ -2,7 +2,8 @@
 ghost use Rattle.std.specs.Prelude.{◌≡◌, if◌then◌else◌};
 ghost use Rattle.session_layer.specs.Turn.{Took};
 ghost use Rattle.desk_user.specs.Serving.{Served};
-ghost use Rattle.bench_c.specs.Calls.{InHeld, Drives, GivesUp, DoesNext, TellsEntry, TellsSize, TellsSession, TellsPlanned, TellsState, TellsJobName, TellsInstrumentName};
+ghost use Rattle.bench_c.specs.Calls.{InHeld, Drives, GivesUp, DoesNext, TellsEntry, TellsSize, TellsSession};
+ghost use Rattle.bench_c.specs.Calls.{TellsPlanned, TellsState, TellsJobName, TellsInstrumentName};
 
 use crate::slot::Held;
 use crate::telling::put;

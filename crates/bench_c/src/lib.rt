@@ -5,7 +5,8 @@ ghost use Rattle.std.specs.Prelude.{◌≡◌, None};
 ghost use Rattle.session_layer.specs.Turn.{Took};
 ghost use Rattle.desk_user.specs.Serving.{Served};
 ghost use Rattle.bench_door.specs.declared.going.Aim.TheVariants.{Hold, Retire};
-ghost use Rattle.bench_c.specs.Calls.{Opens, InLab, Drives, ServesRest, GoesOn, LetsGo, GivesUp, DoesNext, TellsSize, TellsSession, TellsPlanned, TellsState, TellsJobName, TellsInstrumentName, Closes};
+ghost use Rattle.bench_c.specs.Calls.{Opens, InLab, Drives, ServesRest, GoesOn, LetsGo, GivesUp, DoesNext, TellsSize};
+ghost use Rattle.bench_c.specs.Calls.{TellsSession, TellsPlanned, TellsState, TellsJobName, TellsInstrumentName, Closes};
 
 mod ending;
 mod going;
@@ -235,7 +236,7 @@ pub extern "C" fn lab_serve_others(
     }
 }
 
-/// Takes turns of a job, at most so many, and serves the others after each, until it holds.
+/// Takes turns of a job, at most this many, and serves the others after each, until it holds.
 #[unsafe(no_mangle)]
 pub extern "C" fn lab_begin(
     alloc: Global,
@@ -276,7 +277,7 @@ pub extern "C" fn lab_end(
     }
 }
 
-/// Takes turns of a job whose sessions are all done, at most so many, and serves the others after each, until it is retired.
+/// Takes turns of a job whose sessions are all done, at most this many, and serves the others after each, until it is retired.
 #[unsafe(no_mangle)]
 pub extern "C" fn lab_retire(
     alloc: Global,
@@ -332,7 +333,8 @@ pub extern "C" fn lab_withdraw(alloc: Global, bench: &mut Handle, job: u32) -> u
     }
 }
 
-/// Closes the lab, and puts its report into the room. Without memory the handle keeps the lab, or its end, and without room the report: the next call goes on from there.
+/// Closes the lab, and puts its report into the room. Without memory the handle keeps the lab, or its end, and without room the report:
+/// the next call goes on from there.
 #[unsafe(no_mangle)]
 pub extern "C" fn lab_bench_close(
     alloc: Global,

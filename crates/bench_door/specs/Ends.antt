@@ -28,4 +28,6 @@ HasSomeReport text outcome = (plan : LabPlan) × HasReport plan text outcome
 
 -- whatever a bench's desks did, what is printed of its end is such a report
 abbrev pub EndsHaveReports : Type 0
-EndsHaveReports = (plan : LabPlan) (desks : List DeskView) (c : ClosedView) → IsEnd plan desks c → (text : List ℕ) (outcome : Outcome) → IsPrint c text outcome → HasReport plan text outcome
+EndsHaveReports =
+    (plan : LabPlan) (desks : List DeskView) (c : ClosedView) → IsEnd plan desks c
+    → (text : List ℕ) (outcome : Outcome) → IsPrint c text outcome → HasReport plan text outcome

@@ -10,37 +10,37 @@ use script_reader::read_plan;
 use std::alloc::Allocator;
 use std::process::Abort;
 
-// Jobs and edges are plain numbers in a table: one with a `JobNo` in it isn't a constant to the prover, and is costly.
+/// Jobs and edges are plain numbers in a table: one with a `JobNo` in it isn't a constant to the prover, and is costly.
 pub(crate) const A: u8 = 0;
 
 pub(crate) const B: u8 = 1;
 
 pub(crate) const C: u8 = 2;
 
-// The edges of three jobs; of two there is only the first.
+/// The edges of three jobs; of two there is only the first.
 pub(crate) const AB: u16 = 0;
 
 pub(crate) const AC: u16 = 1;
 
 pub(crate) const BC: u16 = 2;
 
-// Jobs a and b, which add 1 on the scale in one session each.
+/// Jobs a and b, which add 1 on the scale in one session each.
 pub(crate) const TWO: &str =
     "lab 1\njob a\nsession\nscale add 1\nend\njob b\nsession\nscale add 1\nend\n";
 
-// The same, with a second session of a.
+/// The same, with a second session of a.
 pub(crate) const TWICE: &str =
     "lab 1\njob a\nsession\nscale add 1\nend\nsession\nscale add 1\nend\njob b\nsession\nscale add 1\nend\n";
 
-// The same as the first, with a session of b that has the patience 0.
+/// The same as the first, with a session of b that has the patience 0.
 pub(crate) const IMPATIENT: &str =
     "lab 2\njob a\nsession\nscale add 1\nend\njob b\nsession patience 0\nscale add 1\nend\n";
 
-// Jobs a, b and c, which add 1 on the same three instruments in one session each.
+/// Jobs a, b and c, which add 1 on the same three instruments in one session each.
 pub(crate) const THREE: &str =
     "lab 1\njob a\nsession\nlamp add 1\npump add 1\nscale add 1\nend\njob b\nsession\nlamp add 1\npump add 1\nscale add 1\nend\njob c\nsession\nlamp add 1\npump add 1\nscale add 1\nend\n";
 
-// A plan without jobs.
+/// A plan without jobs.
 pub(crate) const NOBODY: &str = "lab 1\n";
 
 pub(crate) fn plan_of<T: Allocator + Copy>(rt: &impl Abort, alloc: T, script: &str) -> Plan<T> {
@@ -63,7 +63,7 @@ pub(crate) fn bench_of<'p, T: Allocator + Copy>(
     }
 }
 
-// Whether the edge is one of the job's.
+/// Whether the edge is one of the job's.
 fn has_end<T: Allocator>(plan: &Plan<T>, job: JobNo, edge: EdgeNo) -> bool
     ensures { IsTrue result → IsOwn plan.now job edge }
 {
@@ -74,7 +74,7 @@ fn has_end<T: Allocator>(plan: &Plan<T>, job: JobNo, edge: EdgeNo) -> bool
     lower == job || higher == job
 }
 
-// Whether the edge is one of the desk's job.
+/// Whether the edge is one of the desk's job.
 pub(crate) fn is_own<T: Allocator>(bench: &Bench<T>, desk: &Desk<T>, edge: EdgeNo) -> bool
     requires own { Owns bench.now desk.now }
     ensures { IsTrue result → IsOwn desk.now.plan desk.now.job edge }
@@ -84,7 +84,7 @@ pub(crate) fn is_own<T: Allocator>(bench: &Bench<T>, desk: &Desk<T>, edge: EdgeN
     has_end(plan, job, edge)
 }
 
-// The desks of a bench for two jobs.
+/// The desks of a bench for two jobs.
 pub(crate) fn both<'p, T: Allocator>(
     rt: &impl Abort,
     bench: &Bench<'p, T>,

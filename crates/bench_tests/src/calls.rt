@@ -21,7 +21,7 @@ use legal_steps::{EdgeState, JobState};
 use std::alloc::Allocator;
 use std::process::Abort;
 
-// A move on an edge, or all that are due there, or a group of moves.
+/// A move on an edge, or all that are due there, or a group of moves.
 #[derive(Clone, Copy)]
 pub(crate) enum Move {
     GiveFork,
@@ -33,7 +33,7 @@ pub(crate) enum Move {
     These(EdgeMoves),
 }
 
-// A call on a desk, with the number of an edge or of another job.
+/// A call on a desk, with the number of an edge or of another job.
 #[derive(Clone, Copy)]
 pub(crate) enum Call {
     Look(u16),
@@ -50,21 +50,21 @@ pub(crate) enum Call {
     Counts,
 }
 
-// What is answered; words as they are packed.
+/// What is answered; words as they are packed.
 #[derive(Clone, Copy, PartialEq, Eq, Debug)]
 pub(crate) enum Answer {
-    // an edge as it was seen, or as a move left it
+    /// an edge as it was seen, or as a move left it
     Word(u64),
-    // how far a job is
+    /// how far a job is
     Far(u64),
-    // the other word that an exchange found
+    /// the other word that an exchange found
     Found(u64),
     Is(bool),
-    // the job and the value of an entry
+    /// the job and the value of an entry
     Added(u8, u32),
-    // whether there is a mark for the fork, and which bottles there are marks for
+    /// whether there is a mark for the fork, and which bottles there are marks for
     Marks(bool, u32),
-    // the turns, and in how many of them the session waited
+    /// the turns, and in how many of them the session waited
     Turns(u64, u32),
     Counted(Counts),
 }
@@ -82,7 +82,7 @@ fn looked<T: Allocator>(
     Answer::Word(look(bench, desk, edge).pack())
 }
 
-// Moves that are seen to be legal.
+/// Moves that are seen to be legal.
 fn moved<T: Allocator>(
     rt: &impl Abort,
     bench: &Bench<T>,
@@ -152,7 +152,7 @@ fn tried<T: Allocator>(
     }
 }
 
-// Whether a single move, or a group of them, is legal by the word last seen.
+/// Whether a single move, or a group of them, is legal by the word last seen.
 fn may<T: Allocator>(
     rt: &impl Abort,
     bench: &Bench<T>,
@@ -196,7 +196,7 @@ fn stored<T: Allocator>(
     Answer::Far(phase_of(rt, desk))
 }
 
-// The entry of the one command of a job's first session on an instrument, which adds 1.
+/// The entry of the one command of a job's first session on an instrument, which adds 1.
 pub(crate) fn entry_of(job: JobNo, value: u32) -> Entry {
     Entry {
         job,
@@ -283,7 +283,7 @@ pub(crate) fn called<T: Allocator>(
     }
 }
 
-// The desks stand in ascending order of their jobs.
+/// The desks stand in ascending order of their jobs.
 fn answer_of<T: Allocator>(
     rt: &impl Abort,
     bench: &Bench<T>,
@@ -300,10 +300,10 @@ fn answer_of<T: Allocator>(
     called(rt, bench, &mut desks[place], call)
 }
 
-// A job, a call on its desk, and what has to be answered.
+/// A job, a call on its desk, and what has to be answered.
 pub(crate) type Line = (u8, Call, Answer);
 
-// An answer as a failure tells it, with what its word says of an edge, or of how far a job is.
+/// An answer as a failure tells it, with what its word says of an edge, or of how far a job is.
 fn said(answer: Answer) -> (Answer, Option<EdgeState>, Option<JobState>) {
     match answer {
         Answer::Word(word) | Answer::Found(word) => (answer, edge(word), None),
@@ -312,7 +312,7 @@ fn said(answer: Answer) -> (Answer, Option<EdgeState>, Option<JobState>) {
     }
 }
 
-// Does all the calls, and compares each answer.
+/// Does all the calls, and compares each answer.
 pub(crate) fn do_all<T: Allocator>(
     rt: &impl Abort,
     bench: &Bench<T>,
@@ -333,7 +333,7 @@ pub(crate) fn do_all<T: Allocator>(
     }
 }
 
-// The calls on a bench that is opened for them.
+/// The calls on a bench that is opened for them.
 pub(crate) fn check<T: Allocator + Copy>(rt: &impl Abort, alloc: T, script: &str, lines: &[Line]) {
     let plan = plan_of(rt, alloc, script);
     let (bench, mut desks) = bench_of(rt, alloc, &plan);

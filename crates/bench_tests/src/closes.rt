@@ -267,7 +267,7 @@ fn closes_with_both<'p, T: Allocator + Copy>(
     check_left(rt, &closed(rt, alloc, bench, two), wanted);
 }
 
-/// So many rounds at most, which the jobs end before.
+/// This many rounds at most, which the jobs end before.
 fn take_turns<T: Allocator>(
     rt: &impl Abort,
     bench: &Bench<T>,
@@ -282,7 +282,7 @@ fn take_turns<T: Allocator>(
     assert!(rt; rounds(bench, desks, limit) == wanted);
 }
 
-/// The bench after so many rounds at most.
+/// The bench after this many rounds at most.
 fn closes_in_order<T: Allocator + Copy>(
     rt: &impl Abort,
     alloc: T,

@@ -126,7 +126,8 @@ fn add_all_instruments<A: Allocator, B: Allocator>(
 ) -> Result<(), AllocError>
     requires counts { length counts.now ≡ length plan.now.instruments }
     requires inside { All (λ place. place < length counts.now) order.now }
-    ensures { OnOk result (out.new.items ≡ out.old.items ++ flat_map (λ place. instrument_line plan.now place (count_at counts.now place) (held_on blocks.now place)) order.now) }
+    ensures { OnOk result (out.new.items ≡ out.old.items
+        ++ flat_map (λ place. instrument_line plan.now place (count_at counts.now place) (held_on blocks.now place)) order.now) }
 {
     for place in order {
         let _ = plan.instruments();
@@ -137,7 +138,7 @@ fn add_all_instruments<A: Allocator, B: Allocator>(
     Ok(())
 }
 
-/// Adds what is told of the blocks of a run of so many rounds, after which all jobs were retired or not: those with rounds,
+/// Adds what is told of the blocks of a run of this many rounds, after which all jobs were retired or not: those with rounds,
 /// largest first, and the instruments that were waited for, largest first.
 ///
 /// Unless an allocation fails, the text is added whole. It takes time by the square of the blocks, which are in the order of

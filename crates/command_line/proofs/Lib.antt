@@ -4,3 +4,4 @@ pub mod Numbers
 pub mod Leaves
 pub mod Tops
 pub mod Walks
+pub mod Programs

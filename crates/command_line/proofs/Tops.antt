@@ -10,7 +10,7 @@ use Rattle.clap.specs.Faults.{built_fault, check_fault, defaults_fault, entered_
 use Rattle.command_line.proofs.Flags.{IsPlainRules, first_nil, held, second_nil, stays}
 use Rattle.command_line.proofs.Walks.{between, both_nil, no_place}
 
-abbrev end_of_top : Shape → Held → Bool → Kinds
+abbrev pub end_of_top : Shape → Held → Bool → Kinds
 end_of_top s end has =
     or_else (settle_fault s.rules s.args_override_self end) (or_else (defaults_fault (settled s.rules end).rows s.rules) (check_fault s (finished s.rules end) has))
 

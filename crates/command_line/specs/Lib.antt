@@ -1,3 +1,4 @@
+pub mod Answers
 pub mod Command
 pub mod Ends
 pub mod Grammar

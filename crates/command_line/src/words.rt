@@ -16,7 +16,7 @@ pub enum NoTask {
     Help(String),
     /// The program doesn't take these words, for the reason in this line.
     Refused(String),
-    /// A growth was refused.
+    /// No memory is left.
     NoMemory,
 }
 

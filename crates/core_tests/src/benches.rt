@@ -14,30 +14,30 @@ pub(crate) const B: JobNo = JobNo(1);
 
 pub(crate) const C: JobNo = JobNo(2);
 
-// The edges of three jobs; of two there is only the first.
+/// The edges of three jobs; of two there is only the first.
 pub(crate) const AB: EdgeNo = EdgeNo(0);
 
 pub(crate) const AC: EdgeNo = EdgeNo(1);
 
 pub(crate) const BC: EdgeNo = EdgeNo(2);
 
-// Jobs a and b, which add 1 on the scale in one session each.
+/// Jobs a and b, which add 1 on the scale in one session each.
 pub(crate) const TWO: &str =
     "lab 1\njob a\nsession\nscale add 1\nend\njob b\nsession\nscale add 1\nend\n";
 
-// The same, with a second session of a.
+/// The same, with a second session of a.
 pub(crate) const TWICE: &str =
     "lab 1\njob a\nsession\nscale add 1\nend\nsession\nscale add 1\nend\njob b\nsession\nscale add 1\nend\n";
 
-// The same as the first, with a session of b that has the patience 0.
+/// The same as the first, with a session of b that has the patience 0.
 pub(crate) const IMPATIENT: &str =
     "lab 2\njob a\nsession\nscale add 1\nend\njob b\nsession patience 0\nscale add 1\nend\n";
 
-// Jobs a, b and c, which read the same three instruments in one session each.
+/// Jobs a, b and c, which read the same three instruments in one session each.
 pub(crate) const THREE: &str =
     "lab 1\njob a\nsession\nlamp read\npump read\nscale read\nend\njob b\nsession\nlamp read\npump read\nscale read\nend\njob c\nsession\nlamp read\npump read\nscale read\nend\n";
 
-// The same with a command that adds 1 in place of each that reads.
+/// The same with a command that adds 1 in place of each that reads.
 pub(crate) const THREE_ADD: &str =
     "lab 1\njob a\nsession\nlamp add 1\npump add 1\nscale add 1\nend\njob b\nsession\nlamp add 1\npump add 1\nscale add 1\nend\njob c\nsession\nlamp add 1\npump add 1\nscale add 1\nend\n";
 
@@ -48,7 +48,7 @@ pub(crate) fn plan_of<T: Allocator + Copy>(rt: &impl Abort, alloc: T, script: &s
     }
 }
 
-// A thirsty job eats before it drinks.
+/// A thirsty job eats before it drinks.
 pub(crate) const MEAL_FIRST: [Step; 4] = [
     Step::Thirst(A),
     Step::Hunger(A),
@@ -56,8 +56,8 @@ pub(crate) const MEAL_FIRST: [Step; 4] = [
     Step::Sit(A),
 ];
 
-// Job a sits on a mark that is out of date: b asked since then. Then a gives what it was asked for, b eats, and a
-// sits once more.
+/// Job a sits on a mark that is out of date: b asked since then. Then a gives what it was asked for, b eats, and a
+/// sits once more.
 pub(crate) const STALE_MARK: [Step; 29] = [
     Step::Thirst(A),
     Step::Hunger(A),
@@ -129,7 +129,7 @@ pub(crate) mod stage {
     pub(crate) const A_LOOKS_AGAIN: usize = 28;
 }
 
-// Of three jobs, a gets both its forks, eats and soils them.
+/// Of three jobs, a gets both its forks, eats and soils them.
 pub(crate) const MEAL_OF_THREE: [Step; 11] = [
     Step::Thirst(A),
     Step::Hunger(A),
@@ -144,12 +144,12 @@ pub(crate) const MEAL_OF_THREE: [Step; 11] = [
     Step::Soil(A, AB),
 ];
 
-// How many of those steps are done before a sits, and once one of its two forks is soiled.
+/// How many of those steps are done before a sits, and once one of its two forks is soiled.
 pub(crate) const BEFORE_THE_MEAL: usize = 8;
 
 pub(crate) const ONE_FORK_SOILED: usize = 10;
 
-// Whether the step's numbers are the plan's.
+/// Whether the step's numbers are the plan's.
 pub(crate) fn is_step_of<T: Allocator>(plan: &Plan<T>, step: Step) -> bool
     ensures { IsTrue result → IsStepOf plan.now step }
 {
@@ -175,7 +175,7 @@ pub(crate) fn is_step_of<T: Allocator>(plan: &Plan<T>, step: Step) -> bool
     }
 }
 
-// The step's event, with what is there to be seen.
+/// The step's event, with what is there to be seen.
 pub(crate) fn event_of<T: Allocator>(rt: &impl Abort, world: &World<T>, step: Step) -> Event {
     assert!(rt; is_step_of(world.plan(), step));
     world.event_of(&step)

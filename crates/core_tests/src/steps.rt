@@ -20,7 +20,7 @@ mod phases;
 mod starts;
 mod stops;
 
-// Whether a job has a mark for the fork, and which bottles it has marks for.
+/// Whether a job has a mark for the fork, and which bottles it has marks for.
 type Marks = (bool, u32);
 
 const NONE: Marks = (false, 0);
@@ -31,7 +31,7 @@ const FORK: Marks = (true, 0);
 
 const BOTH: Marks = (true, 1);
 
-// What a world shows of its first two jobs, their edge and the last entry of the first log.
+/// What a world shows of its first two jobs, their edge and the last entry of the first log.
 #[derive(Clone, Copy, PartialEq)]
 struct Shown {
     edge: EdgeState,
@@ -44,7 +44,7 @@ struct Shown {
     last: Option<Entry>,
 }
 
-// The edge of the initial state, with one bottle: fork and bottle at a, their tokens at b.
+/// The edge of the initial state, with one bottle: fork and bottle at a, their tokens at b.
 const OPENED_EDGE: EdgeState = EdgeState {
     fork: End::Lower,
     dirty: true,
@@ -110,7 +110,7 @@ fn shows<T: Allocator>(rt: &impl Abort, world: &World<T>) -> Shown {
     }
 }
 
-// Whether the event is done, which has to be where it is said to be enabled.
+/// Whether the event is done, which has to be where it is said to be enabled.
 fn does<T: Allocator>(rt: &impl Abort, world: &mut World<T>, event: &Event) -> bool {
     let enabled = world.enabled(*event);
     let done = world.step(*event).is_ok();
@@ -123,25 +123,25 @@ fn takes<T: Allocator>(rt: &impl Abort, world: &mut World<T>, step: &Step) -> bo
     does(rt, world, &event)
 }
 
-// What a replay answers.
+/// What a replay answers.
 type Replayed = Result<usize, (usize, NotLegal)>;
 
-// What is done from the initial state.
+/// What is done from the initial state.
 #[derive(Clone, Copy)]
 enum Way<'a> {
-    // A replay of these events.
+    /// A replay of these events.
     Events(&'a [Event]),
-    // A replay of the steps in these lines.
+    /// A replay of the steps in these lines.
     Lines(&'a [StepLine]),
-    // These steps, which have to be legal.
+    /// These steps, which have to be legal.
     Steps(&'a [Step]),
-    // The same, and then the event.
+    /// The same, and then the event.
     Then(&'a [Step], &'a Event),
-    // The same, and then so many of the steps that a number codes.
+    /// The same, and then this many of the steps that a number codes.
     List(&'a [Step], usize, usize),
 }
 
-// Whether the numbers of all the steps are the plan's.
+/// Whether the numbers of all the steps are the plan's.
 fn are_steps_of<T: Allocator>(plan: &Plan<T>, lines: &[StepLine]) -> bool
     ensures { IsTrue result → All (λ line. IsStepOf plan.now line.step) lines.now }
 {
@@ -157,7 +157,7 @@ fn replay_lines<T: Allocator>(
     world.replay_steps(lines)
 }
 
-// Takes the steps, all of which have to be legal.
+/// Takes the steps, all of which have to be legal.
 fn walk<T: Allocator>(rt: &impl Abort, world: &mut World<T>, steps: &[Step]) -> Replayed {
     for step in steps {
         assert!(rt; takes(rt, world, step));
@@ -165,7 +165,7 @@ fn walk<T: Allocator>(rt: &impl Abort, world: &mut World<T>, steps: &[Step]) -> 
     Ok(steps.len())
 }
 
-// Answers as a replay of the steps and then the event, but counts the steps alone.
+/// Answers as a replay of the steps and then the event, but counts the steps alone.
 fn walk_to<T: Allocator>(
     rt: &impl Abort,
     world: &mut World<T>,
@@ -194,7 +194,7 @@ fn goes<T: Allocator>(rt: &impl Abort, world: &mut World<T>, way: Way) -> Replay
     }
 }
 
-// What the way answers, what the world shows after it, and what the phases of both jobs allow then.
+/// What the way answers, what the world shows after it, and what the phases of both jobs allow then.
 type Told = (Replayed, Shown, (Allowed, Allowed));
 
 fn tell<T: Allocator>(rt: &impl Abort, world: &mut World<T>, way: Way) -> Told {
@@ -210,7 +210,7 @@ fn open<'a, T: Allocator + Copy>(rt: &impl Abort, alloc: T, plan: &'a Plan<T>) -
     }
 }
 
-// It alone owns a world.
+/// It alone owns a world.
 fn told_of<T: Allocator + Copy>(rt: &impl Abort, alloc: T, plan: &Plan<T>, way: Way) -> Told {
     let mut world = open(rt, alloc, plan);
     tell(rt, &mut world, way)
@@ -221,7 +221,7 @@ fn told<T: Allocator + Copy>(rt: &impl Abort, alloc: T, script: &str, way: Way) 
     told_of(rt, alloc, &plan, way)
 }
 
-// Whether the event is legal after these steps, and what the world shows then.
+/// Whether the event is legal after these steps, and what the world shows then.
 fn after<T: Allocator + Copy>(
     rt: &impl Abort,
     alloc: T,
@@ -233,7 +233,7 @@ fn after<T: Allocator + Copy>(
     (answer.is_ok(), shown)
 }
 
-// What a replay answers, and what the world shows after it.
+/// What a replay answers, and what the world shows after it.
 fn replayed<T: Allocator + Copy>(
     rt: &impl Abort,
     alloc: T,

@@ -14,7 +14,7 @@ use lab_plan::{EdgeNo, JobNo, Plan};
 use legal_steps::{Dining, EdgeState, End};
 use std::alloc::Allocator;
 
-// Whether the edge is one of the job's.
+/// Whether the edge is one of the job's.
 fn has_end<A: Allocator>(plan: &Plan<A>, job: JobNo, edge: EdgeNo) -> bool
     ensures { IsTrue result ↔ IsOwn plan.now job edge }
 {
@@ -34,7 +34,7 @@ pub fn is_own_edge<A: Allocator>(bench: &Bench<A>, desk: &Desk<A>, edge: EdgeNo)
     has_end(bench.plan(), job, edge)
 }
 
-// Whether each move of the fork is legal after the ones before it.
+/// Whether each move of the fork is legal after the ones before it.
 fn are_fork_moves(dining: Dining, here: End, seen: EdgeState, moves: EdgeMoves) -> bool
     ensures { IsTrue result ↔ AreForkMovesLegal dining here seen moves }
 {
@@ -58,7 +58,7 @@ fn is_part(set: u32, all: u32) -> bool
     set & all == set
 }
 
-// Whether each move is legal after the ones before it.
+/// Whether each move is legal after the ones before it.
 fn are_legal<A: Allocator>(bench: &Bench<A>, desk: &Desk<A>, edge: EdgeNo, moves: EdgeMoves) -> bool
     requires own { Owns bench.now desk.now }
     requires edge { IsOwn desk.now.plan desk.now.job edge }

@@ -20,7 +20,7 @@ opened b = fresh_desks b.table b.plan (length b.plan.jobs)
 abbrev pub Keeps : BenchView → DeskView → DeskView → Type 0
 Keeps b d e = Owns b e × (e.job ≡ d.job)
 
--- the desk took at most so many turns, and did nothing else but glance at other jobs
+-- the desk took at most this many turns, and did nothing else but glance at other jobs
 abbrev pub TookUpTo : ℕ → DeskView → DeskView → Type 0
 TookUpTo most d e = (n : ℕ) × (n ≤ most) × TookTurns n d e
 
@@ -31,12 +31,12 @@ IsAt CommandsDone d = May d.plan (known d) (Quit d.job)
 IsAt IsOut d = IsInSession (drinking (known d) d.job) → ⊥
 IsAt Retired d = drinking (known d) d.job ≡ drinks.Retired
 
--- the desk took so many turns, one after another, and before none of them had its job come so far
+-- the desk took this many turns, one after another, and before none of them had its job come so far
 abbrev pub TookBefore : Until → ℕ → DeskView → DeskView → Type 0
 TookBefore until zero d e = e ≡ d
 TookBefore until (suc n) d e = (m : DeskView) × TookBefore until n d m × (IsAt until m → ⊥) × (r : Turned) × Took m r e
 
--- the desk took turns until its job had come so far, at most so many, and all of them where the answer is no
+-- the desk took turns until its job had come so far, at most this many, and all of them where the answer is no
 abbrev pub TookUntil : Until → ℕ → DeskView → Bool → DeskView → Type 0
 TookUntil until most d r e = (n : ℕ) × (n ≤ most) × TookBefore until n d e × (r ≡ false → n ≡ most)
 
@@ -44,11 +44,11 @@ TookUntil until most d r e = (n : ℕ) × (n ≤ most) × TookBefore until n d e
 abbrev pub Looked : DeskView → Bool → DeskView → Type 0
 Looked d r e = ((IsAt Retired d → ⊥) × (r ≡ false) × (e ≡ d)) ⊎ (IsAt Retired d × Glanced d r e)
 
--- the desk took so many turns, one after another, and before each it looked and did not see all jobs retired
+-- the desk took this many turns, one after another, and before each it looked and did not see all jobs retired
 abbrev pub TookBeforeAll : ℕ → DeskView → DeskView → Type 0
 TookBeforeAll zero d e = e ≡ d
 TookBeforeAll (suc n) d e = (m : DeskView) × TookBeforeAll n d m × (k : DeskView) × Looked m false k × (r : Turned) × Took k r e
 
--- the desk took turns until it saw all jobs retired, at most so many, and all of them where the answer is no
+-- the desk took turns until it saw all jobs retired, at most this many, and all of them where the answer is no
 abbrev pub TookUntilAll : ℕ → DeskView → Bool → DeskView → Type 0
 TookUntilAll most d r e = (n : ℕ) × (n ≤ most) × (m : DeskView) × TookBeforeAll n d m × Looked m r e × (r ≡ false → n ≡ most)

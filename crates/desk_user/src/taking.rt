@@ -47,8 +47,8 @@ pub fn turns_until<R: Wait, A: Allocator>(
     is_at(bench, desk, until)
 }
 
-// Whether the desk saw that all jobs are retired. It glances at the others once its own job is: a glance takes a word away from
-// the thread that writes it.
+/// Whether the desk saw that all jobs are retired. It glances at the others once its own job is: a glance takes a word away from
+/// the thread that writes it.
 fn saw_all_retired<A: Allocator>(bench: &Bench<A>, desk: &mut Desk<A>) -> bool
     requires own { Owns bench.now desk.old }
     ensures keeps { Keeps bench.now desk.old desk.new }

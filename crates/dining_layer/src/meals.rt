@@ -10,7 +10,7 @@ use edge_rule::{Bench, Desk, PhaseEvent, store_phase};
 use legal_steps::Dining;
 use std::alloc::Allocator;
 
-// Whether each own edge has a fork mark.
+/// Whether each own edge has a fork mark.
 fn is_marked_all<A: Allocator>(bench: &Bench<A>, desk: &Desk<A>) -> bool
     requires own { Owns bench.now desk.now }
     ensures { IsTrue result ↔ IsMarkedAll desk.now.plan (known desk.now) desk.now.job }

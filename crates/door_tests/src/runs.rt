@@ -107,7 +107,7 @@ fn names_the_line(rt: HostRuntime) {
     }
 }
 
-// No call that names a third job does anything.
+/// No call that names a third job does anything.
 fn has_no_third(rt: &impl Abort, lab: &mut Lab) {
     assert!(rt; lab.turn(2).is_none());
     assert!(rt; lab.serve(2).is_none());
@@ -118,7 +118,7 @@ fn has_no_third(rt: &impl Abort, lab: &mut Lab) {
     assert!(rt; lab.end(2).is_none());
 }
 
-// Job a becomes thirsty and gives up; then both take turns.
+/// Job a becomes thirsty and gives up; then both take turns.
 fn give_up(rt: &impl Abort, lab: &mut Lab) {
     assert!(rt; lab.withdraw(0) == Some(false));
     assert!(rt; lab.command(0) == Some(None));
@@ -140,7 +140,7 @@ fn gives_up(rt: HostRuntime) {
     assert!(rt; report.text.as_slice().starts_with(GIVEN_UP));
 }
 
-// Goes on, and compares how far the job then is.
+/// Goes on, and compares how far the job then is.
 fn come(rt: &impl Abort, lab: &mut Lab, job: usize, aim: Aim, most: u32, wanted: Stage) {
     match lab.go(job, aim, most) {
         Some((stage, _)) => assert!(rt; stage == wanted),

@@ -19,7 +19,7 @@ use lab_plan::EdgeNo;
 use legal_steps::{EdgeState, End, JobState};
 use std::alloc::Allocator;
 
-// The moves with the bottles that are given and asked for.
+/// The moves with the bottles that are given and asked for.
 fn with_sets(phase: JobState, needed: u32, mine: EdgeState, moves: EdgeMoves) -> EdgeMoves
     ensures { result ≡ sets_added phase needed mine moves }
 {
@@ -43,7 +43,8 @@ pub fn with_bottles<A: Allocator>(
     requires edge { IsOwn desk.now.plan desk.now.job edge }
     ensures with { WithBottles desk.now.plan (known desk.now) desk.now.job edge moves result }
     ensures due { AreForkMoves desk.now.plan (known desk.now) desk.now.job edge moves → AreDue desk.now.plan (known desk.now) desk.now.job edge result }
-    ensures legal { AreForkMoves desk.now.plan (known desk.now) desk.now.job edge moves → IsLegalFrom desk.now.plan (known desk.now) (events_of result desk.now.job edge) }
+    ensures legal { AreForkMoves desk.now.plan (known desk.now) desk.now.job edge moves
+        → IsLegalFrom desk.now.plan (known desk.now) (events_of result desk.now.job edge) }
 {
     let at = at_edge(bench, desk, edge);
     let needed = desk.needed(edge);
@@ -91,8 +92,10 @@ pub fn greatest_sets<A: Allocator>(
 ) -> (u32, u32)
     requires own { Owns bench.now desk.now }
     requires edge { IsOwn desk.now.plan desk.now.job edge }
-    ensures gifts { IsGreatest desk.now.plan edge result.0 (MayGiveBottle desk.now.plan (fork_gone desk.now.plan (known desk.now) desk.now.job edge moves) desk.now.job edge) }
-    ensures wishes { IsGreatest desk.now.plan edge result.1 (λ k. (drinking (known desk.now) desk.now.job ≡ Thirsty) × MayAskBottle desk.now.plan (fork_asked_for desk.now.plan (known desk.now) desk.now.job edge moves) desk.now.job edge k) }
+    ensures gifts { IsGreatest desk.now.plan edge result.0
+        (MayGiveBottle desk.now.plan (fork_gone desk.now.plan (known desk.now) desk.now.job edge moves) desk.now.job edge) }
+    ensures wishes { IsGreatest desk.now.plan edge result.1 (λ k. (drinking (known desk.now) desk.now.job ≡ Thirsty)
+        × MayAskBottle desk.now.plan (fork_asked_for desk.now.plan (known desk.now) desk.now.job edge moves) desk.now.job edge k) }
 {
     let at = at_edge(bench, desk, edge);
     let needed = desk.needed(edge);
@@ -114,7 +117,8 @@ pub fn all_gifts<A: Allocator>(bench: &Bench<A>, desk: &Desk<A>, edge: EdgeNo) -
 pub fn all_wishes<A: Allocator>(bench: &Bench<A>, desk: &Desk<A>, edge: EdgeNo) -> u32
     requires own { Owns bench.now desk.now }
     requires edge { IsOwn desk.now.plan desk.now.job edge }
-    ensures { IsGreatest desk.now.plan edge result (λ k. (drinking (known desk.now) desk.now.job ≡ Thirsty) × MayAskBottle desk.now.plan (known desk.now) desk.now.job edge k) }
+    ensures { IsGreatest desk.now.plan edge result
+        (λ k. (drinking (known desk.now) desk.now.job ≡ Thirsty) × MayAskBottle desk.now.plan (known desk.now) desk.now.job edge k) }
 {
     let at = at_edge(bench, desk, edge);
     let needed = desk.needed(edge);

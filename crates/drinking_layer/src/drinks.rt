@@ -11,7 +11,7 @@ use lab_plan::EdgeNo;
 use legal_steps::Drinking;
 use std::alloc::Allocator;
 
-// Whether each needed bottle of the edge is marked.
+/// Whether each needed bottle of the edge is marked.
 fn has_needed_at<A: Allocator>(desk: &Desk<A>, edge: EdgeNo) -> bool
     requires { IsOwn desk.now.plan desk.now.job edge }
     ensures { IsTrue result ↔ HasNeededAt desk.now.plan (known desk.now) desk.now.job edge }
@@ -21,7 +21,7 @@ fn has_needed_at<A: Allocator>(desk: &Desk<A>, edge: EdgeNo) -> bool
     needed & marks == needed
 }
 
-// Whether each needed bottle of every own edge is marked.
+/// Whether each needed bottle of every own edge is marked.
 fn has_needed<A: Allocator>(bench: &Bench<A>, desk: &Desk<A>) -> bool
     requires own { Owns bench.now desk.now }
     ensures { IsTrue result ↔ HasNeeded desk.now.plan (known desk.now) desk.now.job }

@@ -5,14 +5,14 @@ ghost use Rattle.drinking_layer.specs.Local.{gifts as gifts_of, wishes as wishes
 
 use legal_steps::{Drinking, EdgeState, End, JobState};
 
-// The bottles of a set that aren't in the other.
+/// The bottles of a set that aren't in the other.
 fn without(set: u32, other: u32) -> u32
     ensures { result ≡ set_without set other }
 {
     set ^ (set & other)
 }
 
-// The bottles that are kept, needed as they are, where `given` says whether the fork is sent away just before.
+/// The bottles that are kept, needed as they are, where `given` says whether the fork is sent away just before.
 fn kept(phase: JobState, needed: u32, mine: EdgeState, given: bool) -> u32
     ensures { result ≡ kept_of phase needed mine given }
 {
@@ -24,7 +24,7 @@ fn kept(phase: JobState, needed: u32, mine: EdgeState, given: bool) -> u32
     }
 }
 
-// The bottles that are given, where `given` says whether the fork is sent away just before.
+/// The bottles that are given, where `given` says whether the fork is sent away just before.
 pub(crate) fn gifts(phase: JobState, needed: u32, mine: EdgeState, given: bool) -> u32
     ensures { result ≡ gifts_of phase needed mine given }
 {
@@ -34,7 +34,7 @@ pub(crate) fn gifts(phase: JobState, needed: u32, mine: EdgeState, given: bool) 
     )
 }
 
-// The bottles that are asked for, where the bottles of `sent` are given before.
+/// The bottles that are asked for, where the bottles of `sent` are given before.
 pub(crate) fn wishes(phase: JobState, needed: u32, mine: EdgeState, sent: u32) -> u32
     ensures { result ≡ wishes_of phase needed mine sent }
 {

@@ -12,7 +12,7 @@ use crate::words::number;
 use lab_plan::EdgeNo;
 use std::alloc::Allocator;
 
-// A note that there is none: no edge has this word, because some of the set bits are zero in every edge's word.
+/// A note that there is none: no edge has this word, because some of the set bits are zero in every edge's word.
 pub(crate) const NO_WORD: u64 = 0xffff_ffff_ffff_ffff;
 
 impl<A: Allocator> Desk<A> {

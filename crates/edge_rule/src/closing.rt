@@ -18,7 +18,7 @@ use legal_steps::{Counts, NO_COUNTS};
 use one_history::board::{Board, Enters, Notes, View};
 use std::alloc::{AllocError, Allocator};
 
-// The counts of each job, by the desks.
+/// The counts of each job, by the desks.
 fn counts_by_job<A: Allocator>(
     alloc: A,
     desks: &[Desk<A>],
@@ -36,7 +36,7 @@ fn counts_by_job<A: Allocator>(
     Ok(counts)
 }
 
-// The keeper takes over all hands.
+/// The keeper takes over all hands.
 fn gather<A: Allocator>(
     table: &Board<A>,
     keeper: &mut Seat<InstrumentLog<A>, View>,
@@ -54,7 +54,7 @@ fn gather<A: Allocator>(
     }
 }
 
-// Takes the bench apart. Each job has one desk here.
+/// Takes the bench apart. Each job has one desk here.
 fn taken_apart<'p, A: Allocator>(
     bench: Bench<'p, A>,
     desks: Vec<Desk<A>, A>,

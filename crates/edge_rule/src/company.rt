@@ -14,7 +14,7 @@ use instrument_log::InstrumentLog;
 use one_history::board::{Backs, Board, Lends, Notes, Notices, Returns, View};
 use std::alloc::Allocator;
 
-// All hands of the others are lent to `me` for one load, which is no event.
+/// All hands of the others are lent to `me` for one load, which is no event.
 fn hear<A: Allocator>(
     table: &Board<A>,
     me: &mut Seat<InstrumentLog<A>, View>,

@@ -12,25 +12,25 @@ use std::marker::Model;
 /// One job's seat, with what the job knows. Lists are by edge number of the plan, and hold something at the job's own edges alone.
 #[derive(Drop)]
 pub struct Desk<A: Allocator = Global> {
-    // The right to act as the job, and the history that it has seen.
+    /// The right to act as the job, and the history that it has seen.
     pub(crate) seat: Seat<InstrumentLog<A>, View>,
     pub(crate) job: JobNo,
-    // What the word of the job's phase says: it alone stores it.
+    /// What the word of the job's phase says: it alone stores it.
     pub(crate) phase: JobState,
-    // The marks of forks and bottles: what the last look set, or moves and phase acts after it.
+    /// The marks of forks and bottles: what the last look set, or moves and phase acts after it.
     pub(crate) fork_marks: Vec<bool, A>,
     pub(crate) bottle_marks: Vec<u32, A>,
-    // The word last seen, or written by the job since.
+    /// The word last seen, or written by the job since.
     pub(crate) seen: Vec<EdgeWord, A>,
-    // That same word if nothing was due there by it and the phase, and the marks are those that a look at it sets; else `NO_WORD`.
+    /// That same word if nothing was due there by it and the phase, and the marks are those that a look at it sets; else `NO_WORD`.
     pub(crate) calm: Vec<u64, A>,
-    // If it is set, no phase act is due but giving the session up.
+    /// If it is set, no phase act is due but giving the session up.
     pub(crate) settled: bool,
-    // The bottles that the job needs now: those of its session, and none between sessions.
+    /// The bottles that the job needs now: those of its session, and none between sessions.
     pub(crate) needed: Vec<u32, A>,
-    // The turns that were noted, and how many of them the session waited.
+    /// The turns that were noted, and how many of them the session waited.
     pub(crate) clock: Clock,
-    // What the job has done so far: the meals, and the sessions that it ended or gave up.
+    /// What the job has done so far: the meals, and the sessions that it ended or gave up.
     pub(crate) counts: Counts,
 }
 

@@ -19,14 +19,15 @@ use lab_plan::JobNo;
 use one_history::board::{Board, Glances, Lends, Notes, Returns, View};
 use std::alloc::Allocator;
 
-// The other's hand is lent to `me` for one load of the word, which is the other's phase word.
+/// The other's hand is lent to `me` for one load of the word, which is the other's phase word.
 fn glance_at<A: Allocator>(
     table: &Board<A>,
     me: &mut Seat<InstrumentLog<A>, View>,
     other: &mut Seat<InstrumentLog<A>, View>,
     word: usize,
 ) -> u64
-    requires table { (me.old.table_id ≡ table.now.shared.table_id) × (other.old.table_id ≡ table.now.shared.table_id) × (word < table.now.shared.table_id.words) }
+    requires table { (me.old.table_id ≡ table.now.shared.table_id) × (other.old.table_id ≡ table.now.shared.table_id)
+        × (word < table.now.shared.table_id.words) }
     requires plan { ((hand_in me.old.me.0).plan ≡ table.now.shared.key) × ((hand_in me.old.me.0).job < length table.now.shared.key.jobs) }
     requires word { (word ≡ place_of table.now.shared.key (hand_in other.old.me.0).job) × ((hand_in other.old.me.0).job < length table.now.shared.key.jobs) }
     requires alone { IsMine me.old.me.0 × (me.old.me.0.told ≡ []) × (me.old.me.1 ≡ []) }
@@ -34,8 +35,10 @@ fn glance_at<A: Allocator>(
     requires apart { (hand_in other.old.me.0).job ≢ (hand_in me.old.me.0).job }
     ensures same { (other.new.table_id ≡ other.old.table_id) × (other.new.me ≡ other.old.me) }
     ensures seat { (me.new.table_id ≡ me.old.table_id) × (me.new.me.1 ≡ []) }
-    ensures does { (x : JobState) × (result ≡ phase_word_of x) × FitsPhaseWord x × Does me.old.me.0 (Glance (hand_in me.old.me.0).job (hand_in other.old.me.0).job x) me.new.me.0 }
-    ensures both { StartsWith me.new.me.0.front other.old.me.0.front × (events_by (hand_in other.old.me.0).job me.new.me.0.front ≡ (hand_in other.old.me.0).deeds) }
+    ensures does { (x : JobState) × (result ≡ phase_word_of x) × FitsPhaseWord x
+        × Does me.old.me.0 (Glance (hand_in me.old.me.0).job (hand_in other.old.me.0).job x) me.new.me.0 }
+    ensures both { StartsWith me.new.me.0.front other.old.me.0.front
+        × (events_by (hand_in other.old.me.0).job me.new.me.0.front ≡ (hand_in other.old.me.0).deeds) }
 {
     // With the other's hand the history that the load sees has the other's record whole; nobody acts by it meanwhile.
     let lent = table.shared.split_seat::<Lends>(other);

@@ -21,7 +21,7 @@ impl<A: Allocator> Desk<A> {
     }
 }
 
-// Whether a session begins or ends. Only then does a job need other bottles.
+/// Whether a session begins or ends. Only then does a job need other bottles.
 fn changes_session(what: PhaseEvent) -> bool
     ensures { result ≡ changes_the_session what }
 {
@@ -31,7 +31,7 @@ fn changes_session(what: PhaseEvent) -> bool
     )
 }
 
-// The bottles of the edge that a job in this phase needs.
+/// The bottles of the edge that a job in this phase needs.
 fn needed_in<A: Allocator>(plan: &Plan<A>, job: JobNo, phase: JobState, edge: EdgeNo) -> u32
     requires is_job { job < length plan.now.jobs }
     requires in_session { IsInSession phase.drinking → (1 ≤ phase.session) × (phase.session ≤ length (sessions plan.now job)) }
@@ -45,7 +45,7 @@ fn needed_in<A: Allocator>(plan: &Plan<A>, job: JobNo, phase: JobState, edge: Ed
     }
 }
 
-// Sets for each own edge which bottles a job in this phase needs.
+/// Sets for each own edge which bottles a job in this phase needs.
 fn set_needed<A: Allocator>(plan: &Plan<A>, job: JobNo, phase: JobState, needed: &mut Vec<u32, A>)
     requires is_job { job < length plan.now.jobs }
     requires in_session { IsInSession phase.drinking → (1 ≤ phase.session) × (phase.session ≤ length (sessions plan.now job)) }
@@ -58,8 +58,8 @@ fn set_needed<A: Allocator>(plan: &Plan<A>, job: JobNo, phase: JobState, needed:
     }
 }
 
-// Sets the needed bottles anew where an event that led to this phase began or ended a session. They are asked for at every
-// visit, and change only here.
+/// Sets the needed bottles anew where an event that led to this phase began or ended a session. They are asked for at every
+/// visit, and change only here.
 pub(crate) fn renew_needed<A: Allocator>(
     plan: &Plan<A>,
     job: JobNo,

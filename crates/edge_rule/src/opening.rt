@@ -22,7 +22,7 @@ use one_history::board::{Board, Deals, View};
 use plan_logs::empty_logs;
 use std::alloc::{AllocError, Allocator};
 
-// The words of the initial state.
+/// The words of the initial state.
 fn fresh_words<A: Allocator + Copy>(alloc: A, plan: &Plan<A>) -> Result<Vec<u64, A>, AllocError>
     ensures { IfOk result (λ v. Spelled plan.now (the_opening plan.now) v.items) }
 {
@@ -34,7 +34,7 @@ fn fresh_words<A: Allocator + Copy>(alloc: A, plan: &Plan<A>) -> Result<Vec<u64,
     Ok(words)
 }
 
-// The edges of the initial state, as a desk sees them.
+/// The edges of the initial state, as a desk sees them.
 fn fresh_edges<A: Allocator + Copy>(
     alloc: A,
     plan: &Plan<A>,
@@ -49,7 +49,7 @@ fn fresh_edges<A: Allocator + Copy>(
     Ok(seen)
 }
 
-// The desk of the next job, by a seat that is cut off.
+/// The desk of the next job, by a seat that is cut off.
 fn next_desk<A: Allocator + Copy>(
     alloc: A,
     table: &Board<A>,
@@ -57,7 +57,8 @@ fn next_desk<A: Allocator + Copy>(
     plan: &Plan<A>,
     job: usize,
 ) -> Result<Desk<A>, AllocError>
-    requires table { (table.now.shared.key ≡ plan.now) × (keeper.old.table_id ≡ table.now.shared.table_id) × (table.now.shared.table_id.words ≡ word_count plan.now) }
+    requires table { (table.now.shared.key ≡ plan.now) × (keeper.old.table_id ≡ table.now.shared.table_id)
+        × (table.now.shared.table_id.words ≡ word_count plan.now) }
     requires job { job < length plan.now.jobs }
     requires left { keeper.old.me ≡ (undealt plan.now job, []) }
     ensures keeper { IfOk result (λ d. (keeper.new.table_id ≡ keeper.old.table_id) × (keeper.new.me ≡ (undealt plan.now (job + 1), []))) }
@@ -98,7 +99,8 @@ fn deal<A: Allocator + Copy>(
     keeper: &mut Seat<InstrumentLog<A>, View>,
     plan: &Plan<A>,
 ) -> Result<Vec<Desk<A>, A>, AllocError>
-    requires table { (table.now.shared.key ≡ plan.now) × (keeper.old.table_id ≡ table.now.shared.table_id) × (table.now.shared.table_id.words ≡ word_count plan.now) }
+    requires table { (table.now.shared.key ≡ plan.now) × (keeper.old.table_id ≡ table.now.shared.table_id)
+        × (table.now.shared.table_id.words ≡ word_count plan.now) }
     requires left { keeper.old.me ≡ (first_view plan.now, []) }
     ensures keeper { IfOk result (λ v. (keeper.new.table_id ≡ keeper.old.table_id) × (keeper.new.me ≡ (nothing, []))) }
     ensures desks { IfOk result (λ v. v.items ≡ fresh_desks keeper.old.table_id plan.now (length plan.now.jobs)) }
@@ -111,7 +113,7 @@ fn deal<A: Allocator + Copy>(
     Ok(desks)
 }
 
-// A bench in the initial state, with its desks.
+/// A bench in the initial state, with its desks.
 fn opened<'p, A: Allocator + Copy>(
     alloc: A,
     plan: &'p Plan<A>,

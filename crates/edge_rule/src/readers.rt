@@ -1,7 +1,8 @@
 //! What a desk and a bench answer without a step.
 ghost use Rattle.std.specs.Prelude.{◌≡◌, ◌↔◌, ◌<◌, ◌≤◌, length, IsTrue};
 ghost use Rattle.lab_plan.specs.LabPlan.{edges, bottles};
-ghost use Rattle.legal_steps.specs.State.{IsOwn, edge as edge_at, phase as phase_at, fork_mark as fork_mark_at, bottle_marks as bottle_marks_at, drinking as drinking_at};
+ghost use Rattle.legal_steps.specs.State.{IsOwn, edge as edge_at, phase as phase_at, fork_mark as fork_mark_at};
+ghost use Rattle.legal_steps.specs.State.{bottle_marks as bottle_marks_at, drinking as drinking_at};
 ghost use Rattle.legal_steps.specs.declared.phase.Drinking.TheVariants.{Retired};
 ghost use Rattle.legal_steps.specs.Run.{meals_of, sessions_done_of, withdrawn_of};
 ghost use Rattle.edge_word.specs.Words.{IsOfBottles};

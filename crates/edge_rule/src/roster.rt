@@ -9,7 +9,7 @@ use crate::desk::Desk;
 use lab_plan::JobNo;
 use std::alloc::Allocator;
 
-// How many of the desks are of this job.
+/// How many of the desks are of this job.
 fn desks_of<A: Allocator>(desks: &[Desk<A>], job: JobNo) -> usize
     ensures { result ≡ count_by (λ k. k == job) (jobs_of desks.now) }
 {
@@ -22,7 +22,7 @@ fn desks_of<A: Allocator>(desks: &[Desk<A>], job: JobNo) -> usize
     count
 }
 
-// Whether each of so many jobs has a desk.
+/// Whether each of this many jobs has a desk.
 fn has_each<A: Allocator>(desks: &[Desk<A>], jobs: usize) -> bool
     requires { jobs < 256 }
     ensures { IsTrue result ↔ HasEach jobs desks.now }
@@ -35,7 +35,7 @@ fn has_each<A: Allocator>(desks: &[Desk<A>], jobs: usize) -> bool
     true
 }
 
-// Whether no two desks are of one job.
+/// Whether no two desks are of one job.
 fn are_apart<A: Allocator>(desks: &[Desk<A>]) -> bool
     ensures { IsTrue result ↔ Distinct (jobs_of desks.now) }
 {

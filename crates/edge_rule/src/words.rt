@@ -29,7 +29,7 @@ pub(crate) fn job_number(job: JobNo) -> usize
     job.0 as usize
 }
 
-// The edge that a word of the table spells.
+/// The edge that a word of the table spells.
 pub(crate) fn unpacked<A: Allocator>(plan: &Plan<A>, edge: EdgeNo, word: u64) -> EdgeWord
     requires edge { edge < length (edges plan.now) }
     requires spelled { (x : EdgeState) × (word ≡ word_of x) × IsOfBottles (length (bottles plan.now edge)) x }
@@ -41,7 +41,7 @@ pub(crate) fn unpacked<A: Allocator>(plan: &Plan<A>, edge: EdgeNo, word: u64) ->
     EdgeWord::spelled(word)
 }
 
-// What a look sets: the mark of the fork, and those of the bottles.
+/// What a look sets: the mark of the fork, and those of the bottles.
 pub(crate) fn marks_of<A: Allocator>(
     plan: &Plan<A>,
     job: JobNo,
@@ -61,29 +61,29 @@ pub(crate) fn marks_of<A: Allocator>(
     )
 }
 
-// Words that are used stand so far apart: each has a cache line of its own, so that threads that work on neighbouring
-// words don't slow each other down.
+/// Words that are used stand so far apart: each has a cache line of its own, so that threads that work on neighbouring
+/// words don't slow each other down.
 const STRIDE: usize = 8;
 
-// A place that every table has: that of the first edge or phase, or the spare one. Loads that are there for the rule alone
-// are loads of it.
+/// A place that every table has: that of the first edge or phase, or the spare one. Loads that are there for the rule alone
+/// are loads of it.
 pub(crate) const SOME_WORD: usize = 0;
 
-// Where the word of an edge is.
+/// Where the word of an edge is.
 pub(crate) fn edge_place(edge: EdgeNo) -> usize
     ensures { (result ≡ place_of_edge edge) × (result < 524288) }
 {
     STRIDE * number(edge)
 }
 
-// Where the word of a job's phase is.
+/// Where the word of a job's phase is.
 pub(crate) fn phase_place<A: Allocator>(plan: &Plan<A>, job: JobNo) -> usize
     ensures { result ≡ place_of plan.now job }
 {
     STRIDE * (plan.edges() as usize + job.0 as usize)
 }
 
-// How many places a table has.
+/// How many places a table has.
 pub(crate) fn word_count<A: Allocator>(plan: &Plan<A>) -> usize
     ensures { result ≡ count_of plan.now }
 {
@@ -97,7 +97,7 @@ pub(crate) fn packed_phase(phase: JobState) -> u64
     PhaseWord::new(phase).pack()
 }
 
-// The phase after an event.
+/// The phase after an event.
 pub(crate) fn phase_after(what: PhaseEvent, phase: JobState) -> JobState
     requires { phase.session ≤ most_sessions }
     ensures phase { result ≡ next_phase what phase }
@@ -114,14 +114,14 @@ pub(crate) fn phase_after(what: PhaseEvent, phase: JobState) -> JobState
     }
 }
 
-// Whether a meal starts or ends, and so clears the fork marks.
+/// Whether a meal starts or ends, and so clears the fork marks.
 pub(crate) fn clears(what: PhaseEvent) -> bool
     ensures { result ≡ clears_marks what }
 {
     matches!(what, PhaseEvent::Sit | PhaseEvent::Leave)
 }
 
-// The phase that a word of the table spells.
+/// The phase that a word of the table spells.
 pub(crate) fn unpacked_phase(word: u64) -> PhaseWord
     requires { (x : JobState) × (word ≡ phase_word_of x) × FitsPhaseWord x }
     ensures word { phase_word_of result ≡ word }

@@ -1,5 +1,6 @@
 -- For readers: the moves of one job on one edge, as events of the core, as the change of an edge, and as the bits that change.
-use Rattle.std.specs.Prelude.{◌≡◌, ◌≢◌, ℕ, ◌^◌, ◌<◌, Bool, true, false, not, ◌&&◌, ◌==◌, List, [], ◌∷◌, length, bit_xor, bit_and, slice_index_or, slice_set, if◌then◌else◌}
+use Rattle.std.specs.Prelude.{◌≡◌, ◌≢◌, ℕ, ◌^◌, ◌<◌, Bool, true, false, not, ◌&&◌, ◌==◌, List, [], ◌∷◌}
+use Rattle.std.specs.Prelude.{length, bit_xor, bit_and, slice_index_or, slice_set, if◌then◌else◌}
 use Rattle.lab_plan.specs.LabPlan.{LabPlan}
 use Rattle.legal_steps.specs.declared.end.End.{End}
 use Rattle.legal_steps.specs.declared.edge_state.EdgeState.{EdgeState}

@@ -12,7 +12,7 @@ use crate::moves::EdgeMoves;
 use legal_steps::{EdgeState, End};
 use std::marker::Model;
 
-// The places of the fields in a word.
+/// The places of the fields in a word.
 const FORK: u32 = 0;
 
 const DIRTY: u32 = 1;
@@ -25,10 +25,10 @@ const BOTTLES: u32 = 4;
 
 const BOTTLE_TOKENS: u32 = 32;
 
-// The fork is at the lower end and dirty, and its token at the higher.
+/// The fork is at the lower end and dirty, and its token at the higher.
 const DIRTY_AND_ASKABLE: u64 = (1 << TOKEN) + (1 << DIRTY);
 
-// As many bits as an edge has bottles at most.
+/// As many bits as an edge has bottles at most.
 const ALL_BOTTLES: u64 = 0xfff_ffff;
 
 /// The state of an edge in one word. Ends are 0 at the lower job and 1 at the higher.
@@ -86,7 +86,7 @@ const NO_FLIP: Flips = Flips {
     bottle_tokens: 0,
 };
 
-/// Whether the set is not empty and names only bottles of an edge that has so many.
+/// Whether the set is not empty and names only bottles of an edge that has this many.
 pub fn is_bottle_set(set: u32, bottles: u32) -> bool
     requires few { bottles ≤ most_bottles }
     ensures is_set { IsTrue result ↔ IsSetOf bottles set }
@@ -128,7 +128,7 @@ fn mask_of(flips: Flips) -> u64
 }
 
 impl EdgeWord {
-    /// The word of an edge with so many bottles in the initial state: fork and bottles at the lower job, the fork dirty,
+    /// The word of an edge with this many bottles in the initial state: fork and bottles at the lower job, the fork dirty,
     /// every request token at the higher.
     pub fn opening(bottles: u32) -> EdgeWord
         requires few { bottles ≤ most_bottles }

@@ -1,5 +1,7 @@
 //! What holds of all words. Each law is the contract of a function that does nothing.
-ghost use Rattle.edge_word.specs.WordLaws.{HasTheBitsOfTheTable, HasTheFieldsOfTheTable, NoTwoEdgesShareAWord, NoTwoPhasesShareAWord, OpensAsTheOpening, OpensAtZero, MovesAreEvents, MovesChangeOnlyTheirEdge, StaysOfItsBottles, LegalMovesAreOfTheEdge, LegalGroupsAreShort, MovesAreReadBack};
+ghost use Rattle.edge_word.specs.WordLaws.{HasTheBitsOfTheTable, HasTheFieldsOfTheTable, NoTwoEdgesShareAWord};
+ghost use Rattle.edge_word.specs.WordLaws.{NoTwoPhasesShareAWord, OpensAsTheOpening, OpensAtZero, MovesAreEvents};
+ghost use Rattle.edge_word.specs.WordLaws.{MovesChangeOnlyTheirEdge, StaysOfItsBottles, LegalMovesAreOfTheEdge, LegalGroupsAreShort, MovesAreReadBack};
 
 /// The word of an edge is the one number that has the bits of the table at `EdgeWord`.
 pub fn bits_of_the_table()

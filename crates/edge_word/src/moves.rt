@@ -41,7 +41,7 @@ impl EdgeMoves {
             && !self.soil
     }
 
-    /// Whether both sets name only bottles of an edge that has so many.
+    /// Whether both sets name only bottles of an edge that has this many.
     pub fn are_of_bottles(self, bottles: u32) -> bool
         requires few { bottles ≤ most_bottles }
         ensures are { IsTrue result ↔ AreOfBottles bottles self }

@@ -2,9 +2,15 @@
 use Rattle.std.specs.Prelude.{ℕ, ◌<◌, List, [], ◌++◌, length, codes}
 use Rattle.lab_plan.specs.LabPlan.{LabPlan, edges, bottles}
 use Rattle.legal_steps.specs.declared.event.Step.{Step}
-use Rattle.legal_steps.specs.declared.event.Step.TheVariants.{Look, AskFork, GiveFork, Soil, AskBottles, GiveBottles, Thirst, Hunger, Sit, Leave, Drink, Reach, Act, Quit, Retire, Glance, Withdraw}
+use Rattle.legal_steps.specs.declared.event.Step.TheVariants.{Look, AskFork, GiveFork, Soil, AskBottles, GiveBottles, Thirst, Hunger}
+use Rattle.legal_steps.specs.declared.event.Step.TheVariants.{Sit, Leave, Drink, Reach, Act, Quit, Retire, Glance, Withdraw}
 use Rattle.refused_steps.specs.declared.cause.Cause.{Cause}
-use Rattle.refused_steps.specs.declared.cause.Cause.TheVariants.{NotJob, NotOwn, SeesElse, OtherNotJob, Itself, NotThinking, NotHungry, NotEating, Eats, NotTranquil, NotThirsty, Thirsts, NotDrinking, NotReaching, ForkHere, ForkThere, ForkClean, ForkDirty, TokenThere, UnmarkedAway, UnmarkedClaimed, UnmarkedClean, UnmarkedUnseen, NoBottle, NotOfEdge, NotNeeded, BottleHere, BottleThere, BottleTokenThere, KeptInSession, KeptWithFork, MissingAway, MissingUnseen, NoSessionLeft, SessionLeft, NoCommandLeft, CommandLeft, NoPatience}
+use Rattle.refused_steps.specs.declared.cause.Cause.TheVariants.{NotJob, NotOwn, SeesElse, OtherNotJob, Itself, NotThinking, NotHungry, NotEating}
+use Rattle.refused_steps.specs.declared.cause.Cause.TheVariants.{Eats, NotTranquil, NotThirsty, Thirsts, NotDrinking, NotReaching, ForkHere}
+use Rattle.refused_steps.specs.declared.cause.Cause.TheVariants.{ForkThere, ForkClean, ForkDirty, TokenThere, UnmarkedAway, UnmarkedClaimed}
+use Rattle.refused_steps.specs.declared.cause.Cause.TheVariants.{UnmarkedClean, UnmarkedUnseen, NoBottle, NotOfEdge, NotNeeded, BottleHere}
+use Rattle.refused_steps.specs.declared.cause.Cause.TheVariants.{BottleThere, BottleTokenThere, KeptInSession, KeptWithFork, MissingAway}
+use Rattle.refused_steps.specs.declared.cause.Cause.TheVariants.{MissingUnseen, NoSessionLeft, SessionLeft, NoCommandLeft, CommandLeft, NoPatience}
 use Rattle.step_texts.specs.Names.{other_name, bottle_name}
 
 -- whose step it is

@@ -51,7 +51,7 @@ pub record TellsStep (plan : LabPlan) (s : State) (line : StepLine) (text : List
   pub legal : AreLegalMoves plan s moves
   pub told : text ≡ refusal_text plan s line.line line.step cause moves
 
--- of a state after so many steps: exactly the moves that are legal there
+-- of a state after this many steps: exactly the moves that are legal there
 pub record TellsEnd (plan : LabPlan) (s : State) (steps : ℕ) (text : List ℕ) : Type 0 where
   pub moves : List Step
   pub legal : AreLegalMoves plan s moves

@@ -3,7 +3,8 @@ ghost use Rattle.std.specs.Prelude.{◌≡◌, ◌<◌, ◌++◌, length, decima
 ghost use Rattle.lab_plan.specs.LabPlan.{edges, bottles};
 ghost use Rattle.legal_steps.specs.State.{IsOwn};
 ghost use Rattle.legal_steps.specs.Legal.{IsJob};
-ghost use Rattle.explaining.specs.StateTexts.{dining_text, drinking_text, at_text, mark_text, dirt_text, doing_text, session_text, done_text, phase_line, places_text, marks_text, fork_head, fork_line, bottle_head, bottle_line, edge_text, job_text};
+ghost use Rattle.explaining.specs.StateTexts.{dining_text, drinking_text, at_text, mark_text, dirt_text, doing_text, session_text, done_text, phase_line};
+ghost use Rattle.explaining.specs.StateTexts.{places_text, marks_text, fork_head, fork_line, bottle_head, bottle_line, edge_text, job_text};
 
 use interleaving::{Dining, Drinking, End, JobState, World};
 use itoa::Buffer;

@@ -21,10 +21,10 @@ use std::marker::Model;
 /// and the room. An entry takes 16 bytes.
 #[derive(Drop)]
 pub struct InstrumentLog<A: Allocator = Global> {
-    // Each entry as `pack_entry` packs it, with capacity for `room` of them.
+    /// Each entry as `pack_entry` packs it, with capacity for `room` of them.
     packed: Vec<[u8; 16], A>,
     room: usize,
-    // How many entries the last part has if it is unfinished; otherwise 0.
+    /// How many entries the last part has if it is unfinished; otherwise 0.
     unfinished: u32,
     value: u32,
 }
@@ -83,7 +83,7 @@ impl<A: Allocator> InstrumentLog<A> {
         }
     }
 
-    // The last entry, where its part is unfinished.
+    /// The last entry, where its part is unfinished.
     fn open_entry(&self) -> Option<Entry>
         ensures { result ≡ open_entry self.now.entries }
     {
@@ -180,7 +180,7 @@ fn is_next_place(before: &Entry, entry: &Entry) -> bool
         && entry.place - 1 == before.place
 }
 
-// How many entries a part has up to this one if it is unfinished; otherwise 0.
+/// How many entries a part has up to this one if it is unfinished; otherwise 0.
 fn unfinished_by(entry: &Entry) -> u32
     ensures { result ≡ option_map_or (λ last. last.place) (if_open entry.now) 0 }
 {

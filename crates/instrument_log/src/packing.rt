@@ -42,7 +42,7 @@ pub fn unpack_entry(bytes: [u8; 16]) -> Option<Entry>
     }
 }
 
-// The entry that the bytes spell, where they are those of an entry.
+/// The entry that the bytes spell, where they are those of an entry.
 #[tactic(auto, unfolding(crate::specs::Entries::entry_of))]
 pub(crate) fn spelled_by(bytes: &[u8; 16]) -> Entry
     ensures { result ≡ entry_of bytes.now }

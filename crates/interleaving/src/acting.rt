@@ -24,7 +24,7 @@ impl<'a, A: Allocator> Tables<'a, A> {
         self.is_job(job) && self.phase(job).drinking == Drinking::Reaching
     }
 
-    // The next command of a reaching job.
+    /// The next command of a reaching job.
     pub(crate) fn next_command(&self, job: JobNo) -> (InstrumentNo, Verb)
         requires { May self.now.plan self.now.state (Act job) }
         ensures command { result ≡ next_command self.now.plan self.now.state job }
@@ -33,7 +33,7 @@ impl<'a, A: Allocator> Tables<'a, A> {
         next_command(self.plan(), job, self.phase(job))
     }
 
-    // The entry of the next command of a reaching job.
+    /// The entry of the next command of a reaching job.
     #[tactic(auto, unfolding(legal_steps::specs::Legal::next_entry))]
     pub(crate) fn next_entry(&self, job: JobNo) -> Entry
         requires { May self.now.plan self.now.state (Act job) }

@@ -11,7 +11,7 @@ use legal_steps::{Drinking, bottle_end, has};
 use std::alloc::Allocator;
 
 impl<'a, A: Allocator> Tables<'a, A> {
-    // Whether this is a nonempty set of bottles of the edge.
+    /// Whether this is a nonempty set of bottles of the edge.
     pub(crate) fn is_bottle_set(&self, edge: EdgeNo, set: u32) -> bool
         requires { edge < length (edges self.now.plan) }
         ensures { IsTrue result ↔ IsBottleSet self.now.plan edge set }
@@ -19,7 +19,7 @@ impl<'a, A: Allocator> Tables<'a, A> {
         set != 0 && set < 1u32 << self.bottles(edge)
     }
 
-    // Whether the job may ask for each bottle of the set.
+    /// Whether the job may ask for each bottle of the set.
     pub(crate) fn may_ask_all(&self, job: JobNo, edge: EdgeNo, set: u32) -> bool
         requires own { IsOwn self.now.plan job edge }
         requires set { IsOfEdge self.now.plan edge set }
@@ -56,11 +56,13 @@ impl<'a, A: Allocator> Tables<'a, A> {
         self.set_edge(edge, self.edge(edge).bottles_asked(set));
     }
 
-    // The bottles of the edge that the job keeps: those that it needs, while it drinks or has the fork.
+    /// The bottles of the edge that the job keeps: those that it needs, while it drinks or has the fork.
     #[tactic(auto, using(legal_steps::proofs::BottleSets::has_none))]
     fn kept_bottles(&self, job: JobNo, edge: EdgeNo) -> u32
         requires { IsOwn self.now.plan job edge }
-        ensures { (k : ℕ) → k < length (bottles self.now.plan edge) → Has result k ↔ (Needs self.now.plan self.now.state job (instrument_of self.now.plan edge k) × (IsDrinking (phase_at self.now.state job) ⊎ Here self.now.plan job edge (fork self.now.state edge))) }
+        ensures { (k : ℕ) → k < length (bottles self.now.plan edge)
+            → Has result k ↔ (Needs self.now.plan self.now.state job (instrument_of self.now.plan edge k)
+            × (IsDrinking (phase_at self.now.state job) ⊎ Here self.now.plan job edge (fork self.now.state edge))) }
     {
         let fork_here = self.edge(edge).fork == self.own_end(job, edge);
         if self.is_drinking(job) || fork_here {
@@ -70,7 +72,7 @@ impl<'a, A: Allocator> Tables<'a, A> {
         }
     }
 
-    // Whether the job may give each bottle of the set.
+    /// Whether the job may give each bottle of the set.
     pub(crate) fn may_give_all(&self, job: JobNo, edge: EdgeNo, set: u32) -> bool
         requires own { IsOwn self.now.plan job edge }
         requires set { IsOfEdge self.now.plan edge set }

@@ -23,7 +23,7 @@ impl<A: Allocator> Model for JobCounts<A> {
 }
 
 impl<A: Allocator> JobCounts<A> {
-    // No counts yet, of so many jobs.
+    /// No counts yet, of this many jobs.
     pub(crate) fn new(alloc: A, jobs: usize) -> Result<JobCounts<A>, AllocError>
         ensures { IfOk result (λ tally. tally ≡ replicate jobs no_counts) }
     {
@@ -41,7 +41,7 @@ impl<A: Allocator> JobCounts<A> {
         self.counts[job.0 as usize]
     }
 
-    // Counts an event of one of the jobs.
+    /// Counts an event of one of the jobs.
     pub(crate) fn count(&mut self, event: &Event)
         requires { CanCount event.now self.old }
         ensures { self.new ≡ counted event.now self.old }

@@ -18,7 +18,7 @@ impl<'a, A: Allocator> Tables<'a, A> {
         self.plan().edges_of(job)
     }
 
-    // Whether the job has a fork mark on every edge of its own.
+    /// Whether the job has a fork mark on every edge of its own.
     pub(crate) fn is_marked_all(&self, job: JobNo) -> bool
         requires { IsJob self.now.plan job }
         ensures { IsTrue result ↔ IsMarkedAll self.now.plan self.now.state job }
@@ -40,12 +40,13 @@ impl<'a, A: Allocator> Tables<'a, A> {
         self.plan().bottles(edge)
     }
 
-    // The bottles of the edge that the job needs: none where it is in no session.
+    /// The bottles of the edge that the job needs: none where it is in no session.
     #[tactic(auto, unfolding(legal_steps::specs::State::Has), using(legal_steps::proofs::BottleSets::has_none))]
     pub(crate) fn needed_bottles(&self, job: JobNo, edge: EdgeNo) -> u32
         requires is_job { IsJob self.now.plan job }
         requires is_edge { edge < length (edges self.now.plan) }
-        ensures { (k : ℕ) → k < length (bottles self.now.plan edge) → Has result k ↔ Needs self.now.plan self.now.state job (instrument_of self.now.plan edge k) }
+        ensures { (k : ℕ) → k < length (bottles self.now.plan edge)
+            → Has result k ↔ Needs self.now.plan self.now.state job (instrument_of self.now.plan edge k) }
     {
         let phase = self.phase(job);
         if !phase.is_in_session() {
@@ -54,7 +55,7 @@ impl<'a, A: Allocator> Tables<'a, A> {
         self.plan().needed_bottles(job, phase.session, edge)
     }
 
-    // Whether each needed bottle of the edge is marked.
+    /// Whether each needed bottle of the edge is marked.
     pub(crate) fn has_needed_at(&self, job: JobNo, edge: EdgeNo) -> bool
         requires is_job { IsJob self.now.plan job }
         requires is_edge { edge < length (edges self.now.plan) }
@@ -70,7 +71,7 @@ impl<'a, A: Allocator> Tables<'a, A> {
         true
     }
 
-    // Whether each bottle that the job needs is marked, on all of its edges.
+    /// Whether each bottle that the job needs is marked, on all of its edges.
     pub(crate) fn has_needed(&self, job: JobNo) -> bool
         requires { IsJob self.now.plan job }
         ensures { IsTrue result ↔ HasNeeded self.now.plan self.now.state job }
@@ -84,7 +85,7 @@ impl<'a, A: Allocator> Tables<'a, A> {
         true
     }
 
-    // Whether the job drinks or reaches.
+    /// Whether the job drinks or reaches.
     pub(crate) fn is_drinking(&self, job: JobNo) -> bool
         requires { IsJob self.now.plan job }
         ensures { IsTrue result ↔ IsDrinking (phase_at self.now.state job) }

@@ -10,7 +10,7 @@ use lab_plan::{EdgeNo, Plan};
 use legal_steps::{EdgeState, End, EndChoice};
 use std::alloc::{AllocError, Allocator};
 
-// Whether there is one choice for each edge, which names bottles of that edge alone.
+/// Whether there is one choice for each edge, which names bottles of that edge alone.
 pub(crate) fn are_choices<A: Allocator>(plan: &Plan<A>, choices: &[EndChoice]) -> bool
     ensures { IsTrue result ↔ AreChoices plan.now choices.now }
 {
@@ -25,7 +25,7 @@ pub(crate) fn are_choices<A: Allocator>(plan: &Plan<A>, choices: &[EndChoice]) -
     true
 }
 
-// An edge as it is chosen: the fork dirty, every token at the opposite end.
+/// An edge as it is chosen: the fork dirty, every token at the opposite end.
 fn chosen_edge<A: Allocator>(plan: &Plan<A>, edge: EdgeNo, choice: EndChoice) -> EdgeState
     requires { edge < length (edges plan.now) }
     ensures { result ≡ chosen_edge plan.now edge choice }
@@ -57,13 +57,14 @@ pub(crate) fn chosen_edges<A: Allocator>(
     Ok(edges)
 }
 
-// A seat for each job, idle and without marks.
+/// A seat for each job, idle and without marks.
 pub(crate) fn idle_seats<A: Allocator + Copy>(
     alloc: A,
     jobs: usize,
     edges: usize,
 ) -> Result<Vec<JobSeat<A>, A>, AllocError>
-    ensures { IfOk result (λ seats. seats.items ≡ replicate jobs (record { phase = idle_phase; fork_marks = replicate edges false; bottle_marks = replicate edges 0 })) }
+    ensures { IfOk result (λ seats. seats.items ≡ replicate jobs
+        (record { phase = idle_phase; fork_marks = replicate edges false; bottle_marks = replicate edges 0 })) }
 {
     let mut seats = Vec::new(alloc);
     for _job in 0..jobs {
@@ -72,7 +73,7 @@ pub(crate) fn idle_seats<A: Allocator + Copy>(
     Ok(seats)
 }
 
-// The choices of the initial state: every fork and every bottle at the edge's lower job.
+/// The choices of the initial state: every fork and every bottle at the edge's lower job.
 pub(crate) fn lower_choices<A: Allocator>(
     alloc: A,
     edges: usize,

@@ -13,7 +13,7 @@ use legal_steps::{Dining, End};
 use std::alloc::{AllocError, Allocator};
 
 impl<'a, A: Allocator> Tables<'a, A> {
-    // The job that precedes on the edge, and the other.
+    /// The job that precedes on the edge, and the other.
     pub(crate) fn order(&self, edge: EdgeNo) -> (JobNo, JobNo)
         requires { edge < length (edges self.now.plan) }
         ensures precedes { PrecedesOn self.now.plan self.now.state edge result.0 result.1 }
@@ -48,7 +48,7 @@ impl<'a, A: Allocator> Tables<'a, A> {
         false
     }
 
-    // The pairs of jobs of which the first precedes the second, by edge number.
+    /// The pairs of jobs of which the first precedes the second, by edge number.
     pub(crate) fn precedence<B: Allocator>(
         &self,
         alloc: B,
@@ -64,7 +64,7 @@ impl<'a, A: Allocator> Tables<'a, A> {
         }
         Ok(pairs)
     }
-    // Whether precedence has a cycle.
+    /// Whether precedence has a cycle.
     pub(crate) fn has_cycle<B: Allocator + Copy>(&self, alloc: B) -> Result<bool, NoMemory>
         ensures cyclic { IfOk result (λ answer. answer ≡ true → ¬ IsAcyclic self.now.plan self.now.state) }
         ensures acyclic { IfOk result (λ answer. answer ≡ false → IsAcyclic self.now.plan self.now.state) }

@@ -23,7 +23,7 @@ impl<A: Allocator> Model for JobSeat<A> {
 }
 
 impl<A: Allocator + Copy> JobSeat<A> {
-    // The seat of a job before its first event, with marks for so many edges.
+    /// The seat of a job before its first event, with marks for this many edges.
     pub(crate) fn idle(alloc: A, edges: usize) -> Result<JobSeat<A>, AllocError>
         ensures { IfOk result (λ seat. seat ≡ record { phase = idle_phase; fork_marks = replicate edges false; bottle_marks = replicate edges 0 }) }
     {
@@ -85,7 +85,7 @@ impl<A: Allocator> JobSeat<A> {
         self.bottle_marks[edge] = marks;
     }
 
-    // Dines so, without any fork mark.
+    /// Dines so, without any fork mark.
     pub(crate) fn turn_to(&mut self, dining: Dining)
         ensures { self.new ≡ turned_to self.old dining }
     {

@@ -32,7 +32,7 @@ impl<'a, A: Allocator> Tables<'a, A> {
         }
     }
 
-    // The effect of a legal event.
+    /// The effect of a legal event.
     pub(crate) fn apply(&mut self, event: &Event)
         requires may { May self.old.plan self.old.state event.now }
         requires takes { TakesEntry self.old.plan self.old.state event.now }

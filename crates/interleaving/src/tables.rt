@@ -1,7 +1,8 @@
 //! The tables of a world: a plan and a state of its bench that fits it. Every write keeps that.
 ghost use Rattle.std.specs.Prelude.{◌≡◌, ℕ, ◌<◌, ◌≤◌, ◌↔◌, IsTrue, length, IfOk};
 ghost use Rattle.lab_plan.specs.LabPlan.{edges};
-ghost use Rattle.legal_steps.specs.State.{IsOwn, IsOfEdge, end_of, edge as edge_at, phase as phase_at, seat, fork_mark as fork_mark_at, bottle_marks as bottle_marks_at, log as log_at};
+ghost use Rattle.legal_steps.specs.State.{IsOwn, IsOfEdge, end_of, edge as edge_at, phase as phase_at, seat};
+ghost use Rattle.legal_steps.specs.State.{fork_mark as fork_mark_at, bottle_marks as bottle_marks_at, log as log_at};
 ghost use Rattle.legal_steps.specs.Legal.{IsJob, with_edge, with_seat, with_phase, with_fork_mark, with_bottle_marks, turned_to, with_entry};
 ghost use Rattle.legal_steps.specs.Fitting.{Fits, IsPhaseOf};
 ghost use Rattle.legal_steps.specs.Opening.{AreChoices, opening_of, the_opening};
@@ -52,7 +53,7 @@ impl<'a, A: Allocator> Model for Tables<'a, A> {
 }
 
 impl<'a, A: Allocator + Copy> Tables<'a, A> {
-    // The tables of the opening state that the choices give.
+    /// The tables of the opening state that the choices give.
     pub(crate) fn opened(
         alloc: A,
         plan: &'a Plan<A>,
@@ -69,7 +70,7 @@ impl<'a, A: Allocator + Copy> Tables<'a, A> {
         })
     }
 
-    // The tables of the initial state.
+    /// The tables of the initial state.
     pub(crate) fn opening(alloc: A, plan: &'a Plan<A>) -> Result<Tables<'a, A>, AllocError>
         ensures { IfOk result (λ tables. tables ≡ record { plan = plan.now; state = the_opening plan.now }) }
     {
@@ -93,7 +94,7 @@ impl<'a, A: Allocator> Tables<'a, A> {
         (job.0 as usize) < self.seats.len()
     }
 
-    // Whether the edge is one of the job's.
+    /// Whether the edge is one of the job's.
     pub(crate) fn owns(&self, job: JobNo, edge: EdgeNo) -> bool
         ensures owns { IsTrue result ↔ IsOwn self.now.plan job edge }
         ensures is_job { IsOwn self.now.plan job edge → IsJob self.now.plan job }
@@ -105,7 +106,7 @@ impl<'a, A: Allocator> Tables<'a, A> {
         lower == job || higher == job
     }
 
-    // The job's own end of the edge.
+    /// The job's own end of the edge.
     pub(crate) fn own_end(&self, job: JobNo, edge: EdgeNo) -> End
         requires { IsOwn self.now.plan job edge }
         ensures end { result ≡ end_of self.now.plan job edge }
@@ -176,7 +177,7 @@ impl<'a, A: Allocator> Tables<'a, A> {
         seat.set_bottle_marks(edge.0 as usize, marks);
     }
 
-    // Both marks of the job at an edge.
+    /// Both marks of the job at an edge.
     pub(crate) fn set_marks(&mut self, job: JobNo, edge: EdgeNo, mark: bool, marks: u32)
         requires is_job { IsJob self.old.plan job }
         requires is_edge { edge < length (edges self.old.plan) }
@@ -188,7 +189,7 @@ impl<'a, A: Allocator> Tables<'a, A> {
         seat.set_marks(edge.0 as usize, mark, marks);
     }
 
-    // The job dines so, without any fork mark.
+    /// The job dines so, without any fork mark.
     #[tactic(auto, using(legal_steps::proofs::FitsWrites::fits_with_seat, legal_steps::proofs::FitsWrites::seat_fits_turned))]
     pub(crate) fn turn_to(&mut self, job: JobNo, dining: Dining)
         requires { IsJob self.old.plan job }
@@ -199,7 +200,7 @@ impl<'a, A: Allocator> Tables<'a, A> {
         seat.turn_to(dining);
     }
 
-    // Whether the job has a fork mark for one of its edges.
+    /// Whether the job has a fork mark for one of its edges.
     pub(crate) fn fork_mark(&self, job: JobNo, edge: EdgeNo) -> bool
         requires is_job { IsJob self.now.plan job }
         requires is_edge { edge < length (edges self.now.plan) }
@@ -208,7 +209,7 @@ impl<'a, A: Allocator> Tables<'a, A> {
         self.seats[job.0 as usize].fork_mark(edge.0 as usize)
     }
 
-    // The job's bottle marks for one of its edges.
+    /// The job's bottle marks for one of its edges.
     pub(crate) fn bottle_marks(&self, job: JobNo, edge: EdgeNo) -> u32
         requires is_job { IsJob self.now.plan job }
         requires is_edge { edge < length (edges self.now.plan) }
@@ -227,7 +228,7 @@ impl<'a, A: Allocator> Tables<'a, A> {
         &self.logs[instrument.0 as usize]
     }
 
-    // One more entry at the end of a log that takes it.
+    /// One more entry at the end of a log that takes it.
     pub(crate) fn push_entry(&mut self, instrument: InstrumentNo, entry: Entry)
         requires there { instrument < length self.old.plan.instruments }
         requires may { MayAppend (log_with_room self.old.plan self.old.state instrument) entry }

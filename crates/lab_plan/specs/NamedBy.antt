@@ -21,7 +21,7 @@ pub record IsSmall (session : SessionPlan) : Type 0 where
 abbrev pub HasSmall : JobPlan → Type 0
 HasSmall job = All IsSmall job.sessions
 
--- two jobs name some instrument together, and they have too many in common, of so many instruments
+-- two jobs name some instrument together, and they have too many in common, of this many instruments
 abbrev pub meet : List ℕ → ℕ → ℕ × ℕ → Bool
 meet sets instruments pair = list_any (both_hold sets pair) (range_with_len 0 instruments)
 

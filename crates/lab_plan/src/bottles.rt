@@ -1,5 +1,6 @@
 //! The bottles of an edge.
-ghost use Rattle.std.specs.Prelude.{◌≡◌, ◌↔◌, ℕ, ◌^◌, ◌<◌, ◌≤◌, true, length, filter, map, slice_index, slice_index_or, slice_get, Contains, IfSome, IfNone, IfOk};
+ghost use Rattle.std.specs.Prelude.{◌≡◌, ◌↔◌, ℕ, ◌^◌, ◌<◌, ◌≤◌, true, length, filter, map, slice_index};
+ghost use Rattle.std.specs.Prelude.{slice_index_or, slice_get, Contains, IfSome, IfNone, IfOk};
 ghost use Rattle.std.specs.Int.{bit_at};
 ghost use Rattle.std.specs.List.{range_with_len, All};
 ghost use Rattle.lab_plan.specs.Limits.{most_instruments, most_bottles};

@@ -7,7 +7,8 @@ ghost use Rattle.lab_plan.specs.IsPlan.{IsPlan};
 ghost use Rattle.lab_plan.specs.Tables.{AreTablesOf};
 ghost use Rattle.lab_plan.specs.Names.{IsName};
 ghost use Rattle.lab_plan.specs.Verbs.{Fits};
-ghost use Rattle.lab_plan.specs.Building.{empty_plan, with_job, with_session, with_command, has_session, job_refusal, session_refusal, command_refusal, finish_refusal, but_memory, Does, Finishes};
+ghost use Rattle.lab_plan.specs.Building.{empty_plan, with_job, with_session, with_command, has_session, job_refusal};
+ghost use Rattle.lab_plan.specs.Building.{session_refusal, command_refusal, finish_refusal, but_memory, Does, Finishes};
 
 use crate::draft::Draft;
 use crate::limits::{MOST_COMMANDS, MOST_INSTRUMENTS, MOST_JOBS, MOST_SESSIONS};

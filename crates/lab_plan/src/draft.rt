@@ -156,7 +156,10 @@ impl<A: Allocator> Draft<A> {
     fn push_new(&mut self, alloc: A, name: &[u8], verb: Verb) -> Result<(), AllocError>
         requires session { has_session self.old ≡ true }
         requires few { length self.old.instruments < most_instruments }
-        ensures { self.new ≡ (if is_ok result then record self.old { jobs = on_last (in_last_session (length self.old.instruments) verb) self.old.jobs; instruments = self.old.instruments ++ name.now ∷ [] } else self.old) }
+        ensures { self.new ≡ (if is_ok result then record self.old {
+          jobs = on_last (in_last_session (length self.old.instruments) verb) self.old.jobs;
+          instruments = self.old.instruments ++ name.now ∷ [];
+        } else self.old) }
     {
         let number = self.instruments() as u8;
         self.add_instrument(alloc, name)?;

@@ -92,7 +92,8 @@ impl<A: Allocator> Job<A> {
 
     /// Whether the last session has no command yet.
     pub(crate) fn is_bare(&self) -> bool
-        ensures { result ≡ nat_lt 0 (length self.now.sessions) && (length (slice_index_or self.now.sessions (length self.now.sessions - 1) no_session).commands == 0) }
+        ensures { result ≡ nat_lt 0 (length self.now.sessions)
+            && (length (slice_index_or self.now.sessions (length self.now.sessions - 1) no_session).commands == 0) }
     {
         !self.sessions.is_empty() && self.sessions[self.sessions.len() - 1].is_empty()
     }

@@ -1,5 +1,6 @@
 //! A plan, kept with the tables of its edges and bottles.
-ghost use Rattle.std.specs.Prelude.{◌≡◌, ℕ, ◌-◌, ◌^◌, ◌<◌, ◌≤◌, length, slice_index, slice_index_or, slice_get, All, Contains, IfSome, IfNone, if◌then◌else◌, []};
+ghost use Rattle.std.specs.Prelude.{◌≡◌, ℕ, ◌-◌, ◌^◌, ◌<◌, ◌≤◌, length, slice_index, slice_index_or};
+ghost use Rattle.std.specs.Prelude.{slice_get, All, Contains, IfSome, IfNone, if◌then◌else◌, []};
 ghost use Rattle.std.specs.Int.{bit_at};
 
 use crate::bottles::Bottles;
@@ -36,7 +37,8 @@ impl<A: Allocator> Model for Plan<A> {
 
 impl<A: Allocator> Plan<A> {
     ghost use Rattle.lab_plan.specs.Limits.{most_instruments, most_sessions, most_bottles};
-    ghost use Rattle.lab_plan.specs.LabPlan.{edges, ends, edges_of, lower_first, bottles, sessions, commands, patience, session_names, part, place_at, length_at, job_at};
+    ghost use Rattle.lab_plan.specs.LabPlan.{edges, ends, edges_of, lower_first, bottles, sessions, commands};
+    ghost use Rattle.lab_plan.specs.LabPlan.{patience, session_names, part, place_at, length_at, job_at};
     ghost use Rattle.lab_plan.specs.IsPlan.{IsPlan};
     ghost use Rattle.lab_plan.specs.Names.{IsName};
     ghost use Rattle.lab_plan.specs.SessionTables.{IsTable};

@@ -16,8 +16,8 @@ use Rattle.lab_program.specs.Answers.{ScriptRefuses, AnswersTo}
 use Rattle.lab_runs.specs.Reports.{Reports}
 
 -- Whatever the schedule: the input is a script and means a plan, and the text is the report of one list of events of this plan, each legal after the ones
--- before it from the initial state on. The headline holds of it (Reports). The events of each job are whole turns, one after another, at most so many;
--- and exactly so many if not every job is retired. In a turn all that is due is done, except an exchange whose edge had changed since the look
+-- before it from the initial state on. The headline holds of it (Reports). The events of each job are whole turns, one after another, at most this many;
+-- and exactly that many if not every job is retired. In a turn all that is due is done, except an exchange whose edge had changed since the look
 pub record RunsByTurns (turns : ℕ) (input text : List ℕ) (outcome : Outcome) : Type 0 where
   pub plan : LabPlan
   pub means : ScriptMeans input plan

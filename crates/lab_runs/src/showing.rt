@@ -39,7 +39,8 @@ pub(crate) fn show_run<S: Showing<P>, P: Allocator, W: Sink>(
     run: &S,
     sink: &mut W,
 ) -> Result<Outcome, RunFault>
-    ensures shows { Shows (W.taken sink.old) (W.taken sink.new) (report_of (S.plan run.now) (S.shown run.now)) (outcome_of (all_retired (S.plan run.now) (S.shown run.now))) result }
+    ensures shows { Shows (W.taken sink.old) (W.taken sink.new) (report_of (S.plan run.now) (S.shown run.now))
+        (outcome_of (all_retired (S.plan run.now) (S.shown run.now))) result }
     ensures reads { failed_reads result ≡ 0 }
     ensures writes { W.failures sink.new ≡ W.failures sink.old + failed_writes result }
 {

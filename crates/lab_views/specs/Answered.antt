@@ -122,5 +122,6 @@ status_of_view (Err (GivenReport line view)) = 1
 -- the words ask for a view, and this is its answer and its status; or they ask for none, and nothing went to the sink
 abbrev pub AnswersCommand : List (List ℕ) → Option (List ℕ) → Option (List ℕ) → Option (List ℕ) → ℕ → Type 0
 AnswersCommand words left old new status =
-    ((view : View) × (answer : Result Outcome ViewFault) × (view_of words ≡ Some view) × ViewAnswers view left old new answer × (status ≡ status_of_view answer))
+    ((view : View) × (answer : Result Outcome ViewFault) × (view_of words ≡ Some view)
+    × ViewAnswers view left old new answer × (status ≡ status_of_view answer))
     ⊎ ((reason : NoTask) × AnswersWords words (Err reason) × Keeps old new × EndsWithoutTask reason status)

@@ -3,10 +3,10 @@ use Rattle.std.specs.Prelude.{List, Option, None, Some, codes, option_map, if◌
 use Rattle.std.specs.Str.{bytes_eq}
 use Rattle.clap.specs.Words.{App, Row, Text, with_subcommand}
 use Rattle.command_line.specs.Command.{program_app, word_app, word_of_number, word_of_numbers}
+use Rattle.command_line.specs.Grammar.{both_given}
 use Rattle.command_line.specs.Reading.{number_found}
-use Rattle.labrun_words.specs.Words.{threads_given}
 use Rattle.labrun_words.specs.declared.words.Task.{Task}
-use Rattle.labrun_words.specs.declared.words.Task.TheVariants.{Rounds, Replay, Check, Upgrade}
+use Rattle.labrun_words.specs.declared.words.Task.TheVariants.{Rounds, Threads, Replay, Check, Upgrade}
 
 abbrev rounds_app : App
 rounds_app = word_of_number (codes "rounds") 0 1000000000
@@ -25,6 +25,6 @@ abbrev pub task_found : Option (Text × List Row) → Option Task
 task_found None = Some (Rounds 10000)
 task_found (Some (name, rows)) =
     if bytes_eq name (codes "rounds") then option_map Rounds (number_found (codes "N") rows)
-    else (if bytes_eq name (codes "threads") then threads_given (number_found (codes "W") rows) (number_found (codes "N") rows)
+    else (if bytes_eq name (codes "threads") then both_given Threads (number_found (codes "W") rows) (number_found (codes "N") rows)
     else (if bytes_eq name (codes "replay") then Some Replay
     else (if bytes_eq name (codes "check") then Some Check else (if bytes_eq name (codes "upgrade") then Some Upgrade else None))))

@@ -1,33 +1,15 @@
 -- For readers: the words of the command line, the program's own name first.
-use Rattle.std.specs.Prelude.{◌≤◌, ℕ, List, [], ◌∷◌, Option, None, Some, codes, option_map, if◌then◌else◌}
+use Rattle.std.specs.Prelude.{◌≤◌, ℕ, List, [], ◌∷◌, Option, None, Some, codes, if◌then◌else◌}
 use Rattle.std.specs.Str.{bytes_eq}
-use Rattle.command_line.specs.Grammar.{number_within, values_given}
+use Rattle.command_line.specs.Grammar.{alone, values_given, with_number, with_numbers}
 use Rattle.labrun_words.specs.declared.words.Task.{Task}
 use Rattle.labrun_words.specs.declared.words.Task.TheVariants.{Rounds, Threads, Replay, Check, Upgrade}
 
-abbrev pub alone : Task → List (List ℕ) → Option Task
-alone task [] = Some task
-alone task _ = None
-
--- `rounds N`
-abbrev pub rounds_with : List (List ℕ) → Option Task
-rounds_with (limit ∷ []) = option_map Rounds (number_within 0 1000000000 limit)
-rounds_with _ = None
-
--- `threads W N`
-abbrev pub threads_given : Option ℕ → Option ℕ → Option Task
-threads_given (Some workers) (Some turns) = Some (Threads workers turns)
-threads_given _ _ = None
-
-abbrev pub threads_with : List (List ℕ) → Option Task
-threads_with (workers ∷ turns ∷ []) = threads_given (number_within 1 32 workers) (number_within 0 1000000000 turns)
-threads_with _ = None
-
--- the task of a word with its values
+-- the task of a word with its values: `rounds N`, `threads W N`, and words without values
 unfoldable pub task_with : List ℕ → List (List ℕ) → Option Task
 task_with word values =
-    if bytes_eq word (codes "rounds") then rounds_with values
-    else (if bytes_eq word (codes "threads") then threads_with values
+    if bytes_eq word (codes "rounds") then with_number Rounds 0 1000000000 values
+    else (if bytes_eq word (codes "threads") then with_numbers Threads 1 32 0 1000000000 values
     else (if bytes_eq word (codes "replay") then alone Replay values
     else (if bytes_eq word (codes "check") then alone Check values
     else (if bytes_eq word (codes "upgrade") then alone Upgrade values else None))))

@@ -1,19 +1,13 @@
 -- For readers: the words of the command line, the program's own name first.
-use Rattle.std.specs.Prelude.{ℕ, List, [], ◌∷◌, Option, None, Some, codes, option_map, if◌then◌else◌}
+use Rattle.std.specs.Prelude.{ℕ, List, [], ◌∷◌, Option, None, Some, codes, if◌then◌else◌}
 use Rattle.std.specs.Str.{bytes_eq}
-use Rattle.command_line.specs.Grammar.{number_within, values_given}
+use Rattle.command_line.specs.Grammar.{alone, values_given, with_number}
 use Rattle.labview_words.specs.declared.words.View.{View}
 use Rattle.labview_words.specs.declared.words.View.TheVariants.{Explain, Picture, Table, Arrange, Trace, Waits, Blocks, Gantt}
 
--- a word without values
-abbrev pub alone : View → List (List ℕ) → Option View
-alone view [] = Some view
-alone view _ = None
-
 -- a word with the most rounds
 abbrev pub over : (ℕ → View) → List (List ℕ) → Option View
-over view (limit ∷ []) = option_map view (number_within 0 1000000000 limit)
-over view _ = None
+over view values = with_number view 0 1000000000 values
 
 -- the view of a word with its values
 unfoldable pub view_with : List ℕ → List (List ℕ) → Option View

@@ -1,5 +1,6 @@
 -- For readers: the 17 kinds of event: where each is legal, and the state after it.
-use Rattle.std.specs.Prelude.{◌≡◌, ◌≢◌, ◌⊎◌, ℕ, ◌+◌, ◌<◌, ◌≤◌, Bool, true, false, not, ◌&&◌, ◌||◌, List, [], ◌∷◌, ◌++◌, length, replicate, slice_index_or, slice_set, bit_xor, bit_and, IsSome}
+use Rattle.std.specs.Prelude.{◌≡◌, ◌≢◌, ◌⊎◌, ℕ, ◌+◌, ◌<◌, ◌≤◌, Bool, true, false, not, ◌&&◌, ◌||◌, List, [], ◌∷◌}
+use Rattle.std.specs.Prelude.{◌++◌, length, replicate, slice_index_or, slice_set, bit_xor, bit_and, IsSome}
 use Rattle.lab_plan.specs.declared.verb.Verb.{Verb}
 use Rattle.lab_plan.specs.LabPlan.{LabPlan, bottles, sessions, commands, patience, session_names, command_at, place_at, length_at}
 use Rattle.instrument_log.specs.declared.entry.Entry.{Entry}
@@ -12,8 +13,10 @@ use Rattle.legal_steps.specs.declared.phase.Drinking.TheVariants.{Tranquil, Thir
 use Rattle.legal_steps.specs.declared.edge_state.EdgeState.{EdgeState}
 use Rattle.legal_steps.specs.declared.phase.JobState.{JobState}
 use Rattle.legal_steps.specs.declared.event.Event.{Event}
-use Rattle.legal_steps.specs.declared.event.Event.TheVariants.{Look, AskFork, GiveFork, Soil, AskBottles, GiveBottles, Thirst, Hunger, Sit, Leave, Drink, Reach, Act, Quit, Retire, Glance, Withdraw}
-use Rattle.legal_steps.specs.State.{Seat, State, Has, IsOfEdge, edge, seat, log, fork, is_dirty, token, phase, dining, drinking, session, position, fork_mark, bottle_marks, opposite, end_of, IsOwn, IsInSession, IsDrinking, bottle_end, bottles_at}
+use Rattle.legal_steps.specs.declared.event.Event.TheVariants.{Look, AskFork, GiveFork, Soil, AskBottles, GiveBottles, Thirst, Hunger}
+use Rattle.legal_steps.specs.declared.event.Event.TheVariants.{Sit, Leave, Drink, Reach, Act, Quit, Retire, Glance, Withdraw}
+use Rattle.legal_steps.specs.State.{Seat, State, Has, IsOfEdge, edge, seat, log, fork, is_dirty, token, phase, dining, drinking, session, position}
+use Rattle.legal_steps.specs.State.{fork_mark, bottle_marks, opposite, end_of, IsOwn, IsInSession, IsDrinking, bottle_end, bottles_at}
 
 -- ---- what the guards speak of
 

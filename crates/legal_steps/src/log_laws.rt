@@ -1,5 +1,6 @@
 //! The laws of logs, their room, and counts. Each is the contract of a function that does nothing.
-ghost use Rattle.legal_steps.specs.LogLaws.{CountsSessions, EndsInOrder, FitsItsRoom, HasEndedSessions, HasFewMeals, HasFewSessions, HasNothingElse, HasValuesOfDials, HasWholeLogs, TakesNextEntry};
+ghost use Rattle.legal_steps.specs.LogLaws.{CountsSessions, EndsInOrder, FitsItsRoom, HasEndedSessions, HasFewMeals};
+ghost use Rattle.legal_steps.specs.LogLaws.{HasFewSessions, HasNothingElse, HasValuesOfDials, HasWholeLogs, TakesNextEntry};
 
 /// After each beginning of a legal list of events, every log is whole except for its end: nonempty parts of
 /// the plan's sessions one after another, those of each job ascending, and then at most one unfinished part.

@@ -145,7 +145,8 @@ impl JobState {
     pub fn gives_up<A: Allocator>(self, plan: &Plan<A>, job: JobNo, waited: u32) -> bool
         requires is_job { IsJob plan.now job }
         requires fits { IsPhaseOf plan.now job self }
-        ensures { IsTrue result ↔ ((self.drinking ≡ Thirsty) × IsSome (patience plan.now job self.session) × ForSome (patience plan.now job self.session) (λ n. n ≤ waited)) }
+        ensures { IsTrue result ↔ ((self.drinking ≡ Thirsty) × IsSome (patience plan.now job self.session)
+            × ForSome (patience plan.now job self.session) (λ n. n ≤ waited)) }
     {
         if self.drinking != Drinking::Thirsty {
             return false;

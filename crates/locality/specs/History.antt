@@ -1,4 +1,5 @@
--- For readers: a history: a list of events that is legal from the initial state; the events of each job in it, the state after it, and what a job knows by its own
+-- For readers: a history: a list of events that is legal from the initial state; each job's events in it, the state after it, and what
+-- a job knows by its own
 -- events.
 use Rattle.std.specs.Prelude.{ℕ, Bool, List, [], ◌∷◌, filter, ◌==◌}
 use Rattle.lab_plan.specs.LabPlan.{LabPlan}

@@ -11,7 +11,7 @@ is_waiting Drinks = false
 is_waiting Reaching = false
 is_waiting Retired = false
 
--- one more, up to the largest number of so many bits
+-- one more, up to the largest number of this many bits
 abbrev pub one_more : ℕ → ℕ → ℕ
 one_more top n = min (n + 1) top
 

@@ -2,7 +2,9 @@
 ghost use Rattle.legal_steps.specs.Fitting.{Fits};
 ghost use Rattle.legal_steps.specs.Holding.{AreTruthful, IsExclusive};
 ghost use Rattle.legal_steps.specs.Precedence.{IsAcyclic};
-ghost use Rattle.locality.specs.Laws.{AfterEvery, ChangesOneEdge, ChangesOneLog, ChangesOneSeat, CountsItself, EntryReadsAlike, FitTheirWords, GroupsChangeOneSeatAndEdge, HasOneEntryEach, HasOneReaching, HoldsWhatItReaches, IsLegalInParts, KeepsAll, KeepsReachedLog, KnowsItself, KnowsWhatItSaw, LeadsOn, ReadsAlike, RestsAtNoCommand, StaysRetired};
+ghost use Rattle.locality.specs.Laws.{AfterEvery, ChangesOneEdge, ChangesOneLog, ChangesOneSeat, CountsItself, EntryReadsAlike, FitTheirWords};
+ghost use Rattle.locality.specs.Laws.{GroupsChangeOneSeatAndEdge, HasOneEntryEach, HasOneReaching, HoldsWhatItReaches, IsLegalInParts, KeepsAll};
+ghost use Rattle.locality.specs.Laws.{KeepsReachedLog, KnowsItself, KnowsWhatItSaw, LeadsOn, ReadsAlike, RestsAtNoCommand, StaysRetired};
 
 /// After an event there are as many seats, edges and logs as before.
 pub fn keeps_all()

@@ -1,7 +1,8 @@
 -- Where no way on is left: of a job, of its forks, of its bottles.
 use Rattle.std.specs.Prelude.{ℕ, ◌^◌, ◌<◌, length}
 use Rattle.lab_plan.specs.LabPlan.{LabPlan, bottles}
-use Rattle.legal_steps.specs.declared.event.Event.TheVariants.{AskFork, GiveFork, Soil, AskBottles, GiveBottles, Thirst, Hunger, Sit, Leave, Drink, Reach, Act, Quit, Retire}
+use Rattle.legal_steps.specs.declared.event.Event.TheVariants.{AskFork, GiveFork, Soil, AskBottles, GiveBottles, Thirst}
+use Rattle.legal_steps.specs.declared.event.Event.TheVariants.{Hunger, Sit, Leave, Drink, Reach, Act, Quit, Retire}
 use Rattle.legal_steps.specs.State.{State, IsOwn}
 use Rattle.legal_steps.specs.Legal.{IsJob, May}
 use Rattle.overtaking.specs.Stuck.{IsUpToDate}

@@ -32,7 +32,7 @@ pub fn meals_after_ask<A: Allocator>(
     meals_before(&events[place + 1..], neighbour(plan, job, edge), job)
 }
 
-// The job at the other end of the edge.
+/// The job at the other end of the edge.
 fn neighbour<A: Allocator>(plan: &Plan<A>, job: JobNo, edge: EdgeNo) -> JobNo
     requires { IsOwn plan.now job edge }
     ensures { result ≡ neighbour_of plan.now job edge }
@@ -41,7 +41,7 @@ fn neighbour<A: Allocator>(plan: &Plan<A>, job: JobNo, edge: EdgeNo) -> JobNo
     if lower == job { higher } else { lower }
 }
 
-// How many meals the eater begins before the next meal of the job that waits.
+/// How many meals the eater begins before the next meal of the job that waits.
 fn meals_before(events: &[Event], eater: JobNo, waits: JobNo) -> u64
     ensures { result ≡ meals_of eater (before_meal waits events.now) }
 {
@@ -57,7 +57,7 @@ fn meals_before(events: &[Event], eater: JobNo, waits: JobNo) -> u64
     meals
 }
 
-// Whether the event begins a meal of the job.
+/// Whether the event begins a meal of the job.
 fn begins_meal(event: &Event, job: JobNo) -> bool
     ensures { result ≡ is_sit job event.now }
 {

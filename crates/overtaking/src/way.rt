@@ -46,7 +46,7 @@ fn are_all_retired<A: Allocator>(world: &World<'_, A>) -> bool
     true
 }
 
-// The first of the events that is legal.
+/// The first of the events that is legal.
 fn first_legal<A: Allocator>(world: &World<'_, A>, events: &[Event]) -> Option<Event>
     requires { All IsMove events.now }
     ensures leads_on { IfSome result (λ event. IsWayOn world.now.plan world.now.state event) }
@@ -62,7 +62,7 @@ fn first_legal<A: Allocator>(world: &World<'_, A>, events: &[Event]) -> Option<E
     None
 }
 
-// What the job can do by itself.
+/// What the job can do by itself.
 #[tactic(auto, using(crate::proofs::Ways::no_phase_of))]
 fn phase_way<A: Allocator>(world: &World<'_, A>, job: JobNo) -> Option<Event>
     ensures leads_on { IfSome result (λ event. IsWayOn world.now.plan world.now.state event) }
@@ -84,7 +84,7 @@ fn phase_way<A: Allocator>(world: &World<'_, A>, job: JobNo) -> Option<Event>
     )
 }
 
-// What any job can do by itself.
+/// What any job can do by itself.
 fn any_phase<A: Allocator>(world: &World<'_, A>) -> Option<Event>
     ensures leads_on { IfSome result (λ event. IsWayOn world.now.plan world.now.state event) }
     ensures none { IfNone result (HasNoPhaseWays world.now.plan world.now.state) }
@@ -97,7 +97,7 @@ fn any_phase<A: Allocator>(world: &World<'_, A>) -> Option<Event>
     None
 }
 
-// A look that changes a mark, or what the job can do with the fork.
+/// A look that changes a mark, or what the job can do with the fork.
 #[tactic(auto, using(crate::proofs::Ways::no_fork_of))]
 fn fork_way<A: Allocator>(world: &World<'_, A>, job: JobNo, edge: EdgeNo) -> Option<Event>
     requires { IsOwn world.now.plan job edge }
@@ -119,7 +119,7 @@ fn fork_way<A: Allocator>(world: &World<'_, A>, job: JobNo, edge: EdgeNo) -> Opt
     )
 }
 
-// The same on any edge, for both its jobs.
+/// The same on any edge, for both its jobs.
 fn any_fork<A: Allocator>(world: &World<'_, A>) -> Option<Event>
     ensures leads_on { IfSome result (λ event. IsWayOn world.now.plan world.now.state event) }
     ensures none { IfNone result (HasNoForkWays world.now.plan world.now.state) }
@@ -137,7 +137,7 @@ fn any_fork<A: Allocator>(world: &World<'_, A>) -> Option<Event>
     None
 }
 
-// What the job can do with a bottle of the edge.
+/// What the job can do with a bottle of the edge.
 fn bottle_way<A: Allocator>(world: &World<'_, A>, job: JobNo, edge: EdgeNo) -> Option<Event>
     requires { IsOwn world.now.plan job edge }
     ensures leads_on { IfSome result (λ event. IsWayOn world.now.plan world.now.state event) }
@@ -156,7 +156,7 @@ fn bottle_way<A: Allocator>(world: &World<'_, A>, job: JobNo, edge: EdgeNo) -> O
     None
 }
 
-// The same on any edge, for both its jobs.
+/// The same on any edge, for both its jobs.
 fn any_bottle<A: Allocator>(world: &World<'_, A>) -> Option<Event>
     ensures leads_on { IfSome result (λ event. IsWayOn world.now.plan world.now.state event) }
     ensures none { IfNone result (HasNoBottleWays world.now.plan world.now.state) }

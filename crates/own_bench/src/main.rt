@@ -10,7 +10,7 @@ use rounds::rounds;
 use std::alloc::Global;
 use std::io;
 
-// Jobs and instruments are counted from 0, in the order in which the plan names them.
+/// Jobs and instruments are counted from 0, in the order in which the plan names them.
 const WEIGH: JobNo = JobNo(0);
 
 const SCALE: InstrumentNo = InstrumentNo(0);
@@ -22,8 +22,8 @@ enum Stopped {
     NotPrinted(io::Error),
 }
 
-// A builder takes a plan line by line, as a script has it, and refuses what a plan can't have. That each name is one, and each
-// command stands in a session, is proved here; a name is no reserved word, which the prover sees once it looks into that word.
+/// A builder takes a plan line by line, as a script has it, and refuses what a plan can't have. That each name is one, and each
+/// command stands in a session, is proved here; a name is no reserved word, which the prover sees once it looks into that word.
 #[tactic(auto, unfolding(lab_plan::specs::Names::is_reserved))]
 fn planned(alloc: Global) -> Result<Plan, PlanRefusal> {
     let mut builder = PlanBuilder::new(alloc);
@@ -44,7 +44,7 @@ fn name_of(job: JobNo) -> &'static str {
     if job == WEIGH { "weigh" } else { "check" }
 }
 
-// A log is read entry by entry, the oldest first.
+/// A log is read entry by entry, the oldest first.
 fn print_log(rt: &impl Print, closed: &Closed, instrument: InstrumentNo) -> io::Result<()>
     requires { instrument < length closed.now.plan.instruments }
 {
@@ -62,7 +62,7 @@ fn print_log(rt: &impl Print, closed: &Closed, instrument: InstrumentNo) -> io::
     Ok(())
 }
 
-// The ten lines.
+/// The ten lines.
 fn run(rt: &impl Print, alloc: Global) -> Result<(), Stopped> {
     // What the jobs are to do. It outlives the bench, which borrows it.
     let plan = planned(alloc).map_err(Stopped::NoPlan)?;

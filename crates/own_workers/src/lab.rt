@@ -36,7 +36,7 @@ const LINES: [Line; 20] = [
     Line::Command("scale", Verb::Read),
 ];
 
-// What a call of the builder asks is tested right before it: then nothing about the lines has to be proved.
+/// What a call of the builder asks is tested right before it: then nothing about the lines has to be proved.
 fn put(builder: &mut PlanBuilder, line: Line) -> bool {
     match line {
         Line::Job(name) => is_name(name.as_bytes()) && builder.job(name.as_bytes()).is_ok(),

@@ -31,7 +31,7 @@ fn name_at(names: &'static [&'static str], number: usize) -> &'static str {
     }
 }
 
-// How long each waited differs from run to run, so it goes to standard error.
+/// How long each waited differs from run to run, so it goes to standard error.
 fn tell_turns(rt: &impl Eprint, desks: &[Desk], shop: &Shop) -> io::Result<()> {
     for desk in desks {
         let job = desk.job();

@@ -5,7 +5,7 @@ use std::sync::atomic::{AtomicU32, AtomicU64, Ordering};
 /// One instrument, as its holders count it.
 #[derive(Drop)]
 pub(crate) struct Hold {
-    // How many hold it now: each holder adds 1 once it holds it, and takes it off before it lets it go.
+    /// How many hold it now: each holder adds 1 once it holds it, and takes it off before it lets it go.
     holders: AtomicU32,
     times: AtomicU32,
     clashes: AtomicU32,
@@ -35,14 +35,14 @@ impl Hold {
 /// What the four owners share.
 #[derive(Drop)]
 pub(crate) struct Shop {
-    // Samples that the robot has brought, and that the stations have weighed.
+    /// Samples that the robot has brought, and that the stations have weighed.
     brought: AtomicU32,
     weighed: AtomicU32,
     holds: [Hold; 4],
     waited: [AtomicU64; 4],
 }
 
-// The instruments of a job's session, by their numbers in the plan.
+/// The instruments of a job's session, by their numbers in the plan.
 fn needs(job: JobNo, session: u32) -> &'static [usize] {
     match (job.0, session) {
         (0, 1) => &[0, 1],

@@ -11,15 +11,15 @@ use lab_plan::JobNo;
 use std::alloc::Allocator;
 use std::sync::Wait;
 
-// More than any of these waits takes where threads run side by side; a thread that has used them up gives up, so the program ends. A
-// sleeping thread takes some hundred a second.
+/// More than any of these waits takes where threads run side by side; a thread that has used them up gives up, so the program ends. A
+/// sleeping thread takes some hundred a second.
 const TURNS: u32 = 50_000;
 
 fn sessions_of(job: JobNo) -> u32 {
     if job == JobNo(0) { 2 } else { 1 }
 }
 
-// Until there is work, the neighbours get what they ask for. A turn would begin the session at once.
+/// Until there is work, the neighbours get what they ask for. A turn would begin the session at once.
 fn wait_for_work<R: Wait, A: Allocator>(
     shop: &Shop,
     bench: &Bench<A>,
@@ -37,7 +37,7 @@ fn wait_for_work<R: Wait, A: Allocator>(
     }
 }
 
-// What the job does while it holds its instruments. It may take long: the neighbours get what this session doesn't need meanwhile.
+/// What the job does while it holds its instruments. It may take long: the neighbours get what this session doesn't need meanwhile.
 fn work_at_them<R: Wait, A: Allocator>(
     bench: &Bench<A>,
     desk: &mut Desk<A>,
@@ -54,7 +54,7 @@ fn work_at_them<R: Wait, A: Allocator>(
     waiting.change(How::Sleep);
 }
 
-// One session, from waiting for work to the end. Answers whether it came to its end within the turns.
+/// One session, from waiting for work to the end. Answers whether it came to its end within the turns.
 fn one_session<R: Wait, A: Allocator>(
     shop: &Shop,
     bench: &Bench<A>,

@@ -5,6 +5,6 @@ use Rattle.std.specs.Prelude.{ℕ, Bool, nat_le, ◌*◌, ◌/◌, if◌then◌e
 abbrev pub has_room : ℕ → Bool
 has_room columns = nat_le columns 38
 
--- where a column begins, of so many: 24 units behind the one before it, or all in 3800 units
+-- where a column begins, of this many: 24 units behind the one before it, or all in 3800 units
 unfoldable pub left_of : ℕ → ℕ → ℕ
 left_of columns column = if has_room columns then 100 * column else (if nat_le columns 158 then 24 * column else 3800 * column / columns)

@@ -25,7 +25,7 @@ verb_fields Read = codes ",read,"
 unfoldable pub place_fields : List ℕ → ℕ → EntryText → List ℕ
 place_fields instrument number e = name_field instrument ++ number_field number ++ codes "," ++ name_field e.job
 
--- the job's session, and the place in the session's part, of so many
+-- the job's session, and the place in the session's part, of this many
 unfoldable pub session_fields : EntryText → List ℕ
 session_fields e = number_field e.session ++ number_field e.place ++ number_field e.length
 

@@ -42,7 +42,8 @@ entries_text jobs columns spans entries = flat_map (entry_at jobs columns spans 
 -- the row of an instrument: its name, and its entries
 unfoldable pub log_at : ReportText → TimelineView → ℕ → List ℕ
 log_at report view i =
-    let log = slice_index_or report.logs i no_log in row_text i log.name view.columns ++ entries_text report.jobs view.columns view.spans log.entries ++ codes "</g>\n"
+    let log = slice_index_or report.logs i no_log in
+    row_text i log.name view.columns ++ entries_text report.jobs view.columns view.spans log.entries ++ codes "</g>\n"
 
 -- a line of the table of jobs
 abbrev pub job_at : ReportText → ℕ → List ℕ

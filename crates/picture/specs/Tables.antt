@@ -37,7 +37,8 @@ thin columns = if has_room columns then [] else codes " stroke-width=\"0.4\""
 -- the head of an instrument's row
 abbrev pub row_text : ℕ → List ℕ → ℕ → List ℕ
 row_text number name columns =
-    codes "<g transform=\"translate(160 " ++ decimal (30 + 70 * number) ++ codes ")\"" ++ thin columns ++ codes "><path d=\"M-150 66H" ++ decimal (left_of columns columns)
+    codes "<g transform=\"translate(160 " ++ decimal (30 + 70 * number) ++ codes ")\"" ++ thin columns
+    ++ codes "><path d=\"M-150 66H" ++ decimal (left_of columns columns)
     ++ codes "\" stroke=\"#ccc\"/><text x=\"-150\" y=\"38\" font-size=\"13\">" ++ name_text name ++ codes "</text>\n"
 
 -- how many sessions were withdrawn

@@ -1,7 +1,8 @@
 //! What is drawn in the row of an instrument.
 ghost use Rattle.std.specs.Prelude.{◌≡◌, ◌+◌, ◌*◌, ◌-◌, ◌≤◌, ◌++◌, ◌<◌, ◌^◌, length};
 ghost use Rattle.report_reader.specs.Form.{entry_text};
-ghost use Rattle.picture.specs.Boxes.{edges, edges_end, label, session_title, named_box, titled_box, box_text, tick, deed, deed_title, tick_at, tick_text, entry_line};
+ghost use Rattle.picture.specs.Boxes.{edges, edges_end, label, session_title, named_box, titled_box};
+ghost use Rattle.picture.specs.Boxes.{box_text, tick, deed, deed_title, tick_at, tick_text, entry_line};
 
 use crate::columns::{has_room, left_of};
 use crate::line::{PictureLine, add_name};

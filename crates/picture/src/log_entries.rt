@@ -60,7 +60,7 @@ fn add_place<A: Allocator>(
     add_name(out, entry.job)
 }
 
-/// The job's session, and the place in the session's part, of so many.
+/// The job's session, and the place in the session's part, of this many.
 #[tactic(auto, unfolding(crate::specs::LogTable::session_fields))]
 fn add_session<A: Allocator>(out: &mut Vec<u8, A>, entry: &EntryLine) -> Result<(), AllocError>
     ensures { OnOk result (out.new.items ≡ out.old.items ++ session_fields (entry_text entry.now)) }

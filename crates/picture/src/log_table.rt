@@ -17,7 +17,8 @@ fn add_nth<A: Allocator>(
     place: usize,
 ) -> Result<(), AllocError>
     requires { place < length entries.now }
-    ensures { OnOk result (out.new.items ≡ out.old.items ++ entry_line instrument.now (place + 1) (slice_index_or (map entry_text entries.now) place no_entry)) }
+    ensures { OnOk result (out.new.items ≡ out.old.items
+        ++ entry_line instrument.now (place + 1) (slice_index_or (map entry_text entries.now) place no_entry)) }
 {
     add_entry(out, instrument, place as u64 + 1, &entries[place])
 }

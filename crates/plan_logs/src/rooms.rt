@@ -9,7 +9,7 @@ use instrument_log::InstrumentLog;
 use lab_plan::{InstrumentNo, JobNo, Plan};
 use std::alloc::{AllocError, Allocator};
 
-// Adds to each instrument's number how many commands of a session are on it. A session's numbers stand next to one another.
+/// Adds to each instrument's number how many commands of a session are on it. A session's numbers stand next to one another.
 fn add_session<A: Allocator>(plan: &Plan<A>, job: JobNo, session: u32, rooms: &mut Vec<u32, A>)
     requires is_job { job < length plan.now.jobs }
     requires begun { 1 ≤ session }
@@ -23,7 +23,7 @@ fn add_session<A: Allocator>(plan: &Plan<A>, job: JobNo, session: u32, rooms: &m
     }
 }
 
-// Adds how many commands of a job are on each instrument.
+/// Adds how many commands of a job are on each instrument.
 fn add_job<A: Allocator>(plan: &Plan<A>, job: JobNo, rooms: &mut Vec<u32, A>)
     requires is_job { job < length plan.now.jobs }
     requires wide { length rooms.old.items ≡ length plan.now.instruments }
@@ -35,7 +35,7 @@ fn add_job<A: Allocator>(plan: &Plan<A>, job: JobNo, rooms: &mut Vec<u32, A>)
     }
 }
 
-// How many commands of the plan are on each instrument.
+/// How many commands of the plan are on each instrument.
 fn rooms<A: Allocator + Copy>(alloc: A, plan: &Plan<A>) -> Result<Vec<u32, A>, AllocError>
     ensures { IfOk result (λ rooms. AreRooms plan.now rooms.items) }
 {

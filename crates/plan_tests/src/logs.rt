@@ -6,7 +6,7 @@ use lab_plan::{JobNo, Verb};
 use std::alloc::{Allocator, Global};
 use std::process::Abort;
 
-// Of job 0, session 1: place 1 of 2, `set 5`.
+/// Of job 0, session 1: place 1 of 2, `set 5`.
 const FIRST: [u8; 16] = [0, 1, 0, 1, 0, 0, 2, 0, 0, 0, 5, 0, 0, 5, 0, 0];
 
 const FIRST_ENTRY: Entry = Entry {
@@ -18,7 +18,7 @@ const FIRST_ENTRY: Entry = Entry {
     value: 5,
 };
 
-// The last of all.
+/// The last of all.
 const LAST: [u8; 16] = [
     0x1f, 0xe8, 0x03, 0xa0, 0x86, 0x01, 0xa0, 0x86, 0x01, 0x01, 0x3f, 0x42, 0x0f, 0x3f, 0x42, 0x0f,
 ];

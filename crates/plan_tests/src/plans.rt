@@ -142,7 +142,7 @@ fn put_commands<A: Allocator + Copy>(
     }
 }
 
-/// So many sessions of one command each.
+/// This many sessions of one command each.
 fn put_sessions<A: Allocator + Copy>(
     rt: &impl Abort,
     builder: &mut PlanBuilder<A>,

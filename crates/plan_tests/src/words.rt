@@ -6,10 +6,10 @@ use std::process::Abort;
 
 const ALL: u32 = 0xfff_ffff;
 
-// The initial word of an edge with one bottle.
+/// The initial word of an edge with one bottle.
 const OPENING: u64 = 4294967302;
 
-// That of an edge with 28.
+/// That of an edge with 28.
 const OPENING_OF_28: u64 = 1152921500311879686;
 
 #[test]
@@ -160,7 +160,7 @@ fn changed(rt: &impl Abort, edge: EdgeWord, change: Change) -> EdgeWord {
     }
 }
 
-/// The word after the change, if the first is one of an edge with so many bottles.
+/// The word after the change, if the first is one of an edge with this many bottles.
 fn word_after(rt: &impl Abort, word: u64, bottles: u32, change: Change) -> Option<u64> {
     assert!(rt; 1 <= bottles && bottles <= 28);
     let edge = EdgeWord::unpack(word, bottles)?;
@@ -215,13 +215,13 @@ const GIVE_BOTH_AND_ASK: EdgeMoves = EdgeMoves {
     soil: false,
 };
 
-// Job b asks for the bottle and then for the fork; then job a gives both at once.
+/// Job b asks for the bottle and then for the fork; then job a gives both at once.
 #[test]
 fn one_exchange_gives_fork_and_bottle(rt: HostRuntime) {
     follow(&rt, &[(ASK_BOTTLE, 6), (ASK_FORK, 2), (GIVE_BOTH, 17)]);
 }
 
-// Both jobs are thirsty and hungry: b asks for fork and bottle at once, and a gives both and asks for them again.
+/// Both jobs are thirsty and hungry: b asks for fork and bottle at once, and a gives both and asks for them again.
 #[test]
 fn one_exchange_gives_and_asks_again(rt: HostRuntime) {
     follow(&rt, &[(ASK_BOTH, 2), (GIVE_BOTH_AND_ASK, 4294967317)]);

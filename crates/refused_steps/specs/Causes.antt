@@ -4,11 +4,18 @@ use Rattle.lab_plan.specs.LabPlan.{LabPlan, bottles, sessions, patience}
 use Rattle.legal_steps.specs.declared.phase.Dining.TheVariants.{Thinking, Hungry, Eating}
 use Rattle.legal_steps.specs.declared.phase.Drinking.TheVariants.{Tranquil, Thirsty, Drinking as Drinks, Reaching}
 use Rattle.legal_steps.specs.declared.event.Event.{Event}
-use Rattle.legal_steps.specs.declared.event.Event.TheVariants.{Look, AskFork, GiveFork, Soil, AskBottles, GiveBottles, Thirst, Hunger, Sit, Leave, Drink, Reach, Act, Quit, Retire, Glance, Withdraw}
-use Rattle.legal_steps.specs.State.{State, Has, IsOfEdge, edge, fork, is_dirty, token, phase, dining, drinking, session, position, fork_mark, bottle_marks, IsOwn, IsDrinking, bottle_end}
+use Rattle.legal_steps.specs.declared.event.Event.TheVariants.{Look, AskFork, GiveFork, Soil, AskBottles, GiveBottles, Thirst, Hunger}
+use Rattle.legal_steps.specs.declared.event.Event.TheVariants.{Sit, Leave, Drink, Reach, Act, Quit, Retire, Glance, Withdraw}
+use Rattle.legal_steps.specs.State.{State, Has, IsOfEdge, edge, fork, is_dirty, token, phase, dining, drinking}
+use Rattle.legal_steps.specs.State.{session, position, fork_mark, bottle_marks, IsOwn, IsDrinking, bottle_end}
 use Rattle.legal_steps.specs.Legal.{Here, There, IsJob, Needs, instrument_of, session_commands, May}
 use Rattle.refused_steps.specs.declared.cause.Cause.{Cause}
-use Rattle.refused_steps.specs.declared.cause.Cause.TheVariants.{NotJob, NotOwn, SeesElse, OtherNotJob, Itself, NotThinking, NotHungry, NotEating, Eats, NotTranquil, NotThirsty, Thirsts, NotDrinking, NotReaching, ForkHere, ForkThere, ForkClean, ForkDirty, TokenThere, UnmarkedAway, UnmarkedClaimed, UnmarkedClean, UnmarkedUnseen, NoBottle, NotOfEdge, NotNeeded, BottleHere, BottleThere, BottleTokenThere, KeptInSession, KeptWithFork, MissingAway, MissingUnseen, NoSessionLeft, SessionLeft, NoCommandLeft, CommandLeft, NoPatience}
+use Rattle.refused_steps.specs.declared.cause.Cause.TheVariants.{NotJob, NotOwn, SeesElse, OtherNotJob, Itself, NotThinking, NotHungry, NotEating}
+use Rattle.refused_steps.specs.declared.cause.Cause.TheVariants.{Eats, NotTranquil, NotThirsty, Thirsts, NotDrinking, NotReaching, ForkHere}
+use Rattle.refused_steps.specs.declared.cause.Cause.TheVariants.{ForkThere, ForkClean, ForkDirty, TokenThere, UnmarkedAway, UnmarkedClaimed}
+use Rattle.refused_steps.specs.declared.cause.Cause.TheVariants.{UnmarkedClean, UnmarkedUnseen, NoBottle, NotOfEdge, NotNeeded, BottleHere}
+use Rattle.refused_steps.specs.declared.cause.Cause.TheVariants.{BottleThere, BottleTokenThere, KeptInSession, KeptWithFork, MissingAway}
+use Rattle.refused_steps.specs.declared.cause.Cause.TheVariants.{MissingUnseen, NoSessionLeft, SessionLeft, NoCommandLeft, CommandLeft, NoPatience}
 
 -- the job has no mark for the fork of one of its edges
 pub record IsUnmarked (plan : LabPlan) (s : State) (j e : ℕ) : Type 0 where

@@ -38,7 +38,8 @@ fn ask_bottle<A: Allocator>(
     requires own { IsOwn world.now.plan job edge }
     requires is_bottle { bottle < length (bottles world.now.plan edge) }
     requires member { Has set bottle }
-    ensures { MatchOption result (MayAskBottle world.now.plan world.now.state job edge bottle) (Fails world.now.plan world.now.state (AskBottles job edge set)) }
+    ensures { MatchOption result (MayAskBottle world.now.plan world.now.state job edge bottle)
+        (Fails world.now.plan world.now.state (AskBottles job edge set)) }
 {
     let here = End::of(world.plan(), job, edge);
     let state = world.edge(edge);
@@ -58,7 +59,8 @@ fn ask_bottle<A: Allocator>(
 fn ask_each<A: Allocator>(world: &World<'_, A>, job: JobNo, edge: EdgeNo, set: u32) -> Option<Cause>
     requires own { IsOwn world.now.plan job edge }
     requires set { IsOfEdge world.now.plan edge set }
-    ensures { MatchOption result ((k : ℕ) → Has set k → MayAskBottle world.now.plan world.now.state job edge k) (Fails world.now.plan world.now.state (AskBottles job edge set)) }
+    ensures { MatchOption result ((k : ℕ) → Has set k → MayAskBottle world.now.plan world.now.state job edge k)
+        (Fails world.now.plan world.now.state (AskBottles job edge set)) }
 {
     for bottle in 0..world.plan().bottles(edge) {
         if has(set, bottle) {
@@ -103,7 +105,8 @@ fn give_bottle<A: Allocator>(
     requires own { IsOwn world.now.plan job edge }
     requires is_bottle { bottle < length (bottles world.now.plan edge) }
     requires member { Has set bottle }
-    ensures { MatchOption result (MayGiveBottle world.now.plan world.now.state job edge bottle) (Fails world.now.plan world.now.state (GiveBottles job edge set)) }
+    ensures { MatchOption result (MayGiveBottle world.now.plan world.now.state job edge bottle)
+        (Fails world.now.plan world.now.state (GiveBottles job edge set)) }
 {
     let here = End::of(world.plan(), job, edge);
     let state = world.edge(edge);
@@ -134,7 +137,8 @@ fn give_each<A: Allocator>(
 ) -> Option<Cause>
     requires own { IsOwn world.now.plan job edge }
     requires set { IsOfEdge world.now.plan edge set }
-    ensures { MatchOption result ((k : ℕ) → Has set k → MayGiveBottle world.now.plan world.now.state job edge k) (Fails world.now.plan world.now.state (GiveBottles job edge set)) }
+    ensures { MatchOption result ((k : ℕ) → Has set k → MayGiveBottle world.now.plan world.now.state job edge k)
+        (Fails world.now.plan world.now.state (GiveBottles job edge set)) }
 {
     for bottle in 0..world.plan().bottles(edge) {
         if has(set, bottle) {

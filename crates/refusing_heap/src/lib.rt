@@ -29,7 +29,7 @@ impl<B> RefusingHeap<B> {
         self.allocations.load(Ordering::SeqCst)
     }
 
-    // What gives the next allocation, if it isn't the one that is refused.
+    /// What gives the next allocation, if it isn't the one that is refused.
     fn next(&self) -> Option<&B>
         ensures { IfSome result (λ lent. lent.now ≡ self.now.inner) }
     {

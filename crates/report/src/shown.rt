@@ -21,7 +21,8 @@ fn write_instrument<R: Showing<P>, P: Allocator, W: Sink>(
     sink: &mut W,
 ) -> Result<(), WriteFault>
     requires { instrument < length (R.plan run.now).instruments }
-    ensures { Sends W.taken W.failures sink.old sink.new (instrument_line (instrument_name (R.plan run.now) instrument) (length ((R.shown run.now).log instrument))) result }
+    ensures { Sends W.taken W.failures sink.old sink.new
+        (instrument_line (instrument_name (R.plan run.now) instrument) (length ((R.shown run.now).log instrument))) result }
 {
     let name = run.plan().instrument_name(instrument);
     let line = instrument_line(name, run.entries(instrument));

@@ -3,7 +3,8 @@ ghost use Rattle.std.specs.Prelude.{◌≡◌, ◌<◌, ◌==◌, length, map, M
 ghost use Rattle.std.specs.List.{position};
 ghost use Rattle.std.specs.Option.{option_map};
 ghost use Rattle.report_reader.specs.Line.{Line};
-ghost use Rattle.report_reader.specs.Read.{last_of, header_of, instrument_of, part_of, verb_of, read_of, entry_of, done_of, withdrawn_of, state_of, meals_of, job_of, head_of, middle_of, tail_of, short_line, line_of};
+ghost use Rattle.report_reader.specs.Read.{last_of, header_of, instrument_of, part_of, verb_of, read_of, entry_of, done_of};
+ghost use Rattle.report_reader.specs.Read.{withdrawn_of, state_of, meals_of, job_of, head_of, middle_of, tail_of, short_line, line_of};
 ghost use Rattle.report_reader.specs.Form.{line_text, head_text};
 
 use crate::lines::{EntryLine, Form, JobLine};
@@ -39,7 +40,8 @@ fn header_of<'a>(word: &[u8], version: &'a [u8]) -> Option<Form<'a>>
 }
 
 fn instrument_of<'a>(word: &[u8], name: &'a [u8], entries: &[u8]) -> Option<Form<'a>>
-    ensures { MatchOption result (instrument_of word.now name.now entries.now ≡ None) (λ form. instrument_of word.now name.now entries.now ≡ Some (line_text form)) }
+    ensures { MatchOption result (instrument_of word.now name.now entries.now ≡ None)
+        (λ form. instrument_of word.now name.now entries.now ≡ Some (line_text form)) }
 {
     if word != b"instrument".as_slice() || !is_name(name) {
         return None;
@@ -103,7 +105,8 @@ fn entry_of<'a>(
     is: &[u8],
     value: &[u8],
 ) -> Option<Form<'a>>
-    ensures { MatchOption result (entry_of job.now session.now part.now verb is.now value.now ≡ None) (λ form. entry_of job.now session.now part.now verb is.now value.now ≡ Some (line_text form)) }
+    ensures { MatchOption result (entry_of job.now session.now part.now verb is.now value.now ≡ None)
+        (λ form. entry_of job.now session.now part.now verb is.now value.now ≡ Some (line_text form)) }
 {
     if !is_name(job) || is != b"=".as_slice() {
         return None;
@@ -189,7 +192,8 @@ fn job_of<'a>(
     withdrawn: Option<Option<u32>>,
     tail: Option<(u32, bool)>,
 ) -> Option<Form<'a>>
-    ensures { MatchOption result (job_of (option_map head_text head.entry) withdrawn tail ≡ None) (λ form. job_of (option_map head_text head.entry) withdrawn tail ≡ Some (line_text form)) }
+    ensures { MatchOption result (job_of (option_map head_text head.entry) withdrawn tail ≡ None)
+        (λ form. job_of (option_map head_text head.entry) withdrawn tail ≡ Some (line_text form)) }
 {
     let (name, done, sessions) = head?;
     let withdrawn = withdrawn?;
@@ -234,7 +238,8 @@ fn tail_of(words: &[&[u8]]) -> Option<(u32, bool)>
 /// The line with these words, if it is no job's.
 #[tactic(auto, unfolding(crate::specs::Read::short_line), using(crate::proofs::Lengths::other_short))]
 fn short_line<'a>(words: &[&'a [u8]]) -> Option<Form<'a>>
-    ensures { MatchOption result (short_line (map (λ word. word.now) words.now) ≡ None) (λ form. short_line (map (λ word. word.now) words.now) ≡ Some (line_text form)) }
+    ensures { MatchOption result (short_line (map (λ word. word.now) words.now) ≡ None)
+        (λ form. short_line (map (λ word. word.now) words.now) ≡ Some (line_text form)) }
 {
     match words {
         [word] => last_of(word),
@@ -255,7 +260,8 @@ fn short_line<'a>(words: &[&'a [u8]]) -> Option<Form<'a>>
 
 /// The line with these words.
 pub(crate) fn line_of<'a>(words: &[&'a [u8]]) -> Option<Form<'a>>
-    ensures { MatchOption result (line_of (map (λ word. word.now) words.now) ≡ None) (λ form. line_of (map (λ word. word.now) words.now) ≡ Some (line_text form)) }
+    ensures { MatchOption result (line_of (map (λ word. word.now) words.now) ≡ None)
+        (λ form. line_of (map (λ word. word.now) words.now) ≡ Some (line_text form)) }
 {
     if words.len() == 9 {
         let head = head_of(&words[..6]);

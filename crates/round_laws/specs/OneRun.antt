@@ -6,7 +6,7 @@ use Rattle.locality.specs.History.{IsHistory}
 use Rattle.rounds.specs.declared.ended.Ended.{Ended}
 use Rattle.rounds.specs.Rounds.{Player, Rounds, Why}
 
--- so many rounds of these players led from one history to another, and why they ended
+-- this many rounds of these players led from one history to another, and why they ended
 pub record RanRounds (plan : LabPlan) (limit : ℕ) (players : List Player) (h : List Event) (ended : Ended) (n : ℕ) (h' : List Event) : Type 0 where
   pub idle : Bool
   pub players_then : List Player

@@ -3,7 +3,8 @@ ghost use Rattle.std.specs.Prelude.{◌≡◌, ◌*◌, ◌≤◌, ◌<◌, ◌^
 ghost use Rattle.std.specs.List.{flat_map};
 ghost use Rattle.lab_plan.specs.Limits.{most_jobs};
 ghost use Rattle.waiting.specs.Text.{jobs};
-ghost use Rattle.round_picture.specs.Gantt.{full_width, full_height, size_text, legend, thin, head_text, tick, tick_text, scale_text, row_head, row_text, gantt_of};
+ghost use Rattle.round_picture.specs.Gantt.{full_width, full_height, size_text, legend, thin, head_text, tick};
+ghost use Rattle.round_picture.specs.Gantt.{tick_text, scale_text, row_head, row_text, gantt_of};
 
 use crate::meals::add_meals;
 use crate::scale::{add_place, add_text, place, step_of};
@@ -58,7 +59,11 @@ fn add_legend<A: Allocator>(out: &mut Vec<u8, A>) -> Result<(), AllocError>
     )?;
     add_text(
         out,
-        b"<rect x=\"100\" width=\"30\" height=\"16\" fill=\"#56b4e9\" stroke=\"#222\"/><text x=\"136\" y=\"12\">session S holds its instruments</text><text x=\"103\" y=\"12\">S</text>",
+        b"<rect x=\"100\" width=\"30\" height=\"16\" fill=\"#56b4e9\" stroke=\"#222\"/>",
+    )?;
+    add_text(
+        out,
+        b"<text x=\"136\" y=\"12\">session S holds its instruments</text><text x=\"103\" y=\"12\">S</text>",
     )?;
     add_text(
         out,

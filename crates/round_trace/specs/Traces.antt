@@ -7,7 +7,8 @@ use Rattle.rounds.specs.declared.ended.Ended.TheVariants.{AllRetired, Quiet, Lim
 use Rattle.round_laws.specs.OneRun.{RanRounds}
 use Rattle.round_laws.specs.FromOpening.{fresh_players}
 
--- All of it are rounds of all jobs from the initial state on, each with one turn of each job, in ascending order. They ended because all jobs were retired, or after so many.
+-- All of it are rounds of all jobs from the initial state on, each with one turn of each job, in ascending order. They ended because all
+-- jobs were retired, or after this many.
 -- These are the words that the run of `labrun rounds` is promised in
 pub record IsRunByRounds (plan : LabPlan) (limit : ℕ) (history : List Event) : Type 0 where
   pub ended : Ended

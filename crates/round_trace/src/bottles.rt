@@ -49,7 +49,8 @@ pub(crate) fn give_all<A: Allocator>(
     edge: EdgeNo,
 ) -> Result<u32, AllocError>
     requires { IsOwn world.old.plan job edge }
-    ensures { IfOk result (λ set. MovesAll (MayGiveBottle world.old.plan world.old.state job edge) (λ set. GiveBottles job edge set) edge world.old events.old.items set world.new events.new.items) }
+    ensures { IfOk result (λ set. MovesAll (MayGiveBottle world.old.plan world.old.state job edge)
+        (λ set. GiveBottles job edge set) edge world.old events.old.items set world.new events.new.items) }
 {
     let set = gifts(world, job, edge);
     let _moved = attempt(world, events, &Event::GiveBottles(job, edge, set))?;
@@ -64,7 +65,8 @@ pub(crate) fn ask_all<A: Allocator>(
     edge: EdgeNo,
 ) -> Result<u32, AllocError>
     requires { IsOwn world.old.plan job edge }
-    ensures { IfOk result (λ set. MovesAll (λ k. (drinking world.old.state job ≡ Thirsty) × MayAskBottle world.old.plan world.old.state job edge k) (λ set. AskBottles job edge set) edge world.old events.old.items set world.new events.new.items) }
+    ensures { IfOk result (λ set. MovesAll (λ k. (drinking world.old.state job ≡ Thirsty) × MayAskBottle world.old.plan world.old.state job edge k)
+        (λ set. AskBottles job edge set) edge world.old events.old.items set world.new events.new.items) }
 {
     let set = wishes(world, job, edge);
     let _moved = attempt(world, events, &Event::AskBottles(job, edge, set))?;

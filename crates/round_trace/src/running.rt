@@ -39,7 +39,7 @@ fn all_players<A: Allocator, B: Allocator>(
     Ok(players)
 }
 
-/// Rounds, at most so many. Answers whether all jobs are retired then.
+/// Rounds, at most this many. Answers whether all jobs are retired then.
 fn play<A: Allocator>(
     world: &mut World<A>,
     events: &mut Vec<Event, A>,
@@ -61,7 +61,7 @@ fn play<A: Allocator>(
 }
 
 /// The events of the plan's run by rounds: in each round one turn of each job, in their order, until all are retired, or
-/// so many rounds were done. Each look is among them, so a round has as many as there are ends of edges, at least.
+/// this many rounds were done. Each look is among them, so a round has as many as there are ends of edges, at least.
 ///
 /// Memory is taken for the world, and in proportion to the events.
 pub fn trace<A: Allocator + Copy>(

@@ -41,7 +41,8 @@ pub(crate) fn round<A: Allocator>(
 ) -> Result<(), AllocError>
     requires jobs { AreJobs world.old.plan (players_of players.old) }
     requires stands { StandsAt world.old events.old.items }
-    ensures plays { OnOk result ((idle : Bool) × Round world.old.plan (players_of players.old) idle events.old.items events.new.items (players_of players.new)) }
+    ensures plays { OnOk result
+        ((idle : Bool) × Round world.old.plan (players_of players.old) idle events.old.items events.new.items (players_of players.new)) }
     ensures stands { OnOk result (StandsAt world.new events.new.items) }
     ensures plan { OnOk result (world.new.plan ≡ world.old.plan) }
 {

@@ -71,7 +71,7 @@ Round plan (x ∷ players) idle h h' players' =
 abbrev pub IsOver : LabPlan → Bool → List Event → Type 0
 IsOver plan idle h = AllRetired plan h ⊎ ((idle ≡ true) × BothKnow plan h)
 
--- so many rounds, none of which came after all was over; idle says whether there was a last one, all of whose turns were idle
+-- this many rounds, none of which came after all was over; idle says whether there was a last one, all of whose turns were idle
 abbrev pub Rounds : LabPlan → List Player → ℕ → Bool → List Event → List Event → List Player → Type 0
 Rounds plan players zero idle h h' players' = (h' ≡ h) × (idle ≡ false) × (players' ≡ players)
 Rounds plan players (suc n) idle h h' players' =
@@ -85,7 +85,7 @@ Why plan h reasons.Quiet idle n limit = ¬ AllRetired plan h × (idle ≡ true) 
 Why plan h reasons.Limit idle n limit = ¬ IsOver plan idle h × (n ≡ limit)
 Why plan h reasons.NoMemory idle n limit = ⊥
 
--- so many rounds were played from the history h to new, where the desks stand then
+-- this many rounds were played from the history h to new, where the desks stand then
 pub record Played (b : BenchView) (limit : ℕ) (players : List Player) (h : List Event)
     (ended : Ended) (n : ℕ) (new : List Event) (desks : List DeskView) : Type 0 where
   pub idle : Bool
@@ -93,7 +93,7 @@ pub record Played (b : BenchView) (limit : ℕ) (players : List Player) (h : Lis
   pub most : n ≤ limit
   pub why : Why b.plan new ended idle n limit
 
--- So many rounds were driven, from a history that begins with what the first desk had seen, and has every record whole. Then the first desk's front has every
+-- This many rounds were driven, from a history that begins with what the first desk had seen, and has every record whole. Then the first desk's front has every
 -- record whole
 pub record Drove (b : BenchView) (limit : ℕ) (old : List DeskView) (ended : Ended) (n : ℕ) (new : List DeskView) : Type 0 where
   pub start : List Event

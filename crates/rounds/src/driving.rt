@@ -27,7 +27,8 @@ fn play<A: Allocator>(
     ensures spread { Spread bench.now result.2.front desks.new }
     ensures news { result.2.table ≡ bench.now.table }
     ensures jobs { jobs_of desks.new ≡ jobs_of desks.old }
-    ensures played { IsWhole result.2.front desks.new → IsWhole news.front desks.old × Played bench.now limit (players_of desks.old) news.front result.0 result.1 result.2.front desks.new }
+    ensures played { IsWhole result.2.front desks.new → IsWhole news.front desks.old
+        × Played bench.now limit (players_of desks.old) news.front result.0 result.1 result.2.front desks.new }
 {
     let mut quiet = false;
     let mut last = news;

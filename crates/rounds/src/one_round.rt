@@ -9,7 +9,7 @@ use session_layer::{Turned, turn};
 use std::alloc::Allocator;
 
 /// One turn of the desk at the place, which first hears what was seen so far. Answers too what was seen then.
-// Whether the others did nothing meanwhile is known later, when all meet.
+/// Whether the others did nothing meanwhile is known later, when all meet.
 fn turn_at<A: Allocator>(
     bench: &Bench<A>,
     desks: &mut [Desk<A>],
@@ -25,7 +25,9 @@ fn turn_at<A: Allocator>(
     ensures jobs { jobs_of desks.new ≡ jobs_of desks.old }
     ensures before { take place (players_of desks.new) ≡ take place (players_of desks.old) }
     ensures behind { drop (place + 1) (players_of desks.new) ≡ drop (place + 1) (players_of desks.old) }
-    ensures plays { IsWhole result.1.front desks.new → IsWhole news.front desks.old × Plays bench.now.plan (slice_index_or (players_of desks.old) place no_player) news.front result.0 result.1.front (slice_index_or (players_of desks.new) place no_player) }
+    ensures plays { IsWhole result.1.front desks.new → IsWhole news.front desks.old
+        × Plays bench.now.plan (slice_index_or (players_of desks.old) place no_player) news.front result.0
+        result.1.front (slice_index_or (players_of desks.new) place no_player) }
 {
     let desk = &mut desks[place];
     // What the desks before it have done comes first, so that its own turn stands behind all of that in one history.
@@ -53,7 +55,8 @@ pub(crate) fn round<A: Allocator>(
     ensures spread { Spread bench.now result.1.front desks.new }
     ensures news { result.1.table ≡ bench.now.table }
     ensures jobs { jobs_of desks.new ≡ jobs_of desks.old }
-    ensures plays { IsWhole result.1.front desks.new → IsWhole news.front desks.old × Round bench.now.plan (players_of desks.old) result.0 news.front result.1.front (players_of desks.new) }
+    ensures plays { IsWhole result.1.front desks.new → IsWhole news.front desks.old
+        × Round bench.now.plan (players_of desks.old) result.0 news.front result.1.front (players_of desks.new) }
 {
     let mut idle = true;
     let mut last = news;

@@ -78,7 +78,7 @@ impl Write for &mut Slow {
 /// What a writer has taken, and what the run answers.
 type Told = (Vec<u8>, Result<Outcome, RunFault>);
 
-/// At most so many bytes a call, and no more calls than these.
+/// At most this many bytes a call, and no more calls than these.
 type Calls = (usize, usize);
 
 /// A reader that gives a text at once, and a writer that takes one.
@@ -165,7 +165,7 @@ fn tells<R: Threads + Wait + Abort + Sync>(
     is_told(rt, bytes.as_slice(), answer, ends, text);
 }
 
-/// The same, where the writer takes at most so many bytes a call and no more calls than these.
+/// The same, where the writer takes at most this many bytes a call and no more calls than these.
 fn told_by<R: Threads + Wait + Abort + Sync>(
     rt: &R,
     alloc: Global,

@@ -1,5 +1,6 @@
 -- For readers: what a script means, and its first fault. The lines before a line stand with the nearest first.
-use Rattle.std.specs.Prelude.{ℕ, ◌≡◌, ◌+◌, Bool, true, false, ◌||◌, ◌&&◌, not, nat_le, List, [], ◌∷◌, ◌++◌, Option, None, Some, length, map, reverse, ◌⊎◌, Result, Ok, Err}
+use Rattle.std.specs.Prelude.{ℕ, ◌≡◌, ◌+◌, Bool, true, false, ◌||◌, ◌&&◌, not, nat_le, List, [], ◌∷◌, ◌++◌}
+use Rattle.std.specs.Prelude.{Option, None, Some, length, map, reverse, ◌⊎◌, Result, Ok, Err}
 use Rattle.std.specs.List.{filter, filter_map, find, list_any, cons_option}
 use Rattle.std.specs.Option.{option_map}
 use Rattle.std.specs.Str.{bytes_eq}
@@ -8,12 +9,14 @@ use Rattle.lab_plan.specs.Limits.{most_jobs, most_instruments, most_sessions, mo
 use Rattle.lab_plan.specs.LabPlan.{LabPlan}
 use Rattle.lab_plan.specs.Names.{is_name}
 use Rattle.lab_plan.specs.Building.{has_too_many_in_common}
-use Rattle.script_reader.specs.Line.{Line, Header, Job, Session, PatientSession, Command, Steps, Unknown, form_of, is_header, is_lab_two, is_job_line, is_session, is_command, is_end, job_name, instrument, name_in, number_in}
+use Rattle.script_reader.specs.Line.{Line, Header, Job, Session, PatientSession, Command, Steps, Unknown, form_of, is_header, is_lab_two}
+use Rattle.script_reader.specs.Line.{is_job_line, is_session, is_command, is_end, job_name, instrument, name_in, number_in}
 use Rattle.script_reader.specs.Number.{is_number}
 use Rattle.script_reader.specs.Plan.{up_to_next, instruments_of, plan_of}
 use Rattle.script_reader.specs.declared.fault.ScriptFault.{ScriptFault}
 use Rattle.script_reader.specs.declared.fault.ScriptCause.{ScriptCause}
-use Rattle.script_reader.specs.declared.fault.ScriptCause.TheVariants.{NoHeader, UnknownWord, SessionNotClosed, NotInJob, NotInSession, BadName, BadNumber, JobTwice, EmptySession, LimitPassed, TooManyInCommon, NoMemory}
+use Rattle.script_reader.specs.declared.fault.ScriptCause.TheVariants.{NoHeader, UnknownWord, SessionNotClosed, NotInJob, NotInSession, BadName}
+use Rattle.script_reader.specs.declared.fault.ScriptCause.TheVariants.{BadNumber, JobTwice, EmptySession, LimitPassed, TooManyInCommon, NoMemory}
 
 -- ---- what the lines before a line say
 

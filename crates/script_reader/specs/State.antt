@@ -4,9 +4,11 @@ use Rattle.std.specs.List.{list_any}
 use Rattle.lab_plan.specs.Limits.{most_jobs, most_sessions}
 use Rattle.lab_plan.specs.LabPlan.{LabPlan}
 use Rattle.lab_plan.specs.Names.{is_name}
-use Rattle.lab_plan.specs.Building.{empty_plan, with_job, with_session, with_command, last_job, has_session, is_bare, is_job, is_past_limit, has_too_many_in_common}
+use Rattle.lab_plan.specs.Building.{empty_plan, with_job, with_session, with_command, last_job}
+use Rattle.lab_plan.specs.Building.{has_session, is_bare, is_job, is_past_limit, has_too_many_in_common}
 use Rattle.script_reader.specs.declared.fault.ScriptCause.{ScriptCause}
-use Rattle.script_reader.specs.declared.fault.ScriptCause.TheVariants.{NoHeader, UnknownWord, SessionNotClosed, NotInJob, NotInSession, BadName, BadNumber, JobTwice, EmptySession, LimitPassed, TooManyInCommon, NoMemory}
+use Rattle.script_reader.specs.declared.fault.ScriptCause.TheVariants.{NoHeader, UnknownWord, SessionNotClosed, NotInJob, NotInSession, BadName}
+use Rattle.script_reader.specs.declared.fault.ScriptCause.TheVariants.{BadNumber, JobTwice, EmptySession, LimitPassed, TooManyInCommon, NoMemory}
 use Rattle.script_reader.specs.declared.form.Version.{Version}
 use Rattle.script_reader.specs.declared.form.Version.TheVariants.{One, Two}
 use Rattle.script_reader.specs.Line.{Line, Header, Job, Session, PatientSession, Command, End, Steps, Unknown, verb_number, is_lab_two}

@@ -1,11 +1,13 @@
 -- For readers: step lists: the lines behind a line `steps`, each one step of the script's plan.
-use Rattle.std.specs.Prelude.{ℕ, ◌≡◌, ◌+◌, ◌^◌, ◌≤◌, Bool, true, false, ◌&&◌, not, nat_le, ◌==◌, min, max, List, [], ◌∷◌, ◌++◌, Option, None, Some, Result, Ok, Err, length, map, drop, slice_index, slice_index_or, codes, if◌then◌else◌, ◌⊎◌}
+use Rattle.std.specs.Prelude.{ℕ, ◌≡◌, ◌+◌, ◌^◌, ◌≤◌, Bool, true, false, ◌&&◌, not, nat_le, ◌==◌, min, max, List, [], ◌∷◌, ◌++◌, Option, None}
+use Rattle.std.specs.Prelude.{Some, Result, Ok, Err, length, map, drop, slice_index, slice_index_or, codes, if◌then◌else◌, ◌⊎◌}
 use Rattle.std.specs.List.{find, list_any, position, sum_by}
 use Rattle.std.specs.Option.{option_map, option_and_then, is_some}
 use Rattle.std.specs.Str.{bytes_eq}
 use Rattle.lab_plan.specs.LabPlan.{JobPlan, LabPlan, edges, bottles}
 use Rattle.legal_steps.specs.declared.event.Step.{Step}
-use Rattle.legal_steps.specs.declared.event.Step.TheVariants.{Look, AskFork, GiveFork, Soil, AskBottles, GiveBottles, Thirst, Hunger, Sit, Leave, Drink, Reach, Act, Quit, Retire, Glance, Withdraw}
+use Rattle.legal_steps.specs.declared.event.Step.TheVariants.{Look, AskFork, GiveFork, Soil, AskBottles, GiveBottles, Thirst, Hunger}
+use Rattle.legal_steps.specs.declared.event.Step.TheVariants.{Sit, Leave, Drink, Reach, Act, Quit, Retire, Glance, Withdraw}
 use Rattle.legal_steps.specs.declared.event.StepLine.{StepLine}
 use Rattle.script_reader.specs.declared.fault.ScriptFault.{ScriptFault}
 use Rattle.script_reader.specs.declared.fault.ScriptCause.{ScriptCause}
@@ -142,7 +144,7 @@ placed step = (step.line, Some step.step)
 abbrev pub AreSteps : LabPlan → ℕ → List (List ℕ) → List StepLine → Type 0
 AreSteps plan first lines steps = (list_of plan first lines ≡ map placed steps) × (length steps ≤ 1000000)
 
--- behind so many steps, the line meets the cause
+-- behind this many steps, the line meets the cause
 abbrev pub meets_step : ℕ → Option Step → ScriptCause → Bool
 meets_step count found BadStep = not (is_some found)
 meets_step count found LimitPassed = nat_le 1000000 count

@@ -237,7 +237,8 @@ impl<A: Allocator + Copy> Reader<A> {
 
 /// The number, if the bytes spell one.
 fn checked_number(bytes: &[u8]) -> Result<u32, ScriptCause>
-    ensures { MatchResult result (λ n. (is_number bytes.now ≡ true) × (n ≡ number_of bytes.now) × (n ≤ largest_number)) (λ cause. (is_number bytes.now ≡ false) × (cause ≡ BadNumber)) }
+    ensures { MatchResult result (λ n. (is_number bytes.now ≡ true) × (n ≡ number_of bytes.now) × (n ≤ largest_number))
+        (λ cause. (is_number bytes.now ≡ false) × (cause ≡ BadNumber)) }
 {
     if !is_number(bytes) {
         return Err(ScriptCause::BadNumber);

@@ -3,7 +3,8 @@ ghost use Rattle.std.specs.Prelude.{◌≡◌, ◌≢◌, ℕ, ◌<◌, ◌==◌
 ghost use Rattle.lab_plan.specs.LabPlan.{edges};
 ghost use Rattle.legal_steps.specs.declared.event.Step.TheVariants.{Glance};
 ghost use Rattle.script_reader.specs.Fields.{fields};
-ghost use Rattle.script_reader.specs.Steps.{job_named, edge_between, edge_named, job_event, edge_event, bottle_event, job_step, edge_step, bottle_step, glance_step, or_else, step_with, step_in};
+ghost use Rattle.script_reader.specs.Steps.{job_named, edge_between, edge_named, job_event, edge_event, bottle_event};
+ghost use Rattle.script_reader.specs.Steps.{job_step, edge_step, bottle_step, glance_step, or_else, step_with, step_in};
 
 use crate::bottles::bottle_set;
 use crate::field::{is_blank, next_field};
@@ -39,7 +40,8 @@ fn edge_between<A: Allocator>(plan: &Plan<A>, job: JobNo, other: JobNo) -> Optio
 
 /// A job by its name, and its edge to another.
 fn edge_named<A: Allocator>(plan: &Plan<A>, name: &[u8], other: &[u8]) -> Option<(JobNo, EdgeNo)>
-    ensures { MatchOption result (edge_named plan.now name.now other.now ≡ None) (λ p. (edge_named plan.now name.now other.now ≡ Some p) × (p.1 < length (edges plan.now))) }
+    ensures { MatchOption result (edge_named plan.now name.now other.now ≡ None)
+        (λ p. (edge_named plan.now name.now other.now ≡ Some p) × (p.1 < length (edges plan.now))) }
 {
     let job = job_named(plan, name)?;
     let other = job_named(plan, other)?;

@@ -3,7 +3,8 @@ ghost use Rattle.std.specs.Prelude.{◌≡◌, ◌+◌, ◌-◌, ◌^◌, ◌<�
 ghost use Rattle.legal_steps.specs.Steps.{IsStepOf};
 ghost use Rattle.script_reader.specs.Script.{text_lines, LinesMean, Refuses};
 ghost use Rattle.script_reader.specs.State.{Ends, IsTied};
-ghost use Rattle.script_reader.specs.Steps.{is_steps_line, script_part, steps_part, first_step, step_in, AreSteps, RefusesSteps, ReadsStep, StepsMean, StepsRefuse};
+ghost use Rattle.script_reader.specs.Steps.{is_steps_line, script_part, steps_part, first_step, step_in};
+ghost use Rattle.script_reader.specs.Steps.{AreSteps, RefusesSteps, ReadsStep, StepsMean, StepsRefuse};
 
 use crate::fault::{ScriptCause, ScriptFault, at_line};
 use crate::form::{Form, form_of};
@@ -38,7 +39,8 @@ fn end_script<'a, A: Allocator + Copy>(
 ) -> Result<ScriptPart<'a, A>, ScriptFault>
     requires tied { IsTied reader }
     requires number { number < 2 ^ 64 - 1 }
-    ensures { MatchResult result (λ part. Ends reader (Ok part.plan) × (part.rest.now ≡ rest.now) × (part.first ≡ number + 1)) (λ fault. Ends reader (Err fault.cause) × (fault.line ≡ number)) }
+    ensures { MatchResult result (λ part. Ends reader (Ok part.plan) × (part.rest.now ≡ rest.now) × (part.first ≡ number + 1))
+        (λ fault. Ends reader (Err fault.cause) × (fault.line ≡ number)) }
 {
     let plan = at_line(number, reader.finish())?;
     Ok(ScriptPart {
@@ -53,7 +55,9 @@ fn read_script<'a, A: Allocator + Copy>(
     alloc: A,
     text: &'a [u8],
 ) -> Result<ScriptPart<'a, A>, ScriptFault>
-    ensures { let lines = text_lines text.now in MatchResult result (λ part. LinesMean (script_part lines) part.plan × (text_lines part.rest.now ≡ steps_part lines) × (part.first ≡ first_step lines)) (Refuses (script_part lines)) }
+    ensures { let lines = text_lines text.now in
+        MatchResult result (λ part. LinesMean (script_part lines) part.plan × (text_lines part.rest.now ≡ steps_part lines)
+        × (part.first ≡ first_step lines)) (Refuses (script_part lines)) }
 {
     let mut reader = Reader::new(alloc);
     let mut lines = text.lines();

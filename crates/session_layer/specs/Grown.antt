@@ -39,7 +39,8 @@ pub record TookTurns (n : ℕ) (d e : DeskView) : Type 0 where
   pub stands : Stands d.plan (shown d) groups grew.more
   pub counted : e.clock.turns ≡ turns_after n d.clock.turns
 
--- an exchange on e that was lost after the groups a, and before the groups b: the list has a place between all that the job did there earlier and all that it did
+-- an exchange on e that was lost after the groups a, and before the groups b: the list has a place between all that the job did there
+-- earlier and all that it did
 -- later, but for Glances, where the edge is another than the look saw
 pub record IsLostAt (plan : LabPlan) (j : ℕ) (s : State) (a b : List Group) (e : ℕ) (saw : EdgeState) (h : List Event) : Type 0 where
   pub before : List Event

@@ -43,7 +43,7 @@ abbrev pub DoesAll : DeskView → List Event → DeskView → Type 0
 DoesAll d [] d' = d' ≡ d
 DoesAll d (event ∷ events) d' = (m : DeskView) × Adds d (event ∷ []) m × DoesAll m events d'
 
--- what the answer says of so many exchanges and acts that were done, and so many exchanges that found another word
+-- what the answer says of this many exchanges and acts that were done, and that many exchanges that found another word
 abbrev pub Says : Turned → ℕ → ℕ → Type 0
 Says (Acted n) acts lost = (n ≡ acts) × (0 < n)
 Says Moved acts lost = (acts ≡ 0) × (0 < lost)
@@ -67,7 +67,7 @@ pub record IsVisited (d : DeskView) (e : ℕ) (r : Visited) (d' : DeskView) : Ty
   pub done : (if is_done visit then 1 else 0) ≡ done_by r
   pub lost : (if is_lost visit then 1 else 0) ≡ lost_by r
 
--- the edges of the list were visited in its order, with so many exchanges done, and so many that found another word
+-- the edges of the list were visited in its order, with this many exchanges done, and that many that found another word
 pub record Along (d : DeskView) (es : List ℕ) (done lost : ℕ) (d' : DeskView) : Type 0 where
   pub visits : List Visit
   pub edges : map (λ (v : Visit). v.edge) visits ≡ es

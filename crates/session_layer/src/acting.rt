@@ -19,7 +19,7 @@ pub enum Due {
     Nothing,
 }
 
-// The first phase act that is legal, as the tests of all of them say.
+/// The first phase act that is legal, as the tests of all of them say.
 fn first_due<A: Allocator>(bench: &Bench<A>, desk: &Desk<A>, waited: u32) -> Due
     requires own { Owns bench.now desk.now }
     ensures first { AreActs desk.now.plan (known desk.now) desk.now.job waited (events_due result desk.now.job) }
@@ -55,7 +55,7 @@ fn first_due<A: Allocator>(bench: &Bench<A>, desk: &Desk<A>, waited: u32) -> Due
     Due::Nothing
 }
 
-// What is due where no phase act is legal but giving the session up.
+/// What is due where no phase act is legal but giving the session up.
 fn settled_due<A: Allocator>(bench: &Bench<A>, desk: &Desk<A>, waited: u32) -> Due
     requires own { Owns bench.now desk.now }
     requires settled { IsSettled desk.now.plan (known desk.now) desk.now.job }

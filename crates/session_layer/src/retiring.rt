@@ -14,7 +14,7 @@ fn is_retired(drinking: Drinking) -> bool
     drinking == Drinking::Retired
 }
 
-// Glances at another job.
+/// Glances at another job.
 fn sees_retired<A: Allocator>(bench: &Bench<A>, desk: &mut Desk<A>, other: JobNo) -> bool
     requires own { Owns bench.now desk.old }
     requires other { (other < length desk.old.plan.jobs) × (other ≢ desk.old.job) }

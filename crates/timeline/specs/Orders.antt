@@ -126,7 +126,7 @@ pub record IsRight (spans : List Span) (x y : ℕ) : Type 0 where
 abbrev pub AreRight : List Span → List (ℕ × ℕ) → Type 0
 AreRight spans pairs = (x y : ℕ) → Contains pairs (x, y) → IsRight spans x y
 
--- as many columns as a session may have commands, within so many
+-- as many columns as a session may have commands, within this many
 pub record IsWide (spans : List Span) (columns : ℕ) (x : ℕ) : Type 0 where
   pub span : Span
   pub known : slice_get spans x ≡ Some span

@@ -45,7 +45,8 @@ fn order<A: Allocator + Copy>(
     pairs: &[(usize, usize)],
 ) -> Result<Option<(Vec<Span, A>, u32)>, AllocError>
     requires { AreSlots pairs.now }
-    ensures { IfOk result (λ found. MatchOption found ((marks : List Bool) × AreStuck pairs.now marks) (λ (spans, columns). AreOrdered pairs.now spans.items columns)) }
+    ensures { IfOk result (λ found. MatchOption found ((marks : List Bool) × AreStuck pairs.now marks)
+        (λ (spans, columns). AreOrdered pairs.now spans.items columns)) }
 {
     let mut left = vec![in alloc; true; SLOTS]?;
     let width = MOST_COMMANDS;
@@ -107,7 +108,8 @@ pub(crate) fn order_beside<A: Allocator + Copy>(
     spans: &[Span],
 ) -> Result<Option<(Vec<Span, A>, u32)>, AllocError>
     requires { AreSlots pairs.now }
-    ensures { IfOk result (λ found. MatchOption found ((marks : List Bool) × AreStuck pairs.now marks) (λ (spans, columns). AreOrdered pairs.now spans.items columns)) }
+    ensures { IfOk result (λ found. MatchOption found ((marks : List Bool) × AreStuck pairs.now marks)
+        (λ (spans, columns). AreOrdered pairs.now spans.items columns)) }
 {
     let marks = bare(alloc, pairs, spans)?;
     if are_stuck(alloc, pairs, &marks)? {

@@ -46,7 +46,8 @@ abbrev pub AreVisits : LabPlan → ℕ → State → List Visit → Type 0
 AreVisits plan j s [] = Unit {0}
 AreVisits plan j s (v ∷ vs) = AreDue plan (learned plan s (Look j v.edge v.saw)) j v.edge v.moves × AreVisits plan j (learned_all plan s (visit_events j v)) vs
 
--- the events of one turn of a job that knew s and had waited so long. That a lost exchange found another word isn't said by the job's own events: Stands says so
+-- the events of one turn of a job that knew s and had waited so long. That a lost exchange found another word isn't said by the job's own
+-- events: Stands says so
 -- of the history
 pub record IsTurnBy (plan : LabPlan) (j waited : ℕ) (s : State) (visits : List Visit) (acts events : List Event) : Type 0 where
   pub edges : map (λ (v : Visit). v.edge) visits ≡ edges_of plan j

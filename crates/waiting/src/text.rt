@@ -2,7 +2,8 @@
 ghost use Rattle.std.specs.Prelude.{◌≡◌, ◌≢◌, ◌+◌, ◌<◌, ◌++◌, length, decimal, OnOk};
 ghost use Rattle.std.specs.List.{All, flat_map};
 ghost use Rattle.lab_plan.specs.Texts.{job_name};
-ghost use Rattle.waiting.specs.Text.{rounds_line, ending, done_text, outcome_text, session_line, session_lines, job_line, holder_text, longest_line, chain_name, chain_line, jobs, sessions_text, job_text, waits_text, longest_below};
+ghost use Rattle.waiting.specs.Text.{rounds_line, ending, done_text, outcome_text, session_line, session_lines, job_line, holder_text};
+ghost use Rattle.waiting.specs.Text.{longest_line, chain_name, chain_line, jobs, sessions_text, job_text, waits_text, longest_below};
 
 use crate::longest::longest_below;
 use crate::run::RoundsRun;

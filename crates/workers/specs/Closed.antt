@@ -25,7 +25,7 @@ pub record TurnsSince (n : ℕ) (d : DeskView) (history : List Event) : Type 0 w
   pub goes_on : history ≡ d.front ++ more
   pub unbroken : Stands d.plan (shown d) groups more
 
--- Of desks that workers drove and a bench that was then closed with them: each job took whole turns in the history, at most so many, and so many where not all
+-- Of desks that workers drove and a bench that was then closed with them: each job took whole turns in the history, at most this many, and that many if not all
 -- are retired
 abbrev pub TurnsInHistory : Type 0
 TurnsInHistory = (b : BenchView) (turns : ℕ) (old new : List DeskView) (c : ClosedView) → Driven b turns old new → (end : IsEnd b.plan new c)

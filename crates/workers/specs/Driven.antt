@@ -11,7 +11,7 @@ use Rattle.rounds.specs.declared.ended.Ended.TheVariants as Ends
 use Rattle.workers.specs.Pairs.{Pairs}
 use Rattle.workers.specs.Team.{TookUpTo}
 
--- each took at most so many turns, and so many where not every desk is retired
+-- each took at most this many turns, and that many where not every desk is retired
 pub record TookRest (rest : ℕ) (old new : List DeskView) : Type 0 where
   pub took : Pairs (TookUpTo rest) old new
   pub full : all_retired new ≡ false → Pairs (TookTurns rest) old new

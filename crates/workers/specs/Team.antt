@@ -13,11 +13,11 @@ use Rattle.workers.specs.declared.halt.Halt.TheVariants as halts
 abbrev pub LookedOut : DeskView → Bool → DeskView → Type 0
 LookedOut d r e = Glanced d r e ⊎ ((is_retired d ≡ false) × (e ≡ d) × (r ≡ false))
 
--- the desk took at most so many turns
+-- the desk took at most this many turns
 abbrev pub TookUpTo : ℕ → DeskView → DeskView → Type 0
 TookUpTo most d e = (n : ℕ) × (n ≤ most) × TookTurns n d e
 
--- Desks of workers: each took as many turns as the answer says, at most so many; or took some, and one has seen that every job is retired
+-- Desks of workers: each took as many turns as the answer says, at most this many; or took some, and one has seen that every job is retired
 abbrev pub Worked : ℕ → List DeskView → Halt → List DeskView → Type 0
 Worked turns old (halts.After n) new = (n ≤ turns) × Pairs (TookTurns n) old new
 Worked turns old halts.AllRetired new = Pairs (TookUpTo turns) old new × Any (λ (e : DeskView). AllRetired e.plan e.front) new
@@ -27,7 +27,7 @@ abbrev pub taken : ℕ → Halt → ℕ
 taken turns (halts.After n) = n
 taken turns halts.AllRetired = turns
 
--- so many rounds of a worker's first desk, after none of which it may end: after each its job isn't retired, or it saw another that isn't
+-- this many rounds of a worker's first desk, after none of which it may end: after each its job isn't retired, or it saw another that isn't
 abbrev pub GoesOn : ℕ → DeskView → DeskView → Type 0
 GoesOn zero d e = e ≡ d
 GoesOn (suc n) d e = (m : DeskView) × (x : DeskView) × GoesOn n d m × TookTurns 1 m x × LookedOut x false e

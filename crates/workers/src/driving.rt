@@ -15,7 +15,7 @@ use std::alloc::Allocator;
 use std::sync::Wait;
 use std::thread::Threads;
 
-// Drives the desks of the slice. Their order may change, unless no memory is left.
+/// Drives the desks of the slice. Their order may change, unless no memory is left.
 fn drive<R: Threads + Wait + Sync, S: Allocator, A: Allocator + Send + Sync, G: Gate>(
     rt: &R,
     alloc: S,

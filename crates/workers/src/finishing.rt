@@ -11,7 +11,7 @@ use edge_rule::{Bench, Desk};
 use rounds::all_retired;
 use std::alloc::Allocator;
 
-/// Rounds of all desks, each of which has taken so many turns: they end once all jobs are retired, or all turns are taken. The turns are
+/// Rounds of all desks, each of which has taken this many turns: they end once all jobs are retired, or all turns are taken. The turns are
 /// counted on, and the gate is passed before each.
 pub fn finish<A: Allocator, P: Passage>(
     bench: &Bench<A>,

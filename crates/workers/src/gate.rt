@@ -15,7 +15,7 @@ impl Gate for NoGate {
 }
 
 /// A gate as one worker meets it.
-// Not shared by its type, so that the work of one thread can be promised by a trait.
+/// Not shared by its type, so that the work of one thread can be promised by a trait.
 pub trait Passage {
     fn pass(&self, job: JobNo, turn: u64);
 }

@@ -5,7 +5,7 @@ ghost use Rattle.workers.specs.Team.{taken};
 /// Where rounds ended.
 #[derive(Clone, Copy, PartialEq, Eq, Debug)]
 pub enum Halt {
-    /// Each desk has taken so many turns.
+    /// Each desk has taken this many turns.
     After(u32),
     /// A desk has seen that all jobs are retired.
     AllRetired,

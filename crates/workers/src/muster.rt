@@ -19,15 +19,15 @@ pub struct Muster {
     teams: u32,
     patience: u32,
     begun: AtomicU32,
-    // A team stopped because others don't begin. It does nothing for its neighbours any more, so no team waits for it.
+    /// A team stopped because others don't begin. It does nothing for its neighbours any more, so no team waits for it.
     stopped: AtomicBool,
-    // A team has taken all its turns. So what others wait for may never come, and they don't sleep: their own turns are to pass quickly.
+    /// A team has taken all its turns. So what others wait for may never come, and they don't sleep: their own turns are to pass quickly.
     over: AtomicBool,
     bell: Bell,
 }
 
 impl Muster {
-    /// Of so many teams, none of which has begun. A team that is idle waits so many sleeps for those that don't begin.
+    /// Of this many teams, none of which has begun. A team that is idle waits this many sleeps for those that don't begin.
     pub fn new(teams: u32, patience: u32) -> Muster
         ensures { result.teams ≡ teams }
     {
@@ -62,7 +62,7 @@ impl Muster {
         self.begun.load(Ordering::SeqCst) >= self.teams
     }
 
-    // Whether all teams have begun; yields a while for those that haven't.
+    /// Whether all teams have begun; yields a while for those that haven't.
     fn fills(&self) -> bool {
         for _ in 0..YIELDS {
             if self.is_complete() {

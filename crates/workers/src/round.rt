@@ -10,7 +10,7 @@ use edge_rule::{Bench, Desk};
 use session_layer::{Turned, turn};
 use std::alloc::Allocator;
 
-// One turn of a desk.
+/// One turn of a desk.
 fn desk_turn<A: Allocator>(bench: &Bench<A>, desk: &mut Desk<A>) -> Turned
     requires own { Owns bench.now desk.old }
     ensures { TookTurns 1 desk.old desk.new }

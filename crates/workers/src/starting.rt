@@ -29,7 +29,7 @@ pub trait Crew<A: Allocator>: Sync {
         requires { Each (Owns (bench self.now)) desks.old }
         ensures { Worked (turns self.now) desks.old result desks.new };
 
-    /// Rounds of desks that have taken so many turns, until they have taken as many as the others.
+    /// Rounds of desks that have taken this many turns, until they have taken as many as the others.
     fn catch_up(&self, taken: u32, most: u32, desks: &mut [Desk<A>])
         requires { Each (Owns (bench self.now)) desks.old }
         ensures { Pairs (TookTurns (most - taken)) desks.old desks.new };
@@ -70,10 +70,10 @@ impl<R: Wait + Sync, A: Allocator + Send + Sync, P: Passage + Sync> Crew<A>
     }
 }
 
-/// The teams from `first` on, so many of them. Team `t` has the desks whose job is `t` modulo the workers, and the desks stand in the order
+/// The teams from `first` on, this many of them. Team `t` has the desks whose job is `t` modulo the workers, and the desks stand in the order
 /// of their teams. Each team but the last gets a thread of its own where one can be made, and the calling thread works as the last.
-// Threads are started one right after another, all by the calling thread: were one to start the next, the last would begin later by as
-// many starts. A part that stopped earlier catches up, so that one number says how far all its desks are.
+/// Threads are started one right after another, all by the calling thread: were one to start the next, the last would begin later by as
+/// many starts. A part that stopped earlier catches up, so that one number says how far all its desks are.
 #[cycle(parts)]
 pub(crate) fn in_teams<R: Threads + Sync, A: Allocator + Send + Sync, C: Crew<A>>(
     rt: &R,
@@ -110,7 +110,7 @@ pub(crate) fn in_teams<R: Threads + Sync, A: Allocator + Send + Sync, C: Crew<A>
     Halt::After(most)
 }
 
-// Both parts, the first on a thread of its own; where none can be made, `join_mut` runs both on this one, the first after the other.
+/// Both parts, the first on a thread of its own; where none can be made, `join_mut` runs both on this one, the first after the other.
 #[cycle(parts)]
 fn in_parts<R: Threads + Sync, A: Allocator + Send + Sync, C: Crew<A>>(
     rt: &R,
@@ -132,11 +132,13 @@ fn in_parts<R: Threads + Sync, A: Allocator + Send + Sync, C: Crew<A>>(
     ensures back { Worked (C.turns crew.now) back.old result.1 back.new }
 {
     let mut one = || -> Halt
-        requires { IsSync R.row × IsSync A.row × IsSend A.row × IsSync C.row × Frees A.Allocator A.dealloc_token × (0 < low) × (0 < workers) × Each (Owns (C.bench crew.now)) front.now }
+        requires { IsSync R.row × IsSync A.row × IsSend A.row × IsSync C.row × Frees A.Allocator A.dealloc_token × (0 < low) × (0 < workers)
+            × Each (Owns (C.bench crew.now)) front.now }
         ensures { Worked (C.turns crew.entry.now) front.entry.now result front.exit.now }
     { in_teams(rt, crew, workers, first, low, front) };
     let mut other = || -> Halt
-        requires { IsSync R.row × IsSync A.row × IsSend A.row × IsSync C.row × Frees A.Allocator A.dealloc_token × (0 < high) × (0 < workers) × Each (Owns (C.bench crew.now)) back.now }
+        requires { IsSync R.row × IsSync A.row × IsSend A.row × IsSync C.row × Frees A.Allocator A.dealloc_token × (0 < high) × (0 < workers)
+            × Each (Owns (C.bench crew.now)) back.now }
         ensures { Worked (C.turns crew.entry.now) back.entry.now result back.exit.now }
     { in_teams(rt, crew, workers, middle, high, back) };
     join_mut(rt, &mut one, &mut other)

@@ -16,8 +16,8 @@ use session_layer::all_retired as sees_all_retired;
 use std::alloc::Allocator;
 use std::sync::Wait;
 
-// Whether the desk saw that all jobs are retired. It looks at the others once its own job is: a look takes a word away from
-// the worker that writes it.
+/// Whether the desk saw that all jobs are retired. It looks at the others once its own job is: a look takes a word away from
+/// the worker that writes it.
 fn saw_all_retired<A: Allocator>(bench: &Bench<A>, desk: &mut Desk<A>) -> bool
     requires own { Owns bench.now desk.old }
     ensures { LookedOut desk.old result desk.new }
@@ -59,7 +59,7 @@ pub fn work<R: Wait, A: Allocator, P: Passage>(
     Halt::After(turns)
 }
 
-/// Rounds of desks that have taken so many turns, until they have taken as many as the others.
+/// Rounds of desks that have taken this many turns, until they have taken as many as the others.
 pub(crate) fn catch_up<A: Allocator, P: Passage>(
     bench: &Bench<A>,
     gate: &P,

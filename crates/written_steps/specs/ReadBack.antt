@@ -3,7 +3,8 @@ use Rattle.std.specs.Prelude.{◌≡◌, ◌≢◌, Some}
 use Rattle.lab_plan.specs.LabPlan.{LabPlan}
 use Rattle.lab_plan.specs.IsPlan.{IsPlan}
 use Rattle.legal_steps.specs.declared.event.Step.{Step}
-use Rattle.legal_steps.specs.declared.event.Step.TheVariants.{Look, AskFork, GiveFork, Soil, AskBottles, GiveBottles, Thirst, Hunger, Sit, Leave, Drink, Reach, Act, Quit, Retire, Glance, Withdraw}
+use Rattle.legal_steps.specs.declared.event.Step.TheVariants.{Look, AskFork, GiveFork, Soil, AskBottles, GiveBottles, Thirst, Hunger}
+use Rattle.legal_steps.specs.declared.event.Step.TheVariants.{Sit, Leave, Drink, Reach, Act, Quit, Retire, Glance, Withdraw}
 use Rattle.legal_steps.specs.State.{State, IsOwn}
 use Rattle.legal_steps.specs.Legal.{May, IsJob, IsBottleSet}
 use Rattle.legal_steps.specs.Steps.{event_of}

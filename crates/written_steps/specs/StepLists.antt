@@ -31,7 +31,7 @@ abbrev pub lines_from_here : ℕ → List Step → List StepLine
 lines_from_here n [] = []
 lines_from_here n (step ∷ steps) = record { line = n; step = step } ∷ lines_from_here (n + 1) steps
 
--- the steps behind the script, which has so many lines, and the line `steps`
+-- the steps behind the script, which has this many lines, and the line `steps`
 abbrev pub steps_behind : List ℕ → List Step → List StepLine
 steps_behind script steps = lines_from_here (length (text_lines script) + 2) steps
 

@@ -7,7 +7,7 @@ use interleaving::{
 };
 use lab_plan::Verb;
 
-// A thirsty job eats before it drinks.
+/// A thirsty job eats before it drinks.
 const TO_MEAL: [StepLine; 4] = [
     StepLine {
         line: 11,
@@ -44,7 +44,7 @@ const ONE_MEAL: Counts = Counts {
     ..NO_COUNTS
 };
 
-// It has seen the bottle, and its fork mark is gone with the meal's start.
+/// It has seen the bottle, and its fork mark is gone with the meal's start.
 const EATS: Shown = Shown {
     a: EATING,
     counts: ONE_MEAL,
@@ -58,7 +58,7 @@ fn eats_before_drinking(rt: HostRuntime) {
     assert!(rt; done == (Ok(4), EATS));
 }
 
-// The job sits before it has seen that the fork is here.
+/// The job sits before it has seen that the fork is here.
 const HASTY: [Event; 3] = [Event::Thirst(A), Event::Hunger(A), Event::Sit(A)];
 
 const HUNGERS: Shown = Shown {
@@ -83,7 +83,7 @@ const FIRST_ENTRY: Entry = Entry {
     value: 1,
 };
 
-// The world before the fork is given.
+/// The world before the fork is given.
 const ASKED: Shown = Shown {
     edge: EdgeState {
         token: End::Lower,
@@ -104,7 +104,7 @@ const ASKED: Shown = Shown {
     ..OPENED
 };
 
-// The world once a has sat twice: the fork is back at a, and the bottle at b, which drinks.
+/// The world once a has sat twice: the fork is back at a, and the bottle at b, which drinks.
 const SAT_TWICE: Shown = Shown {
     edge: EdgeState {
         fork: End::Lower,

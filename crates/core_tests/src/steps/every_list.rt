@@ -6,7 +6,7 @@ use interleaving::{Step, World};
 use std::alloc::Allocator;
 use std::process::Abort;
 
-// Every step with the plan's numbers.
+/// Every step with the plan's numbers.
 const EVERY: [Step; 34] = [
     Step::Look(A, AB),
     Step::Look(B, AB),
@@ -44,7 +44,7 @@ const EVERY: [Step; 34] = [
     Step::Withdraw(B),
 ];
 
-// The list of so many steps that a number codes.
+/// The list of this many steps that a number codes.
 pub(super) fn try_list<T: Allocator>(
     rt: &impl Abort,
     world: &mut World<T>,
@@ -60,7 +60,7 @@ pub(super) fn try_list<T: Allocator>(
     }
 }
 
-// Every list of so many steps, after these steps of the stale mark.
+/// Every list of this many steps, after these steps of the stale mark.
 fn check<T: Allocator + Copy>(
     rt: &impl Abort,
     alloc: T,

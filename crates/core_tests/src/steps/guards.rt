@@ -6,7 +6,7 @@ use lab_plan::{EdgeNo, JobNo};
 use std::alloc::Allocator;
 use std::process::Abort;
 
-// How many of the steps are done, an event, and whether it is legal then.
+/// How many of the steps are done, an event, and whether it is legal then.
 #[derive(Clone, Copy)]
 struct Case(usize, Event, bool);
 
@@ -64,7 +64,7 @@ const OF_MEALS: [Case; 12] = [
     Case(stage::A_HUNGERS, Event::AskBottles(B, AB, 1), false),
 ];
 
-// The bottle is asked for, and then its job drinks and quits.
+/// The bottle is asked for, and then its job drinks and quits.
 const ASKED_FOR: [Step; 8] = [
     Step::Thirst(A),
     Step::Thirst(B),
@@ -76,7 +76,7 @@ const ASKED_FOR: [Step; 8] = [
     Step::Quit(A),
 ];
 
-// Stages of these steps.
+/// Stages of these steps.
 const BOTH_THIRST: usize = 2;
 
 const B_ASKS_FOR_IT: usize = 3;
@@ -93,7 +93,7 @@ const OF_BOTTLES: [Case; 4] = [
     Case(A_QUITS, Event::GiveBottles(A, AB, 1), true),
 ];
 
-// The job drinks before its meal, and gives its fork.
+/// The job drinks before its meal, and gives its fork.
 const WITHOUT_FORK: [Step; 8] = [
     Step::Thirst(A),
     Step::Thirst(B),
@@ -105,7 +105,7 @@ const WITHOUT_FORK: [Step; 8] = [
     Step::AskBottles(B, AB, 1),
 ];
 
-// After all of these steps.
+/// After all of these steps.
 const KEEPS: [Case; 1] = [Case(8, Event::GiveBottles(A, AB, 1), false)];
 
 pub(super) const ONE_SESSION: [Step; 6] = [
@@ -117,7 +117,7 @@ pub(super) const ONE_SESSION: [Step; 6] = [
     Step::Quit(A),
 ];
 
-// After none, the first, and all of these steps.
+/// After none, the first, and all of these steps.
 const OF_THE_LAST: [Case; 4] = [
     Case(0, Event::Retire(A), false),
     Case(1, Event::Retire(A), false),
@@ -125,7 +125,7 @@ const OF_THE_LAST: [Case; 4] = [
     Case(6, Event::Retire(A), true),
 ];
 
-// Job b, whose session has a patience, gets its bottle and drinks.
+/// Job b, whose session has a patience, gets its bottle and drinks.
 pub(super) const PATIENT: [Step; 6] = [
     Step::Thirst(B),
     Step::AskBottles(B, AB, 1),
@@ -135,7 +135,7 @@ pub(super) const PATIENT: [Step; 6] = [
     Step::Thirst(A),
 ];
 
-// Stages of these steps.
+/// Stages of these steps.
 const B_THIRSTS: usize = 1;
 
 const B_SEES_THE_BOTTLE: usize = 4;
@@ -203,7 +203,7 @@ fn guards(rt: HostRuntime) {
     check(&rt, alloc, TWO, &ASKED_FOR, &BEYOND_THE_PLAN);
 }
 
-// Job b gave its session up.
+/// Job b gave its session up.
 const GIVEN_UP: Shown = Shown {
     b: JobState {
         session: 1,

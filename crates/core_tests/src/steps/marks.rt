@@ -2,7 +2,7 @@
 use super::{BOTH, BOTTLE, FORK, Marks, NONE, Way, replayed};
 use crate::benches::{STALE_MARK, TWICE, stage};
 
-// A stage, and the marks of a and of b there.
+/// A stage, and the marks of a and of b there.
 const TABLE: [(usize, Marks, Marks); 9] = [
     (stage::OPENING, NONE, NONE),
     // a look of the thirsty job, which the request doesn't undo

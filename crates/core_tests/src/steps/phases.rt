@@ -7,7 +7,7 @@ use lab_plan::JobNo;
 use std::alloc::Allocator;
 use std::process::Abort;
 
-// Whether a phase allows each of the acts below, by their numbers.
+/// Whether a phase allows each of the acts below, by their numbers.
 pub(super) type Allowed = [bool; 8];
 
 const THIRST: usize = 0;
@@ -24,7 +24,7 @@ const RETIRE: usize = 5;
 
 const WITHDRAW: usize = 6;
 
-// To give the session up after no turn.
+/// To give the session up after no turn.
 const GIVE_UP: usize = 7;
 
 const ACTS: [&str; 8] = [
@@ -47,7 +47,7 @@ pub(super) fn allows<T: Allocator>(rt: &impl Abort, world: &World<T>, job: JobNo
     ]
 }
 
-// Just the acts of this list have to be allowed.
+/// Just the acts of this list have to be allowed.
 fn check(rt: &impl Abort, place: usize, allowed: Allowed, wanted: &[usize]) {
     for act in 0..8 {
         assert_eq!(rt;
@@ -59,7 +59,7 @@ fn check(rt: &impl Abort, place: usize, allowed: Allowed, wanted: &[usize]) {
     }
 }
 
-// A stage of the stale mark, and what the phase of a allows there.
+/// A stage of the stale mark, and what the phase of a allows there.
 const OF_A: [(usize, &[usize]); 8] = [
     (stage::OPENING, &[THIRST]),
     (stage::A_THIRSTS, &[HUNGER]),

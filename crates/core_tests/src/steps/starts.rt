@@ -18,7 +18,7 @@ const HIGHER: EndChoice = EndChoice {
     bottles: 0,
 };
 
-// The first edge of a world at its start, or why there is none.
+/// The first edge of a world at its start, or why there is none.
 fn start_of<T: Allocator + Copy>(
     rt: &impl Abort,
     alloc: T,
@@ -42,7 +42,7 @@ fn start<T: Allocator + Copy>(
     start_of(rt, alloc, &plan, choices)
 }
 
-// Of a triangle, the forks by the edges 0-1, 0-2 and 1-2: at 0, 2 and 1, and the other way round.
+/// Of a triangle, the forks by the edges 0-1, 0-2 and 1-2: at 0, 2 and 1, and the other way round.
 const ROUND: [EndChoice; 3] = [LOWER, HIGHER, LOWER];
 
 const OTHER_ROUND: [EndChoice; 3] = [HIGHER, LOWER, HIGHER];
@@ -51,7 +51,7 @@ const TOO_FEW: [EndChoice; 2] = [LOWER, LOWER];
 
 const TOO_MANY: [EndChoice; 4] = [LOWER, LOWER, LOWER, LOWER];
 
-// An edge with three bottles has no fourth; the cycle isn't looked for.
+/// An edge with three bottles has no fourth; the cycle isn't looked for.
 const NO_SUCH_BOTTLE: [EndChoice; 3] = [
     LOWER,
     HIGHER,
@@ -61,7 +61,7 @@ const NO_SUCH_BOTTLE: [EndChoice; 3] = [
     },
 ];
 
-// Choices, and why a triangle doesn't start with them.
+/// Choices, and why a triangle doesn't start with them.
 const REFUSED: [(&[EndChoice], StartRefusal); 5] = [
     (&ROUND, StartRefusal::Cycle),
     (&OTHER_ROUND, StartRefusal::Cycle),
@@ -78,7 +78,7 @@ fn starts_are_refused(rt: HostRuntime) {
     }
 }
 
-// All 28 bottles at the higher end, and one more.
+/// All 28 bottles at the higher end, and one more.
 const ALL: [EndChoice; 1] = [EndChoice {
     fork: End::Higher,
     bottles: 0x0fff_ffff,
@@ -105,7 +105,7 @@ const ALL_LOWER: EdgeState = EdgeState {
     bottle_tokens: 0x0fff_ffff,
 };
 
-// Two jobs that read the same 28 instruments.
+/// Two jobs that read the same 28 instruments.
 const MANY: &str =
     "lab 1\njob a\nsession\ni0 read\ni1 read\ni2 read\ni3 read\ni4 read\ni5 read\ni6 read\ni7 read\ni8 read\ni9 read\ni10 read\ni11 read\ni12 read\ni13 read\ni14 read\ni15 read\ni16 read\ni17 read\ni18 read\ni19 read\ni20 read\ni21 read\ni22 read\ni23 read\ni24 read\ni25 read\ni26 read\ni27 read\nend\njob b\nsession\ni0 read\ni1 read\ni2 read\ni3 read\ni4 read\ni5 read\ni6 read\ni7 read\ni8 read\ni9 read\ni10 read\ni11 read\ni12 read\ni13 read\ni14 read\ni15 read\ni16 read\ni17 read\ni18 read\ni19 read\ni20 read\ni21 read\ni22 read\ni23 read\ni24 read\ni25 read\ni26 read\ni27 read\nend\n";
 
@@ -117,7 +117,7 @@ fn many_in_common(rt: HostRuntime) {
     assert!(rt; start(&rt, alloc, MANY, &ONE_MORE) == Err(StartRefusal::BadChoices));
 }
 
-// Whether there is memory for a start; choices that don't fit come first.
+/// Whether there is memory for a start; choices that don't fit come first.
 fn starts<T: Allocator + Copy>(rt: &impl Abort, heap: T, plan: &Plan<T>) -> bool {
     let unfit = World::start(heap, plan, &[]);
     assert!(rt; matches!(&unfit, Err(StartRefusal::BadChoices)));
@@ -130,7 +130,7 @@ fn starts<T: Allocator + Copy>(rt: &impl Abort, heap: T, plan: &Plan<T>) -> bool
     }
 }
 
-// The same for the initial state.
+/// The same for the initial state.
 fn opens<T: Allocator + Copy>(heap: T, plan: &Plan<T>) -> bool {
     match World::opening(heap, plan) {
         Ok(world) => world.enabled(Event::Thirst(A)),
@@ -138,7 +138,7 @@ fn opens<T: Allocator + Copy>(heap: T, plan: &Plan<T>) -> bool {
     }
 }
 
-// Whether a heap that holds the plan has memory for a start, and for the initial state; none where it doesn't do for the plan.
+/// Whether a heap that holds the plan has memory for a start, and for the initial state; none where it doesn't do for the plan.
 fn begins<T: Allocator + Copy>(rt: &impl Abort, heap: T) -> Option<(bool, bool)> {
     let Ok(plan) = read_plan(heap, TWO.as_bytes()) else {
         return None;
@@ -146,7 +146,7 @@ fn begins<T: Allocator + Copy>(rt: &impl Abort, heap: T) -> Option<(bool, bool)>
     Some((starts(rt, heap, &plan), opens(heap, &plan)))
 }
 
-// A heap that is a little larger in each run: from the first that does on, each does.
+/// A heap that is a little larger in each run: from the first that does on, each does.
 #[test]
 fn allocations_are_refused(rt: HostRuntime) -> Result<(), Fail> {
     let (mut started, mut opened) = (false, false);

@@ -14,13 +14,13 @@ fn acts_only_where_it_reaches(rt: HostRuntime) {
     }
 }
 
-// The edge once b asked for the fork.
+/// The edge once b asked for the fork.
 const ASKED_EDGE: EdgeState = EdgeState {
     token: End::Lower,
     ..OPENED_EDGE
 };
 
-// The events of the first 16 steps of the stale mark, with what is seen.
+/// The events of the first 16 steps of the stale mark, with what is seen.
 const EVENTS: [Event; 16] = [
     Event::Thirst(A),
     Event::Hunger(A),
@@ -44,7 +44,7 @@ fn line_of(step: Step) -> StepLine {
     StepLine { line: 1, step }
 }
 
-// Those 16 steps, with `act b` put in after so many of them, and their events.
+/// Those 16 steps, with `act b` put in after this many of them, and their events.
 fn with_act_of_b(place: usize) -> ([StepLine; 17], [Event; 17]) {
     let mut lines = [line_of(Step::Act(B)); 17];
     let mut events = [Event::Act(B); 17];
@@ -56,7 +56,7 @@ fn with_act_of_b(place: usize) -> ([StepLine; 17], [Event; 17]) {
     (lines, events)
 }
 
-// Job b never reaches in those steps: the replay stops at its entry, after the steps before it.
+/// Job b never reaches in those steps: the replay stops at its entry, after the steps before it.
 fn check<T: Allocator + Copy>(rt: &impl Abort, alloc: T, place: usize) {
     assert!(rt; place <= STALE_MARK.len());
     let (lines, events) = with_act_of_b(place);

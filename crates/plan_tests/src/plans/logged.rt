@@ -10,7 +10,7 @@ use plan_logs::{empty_logs, next_command, next_entry, push};
 use std::alloc::Allocator;
 use std::process::Abort;
 
-/// Job 0 in its first session, with so many commands done.
+/// Job 0 in its first session, with this many commands done.
 fn see_command<A: Allocator>(rt: &impl Abort, plan: &Plan<A>, position: u32) -> JobState
     ensures { IsAtCommand plan.now 0 result }
 {

@@ -145,7 +145,7 @@ fn writer_takes_a_byte(rt: HostRuntime) {
     }
 }
 
-/// A run that writes this text, of so many lines: a write of a line that fails is told, and so is the flush behind them.
+/// A run that writes this text, of this many lines: a write of a line that fails is told, and so is the flush behind them.
 fn flushes<R: Threads + Wait + Abort + Sync>(
     rt: &R,
     alloc: Global,

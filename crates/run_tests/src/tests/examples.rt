@@ -1060,7 +1060,7 @@ job calibrate sessions 1 of 1 meals 1 retired
 finished
 ";
 
-/// By so many rounds the report is this; by as many turns on four threads it is one of a run of the script.
+/// By this many rounds the report is this; by as many turns on four threads it is one of a run of the script.
 fn runs<R: Threads + Wait + Abort + Sync>(
     rt: &R,
     alloc: Global,

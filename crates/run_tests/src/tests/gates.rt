@@ -51,7 +51,7 @@ impl Gate for Flags {
     }
 }
 
-/// So many first turns of three jobs are taken abreast.
+/// This many first turns of three jobs are taken abreast.
 const ABREAST: u64 = 8;
 
 /// Before each of their first turns three jobs wait for one another, so none of them may stop, or be driven on the thread of another, while

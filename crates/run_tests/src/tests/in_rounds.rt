@@ -240,7 +240,7 @@ fn writer_fails(rt: HostRuntime) {
     assert!(rt; answer == Ok(Outcome::Finished) && bytes.as_slice() == report);
 }
 
-/// The report of two jobs in version 2 that are retired, with these entries; the second did so many sessions and meals.
+/// The report of two jobs in version 2 that are retired, with these entries; the second did this many sessions and meals.
 fn patient(alloc: Global, entries: &str, done: u32, meals: u32) -> Result<String, AllocError> {
     let withdrawn = if done == 0 { 1 } else { 0 };
     format!(in alloc;
@@ -319,7 +319,7 @@ const STOPS: [(usize, (u32, u32), (u32, u32)); 15] = [
     (3, (2, 1), (1, 1)),
 ];
 
-/// The report after so many rounds. The second job retires in round 9, the first in round 14.
+/// The report after this many rounds. The second job retires in round 9, the first in round 14.
 fn stopped(alloc: Global, limit: usize) -> Result<String, AllocError> {
     let (entries, (a_sessions, a_meals), (b_sessions, b_meals)) = STOPS[limit.min(14)];
     let mut text = format!(in alloc; "lab 1\ninstrument scale {entries}\n")?;

@@ -13,7 +13,7 @@ use std::sync::Wait;
 use std::test::Fail;
 use std::thread::Threads;
 
-/// The program's task by so many workers, whose turns pass the gate.
+/// The program's task by this many workers, whose turns pass the gate.
 fn told_through<R: Threads + Wait + Abort + Sync, G: Gate>(
     rt: &R,
     alloc: Global,

@@ -2,11 +2,12 @@ use Rattle.std.proofs.Common.{◌≡◌, ◌∙◌, ◌⊎◌, [], Option, Some,
 use Rattle.std.specs.Prelude.{IfSome}
 use Rattle.clap.specs.Words.{App, IsAmong, fault_of, is_simple, is_simple_and_free, kind_of, subcommand_of}
 use Rattle.clap.specs.declared.error.kind.ErrorKind.TheVariants as kind
+use Rattle.command_line.proofs.Programs.{by_error, by_none}
 use Rattle.labrun_words.specs.Command.{labrun_app, task_found}
 use Rattle.labrun_words.specs.Words.{MayRun, task_of}
 use Rattle.labrun_words.specs.declared.words.Task.{Task}
-use Rattle.labrun_words.proofs.Answer.{by_error, by_none, may_run}
-use Rattle.labrun_words.proofs.ByClap.{free, simple, sound}
+use Rattle.labrun_words.proofs.ByClap.{free, program, right, simple}
+use Rattle.labrun_words.proofs.MayRun.{may_run}
 use Rattle.labrun_words.proofs.words.read_words.Goals as goal
 
 pub returns-in-Some-clause-answer : goal.returns-in-Some-clause-answer
@@ -15,7 +16,7 @@ returns-in-Some-clause-answer g c =
     let app = c.in_ok-command.ensures in
     let stop = (c.in-Ok.ensures.matches (ap is_simple app ∙ simple)).1 ∙ ap (λ (a : App). subcommand_of a words) app in
     let fault : fault_of labrun_app words ≡ [] = ap (λ (a : App). fault_of a words) (sym app) ∙ c.in-Ok.ensures.kinds (ap is_simple_and_free app ∙ free) in
-    sym (sound words fault) ∙ sym (ap task_found stop) ∙ sym c.task_of.ensures ∙ c.in-Some.is
+    sym ((right words).0 fault) ∙ sym (ap task_found stop) ∙ sym c.task_of.ensures ∙ c.in-Some.is
 
 pub returns-in-Some-clause-task : goal.returns-in-Some-clause-task
 returns-in-Some-clause-task g c =
@@ -29,12 +30,12 @@ returns-in-Ok-clause-answer g c =
     let app = c.in_ok-command.ensures in
     let stop = (c.in-Ok.ensures.matches (ap is_simple app ∙ simple)).1 ∙ ap (λ (a : App). subcommand_of a words) app in
     let fault : fault_of labrun_app words ≡ [] = ap (λ (a : App). fault_of a words) (sym app) ∙ c.in-Ok.ensures.kinds (ap is_simple_and_free app ∙ free) in
-    by_none words c.refused.result c.refused.ensures fault (sym (sound words fault) ∙ sym (ap task_found stop) ∙ sym c.task_of.ensures ∙ c.in-None.is)
+    by_none task_of program words c.refused.result c.refused.ensures fault (sym ((right words).0 fault) ∙ sym (ap task_found stop) ∙ sym c.task_of.ensures ∙ c.in-None.is)
 
 pub returns-clause-answer : goal.returns-clause-answer
 returns-clause-answer g c =
     let words = map g.S.AsStr.text c.args.words.now in
     let app = c.in_ok-command.ensures in
-    by_error words (kind_of c.in-Err.error) c.why_no_task.result c.why_no_task.ensures
+    by_error task_of program words (right words).1 (kind_of c.in-Err.error) c.why_no_task.result c.why_no_task.ensures
     (subst (λ (a : App). (kind_of c.in-Err.error ≡ kind.OutOfMemory) ⊎ IsAmong (kind_of c.in-Err.error) (fault_of a words)) app
     (c.in-Err.ensures.kinds (ap is_simple_and_free app ∙ free)))
