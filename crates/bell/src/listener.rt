@@ -1,4 +1,6 @@
 //! How one thread waits: it looks again for a while, and then sleeps by a bell.
+ghost use Rattle.std.specs.Prelude.{◌≡◌, ◌⊎◌, ◌+◌, ◌<◌, ◌≤◌, IsNone, IsSome, false, true};
+
 use crate::bell::Bell;
 use std::sync::Wait;
 use std::thread::yield_now;
@@ -18,7 +20,10 @@ pub struct Listener<'b> {
 
 impl<'b> Listener<'b> {
     /// Of this bell.
-    pub fn new(bell: &'b Bell) -> Listener<'b> {
+    pub fn new(bell: &'b Bell) -> Listener<'b>
+        ensures idle { result.idle ≡ 0 }
+        ensures heard { IsNone result.heard }
+    {
         Listener {
             bell,
             idle: 0,
@@ -27,7 +32,10 @@ impl<'b> Listener<'b> {
     }
 
     /// Something was done: whoever may wait for it is woken.
-    pub fn acted(&mut self) {
+    pub fn acted(&mut self)
+        ensures idle { self.new.idle ≡ 0 }
+        ensures heard { IsNone self.new.heard }
+    {
         self.idle = 0;
         self.leave();
         self.bell.ring();
@@ -35,7 +43,11 @@ impl<'b> Listener<'b> {
 
     /// A round was idle: yields; or says that the thread may sleep, after which it has to look once more; or sleeps, if that
     /// look was idle too.
-    pub fn idled<R: Wait>(&mut self, rt: &R) {
+    pub fn idled<R: Wait>(&mut self, rt: &R)
+        ensures yields { self.old.idle < YIELDS → (self.new.idle ≡ self.old.idle + 1) × (self.new.heard ≡ self.old.heard) }
+        ensures listens { YIELDS ≤ self.old.idle → IsNone self.old.heard → (self.new.idle ≡ self.old.idle) × IsSome self.new.heard }
+        ensures sleeps { YIELDS ≤ self.old.idle → IsSome self.old.heard → ((self.new.idle ≡ 0) ⊎ (self.new.idle ≡ self.old.idle)) × IsNone self.new.heard }
+    {
         if self.idle < YIELDS {
             self.idle += 1;
             yield_now();
@@ -55,7 +67,12 @@ impl<'b> Listener<'b> {
 
     /// A round was idle, and another would be in vain before the bell rings: as `idled`, but sleeps this many times. Answers no if the bell
     /// wasn't rung in all that time.
-    pub fn outlasts<R: Wait>(&mut self, rt: &R, sleeps: u32) -> bool {
+    pub fn outlasts<R: Wait>(&mut self, rt: &R, sleeps: u32) -> bool
+        ensures idle { self.new.idle ≡ self.old.idle }
+        ensures listens { IsNone self.old.heard → (result ≡ true) × IsSome self.new.heard }
+        ensures sleeps { IsSome self.old.heard → IsNone self.new.heard }
+        ensures none { IsSome self.old.heard → sleeps ≡ 0 → result ≡ false }
+    {
         let Some(heard) = self.heard else {
             self.heard = Some(self.bell.listen());
             return true;
@@ -72,7 +89,10 @@ impl<'b> Listener<'b> {
     }
 
     /// The thread doesn't sleep now. A listener that is dropped has left before, or others ring for nobody.
-    pub fn leave(&mut self) {
+    pub fn leave(&mut self)
+        ensures idle { self.new.idle ≡ self.old.idle }
+        ensures heard { IsNone self.new.heard }
+    {
         if self.heard.is_some() {
             self.heard = None;
             self.bell.leave();
