@@ -23,7 +23,7 @@ const LONGEST_MS: u64 = 5;
 /// the listener's last look, which then sees it. Or the last look comes first: then so does the listener's step 1, and the ringer reads
 /// that somebody listens and rings, after the listener read `rings`. The listener's sleep then finds another number and doesn't begin, or
 /// has begun and is woken: the system compares the number and puts the thread to sleep in one step.
-// Two numbers, because a ringer mostly finds that nobody listens. That costs it one load of a word that nobody writes meanwhile.
+/// Two numbers, because a ringer mostly finds that nobody listens. That costs it one load of a word that nobody writes meanwhile.
 #[derive(Drop)]
 pub struct Bell {
     rings: AtomicU64,

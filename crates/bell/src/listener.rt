@@ -10,9 +10,9 @@ const YIELDS: u32 = 200;
 #[derive(Drop)]
 pub struct Listener<'b> {
     bell: &'b Bell,
-    // Idle rounds in a row, up to the limit.
+    /// Idle rounds in a row, up to the limit.
     idle: u32,
-    // How often the bell was rung, once the thread has said that it may sleep.
+    /// How often the bell was rung, once the thread has said that it may sleep.
     heard: Option<u64>,
 }
 
@@ -53,7 +53,7 @@ impl<'b> Listener<'b> {
         }
     }
 
-    /// A round was idle, and another would be in vain before the bell rings: as `idled`, but sleeps so many times. Answers no if the bell
+    /// A round was idle, and another would be in vain before the bell rings: as `idled`, but sleeps this many times. Answers no if the bell
     /// wasn't rung in all that time.
     pub fn outlasts<R: Wait>(&mut self, rt: &R, sleeps: u32) -> bool {
         let Some(heard) = self.heard else {

@@ -236,7 +236,7 @@ pub extern "C" fn lab_serve_others(
     }
 }
 
-/// Takes turns of a job, at most so many, and serves the others after each, until it holds.
+/// Takes turns of a job, at most this many, and serves the others after each, until it holds.
 #[unsafe(no_mangle)]
 pub extern "C" fn lab_begin(
     alloc: Global,
@@ -277,7 +277,7 @@ pub extern "C" fn lab_end(
     }
 }
 
-/// Takes turns of a job whose sessions are all done, at most so many, and serves the others after each, until it is retired.
+/// Takes turns of a job whose sessions are all done, at most this many, and serves the others after each, until it is retired.
 #[unsafe(no_mangle)]
 pub extern "C" fn lab_retire(
     alloc: Global,

@@ -12,7 +12,7 @@ use session_layer::Turned;
 #[repr(C)]
 #[derive(Clone, Copy)]
 pub struct LabTurned {
-    /// 0: nothing was due; 1: an exchange found another word; 2: so many acts were done.
+    /// 0: nothing was due; 1: an exchange found another word; 2: this many acts were done.
     pub what: u32,
     pub count: u32,
 }

@@ -30,7 +30,7 @@ both Idle second = second
 
 -- ---- the others
 
--- each of the first so many jobs but this one was served, in ascending order, and nothing else was done
+-- of this many first jobs, each but this one was served, in ascending order, and nothing else was done
 abbrev pub ServesOthers : ℕ → ℕ → List DeskView → Turned → List DeskView → Type 0
 ServesOthers job zero old r new = (r ≡ Idle) × (new ≡ old)
 ServesOthers job (suc k) old r new =
@@ -66,7 +66,7 @@ abbrev pub IsRound : ℕ → List DeskView → Turned → List DeskView → Type
 IsRound job old r new =
     (s : Turned) × (mid : List DeskView) × (t : Turned) × TurnsAt Took job old (Some s) mid × OthersServed job mid (Some t) new × (r ≡ both s t)
 
--- so many rounds, one after another, and before each of them the job was on its way
+-- this many rounds, one after another, and before each of them the job was on its way
 abbrev pub Rounds : Aim → ℕ → ℕ → List DeskView → Turned → List DeskView → Type 0
 Rounds aim job zero old r new = (r ≡ Idle) × (new ≡ old)
 Rounds aim job (suc n) old r new =
@@ -76,7 +76,7 @@ Rounds aim job (suc n) old r new =
 abbrev pub EndsIdle : Aim → ℕ → List DeskView → List DeskView → Type 0
 EndsIdle aim job old new = (k : ℕ) × (s : Turned) × (mid : List DeskView) × Rounds aim job k old s mid × IsRound job mid Idle new
 
--- The job is so far, after rounds, at most so many; if it is still on its way, it took them all, or the last of them was idle. Or there is no such job
+-- The job is so far, after rounds, at most this many; if it is still on its way, it took them all, or the last of them was idle. Or there is no such job
 abbrev pub Goes : Aim → ℕ → ℕ → List DeskView → Option (Stage × Turned) → List DeskView → Type 0
 Goes aim most job old (Some a) new =
     (n : ℕ) × (n ≤ most) × Rounds aim job n old a.1 new × StageAt aim job new a.0 × (a.0 ≡ OnTheWay → (n ≡ most) ⊎ EndsIdle aim job old new)
@@ -84,7 +84,7 @@ Goes aim most job old None new = (length old ≤ job) × (new ≡ old)
 
 -- ---- the end of a session
 
--- so many turns, one after another, and before each of them the job held
+-- this many turns, one after another, and before each of them the job held
 abbrev pub TurnsHeld : ℕ → DeskView → Turned → DeskView → Type 0
 TurnsHeld zero d r e = (r ≡ Idle) × (e ≡ d)
 TurnsHeld (suc n) d r e = (s : Turned) × (m : DeskView) × (t : Turned) × TurnsHeld n d s m × IsAt Holds m × Took m t e × (r ≡ both s t)

@@ -49,7 +49,7 @@ impl Lab {
     }
 }
 
-// The report of a closed bench, and how its run ended, or none without memory.
+/// The report of a closed bench, and how its run ended, or none without memory.
 fn written(alloc: Global, closed: &Closed<'static, Global>) -> Option<(Vec<u8, Global>, Outcome)>
     ensures { IfSome result (λ w. IsPrint closed.now w.0.items w.1) }
 {

@@ -13,7 +13,7 @@ use instrument_log::Entry;
 use session_layer::Turned;
 use std::alloc::Global;
 
-// The next command of the desk's job, if it holds and has one left.
+/// The next command of the desk's job, if it holds and has one left.
 fn next_command(bench: &Bench<Global>, desk: &mut Desk<Global>) -> Option<Entry>
     requires own { Owns bench.now desk.old }
     ensures own { Owns bench.now desk.new }

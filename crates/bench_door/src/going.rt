@@ -44,7 +44,7 @@ pub enum Ended {
     StillHeld(Turned),
 }
 
-// What two answers say together.
+/// What two answers say together.
 fn both(first: Turned, second: Turned) -> Turned
     ensures { result ≡ both first second }
 {
@@ -73,7 +73,7 @@ fn is_idle(answer: Turned) -> bool
     }
 }
 
-// Whether the job is in no session, and none is left.
+/// Whether the job is in no session, and none is left.
 fn is_through(bench: &Bench<Global>, desk: &Desk<Global>) -> bool
     requires own { Owns bench.now desk.now }
     ensures { IsTrue result ↔ IsThrough desk.now }
@@ -108,7 +108,7 @@ fn stage_of(bench: &Bench<Global>, desk: &Desk<Global>, aim: Aim) -> Stage
     }
 }
 
-// Takes turns while the job holds. Answers whether it still does, after as many turns as there may be.
+/// Takes turns while the job holds. Answers whether it still does, after as many turns as there may be.
 fn turns_held(bench: &Bench<Global>, desk: &mut Desk<Global>) -> (bool, Turned)
     requires own { Owns bench.now desk.old }
     ensures own { Owns bench.now desk.new }
@@ -142,7 +142,7 @@ fn end_session(bench: &Bench<Global>, desk: &mut Desk<Global>) -> Ended
 }
 
 impl Lab {
-    // Serves each job's neighbours but this one's, in ascending order.
+    /// Serves each job's neighbours but this one's, in ascending order.
     fn serve_rest(&mut self, job: usize) -> Turned
         ensures bench { self.new.bench ≡ self.old.bench }
         ensures same { length self.new.desks.items ≡ length self.old.desks.items }
@@ -170,7 +170,7 @@ impl Lab {
         stage_of(&self.bench, desk, aim)
     }
 
-    // One turn of the job, and service of the others.
+    /// One turn of the job, and service of the others.
     fn round(&mut self, job: usize) -> Turned
         requires { job < length self.old.desks.items }
         ensures bench { self.new.bench ≡ self.old.bench }
@@ -183,7 +183,7 @@ impl Lab {
         both(own, self.serve_rest(job))
     }
 
-    // Rounds until the job is no more on its way, or one found nothing to do, at most so many.
+    /// Rounds until the job is no more on its way, or one found nothing to do, at most this many.
     fn go_there(&mut self, aim: Aim, job: usize, most: u32) -> (Stage, Turned)
         requires { job < length self.old.desks.items }
         ensures bench { self.new.bench ≡ self.old.bench }
@@ -215,7 +215,7 @@ impl Lab {
         Some(self.serve_rest(job))
     }
 
-    /// Takes turns of a job, if there is such a job, at most so many, and serves the others after each, until it has come to its aim or its turns don't
+    /// Takes turns of a job, if there is such a job, at most this many, and serves the others after each, until it has come to its aim or its turns don't
     /// lead there. It stops before that if nothing was due at any job. Answers how far it is then.
     pub fn go(&mut self, job: usize, aim: Aim, most: u32) -> Option<(Stage, Turned)>
         ensures bench { self.new.bench ≡ self.old.bench }

@@ -71,7 +71,7 @@ impl Lab {
         }
     }
 
-    /// A job's session, counted from 1, if there is such a job and it has so many.
+    /// A job's session, counted from 1, if there is such a job and it has this many.
     pub fn session(&self, job: u32, session: u32) -> Option<SessionFacts>
         ensures { IsSession self.now.bench.plan job session result }
     {

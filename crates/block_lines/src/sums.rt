@@ -47,7 +47,7 @@ pub(crate) fn held_on(blocks: &[Block], instrument: InstrumentNo) -> u128
     total
 }
 
-/// How many rounds each of so many instruments was waited for.
+/// How many rounds each of this many instruments was waited for.
 pub(crate) fn instrument_rounds<A: Allocator>(
     alloc: A,
     blocks: &[Block],

@@ -138,7 +138,7 @@ fn add_all_instruments<A: Allocator, B: Allocator>(
     Ok(())
 }
 
-/// Adds what is told of the blocks of a run of so many rounds, after which all jobs were retired or not: those with rounds,
+/// Adds what is told of the blocks of a run of this many rounds, after which all jobs were retired or not: those with rounds,
 /// largest first, and the instruments that were waited for, largest first.
 ///
 /// Unless an allocation fails, the text is added whole. It takes time by the square of the blocks, which are in the order of

@@ -49,7 +49,7 @@ is_held plan x before after =
 abbrev pub history_after : List (List Event) → ℕ → List Event
 history_after rounds k = joined (take k rounds)
 
--- how many of the first rounds, so many, pass a test of the history before them and after them
+-- how many of the first rounds, this many, pass a test of the history before them and after them
 abbrev pub rounds_where : (List Event → List Event → Bool) → List (List Event) → ℕ → ℕ
 rounds_where test rounds zero = 0
 rounds_where test rounds (suc k) =
@@ -70,7 +70,7 @@ pub record RunView : Type 0 where
   pub retired : Bool
   pub blocks : List Block
 
--- the run of the plan by at most so many rounds
+-- the run of the plan by at most this many rounds
 pub record IsBlockedRun (plan : LabPlan) (limit : ℕ) (run : RunView) : Type 0 where
   pub rounds : List (List Event)
   pub are_rounds : AreRoundsOf plan limit run.retired rounds

@@ -21,7 +21,7 @@ fn is_all_retired(ended: Ended) -> bool
     matches!(ended, Ended::AllRetired)
 }
 
-/// A set of no instruments for each of so many jobs.
+/// A set of no instruments for each of this many jobs.
 fn no_sets<A: Allocator>(alloc: A, jobs: usize) -> Result<Vec<u64, A>, AllocError>
     ensures { IfOk result (λ sets. sets.items ≡ replicate jobs 0) }
 {
@@ -32,7 +32,7 @@ fn no_sets<A: Allocator>(alloc: A, jobs: usize) -> Result<Vec<u64, A>, AllocErro
     Ok(sets)
 }
 
-/// Drives the desks by at most so many rounds, and counts each. Answers how many were done, and whether all jobs are retired
+/// Drives the desks by at most this many rounds, and counts each. Answers how many were done, and whether all jobs are retired
 /// then.
 fn watch<A: Allocator>(
     bench: &Bench<A>,
@@ -65,7 +65,7 @@ fn watch<A: Allocator>(
     (limit, is_all_retired(ended))
 }
 
-/// Who kept whom waiting in the run of a plan by at most so many rounds.
+/// Who kept whom waiting in the run of a plan by at most this many rounds.
 ///
 /// Memory is taken for a bench, and for each bottle of an edge at either end of it: 27776 at most.
 pub fn blocks_by_rounds<A: Allocator + Copy>(

@@ -35,7 +35,7 @@ impl<'p, A: Allocator> Model for Closed<'p, A> {
     ghost invariant = { IsClosed };
 }
 
-// Gives the logs and the memory of a table back.
+/// Gives the logs and the memory of a table back.
 fn free<A: Allocator>(mut left: Left<InstrumentLog<A>, A>)
     requires { IsFull left.slots }
 {

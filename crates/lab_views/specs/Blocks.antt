@@ -9,7 +9,7 @@ use Rattle.lab_program.specs.declared.faults.Outcome.{Outcome}
 use Rattle.lab_program.specs.declared.faults.Outcome.TheVariants.{Finished}
 use Rattle.lab_program.specs.Answers.{ScriptRefuses, AnswersTo}
 
--- The input is a script, the run is the one by at most so many rounds, and the text tells who kept whom waiting in it
+-- The input is a script, the run is the one by at most this many rounds, and the text tells who kept whom waiting in it
 pub record TellsBlocks (limit : ℕ) (input text : List ℕ) (outcome : Outcome) : Type 0 where
   pub plan : LabPlan
   pub means : ScriptMeans input plan

@@ -9,7 +9,7 @@ use Rattle.lab_program.specs.declared.faults.Outcome.{Outcome}
 use Rattle.lab_program.specs.declared.faults.Outcome.TheVariants.{Finished}
 use Rattle.lab_program.specs.Answers.{ScriptRefuses, AnswersTo}
 
--- The input is a script, the run is the one by at most so many rounds, and the text is the picture of that run
+-- The input is a script, the run is the one by at most this many rounds, and the text is the picture of that run
 pub record DrawsRun (limit : ℕ) (input text : List ℕ) (outcome : Outcome) : Type 0 where
   pub plan : LabPlan
   pub means : ScriptMeans input plan

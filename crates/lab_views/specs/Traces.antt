@@ -30,7 +30,7 @@ trace_text plan input events = script_head input ++ step_lines plan events
 abbrev pub is_replayable : List Event → List ℕ → Bool
 is_replayable history text = nat_le (length history) 1000000 && nat_le (length text) 16777216
 
--- The input is a script, the history is that of its run by at most so many rounds, and the text has the script and the steps of this history. Where these
+-- The input is a script, the history is that of its run by at most this many rounds, and the text has the script and the steps of this history. Where these
 -- are at most 1000000, the text is read as the script's plan and exactly these steps; it is Finished where a replay reads it, and else Unfinished
 pub record Traces (limit : ℕ) (input text : List ℕ) (outcome : Outcome) : Type 0 where
   pub plan : LabPlan

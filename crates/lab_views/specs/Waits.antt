@@ -10,7 +10,7 @@ use Rattle.lab_program.specs.declared.faults.Outcome.{Outcome}
 use Rattle.lab_program.specs.declared.faults.Outcome.TheVariants.{Finished}
 use Rattle.lab_program.specs.Answers.{ScriptRefuses, AnswersTo}
 
--- The input is a script, the run is the one by at most so many rounds, no chain of precedence in the initial state is longer, and the text tells of both
+-- The input is a script, the run is the one by at most this many rounds, no chain of precedence in the initial state is longer, and the text tells of both
 pub record TellsWaits (limit : ℕ) (input text : List ℕ) (outcome : Outcome) : Type 0 where
   pub plan : LabPlan
   pub means : ScriptMeans input plan

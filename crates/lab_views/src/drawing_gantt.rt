@@ -46,7 +46,7 @@ pub(crate) fn draw_run<A: Allocator + Copy, W: Sink>(
     Ok(Outcome::Finished)
 }
 
-/// Reads a script and draws its run by at most so many rounds over time: who waits when, and who holds instruments.
+/// Reads a script and draws its run by at most this many rounds over time: who waits when, and who holds instruments.
 ///
 /// The input is at most 16777216 bytes. Memory grows with the sessions of the script, not with the rounds. The outcome is
 /// Finished, whether or not all jobs are retired then.

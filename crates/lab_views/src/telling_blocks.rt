@@ -54,7 +54,7 @@ pub(crate) fn blocks_input<A: Allocator + Copy, W: Sink>(
     Ok(Outcome::Finished)
 }
 
-/// Reads a script and writes which job kept which waiting for which instrument in its run by at most so many rounds, in how
+/// Reads a script and writes which job kept which waiting for which instrument in its run by at most this many rounds, in how
 /// many rounds, and in how many of these it held the instrument.
 ///
 /// The input is at most 16777216 bytes. Memory grows with the instruments that pairs of jobs have in common, not with the

@@ -50,7 +50,7 @@ pub(crate) fn waits_input<A: Allocator + Copy, W: Sink>(
     Ok(Outcome::Finished)
 }
 
-/// Reads a script and writes who waited in its run by at most so many rounds, and for how long; and a longest chain of
+/// Reads a script and writes who waited in its run by at most this many rounds, and for how long; and a longest chain of
 /// precedence at the start.
 ///
 /// The input is at most 16777216 bytes. Memory grows with the sessions of the script, not with the rounds. The outcome is

@@ -21,13 +21,13 @@ pub enum View {
     Table,
     /// Write a script with its jobs in another order.
     Arrange,
-    /// Write a script with the steps of its run by rounds, at most so many.
+    /// Write a script with the steps of its run by rounds, at most this many.
     Trace { limit: u32 },
-    /// Tell who waited in a script's run by rounds, at most so many, and for how long.
+    /// Tell who waited in a script's run by rounds, at most this many, and for how long.
     Waits { limit: u32 },
-    /// Tell which job kept which waiting in a script's run by rounds, at most so many.
+    /// Tell which job kept which waiting in a script's run by rounds, at most this many.
     Blocks { limit: u32 },
-    /// Draw a script's run by rounds, at most so many, as a picture over time.
+    /// Draw a script's run by rounds, at most this many, as a picture over time.
     Gantt { limit: u32 },
 }
 

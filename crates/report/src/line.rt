@@ -9,7 +9,7 @@ use std::marker::Model;
 /// One line of a text: at most `N` bytes, and no memory.
 #[derive(Drop)]
 pub struct Line<const N: usize> {
-    // The line is the first `len` of these bytes.
+    /// The line is the first `len` of these bytes.
     bytes: [u8; N],
     len: usize,
 }
@@ -24,7 +24,7 @@ impl<const N: usize> Model for Line<N> {
     ghost invariant = { λ l. l.len ≤ N };
 }
 
-// How many digits the number has.
+/// How many digits the number has.
 fn digits_of(number: u64) -> usize
     ensures { result ≡ length (decimal number) }
 {
@@ -75,7 +75,7 @@ impl<const N: usize> Line<N> {
         self.len = end;
     }
 
-    // Adds a number in decimal.
+    /// Adds a number in decimal.
     fn digits(&mut self, number: u64)
         requires { length self.old + length (decimal number) ≤ N }
         ensures { self.new ≡ self.old ++ decimal number }

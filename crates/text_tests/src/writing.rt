@@ -103,7 +103,7 @@ impl<A: Allocator> Write for Slow<A> {
     }
 }
 
-/// What a sink takes, at most so many bytes a call and no more calls than these, and what the writing answers.
+/// What a sink takes, at most this many bytes a call and no more calls than these, and what the writing answers.
 fn report_by<A: Allocator, B: Allocator>(
     alloc: B,
     world: &World<'_, A>,

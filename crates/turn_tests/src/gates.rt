@@ -14,7 +14,7 @@ fn four() -> [AtomicU64; 4] {
     ]
 }
 
-// The number of a job; that of a job past the fourth is nought.
+/// The number of a job; that of a job past the fourth is nought.
 fn number_of(counts: &[AtomicU64; 4], job: u8) -> u64 {
     match counts.get(job as usize) {
         Some(count) => count.load(Ordering::SeqCst),

@@ -9,15 +9,15 @@ use std::alloc::{Allocator, Global};
 use std::process::Abort;
 use std::test::Fail;
 
-// Jobs a and b, which add 1 on the scale in one session each.
+/// Jobs a and b, which add 1 on the scale in one session each.
 pub(crate) const TWO: &str =
     "lab 1\njob a\nsession\nscale add 1\nend\njob b\nsession\nscale add 1\nend\n";
 
-// The same, with a second session of a.
+/// The same, with a second session of a.
 pub(crate) const TWICE: &str =
     "lab 1\njob a\nsession\nscale add 1\nend\nsession\nscale add 1\nend\njob b\nsession\nscale add 1\nend\n";
 
-// The first, where the session of b has a patience.
+/// The first, where the session of b has a patience.
 pub(crate) const PATIENCE_0: &str =
     "lab 2\njob a\nsession\nscale add 1\nend\njob b\nsession patience 0\nscale add 1\nend\n";
 
@@ -27,20 +27,20 @@ pub(crate) const PATIENCE_1: &str =
 pub(crate) const PATIENCE_3: &str =
     "lab 2\njob a\nsession\nscale add 1\nend\njob b\nsession patience 3\nscale add 1\nend\n";
 
-// One job, with two commands.
+/// One job, with two commands.
 pub(crate) const ALONE: &str = "lab 1\njob a\nsession\nscale set 5\nscale read\nend\n";
 
-// Job a has no session.
+/// Job a has no session.
 pub(crate) const IDLER: &str = "lab 1\njob a\njob b\nsession\nscale add 1\nend\n";
 
-// No job at all.
+/// No job at all.
 pub(crate) const NOBODY: &str = "lab 1\n";
 
-// Three jobs in a ring: a and b have the lamp in common, a and c the scale, b and c the pump.
+/// Three jobs in a ring: a and b have the lamp in common, a and c the scale, b and c the pump.
 pub(crate) const RING: &str =
     "lab 1\njob a\nsession\nlamp add 1\nscale add 1\nend\njob b\nsession\nlamp add 1\npump add 1\nend\njob c\nsession\npump add 1\nscale add 1\nend\n";
 
-// Four jobs, each with two sessions on one scale that all have in common.
+/// Four jobs, each with two sessions on one scale that all have in common.
 pub(crate) const FOUR: &str =
     "lab 1\njob a\nsession\nscale add 1\nend\nsession\nscale add 1\nend\njob b\nsession\nscale add 1\nend\nsession\nscale add 1\nend\njob c\nsession\nscale add 1\nend\nsession\nscale add 1\nend\njob d\nsession\nscale add 1\nend\nsession\nscale add 1\nend\n";
 

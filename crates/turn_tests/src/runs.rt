@@ -35,7 +35,7 @@ fn play<T: Allocator>(
     (ended, number)
 }
 
-/// A run of so many rounds at most.
+/// A run of this many rounds at most.
 fn by_rounds<'p, T: Allocator + Copy>(
     rt: &impl Abort,
     alloc: T,
@@ -247,7 +247,7 @@ fn runs_are_the_same(rt: HostRuntime) {
     run_ring_twice(&rt, rt.alloc());
 }
 
-/// The report of a bench that was opened, driven and closed here, after so many rounds at most.
+/// The report of a bench that was opened, driven and closed here, after this many rounds at most.
 fn reports<T: Allocator + Copy>(rt: &impl Abort, alloc: T, limit: u32, report: &str) {
     let plan = plan_of(rt, alloc, TWO);
     let (_, _, left) = by_rounds(rt, alloc, &plan, limit);

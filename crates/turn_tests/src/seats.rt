@@ -23,24 +23,24 @@ use std::process::Abort;
 #[derive(Clone, Copy)]
 pub(crate) enum Move {
     Look,
-    // one move of a layer, where it is legal by the word last seen
+    /// one move of a layer, where it is legal by the word last seen
     Give,
     Ask,
     Soil,
     Dine,
     Serve,
     Want,
-    // a look, and one exchange of all that is due by it
+    /// a look, and one exchange of all that is due by it
     Visit,
-    // whether it is noted as calm, and which of its bottles are needed
+    /// whether it is noted as calm, and which of its bottles are needed
     Noted,
     Needed,
-    // the moves that are due there, of which nothing is done
+    /// the moves that are due there, of which nothing is done
     Forks,
     Due,
-    // all that is legal, as a set
+    /// all that is legal, as a set
     Legal,
-    // one named move, which has to be legal
+    /// one named move, which has to be legal
     GiveFork,
     AskFork,
     SoilFork,
@@ -52,10 +52,10 @@ pub(crate) enum Move {
 #[derive(Clone, Copy)]
 pub(crate) enum Call {
     On(u16, Move),
-    // the phase act of a turn whose session has waited so long, and what it would be
+    /// the phase act of a turn whose session has waited so long, and what it would be
     Act(u32),
     ActDue(u32),
-    // whether it is noted that no act of the phase is legal
+    /// whether it is noted that no act of the phase is legal
     Settled,
     Turn,
     AllRetired,
@@ -73,7 +73,7 @@ pub(crate) enum Answer {
     Found(u64),
     NotLegal,
     Saw(u64),
-    // how far another job is
+    /// how far another job is
     Far(Phase),
     Moves(EdgeMoves),
     Calm,
@@ -140,7 +140,7 @@ fn yes_or_no(yes: bool) -> Answer {
     if yes { Answer::Yes } else { Answer::No }
 }
 
-// Whether the edge is one of the job's.
+/// Whether the edge is one of the job's.
 fn has_end<A: Allocator>(plan: &Plan<A>, job: JobNo, edge: EdgeNo) -> bool
     ensures { IsTrue result → IsOwn plan.now job edge }
 {
@@ -151,7 +151,7 @@ fn has_end<A: Allocator>(plan: &Plan<A>, job: JobNo, edge: EdgeNo) -> bool
     lower == job || higher == job
 }
 
-// Whether the edge is one of the desk's job.
+/// Whether the edge is one of the desk's job.
 fn is_own<A: Allocator>(bench: &Bench<A>, desk: &Desk<A>, edge: EdgeNo) -> bool
     requires { Owns bench.now desk.now }
     ensures { IsTrue result → IsOwn desk.now.plan desk.now.job edge }
@@ -161,7 +161,7 @@ fn is_own<A: Allocator>(bench: &Bench<A>, desk: &Desk<A>, edge: EdgeNo) -> bool
     has_end(plan, job, edge)
 }
 
-// A move of a layer.
+/// A move of a layer.
 fn layer_move<A: Allocator>(
     bench: &Bench<A>,
     desk: &mut Desk<A>,
@@ -187,7 +187,7 @@ fn layer_move<A: Allocator>(
     }
 }
 
-// What is due on the edge.
+/// What is due on the edge.
 fn due<A: Allocator>(bench: &Bench<A>, desk: &Desk<A>, edge: EdgeNo, bottles: bool) -> Answer
     requires own { Owns bench.now desk.now }
     requires edge { IsOwn desk.now.plan desk.now.job edge }
@@ -198,7 +198,7 @@ fn due<A: Allocator>(bench: &Bench<A>, desk: &Desk<A>, edge: EdgeNo, bottles: bo
     Answer::Moves(fork_moves(bench, desk, edge))
 }
 
-// What is legal at a job and on its edge: the moves by the word last seen there, with the first bottle, and the acts.
+/// What is legal at a job and on its edge: the moves by the word last seen there, with the first bottle, and the acts.
 pub(crate) const MAY_ASK: u32 = 1;
 
 pub(crate) const MAY_GIVE: u32 = 2;
@@ -238,7 +238,7 @@ const PHASES: [(PhaseEvent, u32); 8] = [
     (PhaseEvent::Withdraw, MAY_WITHDRAW),
 ];
 
-// The members of a list of answers, the first the lowest.
+/// The members of a list of answers, the first the lowest.
 fn set_of(answers: &[bool]) -> u32 {
     let mut set = 0u32;
     for (place, yes) in answers.iter().enumerate() {
@@ -283,7 +283,7 @@ fn legal_acts<A: Allocator>(bench: &Bench<A>, desk: &Desk<A>) -> u32
     ])
 }
 
-// All that is legal; the one test for every phase says the same as each test by its name.
+/// All that is legal; the one test for every phase says the same as each test by its name.
 fn legal<A: Allocator>(rt: &impl Abort, bench: &Bench<A>, desk: &Desk<A>, edge: EdgeNo) -> Answer
     requires own { Owns bench.now desk.now }
     requires edge { IsOwn desk.now.plan desk.now.job edge }
@@ -299,7 +299,7 @@ fn legal<A: Allocator>(rt: &impl Abort, bench: &Bench<A>, desk: &Desk<A>, edge: 
     Answer::Legal(acts | legal_moves(bench, desk, edge))
 }
 
-// A named move of the fork, which has to be legal.
+/// A named move of the fork, which has to be legal.
 fn named_move<A: Allocator>(
     rt: &impl Abort,
     bench: &Bench<A>,
@@ -328,7 +328,7 @@ fn named_move<A: Allocator>(
     }
 }
 
-// The same of bottles.
+/// The same of bottles.
 fn named_bottles<A: Allocator>(
     rt: &impl Abort,
     bench: &Bench<A>,
@@ -353,7 +353,7 @@ fn named_bottles<A: Allocator>(
     }
 }
 
-// A call on one edge.
+/// A call on one edge.
 fn on_edge<A: Allocator>(
     rt: &impl Abort,
     bench: &Bench<A>,
@@ -419,7 +419,7 @@ fn glanced<A: Allocator>(
     of_glance(glance(bench, desk, other))
 }
 
-// A call of a job.
+/// A call of a job.
 fn by_job<A: Allocator>(rt: &impl Abort, bench: &Bench<A>, desk: &mut Desk<A>, call: Call) -> Answer
     requires { Owns bench.now desk.old }
     ensures { Owns bench.now desk.new }

@@ -24,10 +24,10 @@ pub(crate) const B: usize = 1;
 
 pub(crate) const C: usize = 2;
 
-// The edge of two jobs.
+/// The edge of two jobs.
 pub(crate) const AB: u16 = 0;
 
-// The words that the job saw last on its edges; a failure tells both, as edges.
+/// The words that the job saw last on its edges; a failure tells both, as edges.
 fn saw<T: Allocator>(rt: &impl Abort, seat: &Seat<T>, words: &[u64], number: usize) {
     assert!(rt; seat.edges() == words.len(), "row {number}");
     for (place, word) in words.iter().enumerate() {

@@ -88,7 +88,7 @@ fn are_full<T: Allocator>(rt: &impl Abort, left: &Closed<T>) {
     }
 }
 
-/// A run by so many workers to the end.
+/// A run by this many workers to the end.
 fn runs_by<R: Threads + Wait + Abort + Sync>(rt: &R, alloc: Global, plan: &Plan, workers: u32) {
     let (bench, desks) = opened(rt, alloc, plan);
     let desks = until_retired(rt, alloc, &bench, desks, workers);
@@ -228,7 +228,7 @@ fn begin<R: Wait, A: Allocator>(
     work(rt, bench, &Through { gate: &NoGate }, muster, turns, team)
 }
 
-/// The turns that are left of so many.
+/// The turns that are left of this many.
 fn take_rest<A: Allocator>(bench: &Bench<A>, taken: u32, turns: u32, desks: &mut [Desk<A>])
     requires { Each (Owns bench.now) desks.old }
     ensures { Each (Owns bench.now) desks.new }
@@ -264,7 +264,7 @@ fn one_after_another<R: Wait + Abort>(rt: &R, alloc: Global, plan: &Plan, turns:
     all_count_up(rt, &left);
 }
 
-/// So many turns are enough for the jobs of TWO: nine by rounds, after four of the first team, which stops after its second idle one.
+/// This many turns are enough for the jobs of TWO: nine by rounds, after four of the first team, which stops after its second idle one.
 const ENOUGH: u32 = 13;
 
 #[test]

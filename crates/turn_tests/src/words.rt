@@ -3,7 +3,7 @@
 use edge_word::EdgeWord;
 use legal_steps::EdgeState;
 
-// The bits of a word: each is set where the thing is at B; DIRTY where the fork is dirty.
+/// The bits of a word: each is set where the thing is at B; DIRTY where the fork is dirty.
 const FORK: u64 = 1;
 
 const DIRTY: u64 = 1 << 1;
@@ -43,7 +43,7 @@ pub(crate) const BOTTLE_B_ASKED: u64 = BOTTLE | BOTTLE_TOKEN;
 /// As an edge opens: fork and bottle at A, the fork dirty, and neither asked for.
 pub(crate) const OPEN: u64 = DIRTY_A | BOTTLE_A;
 
-// Fork and bottle. The tables name whole words: an `|` in a table is costly to prove.
+/// Fork and bottle. The tables name whole words: an `|` in a table is costly to prove.
 pub(crate) const CLEAN_A_BOTTLE_A: u64 = CLEAN_A | BOTTLE_A;
 
 pub(crate) const CLEAN_B_ASKED_BOTTLE_B: u64 = CLEAN_B_ASKED | BOTTLE_B;

@@ -13,11 +13,11 @@ fn told(alloc: Global, input: &str, limit: u32) -> (Vec<u8>, Result<Outcome, Run
     (bytes, answer)
 }
 
-// Two jobs that share a scale. The fork and the bottle start at a, so b precedes a.
+/// Two jobs that share a scale. The fork and the bottle start at a, so b precedes a.
 const SHARED: &str = "lab 1\njob a\nsession\nscale add 1\nend\njob b\nsession\nscale add 1\nend\n";
 
-// By hand: in round 1 both are thirsty, and b sees the bottle at a, as it does up to round 4; a drinks in rounds 2 and 3, and
-// has ended its session in round 4 before b's turn; b drinks in round 5.
+/// By hand: in round 1 both are thirsty, and b sees the bottle at a, as it does up to round 4; a drinks in rounds 2 and 3, and
+/// has ended its session in round 4 before b's turn; b drinks in round 5.
 const ALL_ROUNDS: &str = "rounds 9 finished
 blocked b by a on scale rounds 4 held 2
 instrument scale blocked 4 held 2
@@ -28,7 +28,7 @@ blocked b by a on scale rounds 3 held 2
 instrument scale blocked 3 held 2
 ";
 
-// b gives up in round 2, and in round 1 the other is thirsty too.
+/// b gives up in round 2, and in round 1 the other is thirsty too.
 const IMPATIENT: &str =
     "lab 2\njob a\nsession\nscale add 1\nend\njob b\nsession patience 0\nscale add 1\nend\n";
 
@@ -54,7 +54,7 @@ fn blocks_by_hand(rt: HostRuntime) {
     }
 }
 
-// Eight benches in a ring, each with a supply and a scope that it shares with a neighbour.
+/// Eight benches in a ring, each with a supply and a scope that it shares with a neighbour.
 const RING: &str = "lab 1
 job bench-1
 session
@@ -154,7 +154,7 @@ scope-4 read
 end
 ";
 
-// By a reckoning of its own: each waits longest for the next, which keeps a bottle because it is thirsty itself.
+/// By a reckoning of its own: each waits longest for the next, which keeps a bottle because it is thirsty itself.
 const RING_BLOCKS: &str = "rounds 74 finished
 blocked bench-2 by bench-3 on supply-2 rounds 41 held 5
 blocked bench-3 by bench-4 on scope-2 rounds 35 held 4

@@ -21,10 +21,10 @@ fn is_both(text: &[u8], first: &str, second: &str) -> bool {
         && text.ends_with(second.as_bytes())
 }
 
-// Two jobs that share a scale: a drinks at once, b once it eats.
+/// Two jobs that share a scale: a drinks at once, b once it eats.
 const SHARED: &str = "lab 1\njob a\nsession\nscale add 1\nend\njob b\nsession\nscale add 1\nend\n";
 
-// The head of a picture of two jobs and few rounds.
+/// The head of a picture of two jobs and few rounds.
 const HEAD: &str = "<?xml version=\"1.0\" encoding=\"UTF-8\"?>
 <svg xmlns=\"http://www.w3.org/2000/svg\" version=\"1.1\" width=\"720\" height=\"180\" viewBox=\"0 0 720 180\" font-family=\"monospace\" font-size=\"10\">
 <title>A run by rounds</title>
@@ -33,8 +33,8 @@ const HEAD: &str = "<?xml version=\"1.0\" encoding=\"UTF-8\"?>
 <text x=\"10\" y=\"84\" fill=\"#555\">round</text>
 ";
 
-// By hand, 24 units a round: a is thirsty in round 1, drinks in 2 and is done in 4; b is thirsty in 1, drinks in 5 and is done in 7;
-// it is hungry from 2, sits in 4 and leaves in 8.
+/// By hand, 24 units a round: a is thirsty in round 1, drinks in 2 and is done in 4; b is thirsty in 1, drinks in 5 and is done in 7;
+/// it is hungry from 2, sits in 4 and leaves in 8.
 const ALL_ROUNDS: &str = "<text x=\"10\" y=\"50\" font-size=\"13\">rounds 9 finished
 </text>
 <g transform=\"translate(150 90)\">
@@ -59,7 +59,7 @@ const ALL_ROUNDS: &str = "<text x=\"10\" y=\"50\" font-size=\"13\">rounds 9 fini
 </svg>
 ";
 
-// After three rounds a has the scale still, and b is thirsty and hungry.
+/// After three rounds a has the scale still, and b is thirsty and hungry.
 const THREE_ROUNDS: &str = "<text x=\"10\" y=\"50\" font-size=\"13\">rounds 3 unfinished
 </text>
 <g transform=\"translate(150 90)\">
@@ -78,7 +78,7 @@ const THREE_ROUNDS: &str = "<text x=\"10\" y=\"50\" font-size=\"13\">rounds 3 un
 </svg>
 ";
 
-// Before the first round there is nothing but the scale's 0.
+/// Before the first round there is nothing but the scale's 0.
 const NO_ROUNDS: &str = "<text x=\"10\" y=\"50\" font-size=\"13\">rounds 0 unfinished
 </text>
 <g transform=\"translate(150 90)\">
@@ -91,7 +91,7 @@ const NO_ROUNDS: &str = "<text x=\"10\" y=\"50\" font-size=\"13\">rounds 0 unfin
 </svg>
 ";
 
-// b gives up in its first turn in which it is thirsty at the start.
+/// b gives up in its first turn in which it is thirsty at the start.
 const IMPATIENT: &str =
     "lab 2\njob a\nsession\nscale add 1\nend\njob b\nsession patience 0\nscale add 1\nend\n";
 

@@ -16,23 +16,23 @@ fn told(alloc: Global, input: &[u8]) -> (Vec<u8>, Result<Outcome, RunFault>) {
     (bytes, answer)
 }
 
-// Two jobs that share a scale, and one that shares nothing; the last line has no end.
+/// Two jobs that share a scale, and one that shares nothing; the last line has no end.
 const SHARED: &str =
     "lab 1\njob a\nsession\ns add 1\nend\njob b\nsession\ns add 1\nend\njob c\nsession\nt add 1\nend";
 
-// c has the colour of a, and so comes before b. Its last line gets its end.
+/// c has the colour of a, and so comes before b. Its last line gets its end.
 const SHARED_ARRANGED: &str =
     "lab 1\njob a\nsession\ns add 1\nend\njob c\nsession\nt add 1\nend\njob b\nsession\ns add 1\nend\n";
 
-// The same with CR before each LF.
+/// The same with CR before each LF.
 const RETURNS: &str =
     "lab 1\r\njob a\r\nsession\r\ns add 1\r\nend\r\njob b\r\nsession\r\ns add 1\r\nend\r\njob c\r\nsession\r\nt add 1\r\nend";
 
 const RETURNS_ARRANGED: &str =
     "lab 1\r\njob a\r\nsession\r\ns add 1\r\nend\r\njob c\r\nsession\r\nt add 1\r\nend\njob b\r\nsession\r\ns add 1\r\nend\r\n";
 
-// The hub shares an instrument with each of the three others, which share nothing. A comment directly above a job is the job's, and
-// what stands behind its last session, up to there, is too.
+/// The hub shares an instrument with each of the three others, which share nothing. A comment directly above a job is the job's, and
+/// what stands behind its last session, up to there, is too.
 const STAR: &str = "# about
 lab 2
 
@@ -65,7 +65,7 @@ z add 2
 end
 # behind c";
 
-// The hub has the most neighbours, so it gets the first colour, and the others the second.
+/// The hub has the most neighbours, so it gets the first colour, and the others the second.
 const STAR_ARRANGED: &str = "# about
 lab 2
 
@@ -99,11 +99,11 @@ end
 # behind c
 ";
 
-// All three share one thing, so each has a colour of its own.
+/// All three share one thing, so each has a colour of its own.
 const ONE_THING: &str =
     "lab 1\njob a\nsession\ns read\nend\njob b\nsession\ns read\nend\njob c\nsession\ns read\nend\n";
 
-// Five in a ring: a and c get the first colour, b and d the second, e the third.
+/// Five in a ring: a and c get the first colour, b and d the second, e the third.
 const RING: &str = "lab 1
 job a
 session
@@ -132,7 +132,7 @@ ea read
 end
 ";
 
-// Eight in a ring: every second job gets the first colour.
+/// Eight in a ring: every second job gets the first colour.
 const RING_OF_EIGHT: &str = "lab 1
 job a
 session
@@ -204,10 +204,10 @@ fn no_script_is_not_arranged(rt: HostRuntime) {
     assert!(rt; answer == Err(RunFault::Script(fault)) && text.is_empty());
 }
 
-// A job, and a comment in the last line, as long as it is let be.
+/// A job, and a comment in the last line, as long as it is let be.
 const LONG: &[u8] = b"lab 1\njob a\nsession\ns read\nend\n#";
 
-// The last line has no end. If it got one, the longest of all inputs would be longer than a run reads; so it goes out as it was.
+/// The last line has no end. If it got one, the longest of all inputs would be longer than a run reads; so it goes out as it was.
 #[test]
 fn longest_input(rt: HostRuntime) -> Result<(), Fail> {
     let mut script = Vec::from_slice(rt.alloc(), LONG)?;

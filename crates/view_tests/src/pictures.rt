@@ -7,8 +7,8 @@ use std::alloc::Global;
 use std::test::Fail;
 use timeline::{Span, span_of, timeline_of};
 
-// b stands right of a by the scale, and c right of b by the lamp; b has three columns by the lamp. The second session of a stands
-// right of its first, which has two columns, though no log has both.
+/// b stands right of a by the scale, and c right of b by the lamp; b has three columns by the lamp. The second session of a stands
+/// right of its first, which has two columns, though no log has both.
 const THREE: &str = "lab 1
 instrument scale 3
 a 1 1/2 add 1 = 1
@@ -68,7 +68,7 @@ job b sessions 0 of 1 meals 2 waiting
 unfinished
 ";
 
-// The session of b is open at its right.
+/// The session of b is open at its right.
 const PICTURE: &str = "<?xml version=\"1.0\" encoding=\"UTF-8\"?>
 <svg xmlns=\"http://www.w3.org/2000/svg\" version=\"1.1\" width=\"700\" height=\"290\" viewBox=\"0 0 700 290\" font-family=\"monospace\" font-size=\"10\">
 <title>Timeline of a laboratory run</title>

@@ -17,14 +17,14 @@ const B: JobNo = JobNo(1);
 
 const NOBODY: JobNo = JobNo(2);
 
-// The one edge. Its bottle 0 is the scale's, its bottle 1 the lamp's.
+/// The one edge. Its bottle 0 is the scale's, its bottle 1 the lamp's.
 const AB: EdgeNo = EdgeNo(0);
 
-// Job a needs the scale first and then the lamp, b both at once: 14 lines.
+/// Job a needs the scale first and then the lamp, b both at once: 14 lines.
 pub(crate) const TOOLS: &str =
     "lab 2\njob a\nsession\nscale add 1\nend\nsession\nlamp add 1\nend\njob b\nsession patience 5\nscale add 1\nlamp add 1\nend\nsteps\n";
 
-// The steps from each stage to the next.
+/// The steps from each stage to the next.
 const STEPS: [&str; 7] = [
     // b asks a for the scale's bottle and for the fork
     "thirst a\nhunger a\nthirst b\nhunger b\naskbottles b a scale\naskfork b a\n",
@@ -40,7 +40,7 @@ const STEPS: [&str; 7] = [
     "leave b\n",
 ];
 
-// The input up to a stage.
+/// The input up to a stage.
 pub(crate) fn text_at<T: Allocator + Copy>(
     alloc: T,
     stage: usize,
@@ -52,7 +52,7 @@ pub(crate) fn text_at<T: Allocator + Copy>(
     Ok(text)
 }
 
-// The edge before the first step: all at a, all tokens at b.
+/// The edge before the first step: all at a, all tokens at b.
 const OPENED: EdgeState = EdgeState {
     fork: End::Lower,
     dirty: true,
@@ -76,11 +76,11 @@ const THIRSTY: JobState = JobState {
     position: 0,
 };
 
-// An event, and why it isn't legal; None where it is.
+/// An event, and why it isn't legal; None where it is.
 #[derive(Clone, Copy)]
 struct Case(Event, Option<Cause>);
 
-// Before the first step: looks, glances, and numbers beyond the plan.
+/// Before the first step: looks, glances, and numbers beyond the plan.
 const SIGHTS: [Case; 10] = [
     Case(Event::Look(A, AB, OPENED), None),
     Case(Event::Glance(A, B, JobState::IDLE), None),
@@ -100,7 +100,7 @@ const SIGHTS: [Case; 10] = [
     Case(Event::Glance(A, A, JobState::IDLE), Some(Cause::Itself)),
 ];
 
-// Before the first step: what a job does by itself.
+/// Before the first step: what a job does by itself.
 const JOBS: [Case; 10] = [
     Case(Event::Thirst(A), None),
     Case(Event::Sit(A), Some(Cause::NotHungry)),
@@ -114,7 +114,7 @@ const JOBS: [Case; 10] = [
     Case(Event::Retire(A), Some(Cause::SessionLeft)),
 ];
 
-// Before the first step: what it does at its edge.
+/// Before the first step: what it does at its edge.
 const THINGS: [Case; 9] = [
     Case(Event::AskFork(B, AB), Some(Cause::NotHungry)),
     Case(Event::Soil(A, AB), Some(Cause::NotEating)),
@@ -130,7 +130,7 @@ const THINGS: [Case; 9] = [
     ),
 ];
 
-// At the first stage: what a job does by itself.
+/// At the first stage: what a job does by itself.
 const JOBS_ASKED: [Case; 9] = [
     Case(Event::Withdraw(B), None),
     Case(Event::Thirst(A), Some(Cause::NotTranquil)),
@@ -143,7 +143,7 @@ const JOBS_ASKED: [Case; 9] = [
     Case(Event::Withdraw(A), Some(Cause::NoPatience)),
 ];
 
-// At the first stage: what it does at its edge.
+/// At the first stage: what it does at its edge.
 const THINGS_ASKED: [Case; 10] = [
     Case(Event::GiveFork(A, AB), None),
     Case(Event::AskBottles(B, AB, 2), None),
@@ -160,7 +160,7 @@ const THINGS_ASKED: [Case; 10] = [
     Case(Event::GiveBottles(A, AB, 1), Some(Cause::KeptWithFork(0))),
 ];
 
-// At the second.
+/// At the second.
 const SECOND: [Case; 6] = [
     Case(Event::Reach(A), None),
     Case(Event::AskFork(A, AB), None),
@@ -170,7 +170,7 @@ const SECOND: [Case; 6] = [
     Case(Event::Sit(B), Some(Cause::UnmarkedUnseen(AB))),
 ];
 
-// At the third.
+/// At the third.
 const THIRD: [Case; 4] = [
     Case(Event::Soil(B, AB), None),
     Case(Event::Leave(B), Some(Cause::Thirsts)),
@@ -178,33 +178,33 @@ const THIRD: [Case; 4] = [
     Case(Event::Reach(A), Some(Cause::NoCommandLeft)),
 ];
 
-// At the fourth.
+/// At the fourth.
 const FOURTH: [Case; 3] = [
     Case(Event::Thirst(A), None),
     Case(Event::Leave(B), Some(Cause::UnmarkedClean(AB))),
     Case(Event::Drink(B), Some(Cause::NotThirsty)),
 ];
 
-// At the fifth.
+/// At the fifth.
 const FIFTH: [Case; 2] = [
     Case(Event::Leave(B), None),
     Case(Event::Soil(B, AB), Some(Cause::ForkDirty)),
 ];
 
-// At the sixth.
+/// At the sixth.
 const SIXTH: [Case; 2] = [
     Case(Event::Thirst(B), Some(Cause::Eats)),
     Case(Event::Retire(B), Some(Cause::NotThinking)),
 ];
 
-// At the last.
+/// At the last.
 const LAST: [Case; 3] = [
     Case(Event::Retire(B), None),
     Case(Event::Thirst(B), Some(Cause::NoSessionLeft)),
     Case(Event::Retire(NOBODY), Some(Cause::NotJob)),
 ];
 
-// All moves that are legal at four of the stages.
+/// All moves that are legal at four of the stages.
 const AT_OPENING: [Step; 2] = [Step::Thirst(A), Step::Thirst(B)];
 
 const AT_FIRST: [Step; 3] = [
@@ -253,7 +253,7 @@ fn ask_moves<T: Allocator + Copy>(
     Ok(())
 }
 
-// The causes and the moves at a stage.
+/// The causes and the moves at a stage.
 fn ask_at<T: Allocator + Copy>(
     rt: &impl Abort,
     alloc: T,

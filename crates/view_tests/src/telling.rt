@@ -6,7 +6,7 @@ use std::alloc::Allocator;
 use std::process::Abort;
 use std::test::Fail;
 
-// At the first stage a's fork is asked for, and so is the scale's bottle.
+/// At the first stage a's fork is asked for, and so is the scale's bottle.
 const REFUSED: &str =
     "line 21: `sit a` is not legal: no mark for the fork with b: the fork is here but dirty, and its token is here too; look again after the other has had it
 a: hungry, thirsty, session 1 of 2, commands done: 0
@@ -19,7 +19,7 @@ legal now, besides looks and glances:
   askbottles b a lamp
 ";
 
-// At the fourth b eats and drinks, and a is hungry for its next meal.
+/// At the fourth b eats and drinks, and a is hungry for its next meal.
 const ALL_LEGAL: &str = "legal steps: 19, all
 a: hungry, in no session, session 1 of 2, commands done: 0
   fork with b: clean, there, token here, not marked

@@ -39,7 +39,7 @@ pub(crate) fn reported(
     (bytes, answer)
 }
 
-// Two jobs that share a scale. The last line has no end.
+/// Two jobs that share a scale. The last line has no end.
 const SHARED: &str = "# a shared scale
 lab 1
 job a
@@ -51,7 +51,7 @@ session
 scale add 1
 end";
 
-// Its steps by the definition of turns, a line a turn here: the fork and the bottle start at a, their tokens at b.
+/// Its steps by the definition of turns, a line a turn here: the fork and the bottle start at a, their tokens at b.
 const STEPS: &str = "
 steps
 look a b\nthirst a
@@ -105,7 +105,7 @@ fn steps_are_refused(rt: HostRuntime) {
     assert!(rt; answer == Err(RunFault::Script(unknown)) && text.is_empty());
 }
 
-// Three jobs, each of which shares an instrument with each other, and one that gives a session up.
+/// Three jobs, each of which shares an instrument with each other, and one that gives a session up.
 const TRIANGLE: &str = "lab 2
 job a
 session

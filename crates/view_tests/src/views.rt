@@ -9,7 +9,7 @@ use std::alloc::{AllocError, Global};
 use std::io::{self, Write};
 use std::test::Fail;
 
-// At the first stage the token of the scale's bottle is at a.
+/// At the first stage the token of the scale's bottle is at a.
 const REFUSED: &str =
     "line 21: `askbottles b a scale lamp` is not legal: the bottle of scale: its request token is not here
 b: hungry, thirsty, session 1 of 1, commands done: 0

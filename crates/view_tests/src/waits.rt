@@ -13,11 +13,11 @@ fn told(alloc: Global, input: &str, limit: u32) -> (Vec<u8>, Result<Outcome, Run
     (bytes, answer)
 }
 
-// Two jobs that share a scale. The fork and the bottle start at a, so b precedes a.
+/// Two jobs that share a scale. The fork and the bottle start at a, so b precedes a.
 const SHARED: &str = "lab 1\njob a\nsession\nscale add 1\nend\njob b\nsession\nscale add 1\nend\n";
 
-// By hand: in round 1 both are thirsty; a drinks in round 2, acts, and is done in round 4, in which b sits down; in round
-// 5 a gives the bottle and b drinks; b acts, is done in round 7, leaves, and retires in round 9.
+/// By hand: in round 1 both are thirsty; a drinks in round 2, acts, and is done in round 4, in which b sits down; in round
+/// 5 a gives the bottle and b drinks; b acts, is done in round 7, leaves, and retires in round 9.
 const ALL_ROUNDS: &str = "rounds 9 finished
 session a 1 thirsty 1 drinks 2 done 4 waited 1
 session b 1 thirsty 1 drinks 5 done 7 waited 4
@@ -27,7 +27,7 @@ longest wait 4 b 1
 chain 2 b a
 ";
 
-// After three rounds a has the scale still, and b waits.
+/// After three rounds a has the scale still, and b waits.
 const THREE_ROUNDS: &str = "rounds 3 unfinished
 session a 1 thirsty 1 drinks 2 waited 1
 session b 1 thirsty 1 waits
@@ -37,7 +37,7 @@ longest wait 2 b 1
 chain 2 b a
 ";
 
-// Before the first round nobody has begun anything.
+/// Before the first round nobody has begun anything.
 const NO_ROUNDS: &str = "rounds 0 unfinished
 job a waited 0 longest 0
 job b waited 0 longest 0
@@ -45,7 +45,7 @@ longest wait 0
 chain 2 b a
 ";
 
-// b gives up in its first turn in which it is thirsty at the start.
+/// b gives up in its first turn in which it is thirsty at the start.
 const IMPATIENT: &str =
     "lab 2\njob a\nsession\nscale add 1\nend\njob b\nsession patience 0\nscale add 1\nend\n";
 

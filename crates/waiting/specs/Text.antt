@@ -48,7 +48,7 @@ job_line name last sessions =
 
 -- ---- the longest of all
 
--- of the first jobs, so many
+-- of the first jobs, this many
 abbrev pub longest_below : RunView → ℕ → Longest
 longest_below run zero = no_wait
 longest_below run (suc j) = longest_after run.number j (longest_below run j) 1 (job_of run j).sessions

@@ -25,11 +25,11 @@ pub record RunView : Type 0 where
 abbrev pub job_of : RunView → ℕ → JobRounds
 job_of run j = slice_index_or run.jobs j (record { sessions = []; meals = [] })
 
--- what is known of these rounds of so many jobs
+-- what is known of these rounds of this many jobs
 abbrev pub run_of : ℕ → Bool → List (List Event) → RunView
 run_of jobs retired rounds = record { number = length rounds; retired = retired; jobs = map (rounds_of rounds) (range_with_len 0 jobs) }
 
--- the run of the plan by at most so many rounds
+-- the run of the plan by at most this many rounds
 pub record IsRunOf (plan : LabPlan) (limit : ℕ) (run : RunView) : Type 0 where
   pub rounds : List (List Event)
   pub are_rounds : AreRoundsOf plan limit run.retired rounds

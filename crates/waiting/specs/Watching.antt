@@ -41,7 +41,7 @@ is_all_retired Quiet = false
 is_all_retired Limit = false
 is_all_retired NoMemory = false
 
--- the desks stand after so many rounds of all jobs from the initial state, and the logs tell of these rounds
+-- the desks stand after this many rounds of all jobs from the initial state, and the logs tell of these rounds
 pub record Stands (b : BenchView) (n : ℕ) (desks : List DeskView) (logs : List LogView) : Type 0 where
   pub jobs : jobs_of desks ≡ jobs_of (opened b)
   pub own : Each (Owns b) desks
@@ -58,7 +58,7 @@ pub record Stands (b : BenchView) (n : ℕ) (desks : List DeskView) (logs : List
 abbrev pub told : LogView → JobRounds
 told x = record { sessions = x.sessions; meals = x.meals }
 
--- a run by at most so many rounds was watched: this many were done
+-- a run by at most this many rounds was watched: this many were done
 pub record Watched (plan : LabPlan) (limit n : ℕ) (retired : Bool) (logs : List LogView) : Type 0 where
   pub rounds : List (List Event)
   pub are_rounds : AreRoundsOf plan limit retired rounds

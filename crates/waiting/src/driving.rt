@@ -12,7 +12,7 @@ use lab_plan::Plan;
 use rounds::{Ended, rounds};
 use std::alloc::{AllocError, Allocator};
 
-/// The logs of so many jobs before the first round.
+/// The logs of this many jobs before the first round.
 fn fresh_logs<A: Allocator + Copy>(alloc: A, jobs: usize) -> Result<Vec<JobLog<A>, A>, AllocError>
     ensures { IfOk result (λ logs. logs.items ≡ replicate jobs fresh_log) }
 {
@@ -46,7 +46,7 @@ fn is_all_retired(ended: Ended) -> bool
     matches!(ended, Ended::AllRetired)
 }
 
-/// Drives the desks by at most so many rounds, and notes each. Answers how many were done, and whether all jobs are retired
+/// Drives the desks by at most this many rounds, and notes each. Answers how many were done, and whether all jobs are retired
 /// then.
 fn watch<A: Allocator>(
     bench: &Bench<A>,
@@ -69,7 +69,7 @@ fn watch<A: Allocator>(
     Ok((limit, is_all_retired(ended)))
 }
 
-/// The run of a plan by at most so many rounds, by the rounds of its sessions and meals.
+/// The run of a plan by at most this many rounds, by the rounds of its sessions and meals.
 ///
 /// Memory is taken for a bench, and for each session and meal that is begun.
 pub fn run_by_rounds<A: Allocator + Copy>(

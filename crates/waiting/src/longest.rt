@@ -7,7 +7,7 @@ use crate::waits::{Longest, longest_after};
 use lab_plan::JobNo;
 use std::alloc::Allocator;
 
-/// The first of the longest of the sessions of the first jobs, so many.
+/// The first of the longest of the sessions of the first jobs, this many.
 pub(crate) fn longest_below<A: Allocator>(run: &RoundsRun<A>, jobs: usize) -> Longest
     requires few { jobs ≤ 32 }
     requires inside { jobs ≤ length run.now.jobs }

@@ -17,6 +17,6 @@ pub record TakesTurns (plan : LabPlan) (history : List Event) (j n : ℕ) : Type
   pub together : but_glances (events_by j history) ≡ flat groups
   pub unbroken : Stands plan (the_opening plan) groups history
 
--- each job took whole turns, at most so many, and exactly so many if the run isn't finished
+-- each job took whole turns, at most this many, and exactly that many if the run isn't finished
 abbrev pub TakeTurns : LabPlan → List Event → ℕ → Bool → Type 0
 TakeTurns plan history most is_finished = (j : ℕ) → j < length plan.jobs → (n : ℕ) × (n ≤ most) × (is_finished ≡ false → n ≡ most) × TakesTurns plan history j n

@@ -15,7 +15,7 @@ use std::sync::Wait;
 use std::thread::Threads;
 use workers::{Gate, threads, turns_in_history};
 
-// A bench in the initial state, with the desks of all its jobs.
+/// A bench in the initial state, with the desks of all its jobs.
 fn open<'p, A: Allocator + Copy>(
     alloc: A,
     plan: &'p Plan<A>,
@@ -30,7 +30,7 @@ fn open<'p, A: Allocator + Copy>(
     Ok((bench, desks))
 }
 
-// The run of a bench whose desks are all there.
+/// The run of a bench whose desks are all there.
 fn close<'p, A: Allocator>(
     alloc: A,
     bench: Bench<'p, A>,

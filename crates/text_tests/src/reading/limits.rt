@@ -22,7 +22,7 @@ fn add_number(rt: &impl Abort, alloc: Global, text: &mut String, number: u32) {
     }
 }
 
-/// A text with a line so many times behind its front. The line's mark, between what stands before and after it, is its number.
+/// A text with a line this many times behind its front. The line's mark, between what stands before and after it, is its number.
 type Repeated = (&'static str, &'static str, &'static str, u32);
 
 fn repeated(rt: &impl Abort, alloc: Global, text: Repeated) -> String {
@@ -130,7 +130,7 @@ fn causes_before_limits(rt: HostRuntime) {
     check_behind(&rt, alloc, COMMANDS, &[("end\nx read", outside)]);
 }
 
-/// A job, and these lines so many times behind the word `steps`.
+/// A job, and these lines this many times behind the word `steps`.
 pub(super) fn steps_text(rt: &impl Abort, alloc: Global, lines: &str, times: usize) -> String {
     let mut text = String::new(alloc);
     add(rt, &mut text, "lab 1\njob a\nsteps\n");
@@ -140,7 +140,7 @@ pub(super) fn steps_text(rt: &impl Abort, alloc: Global, lines: &str, times: usi
     text
 }
 
-/// The text has so many steps of one job, in a list with no more room than this.
+/// The text has this many steps of one job, in a list with no more room than this.
 fn check_sits<A: Allocator + Copy>(
     rt: &impl Abort,
     alloc: A,
@@ -185,7 +185,7 @@ fn room_of_steps(rt: HostRuntime) {
     check_sits(&rt, rt.alloc(), &text, 1025, 2050);
 }
 
-/// Two jobs with so many instruments in common.
+/// Two jobs with this many instruments in common.
 fn sharing(rt: &impl Abort, alloc: Global, instruments: u32) -> String {
     let first = ("lab 1\njob a\nsession\n", "i", " read\n", instruments);
     let second = ("end\njob b\nsession\n", "i", " read\n", instruments);

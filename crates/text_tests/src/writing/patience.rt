@@ -85,7 +85,7 @@ fn leads_on_after<A: Allocator + Copy>(rt: &impl Abort, alloc: A, text: &[u8]) -
     }
 }
 
-/// Some event leads on after each beginning of the steps, which stand behind so many bytes of the text, until
+/// Some event leads on after each beginning of the steps, which stand behind this many bytes of the text, until
 /// all have retired.
 fn leads_all_along<A: Allocator + Copy>(rt: &impl Abort, alloc: A, text: &[u8], first: usize) {
     assert!(rt; first > 0);

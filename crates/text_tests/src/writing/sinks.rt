@@ -18,7 +18,7 @@ const SCRIPT: &[u8] =
 
 const SCRIPT_LINES: [usize; 9] = [6, 12, 20, 32, 36, 42, 50, 62, 66];
 
-/// What a writer takes that takes at most so many bytes a call and no more calls than these, and what the writing answers.
+/// What a writer takes that takes at most this many bytes a call and no more calls than these, and what the writing answers.
 type Taken<A> = (Vec<u8, A>, Result<(), WriteFault>);
 
 fn report_of_two<A: Allocator + Copy>(
