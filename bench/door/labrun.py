@@ -47,6 +47,8 @@ class Labrun:
             room = told.written
 
     def rounds(self, script, limit=10000):
+        if not 0 <= limit <= 1000000000:
+            raise ValueError("limit is 0 to 1000000000")
         return self._told(self._lab_rounds, script, limit)
 
     def replay(self, script):
