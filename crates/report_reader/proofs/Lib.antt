@@ -6,7 +6,7 @@ pub mod Shown
 pub mod Texts
 pub mod OnLast
 pub mod ReadingLoop
-pub mod Parts
+pub mod Cuts
 pub mod ReadingText
 pub mod ReportLeads
 pub mod NoReport

@@ -9,6 +9,7 @@ ghost use Rattle.report_reader.specs.Form.{line_text, head_text};
 
 use crate::lines::{EntryLine, Form, JobLine};
 use crate::number::number_of;
+use bstr::ByteSlice;
 use lab_plan::Verb;
 use lab_plan::name::is_name;
 
@@ -55,7 +56,7 @@ fn stroke_in(word: &[u8]) -> Option<usize>
     ensures stroke { result ≡ position (λ b. b == 47) word.now }
     ensures within { IfSome result (λ k. k < length word.now) }
 {
-    word.iter().position(|b| *b == b'/')
+    word.find_byte(b'/')
 }
 
 /// The place and the length of a part.
