@@ -66,7 +66,7 @@ names = codes "rounds" ∷ codes "threads" ∷ codes "replay" ∷ codes "check" 
 
 unmet : (word : Text) → AreOther names word → subcommand_met (names_of (built labrun_app)) idle word ≡ None
 unfolding clap_on_literals
-unmet word o = rw (o.0.1, o.1.1, o.2.1, o.3.1, o.4.1) refl
+unmet word o = rw (o.0.1, o.1.0.1, o.1.1.0.1, o.1.1.1.0.1, o.1.1.1.1.0.1) refl
 
 none_found : (p : Text) → task_found (subcommand_of labrun_app (p ∷ codes "--" ∷ [])) ≡ task_of (p ∷ codes "--" ∷ [])
 unfolding clap_on_literals
@@ -83,7 +83,7 @@ other_taken p word rest o t h = go (bytes_eq word (codes "--")) refl rest h
     go : (b : Bool) → bytes_eq word (codes "--") ≡ b → (rest : List Text) → task_of (p ∷ word ∷ rest) ≡ Some t → fault_of labrun_app (p ∷ word ∷ rest) ≡ []
     go true e [] h = subst (λ w. fault_of labrun_app (p ∷ w ∷ []) ≡ []) (sym ((bytes_eq-Decides word (codes "--")).0 e)) (none_fine p)
     go true e (v ∷ vs) h = let bad : None ≡ Some t = rw e at h in cc
-    go false e rest h = let bad : None ≡ Some t = rw (e, o.0.0, o.1.0, o.2.0, o.3.0, o.4.0) at h in cc
+    go false e rest h = let bad : None ≡ Some t = rw (e, o.0.0, o.1.0.0, o.1.1.0.0, o.1.1.1.0.0, o.1.1.1.1.0.0) at h in cc
 
 no_words : IsRight labrun_app task_found task_of []
 unfolding clap_on_literals
@@ -99,9 +99,17 @@ right (p ∷ []) = own_name p
 right (p ∷ word ∷ rest) =
     by_word (λ w. IsRight labrun_app task_found task_of (p ∷ w ∷ rest)) names word (
       with_one program rounds (omega arith) p rest,
-      with_two program threads (omega arith) (omega arith) p rest,
-      without_values program replay p rest,
-      without_values program check p rest,
-      without_values program upgrade p rest,
-      tt,
+      (
+        with_two program threads (omega arith) (omega arith) p rest,
+        (
+          without_values program replay p rest,
+          (
+            without_values program check p rest,
+            (
+              without_values program upgrade p rest,
+              tt,
+            ),
+          ),
+        ),
+      ),
     ) (λ o. (other_word task_found task_of program p word rest (unmet word o) (none_found p), other_taken p word rest o))

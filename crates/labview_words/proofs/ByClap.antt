@@ -80,7 +80,7 @@ names =
 
 unmet : (word : Text) → AreOther names word → subcommand_met (names_of (built labview_app)) idle word ≡ None
 unfolding clap_on_literals
-unmet word o = rw (o.0.1, o.1.1, o.2.1, o.3.1, o.4.1, o.5.1, o.6.1, o.7.1) refl
+unmet word o = rw (o.0.1, o.1.0.1, o.1.1.0.1, o.1.1.1.0.1, o.1.1.1.1.0.1, o.1.1.1.1.1.0.1, o.1.1.1.1.1.1.0.1, o.1.1.1.1.1.1.1.0.1) refl
 
 none_found : (p : Text) → view_found (subcommand_of labview_app (p ∷ codes "--" ∷ [])) ≡ view_of (p ∷ codes "--" ∷ [])
 unfolding clap_on_literals view_with values_given
@@ -88,7 +88,7 @@ none_found p = refl
 
 other_taken : (p word : Text) (rest : List Text) → AreOther names word → IsComplete labview_app view_of (p ∷ word ∷ rest)
 unfolding view_with
-other_taken p word rest o t h = let bad : None ≡ Some t = rw (o.0.0, o.1.0, o.2.0, o.3.0, o.4.0, o.5.0, o.6.0, o.7.0) at h in cc
+other_taken p word rest o t h = let bad : None ≡ Some t = rw (o.0.0, o.1.0.0, o.1.1.0.0, o.1.1.1.0.0, o.1.1.1.1.0.0, o.1.1.1.1.1.0.0, o.1.1.1.1.1.1.0.0, o.1.1.1.1.1.1.1.0.0) at h in cc
 
 no_words : IsRight labview_app view_found view_of []
 unfolding clap_on_literals
@@ -104,12 +104,26 @@ right (p ∷ []) = own_name p
 right (p ∷ word ∷ rest) =
     by_word (λ w. IsRight labview_app view_found view_of (p ∷ w ∷ rest)) names word (
       without_values program explain p rest,
-      without_values program picture p rest,
-      without_values program table p rest,
-      without_values program arrange p rest,
-      with_one program trace (omega arith) p rest,
-      with_one program waits (omega arith) p rest,
-      with_one program blocks (omega arith) p rest,
-      with_one program gantt (omega arith) p rest,
-      tt,
+      (
+        without_values program picture p rest,
+        (
+          without_values program table p rest,
+          (
+            without_values program arrange p rest,
+            (
+              with_one program trace (omega arith) p rest,
+              (
+                with_one program waits (omega arith) p rest,
+                (
+                  with_one program blocks (omega arith) p rest,
+                  (
+                    with_one program gantt (omega arith) p rest,
+                    tt,
+                  ),
+                ),
+              ),
+            ),
+          ),
+        ),
+      ),
     ) (λ o. (other_word view_found view_of program p word rest (unmet word o) (none_found p), other_taken p word rest o))
