@@ -89,8 +89,8 @@ TURN = {"labrun rounds": "turning::turn", "port rounds": "Desk::turn"}
 # whose instructions are counted: heading, the function in each program, by what it is told, and the goals (at most): of the mean, of the worst
 COUNTED = (
     ("turns", TURN, "command", 1.10, 1.20),
-    ("report", {"labrun rounds": "sending::send_report", "port rounds": "shared::write_report"}, "entry", 0.90, None),
-    ("reading", {"labrun rounds": "plan::read_plan", "port rounds": "shared::read_plan"}, "line", 1.00, None),
+    ("report", {"labrun rounds": "showing::send_report", "port rounds": "shared::write_report"}, "entry", 0.90, None),
+    ("reading", {"labrun rounds": "plan::read_plan", "port rounds": "shared::read_plan"}, "line", 1.15, None),
 )
 
 
@@ -279,6 +279,9 @@ def instructions(folder, runs, only):
         print("%s: counted" % name, file=sys.stderr, flush=True)
     rows = []
     for heading, each, unit, of_mean, of_worst in COUNTED:
+        if not all(all(own[heading].values()) for own in spent.values()):
+            print("%s: left out, since the function to count was inlined or has another name" % heading, file=sys.stderr)
+            continue
         found = [own[heading]["labrun rounds"] / own[heading]["port rounds"] for own in spent.values()]
         goal = "%.2f" % of_mean + (", each %.2f" % of_worst if of_worst else "")
         rows.append([heading + ", labrun / port"] + ["%.2f" % ratio for ratio in found] + ["%.2f" % mean(found), goal])
