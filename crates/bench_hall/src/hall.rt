@@ -132,7 +132,10 @@ impl Hall {
     }
 
     /// Puts a desk back into its place; or answers it, if the place has one.
-    pub(crate) fn give(&self, desk: Box<Desk<Global>, Global>) -> Result<(), Box<Desk<Global>, Global>>
+    pub(crate) fn give(
+        &self,
+        desk: Box<Desk<Global>, Global>,
+    ) -> Result<(), Box<Desk<Global>, Global>>
         requires own { Owns self.now.bench desk.value }
         ensures { IfErr result (λ d. d ≡ desk) }
     {

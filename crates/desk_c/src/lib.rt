@@ -267,8 +267,12 @@ pub extern "C" fn lab_shared_close(
 {
     match bench.take(alloc) {
         Some(mut held) => {
-            let (after, status) =
-                close_in(alloc, Box::replace(&mut held, Shared::Moved), report, told);
+            let (after, status) = close_in(
+                alloc,
+                Box::replace(&mut held, Shared::Moved),
+                report,
+                told,
+            );
             Box::replace(&mut held, after);
             bench.put(held);
             status

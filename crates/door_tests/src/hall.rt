@@ -15,7 +15,8 @@ const PATIENT: &[u8] =
     b"lab 2\njob a\nsession\nscale add 3\nscale read\nend\njob b\nsession patience 9\nscale set 5\nend\n";
 
 /// Job a does its session, and job b gives its own up.
-const ALONE: &[u8] = b"lab 2\ninstrument scale 2\na 1 1/2 add 3 = 3\na 1 2/2 read = 3\njob a sessions 1 of 1 withdrawn 0 meals ";
+const ALONE: &[u8] =
+    b"lab 2\ninstrument scale 2\na 1 1/2 add 3 = 3\na 1 2/2 read = 3\njob a sessions 1 of 1 withdrawn 0 meals ";
 
 fn hall_of(rt: &impl Abort, alloc: Global, script: &[u8]) -> Arc<Hall, Global> {
     match Hall::open(alloc, script) {
