@@ -1,9 +1,8 @@
 -- For readers: what each call leaves in the handle and in the caller's memory, and its status.
-use Rattle.std.specs.Prelude.{◌≡◌, ◌≢◌, ◌⊎◌, ℕ, ◌≤◌, ◌<◌, Bool, true, false, if◌then◌else◌, List, length, slice_get, Option, Some, None, Result, Ok, Err}
+use Rattle.std.specs.Prelude.{◌≡◌, ◌⊎◌, ℕ, ◌≤◌, ◌<◌, Bool, if◌then◌else◌, List, length, Option, Some, None, Err}
 use Rattle.instrument_log.specs.declared.entry.Entry.{Entry}
-use Rattle.lab_plan.specs.LabPlan.{LabPlan, job_at}
-use Rattle.legal_steps.specs.declared.event.Event.{Event}
-use Rattle.edge_rule.specs.DeskView.{BenchView, DeskView}
+use Rattle.lab_plan.specs.LabPlan.{job_at}
+use Rattle.edge_rule.specs.DeskView.{DeskView}
 use Rattle.session_layer.specs.declared.turning.Turned.{Turned}
 use Rattle.script_reader.specs.Script.{ScriptMeans}
 use Rattle.lab_program.specs.declared.faults.RunFault.{RunFault}

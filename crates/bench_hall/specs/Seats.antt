@@ -9,7 +9,7 @@ use Rattle.bench_door.specs.declared.going.Aim.{Aim}
 use Rattle.bench_door.specs.declared.going.Stage.{Stage}
 use Rattle.bench_door.specs.declared.going.Stage.TheVariants.{OnTheWay}
 use Rattle.bench_door.specs.Going.{both, IsStage}
-use Rattle.bench_hall.specs.declared.seat.Seated.{Seated}
+use Rattle.bench_hall.specs.declared.seated.Seated.{Seated}
 
 -- the desk is still of the same bench and the same job
 abbrev pub Stays : Seated → Seated → Type 0

@@ -6,7 +6,9 @@ mod alone;
 mod hall;
 mod place;
 mod seat;
+mod seated;
 
 pub use hall::{Hall, Spot, Stays, WhyOpen};
 pub use place::{Place, Resting};
-pub use seat::{NotTaken, Seated, sit, stand};
+pub use seat::{NotTaken, sit, stand};
+pub use seated::Seated;

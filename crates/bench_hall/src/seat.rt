@@ -1,7 +1,6 @@
-//! A desk that is out of its place, with its hall: what one thread drives.
+//! What one thread does with a desk that is out of its place.
 ghost use Rattle.std.specs.Prelude.{◌≡◌, ◌↔◌, ◌≤◌, IfOk, IfErr, length};
 ghost use Rattle.std.specs.Arc.{arc_value};
-ghost use Rattle.edge_rule.specs.DeskView.{Owns};
 ghost use Rattle.session_layer.specs.Turn.{Took};
 ghost use Rattle.desk_user.specs.Serving.{Served};
 ghost use Rattle.bench_door.specs.Doors.{Withdraws, Reaches, standing_of};
@@ -11,21 +10,13 @@ ghost use Rattle.bench_hall.specs.Seats.{Stays, GoesAlone};
 
 use crate::alone::go_alone;
 use crate::hall::Hall;
+use crate::seated::Seated;
 use bench_door::{Aim, Ended, Stage, Standing, end_session, give_up, next_command, standing_at};
 use desk_user::{serve, take_turn};
-use edge_rule::Desk;
 use instrument_log::Entry;
 use session_layer::Turned;
 use std::alloc::Global;
 use std::sync::Arc;
-
-/// A desk that was taken out of its place, and its hall.
-#[derive(Drop)]
-pub struct Seated {
-    pub hall: Arc<Hall, Global>,
-    pub desk: Box<Desk<Global>, Global>,
-    ghost own: { Owns (arc_value hall).bench desk.value },
-}
 
 /// Why a desk isn't taken.
 #[derive(Clone, Copy, PartialEq, Eq, Debug)]

@@ -1,5 +1,5 @@
 -- For readers: what each call leaves in the handles and in the caller's memory, and its status.
-use Rattle.std.specs.Prelude.{◌≡◌, ◌⊎◌, ℕ, ◌≤◌, Bool, true, false, if◌then◌else◌, List, length, Option, Some, None, Err}
+use Rattle.std.specs.Prelude.{◌≡◌, ◌⊎◌, ◌↔◌, ℕ, ◌≤◌, Bool, if◌then◌else◌, List, length, Option, Some, None, Err}
 use Rattle.std.specs.Arc.{arc_value}
 use Rattle.std.specs.declared.sync.Arc.{Arc}
 use Rattle.std_heap.specs.declared.Global.{Global}
@@ -16,7 +16,9 @@ use Rattle.bench_door.specs.declared.going.Ended.{Ended as HowItEnded}
 use Rattle.bench_door.specs.Going.{EndsSession}
 use Rattle.bench_door.specs.Doors.{IsWhyNot, Withdraws, Reaches, standing_of}
 use Rattle.bench_hall.specs.declared.hall.Hall.{Hall}
-use Rattle.bench_hall.specs.declared.seat.Seated.{Seated}
+use Rattle.bench_hall.specs.declared.seated.Seated.{Seated}
+use Rattle.bench_hall.specs.declared.seat.NotTaken.{NotTaken}
+use Rattle.bench_hall.specs.declared.seat.NotTaken.TheVariants.{NoJob, Out, NoMemory}
 use Rattle.bench_hall.specs.Seats.{Stays, GoesAlone}
 use Rattle.c_tells.specs.declared.telling.Told.{Told}
 use Rattle.c_tells.specs.Telling.{told_of}
@@ -73,9 +75,14 @@ IsSeatIn (Seat t) job s = ⊥
 IsSeatIn (Closing h) job s = ⊥
 IsSeatIn Gone job s = ⊥
 
--- there is no such job (2), no memory (5), or the desk is out (8); or there is no open bench (7)
+abbrev pub why_number : NotTaken → ℕ
+why_number NoJob = 2
+why_number NoMemory = 5
+why_number Out = 8
+
+-- there is no such job (2), and else no memory (5), or the desk is out (8); or there is no open bench (7)
 abbrev pub IsWhyNone : Shared → ℕ → ℕ → Type 0
-IsWhyNone (Open a) job status = ((status ≡ 2) × (length (arc_value a).bench.plan.jobs ≤ job)) ⊎ (status ≡ 5) ⊎ (status ≡ 8)
+IsWhyNone (Open a) job status = (why : NotTaken) × (status ≡ why_number why) × ((why ≡ NoJob) ↔ (length (arc_value a).bench.plan.jobs ≤ job))
 IsWhyNone (Seat t) job status = status ≡ 7
 IsWhyNone (Closing h) job status = status ≡ 7
 IsWhyNone Gone job status = status ≡ 7

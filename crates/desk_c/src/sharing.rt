@@ -1,7 +1,7 @@
 //! What becomes of the bench that a handle has: what it tells, how a desk is taken, and how it ends.
-ghost use Rattle.std.specs.Prelude.{IfOk, IfErr, Some};
+ghost use Rattle.std.specs.Prelude.{◌≡◌, IfOk, IfErr, Some};
 ghost use Rattle.desk_c.specs.declared.slot.Shared.TheVariants.{Open};
-ghost use Rattle.desk_c.specs.Calls.{InBench, TellsSize, ClosesShared, IsSeatIn, IsWhyNone, GivesBack};
+ghost use Rattle.desk_c.specs.Calls.{InBench, TellsSize, ClosesShared, IsSeatIn, IsWhyNone, GivesBack, why_number};
 
 use crate::slot::Shared;
 use bench_calls::{Held, LabSize, NO_JOB, NOT_NOW, NOT_OPEN, ended};
@@ -31,19 +31,29 @@ pub(crate) fn size_in(held: &Shared, size: &mut LabSize) -> u32
     }
 }
 
+fn refusal(why: NotTaken) -> u32
+    ensures { result ≡ why_number why }
+{
+    match why {
+        NotTaken::NoJob => NO_JOB,
+        NotTaken::NoMemory => NO_MEMORY,
+        NotTaken::Out => NOT_NOW,
+    }
+}
+
 /// The desk of a job of the bench that a handle has, or the status that says why not.
 pub(crate) fn seat_in(held: &Shared, job: u32) -> Result<Seated, u32>
     ensures seat { IfOk result (λ s. IsSeatIn held.now job s) }
     ensures why { IfErr result (λ status. IsWhyNone held.now job status) }
 {
-    let Shared::Open(hall) = held else {
-        return Err(NOT_OPEN);
-    };
-    match sit(hall, job) {
-        Ok(seated) => Ok(seated),
-        Err(NotTaken::NoJob) => Err(NO_JOB),
-        Err(NotTaken::Out) => Err(NOT_NOW),
-        Err(NotTaken::NoMemory) => Err(NO_MEMORY),
+    match held {
+        Shared::Open(hall) => match sit(hall, job) {
+            Ok(seated) => Ok(seated),
+            Err(why) => Err(refusal(why)),
+        },
+        Shared::Seat(_) => Err(NOT_OPEN),
+        Shared::Closing(_) => Err(NOT_OPEN),
+        Shared::Moved => Err(NOT_OPEN),
     }
 }
 
