@@ -1,5 +1,6 @@
-/* labrun in your own process. Two parts: the program's runs on one thread, from a script in memory to a report in memory; and the
-   bench itself (`struct lab_bench`), on which threads of your own take turns, hold instruments, work, and let go.
+/* labrun in your own process. Three parts: the program's runs on one thread, from a script in memory to a report in memory; the bench
+   itself (`struct lab_bench`), on which threads of your own take turns, hold instruments, work, and let go, one call at a time; and a
+   bench whose desks threads drive at once (`struct lab_shared`, `struct lab_desk`).
 
    Every call answers a status:
 
@@ -10,7 +11,7 @@
      4  LAB_TOO_LONG    the script has more than 16777216 bytes
      5  LAB_NO_MEMORY   no memory
      6  LAB_NO_ROOM     what was to be written has more than `room` bytes; `written` says how many
-     7  LAB_NOT_OPEN    the handle isn't open; for `lab_bench_open`, it is in use
+     7  LAB_NOT_OPEN    the handle isn't open, or a handle that is to be filled is in use
      8  LAB_NOT_YET     not yet, or not now: what was asked for isn't so
      9  LAB_NO_SESSION  the job has no session left to begin
 
@@ -26,7 +27,7 @@
      - what one call is given doesn't overlap;
      - no call from a signal handler, nor in the child of a fork of a process with threads;
      - malloc and realloc align what they give as usual, and give NULL where they have none;
-     - of a bench, also what stands at `struct lab_bench`. */
+     - of a bench, also what stands at `struct lab_bench`, or at `struct lab_shared`. */
 #ifndef LABRUN_H
 #define LABRUN_H
 #include <stddef.h>
@@ -211,6 +212,90 @@ uint32_t lab_bench_close(struct lab_bench *bench, uint8_t *report, size_t room, 
    sessions and commands) stays until the process ends, so don't open benches without end. */
 void lab_bench_free(struct lab_bench *bench);
 
+/* ---- A bench with a desk for each thread.
+
+   The same bench, used in another way: each job has a desk, and a thread that takes it (`lab_take_desk`) drives it by calls of its own,
+   at once with the threads at the other desks and without a mutex, until it gives it back (`lab_give_desk`). A thread
+
+     begins   lab_desk_begin, until its job holds (0) or has no session left (9);
+     works    and now and then serves (lab_desk_serve), so that neighbours who need other instruments don't wait for it;
+     lets go  lab_desk_end; or lab_desk_command, one by one, and then lab_desk_end;
+     retires  lab_desk_retire, after its last session, and goes on serving until all have retired; then it gives the desk back.
+
+   When all desks are back, `lab_shared_close` gives the report. The promise is the same: whatever the calls, from whatever threads, the
+   report is one of a legal run.
+
+   Which way? By the first, any call may act for any job, whoever waits serves the jobs whose threads are away, and a mutex orders the
+   calls. By this one there is no mutex to wait for, but each desk has to be served by whoever has it.
+
+   The rules, beside those at the top of this file:
+
+     - `struct lab_shared` and `struct lab_desk` are all zero at first, and the calls alone write them. Don't copy them, don't move them.
+     - One call at a time on one handle. `lab_take_desk` is a call on both of its handles, and every other on the one that it is given:
+       so take the desks before the threads start, or hold a mutex of yours around the calls on the `struct lab_shared`. Calls on the
+       desks, `lab_give_desk` too, need none.
+     - A desk's handle may go from thread to thread, if something orders the calls: the start or the end of a thread, a mutex, a queue.
+     - A job gives up what a neighbour asks for only in calls on its own desk: turn, serve, begin, retire, end. So whoever has a desk calls
+       `lab_desk_serve` now and then, also while it holds, while it has nothing to do, and when its job is retired; or it gives the desk
+       back, so that another thread can take it and serve. A desk that nobody serves keeps its neighbours waiting: nothing else is lost.
+     - A thread that stops between two calls leaves its desk in the handle: let another go on with it, end its session (`lab_desk_end`),
+       and give it back. Until then the close answers 8. A thread that is killed within a call leaves the handle empty, and its desk
+       is lost: the close answers 8 for ever, and `lab_shared_free` gives back what it can.
+     - No call wakes a thread. Where `what` is 0, nothing is due until a neighbour's call did something: sleep a little and call again,
+       or wait on a condition variable of yours that each thread signals after a call that told `what` 2.
+     - What the script has (names, sessions, commands) is told by a `struct lab_bench` that is opened for the same script.
+     - At each status but 0 nothing has changed and nothing is written, but for: `turned` and the turns taken, at 8 and 9 of
+       `lab_desk_begin`, 8 of `lab_desk_retire`; `written` at 6; `told` at 1 of the open and at 0, 3, 5 and 6 of the close. */
+
+/* What C keeps of such a bench, and of a desk. */
+struct lab_shared {
+    void *at;
+    uint32_t live;
+};
+
+struct lab_desk {
+    void *at;
+    uint32_t live;
+};
+
+/* Opens a bench for a script, with each desk at its place. 0; 1 with `told->line` and `told->cause`; 4; 5; 7 if the handle is in use. */
+uint32_t lab_shared_open(const uint8_t *script, size_t length, struct lab_shared *shared, struct lab_told *told);
+
+/* How many jobs and instruments there are. 0, 7. */
+uint32_t lab_shared_size(struct lab_shared *shared, struct lab_size *size);
+
+/* Takes the desk of a job into an empty handle. 0; 2; 5; 7 if the bench isn't open, or the desk's handle is in use; 8 if the desk is out. */
+uint32_t lab_take_desk(struct lab_shared *shared, uint32_t job, struct lab_desk *desk);
+
+/* Gives the desk back to its own bench; the handle is empty then. 0; 7. (8, with the desk still in the handle, if the place has a desk:
+   that can't be, and is there because it isn't proved.) */
+uint32_t lab_give_desk(struct lab_desk *desk);
+
+/* As `lab_state`, `lab_turn`, `lab_serve`, `lab_command` and `lab_withdraw` of the desk's job. 7 if the handle has no desk. */
+uint32_t lab_desk_state(struct lab_desk *desk, struct lab_state *state);
+uint32_t lab_desk_turn(struct lab_desk *desk, struct lab_turned *turned);
+uint32_t lab_desk_serve(struct lab_desk *desk, struct lab_turned *turned);
+uint32_t lab_desk_command(struct lab_desk *desk, struct lab_entry *entry);
+uint32_t lab_desk_withdraw(struct lab_desk *desk);
+
+/* Takes turns of the desk, at most `turns`, until its job holds; ends before that if nothing was due. As `lab_begin`, but no other job is
+   served. 0 it holds; 8 not yet; 9 no session is left; 7. */
+uint32_t lab_desk_begin(struct lab_desk *desk, uint32_t turns, struct lab_turned *turned);
+
+/* As `lab_end`: does the commands that are left, ends the session and lets go. 0, 7, 8. */
+uint32_t lab_desk_end(struct lab_desk *desk, struct lab_turned *turned);
+
+/* Takes turns of a desk whose job's sessions are all done, at most `turns`, until it is retired. 0 it is; 8 not yet, or sessions are left; 7. */
+uint32_t lab_desk_retire(struct lab_desk *desk, uint32_t turns, struct lab_turned *turned);
+
+/* Closes the bench, whatever its jobs are at, and writes the report. 0 or 3 as a run; 8 while a desk is out; 5 and 6: nothing is lost, call
+   again; 7. Once all desks are back, a close that answers 5 gives none out any more. A closed handle keeps its report, for a further
+   call; every other call on it but the free answers 7. */
+uint32_t lab_shared_close(struct lab_shared *shared, uint8_t *report, size_t room, struct lab_told *told);
+
+/* Gives back what the handle has; it is empty then. Desks that are out may be used on, and the last that is given back frees the bench. */
+void lab_shared_free(struct lab_shared *shared);
+
 /* ---- The sizes and places that the library goes by. */
 
 #if defined __cplusplus && __cplusplus >= 201103L
@@ -228,6 +313,12 @@ LAB_AT(lab_told, cause, 16);
 LAB_IS(sizeof(struct lab_bench) == 16);
 LAB_AT(lab_bench, at, 0);
 LAB_AT(lab_bench, live, 8);
+LAB_IS(sizeof(struct lab_shared) == 16);
+LAB_AT(lab_shared, at, 0);
+LAB_AT(lab_shared, live, 8);
+LAB_IS(sizeof(struct lab_desk) == 16);
+LAB_AT(lab_desk, at, 0);
+LAB_AT(lab_desk, live, 8);
 LAB_IS(sizeof(struct lab_size) == 16);
 LAB_AT(lab_size, jobs, 0);
 LAB_AT(lab_size, instruments, 8);

@@ -1,20 +1,14 @@
 -- For readers: what each call leaves in the handle and in the caller's memory, and its status.
-use Rattle.std.specs.Prelude.{◌≡◌, ◌≢◌, ◌⊎◌, ℕ, ◌≤◌, ◌<◌, Bool, true, false, if◌then◌else◌, List, length, slice_get, Option, Some, None, Result, Ok, Err}
+use Rattle.std.specs.Prelude.{◌≡◌, ◌⊎◌, ℕ, ◌≤◌, ◌<◌, Bool, if◌then◌else◌, List, length, Option, Some, None, Err}
 use Rattle.instrument_log.specs.declared.entry.Entry.{Entry}
-use Rattle.lab_plan.specs.LabPlan.{LabPlan, job_at}
-use Rattle.legal_steps.specs.declared.event.Event.{Event}
-use Rattle.edge_rule.specs.DeskView.{BenchView, DeskView}
-use Rattle.edge_rule.specs.Ending.{IsEnd}
+use Rattle.lab_plan.specs.LabPlan.{job_at}
+use Rattle.edge_rule.specs.DeskView.{DeskView}
 use Rattle.session_layer.specs.declared.turning.Turned.{Turned}
 use Rattle.script_reader.specs.Script.{ScriptMeans}
 use Rattle.lab_program.specs.declared.faults.RunFault.{RunFault}
-use Rattle.lab_program.specs.declared.faults.RunFault.TheVariants.{NoMemory}
-use Rattle.lab_program.specs.declared.faults.Outcome.{Outcome}
 use Rattle.lab_program.specs.Faults.{status_of}
 use Rattle.desk_user.specs.Use.{opened}
 use Rattle.bench_door.specs.declared.lab.Lab.{Lab}
-use Rattle.bench_door.specs.declared.closing.LabEnd.{LabEnd}
-use Rattle.bench_door.specs.declared.closing.Printed.{Printed}
 use Rattle.bench_door.specs.declared.readers.SessionFacts.{SessionFacts}
 use Rattle.bench_door.specs.declared.readers.Standing.{Standing}
 use Rattle.bench_door.specs.declared.planned.Planned.{Planned}
@@ -23,18 +17,19 @@ use Rattle.bench_door.specs.declared.going.Stage.{Stage}
 use Rattle.bench_door.specs.declared.going.Ended.{Ended as HowItEnded}
 use Rattle.bench_door.specs.Going.{OthersServed, Goes, EndsSession}
 use Rattle.bench_door.specs.Planned.{IsPlanned}
-use Rattle.bench_door.specs.Ends.{IsPrint, HasReport, HasSomeReport}
 use Rattle.bench_door.specs.Doors.{IsWhyNot, IsSession, IsStandingAt, IsInstrumentName, TurnsAt, Withdraws, Reaches}
-use Rattle.bench_c.specs.declared.slot.Held.{Held}
-use Rattle.bench_c.specs.declared.slot.Held.TheVariants.{Open, Ended, Reported, Moved as Gone}
-use Rattle.bench_c.specs.declared.telling.Told.{Told}
-use Rattle.bench_c.specs.declared.told.LabTurned.{LabTurned}
-use Rattle.bench_c.specs.declared.told.LabSize.{LabSize}
-use Rattle.bench_c.specs.declared.told.LabSession.{LabSession}
-use Rattle.bench_c.specs.declared.told.LabState.{LabState}
-use Rattle.bench_c.specs.declared.told.LabEntry.{LabEntry}
-use Rattle.bench_c.specs.declared.told.LabPlanned.{LabPlanned}
-use Rattle.bench_c.specs.Telling.{told_of, Gives, Delivers, Fails, turned_of, session_of, state_of, entry_of, planned_of, stage_status, TellsEnded}
+use Rattle.bench_calls.specs.declared.ending.Held.{Held}
+use Rattle.bench_calls.specs.declared.ending.Held.TheVariants.{Open, Ended, Reported, Moved as Gone}
+use Rattle.bench_calls.specs.Closing.{ClosesHeld}
+use Rattle.c_tells.specs.declared.telling.Told.{Told}
+use Rattle.bench_calls.specs.declared.told.LabTurned.{LabTurned}
+use Rattle.bench_calls.specs.declared.told.LabSize.{LabSize}
+use Rattle.bench_calls.specs.declared.told.LabSession.{LabSession}
+use Rattle.bench_calls.specs.declared.told.LabState.{LabState}
+use Rattle.bench_calls.specs.declared.told.LabEntry.{LabEntry}
+use Rattle.bench_calls.specs.declared.told.LabPlanned.{LabPlanned}
+use Rattle.c_tells.specs.Telling.{told_of, Gives}
+use Rattle.bench_calls.specs.Telling.{turned_of, session_of, state_of, planned_of, stage_status, TellsEnded, TellsEntry}
 
 -- what was taken out of a handle
 abbrev pub IsHeld : {B : Type 0} → (B → Held) → Option B → Option Held → Type 0
@@ -78,11 +73,6 @@ GivesUp job a b told told' status =
     (b.bench ≡ a.bench)
     × (((did : Bool) × (status ≡ (if did then 0 else 8)) × TurnsAt Withdraws job a.desks.items (Some did) b.desks.items)
     ⊎ ((status ≡ 2) × TurnsAt Withdraws job a.desks.items None b.desks.items))
-
--- the entry is told (0), or there is none, and nothing is told (8)
-abbrev pub TellsEntry : Option Entry → LabEntry → LabEntry → ℕ → Type 0
-TellsEntry (Some entry) told told' status = (status ≡ 0) × (told' ≡ entry_of entry)
-TellsEntry None told told' status = (status ≡ 8) × (told' ≡ told)
 
 -- the job's next command was done, and its entry is told (0); or it doesn't hold or no command is left (8), or there is no such job (2), and nothing changed
 abbrev pub DoesNext : ℕ → Lab → Lab → LabEntry → LabEntry → ℕ → Type 0
@@ -158,33 +148,7 @@ TellsInstrumentName instrument a = TellsName (IsInstrumentName a.bench.plan inst
 
 -- ---- closing
 
--- the text of the report, and then what is told of it: it stands in the room, or there is no room for it (6)
-abbrev pub Reports : Printed → List ℕ → List ℕ → Told → ℕ → Type 0
-Reports p room room' told' status = Delivers (status_of (Ok p.outcome)) p.text.items room room' told' status
-
--- without memory (5) the room is as it was
-abbrev pub NoRoomYet : List ℕ → List ℕ → Told → ℕ → Type 0
-NoRoomYet room room' told' status = Fails NoMemory room room' told' status
-
--- An open lab was closed, and its report, which is printed of its end, is in the handle and given; or memory was refused, and the handle
--- has the lab, or its end.
--- The end of a lab is printed, or stays without memory. A report is given again. Of every report that is given the headline holds, whatever the calls were:
--- of that of an open lab as a report of its own plan, and of the others it is known that there is such a run
-abbrev pub ClosesHeld : Held → Held → List ℕ → List ℕ → Told → Told → ℕ → Type 0
-ClosesHeld (Open a) new room room' told told' status =
-    ((e : LabEnd) × (p : Printed) × IsEnd a.bench.plan a.desks.items e.closed × IsPrint e.closed p.text.items p.outcome
-    × HasReport a.bench.plan p.text.items p.outcome × (new ≡ Reported p) × Reports p room room' told' status)
-    ⊎ ((b : Lab) × (b.bench ≡ a.bench) × (b.desks.items ≡ a.desks.items) × (new ≡ Open b) × NoRoomYet room room' told' status)
-    ⊎ ((e : LabEnd) × IsEnd a.bench.plan a.desks.items e.closed × (new ≡ Ended e) × NoRoomYet room room' told' status)
-ClosesHeld (Ended e) new room room' told told' status =
-    ((p : Printed) × IsPrint e.closed p.text.items p.outcome × ∥ HasReport e.closed.plan p.text.items p.outcome ∥₁
-    × (new ≡ Reported p) × Reports p room room' told' status)
-    ⊎ ((new ≡ Ended e) × NoRoomYet room room' told' status)
-ClosesHeld (Reported p) new room room' told told' status =
-    ∥ HasSomeReport p.text.items p.outcome ∥₁ × (new ≡ Reported p) × Reports p room room' told' status
-ClosesHeld Gone new room room' told told' status = (status ≡ 7) × (new ≡ Gone) × (room' ≡ room) × (told' ≡ told)
-
--- the same of a handle, which may have nothing (7)
+-- what the handle has was closed, or its end was printed, or its report given again; or it has nothing, and nothing changed (7)
 abbrev pub Closes : Option Held → Option Held → List ℕ → List ℕ → Told → Told → ℕ → Type 0
 Closes (Some old) new room room' told told' status = (h : Held) × (new ≡ Some h) × ClosesHeld old h room room' told told' status
 Closes None new room room' told told' status = (status ≡ 7) × (new ≡ None) × (room' ≡ room) × (told' ≡ told)

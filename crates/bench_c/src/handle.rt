@@ -1,9 +1,10 @@
 //! The handle that C keeps.
 ghost use Rattle.std.specs.Prelude.{◌≡◌, Option, Some, None, IsTrue, ◌↔◌};
-ghost use Rattle.bench_c.specs.Owned.{holds};
+ghost use Rattle.box_parts.specs.Owned.{holds};
 ghost use Rattle.bench_c.specs.Calls.{IsHeld};
 
-use crate::slot::{Held, Slot};
+use crate::slot::Slot;
+use bench_calls::Held;
 use box_parts::Parts;
 use std::alloc::Global;
 use std::mem::replace;

@@ -1,41 +1,13 @@
 //! Calls on what a handle has.
-ghost use Rattle.std.specs.Prelude.{◌≡◌, if◌then◌else◌};
 ghost use Rattle.session_layer.specs.Turn.{Took};
 ghost use Rattle.desk_user.specs.Serving.{Served};
-ghost use Rattle.bench_c.specs.Calls.{InHeld, Drives, GivesUp, DoesNext, TellsEntry, TellsSize, TellsSession};
-ghost use Rattle.bench_c.specs.Calls.{TellsPlanned, TellsState, TellsJobName, TellsInstrumentName};
+ghost use Rattle.bench_c.specs.Calls.{InHeld, Drives, GivesUp, DoesNext, TellsSize, TellsSession, TellsPlanned, TellsState, TellsJobName, TellsInstrumentName};
 
-use crate::slot::Held;
-use crate::telling::put;
-use crate::told::{
-    LabEntry, LabPlanned, LabSession, LabSize, LabState, LabTurned, entry_of, planned_of,
-    session_of, state_of, turned_of,
+use bench_calls::{
+    Held, LabEntry, LabPlanned, LabSession, LabSize, LabState, LabTurned, NO_JOB, NOT_OPEN,
+    planned_of, session_of, state_of, tell_entry, turned_of, withdrew,
 };
-use instrument_log::Entry;
-
-pub(crate) const NO_JOB: u32 = 2;
-
-pub(crate) const NOT_OPEN: u32 = 7;
-
-pub(crate) const NOT_NOW: u32 = 8;
-
-fn withdrew(did: bool) -> u32
-    ensures { result ≡ (if did then 0 else 8) }
-{
-    if did { 0 } else { NOT_NOW }
-}
-
-fn tell_entry(entry: Option<Entry>, told: &mut LabEntry) -> u32
-    ensures { TellsEntry entry told.old told.new result }
-{
-    match entry {
-        Some(entry) => {
-            *told = entry_of(entry);
-            0
-        }
-        None => NOT_NOW,
-    }
-}
+use c_tells::put;
 
 pub(crate) fn turn_in(held: &mut Held, job: u32, turned: &mut LabTurned) -> u32
     ensures { InHeld (Drives Took job) held.old held.new turned.old turned.new result }

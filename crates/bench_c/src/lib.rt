@@ -8,28 +8,24 @@ ghost use Rattle.bench_door.specs.declared.going.Aim.TheVariants.{Hold, Retire};
 ghost use Rattle.bench_c.specs.Calls.{Opens, InLab, Drives, ServesRest, GoesOn, LetsGo, GivesUp, DoesNext, TellsSize};
 ghost use Rattle.bench_c.specs.Calls.{TellsSession, TellsPlanned, TellsState, TellsJobName, TellsInstrumentName, Closes};
 
-mod ending;
 mod going;
 mod handle;
 mod inside;
 mod slot;
-mod telling;
-mod told;
 
+use bench_calls::{
+    Held, LabEntry, LabPlanned, LabSession, LabSize, LabState, LabTurned, NOT_OPEN, ended,
+};
 use bench_door::{Aim, Lab};
-use ending::ended;
+use c_tells::{Told, fail};
 use going::{end_in, go_in, serve_others_in};
 pub use handle::Handle;
 use inside::{
-    NOT_OPEN, command_in, instrument_name_in, job_name_in, planned_in, serve_in, session_in,
-    size_in, state_in, turn_in, withdraw_in,
+    command_in, instrument_name_in, job_name_in, planned_in, serve_in, session_in, size_in,
+    state_in, turn_in, withdraw_in,
 };
 use lab_program::RunFault;
-use slot::Held;
 use std::alloc::Global;
-pub use telling::Told;
-use telling::fail;
-pub use told::{LabEntry, LabPlanned, LabSession, LabSize, LabState, LabTurned};
 
 /// Opens a lab for a script. A handle that is in use stays as it is.
 #[unsafe(no_mangle)]

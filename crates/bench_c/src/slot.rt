@@ -1,27 +1,14 @@
 //! A box as the one pointer that C keeps.
 ghost use Rattle.std.specs.Prelude.{◌≡◌, Option, Some, None};
 ghost use Rattle.std.specs.Coded.{coded_option};
-ghost use Rattle.bench_c.specs.contracts.slot.Held.{the_row};
-ghost use Rattle.bench_c.specs.declared.slot.Held.{Held};
-ghost use Rattle.bench_c.specs.Owned.{slot_owns, holds};
+ghost use Rattle.bench_calls.specs.contracts.ending.Held.{the_row};
+ghost use Rattle.bench_calls.specs.declared.ending.Held.{Held};
+ghost use Rattle.box_parts.specs.Owned.{slot_owns, holds};
 
-use bench_door::{Lab, LabEnd, Printed};
+use bench_calls::Held;
 use box_parts::Parts;
 use std::alloc::Global;
 use std::marker::Model;
-
-/// What a handle has.
-#[derive(Drop)]
-pub enum Held {
-    /// A lab that goes on.
-    Open(Lab),
-    /// The end of a lab whose report found no memory yet.
-    Ended(LabEnd),
-    /// The report of a lab that has ended.
-    Reported(Printed),
-    /// Nothing, within a call that puts something else there before it returns.
-    Moved,
-}
 
 /// A pointer to what a handle has, or nothing.
 #[repr(C)]

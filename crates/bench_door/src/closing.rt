@@ -3,8 +3,8 @@ ghost use Rattle.std.specs.Prelude.{◌≡◌, IfOk, IfErr, IfSome};
 ghost use Rattle.edge_rule.specs.Ending.{IsEnd};
 ghost use Rattle.bench_door.specs.Ends.{IsEndOfDesks, IsPrint, HasSomeReport, EndsHaveReports};
 
-use crate::kept::Kept;
 use crate::lab::Lab;
+use c_tells::Kept;
 use edge_rule::{CloseRefused, Closed};
 use headline::holds_of_every_run;
 use lab_program::Outcome;

@@ -2,6 +2,7 @@
 ghost use Rattle.std.specs.Prelude.{◌≡◌};
 ghost use Rattle.session_layer.specs.Turn.{Took};
 ghost use Rattle.desk_user.specs.Serving.{Served};
+ghost use Rattle.desk_user.specs.Use.{Keeps};
 ghost use Rattle.edge_rule.specs.DeskView.{Owns};
 ghost use Rattle.bench_door.specs.Doors.{TurnsAt, Withdraws, Reaches};
 
@@ -13,16 +14,29 @@ use instrument_log::Entry;
 use session_layer::Turned;
 use std::alloc::Global;
 
-/// The next command of the desk's job, if it holds and has one left.
-fn next_command(bench: &Bench<Global>, desk: &mut Desk<Global>) -> Option<Entry>
+/// Does the next command of the desk's job, if it holds and has one left. Answers its entry.
+pub fn next_command(bench: &Bench<Global>, desk: &mut Desk<Global>) -> Option<Entry>
     requires own { Owns bench.now desk.old }
-    ensures own { Owns bench.now desk.new }
+    ensures keeps { Keeps bench.now desk.old desk.new }
     ensures reached { Reaches desk.old result desk.new }
 {
     if !may_command(bench, desk) {
         return None;
     }
     Some(command(bench, desk))
+}
+
+/// Gives up the session that the desk's job waits for. Answers whether it did: only a session that has a patience can be given up.
+pub fn give_up(bench: &Bench<Global>, desk: &mut Desk<Global>) -> bool
+    requires own { Owns bench.now desk.old }
+    ensures keeps { Keeps bench.now desk.old desk.new }
+    ensures withdrew { Withdraws desk.old result desk.new }
+{
+    if !may_withdraw(bench, desk) {
+        return false;
+    }
+    store_phase(bench, desk, PhaseEvent::Withdraw);
+    true
 }
 
 impl Lab {
@@ -53,14 +67,10 @@ impl Lab {
         ensures bench { self.new.bench ≡ self.old.bench }
         ensures withdrew { TurnsAt Withdraws job self.old.desks.items result self.new.desks.items }
     {
-        let Some(desk) = self.desks.get_mut(job) else {
-            return None;
-        };
-        if !may_withdraw(&self.bench, desk) {
-            return Some(false);
+        match self.desks.get_mut(job) {
+            Some(desk) => Some(give_up(&self.bench, desk)),
+            None => None,
         }
-        store_phase(&self.bench, desk, PhaseEvent::Withdraw);
-        Some(true)
     }
 
     /// Does the next command of a job, if there is such a job. Answers its entry, or nothing if the job doesn't hold or has no command left.

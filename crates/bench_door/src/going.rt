@@ -2,7 +2,7 @@
 ghost use Rattle.std.specs.Prelude.{◌≡◌, ◌<◌, ◌↔◌, IsTrue, Some, length};
 ghost use Rattle.edge_rule.specs.DeskView.{Owns};
 ghost use Rattle.session_layer.specs.declared.turning.Turned.TheVariants.{Idle};
-ghost use Rattle.desk_user.specs.Use.{IsAt};
+ghost use Rattle.desk_user.specs.Use.{IsAt, Keeps};
 ghost use Rattle.bench_door.specs.Doors.{TurnsAt};
 ghost use Rattle.bench_door.specs.Going.{both, IsThrough, IsStage, StageAt, ServesOthers, OthersServed, IsRound, Goes, TookHeld, EndsSession};
 
@@ -45,7 +45,7 @@ pub enum Ended {
 }
 
 /// What two answers say together.
-fn both(first: Turned, second: Turned) -> Turned
+pub fn both(first: Turned, second: Turned) -> Turned
     ensures { result ≡ both first second }
 {
     match first {
@@ -63,7 +63,8 @@ fn both(first: Turned, second: Turned) -> Turned
     }
 }
 
-fn is_idle(answer: Turned) -> bool
+/// Whether nothing was due.
+pub fn is_idle(answer: Turned) -> bool
     ensures { IsTrue result ↔ (answer ≡ Idle) }
 {
     match answer {
@@ -82,7 +83,8 @@ fn is_through(bench: &Bench<Global>, desk: &Desk<Global>) -> bool
     phase.drinking == Drinking::Tranquil && phase.session == bench.plan().sessions(desk.job())
 }
 
-fn stage_of(bench: &Bench<Global>, desk: &Desk<Global>, aim: Aim) -> Stage
+/// How far the desk's job is on its way.
+pub fn stage_of(bench: &Bench<Global>, desk: &Desk<Global>, aim: Aim) -> Stage
     requires own { Owns bench.now desk.now }
     ensures { IsStage aim desk.now result }
 {
@@ -111,7 +113,7 @@ fn stage_of(bench: &Bench<Global>, desk: &Desk<Global>, aim: Aim) -> Stage
 /// Takes turns while the job holds. Answers whether it still does, after as many turns as there may be.
 fn turns_held(bench: &Bench<Global>, desk: &mut Desk<Global>) -> (bool, Turned)
     requires own { Owns bench.now desk.old }
-    ensures own { Owns bench.now desk.new }
+    ensures keeps { Keeps bench.now desk.old desk.new }
     ensures took { TookHeld desk.old result.0 result.1 desk.new }
 {
     let mut sum = Turned::Idle;
@@ -124,9 +126,10 @@ fn turns_held(bench: &Bench<Global>, desk: &mut Desk<Global>) -> (bool, Turned)
     (is_at(bench, desk, Until::Holds), sum)
 }
 
-fn end_session(bench: &Bench<Global>, desk: &mut Desk<Global>) -> Ended
+/// Does the commands that are left of the session of the desk's job, ends it, and serves the neighbours, if the job holds.
+pub fn end_session(bench: &Bench<Global>, desk: &mut Desk<Global>) -> Ended
     requires own { Owns bench.now desk.old }
-    ensures own { Owns bench.now desk.new }
+    ensures keeps { Keeps bench.now desk.old desk.new }
     ensures ended { EndsSession desk.old result desk.new }
 {
     if !is_at(bench, desk, Until::Holds) {

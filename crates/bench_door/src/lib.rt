@@ -6,14 +6,13 @@
 mod closing;
 mod driving;
 mod going;
-mod kept;
 mod lab;
 mod planned;
 mod readers;
 
 pub use closing::{LabEnd, Printed, print};
-pub use going::{Aim, Ended, Stage};
-pub use kept::Kept;
+pub use driving::{give_up, next_command};
+pub use going::{Aim, Ended, Stage, both, end_session, is_idle, stage_of};
 pub use lab::Lab;
 pub use planned::Planned;
-pub use readers::{SessionFacts, Standing};
+pub use readers::{SessionFacts, Standing, standing_at};

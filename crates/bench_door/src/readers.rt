@@ -1,11 +1,14 @@
 //! What a lab answers without a step.
 ghost use Rattle.std.specs.Prelude.{◌≡◌, ◌≤◌, ◌<◌, IfSome, IfNone, length};
 ghost use Rattle.lab_plan.specs.LabPlan.{job_at, sessions};
-ghost use Rattle.bench_door.specs.Doors.{IsInstrumentName, IsSession, IsStandingAt};
+ghost use Rattle.edge_rule.specs.DeskView.{Owns};
+ghost use Rattle.bench_door.specs.Doors.{IsInstrumentName, IsSession, IsStandingAt, standing_of};
 
 use crate::lab::Lab;
+use edge_rule::{Bench, Desk};
 use lab_plan::{InstrumentNo, JobNo};
 use legal_steps::{Counts, JobState};
+use std::alloc::Global;
 
 /// What a session needs.
 #[derive(Clone, Copy)]
@@ -28,6 +31,20 @@ pub struct Standing {
     /// How many turns its session has waited.
     pub waited: u32,
     pub turns: u64,
+}
+
+/// How far the desk's job is.
+pub fn standing_at(bench: &Bench<Global>, desk: &Desk<Global>) -> Standing
+    requires own { Owns bench.now desk.now }
+    ensures { result ≡ standing_of desk.now }
+{
+    Standing {
+        phase: desk.phase(),
+        sessions: bench.plan().sessions(desk.job()),
+        counts: desk.counts(),
+        waited: desk.waited(),
+        turns: desk.turns(),
+    }
 }
 
 impl Lab {
@@ -94,15 +111,9 @@ impl Lab {
     pub fn standing(&self, job: usize) -> Option<Standing>
         ensures { IsStandingAt self.now.desks.items job result }
     {
-        let Some(desk) = self.desks.get(job) else {
-            return None;
-        };
-        Some(Standing {
-            phase: desk.phase(),
-            sessions: self.bench.plan().sessions(desk.job()),
-            counts: desk.counts(),
-            waited: desk.waited(),
-            turns: desk.turns(),
-        })
+        match self.desks.get(job) {
+            Some(desk) => Some(standing_at(&self.bench, desk)),
+            None => None,
+        }
     }
 }

@@ -35,3 +35,8 @@ impl<T: Drop, A: Allocator> Parts<T, A> {
         unsafe { Box::from_raw(alloc, ptr) }
     }
 }
+
+// Whoever has the parts by `&` reaches nothing of the value.
+unsafe impl<T: Send, A: Allocator + Send> Send for Parts<T, A> {}
+
+unsafe impl<T: Send, A: Allocator + Send> Sync for Parts<T, A> {}

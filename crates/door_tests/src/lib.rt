@@ -1,5 +1,7 @@
-//! Tests of the bench with all its desks: each call with ample memory, and whole runs to their reports.
+//! Tests of the bench with all its desks, and of the hall where they are taken one by one: each call with ample memory, and whole runs to their reports.
 #![tactic(auto)]
 
+#[cfg(test)]
+mod hall;
 #[cfg(test)]
 mod runs;

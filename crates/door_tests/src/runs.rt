@@ -23,11 +23,11 @@ const SHARED: &[u8] =
 const IN_TURN: &[u8] =
     b"lab 2\ninstrument scale 3\na 1 1/2 add 1 = 1\na 1 2/2 read = 1\nb 1 1/1 set 5 = 5\njob a sessions 1 of 1 withdrawn 0 meals ";
 
-const TWO_BENCHES: &[u8] =
+pub(crate) const TWO_BENCHES: &[u8] =
     b"lab 1\njob a\nsession\nscale add 1\nend\njob b\nsession\nscale add 1\nend\n";
 
 /// What rounds print of it, as `examples/two_benches.out` has it.
-const TWO_BENCHES_REPORT: &[u8] =
+pub(crate) const TWO_BENCHES_REPORT: &[u8] =
     b"lab 1\ninstrument scale 2\na 1 1/1 add 1 = 1\nb 1 1/1 add 1 = 2\njob a sessions 1 of 1 meals 0 retired\njob b sessions 1 of 1 meals 1 retired\nfinished\n";
 
 fn opened(rt: &impl Abort, alloc: Global, script: &[u8]) -> Lab {

@@ -9,14 +9,12 @@ ghost use Rattle.lab_runs.specs.Shared.{RunsInRounds, HasOneRun};
 ghost use Rattle.lab_c.specs.Calls.{Answers};
 
 mod bytes;
-mod kept;
 mod telling;
 
 use bytes::Bytes;
-use kept::Kept;
+use c_tells::{Kept, Told};
 use lab_runs::{run_check, run_replay, run_rounds, run_upgrade};
 use std::alloc::Global;
-pub use telling::Told;
 use telling::tell;
 
 /// Runs a script in rounds, at most `limit` of them, and puts the report into `report`.

@@ -1,59 +1,8 @@
-//! How a call ends: what it leaves in the caller's memory, and its status.
-ghost use Rattle.std.specs.Prelude.{◌≡◌};
-ghost use Rattle.lab_c.specs.Calls.{cause_number, told_of, Tells};
+//! How a run's answer is told.
+ghost use Rattle.lab_c.specs.Calls.{Tells};
 
+use c_tells::{Told, deliver, fail};
 use lab_program::{Outcome, RunFault, status_of};
-use script_reader::ScriptCause;
-
-/// The status where a report has more bytes than there is room for.
-const NO_ROOM: u32 = 6;
-
-/// What a call tells beside its status. In C: `struct lab_told { size_t written; size_t line; uint32_t cause; };`
-#[repr(C)]
-#[derive(Clone, Copy)]
-pub struct Told {
-    /// How many bytes the report has, and 0 where there is none.
-    pub written: usize,
-    /// The line that a fault names, counted from 1, and 0 where none does.
-    pub line: usize,
-    /// Why this line is refused: 1 to 13 for S1 to S13, and 0 for a step that isn't legal or no fault of a line.
-    pub cause: u32,
-}
-
-fn cause_number(cause: ScriptCause) -> u32
-    ensures { result ≡ cause_number cause }
-{
-    match cause {
-        ScriptCause::NoHeader => 1,
-        ScriptCause::UnknownWord => 2,
-        ScriptCause::BadName => 3,
-        ScriptCause::BadNumber => 4,
-        ScriptCause::JobTwice => 5,
-        ScriptCause::NotInSession => 6,
-        ScriptCause::NotInJob => 7,
-        ScriptCause::EmptySession => 8,
-        ScriptCause::SessionNotClosed => 9,
-        ScriptCause::LimitPassed => 10,
-        ScriptCause::TooManyInCommon => 11,
-        ScriptCause::NoMemory => 12,
-        ScriptCause::BadStep => 13,
-    }
-}
-
-fn told_of(fault: RunFault) -> Told
-    ensures { result ≡ told_of fault }
-{
-    let (line, cause) = match fault {
-        RunFault::Script(fault) => (fault.line, cause_number(fault.cause)),
-        RunFault::Step { line } => (line, 0),
-        _ => (0, 0),
-    };
-    Told {
-        written: 0,
-        line,
-        cause,
-    }
-}
 
 /// Puts the text of a run that wrote one into the room and says how long it is; else tells the fault.
 pub(crate) fn tell(
@@ -64,23 +13,10 @@ pub(crate) fn tell(
 ) -> u32
     ensures { Tells answer text.now room.old room.new told.new result }
 {
-    let fault = match answer {
-        Ok(_) => {
-            *told = Told {
-                written: text.len(),
-                line: 0,
-                cause: 0,
-            };
-            if room.len() < text.len() {
-                return NO_ROOM;
-            }
-            room[..text.len()].copy_from_slice(text);
-            return u32::from(status_of(&answer));
-        }
+    match answer {
+        Ok(_) => deliver(u32::from(status_of(&answer)), text, room, told),
         // Writes fail only if an allocation fails.
-        Err(RunFault::Write) => RunFault::NoMemory,
-        Err(fault) => fault,
-    };
-    *told = told_of(fault);
-    u32::from(status_of(&Err(fault)))
+        Err(RunFault::Write) => fail(RunFault::NoMemory, told),
+        Err(fault) => fail(fault, told),
+    }
 }

@@ -1,6 +1,6 @@
 use Rattle.std.proofs.Common.{◌≡◌, ◌⊎◌, inl, refl, sym, subst, ap, ◌∙◌, Some}
 use Rattle.bench_c.specs.Calls.{Opens}
-use Rattle.bench_c.proofs.Steps.{vacant_of}
+use Rattle.box_parts.proofs.Slots.{vacant_of}
 use Rattle.bench_c.proofs.lab_bench_open.Goals as goal
 
 pub returns-in-Ok-new : goal.returns-in-Ok-new

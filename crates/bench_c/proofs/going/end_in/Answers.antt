@@ -1,6 +1,6 @@
 use Rattle.std.proofs.Common.{◌≡◌, ◌⊎◌, inl, inr, refl, sym, subst}
 use Rattle.bench_c.specs.Calls.{InHeld, LetsGo}
-use Rattle.bench_c.specs.declared.slot.Held.TheVariants.{Open}
+use Rattle.bench_calls.specs.declared.ending.Held.TheVariants.{Open}
 use Rattle.bench_c.proofs.going.end_in.Goals as goal
 
 pub returns-in-Some : goal.returns-in-Some

@@ -1,7 +1,7 @@
 use Rattle.std.proofs.Common.{◌≡◌, ◌⊎◌, inl, inr, refl, sym, subst}
 use Rattle.desk_user.specs.Serving.{Served}
 use Rattle.bench_c.specs.Calls.{InHeld, Drives}
-use Rattle.bench_c.specs.declared.slot.Held.TheVariants.{Open}
+use Rattle.bench_calls.specs.declared.ending.Held.TheVariants.{Open}
 use Rattle.bench_c.proofs.inside.serve_in.Goals as goal
 
 pub returns-in-Some : goal.returns-in-Some

@@ -19,10 +19,10 @@ use denote.Triple.Entry.{alive}
 use denote.Triple.Walked.{Stays, stay_dropped, walk_of}
 use Rattle.core.proofs.alloc.Calls.{Goes-blank}
 use Rattle.std.proofs.raw_atomic.Walks.{proved_at, leaves}
-use Rattle.bench_c.proofs.Steps.{slot_at, slot_val, slot_told, slot_typed, ptr_typed, parts_val, parts_own, parts_made, parts_typed, heap_val, heap_told, held_of}
-use Rattle.bench_c.specs.Owned.{slot_owns, holds}
-use Rattle.bench_c.specs.declared.slot.Held.{Held}
-use Rattle.bench_c.specs.contracts.slot.Held.{the_row}
+use Rattle.box_parts.proofs.Slots.{slot_at, slot_val, slot_told, slot_typed, ptr_typed, parts_val, parts_own, parts_made, parts_typed, heap_val, heap_told, held_of}
+use Rattle.box_parts.specs.Owned.{slot_owns, holds}
+use Rattle.bench_calls.specs.declared.ending.Held.{Held}
+use Rattle.bench_calls.specs.contracts.ending.Held.{the_row}
 use Rattle.bench_c.specs.contracts.slot.Slot.into_parts.{ended, clauses}
 use Rattle.bench_c.specs.contracts.slot.Slot.into_parts.Key.{name as #self}
 use Rattle.bench_c.proofs.slot.Slot.into_parts.Statement.{statement}

@@ -19,7 +19,7 @@ use denote.Triple.Entry.{alive}
 use denote.Triple.Walked.{Stays, stay_dropped, walk_of}
 use Rattle.core.proofs.alloc.Calls.{Goes-blank}
 use Rattle.std.proofs.raw_atomic.Walks.{proved_at, leaves}
-use Rattle.bench_c.proofs.Steps.{slot_at, slot_val, slot_own, slot_made, slot_typed, ptr_typed, parts_typed}
+use Rattle.box_parts.proofs.Slots.{slot_at, slot_val, slot_own, slot_made, slot_typed, ptr_typed, parts_typed}
 use Rattle.bench_c.specs.contracts.slot.Slot.of.{ended, clauses}
 use Rattle.bench_c.specs.contracts.slot.Slot.of.Key.{name as #self}
 use Rattle.bench_c.proofs.slot.Slot.of.Statement.{statement}

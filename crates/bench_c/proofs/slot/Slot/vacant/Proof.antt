@@ -18,8 +18,8 @@ use denote.Steps.{nothing}
 use denote.Triple.Entry.{alive}
 use denote.Triple.Walked.{Stays, walk_of}
 use Rattle.std.proofs.raw_atomic.Walks.{proved_at, leaves}
-use Rattle.bench_c.proofs.Steps.{slot_val, slot_own, slot_made, slot_typed}
-use Rattle.bench_c.specs.declared.slot.Held.{Held}
+use Rattle.box_parts.proofs.Slots.{slot_val, slot_own, slot_made, slot_typed}
+use Rattle.bench_calls.specs.declared.ending.Held.{Held}
 use Rattle.bench_c.specs.contracts.slot.Slot.vacant.{ended, clauses}
 use Rattle.bench_c.specs.contracts.slot.Slot.vacant.Key.{name as #self}
 use Rattle.bench_c.proofs.slot.Slot.vacant.Statement.{statement}

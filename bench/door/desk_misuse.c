@@ -1,0 +1,228 @@
+/* desk_misuse.c: each status and each misuse of a bench with a desk for each thread that a call can tell. At each of them nothing
+   changes: the handles, how far each job is, and what the caller's structs held.
+   cc -I include bench/door/desk_misuse.c FOLDER/liblabrun.a */
+#include "tests.h"
+
+#define POISON 0xa5
+
+static const char two[] = "lab 2\njob a\nsession\nscale add 1\nlamp set 7\nscale read\nend\nsession\nlamp read\nend\n"
+                          "job b\nsession patience 3\nscale add 2\nend\njob c\n";
+
+static struct lab_shared shared;
+static struct lab_desk desks[3], none;
+
+static union {
+    uint8_t bytes[512];
+    struct lab_told told;
+    struct lab_size size;
+    struct lab_turned turned;
+    struct lab_state state;
+    struct lab_entry entry;
+} out;
+
+static int untouched(void) {
+    for (size_t at = 0; at < sizeof out.bytes; at++)
+        if (out.bytes[at] != POISON) return 0;
+    return 1;
+}
+
+struct all {
+    uint32_t live[5], status[3];
+    struct lab_state states[3];
+};
+
+static struct all all_of_it(void) {
+    struct all all;
+    memset(&all, 0, sizeof all);
+    all.live[0] = shared.live;
+    all.live[1] = none.live;
+    for (int job = 0; job < 3; job++) {
+        all.live[2 + job] = desks[job].live;
+        all.status[job] = lab_desk_state(&desks[job], &all.states[job]);
+    }
+    return all;
+}
+
+/* A call that has to answer `wanted` and to change and to tell nothing. */
+#define REFUSED(wanted, call)                                                                                      \
+    do {                                                                                                           \
+        struct all before = all_of_it();                                                                           \
+        memset(out.bytes, POISON, sizeof out.bytes);                                                               \
+        uint32_t got = (call);                                                                                     \
+        int told = !untouched();                                                                                   \
+        struct all after = all_of_it();                                                                            \
+        expect(got == (wanted) && !told && memcmp(&before, &after, sizeof before) == 0, "line %d: %s: status %u, wanted %u%s", __LINE__, \
+               #call, got, (unsigned)(wanted), told ? ", and something was told" : "");                            \
+    } while (0)
+
+#define IS(what) expect((what), "line %d: %s", __LINE__, #what)
+
+static uint8_t report[4096], as_it_was[4096];
+
+static uint32_t open_two(struct lab_shared *at) { return lab_shared_open((const uint8_t *)two, sizeof two - 1, at, &out.told); }
+
+/* Every call on a desk that isn't there. */
+static void no_desk(struct lab_desk *desk) {
+    REFUSED(LAB_NOT_OPEN, lab_desk_state(desk, &out.state));
+    REFUSED(LAB_NOT_OPEN, lab_desk_turn(desk, &out.turned));
+    REFUSED(LAB_NOT_OPEN, lab_desk_serve(desk, &out.turned));
+    REFUSED(LAB_NOT_OPEN, lab_desk_begin(desk, 5, &out.turned));
+    REFUSED(LAB_NOT_OPEN, lab_desk_end(desk, &out.turned));
+    REFUSED(LAB_NOT_OPEN, lab_desk_command(desk, &out.entry));
+    REFUSED(LAB_NOT_OPEN, lab_desk_withdraw(desk));
+    REFUSED(LAB_NOT_OPEN, lab_desk_retire(desk, 5, &out.turned));
+    REFUSED(LAB_NOT_OPEN, lab_give_desk(desk));
+}
+
+/* Every call on a bench that isn't open. */
+static void no_bench(int is_closed) {
+    REFUSED(LAB_NOT_OPEN, lab_shared_size(&shared, &out.size));
+    REFUSED(LAB_NOT_OPEN, lab_take_desk(&shared, 0, &none));
+    REFUSED(LAB_NOT_OPEN, lab_take_desk(&shared, 99, &none));
+    if (!is_closed) REFUSED(LAB_NOT_OPEN, lab_shared_close(&shared, report, sizeof report, &out.told));
+}
+
+static void faults(void) {
+    struct lab_told told = {77, 77, 77};
+    static const char unknown[] = "lab 1\nfly\n";
+    IS(lab_shared_open((const uint8_t *)unknown, sizeof unknown - 1, &shared, &told) == LAB_REFUSED);
+    IS(told.line == 2 && told.cause == 2 && told.written == 0 && shared.live == 0);
+    uint8_t *long_one = malloc(16777217);
+    if (!long_one) exit(70);
+    memset(long_one, ' ', 16777217);
+    IS(lab_shared_open(long_one, 16777217, &shared, &told) == LAB_TOO_LONG && told.line == 0 && shared.live == 0);
+    free(long_one);
+}
+
+static void taking(void) {
+    IS(open_two(&shared) == LAB_DONE && shared.live == 1);
+    REFUSED(LAB_NOT_OPEN, open_two(&shared));
+    IS(lab_shared_size(&shared, &out.size) == LAB_DONE && out.size.jobs == 3 && out.size.instruments == 2);
+    no_desk(&none);
+    REFUSED(LAB_NOT_THERE, lab_take_desk(&shared, 3, &none));
+    REFUSED(LAB_NOT_THERE, lab_take_desk(&shared, 0xffffffffu, &none));
+    for (uint32_t job = 0; job < 3; job++) {
+        IS(lab_take_desk(&shared, job, &desks[job]) == LAB_DONE && desks[job].live == 1);
+        REFUSED(LAB_NOT_YET, lab_take_desk(&shared, job, &none));
+        REFUSED(LAB_NOT_OPEN, lab_take_desk(&shared, job, &desks[0]));
+        REFUSED(LAB_NOT_YET, lab_shared_close(&shared, report, sizeof report, &out.told));
+    }
+    IS(lab_give_desk(&desks[1]) == LAB_DONE && desks[1].live == 0);
+    no_desk(&desks[1]);
+    REFUSED(LAB_NOT_YET, lab_shared_close(&shared, report, sizeof report, &out.told));
+    IS(lab_take_desk(&shared, 1, &desks[1]) == LAB_DONE);
+}
+
+/* The statuses of the calls on a desk, at one desk after another. */
+static void driving(void) {
+    struct lab_turned turned;
+    struct lab_state state;
+    struct lab_entry entry;
+    REFUSED(LAB_NOT_YET, lab_desk_command(&desks[0], &out.entry));
+    REFUSED(LAB_NOT_YET, lab_desk_end(&desks[0], &out.turned));
+    REFUSED(LAB_NOT_YET, lab_desk_withdraw(&desks[0]));
+    IS(lab_desk_begin(&desks[0], 0, &turned) == LAB_NOT_YET && turned.what == 0 && turned.count == 0);
+    IS(lab_desk_retire(&desks[0], 9, &turned) == LAB_NOT_YET);
+    /* b is thirsty once it asked, and gives its session up */
+    IS(lab_desk_turn(&desks[1], &turned) == LAB_DONE && turned.what == 2);
+    IS(lab_desk_state(&desks[1], &state) == LAB_DONE && state.session == 1 && state.sessions == 1 && state.turns == 1);
+    if (state.drinking == 1) {
+        IS(lab_desk_withdraw(&desks[1]) == LAB_DONE);
+        REFUSED(LAB_NOT_YET, lab_desk_withdraw(&desks[1]));
+    }
+    /* a begins, with b's and c's desks served between */
+    uint32_t status = LAB_NOT_YET;
+    for (int pass = 0; pass < 100 && status == LAB_NOT_YET; pass++) {
+        status = lab_desk_begin(&desks[0], 10, &turned);
+        IS(lab_desk_serve(&desks[1], &turned) == LAB_DONE && lab_desk_serve(&desks[2], &turned) == LAB_DONE);
+    }
+    IS(status == LAB_DONE);
+    IS(lab_desk_begin(&desks[0], 10, &turned) == LAB_DONE && turned.what == 0);
+    IS(lab_desk_state(&desks[0], &state) == LAB_DONE && state.drinking == 2 && state.session == 1 && state.sessions == 2);
+    REFUSED(LAB_NOT_YET, lab_desk_withdraw(&desks[0]));
+    IS(lab_desk_command(&desks[0], &entry) == LAB_DONE && entry.session == 1 && entry.place == 1 && entry.length == 2 && entry.verb == 1
+       && entry.number == 1 && entry.value == 1);
+    /* it goes on at the same place when another took its desk */
+    IS(lab_give_desk(&desks[0]) == LAB_DONE && lab_take_desk(&shared, 0, &desks[0]) == LAB_DONE);
+    IS(lab_desk_state(&desks[0], &state) == LAB_DONE && state.drinking == 2 && state.position == 1);
+    IS(lab_desk_command(&desks[0], &entry) == LAB_DONE && entry.verb == 0 && entry.number == 7 && entry.value == 7);
+    IS(lab_desk_end(&desks[0], &turned) == LAB_DONE && turned.what == 2);
+    REFUSED(LAB_NOT_YET, lab_desk_end(&desks[0], &out.turned));
+    /* c has no session */
+    IS(lab_desk_begin(&desks[2], 10, &turned) == LAB_NO_SESSION);
+    IS(lab_desk_retire(&desks[2], 10, &turned) == LAB_DONE);
+    IS(lab_desk_begin(&desks[2], 10, &turned) == LAB_NO_SESSION && turned.what == 0);
+}
+
+static void closing(void) {
+    memcpy(report, as_it_was, sizeof report);
+    for (int job = 0; job < 3; job++) {
+        REFUSED(LAB_NOT_YET, lab_shared_close(&shared, report, sizeof report, &out.told));
+        IS(lab_give_desk(&desks[job]) == LAB_DONE);
+    }
+    struct lab_told told;
+    IS(lab_shared_close(&shared, report, 0, &told) == LAB_NO_ROOM && memcmp(report, as_it_was, sizeof report) == 0);
+    size_t length = told.written;
+    IS(length > 0 && length < sizeof report);
+    IS(lab_shared_close(&shared, report, length - 1, &told) == LAB_NO_ROOM && told.written == length && memcmp(report, as_it_was, sizeof report) == 0);
+    no_bench(1);
+    REFUSED(LAB_NOT_OPEN, open_two(&shared));
+    IS(lab_shared_close(&shared, report, sizeof report, &told) == LAB_UNFINISHED && told.written == length && told.line == 0);
+    static const char starts[] = "lab 2\ninstrument scale ", holds[] = "\na 1 1/2 add 1 = 1\na 1 2/2 read = 1\n", lamp[] = "\na 1 1/1 set 7 = 7\n";
+    report[length] = 0;
+    IS(memcmp(report, starts, sizeof starts - 1) == 0);
+    IS(strstr((char *)report, holds) && strstr((char *)report, lamp) && strstr((char *)report, "unfinished"));
+    IS(lab_shared_close(&shared, report, length, &told) == LAB_UNFINISHED && told.written == length);
+    lab_shared_free(&shared);
+    IS(shared.live == 0);
+    no_bench(0);
+    lab_shared_free(&shared);
+    IS(shared.live == 0);
+}
+
+/* A bench that is freed while its desks are out: they go on, and give back what it had. */
+static void freed_with_desks_out(void) {
+    struct lab_turned turned;
+    IS(open_two(&shared) == LAB_DONE);
+    for (uint32_t job = 0; job < 3; job++) IS(lab_take_desk(&shared, job, &desks[job]) == LAB_DONE);
+    lab_shared_free(&shared);
+    no_bench(0);
+    for (uint32_t job = 0; job < 3; job++) IS(lab_desk_turn(&desks[job], &turned) == LAB_DONE);
+    for (uint32_t job = 0; job < 3; job++) IS(lab_give_desk(&desks[job]) == LAB_DONE);
+}
+
+/* Two benches at once: a desk goes back to its own. */
+static void two_benches(void) {
+    struct lab_shared other = {0};
+    struct lab_desk desk = {0};
+    struct lab_turned turned;
+    struct lab_state state;
+    struct lab_told told;
+    IS(open_two(&shared) == LAB_DONE && open_two(&other) == LAB_DONE);
+    IS(lab_take_desk(&shared, 0, &desks[0]) == LAB_DONE && lab_take_desk(&other, 0, &desk) == LAB_DONE);
+    IS(lab_desk_turn(&desk, &turned) == LAB_DONE && turned.what == 2);
+    IS(lab_give_desk(&desk) == LAB_DONE && lab_give_desk(&desks[0]) == LAB_DONE);
+    IS(lab_take_desk(&shared, 0, &desk) == LAB_DONE && lab_desk_state(&desk, &state) == LAB_DONE && state.turns == 0);
+    IS(lab_take_desk(&other, 0, &desks[0]) == LAB_DONE && lab_desk_state(&desks[0], &state) == LAB_DONE && state.turns == 1);
+    IS(lab_shared_close(&shared, report, sizeof report, &told) == LAB_NOT_YET);
+    IS(lab_give_desk(&desk) == LAB_DONE && lab_shared_close(&shared, report, sizeof report, &told) == LAB_UNFINISHED);
+    IS(lab_shared_close(&other, report, sizeof report, &told) == LAB_NOT_YET);
+    IS(lab_give_desk(&desks[0]) == LAB_DONE && lab_shared_close(&other, report, sizeof report, &told) == LAB_UNFINISHED);
+    lab_shared_free(&shared);
+    lab_shared_free(&other);
+}
+
+int main(void) {
+    memset(as_it_was, 0xaa, sizeof as_it_was);
+    memcpy(report, as_it_was, sizeof report);
+    no_bench(0);
+    no_desk(&none);
+    faults();
+    no_bench(0);
+    taking();
+    driving();
+    closing();
+    freed_with_desks_out();
+    two_benches();
+    return summary();
+}

@@ -1,0 +1,99 @@
+-- For readers: what is told of a turn, a session, a job and an entry, number by number.
+use Rattle.std.specs.Prelude.{◌≡◌, ℕ, Option, Some, None}
+use Rattle.instrument_log.specs.declared.entry.Entry.{Entry}
+use Rattle.lab_plan.specs.declared.verb.Verb.{Verb}
+use Rattle.lab_plan.specs.declared.verb.Verb.TheVariants.{Set, Add, Read as Reads}
+use Rattle.legal_steps.specs.declared.phase.Dining.{Dining}
+use Rattle.legal_steps.specs.declared.phase.Dining.TheVariants as dines
+use Rattle.legal_steps.specs.declared.phase.Drinking.{Drinking}
+use Rattle.legal_steps.specs.declared.phase.Drinking.TheVariants as drinks
+use Rattle.session_layer.specs.declared.turning.Turned.{Turned}
+use Rattle.session_layer.specs.declared.turning.Turned.TheVariants.{Acted, Moved, Idle}
+use Rattle.bench_door.specs.declared.going.Aim.{Aim}
+use Rattle.bench_door.specs.declared.going.Aim.TheVariants.{Hold, Retire}
+use Rattle.bench_door.specs.declared.going.Stage.{Stage}
+use Rattle.bench_door.specs.declared.going.Stage.TheVariants.{There, OnTheWay, Barred}
+use Rattle.bench_door.specs.declared.going.Ended.{Ended}
+use Rattle.bench_door.specs.declared.going.Ended.TheVariants.{NotHeld, LetGo, StillHeld}
+use Rattle.bench_door.specs.declared.readers.SessionFacts.{SessionFacts}
+use Rattle.bench_door.specs.declared.readers.Standing.{Standing}
+use Rattle.bench_door.specs.declared.planned.Planned.{Planned}
+use Rattle.bench_calls.specs.declared.told.LabTurned.{LabTurned}
+use Rattle.bench_calls.specs.declared.told.LabSession.{LabSession}
+use Rattle.bench_calls.specs.declared.told.LabState.{LabState}
+use Rattle.bench_calls.specs.declared.told.LabEntry.{LabEntry}
+use Rattle.bench_calls.specs.declared.told.LabPlanned.{LabPlanned}
+
+abbrev pub turned_of : Turned → LabTurned
+turned_of (Acted n) = record { what = 2; count = n }
+turned_of Moved = record { what = 1; count = 0 }
+turned_of Idle = record { what = 0; count = 0 }
+
+-- a job that was to hold and has no session left is told apart (9)
+abbrev pub stage_status : Aim → Stage → ℕ
+stage_status aim There = 0
+stage_status aim OnTheWay = 8
+stage_status Hold Barred = 9
+stage_status Retire Barred = 8
+
+-- it let go (0); or it still holds, or it never held and nothing is told (8)
+abbrev pub TellsEnded : Ended → LabTurned → LabTurned → ℕ → Type 0
+TellsEnded (LetGo r) told told' status = (status ≡ 0) × (told' ≡ turned_of r)
+TellsEnded (StillHeld r) told told' status = (status ≡ 8) × (told' ≡ turned_of r)
+TellsEnded NotHeld told told' status = (status ≡ 8) × (told' ≡ told)
+
+abbrev pub turns_of : Option ℕ → ℕ × ℕ
+turns_of (Some turns) = (turns, 1)
+turns_of None = (0, 0)
+
+abbrev pub session_of : SessionFacts → LabSession
+session_of s = record { needs = s.needs; commands = s.commands; patience = (turns_of s.patience).0; has_patience = (turns_of s.patience).1 }
+
+abbrev pub dining_number : Dining → ℕ
+dining_number dines.Thinking = 0
+dining_number dines.Hungry = 1
+dining_number dines.Eating = 2
+
+abbrev pub drinking_number : Drinking → ℕ
+drinking_number drinks.Tranquil = 0
+drinking_number drinks.Thirsty = 1
+drinking_number drinks.Drinking = 2
+drinking_number drinks.Reaching = 3
+drinking_number drinks.Retired = 4
+
+abbrev pub state_of : Standing → LabState
+state_of s = record {
+  turns = s.turns;
+  dining = dining_number s.phase.dining;
+  drinking = drinking_number s.phase.drinking;
+  session = s.phase.session;
+  sessions = s.sessions;
+  position = s.phase.position;
+  sessions_done = s.counts.sessions_done;
+  withdrawn = s.counts.withdrawn;
+  meals = s.counts.meals;
+  waited = s.waited;
+}
+
+abbrev pub verb_numbers : Verb → ℕ × ℕ
+verb_numbers (Set n) = (0, n)
+verb_numbers (Add n) = (1, n)
+verb_numbers Reads = (2, 0)
+
+abbrev pub entry_of : Entry → LabEntry
+entry_of e = record {
+  session = e.session;
+  place = e.place;
+  length = e.length;
+  verb = (verb_numbers e.verb).0;
+  number = (verb_numbers e.verb).1;
+  value = e.value;
+}
+
+-- the entry is told (0), or there is none, and nothing is told (8)
+abbrev pub TellsEntry : Option Entry → LabEntry → LabEntry → ℕ → Type 0
+TellsEntry (Some entry) told told' status = (status ≡ 0) × (told' ≡ entry_of entry)
+TellsEntry None told told' status = (status ≡ 8) × (told' ≡ told)
+
+abbrev pub planned_of : Planned → LabPlanned
+planned_of c = record { instrument = c.instrument; verb = (verb_numbers c.verb).0; number = (verb_numbers c.verb).1 }

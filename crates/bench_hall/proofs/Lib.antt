@@ -1,0 +1,2 @@
+mod Eaches
+mod OneMore

@@ -1,0 +1,7 @@
+-- so many turns so far, and before each of them the job was on its way
+use Rattle.desk_user.specs.Use.{Keeps}
+use Rattle.bench_hall.specs.Seats.{TurnsGoing}
+use Rattle.bench_hall.proofs.alone.go_alone.Given as goal
+
+abbrev pub invariant-loop-number : goal.invariant-loop-number
+invariant-loop-number l = TurnsGoing l.aim l._number l.fn.desk l.sum l.desk × Keeps l.bench l.fn.desk l.desk

@@ -1,0 +1,188 @@
+//! The hall: a bench, and a place for each of its desks.
+ghost use Rattle.std.specs.Prelude.{◌≡◌, ◌≤◌, [], IfOk, IfErr, IfSome, length, vec_capacity};
+ghost use Rattle.std.specs.Arc.{arc_value};
+ghost use Rattle.std.proofs.Props.{props};
+ghost use Rattle.locality.specs.Lists.{Each};
+ghost use Rattle.edge_rule.specs.DeskView.{Owns};
+ghost use Rattle.script_reader.specs.Script.{ScriptMeans};
+ghost use Rattle.bench_door.specs.Doors.{IsWhyNot};
+ghost use Rattle.bench_door.specs.Own.{each_prop};
+
+use crate::place::{Place, desk_in, place_with, put_back, take_out};
+use bench_door::Lab;
+use edge_rule::{Bench, Desk};
+use lab_program::RunFault;
+use std::alloc::Global;
+use std::sync::Arc;
+
+/// A job's place.
+#[derive(Drop)]
+pub struct Spot {
+    job: u32,
+    place: Place,
+    ghost tied: { place.value.job ≡ job },
+}
+
+/// A bench and its places, which threads share.
+#[derive(Drop)]
+pub struct Hall {
+    pub bench: Bench<'static, Global>,
+    // The last job's first.
+    spots: Vec<Spot, Global>,
+    ghost own: { Each (λ s. Owns bench s.place.value) spots.items } by { each_prop (λ s. Owns bench s.place.value) (λ s. Prim.hlevel props) spots.items },
+}
+
+fn spot_with(desk: Box<Desk<Global>, Global>) -> Spot
+    ensures { result.place.value ≡ desk.value }
+{
+    Spot {
+        job: u32::from(desk.job().0),
+        place: place_with(desk),
+    }
+}
+
+// A place for each desk, the last desk's first.
+#[tactic(auto, using(crate::proofs::Eaches::each_more, crate::proofs::Eaches::each_front, crate::proofs::Eaches::each_last))]
+fn spots_with(
+    alloc: Global,
+    bench: &Bench<'static, Global>,
+    mut desks: Vec<Desk<Global>, Global>,
+) -> Option<Vec<Spot, Global>>
+    requires own { Each (λ d. Owns bench.now d) desks.items }
+    ensures { IfSome result (λ spots. Each (λ s. Owns bench.now s.place.value) spots.items) }
+{
+    let mut spots = Vec::new(alloc);
+    while let Some(desk) = desks.pop() {
+        let Ok(desk) = Box::new(alloc, desk) else {
+            return None;
+        };
+        if spots.push(spot_with(desk)).is_err() {
+            return None;
+        }
+    }
+    Some(spots)
+}
+
+// Takes the desks out of their places. There is room for all of them.
+#[tactic(auto, using(crate::proofs::Eaches::each_more, crate::proofs::Eaches::each_front, crate::proofs::Eaches::each_last))]
+fn gathered(
+    bench: &Bench<'static, Global>,
+    mut spots: Vec<Spot, Global>,
+    mut desks: Vec<Desk<Global>, Global>,
+) -> Vec<Desk<Global>, Global>
+    requires own { Each (λ s. Owns bench.now s.place.value) spots.items }
+    requires none { desks.items ≡ [] }
+    requires room { length spots.items ≤ vec_capacity desks }
+    ensures { Each (λ d. Owns bench.now d) result.items }
+{
+    while let Some(spot) = spots.pop() {
+        let Spot { job: _, place } = spot;
+        if let Some(desk) = desk_in(place) {
+            let Ok(()) = desks.push(desk) else {
+                unreachable!()
+            };
+        }
+    }
+    desks
+}
+
+impl Hall {
+    /// A hall of a lab, with each desk at its place.
+    pub fn of(alloc: Global, lab: Lab) -> Option<Hall>
+        ensures { IfSome result (λ hall. hall.bench ≡ lab.bench) }
+    {
+        let Lab { bench, desks } = lab;
+        match spots_with(alloc, &bench, desks) {
+            Some(spots) => Some(Hall { bench, spots }),
+            None => None,
+        }
+    }
+
+    /// A hall for the plan of a script. The plan's memory is never given back.
+    pub fn open(alloc: Global, script: &[u8]) -> Result<Arc<Hall, Global>, RunFault>
+        ensures opened { IfOk result (λ h. (length script.now ≤ 16777216) × ScriptMeans script.now (arc_value h).bench.plan) }
+        ensures refused { IfErr result (λ fault. IsWhyNot script.now fault) }
+    {
+        let lab = Lab::open(alloc, script)?;
+        let Some(hall) = Hall::of(alloc, lab) else {
+            return Err(RunFault::NoMemory);
+        };
+        match Arc::new(alloc, hall) {
+            Ok(hall) => Ok(hall),
+            Err(_) => Err(RunFault::NoMemory),
+        }
+    }
+
+    fn spot(&self, job: u32) -> Option<&Spot>
+        ensures { IfSome result (λ s. Owns self.now.bench s.now.place.value × (s.now.job ≡ job)) }
+    {
+        let place = self.spots.len().checked_sub(job as usize + 1)?;
+        let spot = self.spots.get(place)?;
+        if spot.job == job { Some(spot) } else { None }
+    }
+
+    /// Takes a job's desk out of its place, if it is there.
+    pub(crate) fn take(&self, job: u32) -> Option<Box<Desk<Global>, Global>>
+        ensures { IfSome result (λ d. Owns self.now.bench d.value × (d.value.job ≡ job)) }
+    {
+        match self.spot(job) {
+            Some(spot) => take_out(&spot.place),
+            None => None,
+        }
+    }
+
+    /// Puts a desk back into its place; or answers it, if the place has one.
+    pub(crate) fn give(
+        &self,
+        desk: Box<Desk<Global>, Global>,
+    ) -> Result<(), Box<Desk<Global>, Global>>
+        requires own { Owns self.now.bench desk.value }
+        ensures { IfErr result (λ d. d ≡ desk) }
+    {
+        match self.spot(u32::from(desk.job().0)) {
+            Some(spot) => put_back(&spot.place, desk),
+            None => Err(desk),
+        }
+    }
+
+    /// The lab of a hall that nobody else has, with those desks that are at their places: all, if each that was taken was given back. Otherwise, and if
+    /// memory is refused, the hall comes back.
+    pub fn into_lab(hall: Arc<Hall, Global>, alloc: Global) -> Result<Lab, Stays>
+        ensures lab { IfOk result (λ lab. lab.bench ≡ (arc_value hall).bench) }
+        ensures stays { IfErr result (λ s. s.hall ≡ hall) }
+    {
+        let Ok(desks) = Vec::with_capacity(alloc, hall.spots.len()) else {
+            return Err(Stays {
+                why: WhyOpen::NoMemory,
+                hall,
+            });
+        };
+        match Arc::try_unwrap(hall) {
+            Ok(whole) => {
+                let Hall { bench, spots } = whole;
+                let desks = gathered(&bench, spots, desks);
+                Ok(Lab { bench, desks })
+            }
+            Err(hall) => Err(Stays {
+                why: WhyOpen::DesksOut,
+                hall,
+            }),
+        }
+    }
+}
+
+/// Why a hall isn't taken apart.
+#[derive(Clone, Copy, PartialEq, Eq, Debug)]
+pub enum WhyOpen {
+    /// A desk is out.
+    DesksOut,
+    /// There is no memory.
+    NoMemory,
+}
+
+/// A hall that isn't taken apart.
+#[derive(Drop)]
+pub struct Stays {
+    pub why: WhyOpen,
+    pub hall: Arc<Hall, Global>,
+}

@@ -1,0 +1,155 @@
+-- For readers: what each call leaves in the handles and in the caller's memory, and its status.
+use Rattle.std.specs.Prelude.{◌≡◌, ◌⊎◌, ◌↔◌, ℕ, ◌≤◌, Bool, if◌then◌else◌, List, length, Option, Some, None, Err}
+use Rattle.std.specs.Arc.{arc_value}
+use Rattle.std.specs.declared.sync.Arc.{Arc}
+use Rattle.std_heap.specs.declared.Global.{Global}
+use Rattle.instrument_log.specs.declared.entry.Entry.{Entry}
+use Rattle.edge_rule.specs.DeskView.{DeskView}
+use Rattle.session_layer.specs.declared.turning.Turned.{Turned}
+use Rattle.script_reader.specs.Script.{ScriptMeans}
+use Rattle.lab_program.specs.declared.faults.RunFault.{RunFault}
+use Rattle.lab_program.specs.Faults.{status_of}
+use Rattle.bench_door.specs.declared.lab.Lab.{Lab}
+use Rattle.bench_door.specs.declared.going.Aim.{Aim}
+use Rattle.bench_door.specs.declared.going.Stage.{Stage}
+use Rattle.bench_door.specs.declared.going.Ended.{Ended as HowItEnded}
+use Rattle.bench_door.specs.Going.{EndsSession}
+use Rattle.bench_door.specs.Doors.{IsWhyNot, Withdraws, Reaches, standing_of}
+use Rattle.bench_hall.specs.declared.hall.Hall.{Hall}
+use Rattle.bench_hall.specs.declared.seated.Seated.{Seated}
+use Rattle.bench_hall.specs.declared.seat.NotTaken.{NotTaken}
+use Rattle.bench_hall.specs.declared.seat.NotTaken.TheVariants.{NoJob, Out, NoMemory}
+use Rattle.bench_hall.specs.Seats.{Stays, GoesAlone}
+use Rattle.c_tells.specs.declared.telling.Told.{Told}
+use Rattle.c_tells.specs.Telling.{told_of}
+use Rattle.bench_calls.specs.declared.ending.Held.{Held}
+use Rattle.bench_calls.specs.declared.ending.Held.TheVariants.{Open as AtWork}
+use Rattle.bench_calls.specs.declared.told.LabTurned.{LabTurned}
+use Rattle.bench_calls.specs.declared.told.LabSize.{LabSize}
+use Rattle.bench_calls.specs.declared.told.LabState.{LabState}
+use Rattle.bench_calls.specs.declared.told.LabEntry.{LabEntry}
+use Rattle.bench_calls.specs.Telling.{turned_of, state_of, stage_status, TellsEnded, TellsEntry}
+use Rattle.bench_calls.specs.Closing.{ClosesHeld, NoRoomYet}
+use Rattle.desk_c.specs.declared.slot.Shared.{Shared}
+use Rattle.desk_c.specs.declared.slot.Shared.TheVariants.{Open, Seat, Closing, Moved as Gone}
+
+-- what was taken out of a handle
+abbrev pub IsHeld : {B : Type 0} → (B → Shared) → Option B → Option Shared → Type 0
+IsHeld value (Some b) held = held ≡ Some (value b)
+IsHeld value None held = held ≡ None
+
+-- a bench that threads share
+abbrev pub Bench : Type 0
+Bench = Arc Hall Global
+
+-- ---- opening
+
+-- an empty handle has a bench of the plan that the script means now (0), or none was opened, the handle is as it was and the fault is told; or the handle is in use, and nothing changed (7)
+abbrev pub Opens : List ℕ → Option Shared → Option Shared → Told → Told → ℕ → Type 0
+Opens script (Some held) new told told' status = (status ≡ 7) × (new ≡ Some held) × (told' ≡ told)
+Opens script None new told told' status =
+    ((status ≡ 0) × (a : Bench) × (new ≡ Some (Open a)) × ScriptMeans script (arc_value a).bench.plan × (told' ≡ told))
+    ⊎ ((fault : RunFault) × IsWhyNot script fault × (status ≡ status_of (Err fault)) × (new ≡ None) × (told' ≡ told_of fault))
+
+-- what is so of the open bench is told (0); or there is none, and nothing changed (7)
+abbrev pub InBench : {T : Type 0} → (Bench → T → T → ℕ → Type 0) → Shared → T → T → ℕ → Type 0
+InBench Did (Open a) told told' status = Did a told told' status
+InBench Did (Seat s) told told' status = (status ≡ 7) × (told' ≡ told)
+InBench Did (Closing h) told told' status = (status ≡ 7) × (told' ≡ told)
+InBench Did Gone told told' status = (status ≡ 7) × (told' ≡ told)
+
+abbrev pub OfBench : {T : Type 0} → (Bench → T → T → ℕ → Type 0) → Option Shared → Option Shared → T → T → ℕ → Type 0
+OfBench Did (Some old) new told told' status = (new ≡ Some old) × InBench Did old told told' status
+OfBench Did None new told told' status = (status ≡ 7) × (new ≡ None) × (told' ≡ told)
+
+abbrev pub TellsSize : Bench → LabSize → LabSize → ℕ → Type 0
+TellsSize a told told' status =
+    (status ≡ 0) × (told' ≡ record { jobs = length (arc_value a).bench.plan.jobs; instruments = length (arc_value a).bench.plan.instruments })
+
+-- ---- taking a desk, and giving it back
+
+-- the desk that was taken is of this open bench, and of this job
+abbrev pub IsSeatIn : Shared → ℕ → Seated → Type 0
+IsSeatIn (Open a) job s = (arc_value s.hall ≡ arc_value a) × (s.desk.value.job ≡ job)
+IsSeatIn (Seat t) job s = ⊥
+IsSeatIn (Closing h) job s = ⊥
+IsSeatIn Gone job s = ⊥
+
+abbrev pub why_number : NotTaken → ℕ
+why_number NoJob = 2
+why_number NoMemory = 5
+why_number Out = 8
+
+-- there is no such job (2), and else no memory (5), or the desk is out (8); or there is no open bench (7)
+abbrev pub IsWhyNone : Shared → ℕ → ℕ → Type 0
+IsWhyNone (Open a) job status = (why : NotTaken) × (status ≡ why_number why) × ((why ≡ NoJob) ↔ (length (arc_value a).bench.plan.jobs ≤ job))
+IsWhyNone (Seat t) job status = status ≡ 7
+IsWhyNone (Closing h) job status = status ≡ 7
+IsWhyNone Gone job status = status ≡ 7
+
+-- The empty handle has the job's desk now (0). Or nothing changed: the bench says why, there was no memory for the handle (5), it isn't empty, or the bench's handle is (7)
+abbrev pub Takes : ℕ → Option Shared → Option Shared → Option Shared → ℕ → Type 0
+Takes job bench old new status =
+    ((status ≡ 0) × (a : Shared) × (s : Seated) × (bench ≡ Some a) × IsSeatIn a job s × (old ≡ None) × (new ≡ Some (Seat s)))
+    ⊎ ((new ≡ old) × ((status ≡ 5) ⊎ (status ≡ 7) ⊎ ((a : Shared) × (bench ≡ Some a) × IsWhyNone a job status)))
+
+-- the desk is back at its place, and the handle has nothing (0); or the place has a desk (8), or the handle has none (7), and nothing changed
+abbrev pub GivesBack : Option Shared → Option Shared → ℕ → Type 0
+GivesBack old new status =
+    ((status ≡ 0) × (s : Seated) × (old ≡ Some (Seat s)) × (new ≡ None))
+    ⊎ ((status ≡ 8) × (s : Seated) × (old ≡ Some (Seat s)) × (new ≡ old))
+    ⊎ ((status ≡ 7) × (new ≡ old))
+
+-- ---- calls on a desk
+
+-- the desk did so, and is still of its bench and its job; or the handle has no desk, and nothing changed (7)
+abbrev pub InDesk : {T : Type 0} → (DeskView → DeskView → T → T → ℕ → Type 0) → Shared → Shared → T → T → ℕ → Type 0
+InDesk Did (Seat a) new told told' status = (b : Seated) × (new ≡ Seat b) × Stays a b × Did a.desk.value b.desk.value told told' status
+InDesk Did (Open a) new told told' status = (status ≡ 7) × (new ≡ Open a) × (told' ≡ told)
+InDesk Did (Closing h) new told told' status = (status ≡ 7) × (new ≡ Closing h) × (told' ≡ told)
+InDesk Did Gone new told told' status = (status ≡ 7) × (new ≡ Gone) × (told' ≡ told)
+
+-- the same of a handle, which may have nothing
+abbrev pub OnDesk : {T : Type 0} → (DeskView → DeskView → T → T → ℕ → Type 0) → Option Shared → Option Shared → T → T → ℕ → Type 0
+OnDesk Did (Some old) new told told' status = (h : Shared) × (new ≡ Some h) × InDesk Did old h told told' status
+OnDesk Did None new told told' status = (status ≡ 7) × (new ≡ None) × (told' ≡ told)
+
+-- the answer is told
+abbrev pub Drives : (DeskView → Turned → DeskView → Type 0) → DeskView → DeskView → LabTurned → LabTurned → ℕ → Type 0
+Drives Did d e told told' status = (status ≡ 0) × (r : Turned) × Did d r e × (told' ≡ turned_of r)
+
+-- the job went on towards its aim, and the status says how far it is (0, 8, 9)
+abbrev pub GoesOn : Aim → ℕ → DeskView → DeskView → LabTurned → LabTurned → ℕ → Type 0
+GoesOn aim most d e told told' status = (stage : Stage) × (r : Turned) × GoesAlone aim most d (stage, r) e × (status ≡ stage_status aim stage) × (told' ≡ turned_of r)
+
+-- the job did the commands that were left and let go (0); or it doesn't hold, and nothing changed (8)
+abbrev pub LetsGo : DeskView → DeskView → LabTurned → LabTurned → ℕ → Type 0
+LetsGo d e told told' status = (how : HowItEnded) × EndsSession d how e × TellsEnded how told told' status
+
+-- the job's next command was done, and its entry is told (0); or it doesn't hold or no command is left, and nothing changed (8)
+abbrev pub DoesNext : DeskView → DeskView → LabEntry → LabEntry → ℕ → Type 0
+DoesNext d e told told' status = (entry : Option Entry) × Reaches d entry e × TellsEntry entry told told' status
+
+-- the job's session was given up (0); or it isn't thirsty or has no patience, and nothing changed (8)
+abbrev pub GivesUp : DeskView → DeskView → Unit {0} → Unit {0} → ℕ → Type 0
+GivesUp d e told told' status = (did : Bool) × Withdraws d did e × (status ≡ (if did then 0 else 8))
+
+abbrev pub TellsState : DeskView → DeskView → LabState → LabState → ℕ → Type 0
+TellsState d e told told' status = (status ≡ 0) × (e ≡ d) × (told' ≡ state_of (standing_of d))
+
+-- ---- closing
+
+-- The desks of the open bench are all back, and it was closed, as an open lab of that bench; or the handle is as it was, because a desk is out (8) or there was no memory (5).
+-- A bench at its end goes on from there
+abbrev pub ClosesShared : Shared → Shared → List ℕ → List ℕ → Told → Told → ℕ → Type 0
+ClosesShared (Open a) new room room' told told' status =
+    ((l : Lab) × (h : Held) × (l.bench ≡ (arc_value a).bench) × (new ≡ Closing h) × ClosesHeld (AtWork l) h room room' told told' status)
+    ⊎ ((new ≡ Open a) × (((status ≡ 8) × (room' ≡ room) × (told' ≡ told)) ⊎ NoRoomYet room room' told' status))
+ClosesShared (Closing g) new room room' told told' status = (h : Held) × (new ≡ Closing h) × ClosesHeld g h room room' told told' status
+ClosesShared (Seat s) new room room' told told' status = (status ≡ 7) × (new ≡ Seat s) × (room' ≡ room) × (told' ≡ told)
+ClosesShared Gone new room room' told told' status = (status ≡ 7) × (new ≡ Gone) × (room' ≡ room) × (told' ≡ told)
+
+-- the same of a handle, which may have nothing
+abbrev pub Closes : Option Shared → Option Shared → List ℕ → List ℕ → Told → Told → ℕ → Type 0
+Closes (Some old) new room room' told told' status = (h : Shared) × (new ≡ Some h) × ClosesShared old h room room' told told' status
+Closes None new room room' told told' status = (status ≡ 7) × (new ≡ None) × (room' ≡ room) × (told' ≡ told)

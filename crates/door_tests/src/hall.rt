@@ -1,0 +1,167 @@
+//! Halls: desks that are taken, driven and given back, and the end with its report.
+use crate::runs::{TWO_BENCHES, TWO_BENCHES_REPORT};
+use bench_door::{Aim, Ended, Printed, Stage, print};
+use bench_hall::{Hall, NotTaken, Seated, WhyOpen, sit, stand};
+use lab_program::{Outcome, RunFault};
+use legal_steps::Drinking;
+use session_layer::Turned;
+use std::alloc::Global;
+use std::process::Abort;
+use std::rt::HostRuntime;
+use std::sync::Arc;
+
+/// Both jobs need the scale, and b's session has a patience.
+const PATIENT: &[u8] =
+    b"lab 2\njob a\nsession\nscale add 3\nscale read\nend\njob b\nsession patience 9\nscale set 5\nend\n";
+
+/// Job a does its session, and job b gives its own up.
+const ALONE: &[u8] =
+    b"lab 2\ninstrument scale 2\na 1 1/2 add 3 = 3\na 1 2/2 read = 3\njob a sessions 1 of 1 withdrawn 0 meals ";
+
+fn hall_of(rt: &impl Abort, alloc: Global, script: &[u8]) -> Arc<Hall, Global> {
+    match Hall::open(alloc, script) {
+        Ok(hall) => hall,
+        Err(_) => panic!(rt; "no hall"),
+    }
+}
+
+fn seat_of(rt: &impl Abort, hall: &Arc<Hall, Global>, job: u32) -> Seated {
+    match sit(hall, job) {
+        Ok(seated) => seated,
+        Err(_) => panic!(rt; "no seat"),
+    }
+}
+
+// Why the desk can't be taken, if it can't.
+fn refusal(hall: &Arc<Hall, Global>, job: u32) -> Option<NotTaken> {
+    match sit(hall, job) {
+        Ok(_) => None,
+        Err(why) => Some(why),
+    }
+}
+
+fn back(rt: &impl Abort, seated: Seated) {
+    assert!(rt; stand(seated).is_ok());
+}
+
+fn printed(rt: &impl Abort, alloc: Global, hall: Arc<Hall, Global>) -> Printed {
+    let Ok(lab) = Hall::into_lab(hall, alloc) else {
+        panic!(rt; "a desk is out");
+    };
+    let Ok(end) = lab.close(alloc) else {
+        panic!(rt; "not closed");
+    };
+    match print(alloc, &end) {
+        Some(printed) => printed,
+        None => panic!(rt; "no report"),
+    }
+}
+
+#[test]
+fn out_once(rt: HostRuntime) {
+    let hall = hall_of(&rt, rt.alloc(), TWO_BENCHES);
+    assert!(rt; refusal(&hall, 2) == Some(NotTaken::NoJob));
+    let first = seat_of(&rt, &hall, 0);
+    assert!(rt; refusal(&hall, 0) == Some(NotTaken::Out));
+    let second = seat_of(&rt, &hall, 1);
+    back(&rt, first);
+    assert!(rt; refusal(&hall, 1) == Some(NotTaken::Out));
+    assert!(rt; refusal(&hall, 0).is_none());
+    back(&rt, second);
+}
+
+#[test]
+fn stays_open_with_a_desk_out(rt: HostRuntime) {
+    let hall = hall_of(&rt, rt.alloc(), TWO_BENCHES);
+    let first = seat_of(&rt, &hall, 0);
+    let Err(stays) = Hall::into_lab(hall, rt.alloc()) else {
+        panic!(rt; "a desk is out");
+    };
+    assert!(rt; stays.why == WhyOpen::DesksOut);
+    back(&rt, first);
+    let report = printed(&rt, rt.alloc(), stays.hall);
+    assert!(rt; report.outcome == Outcome::Unfinished);
+}
+
+// Each goes back to its own hall, where it was.
+#[test]
+fn goes_back_to_its_own(rt: HostRuntime) {
+    let one = hall_of(&rt, rt.alloc(), TWO_BENCHES);
+    let other = hall_of(&rt, rt.alloc(), TWO_BENCHES);
+    let idle = seat_of(&rt, &one, 0);
+    let mut busy = seat_of(&rt, &other, 0);
+    assert!(rt; busy.turn() != Turned::Idle);
+    back(&rt, busy);
+    back(&rt, idle);
+    assert!(rt; seat_of(&rt, &one, 0).standing().turns == 0);
+    assert!(rt; seat_of(&rt, &other, 0).standing().turns == 1);
+}
+
+#[test]
+fn prints_two_benches(rt: HostRuntime) {
+    let hall = hall_of(&rt, rt.alloc(), TWO_BENCHES);
+    let mut first = seat_of(&rt, &hall, 0);
+    let mut second = seat_of(&rt, &hall, 1);
+    for _round in 0..20u32 {
+        let _ = first.turn();
+        let _ = second.turn();
+    }
+    back(&rt, first);
+    back(&rt, second);
+    let report = printed(&rt, rt.alloc(), hall);
+    assert!(rt; report.outcome == Outcome::Finished);
+    assert!(rt; report.text.as_slice() == TWO_BENCHES_REPORT);
+}
+
+// Goes on until it holds, while the other serves.
+fn hold(rt: &impl Abort, seated: &mut Seated, other: &mut Seated) {
+    for _pass in 0..50u32 {
+        let (stage, _) = seated.go(Aim::Hold, 10);
+        if stage == Stage::There {
+            return;
+        }
+        let _ = other.serve();
+    }
+    panic!(rt; "it never holds");
+}
+
+fn alone(rt: &impl Abort, first: &mut Seated, second: &mut Seated) {
+    assert!(rt; second.turn() == Turned::Acted(1));
+    assert!(rt; second.withdraw());
+    assert!(rt; !second.withdraw());
+    assert!(rt; first.command().is_none());
+    hold(rt, first, second);
+    assert!(rt; first.standing().phase.drinking == Drinking::Drinking);
+    match first.command() {
+        Some(entry) => assert!(rt; entry.value == 3),
+        None => panic!(rt; "no command"),
+    }
+    assert!(rt; first.go(Aim::Retire, 10) == (Stage::Barred, Turned::Idle));
+    match first.end() {
+        Ended::LetGo(_) => (),
+        _ => panic!(rt; "it didn't let go"),
+    }
+    assert!(rt; first.end() == Ended::NotHeld);
+    let (stage, _) = first.go(Aim::Retire, 100);
+    assert!(rt; stage == Stage::There);
+}
+
+#[test]
+fn drives_alone(rt: HostRuntime) {
+    let hall = hall_of(&rt, rt.alloc(), PATIENT);
+    let mut first = seat_of(&rt, &hall, 0);
+    let mut second = seat_of(&rt, &hall, 1);
+    alone(&rt, &mut first, &mut second);
+    back(&rt, first);
+    back(&rt, second);
+    let report = printed(&rt, rt.alloc(), hall);
+    assert!(rt; report.text.as_slice().starts_with(ALONE));
+}
+
+#[test]
+fn names_the_line(rt: HostRuntime) {
+    match Hall::open(rt.alloc(), b"lab 1\njob a\nnonsense\n") {
+        Err(RunFault::Script(fault)) => assert!(rt; fault.line == 3),
+        _ => panic!(rt; "no fault"),
+    }
+}
