@@ -20,7 +20,8 @@ Reports p room room' told' status = Delivers (status_of (Ok p.outcome)) p.text.i
 abbrev pub NoRoomYet : List ℕ → List ℕ → Told → ℕ → Type 0
 NoRoomYet room room' told' status = Fails NoMemory room room' told' status
 
--- An open lab was closed, and its report, which is printed of its end, is in the handle and given; or memory was refused, and the handle has the lab, or its end.
+-- An open lab was closed, and its report, which is printed of its end, is in the handle and given; or memory was refused, and the handle
+-- has the lab, or its end.
 -- The end of a lab is printed, or stays without memory. A report is given again. Of every report that is given the headline holds, whatever the calls were:
 -- of that of an open lab as a report of its own plan, and of the others it is known that there is such a run
 abbrev pub ClosesHeld : Held → Held → List ℕ → List ℕ → Told → Told → ℕ → Type 0
@@ -30,7 +31,8 @@ ClosesHeld (Open a) new room room' told told' status =
     ⊎ ((b : Lab) × (b.bench ≡ a.bench) × (b.desks.items ≡ a.desks.items) × (new ≡ Open b) × NoRoomYet room room' told' status)
     ⊎ ((e : LabEnd) × IsEnd a.bench.plan a.desks.items e.closed × (new ≡ Ended e) × NoRoomYet room room' told' status)
 ClosesHeld (Ended e) new room room' told told' status =
-    ((p : Printed) × IsPrint e.closed p.text.items p.outcome × ∥ HasReport e.closed.plan p.text.items p.outcome ∥₁ × (new ≡ Reported p) × Reports p room room' told' status)
+    ((p : Printed) × IsPrint e.closed p.text.items p.outcome × ∥ HasReport e.closed.plan p.text.items p.outcome ∥₁ × (new ≡ Reported p)
+    × Reports p room room' told' status)
     ⊎ ((new ≡ Ended e) × NoRoomYet room room' told' status)
 ClosesHeld (Reported p) new room room' told told' status =
     ∥ HasSomeReport p.text.items p.outcome ∥₁ × (new ≡ Reported p) × Reports p room room' told' status

@@ -15,7 +15,7 @@ use Rattle.bench_hall.specs.declared.seated.Seated.{Seated}
 abbrev pub Stays : Seated → Seated → Type 0
 Stays a b = (arc_value b.hall ≡ arc_value a.hall) × (b.desk.value.job ≡ a.desk.value.job)
 
--- so many turns, one after another, and before each of them the job was on its way
+-- this many turns, one after another, and before each of them the job was on its way
 abbrev pub TurnsGoing : Aim → ℕ → DeskView → Turned → DeskView → Type 0
 TurnsGoing aim zero d r e = (r ≡ Idle) × (e ≡ d)
 TurnsGoing aim (suc n) d r e = (s : Turned) × (m : DeskView) × (t : Turned) × TurnsGoing aim n d s m × IsStage aim m OnTheWay × Took m t e × (r ≡ both s t)
@@ -24,6 +24,6 @@ TurnsGoing aim (suc n) d r e = (s : Turned) × (m : DeskView) × (t : Turned) ×
 abbrev pub TurnsIdle : Aim → DeskView → DeskView → Type 0
 TurnsIdle aim d e = (k : ℕ) × (s : Turned) × (m : DeskView) × TurnsGoing aim k d s m × Took m Idle e
 
--- The job is so far, after turns, at most so many; if it is still on its way, it took them all, or the last of them was idle
+-- The job is so far, after turns, at most this many; if it is still on its way, it took them all, or the last of them was idle
 abbrev pub GoesAlone : Aim → ℕ → DeskView → Stage × Turned → DeskView → Type 0
 GoesAlone aim most d a e = (n : ℕ) × (n ≤ most) × TurnsGoing aim n d a.1 e × IsStage aim e a.0 × (a.0 ≡ OnTheWay → (n ≡ most) ⊎ TurnsIdle aim d e)

@@ -9,7 +9,7 @@ use edge_rule::{Bench, Desk};
 use session_layer::Turned;
 use std::alloc::Global;
 
-/// Takes turns until the job is no more on its way, or one found nothing to do, at most so many.
+/// Takes turns until the job is no more on its way, or one found nothing to do, at most this many.
 pub(crate) fn go_alone(
     bench: &Bench<Global>,
     desk: &mut Desk<Global>,

@@ -27,7 +27,7 @@ pub struct Spot {
 #[derive(Drop)]
 pub struct Hall {
     pub bench: Bench<'static, Global>,
-    // The last job's first.
+    /// The last job's first.
     spots: Vec<Spot, Global>,
     ghost own: { Each (λ s. Owns bench s.place.value) spots.items } by { each_prop (λ s. Owns bench s.place.value) (λ s. Prim.hlevel props) spots.items },
 }
@@ -41,7 +41,7 @@ fn spot_with(desk: Box<Desk<Global>, Global>) -> Spot
     }
 }
 
-// A place for each desk, the last desk's first.
+/// A place for each desk, the last desk's first.
 #[tactic(auto, using(crate::proofs::Eaches::each_more, crate::proofs::Eaches::each_front, crate::proofs::Eaches::each_last))]
 fn spots_with(
     alloc: Global,
@@ -63,7 +63,7 @@ fn spots_with(
     Some(spots)
 }
 
-// Takes the desks out of their places. There is room for all of them.
+/// Takes the desks out of their places. There is room for all of them.
 #[tactic(auto, using(crate::proofs::Eaches::each_more, crate::proofs::Eaches::each_front, crate::proofs::Eaches::each_last))]
 fn gathered(
     bench: &Bench<'static, Global>,

@@ -90,7 +90,7 @@ impl Seated {
         next_command(&self.hall.bench, &mut self.desk)
     }
 
-    /// Takes turns, at most so many, until the job has come to its aim or its turns don't lead there. It stops before that if nothing was due. Answers how
+    /// Takes turns, at most this many, until the job has come to its aim or its turns don't lead there. It stops before that if nothing was due. Answers how
     /// far the job is then.
     pub fn go(&mut self, aim: Aim, most: u32) -> (Stage, Turned)
         ensures stays { Stays self.old self.new }

@@ -44,7 +44,8 @@ Bench = Arc Hall Global
 
 -- ---- opening
 
--- an empty handle has a bench of the plan that the script means now (0), or none was opened, the handle is as it was and the fault is told; or the handle is in use, and nothing changed (7)
+-- an empty handle has a bench of the plan that the script means now (0), or none was opened, the handle is as it was and the fault is
+-- told; or the handle is in use, and nothing changed (7)
 abbrev pub Opens : List ℕ → Option Shared → Option Shared → Told → Told → ℕ → Type 0
 Opens script (Some held) new told told' status = (status ≡ 7) × (new ≡ Some held) × (told' ≡ told)
 Opens script None new told told' status =
@@ -87,7 +88,8 @@ IsWhyNone (Seat t) job status = status ≡ 7
 IsWhyNone (Closing h) job status = status ≡ 7
 IsWhyNone Gone job status = status ≡ 7
 
--- The empty handle has the job's desk now (0). Or nothing changed: the bench says why, there was no memory for the handle (5), it isn't empty, or the bench's handle is (7)
+-- The empty handle has the job's desk now (0). Or nothing changed: the bench says why, there was no memory for the handle (5), it isn't
+-- empty, or the bench's handle is (7)
 abbrev pub Takes : ℕ → Option Shared → Option Shared → Option Shared → ℕ → Type 0
 Takes job bench old new status =
     ((status ≡ 0) × (a : Shared) × (s : Seated) × (bench ≡ Some a) × IsSeatIn a job s × (old ≡ None) × (new ≡ Some (Seat s)))
@@ -120,7 +122,8 @@ Drives Did d e told told' status = (status ≡ 0) × (r : Turned) × Did d r e �
 
 -- the job went on towards its aim, and the status says how far it is (0, 8, 9)
 abbrev pub GoesOn : Aim → ℕ → DeskView → DeskView → LabTurned → LabTurned → ℕ → Type 0
-GoesOn aim most d e told told' status = (stage : Stage) × (r : Turned) × GoesAlone aim most d (stage, r) e × (status ≡ stage_status aim stage) × (told' ≡ turned_of r)
+GoesOn aim most d e told told' status = (stage : Stage) × (r : Turned) × GoesAlone aim most d (stage, r) e × (status ≡ stage_status aim stage)
+    × (told' ≡ turned_of r)
 
 -- the job did the commands that were left and let go (0); or it doesn't hold, and nothing changed (8)
 abbrev pub LetsGo : DeskView → DeskView → LabTurned → LabTurned → ℕ → Type 0
@@ -139,7 +142,8 @@ TellsState d e told told' status = (status ≡ 0) × (e ≡ d) × (told' ≡ sta
 
 -- ---- closing
 
--- The desks of the open bench are all back, and it was closed, as an open lab of that bench; or the handle is as it was, because a desk is out (8) or there was no memory (5).
+-- The desks of the open bench are all back, and it was closed, as an open lab of that bench; or the handle is as it was, because a desk
+-- is out (8) or there was no memory (5).
 -- A bench at its end goes on from there
 abbrev pub ClosesShared : Shared → Shared → List ℕ → List ℕ → Told → Told → ℕ → Type 0
 ClosesShared (Open a) new room room' told told' status =

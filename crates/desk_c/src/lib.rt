@@ -64,7 +64,7 @@ pub extern "C" fn lab_shared_size(alloc: Global, bench: &mut Handle, size: &mut 
     }
 }
 
-// Puts the desk of a job into an empty handle. The box for it comes first, so that no desk is out without one.
+/// Puts the desk of a job into an empty handle. The box for it comes first, so that no desk is out without one.
 fn seat_at(alloc: Global, held: &Shared, job: u32, desk: &mut Handle) -> u32
     requires { desk.old.slot.held ≡ None }
     ensures { Takes job (Some held.now) desk.old.slot.held desk.new.slot.held result }
@@ -155,7 +155,7 @@ pub extern "C" fn lab_desk_serve(alloc: Global, desk: &mut Handle, turned: &mut 
     }
 }
 
-/// Takes turns of a desk, at most so many, until its job holds.
+/// Takes turns of a desk, at most this many, until its job holds.
 #[unsafe(no_mangle)]
 pub extern "C" fn lab_desk_begin(
     alloc: Global,
@@ -190,7 +190,7 @@ pub extern "C" fn lab_desk_end(alloc: Global, desk: &mut Handle, turned: &mut La
     }
 }
 
-/// Takes turns of a desk whose job's sessions are all done, at most so many, until it is retired.
+/// Takes turns of a desk whose job's sessions are all done, at most this many, until it is retired.
 #[unsafe(no_mangle)]
 pub extern "C" fn lab_desk_retire(
     alloc: Global,

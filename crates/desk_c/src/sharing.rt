@@ -72,7 +72,7 @@ pub(crate) fn given(held: Shared) -> (Option<Shared>, u32)
     }
 }
 
-// The end of an open bench, if all its desks are back.
+/// The end of an open bench, if all its desks are back.
 fn closed(alloc: Global, hall: Arc<Hall, Global>, room: &mut [u8], told: &mut Told) -> (Shared, u32)
     ensures { ClosesShared (Open hall) result.0 room.old room.new told.old told.new result.1 }
 {

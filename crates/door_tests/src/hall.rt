@@ -32,7 +32,7 @@ fn seat_of(rt: &impl Abort, hall: &Arc<Hall, Global>, job: u32) -> Seated {
     }
 }
 
-// Why the desk can't be taken, if it can't.
+/// Why the desk can't be taken, if it can't.
 fn refusal(hall: &Arc<Hall, Global>, job: u32) -> Option<NotTaken> {
     match sit(hall, job) {
         Ok(_) => None,
@@ -83,7 +83,7 @@ fn stays_open_with_a_desk_out(rt: HostRuntime) {
     assert!(rt; report.outcome == Outcome::Unfinished);
 }
 
-// Each goes back to its own hall, where it was.
+/// Each goes back to its own hall, where it was.
 #[test]
 fn goes_back_to_its_own(rt: HostRuntime) {
     let one = hall_of(&rt, rt.alloc(), TWO_BENCHES);
@@ -113,7 +113,7 @@ fn prints_two_benches(rt: HostRuntime) {
     assert!(rt; report.text.as_slice() == TWO_BENCHES_REPORT);
 }
 
-// Goes on until it holds, while the other serves.
+/// Goes on until it holds, while the other serves.
 fn hold(rt: &impl Abort, seated: &mut Seated, other: &mut Seated) {
     for _pass in 0..50u32 {
         let (stage, _) = seated.go(Aim::Hold, 10);
