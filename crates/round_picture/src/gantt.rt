@@ -59,11 +59,7 @@ fn add_legend<A: Allocator>(out: &mut Vec<u8, A>) -> Result<(), AllocError>
     )?;
     add_text(
         out,
-        b"<rect x=\"100\" width=\"30\" height=\"16\" fill=\"#56b4e9\" stroke=\"#222\"/>",
-    )?;
-    add_text(
-        out,
-        b"<text x=\"136\" y=\"12\">session S holds its instruments</text><text x=\"103\" y=\"12\">S</text>",
+        b"<rect x=\"100\" width=\"30\" height=\"16\" fill=\"#56b4e9\" stroke=\"#222\"/><text x=\"136\" y=\"12\">session S holds its instruments</text><text x=\"103\" y=\"12\">S</text>",
     )?;
     add_text(
         out,
