@@ -92,8 +92,9 @@ uint32_t lab_upgrade(const uint8_t *script, size_t length, uint8_t *report, size
      - A job gives up what a neighbour asks for in its own calls, and where another job's call serves it: `lab_serve_others`, and
        `lab_begin` and `lab_retire` after each turn. So a thread that works, sleeps or has stopped keeps nobody waiting, as long as
        its job doesn't hold an instrument that the other needs.
-     - A thread that stops while its job holds keeps those instruments: others' `lab_begin` answers 8, and `lab_state` shows which
-       jobs hold. Any thread may finish the session by `lab_end` for it. Nothing is lost if nobody does: the close then answers 3.
+     - A thread that stops while its job holds keeps those instruments: others' `lab_begin` answers 8, `lab_keepers` shows which jobs
+       keep one waiting, and `lab_state` which of these hold. Any thread may finish the session by `lab_end` for it. Nothing is lost
+       if nobody does: the close then answers 3.
      - A call that takes turns tells in `turned` whether something was done. A thread that gets 8 waits on a condition variable
        of yours, and each thread whose call told `what` 2 wakes the others. Where `what` is 0 a further call finds nothing to do
        until another job's call did something (but a session with patience counts its own turns).
@@ -173,6 +174,12 @@ uint32_t lab_planned(struct lab_bench *bench, uint32_t job, uint32_t session, ui
 
 /* How far a job is. 0, 2, 7. */
 uint32_t lab_state(struct lab_bench *bench, uint32_t job, struct lab_state *state);
+
+/* Who keeps a job waiting for an instrument: the jobs that have what it needs of it, as a set, bit k for job k. It is empty if the job
+   isn't thirsty, doesn't need the instrument, or has all that it needs of it. It is by what the job saw or did last at each of its
+   edges, so another may have given it up since. At most one of these jobs holds the instrument (`lab_state`); the others wait for it,
+   too, or have no use for it, and let it go when they are served, unless they come first. 0, 2 (no such job or instrument), 7. */
+uint32_t lab_keepers(struct lab_bench *bench, uint32_t job, uint32_t instrument, uint32_t *jobs);
 
 /* One turn of a job: it gives and asks at each of its edges, and does the first act that is due, also a command of a session
    that it holds, or its end. 0, 2, 7. */

@@ -7,6 +7,8 @@
 
 static const char two[] = "lab 2\njob a\nsession\nscale add 1\nlamp set 7\nscale read\nend\nsession\nlamp read\nend\n"
                           "job b\nsession patience 3\nscale add 2\nend\njob c\n";
+static const char three[] = "lab 1\njob x\nsession\ndial add 1\nend\njob y\nsession\ndial add 2\nlamp read\nend\n"
+                            "job z\nsession\nlamp read\ndial read\nend\n";
 static const char lone[] = "lab 1\njob only\nsession\ndial add 999999\ndial add 5\nend\n";
 
 static struct lab_bench bench;
@@ -21,6 +23,7 @@ static union {
     struct lab_state state;
     struct lab_entry entry;
     struct lab_planned planned;
+    uint32_t jobs;
     struct {
         size_t written;
         uint8_t name[64];
@@ -86,6 +89,8 @@ static void not_open(int is_closed) {
     REFUSED(LAB_NOT_OPEN, lab_session_of(&bench, 0, 1, &out.session));
     REFUSED(LAB_NOT_OPEN, lab_planned(&bench, 0, 1, 0, &out.planned));
     REFUSED(LAB_NOT_OPEN, lab_state(&bench, 0, &out.state));
+    REFUSED(LAB_NOT_OPEN, lab_keepers(&bench, 0, 0, &out.jobs));
+    REFUSED(LAB_NOT_OPEN, lab_keepers(&bench, 0xffffffffu, 0xffffffffu, &out.jobs));
     REFUSED(LAB_NOT_OPEN, lab_turn(&bench, 0, &out.turned));
     REFUSED(LAB_NOT_OPEN, lab_turn(&bench, 0xffffffffu, &out.turned));
     REFUSED(LAB_NOT_OPEN, lab_serve(&bench, 0, &out.turned));
@@ -193,6 +198,8 @@ static void no_such_job(void) {
     for (size_t which = 0; which < sizeof absent / sizeof *absent; which++) {
         uint32_t job = absent[which];
         REFUSED(LAB_NOT_THERE, lab_state(&bench, job, &out.state));
+        REFUSED(LAB_NOT_THERE, lab_keepers(&bench, job, 0, &out.jobs));
+        REFUSED(LAB_NOT_THERE, lab_keepers(&bench, 0, job, &out.jobs));
         REFUSED(LAB_NOT_THERE, lab_turn(&bench, job, &out.turned));
         REFUSED(LAB_NOT_THERE, lab_serve(&bench, job, &out.turned));
         REFUSED(LAB_NOT_THERE, lab_serve_others(&bench, job, &out.turned));
@@ -210,6 +217,12 @@ static void holds_not(uint32_t job) {
     struct all before = all_of_it(&bench);
     poison();
     IS(lab_end(&bench, job, &out.turned) == LAB_NOT_YET && is_same(&bench, before));
+}
+
+/* These jobs, and no others, keep the job waiting for the instrument. */
+static void kept_by(uint32_t job, uint32_t instrument, uint32_t jobs) {
+    TELLS(LAB_DONE, lab_keepers(&bench, job, instrument, &out.jobs));
+    expect(out.jobs == jobs && untouched(sizeof out.jobs), "job %u waits for instrument %u, kept by %x, wanted %x", job, instrument, out.jobs, jobs);
 }
 
 /* Turns of a job until it holds, with no other job's turn between. */
@@ -243,7 +256,11 @@ static void a_whole_run(void) {
     IS(out.state.sessions_done == 0 && out.state.withdrawn == 0 && out.state.meals == 0 && out.state.waited == 0 && out.state.turns == 0);
 
     /* nobody holds, and nobody waits */
+    REFUSED(LAB_NOT_THERE, lab_keepers(&bench, 0, 2, &out.jobs));
+    REFUSED(LAB_NOT_THERE, lab_keepers(&bench, 3, 2, &out.jobs));
     for (uint32_t job = 0; job < 3; job++) {
+        kept_by(job, 0, 0);
+        kept_by(job, 1, 0);
         holds_not(job);
         REFUSED(LAB_NOT_YET, lab_withdraw(&bench, job));
     }
@@ -257,6 +274,11 @@ static void a_whole_run(void) {
     lab_state(&bench, 1, &state);
     IS(state.drinking == 1 && state.session == 1 && state.turns == 3);
     holds_not(1);
+    kept_by(1, 0, 1);
+    kept_by(1, 1, 0);
+    kept_by(0, 0, 0);
+    kept_by(0, 1, 0);
+    kept_by(2, 0, 0);
     IS(lab_retire(&bench, 0, 10, &out.turned) == LAB_NOT_YET);
     lab_state(&bench, 0, &state);
     IS(state.drinking == 2 && state.position == 0);
@@ -281,7 +303,10 @@ static void a_whole_run(void) {
     /* b waits no longer, by its own will */
     lab_state(&bench, 1, &state);
     if (state.drinking == 1) {
+        /* (it hasn't looked since a let go) */
+        kept_by(1, 0, 1);
         IS(lab_withdraw(&bench, 1) == LAB_DONE);
+        kept_by(1, 0, 0);
         lab_state(&bench, 1, &state);
         IS(state.drinking == 0 && state.withdrawn == 1 && state.sessions_done == 0);
     }
@@ -334,6 +359,33 @@ static void closed(void) {
     IS(bench.live == 0);
 }
 
+/* Who keeps whom waiting: before the first turn each bottle is at the lower of its two jobs, and a job's first turn makes it thirsty. */
+static void keepers(void) {
+    struct lab_told told;
+    IS(lab_bench_open((const uint8_t *)three, sizeof three - 1, &bench, &told) == LAB_DONE);
+    for (uint32_t job = 2; job < 3; job--) {
+        kept_by(job, 0, 0);
+        IS(lab_turn(&bench, job, &out.turned) == LAB_DONE);
+    }
+    kept_by(0, 0, 0);
+    kept_by(0, 1, 0);
+    kept_by(1, 0, 1);
+    kept_by(1, 1, 0);
+    kept_by(2, 0, 3);
+    kept_by(2, 1, 2);
+    REFUSED(LAB_NOT_THERE, lab_keepers(&bench, 2, 2, &out.jobs));
+    REFUSED(LAB_NOT_THERE, lab_keepers(&bench, 3, 0, &out.jobs));
+
+    /* x holds, and so keeps the others waiting */
+    until_it_holds(0);
+    for (uint32_t job = 1; job < 3; job++) {
+        TELLS(LAB_DONE, lab_keepers(&bench, job, 0, &out.jobs));
+        IS((out.jobs & 1) == 1 && (out.jobs >> job) == 0);
+    }
+    kept_by(0, 0, 0);
+    lab_bench_free(&bench);
+}
+
 /* A bench whose job stops in the midst of its session is closed as it is. */
 static void unfinished(void) {
     struct text report;
@@ -374,6 +426,7 @@ int main(void) {
     not_open(0);
     a_whole_run();
     closed();
+    keepers();
     unfinished();
     return summary();
 }

@@ -18,6 +18,7 @@ use Rattle.bench_door.specs.declared.going.Ended.{Ended as HowItEnded}
 use Rattle.bench_door.specs.Going.{OthersServed, Goes, EndsSession}
 use Rattle.bench_door.specs.Planned.{IsPlanned}
 use Rattle.bench_door.specs.Doors.{IsWhyNot, IsSession, IsStandingAt, IsInstrumentName, TurnsAt, Withdraws, Reaches}
+use Rattle.bench_keepers.specs.Keepers.{AreKeepersAt}
 use Rattle.bench_calls.specs.declared.ending.Held.{Held}
 use Rattle.bench_calls.specs.declared.ending.Held.TheVariants.{Open, Ended, Reported, Moved as Gone}
 use Rattle.bench_calls.specs.Closing.{ClosesHeld}
@@ -121,6 +122,13 @@ TellsState job a b told told' status =
     (b ≡ a)
     × (((status ≡ 0) × (s : Standing) × IsStandingAt a.desks.items job (Some s) × (told' ≡ state_of s))
     ⊎ ((status ≡ 2) × IsStandingAt a.desks.items job None × (told' ≡ told)))
+
+-- the jobs that keep the job waiting for the instrument are told (0), or there is no such job or instrument (2)
+abbrev pub TellsKeepers : ℕ → ℕ → Lab → Lab → ℕ → ℕ → ℕ → Type 0
+TellsKeepers job instrument a b told told' status =
+    (b ≡ a)
+    × (((status ≡ 0) × AreKeepersAt a.bench.plan a.desks.items job instrument (Some told'))
+    ⊎ ((status ≡ 2) × AreKeepersAt a.bench.plan a.desks.items job instrument None × (told' ≡ told)))
 
 -- the command of the session is told (0), or there is no such job, session or command (2)
 abbrev pub TellsPlanned : ℕ → ℕ → ℕ → Lab → Lab → LabPlanned → LabPlanned → ℕ → Type 0

@@ -1,12 +1,14 @@
 //! Calls on what a handle has.
 ghost use Rattle.session_layer.specs.Turn.{Took};
 ghost use Rattle.desk_user.specs.Serving.{Served};
-ghost use Rattle.bench_c.specs.Calls.{InHeld, Drives, GivesUp, DoesNext, TellsSize, TellsSession, TellsPlanned, TellsState, TellsJobName, TellsInstrumentName};
+ghost use Rattle.bench_c.specs.Calls.{InHeld, Drives, GivesUp, DoesNext, TellsSize, TellsSession, TellsPlanned};
+ghost use Rattle.bench_c.specs.Calls.{TellsState, TellsKeepers, TellsJobName, TellsInstrumentName};
 
 use bench_calls::{
     Held, LabEntry, LabPlanned, LabSession, LabSize, LabState, LabTurned, NO_JOB, NOT_OPEN,
     planned_of, session_of, state_of, tell_entry, turned_of, withdrew,
 };
+use bench_keepers::keepers;
 use c_tells::put;
 
 pub(crate) fn turn_in(held: &mut Held, job: u32, turned: &mut LabTurned) -> u32
@@ -135,6 +137,23 @@ pub(crate) fn state_in(held: &Held, job: u32, state: &mut LabState) -> u32
         Held::Open(lab) => match lab.standing(job as usize) {
             Some(standing) => {
                 *state = state_of(standing);
+                0
+            }
+            None => NO_JOB,
+        },
+        Held::Ended(_) => NOT_OPEN,
+        Held::Reported(_) => NOT_OPEN,
+        Held::Moved => NOT_OPEN,
+    }
+}
+
+pub(crate) fn keepers_in(held: &Held, job: u32, instrument: u32, jobs: &mut u32) -> u32
+    ensures { InHeld (TellsKeepers job instrument) held.now held.now jobs.old jobs.new result }
+{
+    match held {
+        Held::Open(lab) => match keepers(lab, job, instrument) {
+            Some(set) => {
+                *jobs = set;
                 0
             }
             None => NO_JOB,

@@ -6,7 +6,7 @@ ghost use Rattle.session_layer.specs.Turn.{Took};
 ghost use Rattle.desk_user.specs.Serving.{Served};
 ghost use Rattle.bench_door.specs.declared.going.Aim.TheVariants.{Hold, Retire};
 ghost use Rattle.bench_c.specs.Calls.{Opens, InLab, Drives, ServesRest, GoesOn, LetsGo, GivesUp, DoesNext, TellsSize};
-ghost use Rattle.bench_c.specs.Calls.{TellsSession, TellsPlanned, TellsState, TellsJobName, TellsInstrumentName, Closes};
+ghost use Rattle.bench_c.specs.Calls.{TellsSession, TellsPlanned, TellsState, TellsKeepers, TellsJobName, TellsInstrumentName, Closes};
 
 mod going;
 mod handle;
@@ -21,8 +21,8 @@ use c_tells::{Told, fail};
 use going::{end_in, go_in, serve_others_in};
 pub use handle::Handle;
 use inside::{
-    command_in, instrument_name_in, job_name_in, planned_in, serve_in, session_in, size_in,
-    state_in, turn_in, withdraw_in,
+    command_in, instrument_name_in, job_name_in, keepers_in, planned_in, serve_in, session_in,
+    size_in, state_in, turn_in, withdraw_in,
 };
 use lab_program::RunFault;
 use std::alloc::Global;
@@ -165,6 +165,27 @@ pub extern "C" fn lab_state(
     match bench.take(alloc) {
         Some(held) => {
             let status = state_in(&held, job, state);
+            bench.put(held);
+            status
+        }
+        None => NOT_OPEN,
+    }
+}
+
+/// Tells which jobs keep a job waiting for an instrument, as a set: bit k stands for job k.
+#[unsafe(no_mangle)]
+pub extern "C" fn lab_keepers(
+    alloc: Global,
+    bench: &mut Handle,
+    job: u32,
+    instrument: u32,
+    jobs: &mut u32,
+) -> u32
+    ensures { InLab (TellsKeepers job instrument) bench.old.slot.held bench.new.slot.held jobs.old jobs.new result }
+{
+    match bench.take(alloc) {
+        Some(held) => {
+            let status = keepers_in(&held, job, instrument, jobs);
             bench.put(held);
             status
         }

@@ -1,0 +1,9 @@
+//! Who keeps a job waiting: for an instrument, the jobs that have what the job needs of it.
+#![tactic(auto)]
+
+mod desks;
+mod labs;
+mod sets;
+
+pub use desks::keepers_of;
+pub use labs::keepers;
