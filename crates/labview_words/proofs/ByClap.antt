@@ -6,18 +6,19 @@ use Rattle.clap.specs.Words.{App, Text, fault_of, is_simple, is_simple_and_free,
 use Rattle.clap.specs.Simple.{built, entered, names_of}
 use Rattle.clap.specs.Faults.{check_fault, defaults_fault, settle_fault}
 use Rattle.clap.specs.Kinds.{Kinds, or_else}
-use Rattle.clap.specs.Walk.{finished, idle, nothing_held, settled, subcommand_met}
+use Rattle.clap.specs.Walk.{finished, idle, nothing_held, rows_after, settled, subcommand_met}
 use Rattle.clap.specs.declared.error.kind.ErrorKind.TheVariants as kind
 use Rattle.clap.proofs.OnLiterals.{clap_on_literals}
-use Rattle.command_line.specs.Command.{word_app, word_of_number}
+use Rattle.command_line.specs.Command.{word_app, word_of_number, word_of_optional_number}
+use Rattle.command_line.specs.Reading.{number_found}
 use Rattle.command_line.specs.Grammar.{asks_for_help, number_within, values_given}
 use Rattle.command_line.proofs.Answers.{decide}
-use Rattle.command_line.proofs.Leaves.{fault_at, leaf, told_number, word_alone, word_alone_passes, word_with_number, word_with_number_passes}
+use Rattle.command_line.proofs.Leaves.{MayFind, fault_at, leaf, told_number, word_alone, word_alone_passes, word_with_number, word_with_number_passes, word_with_optional_number, word_with_optional_number_passes, word_without_number_passes}
 use Rattle.command_line.proofs.Tops.{IsTop, meets, other}
-use Rattle.labview_words.specs.Command.{labview_app, view_found}
-use Rattle.labview_words.specs.Words.{alone, over, view_of, view_with}
+use Rattle.labview_words.specs.Command.{arrange_found, labview_app, view_found}
+use Rattle.labview_words.specs.Words.{alone, alone_or_over, over, view_of, view_with}
 use Rattle.labview_words.specs.declared.words.View.{View}
-use Rattle.labview_words.specs.declared.words.View.TheVariants.{Explain, Picture, Table, Arrange, Trace, Waits, Blocks, Gantt}
+use Rattle.labview_words.specs.declared.words.View.TheVariants.{Explain, Picture, Table, Arrange, ArrangeMeasured, Trace, Waits, Blocks, Gantt}
 
 pub simple : is_simple labview_app ≡ true
 unfolding clap_on_literals
@@ -71,11 +72,18 @@ sound_table p rest h =
     let m = meets whole top (codes "table") (codes "table") rest refl in
     ap (λ s. view_found (entered whole s)) m.0 ∙ sym (ap (alone Table) (word_alone (codes "table") rest (sym m.1 ∙ h)))
 
+arrange_is : (rest : List Text) → MayFind (codes "arrange") 0 1000000000 rest
+    → Some (arrange_found (number_found (codes "N") (rows_after (leaf (word_of_optional_number (codes "arrange") 0 1000000000)).rules [] rest)))
+    ≡ alone_or_over Arrange ArrangeMeasured (values_given rest)
+arrange_is rest (inl w) = ap (λ n. Some (arrange_found n)) w.1 ∙ sym (ap (alone_or_over Arrange ArrangeMeasured) w.0)
+arrange_is rest (inr w) =
+    ap (λ n. Some (arrange_found n)) w.3 ∙ sym (ap (alone_or_over Arrange ArrangeMeasured) w.2 ∙ ap (option_map ArrangeMeasured) w.4)
+
 sound_arrange : (p : Text) (rest : List Text) → IsSound (p ∷ codes "arrange" ∷ rest)
 unfolding clap_on_literals view_with
 sound_arrange p rest h =
     let m = meets whole top (codes "arrange") (codes "arrange") rest refl in
-    ap (λ s. view_found (entered whole s)) m.0 ∙ sym (ap (alone Arrange) (word_alone (codes "arrange") rest (sym m.1 ∙ h)))
+    ap (λ s. view_found (entered whole s)) m.0 ∙ arrange_is rest (word_with_optional_number (codes "arrange") 0 1000000000 rest (omega arith) (sym m.1 ∙ h))
 
 sound_trace : (p : Text) (rest : List Text) → IsSound (p ∷ codes "trace" ∷ rest)
 unfolding clap_on_literals view_with
@@ -187,6 +195,16 @@ over_fine name view rest (v ∷ []) t e h = go (number_within 0 1000000000 v) re
     go None d h = cc
     go (Some k) d h = word_with_number_passes name 0 1000000000 rest v e (told_number 0 1000000000 k v d)
 
+optional_fine : (name : Text) (view : View) (measured : ℕ → View) (rest vs : List Text) (t : View) → values_given rest ≡ vs → alone_or_over view measured vs ≡ Some t
+    → fault_at (leaf (word_of_optional_number name 0 1000000000)) rest ≡ []
+optional_fine name view measured rest [] t e h = word_without_number_passes name 0 1000000000 rest e
+optional_fine name view measured rest (v ∷ w ∷ vs) t e h = cc
+optional_fine name view measured rest (v ∷ []) t e h = go (number_within 0 1000000000 v) refl h
+  where
+    go : (o : Option ℕ) → number_within 0 1000000000 v ≡ o → option_map measured o ≡ Some t → fault_at (leaf (word_of_optional_number name 0 1000000000)) rest ≡ []
+    go None d h = cc
+    go (Some k) d h = word_with_optional_number_passes name 0 1000000000 rest v e (told_number 0 1000000000 k v d)
+
 alone_fine : (a t : View) (vs : List Text) → alone a vs ≡ Some t → vs ≡ []
 alone_fine a t [] h = refl
 alone_fine a t (v ∷ vs) h = cc
@@ -205,7 +223,7 @@ complete_table p rest t h = (meets whole top (codes "table") (codes "table") res
 
 complete_arrange : (p : Text) (rest : List Text) → IsComplete (p ∷ codes "arrange" ∷ rest)
 unfolding clap_on_literals view_with
-complete_arrange p rest t h = (meets whole top (codes "arrange") (codes "arrange") rest refl).1 ∙ word_alone_passes (codes "arrange") rest (alone_fine Arrange t (values_given rest) h)
+complete_arrange p rest t h = (meets whole top (codes "arrange") (codes "arrange") rest refl).1 ∙ optional_fine (codes "arrange") Arrange ArrangeMeasured rest (values_given rest) t refl h
 
 complete_trace : (p : Text) (rest : List Text) → IsComplete (p ∷ codes "trace" ∷ rest)
 unfolding clap_on_literals view_with

@@ -3,7 +3,7 @@ use Rattle.std.specs.Prelude.{ℕ, List, [], ◌∷◌, Option, None, Some, code
 use Rattle.std.specs.Str.{bytes_eq}
 use Rattle.command_line.specs.Grammar.{number_within, values_given}
 use Rattle.labview_words.specs.declared.words.View.{View}
-use Rattle.labview_words.specs.declared.words.View.TheVariants.{Explain, Picture, Table, Arrange, Trace, Waits, Blocks, Gantt}
+use Rattle.labview_words.specs.declared.words.View.TheVariants.{Explain, Picture, Table, Arrange, ArrangeMeasured, Trace, Waits, Blocks, Gantt}
 
 -- a word without values
 abbrev pub alone : View → List (List ℕ) → Option View
@@ -15,13 +15,19 @@ abbrev pub over : (ℕ → View) → List (List ℕ) → Option View
 over view (limit ∷ []) = option_map view (number_within 0 1000000000 limit)
 over view _ = None
 
+-- a word that may have the most rounds
+abbrev pub alone_or_over : View → (ℕ → View) → List (List ℕ) → Option View
+alone_or_over view measured [] = Some view
+alone_or_over view measured (limit ∷ []) = option_map measured (number_within 0 1000000000 limit)
+alone_or_over view measured _ = None
+
 -- the view of a word with its values
 unfoldable pub view_with : List ℕ → List (List ℕ) → Option View
 view_with word values =
     if bytes_eq word (codes "explain") then alone Explain values
     else (if bytes_eq word (codes "picture") then alone Picture values
     else (if bytes_eq word (codes "table") then alone Table values
-    else (if bytes_eq word (codes "arrange") then alone Arrange values
+    else (if bytes_eq word (codes "arrange") then alone_or_over Arrange ArrangeMeasured values
     else (if bytes_eq word (codes "trace") then over Trace values
     else (if bytes_eq word (codes "waits") then over Waits values
     else (if bytes_eq word (codes "blocks") then over Blocks values
