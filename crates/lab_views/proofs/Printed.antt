@@ -56,7 +56,7 @@ printed_is_drawn plan history text outcome reports old new (Err (Timeline fault)
     let back = read_back plan history text outcome reports in
     let own : IsFaultOf report fault = subst (λ r. IsFaultOf r fault) (back.alone draws.0.report draws.0.is_text) draws.0.fails in
     let is = no_other_fault plan (the_opening plan) history reports.within_limits (the_opening_opens plan) reports.legal fault own in
-    subst (λ f. DrawsReport report old new (Err (Timeline f))) (sym is) draws.1
+    absurd (draws.0.not_memory is)
 printed_is_drawn plan history text outcome reports old new (Err NoMemory) draws = draws
 printed_is_drawn plan history text outcome reports old new (Err Read) draws = draws
 printed_is_drawn plan history text outcome reports old new (Err TooLong) draws = draws

@@ -1,5 +1,5 @@
 -- For readers: what is drawn for an input, and why nothing is.
-use Rattle.std.specs.Prelude.{◌≡◌, ℕ, List, [], ◌∷◌, ◌++◌, Option, Result, Ok, Err}
+use Rattle.std.specs.Prelude.{◌≡◌, ◌≢◌, ℕ, List, [], ◌∷◌, ◌++◌, Option, Result, Ok, Err}
 use Rattle.std.specs.Io.KnownBytes.{Keeps, Appends}
 use Rattle.report.specs.Taken.{AppendsPrefix}
 use Rattle.report_reader.specs.declared.fault.ReportCause.{ReportCause}
@@ -33,11 +33,12 @@ pub record IsNoReport (input : List ℕ) (fault : ReportFault) : Type 0 where
   pub lines : text_lines input ≡ parts ++ tail ∷ []
   pub refused : Refuses parts tail fault
 
--- the input is a report's text, and the report has this fault
+-- the input is a report's text, and the report has this fault; that memory ran out is no fault of a report
 pub record HasNoTimeline (input : List ℕ) (fault : TimelineFault) : Type 0 where
   pub report : ReportText
   pub is_text : IsTextOf report input
   pub fails : IsFaultOf report fault
+  pub not_memory : fault ≢ faults.NoMemory
 
 -- for an input: Ok means that its picture went out, and a write fault that a prefix of it did; else nothing did
 abbrev pub DrawsFor : List ℕ → Option (List ℕ) → Option (List ℕ) → Result (Unit {0}) PictureFault → Type 0

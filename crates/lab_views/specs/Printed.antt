@@ -7,7 +7,6 @@ use Rattle.legal_steps.specs.Opening.{the_opening}
 use Rattle.report.specs.Taken.{AppendsPrefix}
 use Rattle.report.specs.Events.{shown_after}
 use Rattle.report_reader.specs.Report.{ReportText}
-use Rattle.timeline.specs.declared.fault.TimelineFault.TheVariants as faults
 use Rattle.timeline.specs.Timelines.{TimelineView, IsTimeline}
 use Rattle.printed_reports.specs.Printed.{printed_report}
 use Rattle.picture.specs.Picture.{picture_of}
@@ -15,7 +14,7 @@ use Rattle.picture.specs.LogTable.{table_text}
 use Rattle.lab_program.specs.declared.faults.Outcome.{Outcome}
 use Rattle.lab_runs.specs.Reports.{Reports}
 use Rattle.lab_views.specs.declared.picture_fault.PictureFault.{PictureFault}
-use Rattle.lab_views.specs.declared.picture_fault.PictureFault.TheVariants.{Timeline, Write, NoMemory}
+use Rattle.lab_views.specs.declared.picture_fault.PictureFault.TheVariants.{Write, NoMemory}
 use Rattle.lab_views.specs.Pictures.{DrawsFor}
 use Rattle.lab_views.specs.Tables.{TabulatesFor}
 
@@ -28,7 +27,6 @@ abbrev pub DrawsReport : ReportText → Option (List ℕ) → Option (List ℕ) 
 DrawsReport report old new (Ok done) = (timeline : TimelineView) × IsTimeline report timeline × Appends old new (picture_of report timeline)
 DrawsReport report old new (Err Write) = (timeline : TimelineView) × IsTimeline report timeline × AppendsPrefix old new (picture_of report timeline)
 DrawsReport report old new (Err NoMemory) = Keeps old new
-DrawsReport report old new (Err (Timeline faults.NoMemory)) = Keeps old new
 DrawsReport report old new (Err _) = ⊥
 
 -- the law: so it is of each report that `labrun` printed
