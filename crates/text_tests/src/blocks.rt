@@ -1,0 +1,64 @@
+//! Who keeps whom waiting, in words.
+use crate::reading::plan_of;
+use crate::rows::check;
+use block_lines::{Block, add_blocks};
+use lab_plan::{InstrumentNo, JobNo, Plan};
+use std::alloc::Global;
+use std::process::Abort;
+
+const TWO: &str =
+    "lab 1\njob a\nsession\nscale add 1\nlamp add 1\nend\njob b\nsession\nscale add 1\nlamp add 1\nend\n";
+
+/// What is wanted after nine rounds: the last block has no round, and the first two together are the scale's.
+const WANTED: &str = "rounds 9 unfinished
+blocked b by a on scale rounds 7 held 3
+blocked a by b on scale rounds 2 held 1
+blocked b by a on lamp rounds 2 held 0
+instrument scale blocked 9 held 4
+instrument lamp blocked 2 held 0
+";
+
+const A: JobNo = JobNo(0);
+
+const B: JobNo = JobNo(1);
+
+const SCALE: InstrumentNo = InstrumentNo(0);
+
+const LAMP: InstrumentNo = InstrumentNo(1);
+
+fn block(job: JobNo, neighbour: JobNo, instrument: InstrumentNo, counts: (u32, u32)) -> Block {
+    let (rounds, held) = counts;
+    Block {
+        job,
+        neighbour,
+        instrument,
+        rounds,
+        held,
+    }
+}
+
+/// The text of blocks after nine rounds, each of which has to name jobs and an instrument of the plan.
+fn told(rt: &impl Abort, alloc: Global, plan: &Plan, blocks: &[Block]) -> Vec<u8> {
+    for block in blocks {
+        assert!(rt; usize::from(block.job.0) < plan.jobs());
+        assert!(rt; usize::from(block.neighbour.0) < plan.jobs());
+        assert!(rt; usize::from(block.instrument.0) < plan.instruments());
+    }
+    let mut out = Vec::new(alloc);
+    let is_added = add_blocks(alloc, &mut out, plan, 9, false, blocks).is_ok();
+    check(rt, "blocks", is_added, true);
+    out
+}
+
+#[test]
+fn blocks_largest_first(rt: HostRuntime) {
+    let plan = plan_of(&rt, rt.alloc(), TWO.as_bytes());
+    let blocks = [
+        block(A, B, SCALE, (2, 1)),
+        block(B, A, SCALE, (7, 3)),
+        block(B, A, LAMP, (2, 0)),
+        block(A, B, LAMP, (0, 0)),
+    ];
+    let text = told(&rt, rt.alloc(), &plan, &blocks);
+    check(&rt, "blocks", text.as_slice(), WANTED.as_bytes());
+}

@@ -1,0 +1,90 @@
+//! A command line of its own, as clap reads it.
+use crate::rows::check;
+use clap::Command;
+use command_line::{
+    NoTask, given_words, number, number_of, program, refused, why_no_task, with_word,
+};
+use std::alloc::{AllocError, Global};
+use std::test::Fail;
+
+/// A program with a word `run N` and a word `stop`.
+fn command<'a>(alloc: Global) -> Result<Command<'a>, AllocError> {
+    let command = program(alloc, "prog", "Does it", "That is all");
+    let times = number(alloc, "N", 1, 9, "how often");
+    let run = Command::new(alloc, "run").about("run it").arg(times)?;
+    with_word(alloc, command.subcommand(run)?, "stop", "stop it")
+}
+
+const HELP: &str = "help: Does it
+
+Usage: prog [COMMAND]
+
+Commands:
+  run   run it
+  stop  stop it
+
+Options:
+  -h, --help  Print help
+
+That is all
+";
+
+/// What came of words that gave no task.
+fn reason_told(alloc: Global, reason: NoTask) -> Result<String, AllocError> {
+    match reason {
+        NoTask::Help(text) => format!(in alloc; "help: {text}"),
+        NoTask::Refused(text) => format!(in alloc; "refused: {text}"),
+        NoTask::NoMemory => String::from_str(alloc, "no memory"),
+    }
+}
+
+/// What came of words.
+fn told(alloc: Global, words: &[&str]) -> Result<String, AllocError> {
+    match command(alloc)?.try_get_matches_from(words) {
+        Ok(matches) => match matches.subcommand() {
+            Some(("run", values)) => match number_of(values, "N") {
+                Some(times) => format!(in alloc; "run {times}"),
+                None => String::from_str(alloc, "run"),
+            },
+            Some((word, _)) => String::from_str(alloc, word),
+            None => reason_told(alloc, refused(alloc, "a word is missing")),
+        },
+        Err(error) => reason_told(alloc, why_no_task(alloc, &error)),
+    }
+}
+
+#[test]
+fn words_of_a_program(rt: HostRuntime) -> Result<(), Fail> {
+    for (words, wanted) in [
+        (["prog", "run", "7"].as_slice(), "run 7"),
+        (["prog", "stop"].as_slice(), "stop"),
+        (["prog"].as_slice(), "refused: a word is missing"),
+        (
+            ["prog", "walk"].as_slice(),
+            "refused: unrecognized subcommand 'walk'",
+        ),
+        (
+            ["prog", "run"].as_slice(),
+            "refused: the following required arguments were not provided: <N>",
+        ),
+        (
+            ["prog", "run", "10"].as_slice(),
+            "refused: invalid value '10' for '<N>': 10 is not in 1..=9",
+        ),
+        (["prog", "--help"].as_slice(), HELP),
+    ] {
+        let came = told(rt.alloc(), words)?;
+        check(&rt, "words", came.as_bytes(), wanted.as_bytes());
+    }
+    Ok(())
+}
+
+/// The first of them is the program's own name.
+#[test]
+fn words_of_this_test(rt: HostRuntime) {
+    let is_named = match given_words(&rt) {
+        Ok(words) => !words.is_empty(),
+        Err(_) => false,
+    };
+    assert!(rt; is_named);
+}
