@@ -1,6 +1,8 @@
-//! Tests of jobs at a bench, over public calls alone: single calls, turns one after another, rounds, threads and their gates.
+//! Tests of jobs at a bench, over public calls alone: single calls, turns one after another, rounds, threads and their gates; the bell.
 #![tactic(auto)]
 
+#[cfg(test)]
+mod bells;
 #[cfg(test)]
 mod calls;
 #[cfg(test)]
@@ -8,9 +10,13 @@ mod gates;
 #[cfg(test)]
 mod labs;
 #[cfg(test)]
+mod owners;
+#[cfg(test)]
 mod runs;
 #[cfg(test)]
 mod seats;
+#[cfg(test)]
+mod sleepers;
 #[cfg(test)]
 mod tables;
 #[cfg(test)]

@@ -71,7 +71,7 @@ fn counts_up<T: Allocator>(rt: &impl Abort, log: &InstrumentLog<T>) {
 }
 
 /// Every job ended all its sessions.
-fn ended_all<T: Allocator>(rt: &impl Abort, left: &Closed<T>) {
+pub(crate) fn ended_all<T: Allocator>(rt: &impl Abort, left: &Closed<T>) {
     let plan = left.plan();
     for job in 0..plan.jobs() {
         let job = JobNo(job as u8);
@@ -80,7 +80,7 @@ fn ended_all<T: Allocator>(rt: &impl Abort, left: &Closed<T>) {
 }
 
 /// No command is left.
-fn are_full<T: Allocator>(rt: &impl Abort, left: &Closed<T>) {
+pub(crate) fn are_full<T: Allocator>(rt: &impl Abort, left: &Closed<T>) {
     let plan = left.plan();
     for number in 0..plan.instruments() {
         let log = left.log(InstrumentNo(number as u8));
@@ -350,7 +350,7 @@ fn closed_at_last<'p, A: Allocator + Copy>(
     }
 }
 
-fn all_count_up<T: Allocator>(rt: &impl Abort, left: &Closed<T>) {
+pub(crate) fn all_count_up<T: Allocator>(rt: &impl Abort, left: &Closed<T>) {
     let plan = left.plan();
     for number in 0..plan.instruments() {
         counts_up(rt, left.log(InstrumentNo(number as u8)));
