@@ -7,3 +7,4 @@ pub mod Blocked
 pub mod Waited
 pub mod Printed
 pub mod RunDrawn
+pub mod OneRun

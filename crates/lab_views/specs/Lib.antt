@@ -7,4 +7,5 @@ pub mod Printed
 pub mod Waits
 pub mod Blocks
 pub mod Gantts
+pub mod OneRun
 pub mod Arranged

@@ -1,4 +1,6 @@
-//! What holds of traces, and of pictures and tables of what was printed. Each law is the contract of a function that does nothing.
+//! What holds of traces, of what is told of a run by rounds, and of pictures and tables of what was printed. Each law is the contract of a
+//! function that does nothing.
+ghost use Rattle.lab_views.specs.OneRun.{HasOneListOfBlocks, HasOnePicture, RoundsAreReported};
 ghost use Rattle.lab_views.specs.Printed.{PrintedIsDrawn, PrintedIsTabulated};
 ghost use Rattle.lab_views.specs.Traces.{TracesTheRun, TraceIsReplayed};
 
@@ -24,6 +26,24 @@ pub fn trace_is_replayed()
     one_run();
     steps_give_events();
     one_meaning_with_steps();
+}
+
+/// `labview waits N`, `blocks N` and `gantt N` tell of the very run that `labrun rounds N` reports, for the same input and N: of as many
+/// rounds, with the same events.
+pub fn rounds_are_reported()
+    ensures { RoundsAreReported }
+{
+    one_meaning();
+    one_run();
+}
+
+/// A script and N have one picture over time, and one list of who kept whom waiting.
+pub fn drawn_once()
+    ensures picture { HasOnePicture }
+    ensures list { HasOneListOfBlocks }
+{
+    one_meaning();
+    one_run();
 }
 
 /// `labview picture` of what `labrun` printed draws the report of that very run: its text is never refused. Its logs have an order
