@@ -4,4 +4,6 @@
 #[cfg(test)]
 mod hall;
 #[cfg(test)]
+mod keepers;
+#[cfg(test)]
 mod runs;
