@@ -1,5 +1,7 @@
 //! Whole command lines of both programs: what goes out, what is printed on standard error, and the status.
-use lab_program::FromRead;
+use command_line::{NoTask, end_saying_why, end_without_task};
+use lab_program::{FromRead, Outcome};
+use lab_views::{View, end_view};
 use report::ToWrite;
 use std::alloc::{AllocError, Global};
 use std::cell::RefCell;
@@ -7,6 +9,7 @@ use std::fmt::Display;
 use std::io;
 use std::process::{Abort, ExitCode};
 use std::sync::Wait;
+use std::test::Fail;
 use std::thread::Threads;
 
 /// A runtime that keeps what is printed: on standard output, and on standard error.
@@ -192,4 +195,72 @@ fn command_lines_of_labview(rt: HostRuntime) {
     }
     let told = labview(rt.alloc(), &["labview", "table"], "lab 1\nfinished\n");
     ends(&rt, told, table, "", 0);
+}
+
+/// What was printed, on standard output and on standard error, and the status.
+fn printed(rt: &impl Abort, kept: Kept, code: ExitCode, out: &str, errors: &str, status: u8) {
+    let text = kept.out.into_inner();
+    assert!(rt; text.as_str() == out, "printed: {text}wanted: {out}");
+    let said = kept.errors.into_inner();
+    assert!(rt; said.as_str() == errors, "said: {said}wanted: {errors}");
+    assert!(rt; code == ExitCode::from(status), "{code:?}, not {status}");
+}
+
+/// Which reason it is that words gave no task.
+#[derive(Clone, Copy)]
+enum Why {
+    Help,
+    Refused,
+    NoMemory,
+}
+
+fn reason(alloc: Global, why: Why) -> Result<NoTask, AllocError> {
+    Ok(match why {
+        Why::Help => NoTask::Help(String::from_str(alloc, "how it is used\n")?),
+        Why::Refused => NoTask::Refused(String::from_str(alloc, "two words")?),
+        Why::NoMemory => NoTask::NoMemory,
+    })
+}
+
+#[test]
+fn ends_without_task(rt: HostRuntime) -> Result<(), Fail> {
+    let in_short = "labrun: command line refused\n";
+    let at_length = "labrun: command line refused: two words; see labrun --help\n";
+    for (why, out, short, long, status) in [
+        (Why::Help, "how it is used\n", "", "", 0),
+        (Why::Refused, "", in_short, at_length, 2),
+        (
+            Why::NoMemory,
+            "",
+            "labrun: no memory\n",
+            "labrun: no memory\n",
+            5,
+        ),
+    ] {
+        let kept = Kept::new(rt.alloc());
+        let code = end_without_task(&kept, "labrun", reason(rt.alloc(), why)?);
+        printed(&rt, kept, code, out, short, status);
+        let kept = Kept::new(rt.alloc());
+        let code = end_saying_why(&kept, "labrun", reason(rt.alloc(), why)?);
+        printed(&rt, kept, code, out, long, status);
+    }
+    Ok(())
+}
+
+/// A view that went out, but is not all that it might be, is told.
+#[test]
+fn ends_of_views(rt: HostRuntime) {
+    let as_it_was =
+        "labview: the script went out as it was: in another order it could not be read back\n";
+    let too_long =
+        "labview: the trace is whole, but longer than a replay reads (1000000 steps, 16777216 bytes)\n";
+    for (view, outcome, errors, status) in [
+        (View::Arrange, Outcome::Unfinished, as_it_was, 3),
+        (View::Trace { limit: 9 }, Outcome::Unfinished, too_long, 3),
+        (View::Arrange, Outcome::Finished, "", 0),
+    ] {
+        let kept = Kept::new(rt.alloc());
+        let code = end_view(&kept, "labview", view, Ok(outcome));
+        printed(&rt, kept, code, "", errors, status);
+    }
 }

@@ -2,7 +2,8 @@
 use crate::stages::text_at;
 use command_line::NoTask;
 use lab_program::{FromRead, Outcome, RunFault};
-use lab_views::{View, read_words, run_explain};
+use lab_views::laws::{drawn_once, rounds_are_reported};
+use lab_views::{View, ViewFault, read_words, run_explain, run_view};
 use report::ToWrite;
 use script_reader::{ScriptCause, ScriptFault};
 use std::alloc::{AllocError, Global};
@@ -55,6 +56,41 @@ fn explains_by_its_bytes(rt: HostRuntime) -> Result<(), Fail> {
         );
     }
     Ok(())
+}
+
+const NO_ENTRY: &str = "instrument,entry,job,session,place,length,verb,number,value\n";
+
+/// By the view that is asked for, an input is explained, told of, written or tabulated.
+#[test]
+fn views_by_their_names(rt: HostRuntime) {
+    let no_report = Err(ViewFault::GivenScript {
+        line: 2,
+        view: "table",
+    });
+    let done = Ok(Outcome::Finished);
+    let rows = [
+        (View::Explain, "lab 1\n", NO_JOB, done),
+        (
+            View::Blocks { limit: 7 },
+            "lab 1\n",
+            "rounds 0 finished\n",
+            done,
+        ),
+        (View::Trace { limit: 7 }, "lab 1\n", "lab 1\nsteps\n", done),
+        (View::Arrange, "lab 1\n", "lab 1\n", done),
+        (View::Table, "lab 1\nfinished\n", NO_ENTRY, done),
+        (View::Table, "lab 1\njob a\n", "", no_report),
+    ];
+    for (row, (view, input, wanted, ends)) in rows.into_iter().enumerate() {
+        let mut bytes = Vec::new(rt.alloc());
+        let mut source = FromRead::new(input.as_bytes());
+        let mut sink = ToWrite::new(&mut bytes);
+        let answer = run_view(view, rt.alloc(), &mut source, &mut sink);
+        assert!(rt;
+            answer == ends && bytes.as_slice() == wanted.as_bytes(),
+            "row {row}"
+        );
+    }
 }
 
 /// A writer that fails.
@@ -217,4 +253,10 @@ fn words(rt: HostRuntime) {
     }
     let answer = read_words(rt.alloc(), &["labview", "gantt", "--help"]);
     assert!(rt; is_help(&answer, GANTT_HELP));
+}
+
+#[test]
+fn laws_can_be_called(_rt: HostRuntime) {
+    rounds_are_reported();
+    drawn_once();
 }
