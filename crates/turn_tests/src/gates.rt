@@ -27,7 +27,7 @@ fn set(counts: &[AtomicU64; 4], job: u8, number: u64) {
     }
 }
 
-/// Counts the passes of each job, and notes where one isn't the next of its job, or not in the order of its worker: of two workers the
+/// Counts the passes of each job, and notes if one isn't the next of its job, or not in the order of its worker: of two workers the
 /// first drives jobs 0 and 2, the second jobs 1 and 3, the lower job first in each round.
 #[derive(Drop)]
 pub(crate) struct Counting {
