@@ -96,7 +96,7 @@ uint32_t lab_upgrade(const uint8_t *script, size_t length, uint8_t *report, size
        keep one waiting, and `lab_state` which of these hold. Any thread may finish the session by `lab_end` for it. Nothing is lost
        if nobody does: the close then answers 3.
      - A call that takes turns tells in `turned` whether something was done. A thread that gets 8 waits on a condition variable
-       of yours, and each thread whose call told `what` 2 wakes the others. Where `what` is 0 a further call finds nothing to do
+       of yours, and each thread whose call told `what` 2 wakes the others. If `what` is 0 a further call finds nothing to do
        until another job's call did something (but a session with patience counts its own turns).
      - A job or an instrument is a number from 0, in the order of the script; sessions are counted from 1.
      - At each status but 0 nothing has changed and nothing is written, but for: `turned` and the turns taken, at 8 and 9 of
@@ -248,7 +248,7 @@ void lab_bench_free(struct lab_bench *bench);
      - A thread that stops between two calls leaves its desk in the handle: let another go on with it, end its session (`lab_desk_end`),
        and give it back. Until then the close answers 8. A thread that is killed within a call leaves the handle empty, and its desk
        is lost: the close answers 8 for ever, and `lab_shared_free` gives back what it can.
-     - No call wakes a thread. Where `what` is 0, nothing is due until a neighbour's call did something: sleep a little and call again,
+     - No call wakes a thread. If `what` is 0, nothing is due until a neighbour's call did something: sleep a little and call again,
        or wait on a condition variable of yours that each thread signals after a call that told `what` 2.
      - What the script has (names, sessions, commands) is told by a `struct lab_bench` that is opened for the same script.
      - At each status but 0 nothing has changed and nothing is written, but for: `turned` and the turns taken, at 8 and 9 of

@@ -177,7 +177,7 @@ struct core {
         }
     }
 
-    // Where somebody waits, those that were left and hold let go.
+    // If somebody waits, those that were left and hold let go.
     void pass_by() {
         for (std::uint32_t job = 0; active && job < jobs.size(); job++) {
             if (!(left >> job & 1)) continue;

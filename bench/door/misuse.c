@@ -80,7 +80,7 @@ static int is_same(struct lab_bench *of, struct all before) {
 
 static uint32_t open_two(void) { return lab_bench_open((const uint8_t *)two, sizeof two - 1, &bench, &out.told); }
 
-/* Every call but open and free, on a handle that isn't open. The close has a report to tell where `is_closed`. */
+/* Every call but open and free, on a handle that isn't open. The close has a report to tell if `is_closed`. */
 static void not_open(int is_closed) {
     REFUSED(LAB_NOT_OPEN, lab_bench_size(&bench, &out.size));
     REFUSED(LAB_NOT_OPEN, lab_job_name(&bench, 0, out.name.name, 16, &out.name.written));

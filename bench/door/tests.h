@@ -12,7 +12,7 @@
 
 static long passed, failed;
 
-/* Counts, and names what failed (the first of them). Under the caller's mutex where threads call it. */
+/* Counts, and names what failed (the first of them). Under the caller's mutex if threads call it. */
 static inline int expect(int is_so, const char *what, ...) {
     if (is_so) {
         passed++;

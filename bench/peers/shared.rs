@@ -225,7 +225,7 @@ pub fn write_report(plan: &Plan, logs: &[&Log], counts: &[Counts]) -> bool {
     finished
 }
 
-/// The nanoseconds of the parts of a run, told on standard error where the variable PEER_TIMES is set.
+/// The nanoseconds of the parts of a run, told on standard error if the variable PEER_TIMES is set.
 pub struct Times {
     begun: Instant,
     parts: Vec<(&'static str, u128)>,

@@ -624,7 +624,7 @@ class Bench:
         return wait
 
     def _pass_by(self) -> None:
-        """Where somebody waits, those that were left and hold let go."""
+        """If somebody waits, those that were left and hold let go."""
         if not any(wait.wake is not _nobody for wait in self._waiting.values()):
             return
         for job, session in list(self._left.items()):

@@ -295,7 +295,7 @@ impl Inner {
         }
     }
 
-    /// Where somebody waits, those that were left and hold let go.
+    /// If somebody waits, those that were left and hold let go.
     fn pass_by(&self, core: &mut Core) {
         for job in 0..self.jobs.len() as u32 {
             if core.active == 0 || core.left >> job & 1 == 0 {

@@ -136,7 +136,7 @@ pub(crate) fn with_line_end<A: Allocator>(alloc: A, text: &[u8]) -> Result<Vec<u
     Ok(whole)
 }
 
-/// A text with the blocks of its jobs in this order, where it has one for each.
+/// A text with the blocks of its jobs in this order, if it has one for each.
 pub(crate) fn moved<A: Allocator + Copy>(
     alloc: A,
     text: &[u8],

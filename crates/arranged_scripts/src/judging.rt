@@ -26,8 +26,8 @@ fn read_back<A: Allocator + Copy>(alloc: A, text: &[u8]) -> Result<Option<Plan<A
 }
 
 /// A script of this plan with its jobs in the order of their colours: jobs that share an instrument get different ones, as few as
-/// DSATUR finds. Comments directly above a job's line stay with it. What was made is read again and judged: None where it isn't read
-/// as these jobs in this order, which was never met. None too where it has more bytes than a run reads, which is so only if the input
+/// DSATUR finds. Comments directly above a job's line stay with it. What was made is read again and judged: None if it isn't read
+/// as these jobs in this order, which was never met. None too if it has more bytes than a run reads, which is so only if the input
 /// has all but the end of its last line. Memory is taken for the text twice, and for a second plan.
 pub fn arranged_script<A: Allocator + Copy>(
     alloc: A,

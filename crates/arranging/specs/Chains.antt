@@ -19,7 +19,7 @@ pub record IsChain (plan : LabPlan) (s : State) (jobs : List ℕ) : Type 0 where
   pub of_plan : All (λ job. job < length plan.jobs) jobs
   pub each : EachPrecedes plan s jobs
 
--- where the jobs of a plan stand in the order of their colours, no chain in the initial state has more jobs than there are colours
+-- if the jobs of a plan stand in the order of their colours, no chain in the initial state has more jobs than there are colours
 abbrev pub ChainsAreShort : Type 0
 ChainsAreShort = (plan : LabPlan) (colours : List ℕ) (count : ℕ) → IsColouring plan colours count → IsNonDecreasing colours
     → (jobs : List ℕ) → IsChain plan (the_opening plan) jobs → length jobs ≤ count

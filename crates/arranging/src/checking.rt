@@ -22,7 +22,7 @@ pub(crate) fn all_differ<A: Allocator>(plan: &Plan<A>, colours: &[u8]) -> bool
     true
 }
 
-/// One more than the highest colour, and 0 where there is none.
+/// One more than the highest colour, and 0 if there is none.
 pub(crate) fn count_of(colours: &[u8]) -> usize
     ensures above { All (λ colour. colour < result) colours.now }
     ensures least { IsLeast colours.now result }

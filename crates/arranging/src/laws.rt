@@ -15,13 +15,13 @@ pub fn order_climbs()
     ensures { OrdersClimb }
 {}
 
-/// Where jobs stand in the order of their colours, a chain of precedence in the initial state has at most one job of each colour: every
+/// If jobs stand in the order of their colours, a chain of precedence in the initial state has at most one job of each colour: every
 /// fork is at the job with the lower number and dirty, so on each edge the job of the higher colour precedes.
 pub fn chains_are_short()
     ensures { ChainsAreShort }
 {}
 
-/// Where a plan has the jobs of another in the order of their colours, a chain of precedence at its opening has at most one job of
+/// If a plan has the jobs of another in the order of their colours, a chain of precedence at its opening has at most one job of
 /// each colour.
 pub fn arranged_chains_are_short()
     ensures { ArrangedChainsAreShort }

@@ -10,7 +10,7 @@ use crate::same_jobs::has_jobs_of;
 use lab_plan::{EdgeNo, JobNo, Plan};
 use std::alloc::Allocator;
 
-/// Whether the two jobs of each edge have different colours, where the jobs had these colours before they were put in this order.
+/// Whether the two jobs of each edge have different colours, if the jobs had these colours before they were put in this order.
 fn differ_along<A: Allocator>(plan: &Plan<A>, colours: &[u8], order: &[JobNo]) -> bool
     requires jobs { length order.now ≡ length plan.now.jobs }
     requires coloured { All (λ job. job < length colours.now) order.now }

@@ -6,13 +6,13 @@ use crate::told::{LabEntry, LabTurned, entry_of, turned_of};
 use bench_door::{Aim, Ended, Stage};
 use instrument_log::Entry;
 
-/// The status where there is no such job, session or instrument.
+/// The status if there is no such job, session or instrument.
 pub const NO_JOB: u32 = 2;
 
-/// The status where the handle has nothing that the call could act on.
+/// The status if the handle has nothing that the call could act on.
 pub const NOT_OPEN: u32 = 7;
 
-/// The status where what was asked for isn't so.
+/// The status if what was asked for isn't so.
 pub const NOT_NOW: u32 = 8;
 
 const NO_SESSION: u32 = 9;

@@ -105,7 +105,7 @@ fn closed<'p, T: Allocator>(
     }
 }
 
-/// Calls on a bench, which is then closed with the second allocator, and where memory is refused with the first.
+/// Calls on a bench, which is then closed with the second allocator, and if memory is refused, with the first.
 /// What is left is the same. Answers whether the first close did.
 pub(crate) fn closes<T: Allocator + Copy>(
     rt: &impl Abort,
@@ -216,7 +216,7 @@ fn closed_benches(rt: HostRuntime) {
     }
 }
 
-/// The bench and the desks come back where not all of them are there.
+/// The bench and the desks come back if not all of them are there.
 fn kept_open<'p, T: Allocator>(
     rt: &impl Abort,
     alloc: T,

@@ -1,9 +1,9 @@
 //! Words by what they say. The word of an edge is that of its fork and those of its bottles, as `DIRTY_A | BOTTLE_A`: A stands for the edge's
-//! lower job, and B for the higher. A thing is ASKED where its request token is at the same job: the other has asked for it.
+//! lower job, and B for the higher. A thing is ASKED if its request token is at the same job: the other has asked for it.
 use edge_word::{EdgeWord, PhaseWord};
 use legal_steps::{EdgeState, JobState};
 
-/// The bits of a word: each is set where the thing is at B; DIRTY where the fork is dirty.
+/// The bits of a word: each is set if the thing is at B; DIRTY if the fork is dirty.
 const FORK: u64 = 1;
 
 const DIRTY: u64 = 1 << 1;
@@ -28,7 +28,7 @@ pub(crate) const DIRTY_B: u64 = FORK | DIRTY;
 
 pub(crate) const DIRTY_B_ASKED: u64 = FORK | DIRTY | FORK_TOKEN;
 
-/// The one bottle at A; where it is asked for, any number of them.
+/// The one bottle at A; if it is asked for, any number of them.
 pub(crate) const BOTTLE_A: u64 = BOTTLE_TOKEN;
 
 pub(crate) const BOTTLE_A_ASKED: u64 = 0;
@@ -74,7 +74,7 @@ pub(crate) const DIRTY_B_BOTTLE_A: u64 = DIRTY_B | BOTTLE_A;
 
 pub(crate) const DIRTY_B_BOTTLE_B: u64 = DIRTY_B | BOTTLE_B;
 
-/// Of an edge with three bottles: as it opens, and where some went to B, which had asked for all.
+/// Of an edge with three bottles: as it opens, and after some went to B, which had asked for all.
 pub(crate) const OPEN_OF_THREE: u64 = DIRTY_A | 7 << 32;
 
 pub(crate) const BOTTLES_0_AND_2_B: u64 = 5 << 4;

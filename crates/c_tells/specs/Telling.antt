@@ -26,7 +26,7 @@ cause_number causes.TooManyInCommon = 11
 cause_number causes.NoMemory = 12
 cause_number causes.BadStep = 13
 
--- the line that the fault names, and why; 0 where it names none
+-- the line that the fault names, and why; 0 if it names none
 abbrev pub told_of : RunFault → Told
 told_of (Script fault) = record { written = 0; line = fault.line; cause = cause_number fault.cause }
 told_of (Step line) = record { written = 0; line = line; cause = 0 }

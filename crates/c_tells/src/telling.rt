@@ -13,9 +13,9 @@ const NO_ROOM: u32 = 6;
 #[repr(C)]
 #[derive(Clone, Copy)]
 pub struct Told {
-    /// How many bytes the report has, and 0 where there is none.
+    /// How many bytes the report has, and 0 if there is none.
     pub written: usize,
-    /// The line that a fault names, counted from 1, and 0 where none does.
+    /// The line that a fault names, counted from 1, and 0 if none does.
     pub line: usize,
     /// Why this line is refused: 1 to 13 for S1 to S13, and 0 for a step that isn't legal or no fault of a line.
     pub cause: u32,

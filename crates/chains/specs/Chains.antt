@@ -36,7 +36,7 @@ IsBestBelow plan chains job n None = (k : ℕ) → k < n → ¬ Precedes plan (t
 IsBestBelow plan chains job n (Some best) = (best < n) × Precedes plan (the_opening plan) job best
     × ((k : ℕ) → k < n → Precedes plan (the_opening plan) job k → length (chain_at chains k) ≤ length (chain_at chains best))
 
--- longer than the best so far, where there is one
+-- longer than the best so far, if there is one
 abbrev pub is_longer : List (List ℕ) → ℕ → Option ℕ → Bool
 is_longer chains k None = true
 is_longer chains k (Some best) = nat_lt (length (chain_at chains best)) (length (chain_at chains k))

@@ -16,14 +16,14 @@ IsMealDue d events =
     ⊎ ((May d.plan (known d) (Leave d.job) → ⊥) × May d.plan (known d) (Sit d.job) × (events ≡ Sit d.job ∷ []))
     ⊎ ((May d.plan (known d) (Leave d.job) → ⊥) × (May d.plan (known d) (Sit d.job) → ⊥) × (events ≡ []))
 
--- the meal was ended or started, where that was due
+-- the meal was ended or started, if that was due
 pub record IsMeal (d : DeskView) (n : ℕ) (e : DeskView) : Type 0 where
   pub events : List Event
   pub due : IsMealDue d events
   pub does : DoesAll d events e
   pub says : n ≡ once events
 
--- Each edge of the job was visited, in ascending order, and then the meal was ended or started, where that was due
+-- Each edge of the job was visited, in ascending order, and then the meal was ended or started, if that was due
 pub record Served (d : DeskView) (r : Turned) (e : DeskView) : Type 0 where
   pub visits : List Visit
   pub edges : map (λ (v : Visit). v.edge) visits ≡ edges_of d.plan d.job

@@ -36,11 +36,11 @@ abbrev pub TookBefore : Until → ℕ → DeskView → DeskView → Type 0
 TookBefore until zero d e = e ≡ d
 TookBefore until (suc n) d e = (m : DeskView) × TookBefore until n d m × (IsAt until m → ⊥) × (r : Turned) × Took m r e
 
--- the desk took turns until its job had come so far, at most this many, and all of them where the answer is no
+-- the desk took turns until its job had come so far, at most this many, and all of them if the answer is no
 abbrev pub TookUntil : Until → ℕ → DeskView → Bool → DeskView → Type 0
 TookUntil until most d r e = (n : ℕ) × (n ≤ most) × TookBefore until n d e × (r ≡ false → n ≡ most)
 
--- the desk looked whether all jobs are retired: at its own job first, and where that is retired, at all others
+-- the desk looked whether all jobs are retired: at its own job first, and if that is retired, at all others
 abbrev pub Looked : DeskView → Bool → DeskView → Type 0
 Looked d r e = ((IsAt Retired d → ⊥) × (r ≡ false) × (e ≡ d)) ⊎ (IsAt Retired d × Glanced d r e)
 
@@ -49,6 +49,6 @@ abbrev pub TookBeforeAll : ℕ → DeskView → DeskView → Type 0
 TookBeforeAll zero d e = e ≡ d
 TookBeforeAll (suc n) d e = (m : DeskView) × TookBeforeAll n d m × (k : DeskView) × Looked m false k × (r : Turned) × Took k r e
 
--- the desk took turns until it saw all jobs retired, at most this many, and all of them where the answer is no
+-- the desk took turns until it saw all jobs retired, at most this many, and all of them if the answer is no
 abbrev pub TookUntilAll : ℕ → DeskView → Bool → DeskView → Type 0
 TookUntilAll most d r e = (n : ℕ) × (n ≤ most) × (m : DeskView) × TookBeforeAll n d m × Looked m r e × (r ≡ false → n ≡ most)

@@ -8,7 +8,7 @@ use std::thread::yield_now;
 /// What a thread does after an idle turn, before it looks again.
 #[derive(Clone, Copy, PartialEq, Eq, Debug)]
 pub enum How {
-    /// Nothing: it keeps its core. For waits of a microsecond, where each thread has a core of its own.
+    /// Nothing: it keeps its core. For waits of a microsecond, if each thread has a core of its own.
     Spin,
     /// It lets another thread run. It keeps a core busy only while nobody else wants it.
     Yield,

@@ -21,7 +21,7 @@ pub struct AtEdge {
     pub phase: JobState,
     pub here: End,
     pub seen: EdgeState,
-    /// The edge turned round where the job is the lower one: what is at the job's own end stands at the higher end here.
+    /// The edge turned round if the job is the lower one: what is at the job's own end stands at the higher end here.
     pub mine: EdgeState,
 }
 

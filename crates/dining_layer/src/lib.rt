@@ -1,5 +1,5 @@
 //! Forks and meals: which fork moves are legal on an edge by the word last seen there, and calls that do one of them, or one phase
-//! event of a meal, where it is legal.
+//! event of a meal, if it is legal.
 #![tactic(auto)]
 
 mod answers;

@@ -12,7 +12,7 @@ use edge_word::EdgeMoves;
 use lab_plan::EdgeNo;
 use std::alloc::Allocator;
 
-/// Gives the fork of the edge, where that is legal by the word last seen.
+/// Gives the fork of the edge, if that is legal by the word last seen.
 pub fn give<A: Allocator>(bench: &Bench<A>, desk: &mut Desk<A>, edge: EdgeNo) -> Tried
     requires own { Owns bench.now desk.old }
     requires edge { IsOwn desk.old.plan desk.old.job edge }
@@ -28,7 +28,7 @@ pub fn give<A: Allocator>(bench: &Bench<A>, desk: &mut Desk<A>, edge: EdgeNo) ->
     answered(exchange(bench, desk, edge, moves))
 }
 
-/// Asks for the fork of the edge, where that is legal by the word last seen.
+/// Asks for the fork of the edge, if that is legal by the word last seen.
 pub fn ask<A: Allocator>(bench: &Bench<A>, desk: &mut Desk<A>, edge: EdgeNo) -> Tried
     requires own { Owns bench.now desk.old }
     requires edge { IsOwn desk.old.plan desk.old.job edge }
@@ -44,7 +44,7 @@ pub fn ask<A: Allocator>(bench: &Bench<A>, desk: &mut Desk<A>, edge: EdgeNo) -> 
     answered(exchange(bench, desk, edge, moves))
 }
 
-/// Soils the fork of the edge, where that is legal by the word last seen.
+/// Soils the fork of the edge, if that is legal by the word last seen.
 pub fn soil<A: Allocator>(bench: &Bench<A>, desk: &mut Desk<A>, edge: EdgeNo) -> Tried
     requires own { Owns bench.now desk.old }
     requires edge { IsOwn desk.old.plan desk.old.job edge }

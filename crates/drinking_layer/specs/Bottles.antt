@@ -10,14 +10,14 @@ use Rattle.dining_layer.specs.declared.answers.Tried.{Tried}
 use Rattle.dining_layer.specs.declared.answers.Tried.TheVariants.{NotLegal}
 use Rattle.dining_layer.specs.Tries.{TriedTo}
 
--- The bottles that may be given by the word last seen, all at once; where there are none, no set of them may be given
+-- The bottles that may be given by the word last seen, all at once; if there are none, no set of them may be given
 pub record Served (d : DeskView) (e : ℕ) (r : Tried) (d' : DeskView) : Type 0 where
   pub set : ℕ
   pub greatest : IsGreatest d.plan e set (MayGiveBottle d.plan (known d) d.job e)
   pub tries : TriedTo d (GiveBottles d.job e set) e r d'
   pub none : r ≡ NotLegal → (other : ℕ) → ¬ May d.plan (known d) (GiveBottles d.job e other)
 
--- The bottles that may be asked for by the word last seen, all at once; where there are none, no set of them may be asked for
+-- The bottles that may be asked for by the word last seen, all at once; if there are none, no set of them may be asked for
 pub record Wanted (d : DeskView) (e : ℕ) (r : Tried) (d' : DeskView) : Type 0 where
   pub set : ℕ
   pub greatest : IsGreatest d.plan e set (λ k. (drinking (known d) d.job ≡ Thirsty) × MayAskBottle d.plan (known d) d.job e k)

@@ -45,7 +45,7 @@ pub fn may_drink<A: Allocator>(bench: &Bench<A>, desk: &Desk<A>) -> bool
     desk.phase().drinking == Drinking::Thirsty && has_needed(bench, desk)
 }
 
-/// Drinks, where that is legal, and answers whether it did.
+/// Drinks, if that is legal, and answers whether it did.
 pub fn drink<A: Allocator>(bench: &Bench<A>, desk: &mut Desk<A>) -> bool
     requires own { Owns bench.now desk.old }
     ensures { Drank desk.old result desk.new }

@@ -1,5 +1,5 @@
 //! Bottles and drinking: which bottles a job may give and ask for on an edge by the word last seen there, always all of them at
-//! once, and calls that do so, or drink, where it is legal.
+//! once, and calls that do so, or drink, if it is legal.
 #![tactic(auto)]
 
 mod bottles;

@@ -34,7 +34,7 @@ pub(crate) fn gifts(phase: JobState, needed: u32, mine: EdgeState, given: bool) 
     )
 }
 
-/// The bottles that are asked for, where the bottles of `sent` are given before.
+/// The bottles that are asked for, if the bottles of `sent` are given before.
 pub(crate) fn wishes(phase: JobState, needed: u32, mine: EdgeState, sent: u32) -> u32
     ensures { result ≡ wishes_of phase needed mine sent }
 {

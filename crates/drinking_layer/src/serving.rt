@@ -10,7 +10,7 @@ use edge_word::EdgeMoves;
 use lab_plan::EdgeNo;
 use std::alloc::Allocator;
 
-/// Gives all bottles that may be given by the word last seen, where there are some.
+/// Gives all bottles that may be given by the word last seen, if there are any.
 pub fn serve_bottles<A: Allocator>(bench: &Bench<A>, desk: &mut Desk<A>, edge: EdgeNo) -> Tried
     requires own { Owns bench.now desk.old }
     requires edge { IsOwn desk.old.plan desk.old.job edge }
@@ -27,7 +27,7 @@ pub fn serve_bottles<A: Allocator>(bench: &Bench<A>, desk: &mut Desk<A>, edge: E
     answered(exchange(bench, desk, edge, moves))
 }
 
-/// Asks for all bottles that may be asked for by the word last seen, where there are some.
+/// Asks for all bottles that may be asked for by the word last seen, if there are any.
 pub fn want_bottles<A: Allocator>(bench: &Bench<A>, desk: &mut Desk<A>, edge: EdgeNo) -> Tried
     requires own { Owns bench.now desk.old }
     requires edge { IsOwn desk.old.plan desk.old.job edge }

@@ -80,7 +80,7 @@ pub record IsEnd (p : LabPlan) (desks : List DeskView) (c : ClosedView) : Type 0
   pub logs : (i : ℕ) → i < length p.instruments → log_in c i ≡ log_with_room p (state_after p history) i
   pub counts : (j : ℕ) → j < length p.jobs → counts_in c j ≡ counts_of j history
 
--- the logs of a closed bench are those at the end of a list of events that is legal from THE opening
+-- the logs of a closed bench are those at the end of a list of events that is legal from the initial state
 pub record HasLegalLogs (p : LabPlan) (c : ClosedView) : Type 0 where
   pub is_plan : IsPlan p
   pub history : List Event

@@ -77,7 +77,7 @@ fn taken_apart<'p, A: Allocator>(
 }
 
 impl<'p, A: Allocator> Bench<'p, A> {
-    /// Takes the bench apart, where every desk of it is there exactly once. Otherwise, and where there is no memory, the
+    /// Takes the bench apart, if every desk of it is there exactly once. Otherwise, and if there is no memory, the
     /// bench and all desks come back as they were. The order of the desks doesn't matter.
     pub fn close(
         self,

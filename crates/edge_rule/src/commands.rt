@@ -57,7 +57,7 @@ pub fn command<A: Allocator>(bench: &Bench<A>, desk: &mut Desk<A>) -> Entry
         .table
         .shared
         .store::<Acts>(&mut desk.seat, place, second);
-    // Only the position is another, on which no move of an edge depends: what is noted of edges stays. And where a command is
+    // Only the position is another, on which no move of an edge depends: what is noted of edges stays. And if a command is
     // due, the desk isn't noted as settled.
     desk.phase.position = acted.position;
     entry

@@ -58,7 +58,7 @@ fn set_needed<A: Allocator>(plan: &Plan<A>, job: JobNo, phase: JobState, needed:
     }
 }
 
-/// Sets the needed bottles anew where an event that led to this phase began or ended a session. They are asked for at every
+/// Sets the needed bottles anew if an event that led to this phase began or ended a session. They are asked for at every
 /// visit, and change only here.
 pub(crate) fn renew_needed<A: Allocator>(
     plan: &Plan<A>,

@@ -36,7 +36,7 @@ const ALL_BOTTLES: u64 = 0xfff_ffff;
 /// | bits | meaning |
 /// |---|---|
 /// | `FORK`, 0 | end of the fork |
-/// | `DIRTY`, 1 | 1 where the fork is dirty |
+/// | `DIRTY`, 1 | 1 if the fork is dirty |
 /// | `TOKEN`, 2 | end of the fork's request token |
 /// | `ZERO`, 3 | zero |
 /// | 4 to 31 | bit `BOTTLES + k`: end of bottle `k` |
@@ -273,7 +273,7 @@ impl EdgeWord {
     }
 
     /// The word after a request for a set of bottles: their tokens are at the other end. That the set is
-    /// of the edge is told by `is_bottle_set`.
+    /// of the edge is tested by `is_bottle_set`.
     pub fn asked_bottles(self, set: u32) -> EdgeWord
         requires of_edge { IsSetOf most_bottles set }
         ensures edge { result ≡ bottles_asked set self }
@@ -286,7 +286,7 @@ impl EdgeWord {
     }
 
     /// The word after a set of bottles was given: they are at the other end. That the set is of the edge
-    /// is told by `is_bottle_set`.
+    /// is tested by `is_bottle_set`.
     pub fn given_bottles(self, set: u32) -> EdgeWord
         requires of_edge { IsSetOf most_bottles set }
         ensures edge { result ≡ bottles_given set self }
@@ -298,7 +298,7 @@ impl EdgeWord {
         })
     }
 
-    /// The word after a group of moves, in their order. That their sets are of the edge is told by
+    /// The word after a group of moves, in their order. That their sets are of the edge is tested by
     /// `EdgeMoves::are_of_bottles`.
     pub fn moved(self, moves: EdgeMoves) -> EdgeWord
         requires of_edge { AreOfBottles most_bottles moves }

@@ -53,19 +53,19 @@ pub fn stays_of_its_bottles()
     ensures { StaysOfItsBottles }
 {}
 
-/// Where each move of a group is legal after the ones before it, its sets are of the edge.
+/// If each move of a group is legal after the ones before it, its sets are of the edge.
 #[tactic(auto, using(crate::proofs::MoveLaws::legal_moves_are_of_the_edge))]
 pub fn legal_moves_are_of_the_edge()
     ensures { LegalMovesAreOfTheEdge }
 {}
 
-/// Where each move of a group is legal after the ones before it, and there is one, the group has one to four events: who
+/// If each move of a group is legal after the ones before it, and there is one, the group has one to four events: who
 /// asks for a fork is hungry, and who soils one eats.
 pub fn legal_groups_are_short()
     ensures { LegalGroupsAreShort }
 {}
 
-/// Where each move of a group is legal after the ones before it, the group is read back from the two words
+/// If each move of a group is legal after the ones before it, the group is read back from the two words
 /// before and after it. So two numbers tell which events an exchange was.
 #[tactic(auto, using(crate::proofs::MoveLaws::read_back))]
 pub fn moves_are_read_back()

@@ -49,7 +49,7 @@ impl EdgeMoves {
     {
         (self.give_bottles >> bottles) == 0 && (self.ask_bottles >> bottles) == 0
     }
-    /// The mark for the fork of their edge after the moves, where it was `old` before: soiling the fork sets it, and
+    /// The mark for the fork of their edge after the moves, if it was `old` before: soiling the fork sets it, and
     /// giving the fork clears it.
     pub fn fork_mark(self, old: bool) -> bool
         ensures { result ≡ fork_mark_after self old }
@@ -63,7 +63,7 @@ impl EdgeMoves {
         }
     }
 
-    /// The marks for the bottles of their edge after the moves, where they were `old` before: those of bottles that are
+    /// The marks for the bottles of their edge after the moves, if they were `old` before: those of bottles that are
     /// given are cleared.
     pub fn bottle_marks(self, old: u32) -> u32
         ensures { result ≡ bottle_marks_after self old }

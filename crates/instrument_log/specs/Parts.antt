@@ -4,11 +4,11 @@ use Rattle.std.specs.List.{last_or, flat_map}
 use Rattle.std.specs.Option.{option_and_then, option_map_or, MatchOption}
 use Rattle.instrument_log.specs.declared.entry.Entry.{Entry}
 
--- the entry, where more of its part is to come after it
+-- the entry, if more of its part is to come after it
 abbrev pub if_open : Entry → Option Entry
 if_open entry = if nat_lt entry.place entry.length then Some entry else None
 
--- the last entry of a log, where its part is unfinished
+-- the last entry of a log, if its part is unfinished
 unfoldable pub open_entry : List Entry → Option Entry
 open_entry entries = option_and_then if_open (last_or None entries)
 

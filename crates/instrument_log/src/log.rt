@@ -54,8 +54,8 @@ impl<A: Allocator> InstrumentLog<A> {
         })
     }
 
-    /// Adds the entry at the end, where it follows: it is the next place of the unfinished part, or
-    /// place 1 where no part is unfinished. Takes no memory. The entry's value is the dial after its
+    /// Adds the entry at the end, if it follows: it is the next place of the unfinished part, or
+    /// place 1 if no part is unfinished. Takes no memory. The entry's value is the dial after its
     /// verb, as [`turned`](crate::turned) answers it from [`value`](Self::value).
     pub fn append(&mut self, entry: Entry) -> Result<(), LogRefusal>
         requires within_limits { IsWithinLimits entry }
@@ -83,7 +83,7 @@ impl<A: Allocator> InstrumentLog<A> {
         }
     }
 
-    /// The last entry, where its part is unfinished.
+    /// The last entry, if its part is unfinished.
     fn open_entry(&self) -> Option<Entry>
         ensures { result ≡ open_entry self.now.entries }
     {
@@ -95,7 +95,7 @@ impl<A: Allocator> InstrumentLog<A> {
     }
 
     /// Adds at the end an entry that is known to follow, within the log's room, and tests nothing of it.
-    /// Takes no memory. Where that isn't known, [`append`](Self::append) says whether it does.
+    /// Takes no memory. If that isn't known, [`append`](Self::append) says whether it does.
     pub fn add(&mut self, entry: Entry)
         requires may { MayAppend self.old entry }
         requires within_limits { IsWithinLimits entry }
@@ -154,7 +154,7 @@ impl<A: Allocator> InstrumentLog<A> {
         self.unfinished as usize
     }
 
-    /// The number on the dial after all entries, 0 where there is none.
+    /// The number on the dial after all entries, 0 if there is none.
     pub fn value(&self) -> u32
         ensures value { result ≡ dial self.now.entries }
         ensures fits { result ≤ 999999 }

@@ -28,7 +28,7 @@ pub fn pack_entry(entry: Entry) -> [u8; 16]
 }
 
 /// The entry that the bytes are packed from, if it is one within the limits. There is none exactly
-/// where the job, the session, the length, the verb's number or the value is past its limit (`lab_plan::limits`), the session
+/// if the job, the session, the length, the verb's number or the value is past its limit (`lab_plan::limits`), the session
 /// or the place is 0, the place above the length, the verb above 2, or a read has a number.
 pub fn unpack_entry(bytes: [u8; 16]) -> Option<Entry>
     ensures spelled { IfSome result (λ entry. (entry_bytes entry ≡ bytes) × IsWithinLimits entry) }
@@ -42,7 +42,7 @@ pub fn unpack_entry(bytes: [u8; 16]) -> Option<Entry>
     }
 }
 
-/// The entry that the bytes spell, where they are those of an entry.
+/// The entry that the bytes spell, if they are those of an entry.
 #[tactic(auto, unfolding(crate::specs::Entries::entry_of))]
 pub(crate) fn spelled_by(bytes: &[u8; 16]) -> Entry
     ensures { result ≡ entry_of bytes.now }

@@ -15,12 +15,12 @@ pub record TakesNext (plan : LabPlan) (s : State) (j : ℕ) : Type 0 where
   pub may_append : MayAppend (log_with_room plan s (next_command plan s j).0) (next_entry plan s j)
   pub within_limits : IsWithinLimits (next_entry plan s j)
 
--- where the event is a legal Act, the log takes its entry
+-- if the event is a legal Act, the log takes its entry
 abbrev pub TakesEntry : LabPlan → State → Event → Type 0
 TakesEntry plan s (Act j) = May plan s (Act j) → TakesNext plan s j
 TakesEntry plan s _ = Unit {0}
 
--- Ok where the event is legal, which leads to the new state; else nothing changes
+-- Ok if the event is legal, which leads to the new state; else nothing changes
 abbrev pub IsStep : Setting → Event → Result (Unit {0}) NotLegal → Setting → Type 0
 IsStep old event (Ok done) new = IsLegal old.plan old.state event new.state × (new.plan ≡ old.plan)
 IsStep old event (Err refused) new = (¬ May old.plan old.state event) × (new ≡ old)

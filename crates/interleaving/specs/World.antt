@@ -32,7 +32,7 @@ abbrev pub Steps : WorldView → Event → Result (Unit {0}) NotLegal → WorldV
 Steps old event (Ok done) new = IsLegal old.plan old.state event new.state × GoOnBy old.counts (event ∷ []) new.counts × (new.plan ≡ old.plan)
 Steps old event (Err refused) new = (¬ May old.plan old.state event) × (new ≡ old)
 
--- a list of events: Ok with their number where all are legal; else the place of the first that isn't, with those before it done
+-- a list of events: Ok with their number if all are legal; else the place of the first that isn't, with those before it done
 abbrev pub Replays : WorldView → List Event → Result ℕ (ℕ × NotLegal) → WorldView → Type 0
 Replays old events (Ok count) new = (count ≡ length events) × LeadsTo old events new
 Replays old events (Err stop) new = StopsAt old.plan old.state events stop.0 new.state × LeadsTo old (take stop.0 events) new

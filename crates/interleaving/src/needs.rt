@@ -40,7 +40,7 @@ impl<'a, A: Allocator> Tables<'a, A> {
         self.plan().bottles(edge)
     }
 
-    /// The bottles of the edge that the job needs: none where it is in no session.
+    /// The bottles of the edge that the job needs: none if it is in no session.
     #[tactic(auto, unfolding(legal_steps::specs::State::Has), using(legal_steps::proofs::BottleSets::has_none))]
     pub(crate) fn needed_bottles(&self, job: JobNo, edge: EdgeNo) -> u32
         requires is_job { IsJob self.now.plan job }

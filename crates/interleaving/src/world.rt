@@ -68,7 +68,7 @@ impl<'a, A: Allocator + Copy> World<'a, A> {
         Ok(World { tables, tally })
     }
 
-    /// A world at the opening where each fork and each bottle is at the edge's lower job. On each edge
+    /// A world in the initial state, with each fork and each bottle at the edge's lower job. On each edge
     /// the higher job precedes then, so no cycle can be.
     pub fn opening(alloc: A, plan: &'a Plan<A>) -> Result<World<'a, A>, NoMemory>
         ensures { IfOk result (λ world. world ≡ at_start plan.now (the_opening plan.now)) }

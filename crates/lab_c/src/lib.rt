@@ -19,7 +19,7 @@ use telling::tell;
 
 /// Runs a script in rounds, at most `limit` of them, and puts the report into `report`.
 ///
-/// The status is the program's, or 6 where the report has more bytes than `report`. Where there is no report, and at status 6,
+/// The status is the program's, or 6 if the report has more bytes than `report`. If there is no report, and at status 6,
 /// `report` stays as it was.
 #[unsafe(no_mangle)]
 pub extern "C" fn lab_rounds(

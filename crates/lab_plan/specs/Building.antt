@@ -33,7 +33,7 @@ and_session patience job = record job { sessions = job.sessions ++ record { pati
 abbrev pub with_session : Option ℕ → LabPlan → LabPlan
 with_session patience plan = record plan { jobs = on_last (and_session patience) plan.jobs }
 
--- the number of an instrument: its place among the names, or the next where it is new
+-- the number of an instrument: its place among the names, or the next if it is new
 abbrev pub instrument_number : List ℕ → LabPlan → ℕ
 instrument_number name plan = position_or_len (bytes_eq name) plan.instruments
 

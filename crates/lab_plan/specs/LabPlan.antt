@@ -4,7 +4,7 @@ use Rattle.std.specs.List.{count_by, list_any, flat_map, range_with_len}
 use Rattle.lab_plan.specs.declared.verb.Verb.{Verb}
 use Rattle.lab_plan.specs.declared.verb.Verb.TheVariants.{Read}
 
--- a session: its patience where it has one, and its commands in order, each an instrument and a verb
+-- a session: its patience if it has one, and its commands in order, each an instrument and a verb
 pub record SessionPlan : Type 0 where
   pub patience : Option ℕ
   pub commands : List (ℕ × Verb)
@@ -43,7 +43,7 @@ session_at plan j s = slice_index_or (sessions plan j) (s - 1) no_session
 abbrev pub commands : LabPlan → ℕ → ℕ → List (ℕ × Verb)
 commands plan j s = (session_at plan j s).commands
 
--- how many of its own turns a session may stay thirsty, where it has a patience
+-- how many of its own turns a session may stay thirsty, if it has a patience
 abbrev pub patience : LabPlan → ℕ → ℕ → Option ℕ
 patience plan j s = (session_at plan j s).patience
 
@@ -75,7 +75,7 @@ length_at plan j s k = part plan j s (command_at plan j s k).0
 abbrev pub any_on : ℕ → List (ℕ × Verb) → Bool
 any_on i all = list_any (λ command. command.0 == i) all
 
--- a session names an instrument where one of its commands is on it, and a job where one of its sessions does
+-- a session names an instrument if one of its commands is on it, and a job if one of its sessions does
 abbrev pub is_named_by : JobPlan → ℕ → Bool
 is_named_by job i = list_any (λ session. any_on i session.commands) job.sessions
 

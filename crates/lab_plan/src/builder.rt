@@ -77,7 +77,7 @@ impl<A: Allocator + Copy> PlanBuilder<A> {
         }
     }
 
-    /// The version of the script: 1, or 2 where sessions may have a patience.
+    /// The version of the script: 1, or 2 if sessions may have a patience.
     pub fn version(&self) -> u8
         ensures { result ≡ self.now.version }
     {
@@ -188,7 +188,7 @@ impl<A: Allocator + Copy> PlanBuilder<A> {
         }
     }
 
-    /// The tables of the plan as it stands, where it is a whole one.
+    /// The tables of the plan as it stands, if it is a whole one.
     fn tables(&self) -> Result<Tables<A>, PlanRefusal>
         ensures tables { IfOk result (λ tables. (finish_refusal self.now ≡ None) × AreTablesOf self.now tables) }
         ensures plan { OnOk result (IsPlan self.now) }
@@ -204,7 +204,7 @@ impl<A: Allocator + Copy> PlanBuilder<A> {
     }
 }
 
-/// The slot of a name, by its bytes. Where two names share one, the guess may be wrong, and costs a search.
+/// The slot of a name, by its bytes. If two names share one, the guess may be wrong, and costs a search.
 fn slot(name: &[u8]) -> u8 {
     name.iter().fold(
         0,

@@ -132,7 +132,7 @@ impl<A: Allocator> Draft<A> {
         job.push(instrument, verb)
     }
 
-    /// A command on the instrument at a place, or on the next one where it has none.
+    /// A command on the instrument at a place, or on the next one if it has none.
     pub(crate) fn push_at(
         &mut self,
         alloc: A,

@@ -52,7 +52,7 @@ impl<A: Allocator> Plan<A> {
         Plan { draft, tables }
     }
 
-    /// The version of the plan's script: 1, or 2 where sessions may have a patience.
+    /// The version of the plan's script: 1, or 2 if sessions may have a patience.
     pub fn version(&self) -> u8
         ensures { result ≡ self.now.version }
     {
@@ -122,7 +122,7 @@ impl<A: Allocator> Plan<A> {
         self.tables.edges().edges_of(job)
     }
 
-    /// The edge of two jobs, in either order; `None` where they have nothing in common, and for a job and itself.
+    /// The edge of two jobs, in either order; `None` if they have nothing in common, and for a job and itself.
     pub fn edge_of(&self, a: JobNo, b: JobNo) -> Option<EdgeNo>
         requires a { a < length self.now.jobs }
         requires b { b < length self.now.jobs }
@@ -152,7 +152,7 @@ impl<A: Allocator> Plan<A> {
         self.bottles_at(edge).len() as u32
     }
 
-    /// The bottle of an instrument on an edge, where both its jobs name it.
+    /// The bottle of an instrument on an edge, if both its jobs name it.
     #[tactic(auto, using(crate::proofs::Readers::few_bottles))]
     pub fn bottle_of(&self, edge: EdgeNo, instrument: InstrumentNo) -> Option<u32>
         requires { edge < length (edges self.now) }
@@ -191,7 +191,7 @@ impl<A: Allocator> Plan<A> {
         self.draft.commands(job, session)
     }
 
-    /// How many of its own turns a session may stay thirsty, where it has a patience.
+    /// How many of its own turns a session may stay thirsty, if it has a patience.
     pub fn patience(&self, job: JobNo, session: u32) -> Option<u32>
         requires is_job { job < length self.now.jobs }
         requires begun { 1 ≤ session }

@@ -30,7 +30,7 @@ status_of (Err TooLong) = 4
 status_of (Err Write) = 4
 status_of (Err NoMemory) = 5
 
--- how often a read failed, where it was so that the input was not read
+-- how often a read failed, if that is why the input was not read
 abbrev pub reads_failed_by : ReadFault → ℕ
 reads_failed_by reading.Read = 1
 reads_failed_by reading.TooLong = 0

@@ -12,11 +12,11 @@ abbrev pub Grows : Option (List ℕ) → Option (List ℕ) → List ℕ → List
 Grows old new before after n =
     (piece : List ℕ) × (length piece ≡ n) × (after ≡ before ++ piece) × Consumes old new piece × (n ≡ 0 → IsAtEnd new)
 
--- the input is all that the source had left, where it tells, and within the limit
+-- the input is all that the source had left, if it tells, and within the limit
 pub record IsInput (left : Option (List ℕ)) (input : List ℕ) : Type 0 where
   pub whole : IfSome left (λ all. input ≡ all)
   pub within : length input ≤ 16777216
 
--- the source had more left than an input may have, where it tells
+-- the source had more left than an input may have, if it tells
 abbrev pub IsTooLong : Option (List ℕ) → Type 0
 IsTooLong left = IfSome left (λ all. 16777216 < length all)

@@ -1,4 +1,4 @@
--- What is answered where the report of a run is sent.
+-- What is answered when the report of a run is sent.
 use Rattle.std.specs.Prelude.{◌≡◌, ℕ, List, Option, Result, Ok, Err}
 use Rattle.std.specs.Io.KnownBytes.{Appends}
 use Rattle.report.specs.Taken.{AppendsPrefix}

@@ -1,5 +1,5 @@
-//! What `labrun` does, over any source and any sink: a script is read whole, and what is written and answered is settled by its
-//! bytes. A script is checked, upgraded, replayed from the opening on, or run on a bench, by rounds or by threads.
+//! What `labrun` does, over any source and any sink: a script is read whole, and the output and the answer depend only on its
+//! bytes. A script is checked, upgraded, replayed from the initial state on, or run on a bench, by rounds or by threads.
 #![tactic(auto)]
 
 mod asking;

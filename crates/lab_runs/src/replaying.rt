@@ -21,7 +21,7 @@ use report::laws::report_of_events;
 use script_reader::read_steps;
 use std::alloc::Allocator;
 
-/// Takes steps from the opening on, and writes the report of their run.
+/// Takes steps from the initial state on, and writes the report of their run.
 fn take_and_show<A: Allocator, W: Sink>(
     plan: &Plan<A>,
     world: &mut World<'_, A>,
@@ -75,7 +75,7 @@ fn replay<A: Allocator + Copy, W: Sink>(
     replay_steps(alloc, &plan, &steps, sink)
 }
 
-/// Takes each step of a script from the opening on, all in turn, and writes the report of the run.
+/// Takes each step of a script from the initial state on, all in turn, and writes the report of the run.
 ///
 /// The input is at most 16777216 bytes. All steps are read before the first is taken, and all are
 /// taken before the report goes out, a line at a time; a flush follows it. Finished says that every

@@ -23,7 +23,7 @@ fn send_report<S: Showing<P>, P: Allocator, W: Sink>(
     }
 }
 
-/// How a run has ended: Finished where every job is retired.
+/// How a run has ended: Finished if every job is retired.
 fn outcome_of<S: Showing<P>, P: Allocator>(run: &S) -> Outcome
     ensures { result ≡ outcome_of (all_retired (S.plan run.now) (S.shown run.now)) }
 {

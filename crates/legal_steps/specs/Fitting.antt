@@ -6,7 +6,7 @@ use Rattle.legal_steps.specs.declared.phase.JobState.{JobState}
 use Rattle.legal_steps.specs.State.{State, Seat, IsOfEdge, IsInSession, edge, seat}
 
 -- how far a job of the plan may be: its session is one of the job's, and its position is within the session,
--- with a command left where it reaches
+-- with a command left if it reaches
 pub record IsPhaseOf (plan : LabPlan) (j : ℕ) (phase : JobState) : Type 0 where
   pub session_there : phase.session ≤ length (sessions plan j)
   pub begun : IsInSession phase.drinking → 1 ≤ phase.session

@@ -6,7 +6,7 @@ use Rattle.legal_steps.specs.declared.phase.Dining.{Dining}
 use Rattle.legal_steps.specs.declared.phase.Dining.TheVariants.{Hungry, Eating}
 use Rattle.legal_steps.specs.declared.edge_state.EdgeState.{EdgeState}
 
--- a hungry job asks for a fork that is there, where the token is here
+-- a hungry job asks for a fork that is there, if the token is here
 abbrev pub WantsFork : Dining → End → EdgeState → Type 0
 WantsFork dining here x = (dining ≡ Hungry) × (x.fork ≢ here) × (x.token ≡ here)
 

@@ -33,7 +33,7 @@ HasOneHolder = Always IsExclusive
 abbrev pub HasOnePlace : Type 0
 HasOnePlace = Always (λ plan s. (e : ℕ) (thing : Thing) → IsThingOf plan e thing → StandsAtOne plan s e thing)
 
--- precedence has no cycle, where it has none in the opening state
+-- precedence has no cycle, if it has none in the opening state
 abbrev pub StaysAcyclic : Type 0
 StaysAcyclic = (plan : LabPlan) (opening : State) (events : List Event) (n : ℕ) → IsPlan plan → IsOpening plan opening
     → IsAcyclic plan opening → IsLegalFrom plan opening events → IsAcyclic plan (after_all plan opening (take n events))

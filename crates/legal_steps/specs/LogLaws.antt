@@ -39,7 +39,7 @@ EndsInOrder = AlwaysAlong (λ plan opening done. All (IsSessionOf plan) (ended_s
 abbrev pub HasEndedSessions : Type 0
 HasEndedSessions = AlwaysAlong (λ plan opening done. (i : ℕ) → BeginsWithParts plan i (ended_sessions plan opening done) (log (after_all plan opening done) i))
 
--- and where no job holds the instrument, its log has nothing else
+-- and if no job holds the instrument, its log has nothing else
 abbrev pub HasNothingElse : Type 0
 HasNothingElse = AlwaysAlong (λ plan opening done. (i : ℕ) → ((j : ℕ) → ¬ Holds plan (after_all plan opening done) j i)
     → map line_of (log (after_all plan opening done) i) ≡ parts_of plan i (ended_sessions plan opening done))

@@ -27,7 +27,7 @@ impl EdgeState {
     ghost use Rattle.legal_steps.specs.State.{IsOfEdge, bottles_at};
     ghost use Rattle.legal_steps.specs.Legal.{fork_mark_seen};
 
-    /// Whether a look from this end, of a job that dines so, sets the mark for the fork: where the fork is
+    /// Whether a look from this end, of a job that dines so, sets the mark for the fork: if the fork is
     /// here and its neighbour has no claim to it, or if it is here and dirty while the job eats.
     #[tactic(auto, unfolding(crate::specs::Legal::fork_mark_seen))]
     pub fn fork_mark(self, here: End, dining: Dining) -> bool

@@ -95,7 +95,7 @@ impl JobState {
         self.dining == Dining::Thinking && self.drinking == Drinking::Thirsty
     }
 
-    /// Whether the job may end its meal, where its forks are dirty: it eats, and isn't thirsty.
+    /// Whether the job may end its meal, if its forks are dirty: it eats, and isn't thirsty.
     pub fn may_leave(self) -> bool
         ensures { IsTrue result ↔ ((self.dining ≡ Eating) × (self.drinking ≢ Thirsty)) }
     {

@@ -96,7 +96,7 @@ CountsItself = (h : List Event) (j : ℕ) → (meals_of j (events_by j h) ≡ me
 abbrev pub LeadsOn : Type 0
 LeadsOn = (plan : LabPlan) (s : State) (a b : List Event) → after_all plan s (a ++ b) ≡ after_all plan (after_all plan s a) b
 
--- both are legal where the first is, and the second from where it led
+-- both are legal if the first is, and the second from where it led
 abbrev pub IsLegalInParts : Type 0
 IsLegalInParts = (plan : LabPlan) (s : State) (a b : List Event)
     → IsLegalFrom plan s (a ++ b) ↔ (IsLegalFrom plan s a × IsLegalFrom plan (after_all plan s a) b)

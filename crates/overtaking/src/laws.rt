@@ -10,12 +10,12 @@ pub fn overtaken_once()
 {}
 
 /// In every state that a legal list of events leads to from an opening state without a cycle of precedence:
-/// where no event but Withdraw changes anything, all jobs are retired. So no such state is stuck before its end.
+/// if no event but Withdraw changes anything, all jobs are retired. So no such state is stuck before its end.
 pub fn never_stuck()
     ensures { IsNeverStuck }
 {}
 
-/// In every such state: where every mark is what a look would set, and no event but looks, glances and Withdraw
+/// In every such state: if every mark is what a look would set, and no event but looks, glances and Withdraw
 /// is legal, all jobs are retired.
 pub fn quiet_is_retired()
     ensures { QuietIsRetired }

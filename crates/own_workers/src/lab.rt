@@ -50,7 +50,7 @@ fn put(builder: &mut PlanBuilder, line: Line) -> bool {
     }
 }
 
-/// The plan, or none where there is no memory.
+/// The plan, or none if there is no memory.
 pub(crate) fn planned(alloc: Global) -> Option<Plan> {
     let mut builder = PlanBuilder::new(alloc);
     for line in LINES {

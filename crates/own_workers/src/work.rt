@@ -11,7 +11,7 @@ use lab_plan::JobNo;
 use std::alloc::Allocator;
 use std::sync::Wait;
 
-/// More than any of these waits takes where threads run side by side; a thread that has used them up gives up, so the program ends. A
+/// More than any of these waits takes if threads run side by side; a thread that has used them up gives up, so the program ends. A
 /// sleeping thread takes some hundred a second.
 const TURNS: u32 = 50_000;
 

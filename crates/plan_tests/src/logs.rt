@@ -321,7 +321,7 @@ fn heap_has_room(rt: &impl Abort, alloc: Global, size: usize) -> bool {
     has_room(rt, &heap)
 }
 
-/// The one allocation is that of `with_room`: where it is refused, there is no log.
+/// The one allocation is that of `with_room`: if it is refused, there is no log.
 #[test]
 fn refuses_room_where_memory_is_refused(rt: HostRuntime) {
     let mut made = 0u32;

@@ -27,7 +27,7 @@ fn see_below(rt: &impl Abort, jobs: usize, pairs: &[(JobNo, JobNo)])
     }
 }
 
-/// Whether the cycle that is found is this one; none where it is of no job.
+/// Whether the cycle that is found is this one; none if it is of no job.
 fn has_cycle<A: Allocator + Copy>(
     rt: &impl Abort,
     alloc: A,

@@ -210,7 +210,7 @@ fn end_of<T: Allocator>(rt: &impl Abort, plan: &Plan<T>, job: JobNo) -> End {
     End::of(plan, job, AB)
 }
 
-/// The bottles of the edge that are at each of its ends, where those of this set are at the higher one.
+/// The bottles of the edge that are at each of its ends, if those of this set are at the higher one.
 fn bottles_there<T: Allocator>(rt: &impl Abort, plan: &Plan<T>, set: u32) -> (u32, u32) {
     assert!(rt; plan.edges() == 1);
     let state = edge(End::Lower, true, End::Higher, set);

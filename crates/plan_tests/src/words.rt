@@ -175,7 +175,7 @@ fn edges_are_changed(rt: HostRuntime) {
     }
 }
 
-/// Groups of moves in a row from the opening on, and the word after each.
+/// Groups of moves in a row from the initial state on, and the word after each.
 fn follow(rt: &impl Abort, groups: &[(EdgeMoves, u64)]) {
     let mut edge = EdgeWord::opening(1);
     for &(moves, word) in groups {

@@ -2,7 +2,7 @@
 ghost use Rattle.printed_reports.specs.HasTimeline.{HasNoOtherFault, HasTimeline};
 ghost use Rattle.printed_reports.specs.ReadBack.{IsReportReadBack};
 
-/// The report of a legal list of events is the text of one report and of no other. That one is what a reader answers, but where memory
+/// The report of a legal list of events is the text of one report and of no other. That one is what a reader answers, unless memory
 /// runs out, and its lines have the numbers, the names, the form and the end that a report has.
 pub fn is_read_back()
     ensures { IsReportReadBack }

@@ -1,3 +1,1 @@
-pub mod Explained
-pub mod Places
 pub mod Refused

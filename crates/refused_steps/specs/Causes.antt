@@ -121,7 +121,7 @@ FailsAsSet plan e set NoBottle = set ≡ 0
 FailsAsSet plan e set NotOfEdge = ¬ IsOfEdge plan e set
 FailsAsSet plan e set cause = ⊥
 
--- no cause where the event is legal, else one that holds
+-- no cause if the event is legal, else one that holds
 abbrev pub Explains : LabPlan → State → Event → Option Cause → Type 0
 Explains plan s event None = May plan s event
 Explains plan s event (Some cause) = Fails plan s event cause

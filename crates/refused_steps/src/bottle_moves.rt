@@ -1,9 +1,9 @@
 //! Requests for bottles, and bottles that are given.
 ghost use Rattle.std.specs.Prelude.{◌≡◌, ℕ, ◌<◌, length, MatchOption};
 ghost use Rattle.lab_plan.specs.LabPlan.{edges, bottles};
-ghost use Rattle.legal_steps.specs.declared.event.Event.TheVariants.{AskBottles, GiveBottles};
 ghost use Rattle.legal_steps.specs.State.{IsOwn, IsOfEdge, Has};
-ghost use Rattle.legal_steps.specs.Legal.{IsBottleSet, MayAskBottle, MayGiveBottle};
+ghost use Rattle.legal_steps.specs.Legal.{IsBottleSet};
+ghost use Rattle.refused_steps.specs.BottleMoves.{MayMove, event_of};
 ghost use Rattle.refused_steps.specs.Causes.{Explains, Fails, FailsAsSet};
 
 use crate::asking::{is_drinking, needs_bottle, owns};
@@ -27,44 +27,61 @@ fn no_set<A: Allocator>(world: &World<'_, A>, edge: EdgeNo, set: u32) -> Option<
     None
 }
 
-/// Why the job may not ask for a bottle of the set.
-fn ask_bottle<A: Allocator>(
+/// What a job does with bottles of an edge.
+#[derive(Clone, Copy)]
+pub(crate) enum BottleMove {
+    Ask,
+    Give,
+}
+
+/// Why the job may not do this with a bottle of the set.
+fn of_bottle<A: Allocator>(
     world: &World<'_, A>,
     job: JobNo,
     edge: EdgeNo,
     set: u32,
+    what: BottleMove,
     bottle: u32,
 ) -> Option<Cause>
     requires own { IsOwn world.now.plan job edge }
     requires is_bottle { bottle < length (bottles world.now.plan edge) }
     requires member { Has set bottle }
-    ensures { MatchOption result (MayAskBottle world.now.plan world.now.state job edge bottle)
-        (Fails world.now.plan world.now.state (AskBottles job edge set)) }
+    ensures { MatchOption result (MayMove what world.now.plan world.now.state job edge bottle)
+        (Fails world.now.plan world.now.state (event_of what job edge set)) }
 {
     let here = End::of(world.plan(), job, edge);
     let state = world.edge(edge);
-    if !needs_bottle(world, job, edge, bottle) {
-        return Some(Cause::NotNeeded(bottle));
+    let needed = needs_bottle(world, job, edge, bottle);
+    let is_here = bottle_end(state.bottles, bottle) == here;
+    let has_token = bottle_end(state.bottle_tokens, bottle) == here;
+    match what {
+        BottleMove::Ask if !needed => Some(Cause::NotNeeded(bottle)),
+        BottleMove::Ask if is_here => Some(Cause::BottleHere(bottle)),
+        BottleMove::Give if !is_here => Some(Cause::BottleThere(bottle)),
+        _ if !has_token => Some(Cause::BottleTokenThere(bottle)),
+        BottleMove::Ask => None,
+        BottleMove::Give if needed && is_drinking(world, job) => Some(Cause::KeptInSession(bottle)),
+        BottleMove::Give if needed && state.fork == here => Some(Cause::KeptWithFork(bottle)),
+        BottleMove::Give => None,
     }
-    if bottle_end(state.bottles, bottle) == here {
-        return Some(Cause::BottleHere(bottle));
-    }
-    if bottle_end(state.bottle_tokens, bottle) != here {
-        return Some(Cause::BottleTokenThere(bottle));
-    }
-    None
 }
 
-/// Why the job may not ask for the bottles of the set.
-fn ask_each<A: Allocator>(world: &World<'_, A>, job: JobNo, edge: EdgeNo, set: u32) -> Option<Cause>
+/// Why the job may not do this with the bottles of the set.
+fn of_each<A: Allocator>(
+    world: &World<'_, A>,
+    job: JobNo,
+    edge: EdgeNo,
+    set: u32,
+    what: BottleMove,
+) -> Option<Cause>
     requires own { IsOwn world.now.plan job edge }
     requires set { IsOfEdge world.now.plan edge set }
-    ensures { MatchOption result ((k : ℕ) → Has set k → MayAskBottle world.now.plan world.now.state job edge k)
-        (Fails world.now.plan world.now.state (AskBottles job edge set)) }
+    ensures { MatchOption result ((k : ℕ) → Has set k → MayMove what world.now.plan world.now.state job edge k)
+        (Fails world.now.plan world.now.state (event_of what job edge set)) }
 {
     for bottle in 0..world.plan().bottles(edge) {
         if has(set, bottle) {
-            if let Some(cause) = ask_bottle(world, job, edge, set, bottle) {
+            if let Some(cause) = of_bottle(world, job, edge, set, what, bottle) {
                 return Some(cause);
             }
         }
@@ -72,97 +89,28 @@ fn ask_each<A: Allocator>(world: &World<'_, A>, job: JobNo, edge: EdgeNo, set: u
     None
 }
 
-pub(crate) fn ask_bottles<A: Allocator>(
+/// Why the job may not ask for the bottles, or give them.
+pub(crate) fn move_bottles<A: Allocator>(
     world: &World<'_, A>,
     job: JobNo,
     edge: EdgeNo,
     set: u32,
+    what: BottleMove,
 ) -> Option<Cause>
-    ensures { Explains world.now.plan world.now.state (AskBottles job edge set) result }
+    ensures { Explains world.now.plan world.now.state (event_of what job edge set) result }
 {
     if !owns(world, job, edge) {
         return Some(Cause::NotOwn);
     }
     // this call ensures that the job is one of the plan's
     let _ = End::of(world.plan(), job, edge);
-    if world.job(job).drinking != Drinking::Thirsty {
-        return Some(Cause::NotThirsty);
+    let drinking = world.job(job).drinking;
+    match what {
+        BottleMove::Ask if drinking != Drinking::Thirsty => return Some(Cause::NotThirsty),
+        _ => (),
     }
     if let Some(cause) = no_set(world, edge, set) {
         return Some(cause);
     }
-    ask_each(world, job, edge, set)
-}
-
-/// Why the job may not give a bottle of the set.
-fn give_bottle<A: Allocator>(
-    world: &World<'_, A>,
-    job: JobNo,
-    edge: EdgeNo,
-    set: u32,
-    bottle: u32,
-) -> Option<Cause>
-    requires own { IsOwn world.now.plan job edge }
-    requires is_bottle { bottle < length (bottles world.now.plan edge) }
-    requires member { Has set bottle }
-    ensures { MatchOption result (MayGiveBottle world.now.plan world.now.state job edge bottle)
-        (Fails world.now.plan world.now.state (GiveBottles job edge set)) }
-{
-    let here = End::of(world.plan(), job, edge);
-    let state = world.edge(edge);
-    if bottle_end(state.bottles, bottle) != here {
-        return Some(Cause::BottleThere(bottle));
-    }
-    if bottle_end(state.bottle_tokens, bottle) != here {
-        return Some(Cause::BottleTokenThere(bottle));
-    }
-    if !needs_bottle(world, job, edge, bottle) {
-        return None;
-    }
-    if is_drinking(world, job) {
-        return Some(Cause::KeptInSession(bottle));
-    }
-    if state.fork == here {
-        return Some(Cause::KeptWithFork(bottle));
-    }
-    None
-}
-
-/// Why the job may not give the bottles of the set.
-fn give_each<A: Allocator>(
-    world: &World<'_, A>,
-    job: JobNo,
-    edge: EdgeNo,
-    set: u32,
-) -> Option<Cause>
-    requires own { IsOwn world.now.plan job edge }
-    requires set { IsOfEdge world.now.plan edge set }
-    ensures { MatchOption result ((k : ℕ) → Has set k → MayGiveBottle world.now.plan world.now.state job edge k)
-        (Fails world.now.plan world.now.state (GiveBottles job edge set)) }
-{
-    for bottle in 0..world.plan().bottles(edge) {
-        if has(set, bottle) {
-            if let Some(cause) = give_bottle(world, job, edge, set, bottle) {
-                return Some(cause);
-            }
-        }
-    }
-    None
-}
-
-pub(crate) fn give_bottles<A: Allocator>(
-    world: &World<'_, A>,
-    job: JobNo,
-    edge: EdgeNo,
-    set: u32,
-) -> Option<Cause>
-    ensures { Explains world.now.plan world.now.state (GiveBottles job edge set) result }
-{
-    if !owns(world, job, edge) {
-        return Some(Cause::NotOwn);
-    }
-    if let Some(cause) = no_set(world, edge, set) {
-        return Some(cause);
-    }
-    give_each(world, job, edge, set)
+    of_each(world, job, edge, set, what)
 }

@@ -5,7 +5,7 @@ ghost use Rattle.legal_steps.specs.Legal.{May};
 ghost use Rattle.refused_steps.specs.Causes.{Explains};
 
 use crate::asking::is_job;
-use crate::bottle_moves::{ask_bottles, give_bottles};
+use crate::bottle_moves::{BottleMove, move_bottles};
 use crate::cause::Cause;
 use crate::forks::{ask_fork, give_fork, look, soil};
 use crate::meals::{hunger, leave, sit};
@@ -46,8 +46,8 @@ fn cause_of<A: Allocator>(world: &World<'_, A>, event: &Event) -> Option<Cause>
         Event::AskFork(job, edge) => ask_fork(world, job, edge),
         Event::GiveFork(job, edge) => give_fork(world, job, edge),
         Event::Soil(job, edge) => soil(world, job, edge),
-        Event::AskBottles(job, edge, set) => ask_bottles(world, job, edge, set),
-        Event::GiveBottles(job, edge, set) => give_bottles(world, job, edge, set),
+        Event::AskBottles(job, edge, set) => move_bottles(world, job, edge, set, BottleMove::Ask),
+        Event::GiveBottles(job, edge, set) => move_bottles(world, job, edge, set, BottleMove::Give),
         Event::Thirst(job) => thirst(world, job),
         Event::Hunger(job) => hunger(world, job),
         Event::Sit(job) => sit(world, job),

@@ -26,7 +26,7 @@ report_after plan opening events = report_of plan (shown_after plan opening even
 abbrev pub retired_after : LabPlan → State → List Event → Bool
 retired_after plan opening events = all_retired plan (shown_after plan opening events)
 
--- the law: a world that some events led to from its start has their report, and its jobs are all retired where they are after these events
+-- the law: a world that some events led to from its start has their report, and its jobs are all retired if they are after these events
 abbrev pub IsReportOfEvents : Type 0
 IsReportOfEvents = (plan : LabPlan) (opening : State) (events : List Event) (world : WorldView) → LeadsTo (at_start plan opening) events world
     → (report_of world.plan (shown_by world) ≡ report_after plan opening events) × (all_retired world.plan (shown_by world) ≡ retired_after plan opening events)

@@ -122,7 +122,7 @@ pub fn all_retired<R: Showing<P>, P: Allocator>(run: &R) -> bool
     true
 }
 
-/// `finished` where every job is retired, else `unfinished`.
+/// `finished` if every job is retired, else `unfinished`.
 fn write_last<W: Sink>(is_finished: bool, sink: &mut W) -> Result<(), WriteFault>
     ensures { Sends W.taken W.failures sink.old sink.new (last_line is_finished) result }
 {

@@ -11,13 +11,13 @@ pub struct Failed;
 
 /// Where bytes go.
 pub trait Sink {
-    /// The bytes that were taken so far, where the sink tells them.
+    /// The bytes that were taken so far, if the sink tells them.
     ghost taken: { Self → Option (List ℕ) } = { λ _. None };
 
     /// How many writes and flushes have failed.
     ghost failures: { Self → ℕ };
 
-    /// Takes some bytes from the front of a nonempty text, at least one, and says how many; where it fails, none.
+    /// Takes some bytes from the front of a nonempty text, at least one, and says how many; if it fails, none.
     fn write(&mut self, bytes: &[u8]) -> Result<usize, Failed>
         requires { 0 < length bytes.now }
         ensures some { IfOk result (λ n. 0 < n) }

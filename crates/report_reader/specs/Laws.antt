@@ -9,7 +9,7 @@ use Rattle.report_reader.specs.Report.{ReportText, text_lines, lines_of, IsTextO
 use Rattle.report_reader.specs.State.{is_two, is_same, all_retired}
 use Rattle.report_reader.specs.Reading.{Refuses}
 
--- its lines fit, each job's line has the form of its version, and it is finished where every job is retired
+-- its lines fit, each job's line has the form of its version, and it is finished if every job is retired
 pub record IsReport (report : ReportText) : Type 0 where
   pub lines : AllByRecursion LineFits (lines_of report)
   pub forms : AllByRecursion (λ (job : JobText). is_same (is_some job.withdrawn) (is_two (Some report.version)) ≡ true) report.jobs

@@ -67,7 +67,7 @@ Takes old line (Ok _) new = (cause_in old line ≡ None) × (new ≡ after old l
 Takes old line (Err NoMemory) new = Unit {0}
 Takes old line (Err cause) new = cause_in old line ≡ Some cause
 
--- the same where the words need be no line
+-- the same for words that need not be a line
 abbrev pub Reads : State → Option Line → Result (Unit {0}) ReportCause → State → Type 0
 Reads old (Some line) result new = Takes old line result new
 Reads old None (Ok _) new = ⊥

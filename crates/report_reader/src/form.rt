@@ -209,7 +209,7 @@ fn job_of<'a>(
     }))
 }
 
-/// `job NAME sessions D of S`, by its words.
+/// `job NAME sessions D of S`, from its words.
 #[tactic(auto, using(crate::proofs::Lengths::six))]
 fn head_of<'a>(words: &[&'a [u8]]) -> Option<(&'a [u8], u32, u32)>
     requires { length words.now ≡ 6 }
@@ -218,7 +218,7 @@ fn head_of<'a>(words: &[&'a [u8]]) -> Option<(&'a [u8], u32, u32)>
     done_of(words[0], words[1], words[2], words[3], words[4], words[5])
 }
 
-/// `withdrawn X`, by its words.
+/// `withdrawn X`, from its words.
 #[tactic(auto, using(crate::proofs::Lengths::two))]
 fn middle_of(words: &[&[u8]]) -> Option<Option<u32>>
     requires { length words.now ≡ 2 }
@@ -227,7 +227,7 @@ fn middle_of(words: &[&[u8]]) -> Option<Option<u32>>
     withdrawn_of(words[0], words[1])
 }
 
-/// `meals M STATE`, by its words.
+/// `meals M STATE`, from its words.
 #[tactic(auto, using(crate::proofs::Lengths::three))]
 fn tail_of(words: &[&[u8]]) -> Option<(u32, bool)>
     requires { length words.now ≡ 3 }

@@ -18,6 +18,6 @@ abbrev pub seen_after : ℕ → Option EdgeState → List Event → Option EdgeS
 seen_after e seen [] = seen
 seen_after e seen (event ∷ events) = seen_after e (seen_next e seen event) events
 
--- the word that the last look at edge e saw, in the events of one job; none where it never looked, or changed the edge since
+-- the word that the last look at edge e saw, in the events of one job; none if it never looked, or changed the edge since
 abbrev pub last_seen : ℕ → List Event → Option EdgeState
 last_seen e deeds = seen_after e None deeds

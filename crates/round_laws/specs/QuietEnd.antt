@@ -21,7 +21,7 @@ HasAllPlayers plan players = (j : ℕ) → j < length plan.jobs → Any (λ (i :
 abbrev pub NoneReaches : LabPlan → List Event → Type 0
 NoneReaches plan h = (j : ℕ) → j < length plan.jobs → drinking (state_after plan h) j ≢ Reaching
 
--- Rounds of all jobs, from a history after which none is reaching: where every turn of the last one was idle, and both ends of every edge know the same of it,
+-- Rounds of all jobs, from a history after which none is reaching: if every turn of the last one was idle, and both ends of every edge know the same of it,
 -- all jobs are retired
 abbrev pub NoQuietEndFromRest : Type 0
 NoQuietEndFromRest = (plan : LabPlan) (players players' : List Player) (n : ℕ) (start h : List Event)

@@ -35,7 +35,7 @@ abbrev pub IdleJobKnowsWhatItSaw : Type 0
 IdleJobKnowsWhatItSaw = (plan : LabPlan) (h : List Event) (j e : ℕ) → IsHistory plan h → EndsIdle plan h j
     → IsOwn plan j e → last_seen e (events_by j h) ≡ Some (edge (known_by plan (events_by j h)) e)
 
--- so where each job's last turn was idle, it is the same to know the same of an edge and to have seen the same word last
+-- so if each job's last turn was idle, it is the same to know the same of an edge and to have seen the same word last
 abbrev pub BothSawIsBothKnow : Type 0
 BothSawIsBothKnow = (plan : LabPlan) (h : List Event) → IsHistory plan h → ((j : ℕ) → IsJob plan j → EndsIdle plan h j) → BothSaw plan h ↔ BothKnow plan h
 

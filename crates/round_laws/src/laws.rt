@@ -4,13 +4,13 @@ ghost use Rattle.round_laws.specs.FromRest.{NeverQuietFromRest};
 ghost use Rattle.round_laws.specs.OneRun.{OneRun};
 ghost use Rattle.round_laws.specs.QuietEnd.{NoQuietEnd, NoQuietEndFromRest};
 
-/// Rounds don't end because nothing is left to do, wherever they began with no job reaching for a log: where the last round was
+/// Rounds don't end because nothing is left to do, wherever they began with no job reaching for a log: if the last round was
 /// idle and both ends of every edge know the same of it, all jobs are retired.
 pub fn no_quiet_end_from_rest()
     ensures { NoQuietEndFromRest }
 {}
 
-/// Rounds from the opening don't end because nothing is left to do: where the last round was idle and both ends of every
+/// Rounds from the initial state don't end because nothing is left to do: if the last round was idle and both ends of every
 /// edge know the same of it, all jobs are retired.
 pub fn no_quiet_end()
     ensures { NoQuietEnd }
@@ -22,7 +22,7 @@ pub fn one_run()
     ensures { OneRun }
 {}
 
-/// What `rounds` drives after `open` is rounds of all jobs from the opening.
+/// What `rounds` drives after `open` is rounds of all jobs from the initial state.
 pub fn drives_from_opening()
     ensures { DrivesFromOpening }
 {}

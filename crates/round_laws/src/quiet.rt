@@ -6,7 +6,7 @@ pub fn idle_job_knows_what_it_saw()
     ensures { IdleJobKnowsWhatItSaw }
 {}
 
-/// Where each job's last turn was idle, the two ends of an edge know the same of it exactly if their last looks
+/// If each job's last turn was idle, the two ends of an edge know the same of it exactly if their last looks
 /// saw the same word.
 pub fn both_saw_is_both_know()
     ensures { BothSawIsBothKnow }

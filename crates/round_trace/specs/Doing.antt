@@ -16,7 +16,7 @@ pub record Tries (old : WorldView) (before : List Event) (event : Event) (done :
   pub same_plan : new.plan ≡ old.plan
   pub added : after ≡ before ++ on done event []
 
--- all bottles of which P holds were moved together, where there are some
+-- all bottles of which P holds were moved together, if there are any
 pub record MovesAll (P : ℕ → Type 0) (event : ℕ → Event) (e : ℕ) (old : WorldView) (before : List Event) (set : ℕ) (new : WorldView)
     (after : List Event) : Type 0 where
   pub greatest : IsGreatest old.plan e set P
@@ -39,7 +39,7 @@ pub record VisitsEdges (old : WorldView) (before : List Event) (j : ℕ) (es : L
 abbrev pub VisitsEdge : WorldView → List Event → ℕ → ℕ → WorldView → List Event → Type 0
 VisitsEdge old before j e new after = VisitsEdges old before j (e ∷ []) new after
 
--- the events of a phase act, of a command with its Act; none where there is none
+-- the events of a phase act, of a command with its Act; none if there is none
 abbrev pub first_events : Option Event → List Event
 first_events None = []
 first_events (Some event) = whole_act event

@@ -1,7 +1,7 @@
 //! What holds of the steps of a run. Each law is the contract of a function that does nothing.
 ghost use Rattle.round_trace.specs.StepsOf.{StepsGiveEvents, StepsAreOfPlan};
 
-/// The steps of legal events have exactly these events, where they are taken one after another from where the events began.
+/// The steps of legal events have exactly these events, if they are taken one after another from where the events began.
 pub fn steps_give_events()
     ensures { StepsGiveEvents }
 {}

@@ -35,7 +35,7 @@ pub fn are_at_rest<A: Allocator>(desks: &[Desk<A>])
     match desks {
         [] => (),
         [desk, others @ ..] => {
-            // What the desk's type keeps is told by its calls alone.
+            // What the desk's type keeps is known by its calls alone.
             let _ = desk.job();
             are_at_rest(others)
         }

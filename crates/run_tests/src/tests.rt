@@ -165,7 +165,7 @@ fn tells<R: Threads + Wait + Abort + Sync>(
     is_told(rt, bytes.as_slice(), answer, ends, text);
 }
 
-/// The same, where the writer takes at most this many bytes a call and no more calls than these.
+/// The same, by a writer that takes at most this many bytes a call and no more calls than these.
 fn told_by<R: Threads + Wait + Abort + Sync>(
     rt: &R,
     alloc: Global,

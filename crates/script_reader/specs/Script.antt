@@ -29,11 +29,11 @@ abbrev pub is_empty : {A : Type 0} → List A → Bool
 is_empty [] = true
 is_empty (x ∷ xs) = false
 
--- a session is open where the nearest earlier line among job, session and end is a session line
+-- a session is open if the nearest earlier line among job, session and end is a session line
 abbrev pub is_open : List Line → Bool
 is_open before = has is_session (find (λ line. is_job_line line || is_session line || is_end line) before)
 
--- the session has no command where the nearest earlier line among session and command is a session line
+-- the session has no command if the nearest earlier line among session and command is a session line
 abbrev pub has_no_command : List Line → Bool
 has_no_command before = has is_session (find (λ line. is_session line || is_command line) before)
 

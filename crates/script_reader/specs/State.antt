@@ -52,7 +52,7 @@ pub record IsTied (s : State) : Type 0 where
   pub bare : s.bare ≡ is_bare s.plan
   pub version : s.plan.version ≡ version_number s.version
 
--- a cause where the test holds, or else the rest
+-- a cause if the test holds, or else the rest
 abbrev pub at : Bool → ScriptCause → Option ScriptCause → Option ScriptCause
 at test cause rest = if test then Some cause else rest
 

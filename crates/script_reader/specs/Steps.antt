@@ -36,7 +36,7 @@ edge_named plan name other =
 abbrev pub bottle_named : LabPlan → ℕ → List ℕ → Option ℕ
 bottle_named plan e name = position (λ i. bytes_eq name (slice_index_or plan.instruments i [])) (bottles plan e)
 
--- all of them, where each is there
+-- all of them, if each is there
 abbrev pub all_there : List (Option ℕ) → Option (List ℕ)
 all_there [] = Some []
 all_there (x ∷ xs) = option_and_then (λ k. option_map (λ ks. k ∷ ks) (all_there xs)) x
@@ -104,7 +104,7 @@ abbrev pub or_else : {A : Type 0} → Option A → Option A → Option A
 or_else None other = other
 or_else (Some x) other = Some x
 
--- the step with this word and these names, where there is one
+-- the step with this word and these names, if there is one
 unfoldable pub step_with : LabPlan → List ℕ → List (List ℕ) → Option Step
 step_with plan word names =
     or_else (job_step plan word names) (or_else (edge_step plan word names) (or_else (bottle_step plan word names) (glance_step plan word names)))
@@ -133,7 +133,7 @@ steps_part lines = drop (length (script_part lines) + 1) lines
 abbrev pub first_step : List (List ℕ) → ℕ
 first_step lines = length (script_part lines) + 2
 
--- the lines that aren't skipped, each with its number and its step, where it has one
+-- the lines that aren't skipped, each with its number and its step, if it has one
 abbrev pub list_of : LabPlan → ℕ → List (List ℕ) → List (ℕ × Option Step)
 list_of plan first lines = numbered (step_in plan) first lines
 

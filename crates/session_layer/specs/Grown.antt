@@ -29,7 +29,7 @@ turns_after zero turns = turns
 turns_after (suc n) turns = turns_after n (one_more 18446744073709551615 turns)
 
 -- The desk took n turns, between which it may have glanced and heard of others. But for Glances its record grew by these turns alone, and their groups stand
--- unbroken, in this order, in what it saw meanwhile; so an exchange that was due is lost only where its edge was another by then than the look saw
+-- unbroken, in this order, in what it saw meanwhile; so an exchange that was due is lost only if its edge was another by then than the look saw
 pub record TookTurns (n : ℕ) (d e : DeskView) : Type 0 where
   pub events : List Event
   pub grew : Grew d events e
@@ -68,7 +68,7 @@ HearingAlone = (d e : DeskView) (others : List DeskView) → Hears d others e �
 abbrev pub TurnsGoOn : Type 0
 TurnsGoOn = (n k : ℕ) (d m e : DeskView) → TookTurns n d m → TookTurns k m e → TookTurns (n + k) d e
 
--- where groups stand in a list, and are all that the job did there but for Glances, each lost exchange has its place between the groups before it and after it
+-- if groups stand in a list, and are all that the job did there but for Glances, each lost exchange has its place between the groups before it and after it
 abbrev pub LosesInBetween : Type 0
 LosesInBetween = (plan : LabPlan) (j : ℕ) (s : State) (a b : List Group) (e : ℕ) (saw : EdgeState) (h : List Event)
     → but_glances (events_by j h) ≡ flat (a ++ Lost e saw ∷ b) → Stands plan s (a ++ Lost e saw ∷ b) h → IsLostAt plan j s a b e saw h

@@ -42,7 +42,7 @@ pub record Sees (d : DeskView) (other : ℕ) (r : Bool) (e : DeskView) : Type 0 
   pub says : r ≡ has_retired seen.drinking
   pub adds : Adds d (Glance d.job other seen ∷ []) e
 
--- The desk glanced at every other job, in ascending order. It answers true exactly where it is retired and each glance saw a retired job; then all are, in the
+-- The desk glanced at every other job, in ascending order. It answers true exactly if it is retired and each glance saw a retired job; then all are, in the
 -- history that it has seen
 pub record Glanced (d : DeskView) (r : Bool) (e : DeskView) : Type 0 where
   pub saw : List (ℕ × JobState)

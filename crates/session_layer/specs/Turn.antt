@@ -16,7 +16,7 @@ use Rattle.turns.specs.Acts.{AreActs}
 use Rattle.turns.specs.Turn.{Visit, is_done, is_lost, count, once, AreVisits, IsTurn, IsIdleTurn}
 use Rattle.turns.specs.Turns.{Stands, visits_groups}
 
--- P where the test is true, Q where it is false
+-- P if the test is true, Q if it is false
 abbrev pub Chosen : Bool → Type 0 → Type 0 → Type 0
 Chosen true P Q = P
 Chosen false P Q = Q
@@ -107,7 +107,7 @@ TookIsTurn = (d : DeskView) (r : Turned) (d' : DeskView) → Took d r d'
 abbrev pub IdleIsIdle : Type 0
 IdleIsIdle = (d d' : DeskView) → Took d Idle d' → (events : List Event) × IsIdleTurn d.plan d.job (waited d) (known d) events × (d'.deeds ≡ d.deeds ++ events)
 
--- The answer Moved is given only where looks alone were added to the record, one at each own edge, and an exchange that was due by what its look saw was lost.
+-- The answer Moved is given only if looks alone were added to the record, one at each own edge, and an exchange that was due by what its look saw was lost.
 -- Each that was lost found another word: what the desk saw meanwhile has a place for it after its look, where the edge is another than the look saw
 pub record OnlyLooked (d d' : DeskView) : Type 0 where
   pub visits : List Visit

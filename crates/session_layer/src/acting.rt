@@ -55,7 +55,7 @@ fn first_due<A: Allocator>(bench: &Bench<A>, desk: &Desk<A>, waited: u32) -> Due
     Due::Nothing
 }
 
-/// What is due where no phase act is legal but giving the session up.
+/// What is due if no phase act is legal but giving the session up.
 fn settled_due<A: Allocator>(bench: &Bench<A>, desk: &Desk<A>, waited: u32) -> Due
     requires own { Owns bench.now desk.now }
     requires settled { IsSettled desk.now.plan (known desk.now) desk.now.job }
@@ -82,7 +82,7 @@ pub fn phase_due<A: Allocator>(bench: &Bench<A>, desk: &Desk<A>, waited: u32) ->
     }
 }
 
-/// Does the phase act that is due, and answers how many it did. Where none is due, the desk notes it.
+/// Does the phase act that is due, and answers how many it did. If none is due, the desk notes it.
 pub fn act<A: Allocator>(bench: &Bench<A>, desk: &mut Desk<A>, waited: u32) -> u32
     requires own { Owns bench.now desk.old }
     ensures { IsActed desk.old waited result desk.new }

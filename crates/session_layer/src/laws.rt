@@ -11,7 +11,7 @@ pub fn idle_is_idle()
     ensures { IdleIsIdle }
 {}
 
-/// Moved is answered only where nothing but looks was added to the record, and an exchange that was due by what its look saw found another word.
+/// Moved is answered only if nothing but looks was added to the record, and an exchange that was due by what its look saw found another word.
 pub fn moved_did_nothing()
     ensures { MovedDidNothing }
 {}

@@ -23,7 +23,7 @@ fn sees_retired<A: Allocator>(bench: &Bench<A>, desk: &mut Desk<A>, other: JobNo
     is_retired(glance(bench, desk, other).drinking())
 }
 
-/// Glances at every other job in ascending order. True exactly where the desk's job is retired and each glance saw a retired job:
+/// Glances at every other job in ascending order. True exactly if the desk's job is retired and each glance saw a retired job:
 /// then all are retired.
 pub fn all_retired<A: Allocator>(bench: &Bench<A>, desk: &mut Desk<A>) -> bool
     requires own { Owns bench.now desk.old }

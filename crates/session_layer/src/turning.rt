@@ -52,7 +52,7 @@ impl Turned {
     }
 }
 
-/// Looks at the edge, and does in one exchange what is due by what it saw. Where nothing is due, the desk notes it, so that
+/// Looks at the edge, and does in one exchange what is due by what it saw. If nothing is due, the desk notes it, so that
 /// the next visit costs the look alone while neither the edge nor the job's phase changes.
 pub fn visit<A: Allocator>(bench: &Bench<A>, desk: &mut Desk<A>, edge: EdgeNo) -> Visited
     requires own { Owns bench.now desk.old }

@@ -43,7 +43,7 @@ fn add_pair<A: Allocator, B: Allocator>(
     add_other(out, plan, job, edge)
 }
 
-/// ` INSTRUMENT` where the bottle is in the set.
+/// ` INSTRUMENT` if the bottle is in the set.
 fn add_member<A: Allocator, B: Allocator>(
     out: &mut Vec<u8, A>,
     plan: &Plan<B>,

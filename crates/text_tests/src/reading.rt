@@ -138,7 +138,7 @@ fn faults_of_scripts(rt: HostRuntime) {
     check_faults(&rt, rt.alloc(), &FAULTS);
 }
 
-/// Lines that meet two causes: the first in the order of a line's causes is told.
+/// Lines that meet two causes: the first in the order of a line's causes is reported.
 const FIRST_CAUSES: [Faulty; 20] = [
     ("job a b", 1, NoHeader),
     ("session", 1, NoHeader),

@@ -18,7 +18,7 @@ slot_of jobs entry =
     then Some (most_sessions * j + (entry.session - 1)) else None)
     (job_number jobs entry.job)
 
--- the columns of an entry's session, where it has some
+-- the columns of an entry's session, if it has any
 unfoldable pub span_of : List JobText → List Span → EntryText → Option Span
 span_of jobs spans entry = option_and_then (slice_get spans) (slot_of jobs entry)
 

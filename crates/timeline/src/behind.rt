@@ -57,7 +57,7 @@ pub(crate) fn pairs_of<'a, A: Allocator + Copy>(
     Ok(pairs)
 }
 
-/// Marks the second of a pair, where both are of some.
+/// Marks the second of a pair, if both are of some.
 fn mark_behind<A: Allocator>(marks: &[bool], behind: &mut Vec<bool, A>, x: usize, y: usize)
     requires { length behind.old.items ≡ length marks.now }
     ensures { (pairs : List (ℕ × ℕ)) (k : ℕ) → k < length pairs → slice_index_or pairs k (0, 0) ≡ (x, y) → AreBehindBelow pairs marks.now k behind.old.items

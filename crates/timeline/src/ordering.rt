@@ -101,7 +101,7 @@ fn are_stuck<A: Allocator + Copy>(
     Ok(ready(alloc, pairs, marks)?.is_none())
 }
 
-/// As `order`, at once where the slots that `spans` leaves without columns are such.
+/// As `order`, at once if the slots that `spans` leaves without columns are such.
 pub(crate) fn order_beside<A: Allocator + Copy>(
     alloc: A,
     pairs: &[(usize, usize)],

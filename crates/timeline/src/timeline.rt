@@ -50,7 +50,7 @@ impl<A: Allocator> Timeline<A> {
 }
 
 /// A timeline of a report by the pairs of its sessions, if these columns are none. Takes time in proportion to the report's entries
-/// times its jobs, where the sessions that have no columns among these are stuck: so `place` leaves them.
+/// times its jobs, if the sessions that have no columns among these are stuck: so `place` leaves them.
 fn slow_timeline_of<A: Allocator + Copy>(
     alloc: A,
     report: &Report<'_, A>,

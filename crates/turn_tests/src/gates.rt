@@ -1,5 +1,4 @@
 //! Gates of the tests, for four jobs and two workers.
-use crossbeam_utils::atomic::AtomicCell;
 use lab_plan::JobNo;
 use std::sync::atomic::{AtomicU64, Ordering};
 use std::thread::yield_now;
@@ -28,7 +27,7 @@ fn set(counts: &[AtomicU64; 4], job: u8, number: u64) {
     }
 }
 
-/// Counts the passes of each job, and notes where one isn't the next of its job, or not in the order of its worker: of two workers the
+/// Counts the passes of each job, and notes if one isn't the next of its job, or not in the order of its worker: of two workers the
 /// first drives jobs 0 and 2, the second jobs 1 and 3, the lower job first in each round.
 #[derive(Drop)]
 pub(crate) struct Counting {
@@ -86,6 +85,9 @@ pub(crate) const ALL_MEET: [Wait; 8] = [
     (2, 3, 1, 3),
 ];
 
+/// Before their first turns job 0 and job 1 wait for each other.
+pub(crate) const TWO_MEET: [Wait; 2] = [(0, 1, 1, 1), (1, 1, 0, 1)];
+
 /// Job 1 takes three turns before the first of job 0, which comes before its fourth.
 pub(crate) const THREE_FIRST: [Wait; 2] = [(0, 1, 1, 4), (1, 4, 0, 2)];
 
@@ -109,14 +111,23 @@ impl Meeting {
         }
     }
 
-    /// Whether all met.
+    fn gave_up(&self) -> bool {
+        self.missed.load(Ordering::SeqCst) != 0
+    }
+
+    /// Whether all met: each turn that was waited for came, and nobody gave up.
     pub(crate) fn all_met(&self) -> bool {
-        self.missed.load(Ordering::SeqCst) == 0
+        for (_, _, other, until) in self.waits {
+            if number_of(&self.turns, *other) < *until {
+                return false;
+            }
+        }
+        !self.gave_up()
     }
 
     fn wait_for(&self, other: u8, turn: u64) {
         for _ in 0..TRIES {
-            if number_of(&self.turns, other) >= turn || !self.all_met() {
+            if number_of(&self.turns, other) >= turn || self.gave_up() {
                 return;
             }
             yield_now();
@@ -132,53 +143,6 @@ impl Gate for Meeting {
             if *who == job.0 && *when == turn {
                 self.wait_for(*other, *until);
             }
-        }
-    }
-}
-
-/// How often a worker looks for the flag of the other, before it notes that it gave up.
-const LOOKS: u64 = 100_000_000;
-
-/// Before their first turns job 0 and job 1 each set a flag of their own, and wait for the other's.
-#[derive(Drop)]
-pub(crate) struct Flags {
-    set: [AtomicCell<bool>; 2],
-    given_up: AtomicCell<bool>,
-}
-
-impl Flags {
-    pub(crate) fn new() -> Flags {
-        Flags {
-            set: [AtomicCell::new(false), AtomicCell::new(false)],
-            given_up: AtomicCell::new(false),
-        }
-    }
-
-    /// Whether both flags are set, and nobody gave up.
-    pub(crate) fn both_saw(&self) -> bool {
-        self.set[0].load() && self.set[1].load() && !self.given_up.load()
-    }
-
-    fn meet(&self, own: usize, other: usize) {
-        if let (Some(own), Some(other)) = (self.set.get(own), self.set.get(other)) {
-            own.store(true);
-            for _ in 0..LOOKS {
-                if other.load() {
-                    return;
-                }
-                yield_now();
-            }
-            self.given_up.store(true);
-        }
-    }
-}
-
-impl Gate for Flags {
-    fn pass(&self, job: JobNo, turn: u64) {
-        match (job.0, turn) {
-            (0, 1) => self.meet(0, 1),
-            (1, 1) => self.meet(1, 0),
-            _ => (),
         }
     }
 }

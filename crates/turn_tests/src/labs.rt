@@ -17,7 +17,7 @@ pub(crate) const TWO: &str =
 pub(crate) const TWICE: &str =
     "lab 1\njob a\nsession\nscale add 1\nend\nsession\nscale add 1\nend\njob b\nsession\nscale add 1\nend\n";
 
-/// The first, where the session of b has a patience.
+/// The first, with a patience for the session of b.
 pub(crate) const PATIENCE_0: &str =
     "lab 2\njob a\nsession\nscale add 1\nend\njob b\nsession patience 0\nscale add 1\nend\n";
 

@@ -23,7 +23,7 @@ use std::process::Abort;
 #[derive(Clone, Copy)]
 pub(crate) enum Move {
     Look,
-    /// one move of a layer, where it is legal by the word last seen
+    /// one move of a layer, if it is legal by the word last seen
     Give,
     Ask,
     Soil,

@@ -3,7 +3,7 @@ ghost use Rattle.std.specs.Prelude.{◌<◌, length};
 ghost use Rattle.locality.specs.Lists.{Each};
 ghost use Rattle.edge_rule.specs.DeskView.{Owns};
 
-use crate::gates::{ALL_MEET, Counting, FORTIETH, Flags, Meeting, THREE_FIRST};
+use crate::gates::{ALL_MEET, Counting, FORTIETH, Meeting, THREE_FIRST, TWO_MEET};
 use crate::labs::{FOUR, NOBODY, RING, TWICE, TWO, closed, opened, plan_of, star_script};
 use crate::words::{CLEAN_B_ASKED_BOTTLE_B_ASKED, HUNGRY_DRINKS, HUNGRY_THIRSTY};
 use edge_rule::{Bench, CloseCause, Closed, Desk};
@@ -185,18 +185,18 @@ fn worker_goes_on_through_idle_rounds(rt: HostRuntime) {
     holds_out(&rt, rt.alloc(), &plan);
 }
 
-fn sees_both_flags<R: Threads + Wait + Abort + Sync>(rt: &R, alloc: Global, plan: &Plan) {
+fn both_begin<R: Threads + Wait + Abort + Sync>(rt: &R, alloc: Global, plan: &Plan) {
     let (bench, desks) = opened(rt, alloc, plan);
-    let gate = Flags::new();
+    let gate = Meeting::new(&TWO_MEET);
     let (_, ended) = driven(rt, alloc, &bench, desks, 2, 100_000, &gate);
-    assert!(rt; gate.both_saw());
+    assert!(rt; gate.all_met());
     assert!(rt; ended == Ended::AllRetired || ended == Ended::Limit);
 }
 
 #[test]
 fn two_workers_meet(rt: HostRuntime) {
     let plan = plan_of(&rt, rt.alloc(), TWO);
-    sees_both_flags(&rt, rt.alloc(), &plan);
+    both_begin(&rt, rt.alloc(), &plan);
 }
 
 fn ends_early<R: Threads + Wait + Abort + Sync>(rt: &R, alloc: Global, plan: &Plan) {

@@ -1,9 +1,9 @@
 //! The words of an edge with one bottle, by what they say: its fork and its bottle, as `DIRTY_A | BOTTLE_A`. A stands for the edge's lower
-//! job, and B for the higher. A thing is ASKED where its request token is at the same job: the other has asked for it.
+//! job, and B for the higher. A thing is ASKED if its request token is at the same job: the other has asked for it.
 use edge_word::EdgeWord;
 use legal_steps::EdgeState;
 
-/// The bits of a word: each is set where the thing is at B; DIRTY where the fork is dirty.
+/// The bits of a word: each is set if the thing is at B; DIRTY if the fork is dirty.
 const FORK: u64 = 1;
 
 const DIRTY: u64 = 1 << 1;

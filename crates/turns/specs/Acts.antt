@@ -7,7 +7,7 @@ use Rattle.legal_steps.specs.declared.event.Event.TheVariants.{Thirst, Hunger, S
 use Rattle.legal_steps.specs.State.{State, session}
 use Rattle.legal_steps.specs.Legal.{May}
 
--- the patience of the job's session is used up, where it has one, by a count of its turns
+-- the patience of the job's session is used up, if it has one, by a count of its turns
 abbrev pub IsUsedUp : LabPlan → State → ℕ → ℕ → Type 0
 IsUsedUp plan s j waited = ForSome (patience plan j (session s j)) (λ n. n ≤ waited)
 
@@ -29,7 +29,7 @@ abbrev pub whole_act : Event → List Event
 whole_act (Reach j) = Reach j ∷ Act j ∷ []
 whole_act event = event ∷ []
 
--- these are the events of the first in the list that counts as legal, or none where none does
+-- these are the events of the first in the list that counts as legal, or none if none does
 abbrev pub AreFirst : LabPlan → State → ℕ → ℕ → List Event → List Event → Type 0
 AreFirst plan s j waited [] events = events ≡ []
 AreFirst plan s j waited (x ∷ later) events =

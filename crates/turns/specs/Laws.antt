@@ -23,7 +23,7 @@ DueIsLegal = (plan : LabPlan) (s : State) (j e : ℕ) (m : EdgeMoves) → e < le
 abbrev pub OneGroupIsDue : Type 0
 OneGroupIsDue = (plan : LabPlan) (s : State) (j e : ℕ) (m r : EdgeMoves) → AreDue plan s j e m → AreDue plan s j e r → m ≡ r
 
--- where nothing is due, nothing is legal
+-- if nothing is due, nothing is legal
 abbrev pub NothingDueIsCalm : Type 0
 NothingDueIsCalm = (plan : LabPlan) (s : State) (j e : ℕ) (m : EdgeMoves) → AreDue plan s j e m → is_nothing m ≡ true → IsCalm plan s j e
 

@@ -24,7 +24,7 @@ is_done v = not (is_nothing v.moves) && not v.lost
 abbrev pub is_lost : Visit → Bool
 is_lost v = not (is_nothing v.moves) && v.lost
 
--- 1 where something was done, in however many events
+-- 1 if something was done, in however many events
 abbrev pub once : List Event → ℕ
 once [] = 0
 once (event ∷ events) = 1
@@ -33,7 +33,7 @@ abbrev pub count : (Visit → Bool) → List Visit → ℕ
 count f [] = 0
 count f (v ∷ vs) = (if f v then 1 else 0) + count f vs
 
--- the events of a visit: a look, and the moves where their exchange was done
+-- the events of a visit: a look, and the moves if their exchange was done
 abbrev pub visit_events : ℕ → Visit → List Event
 visit_events j v = Look j v.edge v.saw ∷ (if v.lost then [] else events_of v.moves j v.edge)
 

@@ -40,7 +40,7 @@ but_glances (event ∷ events) = if is_glance event then but_glances events else
 
 -- ---- groups
 
--- what a job does at once: these events; or nothing, where an exchange that was due on an edge is lost: the edge is another than its look saw
+-- what a job does at once: these events; or nothing, if an exchange that was due on an edge is lost: the edge is another than its look saw
 pub data Group : Type 0 where
   Did : (events : List Event) → Group
   Lost : (e : ℕ) → (saw : EdgeState) → Group
@@ -61,7 +61,7 @@ Stands plan s (Lost e saw ∷ groups) h =
     (before : List Event) × (after : List Event) × (h ≡ before ++ after) × (edge (after_all plan s before) e ≢ saw)
     × Stands plan (after_all plan s before) groups after
 
--- the groups of a visit: the look, and its one exchange: that it is lost, or its moves, with no events where none was due
+-- the groups of a visit: the look, and its one exchange: that it is lost, or its moves, with no events if none was due
 abbrev pub visit_groups : ℕ → Visit → List Group
 visit_groups j v = Did (Look j v.edge v.saw ∷ []) ∷ (if is_lost v then Lost v.edge v.saw else Did (events_of v.moves j v.edge)) ∷ []
 

@@ -11,12 +11,12 @@ pub fn one_group_is_due()
     ensures { OneGroupIsDue }
 {}
 
-/// Where no move is due on an edge, none is legal there.
+/// If no move is due on an edge, none is legal there.
 pub fn nothing_due_is_calm()
     ensures { NothingDueIsCalm }
 {}
 
-/// Where no move is legal on an edge, none is due: what a note of calm rests on.
+/// If no move is legal on an edge, none is due: what a note of calm rests on.
 pub fn calm_has_nothing_due()
     ensures { CalmHasNothingDue }
 {}

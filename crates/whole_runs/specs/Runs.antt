@@ -15,7 +15,7 @@ use Rattle.whole_runs.specs.Turns.{TakeTurns}
 use Rattle.whole_runs.specs.Shown.{shown_in}
 
 -- The run has a history: a list of events, each legal after the ones before it, from the initial state of the plan on. What is shown at its end is what these
--- events lead to. The events of each job are whole turns, at most this many; and that many, where not every job is retired
+-- events lead to. The events of each job are whole turns, at most this many; and that many, if not every job is retired
 pub record IsRunByTurns (plan : LabPlan) (turns : ℕ) (c : ClosedView) : Type 0 where
   pub of_plan : c.plan ≡ plan
   pub within_limits : IsPlan plan

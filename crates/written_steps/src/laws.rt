@@ -20,7 +20,7 @@ pub fn list_is_read_back()
     ensures { IsListReadBack }
 {}
 
-/// Each move that an explanation lists is legal behind the steps, where all of them are legal, and its text is read as this move.
+/// Each move that an explanation lists is legal behind the steps, if all of them are legal, and its text is read as this move.
 pub fn listed_is_legal_at_end()
     ensures { AreLegalAtEnd }
 {}

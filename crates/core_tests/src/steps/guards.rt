@@ -145,7 +145,7 @@ const B_DRINKS: usize = 5;
 const A_THIRSTS: usize = 6;
 
 const OF_PATIENCE: [Case; 5] = [
-    // a session is given up while the job is thirsty in it, and where it has a patience
+    // a session is given up while the job is thirsty in it, and only if it has a patience
     Case(0, Event::Withdraw(B), false),
     Case(B_THIRSTS, Event::Withdraw(B), true),
     Case(B_SEES_THE_BOTTLE, Event::Withdraw(B), true),

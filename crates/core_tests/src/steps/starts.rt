@@ -138,7 +138,7 @@ fn opens<T: Allocator + Copy>(heap: T, plan: &Plan<T>) -> bool {
     }
 }
 
-/// Whether a heap that holds the plan has memory for a start, and for the initial state; none where it doesn't do for the plan.
+/// Whether a heap that holds the plan has memory for a start, and for the initial state; none if it has none even for the plan.
 fn begins<T: Allocator + Copy>(rt: &impl Abort, heap: T) -> Option<(bool, bool)> {
     let Ok(plan) = read_plan(heap, TWO.as_bytes()) else {
         return None;

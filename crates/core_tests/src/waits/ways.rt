@@ -58,7 +58,7 @@ fn check<T: Allocator + Copy>(
     assert!(rt; ask(rt, alloc, script, choices, question), "{script}");
 }
 
-/// Behind the steps a way leads on where some job isn't retired by then.
+/// Behind the steps a way leads on if some job isn't retired by then.
 #[test]
 fn leads_on_in_each_run(rt: HostRuntime) {
     let alloc = rt.alloc();

@@ -51,7 +51,7 @@ fn build<A: Allocator + Copy, B: Drop>(
     ballast
 }
 
-/// Only want of memory is told, and only while the ballast is there.
+/// Only want of memory is reported, and only while the ballast is there.
 fn is_first<B: Drop>(rt: &impl Abort, cause: PlanRefusal, ballast: &Option<B>) {
     let told = (cause, ballast.is_some());
     check(rt, "the first", told, (PlanRefusal::NoMemory, true));

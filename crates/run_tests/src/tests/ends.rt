@@ -130,7 +130,7 @@ fn writer_fails(rt: HostRuntime) {
     }
 }
 
-/// A byte a call: the whole report, and where the k-th call fails, the flush counted, the bytes before it.
+/// A byte a call: the whole report, and if the k-th call fails, the flush counted, the bytes before it.
 #[test]
 fn writer_takes_a_byte(rt: HostRuntime) {
     let text = TWO_ADD.as_bytes();
@@ -145,7 +145,7 @@ fn writer_takes_a_byte(rt: HostRuntime) {
     }
 }
 
-/// A run that writes this text, of this many lines: a write of a line that fails is told, and so is the flush behind them.
+/// A run that writes this text, of this many lines: a write of a line that fails is reported, and so is the flush behind them.
 fn flushes<R: Threads + Wait + Abort + Sync>(
     rt: &R,
     alloc: Global,
@@ -166,7 +166,7 @@ fn flushes<R: Threads + Wait + Abort + Sync>(
     assert!(rt; answer.is_ok() && bytes.as_slice() == text);
 }
 
-/// Each run goes out a line a call, and then one flush, whose failure is told.
+/// Each run goes out a line a call, and then one flush, whose failure is reported.
 #[test]
 fn flush_fails(rt: HostRuntime) {
     for task in REPORTING {

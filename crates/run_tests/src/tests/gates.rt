@@ -100,7 +100,7 @@ impl Gate for Abreast {
     }
 }
 
-/// Counts the passes of each of four jobs, and notes where one isn't the next of its job, or not in the order of its worker: of two workers
+/// Counts the passes of each of four jobs, and notes if one isn't the next of its job, or not in the order of its worker: of two workers
 /// the first drives jobs 0 and 2, the second jobs 1 and 3, the lower job first in each round.
 #[derive(Drop)]
 pub(crate) struct Counting {

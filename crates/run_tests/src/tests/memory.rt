@@ -1,4 +1,4 @@
-//! Memory that runs out: each allocation of a run is refused in turn, and nothing else is told.
+//! Memory that runs out: each allocation of a run is refused in turn, and nothing else is reported.
 use super::{AMPLE, Pieces, Slow, TWO_ADD, Told, may_run};
 use lab_program::{FromRead, Outcome, RunFault};
 use lab_runs::{NoGate, Task, run_task};

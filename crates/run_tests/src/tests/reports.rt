@@ -129,7 +129,7 @@ struct Report<'t> {
     is_finished: bool,
 }
 
-/// Adds a line behind the first to what was read; None where it is none of a report.
+/// Adds a line behind the first to what was read; None if it is none of a report.
 fn take_line<'t>(
     alloc: Global,
     report: &mut Report<'t>,
@@ -252,7 +252,7 @@ fn entries_in(log: &Log<'_>, session: &Session<'_>) -> usize {
         .count()
 }
 
-/// How many commands of a session are done; None where the logs show other ones than its first.
+/// How many commands of a session are done; None if the logs show other ones than its first.
 fn done_of(logs: &[Log<'_>], session: &Session<'_>) -> Option<usize> {
     let mut done = 0usize;
     for log in logs.iter() {

@@ -135,7 +135,7 @@ fn is_of<R: Threads + Wait + Abort + Sync>(
     Ok(outcome)
 }
 
-/// By each number of turns: by rounds first, where many turns finish each of the scripts, and then by threads.
+/// By each number of turns: by rounds first, if many turns finish each of the scripts, and then by threads.
 #[test]
 fn stops_of_several_jobs(rt: HostRuntime) -> Result<(), Fail> {
     let wide = two_wide_edges(rt.alloc())?;

@@ -1,4 +1,4 @@
-//! Memory that runs out: each allocation in turn is the first that is refused, and nothing else is told.
+//! Memory that runs out: each allocation in turn is the first that is refused, and nothing else is reported.
 use super::limits::steps_text;
 use super::{BENCH, check_bench};
 use crate::rows::check;

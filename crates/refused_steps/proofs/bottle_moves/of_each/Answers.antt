@@ -3,15 +3,15 @@ use Rattle.std.proofs.lemmas.Bool.{false≢true}
 use borrow.Author.Count.{below_more}
 use Rattle.lab_plan.specs.LabPlan.{bottles}
 use Rattle.legal_steps.specs.State.{Has}
-use Rattle.legal_steps.specs.Legal.{MayGiveBottle}
 use Rattle.legal_steps.proofs.BottleSets.{member_below}
-use Rattle.refused_steps.proofs.bottle_moves.give_each.Goals as goal
-use Rattle.refused_steps.proofs.bottle_moves.give_each.Goals.{then-has+in_default, else-has}
+use Rattle.refused_steps.specs.BottleMoves.{MayMove}
+use Rattle.refused_steps.proofs.bottle_moves.of_each.Goals as goal
+use Rattle.refused_steps.proofs.bottle_moves.of_each.Goals.{then-has+in_default, else-has}
 
 pub loop-bottle-preserved : goal.loop-bottle-preserved
 loop-bottle-preserved g c =
     let w = c.args.world.now in
-    let May : ℕ → Type 0 = λ k. Has c.args.set k → MayGiveBottle w.plan w.state c.args.job c.args.edge k in
+    let May : ℕ → Type 0 = λ k. Has c.args.set k → MayMove c.args.what w.plan w.state c.args.job c.args.edge k in
     elim c.if-has.branch [
       | then-has+in_default b ↦ below_more May c.loop-bottle.bottle c.loop-bottle.invariant (λ member. b.in_default.ensures)
       | else-has b ↦
