@@ -20,10 +20,10 @@ const DRINKING: u64 = 2;
 const REACHING: u64 = 3;
 const RETIRED: u64 = 4;
 
-#[repr(align(64))]
+#[repr(align(128))]
 struct Word(AtomicU64);
 
-#[repr(align(64))]
+#[repr(align(128))]
 struct Slot(UnsafeCell<Log>);
 
 /// Only a job that drinks reaches a log, and two jobs never hold one instrument.
@@ -49,7 +49,9 @@ struct End {
 const NOT_CALM: u64 = u64::MAX;
 
 /// One job's seat. `forks` and `bottles` have a bit for each own edge: a fork mark; a mark on each needed bottle. `calm` has
-/// the word last seen where nothing was due there and the phase is as it was then, and no word elsewhere.
+/// the word last seen where nothing was due there and the phase is as it was then, and no word elsewhere. As labrun's it is kept off
+/// the cache lines of the next.
+#[repr(align(128))]
 struct Desk<'a> {
     job: usize,
     words: Vec<&'a AtomicU64>,

@@ -100,7 +100,7 @@ module _ {A : Type 0} (b : bench_fields.Inside A) (d : Inside A) (is_bench : IsB
       → Adds y [] (seat_view d.clock s') × (x ≡ edge (shown (seat_view d.clock s')) e) × (x ≢ edge (known y) e)
   missed s' y n k old new x seen view at t table miss word fits is_seen is_old =
       let found = t.1 miss in
-      let here : n / 8 ≡ e = omega arith in
+      let here : n / 16 ≡ e = omega arith in
       let there : EdgeState = edge (seen_state mv s'.me.0) e in
       let is : k ≡ word_of there = subst (λ z. k ≡ word_of (edge (seen_state mv s'.me.0) z)) here found.1 in
       let fits_there : IsOfBottles (length (bottles mp e)) there =
@@ -117,7 +117,7 @@ module _ {A : Type 0} (b : bench_fields.Inside A) (d : Inside A) (is_bench : IsB
       → tried (step b.table.shared.table_id.slots n old new none) d.seat.me k s'.me → k ≡ old
       → x ≡ edge (mine mv) e → y ≡ after_moves m x → old ≡ word_of x → new ≡ word_of y → Grows mv (events_of m mj e) s'.me.0
   told_moves s' n k old new x y at t hit is_x is_y is_old is_new =
-      let here : n / 8 ≡ e = omega arith in
+      let here : n / 16 ≡ e = omega arith in
       let wide : length (mine mv).edges ≡ length (edges mp) = mine_edges mv in
       let inside = own.is_edge in
       let back : moves_of_words old new ≡ m = (λ i. moves_of_words ((is_old ∙ ap word_of is_x) i) ((is_new ∙ ap word_of (is_y ∙ ap (after_moves m) is_x)) i))

@@ -375,7 +375,7 @@ module _ {A : Type 0} (b : bench_fields.Inside A) (d : Inside A) (is_bench : IsB
       → Does d.seat.me.0 (Look (hand_in d.seat.me.0).job e x) s'.me.0 × (s'.me.1 ≡ d.seat.me.1)
   look_told s' e n m x is own word fits t =
       let p : LabPlan = (hand_in d.seat.me.0).plan in
-      let at : n / 8 ≡ e = omega arith in
+      let at : n / 16 ≡ e = omega arith in
       let plan = plan_known b d is_bench ok owns in
       let few : length (bottles p e) ≤ 28 =
       subst (λ (z : LabPlan). length (bottles z e) ≤ 28) (sym owns.1)

@@ -165,6 +165,7 @@ pub desk_still : {A : Type 0} (d : Inside A) (s : Seat LogView View) → s.me �
       needed = d.needed;
       clock = d.clock;
       counts = d.counts;
+      apart = d.apart;
     }
 desk_still d s e ok = let v = sym (ap (λ m. m.0) e) in record {
   at_rest = subst AtRest v ok.at_rest;

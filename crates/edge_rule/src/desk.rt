@@ -9,6 +9,12 @@ use one_history::board::View;
 use std::alloc::{Allocator, Global};
 use std::marker::Model;
 
+/// What keeps the next desk off this one's cache lines, and off those that a processor fetches with them: desks stand side by side, and
+/// every turn writes to the desk of its job, perhaps on another thread. Never read.
+pub(crate) type Apart = [u64; 16];
+
+pub(crate) const APART: Apart = [0; 16];
+
 /// One job's seat, with what the job knows. Lists are by edge number of the plan, and hold something at the job's own edges alone.
 #[derive(Drop)]
 pub struct Desk<A: Allocator = Global> {
@@ -32,6 +38,7 @@ pub struct Desk<A: Allocator = Global> {
     pub(crate) clock: Clock,
     /// What the job has done so far: the meals, and the sessions that it ended or gave up.
     pub(crate) counts: Counts,
+    pub(crate) apart: Apart,
 }
 
 impl<A: Allocator> Model for Desk<A> {

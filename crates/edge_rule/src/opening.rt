@@ -10,7 +10,7 @@ ghost use Rattle.edge_rule.specs.DeskView.{fresh_desk, fresh_desks};
 use crate::bench::Bench;
 use crate::calm::NO_WORD;
 use crate::clock::Clock;
-use crate::desk::Desk;
+use crate::desk::{APART, Desk};
 use crate::refusals::OpenError;
 use crate::words::{edge_place, word_count};
 use atomic_table::{Seat, Table};
@@ -90,6 +90,7 @@ fn next_desk<A: Allocator + Copy>(
             session: 0,
         },
         counts: NO_COUNTS,
+        apart: APART,
     })
 }
 

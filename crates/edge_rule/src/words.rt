@@ -61,9 +61,9 @@ pub(crate) fn marks_of<A: Allocator>(
     )
 }
 
-/// Words that are used stand so far apart: each has a cache line of its own, so that threads that work on neighbouring
-/// words don't slow each other down.
-const STRIDE: usize = 8;
+/// Words that are used stand so far apart: each has a cache line of its own, and the one that many processors fetch with it, so that
+/// threads that work on neighbouring words don't slow each other down.
+const STRIDE: usize = 16;
 
 /// A place that every table has: that of the first edge or phase, or the spare one. Loads that are there for the rule alone
 /// are loads of it.
@@ -71,7 +71,7 @@ pub(crate) const SOME_WORD: usize = 0;
 
 /// Where the word of an edge is.
 pub(crate) fn edge_place(edge: EdgeNo) -> usize
-    ensures { (result ≡ place_of_edge edge) × (result < 524288) }
+    ensures { (result ≡ place_of_edge edge) × (result < 1048576) }
 {
     STRIDE * number(edge)
 }

@@ -12,6 +12,12 @@ use crate::refusal::LogRefusal;
 use std::alloc::{AllocError, Allocator, Global};
 use std::marker::Model;
 
+/// What keeps the next log off this one's cache lines, and off those that a processor fetches with them: logs of a bench stand side by
+/// side, and every entry writes how many its log has, perhaps on another thread. Never read.
+type Apart = [u64; 16];
+
+const APART: Apart = [0; 16];
+
 /// The log of one instrument: what its commands left, in order, with room for a number of entries that
 /// is set when the log is made.
 ///
@@ -27,6 +33,7 @@ pub struct InstrumentLog<A: Allocator = Global> {
     /// How many entries the last part has if it is unfinished; otherwise 0.
     unfinished: u32,
     value: u32,
+    apart: Apart,
 }
 
 impl<A: Allocator> Model for InstrumentLog<A> {
@@ -51,6 +58,7 @@ impl<A: Allocator> InstrumentLog<A> {
             room,
             unfinished: 0,
             value: 0,
+            apart: APART,
         })
     }
 

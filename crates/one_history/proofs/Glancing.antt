@@ -31,7 +31,7 @@ module _ (p : LabPlan) (slots id : ℕ) (v : View) (c : List (ℕ × LogView)) (
       let g : List Event = event ∷ [] in
       let legal : IsLegalFrom p w g = ((job, inside, apart, refl), tt) in
       let held = held_in p r.history r.owner id v led (r.seats id v at) in
-      let back : phase_place p k / 8 - length (edges (hand_in v).plan) ≡ k =
+      let back : phase_place p k / 16 - length (edges (hand_in v).plan) ≡ k =
       let same : length (edges (hand_in v).plan) ≡ length (edges p) = ap (λ (z : LabPlan). length (edges z)) held.0 in
       omega arith in (
         grown p v r.history g,

@@ -35,7 +35,7 @@ phases_still plan s event inside same k = elim (cases_eq k (actor event)) [
 pub jobs_there : (plan : LabPlan) (h : List Event) (j : ℕ) → j < length plan.jobs → j < length (state_after plan h).seats
 jobs_there plan h j job = let n = opening_seats plan in let m = all_seats plan (the_opening plan) h in omega (arith, job, n, m)
 
-pub place_edge : (e : ℕ) → edge_place e / 8 ≡ e
+pub place_edge : (e : ℕ) → edge_place e / 16 ≡ e
 place_edge e = omega arith
 
 module _ (p : LabPlan) (slots id : ℕ) (v : View) (c : List (ℕ × LogView)) (led : IsLed v) (job : (hand_in v).job < length p.jobs) where

@@ -85,15 +85,15 @@ Sat = Me LogView View
 
 -- the edge was read
 abbrev pub looked : At → Sat → ℕ → Sat → Type 0
-looked st m n m' = (x : EdgeState) × (n ≡ word_of x) × IsOfBottles (length (bottles (hand_in m.0).plan (st.word / 8))) x
-    × Does m.0 (Look (hand_in m.0).job (st.word / 8) x) m'.0 × (m'.1 ≡ m.1)
+looked st m n m' = (x : EdgeState) × (n ≡ word_of x) × IsOfBottles (length (bottles (hand_in m.0).plan (st.word / 16))) x
+    × Does m.0 (Look (hand_in m.0).job (st.word / 16) x) m'.0 × (m'.1 ≡ m.1)
 
 -- A compare-exchange found the expected word, and the moves between the two words were done; or another, which the edge then has
 abbrev pub tried : At → Sat → ℕ → Sat → Type 0
 tried st m n m' =
-    (n ≡ st.first → Grows m.0 (events_of (moves_of_words st.first st.second) (hand_in m.0).job (st.word / 8)) m'.0)
-    × (n ≢ st.first → Grows m.0 [] m'.0 × (n ≡ word_of (edge (seen_state m.0 m'.0) (st.word / 8)))
-    × IsOfBottles (length (bottles (hand_in m.0).plan (st.word / 8))) (edge (seen_state m.0 m'.0) (st.word / 8)))
+    (n ≡ st.first → Grows m.0 (events_of (moves_of_words st.first st.second) (hand_in m.0).job (st.word / 16)) m'.0)
+    × (n ≢ st.first → Grows m.0 [] m'.0 × (n ≡ word_of (edge (seen_state m.0 m'.0) (st.word / 16)))
+    × IsOfBottles (length (bottles (hand_in m.0).plan (st.word / 16))) (edge (seen_state m.0 m'.0) (st.word / 16)))
     × (m'.1 ≡ m.1)
 
 -- the event that leads a job from one phase to another
@@ -126,7 +126,7 @@ stored st m n m' = Does m.0 (phase_event (hand_in m.0).job (own_phase m.0) (phas
 -- the phase of another job was read
 abbrev pub glanced : At → Sat → ℕ → Sat → Type 0
 glanced st m n m' = (x : JobState) × (n ≡ phase_word_of x) × FitsPhaseWord x
-    × Does m.0 (Glance (hand_in m.0).job (st.word / 8 - length (edges (hand_in m.0).plan)) x) m'.0 × (m'.1 ≡ m.1)
+    × Does m.0 (Glance (hand_in m.0).job (st.word / 16 - length (edges (hand_in m.0).plan)) x) m'.0 × (m'.1 ≡ m.1)
 
 -- the instrument of the job's next command
 abbrev pub next_instrument : View → ℕ

@@ -20,13 +20,13 @@ use Rattle.locality.specs.Reaching.{IsReachingFor}
 -- ---- the words, each on a cache line of its own: those of the edges, those of the jobs, and a spare one
 
 abbrev pub edge_place : ℕ → ℕ
-edge_place e = 8 * e
+edge_place e = 16 * e
 
 abbrev pub phase_place : LabPlan → ℕ → ℕ
-phase_place plan j = 8 * (length (edges plan) + j)
+phase_place plan j = 16 * (length (edges plan) + j)
 
 abbrev pub word_count : LabPlan → ℕ
-word_count plan = 8 * (length (edges plan) + length plan.jobs + 1)
+word_count plan = 16 * (length (edges plan) + length plan.jobs + 1)
 
 -- the words are those of the state
 pub record Spelled (plan : LabPlan) (s : State) (words : List ℕ) : Type 0 where

@@ -26,6 +26,14 @@ pub fn all_retired<A: Allocator>(desks: &[Desk<A>]) -> bool
     }
 }
 
+/// Does nothing: says that a desk is at rest and reaches for no log. Its type keeps that, and its calls tell it.
+fn is_at_rest<A: Allocator>(desk: &Desk<A>)
+    ensures rest { IsAtRest desk.now }
+    ensures reaches { Rests desk.now }
+{
+    let _ = desk.job();
+}
+
 /// Does nothing: each desk is at rest and reaches for no log, since its type keeps that. This says so of all at once, to callers
 /// whose own contracts rest on it.
 pub fn are_at_rest<A: Allocator>(desks: &[Desk<A>])
@@ -35,8 +43,7 @@ pub fn are_at_rest<A: Allocator>(desks: &[Desk<A>])
     match desks {
         [] => (),
         [desk, others @ ..] => {
-            // What the desk's type keeps is known by its calls alone.
-            let _ = desk.job();
+            is_at_rest(desk);
             are_at_rest(others)
         }
     }

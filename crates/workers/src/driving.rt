@@ -15,6 +15,12 @@ use std::alloc::Allocator;
 use std::sync::Wait;
 use std::thread::Threads;
 
+/// Which worker drives the desk, and its place among that worker's desks. Without workers it would be the first.
+fn worker_of<A: Allocator>(desk: &Desk<A>, workers: u32) -> (u32, u8) {
+    let job = desk.job().0;
+    (u32::from(job).checked_rem(workers).unwrap_or(0), job)
+}
+
 /// Drives the desks of the slice. Their order may change, unless no memory is left.
 fn drive<R: Threads + Wait + Sync, S: Allocator, A: Allocator + Send + Sync, G: Gate>(
     rt: &R,
@@ -31,9 +37,7 @@ fn drive<R: Threads + Wait + Sync, S: Allocator, A: Allocator + Send + Sync, G: 
     requires all { HasAll bench.now.plan desks.old }
     ensures { Threaded bench.now turns desks.old result desks.new }
 {
-    let sorted = desks.sort_by_key(alloc, |desk| {
-        (u32::from(desk.job().0) % workers, desk.job().0)
-    });
+    let sorted = desks.sort_by_key(alloc, |desk| worker_of(desk, workers));
     if sorted.is_err() {
         return Ended::NoMemory;
     }
