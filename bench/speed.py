@@ -1,7 +1,7 @@
 #!/usr/bin/env python3
 """Measures how fast labrun runs, beside plain Rust programs that do the same without proofs.
 
-Usage: bench/speed.py [rounds=N] [program=PATH] [only=NAME,..]     (from anywhere, after ./labrun was built)
+Usage: bench/speed.py [rounds=N] [program=PATH] [only=NAME,..] [ahead=yes]     (from anywhere, after ./labrun was built)
        bench/speed.py growth [rounds=N] [program=PATH]
        bench/speed.py instructions [program=PATH] [only=NAME,..]
        bench/speed.py instructions growth [program=PATH]            (both with valgrind)
@@ -16,7 +16,8 @@ of them, one after the other, N times over (9 unless said); of all times of a pr
 
 What is compared is the run itself: the time from a program's start to the first byte of its report, less the same time on
 the same script with no turns. So starting, reading, opening and printing are left out. A table of its own has whole
-programs, from start to end. Every report is checked by bench/check_report.py once before the measuring.
+programs, from start to end. Every report is checked by bench/check_report.py once before the measuring. On a machine with
+other work, ahead=yes runs the programs under real-time priority, as root; what else runs waits meanwhile.
 
 With `growth` it measures instead how the time of `rounds` grows, of labrun and of the port, where one thing is doubled again
 and again: the exponent that fits best is told, 1.00 where the time grows as the number of commands does (where instruments are
@@ -42,6 +43,8 @@ sys.path.insert(0, HERE)
 import check_report
 import make_scripts
 
+# how the programs that are timed are started
+START = {}
 LABRUN = os.path.join(os.path.dirname(HERE), "crates", "labrun", "out", "labrun")
 TURNS = "1000000000"
 WORKERS = (1, 2, 4)
@@ -66,6 +69,8 @@ GROWTHS = (
     ("instruments of 8 jobs in pairs", "pairs", dict(jobs=8, sessions=1000, commands=10), "instruments", (4, 8, 16, 32)),
     ("commands of a session", "pairs", dict(jobs=8, instruments=16, sessions=500), "commands", (5, 10, 20, 40)),
 )
+# how many times as fast as one this many workers are to be, where no two jobs share anything
+SPEED_UP = {2: 1.7, 4: 2.5}
 # a run by one thread, beside one by rounds; and the goal (at most)
 ONE_THREAD, ONE_THREAD_GOAL = ("labrun threads 1", "labrun rounds"), 1.05
 # what is compared: heading, over, under, goal (at most; None: told as it is)
@@ -121,13 +126,17 @@ def seconds(words, data):
     """The seconds to the first byte of the report, and to the end of the program."""
     with open(data, "rb") as source:
         begun = time.perf_counter()
-        child = subprocess.Popen(words, stdin=source, stdout=subprocess.PIPE, stderr=subprocess.DEVNULL, bufsize=0)
+        child = subprocess.Popen(words, stdin=source, stdout=subprocess.PIPE, stderr=subprocess.DEVNULL, bufsize=0, **START)
         child.stdout.read(1)
         first = time.perf_counter() - begun
         while child.stdout.read(1 << 16):
             pass
         child.wait()
         return first, time.perf_counter() - begun
+
+
+def goes_ahead():
+    os.sched_setscheduler(0, os.SCHED_FIFO, os.sched_param(20))
 
 
 def own_clock(words, data):
@@ -209,7 +218,7 @@ def speed_up(times):
         for workers in WORKERS[1:]:
             many, one = "%s threads %d" % (program, workers), "%s threads 1" % program
             if all(many in own for own in times.values()):
-                goal = "1.80 on disjoint" if workers == 2 and program == "labrun" else ""
+                goal = "%.2f on disjoint" % SPEED_UP[workers] if program == "labrun" else ""
                 each = ["%.2f" % (own[one] / own[many]) for own in times.values()]
                 rows.append(["%s threads 1 / threads %d" % (program, workers)] + each + [goal])
     table(["times as fast"] + list(times) + ["goal, at least"], rows)
@@ -301,6 +310,8 @@ def main(words):
     keys = dict(word.split("=") for word in words)
     rounds, labrun = int(keys.get("rounds", "9")), os.path.abspath(keys.get("program", LABRUN))
     only = keys["only"].split(",") if "only" in keys else None
+    if keys.get("ahead") == "yes":
+        START["preexec_fn"] = goes_ahead
     with tempfile.TemporaryDirectory() as folder:
         peers = build(folder)
         runs = programs(peers, labrun if has_words(labrun) else None)
