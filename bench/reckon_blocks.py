@@ -15,8 +15,8 @@ import simulate
 class Watched(simulate.Run):
     """A run that counts, after each turn, the bottles that a thirsty job needs and knows to be at its neighbours."""
 
-    def __init__(self, plan):
-        super().__init__(plan)
+    def __init__(self, plan, recording=False):
+        super().__init__(plan, recording)
         self.blocked, self.held = collections.Counter(), collections.Counter()
 
     def whole_turn(self, job):

@@ -8,15 +8,26 @@ import sys
 
 sys.dont_write_bytecode = True
 sys.path.insert(0, os.path.dirname(os.path.abspath(__file__)))
+import reckon_blocks
 import simulate
 
 SESSION_ENDS = {"drink": "drinks", "quit": "done", "withdraw": "given up"}
 MEAL_ENDS = {"sit": "sits", "leave": "leaves"}
 
 
-def run_of(plan, limit):
+class Keeping(reckon_blocks.Watched):
+    """A run that counts for each session of a job by itself which bottles it waits for."""
+
+    def count(self, table, job, other, instruments):
+        for instrument in range(len(self.plan.instrument_names)):
+            if instruments >> instrument & 1:
+                table.setdefault((job.number, job.session), {}).setdefault((other.number, instrument), 0)
+                table[job.number, job.session][other.number, instrument] += 1
+
+
+def run_of(plan, limit, run=None):
     """For each job its sessions and its meals, as dicts of rounds; the rounds done; whether all jobs are retired."""
-    run = simulate.Run(plan, True)
+    run = run or simulate.Run(plan, True)
     jobs = [([], []) for _ in plan.job_names]
     seen, done = 0, 0
 
@@ -50,7 +61,8 @@ def run_of(plan, limit):
 class Picture:
     def __init__(self, plan, limit):
         self.plan = plan
-        self.jobs, self.last, self.retired = run_of(plan, limit)
+        self.run = Keeping(plan, True)
+        self.jobs, self.last, self.retired = run_of(plan, limit, self.run)
         self.lines = []
 
     def at(self, k):
@@ -81,10 +93,21 @@ class Picture:
     def box(self, a, b, look):
         return '<rect x="%d" y="4" width="%d" height="16" %s/>' % (self.at(a), self.wide(a, b), look)
 
+    def keepers(self, j, s):
+        """Who kept the session waiting for the most rounds: three at most."""
+        blocked, held = self.run.blocked.get((j, s), {}), self.run.held.get((j, s), {})
+        most = sorted(blocked, key=lambda it: (-blocked[it], it))[:3]
+        told = [
+            "by %s (%s) %d round%s, used %d"
+            % (self.plan.job_names[it[0]], self.plan.instrument_names[it[1]], blocked[it], "" if blocked[it] == 1 else "s", held.get(it, 0))
+            for it in most
+        ]
+        return "; kept waiting " + "; ".join(told) if told else ""
+
     def session(self, j, s, x):
         commands = self.plan.sessions[j][s - 1].commands
         names = [self.plan.instrument_names[i] for i in sorted({command[0] for command in commands})]
-        title = "%s session %d: %s; thirsty %d%s" % (self.plan.job_names[j], s, " ".join(names), x["thirsty"], self.outcome(x))
+        title = "%s session %d: %s; thirsty %d%s" % (self.plan.job_names[j], s, " ".join(names), x["thirsty"], self.outcome(x) + self.keepers(j, s))
         thirsty_to = x.get("drinks", x.get("given up", self.last))
         text = "<g><title>%s</title>" % title
         text += self.box(x["thirsty"], thirsty_to, 'fill="#fff4d9" stroke="#c77f00" stroke-dasharray="3 2"')

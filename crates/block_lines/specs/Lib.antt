@@ -1,3 +1,4 @@
 pub mod Ranking
 pub mod Sums
 pub mod Text
+pub mod Largest

@@ -2,9 +2,11 @@
 #![tactic(auto)]
 
 mod block;
+mod largest;
 mod ranking;
 mod sums;
 mod text;
 
 pub use block::Block;
+pub use largest::largest_three;
 pub use text::add_blocks;

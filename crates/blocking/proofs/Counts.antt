@@ -53,7 +53,7 @@ module _ (plan : LabPlan) (old new : List (List Event)) (n : ℕ) (old_long : le
   end = all_joined new (suc n) (omega (arith, new_long))
 
   -- what passes a test in the last round
-  counted : (test : List Event → List Event → Bool) (b : Bool) → b ≡ test (joined old) (joined new)
+  pub counted : (test : List Event → List Event → Bool) (b : Bool) → b ≡ test (joined old) (joined new)
       → counted_if b (rounds_where test old (length old)) ≡ rounds_where test new (length new)
   counted test b is =
       let lengths : length new ≡ suc n = omega (arith, new_long) in
@@ -63,7 +63,7 @@ module _ (plan : LabPlan) (old new : List (List Event)) (n : ℕ) (old_long : le
       ∙ ((λ i. if (is ∙ (λ k. test (sym start k) (sym end k))) i then so_far i + 1 else so_far i)
       ∙ ap (rounds_where test new) (sym lengths))
 
-  holds_when : (b : Bool) (k i : ℕ) → k < length plan.jobs
+  pub holds_when : (b : Bool) (k i : ℕ) → k < length plan.jobs
       → holds (set_at (if b then after else before) k) i ≡ holds_in plan k (phase (known_in plan (if b then joined new else joined old) k) k) i
   holds_when true k i inside = held_after.each k inside i
   holds_when false k i inside = held_before.each k inside i

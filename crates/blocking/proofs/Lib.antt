@@ -4,3 +4,11 @@ pub mod Desks
 pub mod Sees
 pub mod Known
 pub mod OneMore
+pub mod Rises
+pub mod OfSessions
+pub mod Tallies
+pub mod SeesKept
+pub mod AddUp
+pub mod Clearing
+pub mod Changing
+pub mod KeptRuns

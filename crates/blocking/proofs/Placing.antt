@@ -1,5 +1,5 @@
 -- The places of a plan.
-use Rattle.std.proofs.Common.{◌≡◌, ℕ, zero, suc, ◌+◌, ◌<◌, List, [], ◌∷◌, ◌++◌, length, sym, ap, ◌∙◌, arith, append_assoc, append-nil, add-one}
+use Rattle.std.proofs.Common.{◌≡◌, ℕ, zero, suc, ◌+◌, ◌<◌, List, [], ◌∷◌, ◌++◌, length, refl, sym, ap, ◌∙◌, arith, append_assoc, append-nil, add-one}
 use Rattle.std.specs.List.{All, flat_map, range_with_len}
 use Rattle.std.proofs.lemmas.List.Elements.{All-filter, All-nil, All-head, All-tail, All-append, All-map, All-weaker}
 use Rattle.std.proofs.lemmas.List.FromFn.{get_or-range_with_len, length-range_with_len}
@@ -32,14 +32,22 @@ module _ (plan : LabPlan) where
   is_place : (j e k : ℕ) → j < length plan.jobs → IsOwn plan j e → k < length (bottles plan e) → IsPlace plan (place j e k)
   is_place j e k job own bottle = record { job = job; own = own; bottle = bottle }
 
+  abbrev pub IsPlaceOf : ℕ → Place → Type 0
+  IsPlaceOf j x = IsPlace plan x × (x.job ≡ j)
+
+  pub places_of_job : (j : ℕ) → j < length plan.jobs → All (IsPlaceOf j) (places_of plan j)
+  places_of_job j job = all_flat (IsPlaceOf j) (IsOwn plan j) (places_on plan j) (edges_of plan j)
+      (λ e own. All-map (IsPlaceOf j) (place j e) (range_with_len 0 (length (bottles plan e)))
+      (All-weaker (λ k. k < length (bottles plan e)) (λ k. IsPlaceOf j (place j e k)) (λ k bottle. (is_place j e k job own bottle, refl))
+      (range_with_len 0 (length (bottles plan e))) (numbers_below (length (bottles plan e)))))
+      (own_edges plan j)
+
+  pub all_of_job : (j : ℕ) → j < length plan.jobs → All (IsPlace plan) (places_of plan j)
+  all_of_job j job = All-weaker (IsPlaceOf j) (IsPlace plan) (λ x is. is.0) (places_of plan j) (places_of_job j job)
+
   pub all_places : All (IsPlace plan) (places plan)
   all_places = all_flat (IsPlace plan) (λ j. j < length plan.jobs) (places_of plan) (range_with_len 0 (length plan.jobs))
-      (λ j job. all_flat (IsPlace plan) (IsOwn plan j) (places_on plan j) (edges_of plan j)
-      (λ e own. All-map (IsPlace plan) (place j e) (range_with_len 0 (length (bottles plan e)))
-      (All-weaker (λ k. k < length (bottles plan e)) (λ k. IsPlace plan (place j e k)) (λ k bottle. is_place j e k job own bottle)
-      (range_with_len 0 (length (bottles plan e))) (numbers_below (length (bottles plan e)))))
-      (own_edges plan j))
-      (numbers_below (length plan.jobs))
+      all_of_job (numbers_below (length plan.jobs))
 
   end_inside : (e : ℕ) (x : End) → e < length (edges plan) → job_at_end plan e x < length plan.jobs
   end_inside e Lower inside = let p = ends_are_pair plan e inside in omega (arith, p.0, p.1)

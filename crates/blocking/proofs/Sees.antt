@@ -38,15 +38,15 @@ module _ (plan : LabPlan) (a b : List (List Event)) (legal_a : (k : ℕ) → IsH
       (rounds_same plan (fresh_players (length plan.jobs)) x.players y.players k x.idle y.idle [] (joined (take k a)) (joined (take k b))
       (legal_a k) (legal_b k) x.rounds y.rounds).0
 
-starts : (rounds : List (List Event)) (k : ℕ) → StartsWith (joined rounds) (joined (take k rounds))
+pub starts : (rounds : List (List Event)) (k : ℕ) → StartsWith (joined rounds) (joined (take k rounds))
 starts rounds zero = (joined rounds, refl)
 starts [] (suc k) = ([], refl)
 starts (r ∷ rounds) (suc k) = let s = starts rounds k in (s.0, ap (λ l. r ++ l) s.1 ∙ sym (append_assoc r (joined (take k rounds)) s.0))
 
-legal_at : (plan : LabPlan) (rounds : List (List Event)) → IsHistory plan (joined rounds) → (k : ℕ) → IsHistory plan (joined (take k rounds))
+pub legal_at : (plan : LabPlan) (rounds : List (List Event)) → IsHistory plan (joined rounds) → (k : ℕ) → IsHistory plan (joined (take k rounds))
 legal_at plan rounds legal k = legal_from plan (joined rounds) (joined (take k rounds)) (starts rounds k) legal
 
-nil_of : {A : Type 0} (l : List A) → length l ≡ 0 → l ≡ []
+pub nil_of : {A : Type 0} (l : List A) → length l ≡ 0 → l ≡ []
 nil_of [] long = refl
 nil_of (x ∷ l) long = absurd (omega (arith, long))
 

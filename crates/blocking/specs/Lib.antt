@@ -1,3 +1,6 @@
 pub mod Waiting
 pub mod Blocks
 pub mod Watching
+pub mod Keepers
+pub mod Tallying
+pub mod Laws

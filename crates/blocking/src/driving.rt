@@ -15,14 +15,14 @@ use rounds::{Ended, rounds};
 use std::alloc::{AllocError, Allocator};
 
 /// Whether turns ended because all jobs were retired.
-fn is_all_retired(ended: Ended) -> bool
+pub(crate) fn is_all_retired(ended: Ended) -> bool
     ensures { result ≡ is_all_retired ended }
 {
     matches!(ended, Ended::AllRetired)
 }
 
 /// A set of no instruments for each of this many jobs.
-fn no_sets<A: Allocator>(alloc: A, jobs: usize) -> Result<Vec<u64, A>, AllocError>
+pub(crate) fn no_sets<A: Allocator>(alloc: A, jobs: usize) -> Result<Vec<u64, A>, AllocError>
     ensures { IfOk result (λ sets. sets.items ≡ replicate jobs 0) }
 {
     let mut sets = Vec::new(alloc);

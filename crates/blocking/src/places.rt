@@ -32,7 +32,7 @@ fn add_on_edge<A: Allocator, B: Allocator>(
 }
 
 /// Adds the places of a job.
-fn add_of_job<A: Allocator, B: Allocator>(
+pub(crate) fn add_of_job<A: Allocator, B: Allocator>(
     out: &mut Vec<Place, A>,
     plan: &Plan<B>,
     job: JobNo,

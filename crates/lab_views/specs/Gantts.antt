@@ -2,7 +2,7 @@
 use Rattle.std.specs.Prelude.{◌≡◌, ℕ, List, Option, Result}
 use Rattle.lab_plan.specs.LabPlan.{LabPlan}
 use Rattle.script_reader.specs.Script.{ScriptMeans}
-use Rattle.waiting.specs.Waits.{RunView, IsRunOf}
+use Rattle.blocking.specs.Keepers.{KeptView, IsKeptRun}
 use Rattle.round_picture.specs.Gantt.{gantt_of}
 use Rattle.lab_program.specs.declared.faults.RunFault.{RunFault}
 use Rattle.lab_program.specs.declared.faults.Outcome.{Outcome}
@@ -13,8 +13,8 @@ use Rattle.lab_program.specs.Answers.{ScriptRefuses, AnswersTo}
 pub record DrawsRun (limit : ℕ) (input text : List ℕ) (outcome : Outcome) : Type 0 where
   pub plan : LabPlan
   pub means : ScriptMeans input plan
-  pub run : RunView
-  pub is_run : IsRunOf plan limit run
+  pub run : KeptView
+  pub is_run : IsKeptRun plan limit run
   pub written : text ≡ gantt_of plan run
   pub ends : outcome ≡ Finished
 

@@ -1,26 +1,27 @@
 //! The picture over time of a script's run by rounds.
-ghost use Rattle.std.specs.Prelude.{◌≡◌, ◌+◌, length, IfOk};
+ghost use Rattle.std.specs.Prelude.{◌≡◌, ◌+◌, IfOk};
+ghost use Rattle.blocking.specs.Keepers.{IsKeptOf};
 ghost use Rattle.round_picture.specs.Gantt.{gantt_of};
 ghost use Rattle.lab_program.specs.Input.{ConsumesUpTo};
 ghost use Rattle.lab_program.specs.Faults.{failed_reads, failed_writes};
 ghost use Rattle.lab_program.specs.Answers.{AnswersFor, ScriptRefuses};
 ghost use Rattle.lab_views.specs.Gantts.{DrawsRun, GanttAnswers};
 
+use blocking::{KeptRun, keepers_by_rounds};
 use lab_plan::Plan;
 use lab_program::{Outcome, RunFault, Source, read_input, send_text};
 use report::Sink;
 use round_picture::add_gantt;
 use script_reader::read_plan;
 use std::alloc::{AllocError, Allocator};
-use waiting::{RoundsRun, run_by_rounds};
 
 /// The whole text.
 fn text_of<A: Allocator>(
     alloc: A,
     plan: &Plan<A>,
-    run: &RoundsRun<A>,
+    run: &KeptRun<A>,
 ) -> Result<Vec<u8, A>, AllocError>
-    requires { length run.now.jobs ≡ length plan.now.jobs }
+    requires { IsKeptOf plan.now run.now }
     ensures { IfOk result (λ text. text.items ≡ gantt_of plan.now run.now) }
 {
     let mut text = Vec::new(alloc);
@@ -40,15 +41,17 @@ pub(crate) fn draw_run<A: Allocator + Copy, W: Sink>(
     ensures writes { W.failures sink.new ≡ W.failures sink.old + failed_writes result }
 {
     let plan = read_plan(alloc, input)?;
-    let run = run_by_rounds(alloc, &plan, limit)?;
+    let run = keepers_by_rounds(alloc, &plan, limit)?;
     let text = text_of(alloc, &plan, &run)?;
     send_text(&text, sink)?;
     Ok(Outcome::Finished)
 }
 
-/// Reads a script and draws its run by at most this many rounds over time: who waits when, and who holds instruments.
+/// Reads a script and draws its run by at most this many rounds over time: who waits when, for
+/// whom, and who holds instruments.
 ///
-/// The input is at most 16777216 bytes. Memory grows with the sessions of the script, not with the rounds. The outcome is
+/// The input is at most 16777216 bytes. Memory grows with the sessions of the script and with the instruments that pairs of
+/// jobs have in common, not with the rounds. The outcome is
 /// Finished, whether or not all jobs are retired then.
 pub fn run_gantt<A: Allocator + Copy, R: Source, W: Sink>(
     alloc: A,

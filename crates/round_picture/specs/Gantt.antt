@@ -5,6 +5,7 @@ use Rattle.lab_plan.specs.LabPlan.{LabPlan}
 use Rattle.lab_plan.specs.Texts.{job_name}
 use Rattle.waiting.specs.Text.{rounds_line, jobs}
 use Rattle.waiting.specs.Waits.{RunView, job_of}
+use Rattle.blocking.specs.Keepers.{KeptView}
 use Rattle.round_picture.specs.Scale.{place, step_of}
 use Rattle.round_picture.specs.Sessions.{sessions_text}
 use Rattle.round_picture.specs.Meals.{meal_text}
@@ -68,14 +69,14 @@ row_head last name top =
     codes "<g transform=\"translate(0 " ++ decimal top ++ codes ")\"><path d=\"M-140 38H" ++ decimal (place last last)
     ++ codes "\" stroke=\"#bbb\"/><text x=\"-140\" y=\"18\" font-size=\"12\">" ++ name ++ codes "</text>\n"
 
-unfoldable pub row_text : LabPlan → RunView → ℕ → List ℕ
-row_text plan run j =
-    row_head run.number (job_name plan j) (40 * j) ++ sessions_text plan run.number j 1 (job_of run j).sessions
-    ++ flat_map (meal_text run.number) (job_of run j).meals ++ codes "</g>\n"
+unfoldable pub row_text : LabPlan → KeptView → ℕ → List ℕ
+row_text plan x j =
+    row_head x.run.number (job_name plan j) (40 * j) ++ sessions_text plan x j 1 (job_of x.run j).sessions
+    ++ flat_map (meal_text x.run.number) (job_of x.run j).meals ++ codes "</g>\n"
 
 -- ---- the whole
 
-unfoldable pub gantt_of : LabPlan → RunView → List ℕ
-gantt_of plan run =
-    head_text (length plan.jobs) run ++ scale_text run.number (40 * length plan.jobs) (step_of run.number) ++ flat_map (row_text plan run) (jobs plan)
+unfoldable pub gantt_of : LabPlan → KeptView → List ℕ
+gantt_of plan x =
+    head_text (length plan.jobs) x.run ++ scale_text x.run.number (40 * length plan.jobs) (step_of x.run.number) ++ flat_map (row_text plan x) (jobs plan)
     ++ codes "</g>\n</svg>\n"

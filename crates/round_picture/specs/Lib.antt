@@ -1,5 +1,6 @@
 pub mod Scale
 pub mod Shapes
 pub mod Meals
+pub mod Keepers
 pub mod Sessions
 pub mod Gantt

@@ -3,12 +3,14 @@ ghost use Rattle.std.specs.Prelude.{◌≡◌, ◌*◌, ◌≤◌, ◌<◌, ◌^
 ghost use Rattle.std.specs.List.{flat_map};
 ghost use Rattle.lab_plan.specs.Limits.{most_jobs};
 ghost use Rattle.waiting.specs.Text.{jobs};
+ghost use Rattle.blocking.specs.Keepers.{IsKeptOf};
 ghost use Rattle.round_picture.specs.Gantt.{full_width, full_height, size_text, legend, thin, head_text, tick};
 ghost use Rattle.round_picture.specs.Gantt.{tick_text, scale_text, row_head, row_text, gantt_of};
 
 use crate::meals::add_meals;
 use crate::scale::{add_place, add_text, place, step_of};
 use crate::sessions::add_sessions;
+use blocking::KeptRun;
 use lab_plan::{JobNo, Plan};
 use std::alloc::{AllocError, Allocator};
 use waiting::{RoundsRun, add_rounds};
@@ -190,17 +192,18 @@ fn add_row_head<A: Allocator>(
 fn add_row<A: Allocator, B: Allocator, C: Allocator>(
     out: &mut Vec<u8, A>,
     plan: &Plan<B>,
-    run: &RoundsRun<C>,
+    run: &KeptRun<C>,
     job: JobNo,
 ) -> Result<(), AllocError>
-    requires all { length run.now.jobs ≡ length plan.now.jobs }
+    requires known { IsKeptOf plan.now run.now }
     requires inside { job < length plan.now.jobs }
     ensures { OnOk result (out.new.items ≡ out.old.items ++ row_text plan.now run.now job) }
 {
-    let last = run.rounds();
+    let rounds = run.run();
+    let last = rounds.rounds();
     add_row_head(out, last, plan.job_name(job), 40 * u64::from(job.0))?;
-    add_sessions(out, plan, last, job, 1, run.sessions(job))?;
-    add_meals(out, last, run.meals(job))?;
+    add_sessions(out, plan, run, job, 1, rounds.sessions(job))?;
+    add_meals(out, last, rounds.meals(job))?;
     add_text(out, b"</g>\n")
 }
 
@@ -208,9 +211,9 @@ fn add_row<A: Allocator, B: Allocator, C: Allocator>(
 fn add_rows<A: Allocator, B: Allocator, C: Allocator>(
     out: &mut Vec<u8, A>,
     plan: &Plan<B>,
-    run: &RoundsRun<C>,
+    run: &KeptRun<C>,
 ) -> Result<(), AllocError>
-    requires { length run.now.jobs ≡ length plan.now.jobs }
+    requires { IsKeptOf plan.now run.now }
     ensures { OnOk result (out.new.items ≡ out.old.items ++ flat_map (row_text plan.now run.now) (jobs plan.now)) }
 {
     for job in 0..plan.jobs() {
@@ -224,14 +227,15 @@ fn add_rows<A: Allocator, B: Allocator, C: Allocator>(
 pub fn add_gantt<A: Allocator, B: Allocator, C: Allocator>(
     out: &mut Vec<u8, A>,
     plan: &Plan<B>,
-    run: &RoundsRun<C>,
+    run: &KeptRun<C>,
 ) -> Result<(), AllocError>
-    requires { length run.now.jobs ≡ length plan.now.jobs }
+    requires { IsKeptOf plan.now run.now }
     ensures { OnOk result (out.new.items ≡ out.old.items ++ gantt_of plan.now run.now) }
 {
     let jobs = plan.jobs();
-    add_head(out, jobs, run)?;
-    let last = run.rounds();
+    let rounds = run.run();
+    add_head(out, jobs, rounds)?;
+    let last = rounds.rounds();
     add_scale(out, last, 40 * jobs as u64, step_of(last))?;
     add_rows(out, plan, run)?;
     add_text(out, b"</g>\n</svg>\n")

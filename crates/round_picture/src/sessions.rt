@@ -1,11 +1,16 @@
 //! What is told of a session, and its shapes.
 ghost use Rattle.std.specs.Prelude.{◌≡◌, ◌+◌, ◌≤◌, ◌<◌, ◌++◌, length, OnOk};
-ghost use Rattle.std.specs.List.{flat_map};
+ghost use Rattle.std.specs.List.{All, flat_map};
 ghost use Rattle.lab_plan.specs.LabPlan.{sessions, instrument_numbers};
+ghost use Rattle.block_lines.specs.Text.{IsOfPlan};
+ghost use Rattle.blocking.specs.Keepers.{IsKeptOf};
 ghost use Rattle.round_picture.specs.Sessions.{instrument_text, instruments_text, title_text, session_text, sessions_text};
 
+use crate::keepers::add_keepers;
 use crate::scale::add_place;
 use crate::shapes::add_shapes;
+use block_lines::Block;
+use blocking::KeptRun;
 use lab_plan::{InstrumentNo, JobNo, Plan};
 use std::alloc::{AllocError, Allocator};
 use waiting::{Session, add_outcome};
@@ -76,10 +81,12 @@ fn add_title<A: Allocator, B: Allocator>(
     job: JobNo,
     number: usize,
     session: &Session,
+    keepers: &[Block],
 ) -> Result<(), AllocError>
     requires is_job { job < length plan.now.jobs }
     requires begun { 1 ≤ number }
-    ensures { OnOk result (out.new.items ≡ out.old.items ++ title_text plan.now job number session.now) }
+    requires keepers { All (IsOfPlan plan.now) keepers.now }
+    ensures { OnOk result (out.new.items ≡ out.old.items ++ title_text plan.now keepers.now job number session.now) }
 {
     out.extend_from_slice(b"<g><title>")?;
     out.extend_from_slice(plan.job_name(job))?;
@@ -88,47 +95,50 @@ fn add_title<A: Allocator, B: Allocator>(
     add_instruments(out, plan, job, number)?;
     add_place(out, b"; thirsty ", u64::from(session.thirsty))?;
     add_outcome(out, session)?;
+    add_keepers(out, plan, keepers)?;
     out.extend_from_slice(b"</title>")
 }
 
 /// Adds a session.
 #[tactic(auto, unfolding(crate::specs::Sessions::session_text))]
-fn add_session<A: Allocator, B: Allocator>(
+fn add_session<A: Allocator, B: Allocator, C: Allocator>(
     out: &mut Vec<u8, A>,
     plan: &Plan<B>,
-    last: u32,
+    run: &KeptRun<C>,
     job: JobNo,
     number: usize,
     session: &Session,
 ) -> Result<(), AllocError>
+    requires known { IsKeptOf plan.now run.now }
     requires is_job { job < length plan.now.jobs }
     requires begun { 1 ≤ number }
-    ensures { OnOk result (out.new.items ≡ out.old.items ++ session_text plan.now last job number session.now) }
+    ensures { OnOk result (out.new.items ≡ out.old.items ++ session_text plan.now run.now job number session.now) }
 {
-    add_title(out, plan, job, number, session)?;
-    add_shapes(out, last, number, session)?;
+    add_title(out, plan, job, number, session, run.keepers(job, number))?;
+    add_shapes(out, run.run().rounds(), number, session)?;
     out.extend_from_slice(b"</g>\n")
 }
 
 /// Adds a job's sessions, of which the first has this number.
-pub(crate) fn add_sessions<A: Allocator, B: Allocator>(
+pub(crate) fn add_sessions<A: Allocator, B: Allocator, C: Allocator>(
     out: &mut Vec<u8, A>,
     plan: &Plan<B>,
-    last: u32,
+    run: &KeptRun<C>,
     job: JobNo,
     number: usize,
     sessions: &[Session],
 ) -> Result<(), AllocError>
+    requires known { IsKeptOf plan.now run.now }
     requires is_job { job < length plan.now.jobs }
     requires begun { 1 ≤ number }
     requires few { number + length sessions.now < 18446744073709551616 }
-    ensures { OnOk result (out.new.items ≡ out.old.items ++ sessions_text plan.now last job number sessions.now) }
+    ensures { OnOk result (out.new.items ≡ out.old.items ++ sessions_text plan.now run.now job number sessions.now) }
 {
     match sessions {
         [] => Ok(()),
         [session, later @ ..] => {
-            add_session(out, plan, last, job, number, session)?;
-            add_sessions(out, plan, last, job, number + 1, later)
+            add_session(out, plan, run, job, number, session)?;
+            add_sessions(out, plan, run, job, number + 1, later)
         }
     }
 }

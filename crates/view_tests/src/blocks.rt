@@ -55,7 +55,7 @@ fn blocks_by_hand(rt: HostRuntime) {
 }
 
 /// Eight benches in a ring, each with a supply and a scope that it shares with a neighbour.
-const RING: &str = "lab 1
+pub(crate) const RING: &str = "lab 1
 job bench-1
 session
 supply-1 set 12000

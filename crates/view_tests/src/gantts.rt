@@ -1,4 +1,6 @@
 //! What `labview gantt` draws, by its bytes.
+use crate::blocks::RING;
+use blocking::sessions_add_up;
 use lab_program::{FromRead, Outcome, RunFault};
 use lab_views::run_gantt;
 use report::ToWrite;
@@ -34,7 +36,8 @@ const HEAD: &str = "<?xml version=\"1.0\" encoding=\"UTF-8\"?>
 ";
 
 /// By hand, 24 units a round: a is thirsty in round 1, drinks in 2 and is done in 4; b is thirsty in 1, drinks in 5 and is done in 7;
-/// it is hungry from 2, sits in 4 and leaves in 8.
+/// it is hungry from 2, sits in 4 and leaves in 8. In rounds 1 to 4 it knows the scale's bottle to be at a, which drinks in 2 and 3 when b's
+/// turn is over.
 const ALL_ROUNDS: &str = "<text x=\"10\" y=\"50\" font-size=\"13\">rounds 9 finished
 </text>
 <g transform=\"translate(150 90)\">
@@ -52,7 +55,7 @@ const ALL_ROUNDS: &str = "<text x=\"10\" y=\"50\" font-size=\"13\">rounds 9 fini
 <g><title>a session 1: scale; thirsty 1 drinks 2 done 4 waited 1</title><rect x=\"24\" y=\"4\" width=\"24\" height=\"16\" fill=\"#fff4d9\" stroke=\"#c77f00\" stroke-dasharray=\"3 2\"/><rect x=\"48\" y=\"4\" width=\"48\" height=\"16\" fill=\"#56b4e9\" stroke=\"#222\"/><text x=\"51\" y=\"16\">1</text></g>
 </g>
 <g transform=\"translate(0 40)\"><path d=\"M-140 38H216\" stroke=\"#bbb\"/><text x=\"-140\" y=\"18\" font-size=\"12\">b</text>
-<g><title>b session 1: scale; thirsty 1 drinks 5 done 7 waited 4</title><rect x=\"24\" y=\"4\" width=\"96\" height=\"16\" fill=\"#fff4d9\" stroke=\"#c77f00\" stroke-dasharray=\"3 2\"/><rect x=\"120\" y=\"4\" width=\"48\" height=\"16\" fill=\"#56b4e9\" stroke=\"#222\"/><text x=\"123\" y=\"16\">1</text></g>
+<g><title>b session 1: scale; thirsty 1 drinks 5 done 7 waited 4; kept waiting by a (scale) 4 rounds, used 2</title><rect x=\"24\" y=\"4\" width=\"96\" height=\"16\" fill=\"#fff4d9\" stroke=\"#c77f00\" stroke-dasharray=\"3 2\"/><rect x=\"120\" y=\"4\" width=\"48\" height=\"16\" fill=\"#56b4e9\" stroke=\"#222\"/><text x=\"123\" y=\"16\">1</text></g>
 <path d=\"M48 28h48\" stroke=\"#777\" stroke-width=\"2\" stroke-dasharray=\"2 3\"/><path d=\"M96 28h96\" stroke=\"#222\" stroke-width=\"5\"/>
 </g>
 </g>
@@ -71,7 +74,7 @@ const THREE_ROUNDS: &str = "<text x=\"10\" y=\"50\" font-size=\"13\">rounds 3 un
 <g><title>a session 1: scale; thirsty 1 drinks 2 waited 1</title><rect x=\"24\" y=\"4\" width=\"24\" height=\"16\" fill=\"#fff4d9\" stroke=\"#c77f00\" stroke-dasharray=\"3 2\"/><rect x=\"48\" y=\"4\" width=\"24\" height=\"16\" fill=\"#56b4e9\" stroke=\"#222\"/><text x=\"51\" y=\"16\">1</text></g>
 </g>
 <g transform=\"translate(0 40)\"><path d=\"M-140 38H72\" stroke=\"#bbb\"/><text x=\"-140\" y=\"18\" font-size=\"12\">b</text>
-<g><title>b session 1: scale; thirsty 1 waits</title><rect x=\"24\" y=\"4\" width=\"48\" height=\"16\" fill=\"#fff4d9\" stroke=\"#c77f00\" stroke-dasharray=\"3 2\"/><text x=\"27\" y=\"16\">1</text></g>
+<g><title>b session 1: scale; thirsty 1 waits; kept waiting by a (scale) 3 rounds, used 2</title><rect x=\"24\" y=\"4\" width=\"48\" height=\"16\" fill=\"#fff4d9\" stroke=\"#c77f00\" stroke-dasharray=\"3 2\"/><text x=\"27\" y=\"16\">1</text></g>
 <path d=\"M48 28h24\" stroke=\"#777\" stroke-width=\"2\" stroke-dasharray=\"2 3\"/>
 </g>
 </g>
@@ -108,7 +111,7 @@ const GIVEN_UP: &str = "<text x=\"10\" y=\"50\" font-size=\"13\">rounds 5 finish
 <g><title>a session 1: scale; thirsty 1 drinks 2 done 4 waited 1</title><rect x=\"24\" y=\"4\" width=\"24\" height=\"16\" fill=\"#fff4d9\" stroke=\"#c77f00\" stroke-dasharray=\"3 2\"/><rect x=\"48\" y=\"4\" width=\"48\" height=\"16\" fill=\"#56b4e9\" stroke=\"#222\"/><text x=\"51\" y=\"16\">1</text></g>
 </g>
 <g transform=\"translate(0 40)\"><path d=\"M-140 38H120\" stroke=\"#bbb\"/><text x=\"-140\" y=\"18\" font-size=\"12\">b</text>
-<g><title>b session 1: scale; thirsty 1 given up 2</title><rect x=\"24\" y=\"4\" width=\"24\" height=\"16\" fill=\"#fff4d9\" stroke=\"#c77f00\" stroke-dasharray=\"3 2\"/><text x=\"27\" y=\"16\">1</text><path d=\"M48 12m-5-5l10 10m0-10l-10 10\" fill=\"none\" stroke=\"#d00000\" stroke-width=\"2\"/></g>
+<g><title>b session 1: scale; thirsty 1 given up 2; kept waiting by a (scale) 1 round, used 0</title><rect x=\"24\" y=\"4\" width=\"24\" height=\"16\" fill=\"#fff4d9\" stroke=\"#c77f00\" stroke-dasharray=\"3 2\"/><text x=\"27\" y=\"16\">1</text><path d=\"M48 12m-5-5l10 10m0-10l-10 10\" fill=\"none\" stroke=\"#d00000\" stroke-width=\"2\"/></g>
 </g>
 </g>
 </svg>
@@ -130,6 +133,66 @@ fn runs_by_hand(rt: HostRuntime) {
     }
 }
 
+/// Five jobs that share a scale: by hand, each of b to e waits for all that have it before, and e for four.
+const FIVE: &str = "lab 1
+job a
+session
+scale add 1
+end
+job b
+session
+scale add 1
+end
+job c
+session
+scale add 1
+end
+job d
+session
+scale add 1
+end
+job e
+session
+scale add 1
+end
+";
+
+/// a drinks in rounds 2 and 3, and then nobody until e does in 5. In round 4 e gets the bottles of b, c and d, which are thirsty.
+const FOUR_KEEP_E: &str =
+    "<title>e session 1: scale; thirsty 1 drinks 5 done 7 waited 4; kept waiting by a (scale) 4 rounds, used 2; by b (scale) 3 rounds, used 0; by c (scale) 3 rounds, used 0</title>";
+
+/// The longest first: c, which has the scale last of all before b.
+const C_KEEPS_B: &str =
+    "<title>b session 1: scale; thirsty 1 drinks 17 done 19 waited 16; kept waiting by c (scale) 13 rounds, used 2; by d (scale) 9 rounds, used 2; by e (scale) 5 rounds, used 2</title>";
+
+/// By a reckoning of its own: the two sessions in which bench-2 waits for bench-3 have together what `blocks` tells, 41 and 5.
+const FIRST_OF_RING: &str =
+    "<title>bench-2 session 1: scope-1 supply-2; thirsty 1 drinks 43 done 47 waited 42; kept waiting by bench-3 (supply-2) 39 rounds, used 4; by bench-1 (scope-1) 6 rounds, used 4</title>";
+
+const SECOND_OF_RING: &str =
+    "<title>bench-2 session 2: supply-2; thirsty 50 drinks 52 done 54 waited 2; kept waiting by bench-3 (supply-2) 2 rounds, used 1</title>";
+
+fn has(text: &[u8], title: &str) -> bool {
+    text.windows(title.len().max(1))
+        .any(|place| place == title.as_bytes())
+}
+
+#[test]
+fn keepers_by_hand(rt: HostRuntime) {
+    for (script, title) in [
+        (FIVE, FOUR_KEEP_E),
+        (FIVE, C_KEEPS_B),
+        (RING, FIRST_OF_RING),
+        (RING, SECOND_OF_RING),
+    ] {
+        let (text, answer) = drawn(rt.alloc(), script, 10000);
+        assert!(rt;
+            answer == Ok(Outcome::Finished) && has(&text, title),
+            "{title}"
+        );
+    }
+}
+
 #[test]
 fn no_script_has_no_run(rt: HostRuntime) {
     let (text, answer) = drawn(rt.alloc(), "lab 1\nsession\n", 7);
@@ -143,4 +206,5 @@ fn no_script_has_no_run(rt: HostRuntime) {
 #[test]
 fn laws_can_be_called(_rt: HostRuntime) {
     pictures_are_narrow();
+    sessions_add_up();
 }

@@ -13,7 +13,10 @@ use rounds::{Ended, rounds};
 use std::alloc::{AllocError, Allocator};
 
 /// The logs of this many jobs before the first round.
-fn fresh_logs<A: Allocator + Copy>(alloc: A, jobs: usize) -> Result<Vec<JobLog<A>, A>, AllocError>
+pub fn fresh_logs<A: Allocator + Copy>(
+    alloc: A,
+    jobs: usize,
+) -> Result<Vec<JobLog<A>, A>, AllocError>
     ensures { IfOk result (λ logs. logs.items ≡ replicate jobs fresh_log) }
 {
     let mut logs = Vec::new(alloc);
@@ -24,7 +27,7 @@ fn fresh_logs<A: Allocator + Copy>(alloc: A, jobs: usize) -> Result<Vec<JobLog<A
 }
 
 /// Notes how far each job is after a round.
-fn note_all<A: Allocator>(
+pub fn note_all<A: Allocator>(
     desks: &[Desk<A>],
     logs: &mut [JobLog<A>],
     round: u32,

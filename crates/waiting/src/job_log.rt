@@ -9,7 +9,7 @@ use std::marker::Model;
 
 /// The rounds of a job's sessions and meals, in their order, and how far it was after the last round.
 #[derive(Drop)]
-pub(crate) struct JobLog<A: Allocator = Global> {
+pub struct JobLog<A: Allocator = Global> {
     phase: JobState,
     sessions: Vec<Session, A>,
     meals: Vec<Meal, A>,

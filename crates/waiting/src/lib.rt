@@ -13,7 +13,8 @@ mod session;
 mod text;
 mod waits;
 
-pub use driving::run_by_rounds;
+pub use driving::{fresh_logs, note_all, run_by_rounds};
+pub use job_log::JobLog;
 pub use run::RoundsRun;
 pub use session::{Meal, Session};
 pub use text::{add_outcome, add_rounds, add_waits};

@@ -1,6 +1,7 @@
 //! A run by rounds, as the rounds of its sessions and meals.
-ghost use Rattle.std.specs.Prelude.{◌≡◌, ◌<◌, length};
+ghost use Rattle.std.specs.Prelude.{◌≡◌, ◌<◌, length, map};
 ghost use Rattle.waiting.specs.Waits.{job_of};
+ghost use Rattle.waiting.specs.Watching.{told};
 
 use crate::job_log::JobLog;
 use crate::session::{Meal, Session};
@@ -27,6 +28,17 @@ impl<A: Allocator> Model for RoundsRun<A> {
 }
 
 impl<A: Allocator> RoundsRun<A> {
+    /// A run of this many rounds, by what was noted of each job.
+    pub fn new(number: u32, retired: bool, logs: Vec<JobLog<A>, A>) -> RoundsRun<A>
+        ensures { result ≡ record { number = number; retired = retired; jobs = map told logs.items } }
+    {
+        RoundsRun {
+            number,
+            retired,
+            logs,
+        }
+    }
+
     /// How many rounds were done.
     pub fn rounds(&self) -> u32
         ensures { result ≡ self.now.number }

@@ -5,7 +5,7 @@ use Rattle.lab_program.specs.Answers.{ScriptRefuses}
 use Rattle.lab_program.proofs.RunAnswers.{ends_with}
 use Rattle.lab_views.specs.Gantts.{DrawsRun}
 use Rattle.lab_views.proofs.RunDrawn.{drawn_run}
-use Rattle.waiting.proofs.Known.{many}
+use Rattle.blocking.proofs.Known.{kept_of_plan}
 use Rattle.lab_views.proofs.drawing_gantt.draw_run.Goals as goal
 
 pub returns-in_err-plan-clause-answer : goal.returns-in_err-plan-clause-answer
@@ -32,7 +32,7 @@ returns-in_err-send_text-clause-answer g c =
     )
 
 pub text_of-requires : goal.text_of-requires
-text_of-requires g c = many c.in_ok-plan.plan c.args.limit c.in_ok-run.run' c.in_ok-run.ensures
+text_of-requires g c = kept_of_plan c.in_ok-plan.plan c.args.limit c.in_ok-run.run' c.in_ok-run.ensures
 
 pub returns-in_err-text-clause-answer : goal.returns-in_err-text-clause-answer
 returns-in_err-text-clause-answer g c =

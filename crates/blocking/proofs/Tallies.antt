@@ -1,0 +1,191 @@
+-- Tallies after rounds.
+use Rattle.std.proofs.Common.{◌≡◌, ◌⊎◌, ℕ, zero, suc, ◌+◌, ◌-◌, ◌==◌, ◌<◌, ◌≤◌, Bool, true, false, if◌then◌else◌, List, [], ◌∷◌, length, map, take, get_or, set, replicate, refl, sym, ap, ◌∙◌, subst, inl, inr, arith, length-set}
+use Rattle.std.specs.List.{All, range_with_len}
+use Rattle.std.proofs.lemmas.Bool.{cases_eq, eq-eqb, ne_eqb}
+use Rattle.std.proofs.lemmas.Bool.Decides.{nat_tests}
+use Rattle.std.proofs.lemmas.List.{get_or-set_same, get_or-set_other, length-map, length-replicate, get_or-replicate}
+use Rattle.std.proofs.lemmas.List.Elements.{All-weaker, All-same}
+use Rattle.std.proofs.lemmas.List.FromFn.{fill_by_all}
+use Rattle.lab_plan.specs.LabPlan.{LabPlan, sessions}
+use Rattle.legal_steps.specs.declared.event.Event.{Event}
+use Rattle.legal_steps.specs.State.{neighbour, session, no_seat}
+use Rattle.legal_steps.specs.Opening.{idle_seat}
+use Rattle.locality.specs.History.{IsHistory}
+use Rattle.locality.specs.Lists.{StartsWith}
+use Rattle.rounds.specs.Rounds.{known_in}
+use Rattle.block_lines.specs.declared.block.Block.{Block}
+use Rattle.block_lines.specs.Largest.{largest_three}
+use Rattle.block_lines.specs.Ranking.{count_at, ranked_below}
+use Rattle.block_lines.specs.Sums.{rounds_of}
+use Rattle.block_lines.specs.Text.{block_at}
+use Rattle.waiting.specs.Rounds.{joined}
+use Rattle.blocking.specs.declared.places.Place.{Place}
+use Rattle.blocking.specs.Blocks.{history_after, block_of, places_of}
+use Rattle.blocking.specs.Keepers.{session_block, keepers, keepers_of}
+use Rattle.blocking.specs.Watching.{AreHeld, IsPlace, blocks_then}
+use Rattle.blocking.specs.Tallying.{TallyView, FitsTally, fresh_tally, kept_then, put_away, cleared, moved_to, counted_on, tally_then}
+use Rattle.blocking.proofs.Placing.{IsPlaceOf, places_of_job, all_of_job, neighbour_inside}
+use Rattle.blocking.proofs.Rises.{rises, within}
+use Rattle.blocking.proofs.OfSessions.{none_yet, all_more, all_same, all_cleared, same_sessions}
+
+-- what a tally of job j tells of these rounds
+pub record Tells (plan : LabPlan) (rounds : List (List Event)) (j : ℕ) (x : TallyView) : Type 0 where
+  pub places : x.places ≡ places_of plan j
+  pub session : x.session ≡ session (known_in plan (joined rounds) j) j
+  pub there : x.session ≤ length (sessions plan j)
+  pub blocks : x.blocks ≡ map (session_block plan rounds x.session) (places_of plan j)
+  pub many : length x.kept ≡ length (sessions plan j)
+  pub kept : (i : ℕ) → i < length (sessions plan j) → ¬ (i + 1 ≡ x.session) → get_or x.kept i [] ≡ keepers plan rounds j (i + 1)
+
+pub fits : (plan : LabPlan) (rounds : List (List Event)) (j : ℕ) (x : TallyView) → j < length plan.jobs → Tells plan rounds j x → FitsTally plan x
+fits plan rounds j x inside t = record {
+  places = All-same (IsPlace plan) x.places (places_of plan j) t.places (all_of_job plan j inside);
+  many = ap length t.blocks ∙ (length-map (places_of plan j) (session_block plan rounds x.session) ∙ sym (ap length t.places));
+  there = let a = t.there in let b = t.many in omega (arith, a, b);
+}
+
+jobs_are : (plan : LabPlan) (j : ℕ) → j < length plan.jobs → All (λ (x : Place). x.job ≡ j) (places_of plan j)
+jobs_are plan j inside = All-weaker (IsPlaceOf plan j) (λ (x : Place). x.job ≡ j) (λ x is. is.1) (places_of plan j) (places_of_job plan j inside)
+
+-- ---- what is put away
+
+-- who kept each session, once those of the present one are put away
+module _ (plan : LabPlan) (rounds : List (List Event)) (j : ℕ) (x : TallyView) (t : Tells plan rounds j x) where
+  present : (b : Bool) → (x.session == 0) ≡ b → (i : ℕ) → i < length (sessions plan j)
+      → get_or (if b then x.kept else set x.kept (x.session - 1) (largest_three x.blocks)) i [] ≡ keepers plan rounds j (i + 1)
+  present true is i inside =
+      let none : x.session ≡ 0 = grind (arith, nat_tests, is) in
+      t.kept i inside (λ e. omega (arith, e, none))
+  present false is i inside =
+      let some : ¬ (x.session ≡ 0) = grind (arith, nat_tests, is) in
+      elim (cases_eq i (x.session - 1)) [
+        | inl here ↦
+            let number : i + 1 ≡ x.session = omega (arith, here, some) in let long = t.many in
+            ap (λ k. get_or (set x.kept (x.session - 1) (largest_three x.blocks)) k []) here
+            ∙ (get_or-set_same x.kept (x.session - 1) (largest_three x.blocks) [] (omega (arith, here, inside, long))
+            ∙ (ap largest_three t.blocks ∙ ap (keepers plan rounds j) (sym number)))
+        | inr other ↦
+            get_or-set_other x.kept (x.session - 1) i (largest_three x.blocks) [] other
+            ∙ t.kept i inside (λ e. other (omega (arith, e)))
+      ]
+
+  pub all_kept : (i : ℕ) → i < length (sessions plan j) → get_or (kept_then x.session x.blocks x.kept) i [] ≡ keepers plan rounds j (i + 1)
+  all_kept i inside = present (x.session == 0) refl i inside
+
+  long : (b : Bool) → length (if b then x.kept else set x.kept (x.session - 1) (largest_three x.blocks)) ≡ length (sessions plan j)
+  long true = t.many
+  long false = length-set x.kept (x.session - 1) (largest_three x.blocks) ∙ t.many
+
+  pub all_long : length (kept_then x.session x.blocks x.kept) ≡ length (sessions plan j)
+  all_long = long (x.session == 0)
+
+  pub put_away_all : (put_away x).kept ≡ keepers_of plan rounds j
+  put_away_all = fill_by_all (λ i. keepers plan rounds j (i + 1)) (kept_then x.session x.blocks x.kept) (length (sessions plan j)) [] all_long all_kept
+
+-- ---- before the first round
+
+none_ranked : (counts : List ℕ) (n : ℕ) → ((k : ℕ) → count_at counts k ≡ 0) → ranked_below counts n ≡ []
+none_ranked counts zero none = refl
+none_ranked counts (suc n) none = let here : (count_at counts n == 0) ≡ true = eq-eqb (count_at counts n) 0 (none n) in rw here (none_ranked counts n none)
+
+module _ (plan : LabPlan) where
+  none_at : (s : ℕ) (places : List Place) (k : ℕ) → count_at (map rounds_of (map (session_block plan [] s) places)) k ≡ 0
+  none_at s [] k = refl
+  none_at s (x ∷ places) zero = refl
+  none_at s (x ∷ places) (suc k) = none_at s places k
+
+  nobody : (j s : ℕ) → keepers plan [] j s ≡ []
+  nobody j s =
+      let counts : List ℕ = map rounds_of (map (session_block plan [] s) (places_of plan j)) in
+      ap (λ order. map (block_at (map (session_block plan [] s) (places_of plan j))) (take 3 order))
+      (none_ranked counts (length counts) (none_at s (places_of plan j)))
+
+  idle_at : (m j : ℕ) → (get_or (replicate m (idle_seat plan)) j no_seat).phase.session ≡ 0
+  idle_at zero zero = refl
+  idle_at zero (suc j) = refl
+  idle_at (suc m) zero = refl
+  idle_at (suc m) (suc j) = idle_at m j
+
+  pub fresh_tells : (j : ℕ) → Tells plan [] j (fresh_tally plan j)
+  fresh_tells j = record {
+    places = refl;
+    session = sym (idle_at (length plan.jobs) j);
+    there = omega arith;
+    blocks = refl;
+    many = length-replicate (length (sessions plan j)) [];
+    kept = λ i inside other. get_or-replicate (length (sessions plan j)) i [] [] inside ∙ sym (nobody j (i + 1));
+  }
+
+-- ---- one round more
+
+module _ (plan : LabPlan) (old new : List (List Event)) (n : ℕ) (old_long : length old ≡ n) (new_long : length new ≡ n + 1)
+    (same : (k : ℕ) → k ≤ n → history_after old k ≡ history_after new k) (small : n < 4294967295)
+    (before after : List ℕ) (held_before : AreHeld plan (joined old) before) (held_after : AreHeld plan (joined new) after)
+    (legal : IsHistory plan (joined new)) (grown : StartsWith (joined new) (joined old))
+    (starts : (k : ℕ) → StartsWith (joined old) (history_after old k)) (j : ℕ) (inside : j < length plan.jobs) where
+  abbrev now : ℕ
+  now = session (known_in plan (joined new) j) j
+
+  -- in the session in which the round ended, and nothing of this round is counted yet
+  record Moved (y : TallyView) : Type 0 where
+    places : y.places ≡ places_of plan j
+    session : y.session ≡ now
+    blocks : y.blocks ≡ map (session_block plan old now) (places_of plan j)
+    many : length y.kept ≡ length (sessions plan j)
+    kept : (i : ℕ) → i < length (sessions plan j) → ¬ (i + 1 ≡ now) → get_or y.kept i [] ≡ keepers plan old j (i + 1)
+
+  module _ (x : TallyView) (t : Tells plan old j x) where
+    moves : (b : Bool) → (x.session == now) ≡ b
+        → Moved (if b then x else record { session = now; places = x.places; blocks = map cleared x.blocks; kept = kept_then x.session x.blocks x.kept })
+    moves true is =
+        let e : x.session ≡ now = grind (arith, nat_tests, is) in record {
+          places = t.places;
+          session = e;
+          blocks = t.blocks ∙ ap (λ s. map (session_block plan old s) (places_of plan j)) e;
+          many = t.many;
+          kept = λ i there other. t.kept i there (λ q. other (q ∙ e));
+        }
+    moves false is =
+        let other : ¬ (x.session ≡ now) = grind (arith, nat_tests, is) in
+        let was = t.session in let up = rises plan j (joined new) (joined old) grown inside in
+        let less : x.session < now = omega (arith, other, was, up) in record {
+          places = t.places;
+          session = refl;
+          blocks = ap (map cleared) t.blocks ∙ all_cleared plan old x.session now j
+              (λ k few. let q = rises plan j (joined old) (history_after old k) (starts k) inside in omega (arith, q, was, less))
+              (places_of plan j) (jobs_are plan j inside);
+          many = all_long plan old j x t;
+          kept = λ i there _. all_kept plan old j x t i there;
+        }
+
+  keepers_same : (i : ℕ) → ¬ (i + 1 ≡ now) → keepers plan old j (i + 1) ≡ keepers plan new j (i + 1)
+  keepers_same i other = ap largest_three (all_same plan old new n old_long new_long same small before after held_before held_after (i + 1) j
+      (λ e. other (sym e)) (places_of plan j) (jobs_are plan j inside))
+
+  near : All (λ (x : Place). (neighbour plan x.job x.edge < length plan.jobs) × (x.job ≡ j)) (places_of plan j)
+  near = All-weaker (IsPlaceOf plan j) (λ (x : Place). (neighbour plan x.job x.edge < length plan.jobs) × (x.job ≡ j))
+      (λ x is. (neighbour_inside plan x is.0, is.1)) (places_of plan j) (places_of_job plan j inside)
+
+  counts : (y : TallyView) → Moved y → Tells plan new j (counted_on plan (joined new) before after y)
+  counts y m = record {
+    places = m.places;
+    session = m.session;
+    there = let a = m.session in let b = (within plan (joined new) j legal inside).session_there in omega (arith, a, b);
+    blocks = (λ i. blocks_then plan (joined new) before after (m.places i) (m.blocks i))
+        ∙ (all_more plan old new n old_long new_long same small before after held_before held_after now j refl (places_of plan j) near
+        ∙ ap (λ s. map (session_block plan new s) (places_of plan j)) (sym m.session));
+    many = m.many;
+    kept = λ i there other. m.kept i there (λ e. other (e ∙ sym m.session)) ∙ keepers_same i (λ e. other (e ∙ sym m.session));
+  }
+
+  pub tells_then : (x : TallyView) → Tells plan old j x → Tells plan new j (tally_then plan (joined new) before after now x)
+  tells_then x t = counts (moved_to now x) (moves x t (x.session == now) refl)
+
+-- rounds that lead to the same histories
+pub same_keepers : (plan : LabPlan) (a b : List (List Event)) (j : ℕ) → length a ≡ length b
+    → ((k : ℕ) → k ≤ length a → history_after a k ≡ history_after b k) → keepers_of plan a j ≡ keepers_of plan b j
+same_keepers plan a b j long same =
+    same_map (range_with_len 0 (length (sessions plan j))) where
+      same_map : (l : List ℕ) → map (λ i. keepers plan a j (i + 1)) l ≡ map (λ i. keepers plan b j (i + 1)) l
+      same_map [] = refl
+      same_map (i ∷ l) = λ z. largest_three (same_sessions plan a b (i + 1) long same (places_of plan j) z) ∷ same_map l z

@@ -1,0 +1,9 @@
+use Rattle.std.proofs.Common.{◌≡◌, ◌<◌, ◌≤◌, ℕ, length}
+use Rattle.rounds.specs.Company.{first_front}
+use Rattle.blocking.specs.Tallying.{tally_at, noted_then}
+use Rattle.blocking.proofs.Changing.{Changed}
+use Rattle.blocking.proofs.keeping.note_tallies.Given as goal
+
+-- so many jobs are counted
+abbrev pub invariant-loop-place : goal.invariant-loop-place
+invariant-loop-place g l = Changed (noted_then l.plan (first_front l.desks) l.before l.after) l.place l.fn.tallies l.tallies
