@@ -8,3 +8,4 @@ pub mod Waits
 pub mod Blocks
 pub mod Gantts
 pub mod Arranged
+pub mod BestOrders

@@ -1,4 +1,5 @@
 //! Whole command lines of both programs: what goes out, what is printed on standard error, and the status.
+use crate::measured::{GIVES_UP, PATIENT};
 use lab_program::FromRead;
 use report::ToWrite;
 use std::alloc::{AllocError, Global};
@@ -192,4 +193,29 @@ fn command_lines_of_labview(rt: HostRuntime) {
     }
     let told = labview(rt.alloc(), &["labview", "table"], "lab 1\nfinished\n");
     ends(&rt, told, table, "", 0);
+}
+
+/// What an order gained is told; of PATIENT and GIVES_UP `measured` says how they were reckoned.
+#[test]
+fn command_lines_that_arrange(rt: HostRuntime) {
+    for (limit, input, out, said) in [
+        (
+            "100",
+            PATIENT,
+            GIVES_UP,
+            "labview: rounds 9, now 5; waited 5, now 2\n",
+        ),
+        (
+            "4",
+            PATIENT,
+            GIVES_UP,
+            "labview: rounds 4 unfinished, now 4 unfinished; waited 4, now 2\n",
+        ),
+    ] {
+        let told = labview(rt.alloc(), &["labview", "arrange", limit], input);
+        ends(&rt, told, out, said, 0);
+    }
+    let refused = "labview: line 2: this is a report; arrange reads a script\n";
+    let told = labview(rt.alloc(), &["labview", "arrange", "9"], REPORT);
+    ends(&rt, told, "", refused, 1);
 }
