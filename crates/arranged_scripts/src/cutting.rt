@@ -126,7 +126,7 @@ fn has_line_end(text: &[u8]) -> bool
 
 /// A text with an end for its last line.
 #[tactic(auto, unfolding(crate::specs::Arranged::with_line_end))]
-pub(crate) fn with_line_end<A: Allocator>(alloc: A, text: &[u8]) -> Result<Vec<u8, A>, AllocError>
+pub fn with_line_end<A: Allocator>(alloc: A, text: &[u8]) -> Result<Vec<u8, A>, AllocError>
     ensures { IfOk result (λ whole. whole.items ≡ with_line_end text.now) }
 {
     let mut whole = Vec::from_slice(alloc, text)?;
@@ -137,7 +137,7 @@ pub(crate) fn with_line_end<A: Allocator>(alloc: A, text: &[u8]) -> Result<Vec<u
 }
 
 /// A text with the blocks of its jobs in this order, if it has one for each.
-pub(crate) fn moved<A: Allocator + Copy>(
+pub fn moved<A: Allocator + Copy>(
     alloc: A,
     text: &[u8],
     order: &[JobNo],

@@ -10,10 +10,10 @@ use script_reader::{ScriptCause, read_plan};
 use std::alloc::{AllocError, Allocator};
 
 /// The longest text that a run reads; `INPUT_LIMIT` of `lab_program`, which isn't below this crate.
-const MOST_BYTES: usize = 16_777_216;
+pub const MOST_BYTES: usize = 16_777_216;
 
-/// The plan that a text made by `arranged_script` is read as; none if it is no script.
-fn read_back<A: Allocator + Copy>(alloc: A, text: &[u8]) -> Result<Option<Plan<A>>, AllocError>
+/// The plan that a text is read as; none if it is no script.
+pub fn read_back<A: Allocator + Copy>(alloc: A, text: &[u8]) -> Result<Option<Plan<A>>, AllocError>
     ensures { IfOk result (λ read. IfSome read (λ plan. ScriptMeans text.now plan)) }
 {
     match read_plan(alloc, text) {

@@ -6,4 +6,5 @@ mod cutting;
 pub mod judging;
 pub mod laws;
 
-pub use judging::arranged_script;
+pub use cutting::{moved, with_line_end};
+pub use judging::{MOST_BYTES, arranged_script, read_back};

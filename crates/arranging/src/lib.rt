@@ -13,3 +13,4 @@ mod same_jobs;
 pub use colouring::{Colouring, colours_of};
 pub use ordering::order_of;
 pub use reordered::is_arrangement;
+pub use same_jobs::has_jobs_of;

@@ -93,7 +93,7 @@ fn is_same_job<A: Allocator, B: Allocator>(
 }
 
 /// Whether a plan has the jobs of another in this order.
-pub(crate) fn has_jobs_of<A: Allocator, B: Allocator>(
+pub fn has_jobs_of<A: Allocator, B: Allocator>(
     plan: &Plan<A>,
     order: &[JobNo],
     other: &Plan<B>,

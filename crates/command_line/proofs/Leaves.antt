@@ -1,5 +1,5 @@
 -- What clap makes of the values of a word.
-use Rattle.std.proofs.Common.{◌≡◌, ◌∙◌, ◌≤◌, ◌==◌, ℕ, Bool, true, false, List, [], ◌∷◌, Some, None, refl, sym, ap, subst, codes, if◌then◌else◌, fold, arith, length}
+use Rattle.std.proofs.Common.{◌≡◌, ◌∙◌, ◌⊎◌, inl, inr, ◌≤◌, ◌==◌, ℕ, Bool, true, false, List, [], ◌∷◌, Some, None, refl, sym, ap, subst, codes, if◌then◌else◌, fold, arith, length}
 use Rattle.std.specs.Prelude.{nat_lt, nat_le, ◌^◌, option_and_then, unwrap_or}
 use Rattle.std.specs.Option.{option_map_or}
 use Rattle.std.proofs.lemmas.Bool.{leb-true, lt-ltb}
@@ -13,7 +13,7 @@ use Rattle.clap.specs.Walk.{Held, Rule, Text, arg_by_index, finished, is_multipl
 use Rattle.clap.specs.Faults.{check_fault, defaults_fault, level_fault, settle_fault, walk_fault}
 use Rattle.clap.proofs.OnLiterals.{clap_on_literals}
 use Rattle.clap.proofs.WalkLemmas.{both}
-use Rattle.command_line.specs.Command.{number_rule, program_app, word_app, word_of_number, word_of_numbers}
+use Rattle.command_line.specs.Command.{number_rule, optional_rule, program_app, word_app, word_of_number, word_of_numbers, word_of_optional_number}
 use Rattle.command_line.specs.Grammar.{number_within, values_given}
 use Rattle.command_line.specs.Reading.{number_found, number_read}
 use Rattle.command_line.proofs.Flags.{IsPlainRules, first_nil, help_flag, second_nil}
@@ -46,7 +46,7 @@ behind_level s k rest all h =
     let w = without s k [] None 1 rest walk in
     both_nil _ _ walk (subst (λ (x : Held). end_fault s x ≡ []) (sym w.1) (second_nil _ _ h))
 
--- ---- the three kinds of words
+-- ---- the four kinds of words
 
 abbrev pub leaf : App → Shape
 leaf a = built_leaf (inherited (program_app []).top a.top)
@@ -83,6 +83,13 @@ plain_one name l m = record {
   single = λ i a. place_here i (place 1 (number_rule (codes "N") l m)) (help_flag ∷ []) a (refl, refl) (place_here i help_flag [] a (refl, refl) (λ h. cc));
 }
 
+pub plain_optional : (name : Text) (l m : ℕ) → IsPlainRules (leaf (word_of_optional_number name l m)).rules
+plain_optional name l m = record {
+  long = λ n. refl;
+  short = λ x. refl;
+  single = λ i a. place_here i (place 1 (optional_rule (codes "N") l m)) (help_flag ∷ []) a (refl, refl) (place_here i help_flag [] a (refl, refl) (λ h. cc));
+}
+
 pub plain_two : (name : Text) (j k l m : ℕ) → IsPlainRules (leaf (word_of_numbers name j k l m)).rules
 plain_two name j k l m = record {
   long = λ n. refl;
@@ -115,6 +122,34 @@ one_passes name l m v good = rw good refl
 pub one_found : (name : Text) (l m : ℕ) (v : Text) → one_of (codes "N") (finished (leaf (word_of_number name l m)).rules (behind (leaf (word_of_number name l m)) (v ∷ []))) ≡ Some v
 unfolding clap_on_literals
 one_found name l m v = refl
+
+-- one number may be there
+pub optional_values : (name : Text) (l m : ℕ) (vs : List Text) → behind_fault (leaf (word_of_optional_number name l m)) vs ≡ []
+    → (vs ≡ []) ⊎ ((v : Text) × (vs ≡ v ∷ []) × IsNumber l m v)
+unfolding clap_on_literals
+optional_values name l m [] h = inl refl
+optional_values name l m (v ∷ w ∷ vs) h = cc
+optional_values name l m (v ∷ []) h = inr (v, refl, go (is_unsigned_in l m v) refl)
+  where
+    go : (b : Bool) → is_unsigned_in l m v ≡ b → is_unsigned_in l m v ≡ true
+    go true e = e
+    go false e = let bad = rw e at h in cc
+
+pub optional_left_out : (name : Text) (l m : ℕ) → behind_fault (leaf (word_of_optional_number name l m)) [] ≡ []
+unfolding clap_on_literals
+optional_left_out name l m = refl
+
+pub optional_passes : (name : Text) (l m : ℕ) (v : Text) → IsNumber l m v → behind_fault (leaf (word_of_optional_number name l m)) (v ∷ []) ≡ []
+unfolding clap_on_literals
+optional_passes name l m v good = rw good refl
+
+pub optional_none : (name : Text) (l m : ℕ) → one_of (codes "N") (finished (leaf (word_of_optional_number name l m)).rules (behind (leaf (word_of_optional_number name l m)) [])) ≡ None
+unfolding clap_on_literals
+optional_none name l m = refl
+
+pub optional_found : (name : Text) (l m : ℕ) (v : Text) → one_of (codes "N") (finished (leaf (word_of_optional_number name l m)).rules (behind (leaf (word_of_optional_number name l m)) (v ∷ []))) ≡ Some v
+unfolding clap_on_literals
+optional_found name l m v = refl
 
 pub two_values : (name : Text) (j k l m : ℕ) (vs : List Text) → behind_fault (leaf (word_of_numbers name j k l m)) vs ≡ []
     → (v : Text) × (w : Text) × (vs ≡ v ∷ w ∷ []) × IsNumber j k v × IsNumber l m w
@@ -180,6 +215,11 @@ number_same l m v small h =
     let told : number_within l m v ≡ Some (digits_value 10 ds) = rw h refl in
     read ∙ sym told
 
+-- it is some number
+number_told : (l m : ℕ) (v : Text) → IsNumber l m v → (k : ℕ) × (number_within l m v ≡ Some k)
+unfolding number_within
+number_told l m v h = (digits_value 10 (without_leading_plus v), rw h refl)
+
 pub told_number : (l m k : ℕ) (v : Text) → number_within l m v ≡ Some k → IsNumber l m v
 unfolding number_within
 told_number l m k v h = go (is_unsigned_in l m v) refl
@@ -215,6 +255,45 @@ word_with_number_passes name l m rest v e good =
     let all : AreValues (v ∷ []) = (plain.0, plain.1, tt) in
     behind_level (leaf (word_of_number name l m)) (plain_one name l m) rest (subst AreValues (sym e) all)
     (subst (λ vs. behind_fault (leaf (word_of_number name l m)) vs ≡ []) (sym e) (one_passes name l m v good))
+
+-- what is found of a number that may be there
+abbrev pub MayFind : Text → ℕ → ℕ → List Text → Type 0
+MayFind name l m rest =
+    ((values_given rest ≡ []) × (number_found (codes "N") (rows_after (leaf (word_of_optional_number name l m)).rules [] rest) ≡ None))
+    ⊎ ((v : Text) × (k : ℕ) × (values_given rest ≡ v ∷ []) × (number_found (codes "N") (rows_after (leaf (word_of_optional_number name l m)).rules [] rest) ≡ Some k)
+    × (number_within l m v ≡ Some k))
+
+pub word_with_optional_number : (name : Text) (l m : ℕ) (rest : List Text) → m ≤ 1000000000 → fault_at (leaf (word_of_optional_number name l m)) rest ≡ [] → MayFind name l m rest
+word_with_optional_number name l m rest small h = go (optional_values name l m (values_given rest) b.0)
+  where
+    s : Shape
+    s = leaf (word_of_optional_number name l m)
+
+    b : (behind_fault s (values_given rest) ≡ []) × (rows_after s.rules [] rest ≡ finished s.rules (behind s (values_given rest)))
+    b = level_behind s (plain_optional name l m) rest h
+
+    go : (values_given rest ≡ []) ⊎ ((v : Text) × (values_given rest ≡ v ∷ []) × IsNumber l m v) → MayFind name l m rest
+    go (inl none) =
+        let rows : rows_after s.rules [] rest ≡ finished s.rules (behind s []) = b.1 ∙ ap (λ vs. finished s.rules (behind s vs)) none in
+        inl (none, ap (λ r. option_and_then number_read (one_of (codes "N") r)) rows ∙ ap (option_and_then number_read) (optional_none name l m))
+    go (inr one) =
+        let rows : rows_after s.rules [] rest ≡ finished s.rules (behind s (one.0 ∷ [])) = b.1 ∙ ap (λ vs. finished s.rules (behind s vs)) one.1 in
+        let text : one_of (codes "N") (rows_after s.rules [] rest) ≡ Some one.0 = ap (one_of (codes "N")) rows ∙ optional_found name l m one.0 in
+        let told = number_told l m one.0 one.2 in
+        inr (one.0, told.0, one.1, ap (option_and_then number_read) text ∙ number_same l m one.0 small one.2 ∙ told.1, told.1)
+
+pub word_with_optional_number_passes : (name : Text) (l m : ℕ) (rest : List Text) (v : Text) → values_given rest ≡ v ∷ [] → IsNumber l m v
+    → fault_at (leaf (word_of_optional_number name l m)) rest ≡ []
+word_with_optional_number_passes name l m rest v e good =
+    let plain = number_is_value l m v good in
+    let all : AreValues (v ∷ []) = (plain.0, plain.1, tt) in
+    behind_level (leaf (word_of_optional_number name l m)) (plain_optional name l m) rest (subst AreValues (sym e) all)
+    (subst (λ vs. behind_fault (leaf (word_of_optional_number name l m)) vs ≡ []) (sym e) (optional_passes name l m v good))
+
+pub word_without_number_passes : (name : Text) (l m : ℕ) (rest : List Text) → values_given rest ≡ [] → fault_at (leaf (word_of_optional_number name l m)) rest ≡ []
+word_without_number_passes name l m rest e =
+    behind_level (leaf (word_of_optional_number name l m)) (plain_optional name l m) rest (subst AreValues (sym e) tt)
+    (subst (λ vs. behind_fault (leaf (word_of_optional_number name l m)) vs ≡ []) (sym e) (optional_left_out name l m))
 
 pub word_with_numbers : (name : Text) (j k l m : ℕ) (rest : List Text) → k ≤ 1000000000 → m ≤ 1000000000 → fault_at (leaf (word_of_numbers name j k l m)) rest ≡ []
     → (v : Text) × (w : Text) × (values_given rest ≡ v ∷ w ∷ [])

@@ -45,7 +45,7 @@ IsComplete {T} app asked words = (t : T) → asked words ≡ Some t → fault_of
 abbrev pub IsRight : {T : Type 0} → App → (Option (Text × List Row) → Option T) → (List Text → Option T) → List Text → Type 0
 IsRight app found asked words = IsSound app found asked words × IsComplete app asked words
 
-by_values : {T : Type 0} {app : App} {found : Option (Text × List Row) → Option T} {asked : List Text → Option T} {name : Text} {takes : App} {finds : List Row → Option T} {means : List Text → Option T}
+pub by_values : {T : Type 0} {app : App} {found : Option (Text × List Row) → Option T} {asked : List Text → Option T} {name : Text} {takes : App} {finds : List Row → Option T} {means : List Text → Option T}
     → IsProgram app → IsWord app found asked name takes finds means
     → ((rest : List Text) → fault_at (leaf takes) rest ≡ [] → finds (rows_after (leaf takes).rules [] rest) ≡ means (values_given rest))
     → ((rest : List Text) (t : T) → means (values_given rest) ≡ Some t → fault_at (leaf takes) rest ≡ [])

@@ -11,6 +11,10 @@ program_app name = record { top = record (new_app name).top { disable_help_subco
 abbrev pub number_rule : List ℕ → ℕ → ℕ → Rule
 number_rule id least most = record (new_rule id) { required = true; parser = Some (vp.Unsigned least most) }
 
+-- a number within a range, which may be there
+abbrev pub optional_rule : List ℕ → ℕ → ℕ → Rule
+optional_rule id least most = record (new_rule id) { parser = Some (vp.Unsigned least most) }
+
 -- a word without values
 abbrev pub word_app : List ℕ → App
 word_app name = new_app name
@@ -18,6 +22,10 @@ word_app name = new_app name
 -- a word with a number `N`
 abbrev pub word_of_number : List ℕ → ℕ → ℕ → App
 word_of_number name least most = with_rule (word_app name) (number_rule (codes "N") least most)
+
+-- a word that may have a number `N`
+abbrev pub word_of_optional_number : List ℕ → ℕ → ℕ → App
+word_of_optional_number name least most = with_rule (word_app name) (optional_rule (codes "N") least most)
 
 -- a word with a number `W` and a number `N`
 abbrev pub word_of_numbers : List ℕ → ℕ → ℕ → ℕ → ℕ → App

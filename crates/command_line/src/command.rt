@@ -1,7 +1,7 @@
 //! The command line as clap is told of it.
 ghost use Rattle.std.specs.Prelude.{◌≡◌, IfOk, false};
 ghost use Rattle.clap.specs.Words.{app_of, rule_of, with_subcommand};
-ghost use Rattle.command_line.specs.Command.{number_rule, program_app, word_app};
+ghost use Rattle.command_line.specs.Command.{number_rule, optional_rule, program_app, word_app};
 
 use clap::builder::ValueParser;
 use clap::{Arg, Command};
@@ -24,6 +24,22 @@ pub fn number<'a>(alloc: Global, id: &'a str, least: u64, most: u64, help: &'a s
 {
     Arg::new(alloc, id)
         .required(true)
+        .value_parser(ValueParser::unsigned(least, most))
+        .help(help)
+}
+
+/// A number that a word may take, in plain digits, from `least` to `most`.
+pub fn optional_number<'a>(
+    alloc: Global,
+    id: &'a str,
+    least: u64,
+    most: u64,
+    help: &'a str,
+) -> Arg<'a>
+    ensures rule { rule_of result ≡ optional_rule id.entry.now least most }
+    ensures local { result.global ≡ false }
+{
+    Arg::new(alloc, id)
         .value_parser(ValueParser::unsigned(least, most))
         .help(help)
 }

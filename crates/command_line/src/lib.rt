@@ -6,6 +6,6 @@ mod command;
 mod reading;
 mod words;
 
-pub use command::{number, program, with_word};
+pub use command::{number, optional_number, program, with_word};
 pub use reading::{number_of, why_no_task};
 pub use words::{NoTask, end_saying_why, end_without_task, given_words, refused};

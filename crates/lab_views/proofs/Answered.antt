@@ -1,5 +1,5 @@
 -- From what a view answers for an input to what it answers for a source.
-use Rattle.std.proofs.Common.{◌≡◌, ℕ, ◌≤◌, List, Option, Result, Ok, Err, length, refl, sym, subst}
+use Rattle.std.proofs.Common.{◌≡◌, ℕ, ◌≤◌, List, Option, None, Result, Ok, Err, length, refl, sym, subst}
 use Rattle.std.specs.Prelude.{IfSome}
 use Rattle.std.proofs.KnownBytes.{Keeps-refl}
 use Rattle.lab_program.specs.declared.reading.ReadFault.{ReadFault}
@@ -11,8 +11,9 @@ use Rattle.lab_program.specs.Faults.{fault_of}
 use Rattle.lab_program.specs.Input.{IsTooLong}
 use Rattle.lab_program.specs.Answers.{AnswersFor, AnswersTo, ScriptRefuses}
 use Rattle.lab_program.proofs.RunAnswers.{for_read, not_read}
+use Rattle.measured_orders.specs.declared.gain.Gain.{Gain}
 use Rattle.labview_words.specs.declared.words.View.{View}
-use Rattle.labview_words.specs.declared.words.View.TheVariants.{Explain, Picture, Table, Arrange, Trace, Waits, Blocks, Gantt}
+use Rattle.labview_words.specs.declared.words.View.TheVariants.{Explain, Picture, Table, Arrange, ArrangeMeasured, Trace, Waits, Blocks, Gantt}
 use Rattle.lab_views.specs.declared.picture_fault.PictureFault.{PictureFault}
 use Rattle.lab_views.specs.declared.picture_fault.PictureFault.TheVariants.{Report, Timeline, Read, TooLong, Write, NoMemory}
 use Rattle.lab_views.specs.declared.view_fault.ViewFault.{ViewFault}
@@ -21,11 +22,12 @@ use Rattle.lab_views.specs.Views.{Explains, StepsAreRefused}
 use Rattle.lab_views.specs.Pictures.{DrawsFor, PictureAnswers, for_reading}
 use Rattle.lab_views.specs.Tables.{TabulatesFor, TableAnswers}
 use Rattle.lab_views.specs.Arranged.{Arranges}
+use Rattle.lab_views.specs.BestOrders.{ArrangesBest}
 use Rattle.lab_views.specs.Traces.{Traces}
 use Rattle.lab_views.specs.Waits.{TellsWaits}
 use Rattle.lab_views.specs.Blocks.{TellsBlocks}
 use Rattle.lab_views.specs.Gantts.{DrawsRun}
-use Rattle.lab_views.specs.Answered.{ForReport, ForScript, IsGiven, IsReport, IsScript, NotRead, TellsOfReport, TellsOfScript, ViewAnswers, ViewAnswersFor}
+use Rattle.lab_views.specs.Answered.{ForReport, ForScript, IsGiven, IsReport, IsScript, NotRead, TellsGain, TellsOfReport, TellsOfScript, ViewAnswers, ViewAnswersFor}
 
 -- ---- what is told of an answer
 
@@ -80,24 +82,25 @@ table_at left old new input (Err Read) whole within d = absurd d
 table_at left old new input (Err TooLong) whole within d = absurd d
 table_at left old new input (Err NoMemory) whole within d = d
 
-pub at_source : (view : View) (left old new : Option (List ℕ)) (seen input : List ℕ) (r : Result Outcome ViewFault)
-    → seen ≡ input → IfSome left (λ all. input ≡ all) → length input ≤ 16777216 → ViewAnswersFor view seen old new r → ViewAnswers view left old new r
-at_source Explain left old new seen input r is whole within a = script_at Explains StepsAreRefused left old new seen input r is whole within a
-at_source Picture left old new seen input r is whole within a = (
+pub at_source : (view : View) (told : Option Gain) (left old new : Option (List ℕ)) (seen input : List ℕ) (r : Result Outcome ViewFault)
+    → seen ≡ input → IfSome left (λ all. input ≡ all) → length input ≤ 16777216 → ViewAnswersFor view told seen old new r → ViewAnswers view told left old new r
+at_source Explain told left old new seen input r is whole within a = script_at Explains StepsAreRefused left old new seen input r is whole within a
+at_source Picture told left old new seen input r is whole within a = (
   a.0,
   picture_at left old new input a.0 whole within (subst (λ t. DrawsFor t old new a.0) is a.1),
   of_report_on (IsScript seen) (IsGiven IsScript left) (given IsScript left seen input is whole within) a.0 r a.2,
 )
-at_source Table left old new seen input r is whole within a = (
+at_source Table told left old new seen input r is whole within a = (
   a.0,
   table_at left old new input a.0 whole within (subst (λ t. TabulatesFor t old new a.0) is a.1),
   of_report_on (IsScript seen) (IsGiven IsScript left) (given IsScript left seen input is whole within) a.0 r a.2,
 )
-at_source Arrange left old new seen input r is whole within a = script_at Arranges ScriptRefuses left old new seen input r is whole within a
-at_source (Trace limit) left old new seen input r is whole within a = script_at (Traces limit) ScriptRefuses left old new seen input r is whole within a
-at_source (Waits limit) left old new seen input r is whole within a = script_at (TellsWaits limit) ScriptRefuses left old new seen input r is whole within a
-at_source (Blocks limit) left old new seen input r is whole within a = script_at (TellsBlocks limit) ScriptRefuses left old new seen input r is whole within a
-at_source (Gantt limit) left old new seen input r is whole within a = script_at (DrawsRun limit) ScriptRefuses left old new seen input r is whole within a
+at_source Arrange told left old new seen input r is whole within a = script_at Arranges ScriptRefuses left old new seen input r is whole within a
+at_source (ArrangeMeasured limit) told left old new seen input r is whole within a = script_at (ArrangesBest limit told) ScriptRefuses left old new seen input r is whole within a
+at_source (Trace limit) told left old new seen input r is whole within a = script_at (Traces limit) ScriptRefuses left old new seen input r is whole within a
+at_source (Waits limit) told left old new seen input r is whole within a = script_at (TellsWaits limit) ScriptRefuses left old new seen input r is whole within a
+at_source (Blocks limit) told left old new seen input r is whole within a = script_at (TellsBlocks limit) ScriptRefuses left old new seen input r is whole within a
+at_source (Gantt limit) told left old new seen input r is whole within a = script_at (DrawsRun limit) ScriptRefuses left old new seen input r is whole within a
 
 -- ---- inputs that are not read
 
@@ -118,15 +121,27 @@ table_unread left old reading.Read long = Keeps-refl old
 table_unread left old reading.TooLong long = (long refl, Keeps-refl old)
 table_unread left old reading.NoMemory long = Keeps-refl old
 
-pub unread : (view : View) (left old : Option (List ℕ)) (e : ReadFault) (told : ViewFault) → NotRead view e told → (e ≡ reading.TooLong → IsTooLong left)
-    → ViewAnswers view left old old (Err told)
-unread Explain left old e told is long = script_unread Explains StepsAreRefused left old e told is long
-unread Picture left old e told is long =
+pub unread : (view : View) (gain : Option Gain) (left old : Option (List ℕ)) (e : ReadFault) (told : ViewFault) → NotRead view e told → (e ≡ reading.TooLong → IsTooLong left)
+    → ViewAnswers view gain left old old (Err told)
+unread Explain gain left old e told is long = script_unread Explains StepsAreRefused left old e told is long
+unread Picture gain left old e told is long =
     subst (λ t. ForReport (λ a. PictureAnswers left old old a) (IsGiven IsScript left) (Err t)) (sym is) (Err (for_reading e), picture_unread left old e long, refl)
-unread Table left old e told is long =
+unread Table gain left old e told is long =
     subst (λ t. ForReport (λ a. TableAnswers left old old a) (IsGiven IsScript left) (Err t)) (sym is) (Err (for_reading e), table_unread left old e long, refl)
-unread Arrange left old e told is long = script_unread Arranges ScriptRefuses left old e told is long
-unread (Trace limit) left old e told is long = script_unread (Traces limit) ScriptRefuses left old e told is long
-unread (Waits limit) left old e told is long = script_unread (TellsWaits limit) ScriptRefuses left old e told is long
-unread (Blocks limit) left old e told is long = script_unread (TellsBlocks limit) ScriptRefuses left old e told is long
-unread (Gantt limit) left old e told is long = script_unread (DrawsRun limit) ScriptRefuses left old e told is long
+unread Arrange gain left old e told is long = script_unread Arranges ScriptRefuses left old e told is long
+unread (ArrangeMeasured limit) gain left old e told is long = script_unread (ArrangesBest limit gain) ScriptRefuses left old e told is long
+unread (Trace limit) gain left old e told is long = script_unread (Traces limit) ScriptRefuses left old e told is long
+unread (Waits limit) gain left old e told is long = script_unread (TellsWaits limit) ScriptRefuses left old e told is long
+unread (Blocks limit) gain left old e told is long = script_unread (TellsBlocks limit) ScriptRefuses left old e told is long
+unread (Gantt limit) gain left old e told is long = script_unread (DrawsRun limit) ScriptRefuses left old e told is long
+
+pub tells_none : (view : View) → TellsGain view None
+tells_none Explain = refl
+tells_none Picture = refl
+tells_none Table = refl
+tells_none Arrange = refl
+tells_none (ArrangeMeasured limit) = tt
+tells_none (Trace limit) = refl
+tells_none (Waits limit) = refl
+tells_none (Blocks limit) = refl
+tells_none (Gantt limit) = refl

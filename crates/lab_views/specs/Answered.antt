@@ -1,5 +1,5 @@
 -- For readers: what is answered to a view, and to the words that ask for it.
-use Rattle.std.specs.Prelude.{◌≡◌, ◌⊎◌, ℕ, List, Option, Some, Result, Ok, Err}
+use Rattle.std.specs.Prelude.{◌≡◌, ◌⊎◌, ℕ, List, Option, Some, None, Result, Ok, Err}
 use Rattle.std.specs.Io.KnownBytes.{Keeps}
 use Rattle.lab_plan.specs.LabPlan.{LabPlan}
 use Rattle.legal_steps.specs.declared.event.StepLine.{StepLine}
@@ -17,8 +17,9 @@ use Rattle.lab_program.specs.Input.{IsInput}
 use Rattle.lab_program.specs.Answers.{AnswersFor, ScriptRefuses}
 use Rattle.command_line.specs.declared.words.NoTask.{NoTask}
 use Rattle.command_line.specs.Ends.{EndsWithoutTask}
+use Rattle.measured_orders.specs.declared.gain.Gain.{Gain}
 use Rattle.labview_words.specs.declared.words.View.{View}
-use Rattle.labview_words.specs.declared.words.View.TheVariants.{Explain, Picture, Table, Arrange, Trace, Waits, Blocks, Gantt}
+use Rattle.labview_words.specs.declared.words.View.TheVariants.{Explain, Picture, Table, Arrange, ArrangeMeasured, Trace, Waits, Blocks, Gantt}
 use Rattle.labview_words.specs.Words.{view_of}
 use Rattle.labview_words.specs.Answers.{AnswersWords}
 use Rattle.lab_views.specs.declared.picture_fault.PictureFault.{PictureFault}
@@ -29,6 +30,7 @@ use Rattle.lab_views.specs.Views.{Explains, StepsAreRefused, ExplainAnswers}
 use Rattle.lab_views.specs.Pictures.{DrawsFor, PictureAnswers, failed_picture_reads, failed_picture_writes, for_reading, status_of_picture}
 use Rattle.lab_views.specs.Tables.{TabulatesFor, TableAnswers}
 use Rattle.lab_views.specs.Arranged.{Arranges, ArrangeAnswers}
+use Rattle.lab_views.specs.BestOrders.{ArrangesBest, ArrangesBestAnswers}
 use Rattle.lab_views.specs.Traces.{Traces, TraceAnswers}
 use Rattle.lab_views.specs.Waits.{TellsWaits, WaitsAnswers}
 use Rattle.lab_views.specs.Blocks.{TellsBlocks, BlocksAnswers}
@@ -66,31 +68,39 @@ ForScript Answers Other result = (answer : Result Outcome RunFault) × Answers a
 abbrev pub ForReport : (Result (Unit {0}) PictureFault → Type 0) → Type 0 → Result Outcome ViewFault → Type 0
 ForReport Answers Other result = (answer : Result (Unit {0}) PictureFault) × Answers answer × TellsOfReport Other answer result
 
--- for an input, and what a sink has taken before and after
-abbrev pub ViewAnswersFor : View → List ℕ → Option (List ℕ) → Option (List ℕ) → Result Outcome ViewFault → Type 0
-ViewAnswersFor Explain input old new result = ForScript (λ a. AnswersFor Explains StepsAreRefused input old new a) (IsReport input) result
-ViewAnswersFor Picture input old new result = ForReport (λ a. DrawsFor input old new a) (IsScript input) result
-ViewAnswersFor Table input old new result = ForReport (λ a. TabulatesFor input old new a) (IsScript input) result
-ViewAnswersFor Arrange input old new result = ForScript (λ a. AnswersFor Arranges ScriptRefuses input old new a) (IsReport input) result
-ViewAnswersFor (Trace limit) input old new result = ForScript (λ a. AnswersFor (Traces limit) ScriptRefuses input old new a) (IsReport input) result
-ViewAnswersFor (Waits limit) input old new result = ForScript (λ a. AnswersFor (TellsWaits limit) ScriptRefuses input old new a) (IsReport input) result
-ViewAnswersFor (Blocks limit) input old new result = ForScript (λ a. AnswersFor (TellsBlocks limit) ScriptRefuses input old new a) (IsReport input) result
-ViewAnswersFor (Gantt limit) input old new result = ForScript (λ a. AnswersFor (DrawsRun limit) ScriptRefuses input old new a) (IsReport input) result
+-- for an input, what a sink has taken before and after, and what is told of the best order's gain
+abbrev pub ViewAnswersFor : View → Option Gain → List ℕ → Option (List ℕ) → Option (List ℕ) → Result Outcome ViewFault → Type 0
+ViewAnswersFor Explain told input old new result = ForScript (λ a. AnswersFor Explains StepsAreRefused input old new a) (IsReport input) result
+ViewAnswersFor Picture told input old new result = ForReport (λ a. DrawsFor input old new a) (IsScript input) result
+ViewAnswersFor Table told input old new result = ForReport (λ a. TabulatesFor input old new a) (IsScript input) result
+ViewAnswersFor Arrange told input old new result = ForScript (λ a. AnswersFor Arranges ScriptRefuses input old new a) (IsReport input) result
+ViewAnswersFor (ArrangeMeasured limit) told input old new result =
+    ForScript (λ a. AnswersFor (ArrangesBest limit told) ScriptRefuses input old new a) (IsReport input) result
+ViewAnswersFor (Trace limit) told input old new result = ForScript (λ a. AnswersFor (Traces limit) ScriptRefuses input old new a) (IsReport input) result
+ViewAnswersFor (Waits limit) told input old new result = ForScript (λ a. AnswersFor (TellsWaits limit) ScriptRefuses input old new a) (IsReport input) result
+ViewAnswersFor (Blocks limit) told input old new result = ForScript (λ a. AnswersFor (TellsBlocks limit) ScriptRefuses input old new a) (IsReport input) result
+ViewAnswersFor (Gantt limit) told input old new result = ForScript (λ a. AnswersFor (DrawsRun limit) ScriptRefuses input old new a) (IsReport input) result
 
 -- what a source had left is so
 abbrev pub IsGiven : (List ℕ → Type 0) → Option (List ℕ) → Type 0
 IsGiven Is left = (input : List ℕ) × IsInput left input × Is input
 
 -- for what a source had left
-abbrev pub ViewAnswers : View → Option (List ℕ) → Option (List ℕ) → Option (List ℕ) → Result Outcome ViewFault → Type 0
-ViewAnswers Explain left old new result = ForScript (λ a. ExplainAnswers left old new a) (IsGiven IsReport left) result
-ViewAnswers Picture left old new result = ForReport (λ a. PictureAnswers left old new a) (IsGiven IsScript left) result
-ViewAnswers Table left old new result = ForReport (λ a. TableAnswers left old new a) (IsGiven IsScript left) result
-ViewAnswers Arrange left old new result = ForScript (λ a. ArrangeAnswers left old new a) (IsGiven IsReport left) result
-ViewAnswers (Trace limit) left old new result = ForScript (λ a. TraceAnswers limit left old new a) (IsGiven IsReport left) result
-ViewAnswers (Waits limit) left old new result = ForScript (λ a. WaitsAnswers limit left old new a) (IsGiven IsReport left) result
-ViewAnswers (Blocks limit) left old new result = ForScript (λ a. BlocksAnswers limit left old new a) (IsGiven IsReport left) result
-ViewAnswers (Gantt limit) left old new result = ForScript (λ a. GanttAnswers limit left old new a) (IsGiven IsReport left) result
+abbrev pub ViewAnswers : View → Option Gain → Option (List ℕ) → Option (List ℕ) → Option (List ℕ) → Result Outcome ViewFault → Type 0
+ViewAnswers Explain told left old new result = ForScript (λ a. ExplainAnswers left old new a) (IsGiven IsReport left) result
+ViewAnswers Picture told left old new result = ForReport (λ a. PictureAnswers left old new a) (IsGiven IsScript left) result
+ViewAnswers Table told left old new result = ForReport (λ a. TableAnswers left old new a) (IsGiven IsScript left) result
+ViewAnswers Arrange told left old new result = ForScript (λ a. ArrangeAnswers left old new a) (IsGiven IsReport left) result
+ViewAnswers (ArrangeMeasured limit) told left old new result = ForScript (λ a. ArrangesBestAnswers limit told left old new a) (IsGiven IsReport left) result
+ViewAnswers (Trace limit) told left old new result = ForScript (λ a. TraceAnswers limit left old new a) (IsGiven IsReport left) result
+ViewAnswers (Waits limit) told left old new result = ForScript (λ a. WaitsAnswers limit left old new a) (IsGiven IsReport left) result
+ViewAnswers (Blocks limit) told left old new result = ForScript (λ a. BlocksAnswers limit left old new a) (IsGiven IsReport left) result
+ViewAnswers (Gantt limit) told left old new result = ForScript (λ a. GanttAnswers limit left old new a) (IsGiven IsReport left) result
+
+-- only `arrange N` tells what was gained
+abbrev pub TellsGain : View → Option Gain → Type 0
+TellsGain (ArrangeMeasured limit) told = Unit
+TellsGain view told = told ≡ None
 
 -- why an input was not read
 abbrev pub NotRead : View → ReadFault → ViewFault → Type 0
@@ -122,6 +132,6 @@ status_of_view (Err (GivenReport line view)) = 1
 -- the words ask for a view, and this is its answer and its status; or they ask for none, and nothing went to the sink
 abbrev pub AnswersCommand : List (List ℕ) → Option (List ℕ) → Option (List ℕ) → Option (List ℕ) → ℕ → Type 0
 AnswersCommand words left old new status =
-    ((view : View) × (answer : Result Outcome ViewFault) × (view_of words ≡ Some view)
-    × ViewAnswers view left old new answer × (status ≡ status_of_view answer))
+    ((view : View) × (told : Option Gain) × (answer : Result Outcome ViewFault) × (view_of words ≡ Some view)
+    × ViewAnswers view told left old new answer × (status ≡ status_of_view answer))
     ⊎ ((reason : NoTask) × AnswersWords words (Err reason) × Keeps old new × EndsWithoutTask reason status)

@@ -9,3 +9,4 @@ pub mod Blocks
 pub mod Gantts
 pub mod OneRun
 pub mod Arranged
+pub mod BestOrders

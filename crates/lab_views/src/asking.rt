@@ -26,8 +26,9 @@ pub fn run_words<X: Print + Eprint, S: AsStr, R: Source, W: Sink>(
 {
     match read_words(alloc, words) {
         Ok(view) => {
-            let answer = run_view(view, alloc, source, sink);
-            end_view(rt, PROGRAM, view, answer)
+            let mut gain = None;
+            let answer = run_view(view, alloc, source, sink, &mut gain);
+            end_view(rt, PROGRAM, view, answer, gain)
         }
         Err(reason) => end_saying_why(rt, PROGRAM, reason),
     }

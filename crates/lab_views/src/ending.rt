@@ -6,29 +6,54 @@ ghost use Rattle.lab_views.specs.Answered.{status_of_view};
 use crate::view_fault::{ViewFault, status_of_view};
 use lab_program::{Outcome, tell};
 use labview_words::View;
+use measured_orders::{Gain, Measure};
 use std::process::ExitCode;
 
 /// What is said of a view that went out, but is not all that it might be.
 fn unfinished(view: View) -> &'static str {
     match view {
-        View::Arrange =>
+        View::Arrange | View::ArrangeMeasured { .. } =>
             "the script went out as it was: in another order it could not be read back",
         _ => "the trace is whole, but longer than a replay reads (1000000 steps, 16777216 bytes)",
     }
 }
 
+/// What is said behind the rounds of a run.
+fn ending(measure: Measure) -> &'static str {
+    if measure.finished { "" } else { " unfinished" }
+}
+
+/// Tells what an order gained.
+fn tell_gain(rt: &impl Eprint, program: &str, gain: Gain) {
+    let Gain { before, after } = gain;
+    let _ = eprintln!(rt;
+        "{program}: rounds {}{}, now {}{}; waited {}, now {}",
+        before.rounds,
+        ending(before),
+        after.rounds,
+        ending(after),
+        before.waited,
+        after.waited
+    );
+}
+
 /// The status of a view's answer. A fault gets one line on standard error, and so do a trace that is longer than a replay
-/// reads and a script that went out as it was.
+/// reads, a script that went out as it was, and what an order gained.
 pub fn end_view(
     rt: &impl Eprint,
     program: &str,
     view: View,
     answer: Result<Outcome, ViewFault>,
+    gain: Option<Gain>,
 ) -> ExitCode
     ensures { exit_status result ≡ status_of_view answer }
 {
     match &answer {
-        Ok(Outcome::Finished) => {}
+        Ok(Outcome::Finished) => {
+            if let Some(gain) = gain {
+                tell_gain(rt, program, gain);
+            }
+        }
         Ok(Outcome::Unfinished) => tell(rt, program, &unfinished(view)),
         Err(fault) => tell(rt, program, fault),
     }

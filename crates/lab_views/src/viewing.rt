@@ -1,9 +1,10 @@
 //! Which view writes what.
-ghost use Rattle.std.specs.Prelude.{◌≡◌, ◌+◌};
+ghost use Rattle.std.specs.Prelude.{◌≡◌, ◌+◌, None};
 ghost use Rattle.lab_program.specs.Input.{ConsumesUpTo};
-ghost use Rattle.lab_views.specs.Answered.{NotRead, ViewAnswers, ViewAnswersFor, failed_view_reads, failed_view_writes};
+ghost use Rattle.lab_views.specs.Answered.{NotRead, TellsGain, ViewAnswers, ViewAnswersFor, failed_view_reads, failed_view_writes};
 
 use crate::drawing_gantt::draw_run;
+use crate::measuring_orders::arrange_measured;
 use crate::picture_fault::for_reading;
 use crate::picturing::draw_input;
 use crate::reordering::arrange_input;
@@ -15,6 +16,7 @@ use crate::tracing::trace_input;
 use crate::view_fault::{ViewFault, of_report, of_script};
 use lab_program::{Outcome, ReadFault, RunFault, Source, read_input};
 use labview_words::View;
+use measured_orders::Gain;
 use report::Sink;
 use std::alloc::Allocator;
 
@@ -35,8 +37,11 @@ fn view_input<A: Allocator + Copy, W: Sink>(
     alloc: A,
     input: &[u8],
     sink: &mut W,
+    gain: &mut Option<Gain>,
 ) -> Result<Outcome, ViewFault>
-    ensures answer { ViewAnswersFor view input.now (W.taken sink.old) (W.taken sink.new) result }
+    requires { gain.old ≡ None }
+    ensures told { TellsGain view gain.new }
+    ensures answer { ViewAnswersFor view gain.new input.now (W.taken sink.old) (W.taken sink.new) result }
     ensures reads { failed_view_reads result ≡ 0 }
     ensures writes { W.failures sink.new ≡ W.failures sink.old + failed_view_writes result }
 {
@@ -55,6 +60,10 @@ fn view_input<A: Allocator + Copy, W: Sink>(
         }
         View::Arrange => {
             let answer = arrange_input(alloc, input, sink);
+            of_script(alloc, "arrange", input, answer)
+        }
+        View::ArrangeMeasured { limit } => {
+            let answer = arrange_measured(alloc, input, sink, limit, gain);
             of_script(alloc, "arrange", input, answer)
         }
         View::Trace { limit } => {
@@ -76,22 +85,25 @@ fn view_input<A: Allocator + Copy, W: Sink>(
     }
 }
 
-/// Reads an input and writes a view of it. The input is at most 16777216 bytes. A view of scripts that is given a report says
-/// so, and so does a view of reports that is given a script.
+/// Reads an input and writes a view of it. What the best order gained is told in `gain`. The input is at most 16777216 bytes. A
+/// view of scripts that is given a report says so, and so does a view of reports that is given a script.
 pub fn run_view<A: Allocator + Copy, R: Source, W: Sink>(
     view: View,
     alloc: A,
     source: &mut R,
     sink: &mut W,
+    gain: &mut Option<Gain>,
 ) -> Result<Outcome, ViewFault>
-    ensures answer { ViewAnswers view (R.left source.old) (W.taken sink.old) (W.taken sink.new) result }
+    ensures told { TellsGain view gain.new }
+    ensures answer { ViewAnswers view gain.new (R.left source.old) (W.taken sink.old) (W.taken sink.new) result }
     ensures most { ConsumesUpTo (R.left source.old) (R.left source.new) 16777217 }
     ensures reads { R.failures source.new ≡ R.failures source.old + failed_view_reads result }
     ensures writes { W.failures sink.new ≡ W.failures sink.old + failed_view_writes result }
 {
+    *gain = None;
     let input = match read_input(alloc, source) {
         Ok(input) => input,
         Err(fault) => return Err(not_read(view, fault)),
     };
-    view_input(view, alloc, &input, sink)
+    view_input(view, alloc, &input, sink, gain)
 }

@@ -1,18 +1,21 @@
 -- What clap makes of the words.
-use Rattle.std.proofs.Common.{◌≡◌, Bool, true, false, List, [], ◌∷◌, Option, Some, None, ℕ, option_map, refl, sym, subst, codes, arith}
+use Rattle.std.proofs.Common.{◌≡◌, ◌∙◌, Bool, true, false, List, [], ◌∷◌, Option, Some, None, ℕ, option_map, refl, sym, ap, subst, inl, inr, codes, arith}
 use Rattle.std.specs.Str.{bytes_eq}
 use Rattle.std.proofs.lemmas.Slice.Eq.{bytes_eq-Decides}
 use Rattle.clap.specs.Words.{Text, fault_of, is_simple, is_simple_and_free, subcommand_of}
 use Rattle.clap.specs.Simple.{built, names_of}
-use Rattle.clap.specs.Walk.{idle, nothing_held, subcommand_met}
+use Rattle.clap.specs.Walk.{idle, nothing_held, rows_after, subcommand_met}
 use Rattle.clap.proofs.OnLiterals.{clap_on_literals}
-use Rattle.command_line.specs.Grammar.{values_given}
-use Rattle.command_line.proofs.Programs.{AreOther, HasNumber, IsAlone, IsComplete, IsProgram, IsRight, IsSound, by_word, other_word, with_one, without_values}
+use Rattle.command_line.specs.Command.{word_of_optional_number}
+use Rattle.command_line.specs.Grammar.{number_within, values_given}
+use Rattle.command_line.specs.Reading.{number_found}
+use Rattle.command_line.proofs.Leaves.{MayFind, fault_at, leaf, told_number, word_with_optional_number, word_with_optional_number_passes, word_without_number_passes}
+use Rattle.command_line.proofs.Programs.{AreOther, HasNumber, IsAlone, IsComplete, IsProgram, IsRight, IsSound, IsWord, by_values, by_word, other_word, with_one, without_values}
 use Rattle.command_line.proofs.Tops.{end_of_top}
-use Rattle.labview_words.specs.Command.{labview_app, view_found}
-use Rattle.labview_words.specs.Words.{view_of, view_with}
+use Rattle.labview_words.specs.Command.{arrange_found, labview_app, view_found}
+use Rattle.labview_words.specs.Words.{alone_or_over, view_of, view_with}
 use Rattle.labview_words.specs.declared.words.View.{View}
-use Rattle.labview_words.specs.declared.words.View.TheVariants.{Explain, Picture, Table, Arrange, Trace, Waits, Blocks, Gantt}
+use Rattle.labview_words.specs.declared.words.View.TheVariants.{Explain, Picture, Table, Arrange, ArrangeMeasured, Trace, Waits, Blocks, Gantt}
 
 pub simple : is_simple labview_app ≡ true
 unfolding clap_on_literals
@@ -54,9 +57,27 @@ table : IsAlone labview_app view_found view_of (codes "table") Table
 unfolding clap_on_literals view_with
 table = record { met = refl; fault = λ rest. refl; is_found = λ rest. refl; is_asked = λ p rest. refl }
 
-arrange : IsAlone labview_app view_found view_of (codes "arrange") Arrange
+arrange : IsWord labview_app view_found view_of (codes "arrange") (word_of_optional_number (codes "arrange") 0 1000000000)
+    (λ rows. Some (arrange_found (number_found (codes "N") rows))) (alone_or_over Arrange ArrangeMeasured)
 unfolding clap_on_literals view_with
 arrange = record { met = refl; fault = λ rest. refl; is_found = λ rest. refl; is_asked = λ p rest. refl }
+
+arrange_is : (rest : List Text) → MayFind (codes "arrange") 0 1000000000 rest
+    → Some (arrange_found (number_found (codes "N") (rows_after (leaf (word_of_optional_number (codes "arrange") 0 1000000000)).rules [] rest)))
+    ≡ alone_or_over Arrange ArrangeMeasured (values_given rest)
+arrange_is rest (inl w) = ap (λ n. Some (arrange_found n)) w.1 ∙ sym (ap (alone_or_over Arrange ArrangeMeasured) w.0)
+arrange_is rest (inr w) =
+    ap (λ n. Some (arrange_found n)) w.3 ∙ sym (ap (alone_or_over Arrange ArrangeMeasured) w.2 ∙ ap (option_map ArrangeMeasured) w.4)
+
+optional_fine : (name : Text) (view : View) (measured : ℕ → View) (rest vs : List Text) (t : View) → values_given rest ≡ vs → alone_or_over view measured vs ≡ Some t
+    → fault_at (leaf (word_of_optional_number name 0 1000000000)) rest ≡ []
+optional_fine name view measured rest [] t e h = word_without_number_passes name 0 1000000000 rest e
+optional_fine name view measured rest (v ∷ w ∷ vs) t e h = cc
+optional_fine name view measured rest (v ∷ []) t e h = go (number_within 0 1000000000 v) refl h
+  where
+    go : (o : Option ℕ) → number_within 0 1000000000 v ≡ o → option_map measured o ≡ Some t → fault_at (leaf (word_of_optional_number name 0 1000000000)) rest ≡ []
+    go None d h = cc
+    go (Some k) d h = word_with_optional_number_passes name 0 1000000000 rest v e (told_number 0 1000000000 k v d)
 
 trace : HasNumber labview_app view_found view_of (codes "trace") Trace 0 1000000000
 unfolding clap_on_literals view_with
@@ -109,7 +130,8 @@ right (p ∷ word ∷ rest) =
         (
           without_values program table p rest,
           (
-            without_values program arrange p rest,
+            by_values program arrange (λ rest h. arrange_is rest (word_with_optional_number (codes "arrange") 0 1000000000 rest (omega arith) h))
+                (λ rest t h. optional_fine (codes "arrange") Arrange ArrangeMeasured rest (values_given rest) t refl h) p rest,
             (
               with_one program trace (omega arith) p rest,
               (

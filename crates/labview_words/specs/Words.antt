@@ -1,13 +1,19 @@
 -- For readers: the words of the command line, the program's own name first.
-use Rattle.std.specs.Prelude.{ℕ, List, [], ◌∷◌, Option, None, Some, codes, if◌then◌else◌}
+use Rattle.std.specs.Prelude.{ℕ, List, [], ◌∷◌, Option, None, Some, codes, option_map, if◌then◌else◌}
 use Rattle.std.specs.Str.{bytes_eq}
-use Rattle.command_line.specs.Grammar.{alone, values_given, with_number}
+use Rattle.command_line.specs.Grammar.{alone, number_within, values_given, with_number}
 use Rattle.labview_words.specs.declared.words.View.{View}
-use Rattle.labview_words.specs.declared.words.View.TheVariants.{Explain, Picture, Table, Arrange, Trace, Waits, Blocks, Gantt}
+use Rattle.labview_words.specs.declared.words.View.TheVariants.{Explain, Picture, Table, Arrange, ArrangeMeasured, Trace, Waits, Blocks, Gantt}
 
 -- a word with the most rounds
 abbrev pub over : (ℕ → View) → List (List ℕ) → Option View
 over view values = with_number view 0 1000000000 values
+
+-- a word that may have the most rounds
+abbrev pub alone_or_over : View → (ℕ → View) → List (List ℕ) → Option View
+alone_or_over view measured [] = Some view
+alone_or_over view measured (limit ∷ []) = option_map measured (number_within 0 1000000000 limit)
+alone_or_over view measured _ = None
 
 -- the view of a word with its values
 unfoldable pub view_with : List ℕ → List (List ℕ) → Option View
@@ -15,7 +21,7 @@ view_with word values =
     if bytes_eq word (codes "explain") then alone Explain values
     else (if bytes_eq word (codes "picture") then alone Picture values
     else (if bytes_eq word (codes "table") then alone Table values
-    else (if bytes_eq word (codes "arrange") then alone Arrange values
+    else (if bytes_eq word (codes "arrange") then alone_or_over Arrange ArrangeMeasured values
     else (if bytes_eq word (codes "trace") then over Trace values
     else (if bytes_eq word (codes "waits") then over Waits values
     else (if bytes_eq word (codes "blocks") then over Blocks values

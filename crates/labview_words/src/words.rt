@@ -1,12 +1,14 @@
 //! The words of the command line.
-ghost use Rattle.std.specs.Prelude.{◌≡◌, map, IfOk};
+ghost use Rattle.std.specs.Prelude.{◌≡◌, map, codes, IfOk};
 ghost use Rattle.clap.specs.Words.{app_of, subcommand_rows_of, with_subcommand};
-ghost use Rattle.command_line.specs.Command.{word_of_number};
+ghost use Rattle.command_line.specs.Command.{word_of_number, word_of_optional_number};
 ghost use Rattle.labview_words.specs.Answers.{AnswersWords};
-ghost use Rattle.labview_words.specs.Command.{app_without_rounds, labview_app, view_found};
+ghost use Rattle.labview_words.specs.Command.{app_without_rounds, arrange_found, labview_app, view_found};
 
 use clap::{ArgMatches, Command};
-use command_line::{NoTask, number, number_of, program, refused, why_no_task, with_word};
+use command_line::{
+    NoTask, number, number_of, optional_number, program, refused, why_no_task, with_word,
+};
 use std::alloc::{AllocError, Global};
 use std::convert::AsStr;
 
@@ -21,6 +23,8 @@ pub enum View {
     Table,
     /// Write a script with its jobs in another order.
     Arrange,
+    /// Write a script with its jobs in the best order that was measured, by runs of at most this many rounds.
+    ArrangeMeasured { limit: u32 },
     /// Write a script with the steps of its run by rounds, at most this many.
     Trace { limit: u32 },
     /// Tell who waited in a script's run by rounds, at most this many, and for how long.
@@ -39,8 +43,9 @@ const ABOUT: &str = "Shows and explains the runs of labrun";
 
 /// What stands below the table of words in the help.
 const AFTER_HELP: &str =
-    "The values: `trace N`, `waits N`, `blocks N`, `gantt N`. N is a number from 0 to 1000000000, in
-digits.
+    "The values: `trace N`, `waits N`, `blocks N`, `gantt N`, `arrange N`. N is a number from 0 to
+1000000000, in digits. `arrange` without N may not help; with N it measures orders by runs of at most
+N rounds, and the best is never worse.
 
 The input comes from standard input, at most 16777216 bytes. What is printed goes to
 standard output, and a fault in one line to standard error.
@@ -68,7 +73,24 @@ fn with_rounds<'a>(
     command.subcommand(word.arg(limit)?)
 }
 
-/// The program's command line with the words that take no value.
+/// A command with the word `arrange`, which may take the most rounds of a run.
+fn with_arrange<'a>(alloc: Global, command: Command<'a>) -> Result<Command<'a>, AllocError>
+    ensures { IfOk result (λ c. app_of c ≡ with_subcommand (app_of command.entry) (word_of_optional_number (codes "arrange") 0 1000000000).top) }
+{
+    let limit = optional_number(
+        alloc,
+        "N",
+        0,
+        1_000_000_000,
+        "the most rounds of a run by which an order is measured",
+    );
+    let word = Command::new(alloc, "arrange").about(
+        "read a script, write it with its jobs in an order in which chains at the start are short; with N, in the best that was measured",
+    );
+    command.subcommand(word.arg(limit)?)
+}
+
+/// The program's command line with the words that need no value.
 fn without_rounds<'a>(alloc: Global) -> Result<Command<'a>, AllocError>
     ensures { IfOk result (λ c. app_of c ≡ app_without_rounds) }
 {
@@ -91,12 +113,7 @@ fn without_rounds<'a>(alloc: Global) -> Result<Command<'a>, AllocError>
         "table",
         "read a report of labrun, and write its logs as comma-separated values",
     )?;
-    with_word(
-        alloc,
-        command,
-        "arrange",
-        "read a script, write it with its jobs in an order in which chains at the start are short",
-    )
+    with_arrange(alloc, command)
 }
 
 /// The program's command line.
@@ -130,6 +147,16 @@ fn command<'a>(alloc: Global) -> Result<Command<'a>, AllocError>
     )
 }
 
+/// The view of `arrange` with the number that clap found, or without one.
+fn arrange_of(limit: Option<u32>) -> View
+    ensures { result ≡ arrange_found limit }
+{
+    match limit {
+        None => View::Arrange,
+        Some(limit) => View::ArrangeMeasured { limit },
+    }
+}
+
 /// The view of what clap found.
 fn view_of(matches: &ArgMatches<'_>) -> Option<View>
     ensures { result ≡ view_found (subcommand_rows_of matches.now) }
@@ -138,7 +165,7 @@ fn view_of(matches: &ArgMatches<'_>) -> Option<View>
         ("explain", _) => Some(View::Explain),
         ("picture", _) => Some(View::Picture),
         ("table", _) => Some(View::Table),
-        ("arrange", _) => Some(View::Arrange),
+        ("arrange", values) => Some(arrange_of(number_of(values, "N"))),
         ("trace", values) => {
             let limit = number_of(values, "N")?;
             Some(View::Trace { limit })

@@ -1,4 +1,5 @@
 //! Whole command lines of both programs: what goes out, what is printed on standard error, and the status.
+use crate::measured::{GIVES_UP, PATIENT};
 use command_line::{NoTask, end_saying_why, end_without_task};
 use lab_program::{FromRead, Outcome};
 use lab_views::{View, end_view};
@@ -260,7 +261,32 @@ fn ends_of_views(rt: HostRuntime) {
         (View::Arrange, Outcome::Finished, "", 0),
     ] {
         let kept = Kept::new(rt.alloc());
-        let code = end_view(&kept, "labview", view, Ok(outcome));
+        let code = end_view(&kept, "labview", view, Ok(outcome), None);
         printed(&rt, kept, code, "", errors, status);
     }
+}
+
+/// What an order gained is told; of PATIENT and GIVES_UP `measured` says how they were reckoned.
+#[test]
+fn command_lines_that_arrange(rt: HostRuntime) {
+    for (limit, input, out, said) in [
+        (
+            "100",
+            PATIENT,
+            GIVES_UP,
+            "labview: rounds 9, now 5; waited 5, now 2\n",
+        ),
+        (
+            "4",
+            PATIENT,
+            GIVES_UP,
+            "labview: rounds 4 unfinished, now 4 unfinished; waited 4, now 2\n",
+        ),
+    ] {
+        let told = labview(rt.alloc(), &["labview", "arrange", limit], input);
+        ends(&rt, told, out, said, 0);
+    }
+    let refused = "labview: line 2: this is a report; arrange reads a script\n";
+    let told = labview(rt.alloc(), &["labview", "arrange", "9"], REPORT);
+    ends(&rt, told, "", refused, 1);
 }

@@ -9,6 +9,8 @@ mod commands;
 #[cfg(test)]
 mod gantts;
 #[cfg(test)]
+mod measured;
+#[cfg(test)]
 mod memory;
 #[cfg(test)]
 mod orders;

@@ -1,8 +1,8 @@
 //! Memory that runs out: each allocation of a view is refused in turn. That is told and nothing is written, or it is made up for.
 use lab_program::{FromRead, status_of};
 use lab_views::{
-    View, run_arrange, run_blocks, run_explain, run_gantt, run_picture, run_table, run_trace,
-    run_waits, status_of_picture,
+    View, run_arrange, run_arrange_measured, run_blocks, run_explain, run_gantt, run_picture,
+    run_table, run_trace, run_waits, status_of_picture,
 };
 use refusing_heap::RefusingHeap;
 use report::ToWrite;
@@ -20,6 +20,13 @@ fn told_without(out: Global, view: View, text: &[u8], refused: u64) -> (usize, u
         View::Picture => status_of_picture(&run_picture(&heap, &mut source, &mut sink)),
         View::Table => status_of_picture(&run_table(&heap, &mut source, &mut sink)),
         View::Arrange => status_of(&run_arrange(&heap, &mut source, &mut sink)),
+        View::ArrangeMeasured { limit } => status_of(&run_arrange_measured(
+            &heap,
+            &mut source,
+            &mut sink,
+            limit,
+            &mut None,
+        )),
         View::Trace { limit } => status_of(&run_trace(&heap, &mut source, &mut sink, limit)),
         View::Waits { limit } => status_of(&run_waits(&heap, &mut source, &mut sink, limit)),
         View::Blocks { limit } => status_of(&run_blocks(&heap, &mut source, &mut sink, limit)),
@@ -48,6 +55,7 @@ fn allocations_of_each_view(rt: HostRuntime) {
         (View::Blocks { limit: 20 }, SCRIPT),
         (View::Gantt { limit: 20 }, SCRIPT),
         (View::Arrange, SCRIPT),
+        (View::ArrangeMeasured { limit: 20 }, SCRIPT),
     ] {
         let (written, status, all) = told_without(rt.alloc(), view, text.as_bytes(), 0);
         assert!(rt; written > 0 && status == 0 && all > 0);

@@ -133,7 +133,7 @@ end
 ";
 
 /// Eight in a ring: every second job gets the first colour.
-const RING_OF_EIGHT: &str = "lab 1
+pub(crate) const RING_OF_EIGHT: &str = "lab 1
 job a
 session
 ha read

@@ -123,7 +123,7 @@ Commands:
   explain  read a script and its steps, tell why the first that isn't legal is refused, and what is legal there
   picture  read a report of labrun, and draw its timeline as SVG
   table    read a report of labrun, and write its logs as comma-separated values
-  arrange  read a script, write it with its jobs in an order in which chains at the start are short
+  arrange  read a script, write it with its jobs in an order in which chains at the start are short; with N, in the best that was measured
   trace    read a script, write it with the steps of its run by at most N rounds, for labrun replay
   waits    read a script, tell who waits in its run by at most N rounds, and for how long
   blocks   read a script, tell who keeps whom waiting in its run by at most N rounds, and for which instrument
@@ -132,8 +132,9 @@ Commands:
 Options:
   -h, --help  Print help
 
-The values: `trace N`, `waits N`, `blocks N`, `gantt N`. N is a number from 0 to 1000000000, in
-digits.
+The values: `trace N`, `waits N`, `blocks N`, `gantt N`, `arrange N`. N is a number from 0 to
+1000000000, in digits. `arrange` without N may not help; with N it measures orders by runs of at most
+N rounds, and the best is never worse.
 
 The input comes from standard input, at most 16777216 bytes. What is printed goes to
 standard output, and a fault in one line to standard error.
@@ -225,6 +226,10 @@ fn words(rt: HostRuntime) {
             Some(View::Waits { limit: 74 }),
         ),
         (["labview", "arrange"].as_slice(), Some(View::Arrange)),
+        (
+            ["labview", "arrange", "7"].as_slice(),
+            Some(View::ArrangeMeasured { limit: 7 }),
+        ),
         (["labview", "waits"].as_slice(), None),
         (
             ["labview", "blocks", "74"].as_slice(),

@@ -1,0 +1,5 @@
+pub mod Better
+pub mod PutBack
+pub mod OneMeasure
+pub mod Ordered
+pub mod Picked
