@@ -8,7 +8,7 @@ use bench_calls::{
     Held, LabEntry, LabPlanned, LabSession, LabSize, LabState, LabTurned, NO_JOB, NOT_OPEN,
     planned_of, session_of, state_of, tell_entry, turned_of, withdrew,
 };
-use bench_keepers::keepers;
+use bench_door::keepers;
 use c_tells::put;
 
 pub(crate) fn turn_in(held: &mut Held, job: u32, turned: &mut LabTurned) -> u32

@@ -11,7 +11,7 @@ use Rattle.headline.specs.Headline.{HoldsOfEveryRun}
 use Rattle.whole_runs.specs.Shown.{shown_in}
 use Rattle.whole_runs.proofs.Ends.{shows}
 use Rattle.lab_program.specs.declared.faults.Outcome.{Outcome}
-use Rattle.lab_runs.specs.Reports.{outcome_of}
+use Rattle.lab_program.specs.Reports.{outcome_of}
 use Rattle.bench_door.specs.Ends.{HasReport}
 
 pub reported : HasOneReport → HoldsOfEveryRun → (plan : LabPlan) (desks : List DeskView) (c : ClosedView) → IsEnd plan desks c

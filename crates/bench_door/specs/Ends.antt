@@ -8,7 +8,7 @@ use Rattle.edge_rule.specs.Ending.{IsEnd}
 use Rattle.report.specs.Report.{report_of, all_retired}
 use Rattle.whole_runs.specs.Shown.{shown_in}
 use Rattle.lab_program.specs.declared.faults.Outcome.{Outcome}
-use Rattle.lab_runs.specs.Reports.{Reports, outcome_of}
+use Rattle.lab_program.specs.Reports.{Reports, outcome_of}
 
 -- what the closed bench shows is all that some desks did
 abbrev pub IsEndOfDesks : ClosedView → Type 0

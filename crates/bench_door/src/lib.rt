@@ -6,6 +6,7 @@
 mod closing;
 mod driving;
 mod going;
+mod keeping;
 mod lab;
 mod planned;
 mod readers;
@@ -13,6 +14,7 @@ mod readers;
 pub use closing::{LabEnd, Printed, print};
 pub use driving::{give_up, next_command};
 pub use going::{Aim, Ended, Stage, both, end_session, is_idle, stage_of};
+pub use keeping::keepers;
 pub use lab::Lab;
 pub use planned::Planned;
 pub use readers::{SessionFacts, Standing, standing_at};

@@ -2,8 +2,6 @@
 #![tactic(auto)]
 
 mod desks;
-mod labs;
 mod sets;
 
 pub use desks::keepers_of;
-pub use labs::keepers;

@@ -1,5 +1,5 @@
 //! Bottles and drinking: which bottles a job may give and ask for on an edge by the word last seen there, always all of them at
-//! once, and calls that do so, or drink, if it is legal.
+//! once, and calls that do so, or drink, if it is legal. What a job's own phase acts need of the layer below is passed on.
 #![tactic(auto)]
 
 mod bottles;
@@ -8,5 +8,6 @@ mod needs;
 mod serving;
 
 pub use bottles::{all_gifts, all_wishes, due_moves, due_moves_seen, greatest_sets, with_bottles};
+pub use dining_layer::{may_hunger, may_leave, may_sit};
 pub use drinks::{drink, may_drink};
 pub use serving::{serve_bottles, want_bottles};

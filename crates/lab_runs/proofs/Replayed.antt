@@ -15,7 +15,7 @@ use Rattle.report.specs.Events.{IsReportOfEvents}
 use Rattle.headline.specs.Headline.{HoldsOfEveryRun}
 use Rattle.lab_program.specs.declared.faults.Outcome.{Outcome}
 use Rattle.lab_runs.specs.Replaying.{TakesSteps}
-use Rattle.lab_runs.specs.Reports.{outcome_of}
+use Rattle.lab_program.specs.Reports.{outcome_of}
 use Rattle.lab_runs.specs.Replays.{run_of, ReplaysScript, HasIllegalStep}
 
 -- the line of the step at a place

@@ -14,7 +14,7 @@ use Rattle.round_laws.specs.FromOpening.{fresh_players}
 use Rattle.whole_runs.specs.Shown.{shown_in}
 use Rattle.whole_runs.specs.Runs.{IsRunByTurns, IsRunInRounds}
 use Rattle.lab_program.specs.declared.faults.Outcome.{Outcome}
-use Rattle.lab_runs.specs.Reports.{outcome_of}
+use Rattle.lab_program.specs.Reports.{outcome_of}
 use Rattle.lab_runs.specs.Shared.{RunsByTurns, RunsInRounds, HasOneRun}
 
 module _ (one : HasOneReport) (holds : HoldsOfEveryRun) (input : List ℕ) (plan : LabPlan) (turns : ℕ) (c : ClosedView)

@@ -1,4 +1,3 @@
-pub mod Reports
 pub mod Shown
 pub mod Counts
 pub mod Scripts

@@ -12,7 +12,7 @@ use Rattle.lab_program.specs.declared.faults.RunFault.{RunFault}
 use Rattle.lab_program.specs.declared.faults.RunFault.TheVariants.{Script, Step}
 use Rattle.lab_program.specs.declared.faults.Outcome.{Outcome}
 use Rattle.lab_program.specs.Answers.{AnswersTo}
-use Rattle.lab_runs.specs.Reports.{Reports}
+use Rattle.lab_program.specs.Reports.{Reports}
 
 -- ---- the run of some steps from the initial state
 

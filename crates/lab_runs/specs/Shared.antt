@@ -13,7 +13,7 @@ use Rattle.whole_runs.specs.Turns.{TakeTurns}
 use Rattle.lab_program.specs.declared.faults.RunFault.{RunFault}
 use Rattle.lab_program.specs.declared.faults.Outcome.{Outcome}
 use Rattle.lab_program.specs.Answers.{ScriptRefuses, AnswersTo}
-use Rattle.lab_runs.specs.Reports.{Reports}
+use Rattle.lab_program.specs.Reports.{Reports}
 
 -- Whatever the schedule: the input is a script and means a plan, and the text is the report of one list of events of this plan, each legal after the ones
 -- before it from the initial state on. The headline holds of it (Reports). The events of each job are whole turns, one after another, at most this many;

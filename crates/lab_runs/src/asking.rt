@@ -13,7 +13,7 @@ use std::convert::AsStr;
 use std::process::ExitCode;
 use std::sync::Wait;
 use std::thread::Threads;
-use workers::NoGate;
+use whole_runs::NoGate;
 
 /// Runs the task that the words of a command line ask for, the program's own name first, and threads by `threads`. Help, a
 /// fault and words that are refused are reported by `rt`. Without such words nothing is read.

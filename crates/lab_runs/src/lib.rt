@@ -18,4 +18,4 @@ pub use replaying::run_replay;
 pub use scripts::{run_check, run_upgrade};
 pub use sharing::{run_rounds, run_threads};
 pub use tasks::run_task;
-pub use workers::{Gate, NoGate};
+pub use whole_runs::{Gate, NoGate};

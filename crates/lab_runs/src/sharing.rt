@@ -16,8 +16,7 @@ use script_reader::read_plan;
 use std::alloc::Allocator;
 use std::sync::Wait;
 use std::thread::Threads;
-use whole_runs::{AtEnd, by_rounds, by_threads};
-use workers::Gate;
+use whole_runs::{AtEnd, Gate, by_rounds, by_threads};
 
 /// Runs the script of an input in rounds.
 fn in_rounds<A: Allocator + Copy, W: Sink>(

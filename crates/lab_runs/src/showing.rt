@@ -3,7 +3,7 @@ ghost use Rattle.std.specs.Prelude.{◌≡◌, ◌+◌};
 ghost use Rattle.report.specs.Taken.{Sends};
 ghost use Rattle.report.specs.Report.{report_of, all_retired};
 ghost use Rattle.lab_program.specs.Faults.{failed_reads, failed_writes};
-ghost use Rattle.lab_runs.specs.Reports.{outcome_of};
+ghost use Rattle.lab_program.specs.Reports.{outcome_of};
 ghost use Rattle.lab_runs.specs.Shown.{Shows};
 
 use lab_program::{Outcome, RunFault, pass_on};

@@ -14,7 +14,7 @@ use report::Sink;
 use std::alloc::Allocator;
 use std::sync::Wait;
 use std::thread::Threads;
-use workers::Gate;
+use whole_runs::Gate;
 
 /// Runs a task over a source and a sink. Only a task by threads starts any, and only its turns pass the gate.
 pub fn run_task<

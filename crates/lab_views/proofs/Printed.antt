@@ -18,7 +18,7 @@ use Rattle.printed_reports.proofs.NoFault.{no_other_fault}
 use Rattle.picture.specs.Picture.{picture_of}
 use Rattle.picture.specs.LogTable.{table_text}
 use Rattle.lab_program.specs.declared.faults.Outcome.{Outcome}
-use Rattle.lab_runs.specs.Reports.{Reports}
+use Rattle.lab_program.specs.Reports.{Reports}
 use Rattle.lab_views.specs.declared.picture_fault.PictureFault.TheVariants.{Report, Timeline, Read, TooLong, Write, NoMemory}
 use Rattle.lab_views.specs.Pictures.{Pictures, IsNoReport}
 use Rattle.lab_views.specs.Tables.{Tabulates}

@@ -27,7 +27,7 @@ use Rattle.script_reader.specs.Steps.{StepsMean}
 use Rattle.round_trace.specs.StepsOf.{step_of}
 use Rattle.report.specs.Events.{retired_after}
 use Rattle.lab_program.specs.declared.faults.Outcome.{Outcome}
-use Rattle.lab_runs.specs.Reports.{outcome_of}
+use Rattle.lab_program.specs.Reports.{outcome_of}
 use Rattle.lab_runs.specs.Replays.{run_of}
 use Rattle.written_steps.specs.ReadBack.{IsNameable}
 use Rattle.written_steps.specs.StepLists.{script_head, step_line, steps_behind, lines_from_here}

@@ -12,7 +12,7 @@ use Rattle.printed_reports.specs.Printed.{printed_report}
 use Rattle.picture.specs.Picture.{picture_of}
 use Rattle.picture.specs.LogTable.{table_text}
 use Rattle.lab_program.specs.declared.faults.Outcome.{Outcome}
-use Rattle.lab_runs.specs.Reports.{Reports}
+use Rattle.lab_program.specs.Reports.{Reports}
 use Rattle.lab_views.specs.declared.picture_fault.PictureFault.{PictureFault}
 use Rattle.lab_views.specs.declared.picture_fault.PictureFault.TheVariants.{Write, NoMemory}
 use Rattle.lab_views.specs.Pictures.{DrawsFor}

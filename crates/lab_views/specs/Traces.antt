@@ -15,7 +15,7 @@ use Rattle.round_trace.specs.Traces.{IsRunByRounds}
 use Rattle.lab_program.specs.declared.faults.RunFault.{RunFault}
 use Rattle.lab_program.specs.declared.faults.Outcome.{Outcome}
 use Rattle.lab_program.specs.Answers.{ScriptRefuses, AnswersTo}
-use Rattle.lab_runs.specs.Reports.{outcome_of}
+use Rattle.lab_program.specs.Reports.{outcome_of}
 use Rattle.lab_runs.specs.Replays.{ReplaysScript, HasIllegalStep}
 use Rattle.lab_runs.specs.Shared.{RunsInRounds}
 

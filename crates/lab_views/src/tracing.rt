@@ -8,7 +8,7 @@ ghost use Rattle.lab_program.specs.Faults.{failed_reads, failed_writes};
 ghost use Rattle.lab_program.specs.Answers.{AnswersFor, ScriptRefuses};
 ghost use Rattle.written_steps.specs.StepLists.{script_head, step_line};
 ghost use Rattle.round_trace.specs.StepsOf.{step_of};
-ghost use Rattle.lab_runs.specs.Reports.{outcome_of};
+ghost use Rattle.lab_program.specs.Reports.{outcome_of};
 ghost use Rattle.lab_views.specs.Traces.{step_lines, trace_text, is_replayable, Traces, TraceAnswers};
 
 use lab_plan::Plan;

@@ -104,6 +104,7 @@ fn phases_are_read(rt: HostRuntime) {
     for (word, dining, drinking, position) in [
         (261, Dining::Hungry, Drinking::Thirsty, 0),
         (266, Dining::Eating, Drinking::Drinking, 0),
+        (270, Dining::Eating, Drinking::Reaching, 0),
         (272, Dining::Thinking, Drinking::Retired, 0),
         (4294967562, Dining::Eating, Drinking::Drinking, 1),
     ] {

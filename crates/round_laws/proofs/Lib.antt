@@ -10,3 +10,4 @@ pub mod Opened
 pub mod Rested
 pub mod Fresh
 pub mod RoundTurns
+pub mod Going

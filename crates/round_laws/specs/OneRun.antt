@@ -1,9 +1,10 @@
 -- For readers: rounds are determined by the plan, the limit and where they began.
-use Rattle.std.specs.Prelude.{◌≡◌, ℕ, ◌≤◌, Bool, List}
+use Rattle.std.specs.Prelude.{◌≡◌, ℕ, ◌≤◌, Bool, List, if◌then◌else◌}
 use Rattle.lab_plan.specs.LabPlan.{LabPlan}
 use Rattle.legal_steps.specs.declared.event.Event.{Event}
 use Rattle.locality.specs.History.{IsHistory}
 use Rattle.rounds.specs.declared.ended.Ended.{Ended}
+use Rattle.rounds.specs.declared.ended.Ended.TheVariants.{AllRetired, Limit}
 use Rattle.rounds.specs.Rounds.{Player, Rounds, Why}
 
 -- this many rounds of these players led from one history to another, and why they ended
@@ -14,6 +15,10 @@ pub record RanRounds (plan : LabPlan) (limit : ℕ) (players : List Player) (h :
   pub rounds : Rounds plan players n idle h h' players_then
   pub most : n ≤ limit
   pub why : Why plan h' ended idle n limit
+
+-- why rounds ended that went on until all jobs were retired, or as often as they may
+abbrev pub why_ended : Bool → Ended
+why_ended retired = if retired then AllRetired else Limit
 
 -- two that begin alike, with one limit, end alike: for the same reason, after as many rounds, with the same history
 abbrev pub OneRun : Type 0

@@ -18,13 +18,11 @@ use Rattle.rounds.proofs.Lists.{take_set, drop_set, get_set, take_snoc, drop_nex
 use Rattle.rounds.proofs.Snoc.{round-snoc}
 use Rattle.round_laws.specs.QuietEnd.{jobs_in}
 use Rattle.round_laws.specs.FromOpening.{fresh_players}
-use Rattle.round_laws.specs.OneRun.{RanRounds}
+use Rattle.round_laws.specs.OneRun.{RanRounds, why_ended}
 use Rattle.round_laws.proofs.InRounds.{rounds_jobs}
-use Rattle.round_laws.proofs.QuietEnd.{no_quiet_end}
-use Rattle.round_laws.proofs.Opened.{all_players, players_once}
+use Rattle.round_laws.proofs.Going.{not_over}
 use Rattle.round_trace.specs.declared.player.Player.{Player}
 use Rattle.round_trace.specs.Players.{player_of, players_of, StandsAt, AreJobs}
-use Rattle.round_trace.specs.Traces.{why_ended}
 
 -- ---- players by their place
 
@@ -114,16 +112,6 @@ module _ (plan : LabPlan) where
         (rounds_jobs plan all players n idle [] h rounds_were)) (to_jobs (length plan.jobs) all (fresh_jobs (length plan.jobs) (length plan.jobs)
         (omega arith))))
 
-    pub not_over : IsHistory plan h → ¬ AllRetired plan h → ¬ IsOver plan idle h
-    not_over legal other (inl retired) = other retired
-    not_over legal other (inr quiet) = other (no_quiet_end plan all players n h (all_players plan) (players_once plan) legal (subst
-        (λ b. Rounds plan all n b [] h players) quiet.0 rounds_were) quiet.1)
-
-    pub round_more : (players' : List rounds.Player) (idle' : Bool) (g : List Event) → IsHistory plan h → ¬ AllRetired plan h →
-        Round plan players idle' h g players' → Rounds plan all (n + 1) idle' [] g players'
-    round_more players' idle' g legal other round = subst (λ m. Rounds plan all m idle' [] g players') (sym (add-one n))
-        (h, idle, players, rounds_were, not_over legal other, round)
-
     pub ran : (limit : ℕ) (retired : Bool) → IsHistory plan h → n ≤ limit → (retired ≡ true) ↔ AllRetired plan h → (retired ≡ false → n ≡ limit) →
         (m : ℕ) × RanRounds plan limit all [] (why_ended retired) m h
     ran limit true legal most test end =
@@ -137,7 +125,7 @@ module _ (plan : LabPlan) where
         rounds = rounds_were;
         most = most;
         why =
-            (not_over legal (λ r. absurd (cannot (test.1 r))), end refl);
+            (not_over plan players n idle h rounds_were legal (λ r. absurd (cannot (test.1 r))), end refl);
       },
     ) where
       cannot : false ≡ true → ⊥

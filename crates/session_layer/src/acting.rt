@@ -6,8 +6,7 @@ ghost use Rattle.session_layer.specs.ActsDue.{events_due, MayDue};
 ghost use Rattle.session_layer.specs.Turn.{IsActed};
 
 use crate::legal::{may_quit, may_reach, may_retire, may_thirst, withdraws};
-use dining_layer::{may_hunger, may_leave, may_sit};
-use drinking_layer::may_drink;
+use drinking_layer::{may_drink, may_hunger, may_leave, may_sit};
 use edge_rule::{Bench, Desk, PhaseEvent, command, store_phase};
 use std::alloc::Allocator;
 

@@ -26,13 +26,12 @@ use Rattle.rounds.proofs.Lists.{append_cancel}
 use Rattle.rounds.proofs.Together.{no_more}
 use Rattle.rounds.proofs.Driven.{all_of}
 use Rattle.round_laws.specs.QuietEnd.{jobs_in}
-use Rattle.round_laws.specs.OneRun.{RanRounds}
+use Rattle.round_laws.specs.OneRun.{RanRounds, why_ended}
 use Rattle.round_laws.specs.FromOpening.{fresh_players, opened}
 use Rattle.round_laws.proofs.InRounds.{OneTurn, round_one, rounds_jobs}
 use Rattle.round_laws.proofs.SameRun.{rounds_start, legal_from}
 use Rattle.round_laws.proofs.Opened.{players_fresh, all_players, players_once}
-use Rattle.round_trace.specs.Traces.{why_ended}
-use Rattle.round_trace.proofs.Played.{round_more}
+use Rattle.round_laws.proofs.Going.{round_more}
 use Rattle.round_laws.proofs.QuietEnd.{no_quiet_end}
 use Rattle.round_laws.proofs.Fresh.{opened_own, opened_all, same_desks}
 use Rattle.waiting.specs.Rounds.{joined, IsAfter}

@@ -9,3 +9,4 @@ mod shown;
 
 pub use driving::{by_rounds, by_threads};
 pub use shown::{AtEnd, write_report};
+pub use workers::{Gate, NoGate};

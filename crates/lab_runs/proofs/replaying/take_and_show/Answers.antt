@@ -2,7 +2,7 @@ use Rattle.std.proofs.Common.{refl}
 use Rattle.std.proofs.KnownBytes.{Keeps-refl}
 use Rattle.report.specs.Report.{report_of, all_retired}
 use Rattle.report.specs.Worlds.{shown_by}
-use Rattle.lab_runs.specs.Reports.{outcome_of}
+use Rattle.lab_program.specs.Reports.{outcome_of}
 use Rattle.lab_runs.proofs.Shown.{answered}
 use Rattle.lab_runs.specs.Replays.{ReplaysScript, ReplayRefuses}
 use Rattle.lab_runs.proofs.Replayed.{stopped, replayed}

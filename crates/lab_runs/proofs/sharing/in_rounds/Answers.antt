@@ -4,7 +4,7 @@ use Rattle.report.specs.Report.{report_of, all_retired}
 use Rattle.whole_runs.specs.Shown.{shown_in}
 use Rattle.lab_program.specs.declared.faults.RunFault.TheVariants.{Script}
 use Rattle.lab_program.specs.Answers.{ScriptRefuses}
-use Rattle.lab_runs.specs.Reports.{outcome_of}
+use Rattle.lab_program.specs.Reports.{outcome_of}
 use Rattle.lab_runs.specs.Shared.{RunsInRounds}
 use Rattle.lab_program.proofs.RunAnswers.{ends_with}
 use Rattle.lab_runs.proofs.Shown.{answered}

@@ -5,7 +5,8 @@ use Rattle.locality.specs.History.{IsHistory}
 use Rattle.locality.specs.AtTheEnd.{AllRetired}
 use Rattle.rounds.specs.Rounds.{Round}
 use Rattle.round_trace.specs.Players.{players_of, AreJobs}
-use Rattle.round_trace.proofs.Played.{are_jobs, round_more, ran, retired_in}
+use Rattle.round_laws.proofs.Going.{round_more}
+use Rattle.round_trace.proofs.Played.{are_jobs, ran, retired_in}
 use Rattle.round_trace.proofs.running.play.Goals as goal
 
 pub round-requires-clause-jobs : goal.round-requires-clause-jobs

@@ -1,8 +1,8 @@
 //! Who keeps a job of a lab waiting.
 ghost use Rattle.bench_keepers.specs.Keepers.{AreKeepersAt};
 
-use crate::desks::keepers_of;
-use bench_door::Lab;
+use crate::lab::Lab;
+use bench_keepers::keepers_of;
 use lab_plan::InstrumentNo;
 
 /// The jobs that keep a job waiting for an instrument, as a set, if there is such a job and such an instrument: bit k for job k.
