@@ -1,6 +1,5 @@
 //! Who keeps whom waiting.
-use bench_door::Lab;
-use bench_keepers::keepers;
+use bench_door::{Lab, keepers};
 use std::alloc::Global;
 use std::process::Abort;
 use std::rt::HostRuntime;

@@ -85,7 +85,7 @@ fn views_by_their_names(rt: HostRuntime) {
         let mut bytes = Vec::new(rt.alloc());
         let mut source = FromRead::new(input.as_bytes());
         let mut sink = ToWrite::new(&mut bytes);
-        let answer = run_view(view, rt.alloc(), &mut source, &mut sink);
+        let answer = run_view(view, rt.alloc(), &mut source, &mut sink, &mut None);
         assert!(rt;
             answer == ends && bytes.as_slice() == wanted.as_bytes(),
             "row {row}"
