@@ -235,6 +235,7 @@ fn blocks_change_places(rt: HostRuntime) -> Result<(), Fail> {
     ) else {
         return Err(Fail::new("no answer"));
     };
+    assert!(rt; plan.jobs() == 2);
     assert!(rt; has_jobs_of(&plan, order.as_slice(), &other));
     assert!(rt; !has_jobs_of(&plan, [JobNo(0), JobNo(1)].as_slice(), &other));
     Ok(())
