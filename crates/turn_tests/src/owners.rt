@@ -2,7 +2,7 @@
 ghost use Rattle.edge_rule.specs.DeskView.{Owns};
 ghost use Rattle.desk_user.specs.Use.{Keeps};
 
-use crate::gates::Flags;
+use crate::gates::{Meeting, TWO_MEET};
 use crate::labs::{FOUR, NOBODY, TWO, closed, opened, plan_of};
 use crate::teams::{all_count_up, are_full, ended_all};
 use desk_user::{Bell, How, Owner, Waiting, on_threads, turns_until_all_retired};
@@ -22,12 +22,12 @@ const TURNS: u32 = 50_000;
 struct Owners<'w, R> {
     rt: &'w R,
     bell: &'w Bell,
-    flags: &'w Flags,
+    meeting: &'w Meeting,
 }
 
 impl<R: Wait + Sync> Owner for Owners<'_, R> {
     fn work<A: Allocator>(&self, bench: &Bench<A>, desk: &mut Desk<A>) {
-        self.flags.pass(desk.job(), 1);
+        self.meeting.pass(desk.job(), 1);
         let mut waiting = Waiting::new(How::Sleep, self.rt, self.bell);
         let _ = turns_until_all_retired(bench, desk, TURNS, &mut waiting);
     }
@@ -37,18 +37,18 @@ impl<R: Wait + Sync> Owner for Owners<'_, R> {
 fn owned<R: Threads + Wait + Abort + Sync>(rt: &R, alloc: Global, plan: &Plan) -> bool {
     let (bench, mut desks) = opened(rt, alloc, plan);
     let bell = Bell::new();
-    let flags = Flags::new();
+    let meeting = Meeting::new(&TWO_MEET);
     let owners = Owners {
         rt,
         bell: &bell,
-        flags: &flags,
+        meeting: &meeting,
     };
     on_threads(rt, &bench, desks.as_mut_slice(), &owners);
     let left = closed(rt, alloc, bench, desks);
     ended_all(rt, &left);
     are_full(rt, &left);
     all_count_up(rt, &left);
-    flags.both_saw()
+    meeting.all_met()
 }
 
 #[test]
