@@ -12,7 +12,7 @@ use Rattle.rounds.specs.declared.ended.Ended.{Ended}
 use Rattle.round_laws.specs.OneRun.{RanRounds, OneRun}
 use Rattle.round_laws.specs.FromOpening.{fresh_players}
 use Rattle.round_laws.proofs.SameRun.{legal_from, rounds_same}
-use Rattle.round_trace.specs.Traces.{why_ended}
+use Rattle.round_laws.specs.OneRun.{why_ended}
 use Rattle.waiting.specs.Rounds.{joined, AreRoundsOf}
 use Rattle.waiting.specs.Waits as waits
 use Rattle.blocking.specs.Blocks as blocks

@@ -8,7 +8,7 @@ use Rattle.rounds.specs.declared.ended.Ended.TheVariants.{AllRetired, Limit}
 use Rattle.rounds.proofs.Lists.{append_cancel}
 use Rattle.round_laws.specs.FromOpening.{fresh_players}
 use Rattle.round_laws.proofs.SameRun.{rounds_same, legal_from, one_run}
-use Rattle.round_trace.specs.Traces.{why_ended}
+use Rattle.round_laws.specs.OneRun.{why_ended}
 use Rattle.waiting.specs.Rounds.{joined, IsAfter, AreRoundsOf}
 use Rattle.waiting.specs.Waits.{RunView, IsRunOf, run_of}
 use Rattle.measured_orders.specs.Measures.{measure_of, IsMeasureOf, OneMeasure}
