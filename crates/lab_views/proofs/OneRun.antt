@@ -18,7 +18,7 @@ use Rattle.waiting.specs.Waits as waits
 use Rattle.blocking.specs.Blocks as blocks
 use Rattle.block_lines.specs.Text.{blocks_text}
 use Rattle.round_picture.specs.Gantt.{gantt_of}
-use Rattle.lab_runs.specs.Reports.{outcome_of}
+use Rattle.lab_program.specs.Reports.{outcome_of}
 use Rattle.lab_runs.specs.Shared.{RunsInRounds}
 use Rattle.lab_views.specs.OneRun.{AreReported, RoundsAreReported, HasOnePicture, HasOneListOfBlocks}
 

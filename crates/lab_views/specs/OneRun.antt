@@ -7,7 +7,7 @@ use Rattle.script_reader.specs.Script.{ScriptMeans}
 use Rattle.report.specs.Events.{report_after, retired_after}
 use Rattle.waiting.specs.Rounds.{joined, AreRoundsOf}
 use Rattle.lab_program.specs.declared.faults.Outcome.{Outcome}
-use Rattle.lab_runs.specs.Reports.{outcome_of}
+use Rattle.lab_program.specs.Reports.{outcome_of}
 use Rattle.lab_runs.specs.Shared.{RunsInRounds}
 use Rattle.lab_views.specs.Blocks.{TellsBlocks}
 use Rattle.lab_views.specs.Gantts.{DrawsRun}
