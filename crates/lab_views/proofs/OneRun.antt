@@ -1,5 +1,6 @@
 -- The rounds of a plan's run are the same, whoever tells of them.
 use Rattle.std.proofs.Common.{◌≡◌, ℕ, zero, suc, ◌≤◌, Bool, true, false, List, [], ◌∷◌, ◌++◌, length, map, take, drop, refl, sym, ap, ◌∙◌, subst, arith, append_assoc, append-nil}
+use Rattle.std.specs.List.{range_with_len}
 use Rattle.std.proofs.lemmas.List.{append_cancel_left}
 use Rattle.lab_plan.specs.LabPlan.{LabPlan}
 use Rattle.legal_steps.specs.declared.event.Event.{Event}
@@ -16,6 +17,7 @@ use Rattle.round_laws.specs.OneRun.{why_ended}
 use Rattle.waiting.specs.Rounds.{joined, AreRoundsOf}
 use Rattle.waiting.specs.Waits as waits
 use Rattle.blocking.specs.Blocks as blocks
+use Rattle.blocking.specs.Keepers as keeping
 use Rattle.block_lines.specs.Text.{blocks_text}
 use Rattle.round_picture.specs.Gantt.{gantt_of}
 use Rattle.lab_program.specs.Reports.{outcome_of}
@@ -82,11 +84,14 @@ rounds_are_reported one_plan one limit input report ended plan retired rounds me
 pub has_one_picture : HasOnePlan → OneRun → HasOnePicture
 has_one_picture one_plan one limit input text text' outcome outcome' a b =
     let same_plan : a.plan ≡ b.plan = one_plan input a.plan b.plan a.means b.means in
-    let moved : waits.IsRunOf b.plan limit a.run = subst (λ (z : LabPlan). waits.IsRunOf z limit a.run) same_plan a.is_run in
-    let same = one_rounds one b.plan limit a.run.retired b.run.retired moved.rounds b.is_run.rounds moved.are_rounds b.is_run.are_rounds in
-    let retired : a.run.retired ≡ b.run.retired = same_why a.run.retired b.run.retired same.0 in
-    let run : a.run ≡ b.run = moved.known ∙ ((λ i. waits.run_of (length b.plan.jobs) (retired i) (same.1 i)) ∙ sym b.is_run.known) in
-    a.written ∙ ((λ i. gantt_of (same_plan i) (run i)) ∙ sym b.written)
+    let moved : keeping.IsKeptRun b.plan limit a.run = subst (λ (z : LabPlan). keeping.IsKeptRun z limit a.run) same_plan a.is_run in
+    let same = one_rounds one b.plan limit a.run.run.retired b.run.run.retired moved.rounds b.is_run.rounds moved.are_rounds b.is_run.are_rounds in
+    let retired : a.run.run.retired ≡ b.run.run.retired = same_why a.run.run.retired b.run.run.retired same.0 in
+    let run : a.run.run ≡ b.run.run = moved.known ∙ ((λ i. waits.run_of (length b.plan.jobs) (retired i) (same.1 i)) ∙ sym b.is_run.known) in
+    let kept : a.run.keepers ≡ b.run.keepers =
+    moved.keepers ∙ ((λ i. map (keeping.keepers_of b.plan (same.1 i)) (range_with_len 0 (length b.plan.jobs))) ∙ sym b.is_run.keepers) in
+    let all : a.run ≡ b.run = λ i. record { run = run i; keepers = kept i } in
+    a.written ∙ ((λ i. gantt_of (same_plan i) (all i)) ∙ sym b.written)
 
 pub has_one_list : HasOnePlan → OneRun → HasOneListOfBlocks
 has_one_list one_plan one limit input text text' outcome outcome' a b =
