@@ -1,7 +1,7 @@
 -- That each desk is of the bench is a fact with one proof at most.
 use Rattle.std.specs.Prelude.{◌≡◌, List, [], ◌∷◌}
 use mathlib.Core.Path.{refl}
-use Rattle.locality.specs.Lists.{Each}
+use Rattle.turns.specs.Lists.{Each}
 
 pub each_prop : {A : Type 0} (P : A → Type 0) → ((x : A) → IsProp (P x)) → (xs : List A) → IsProp (Each P xs)
 each_prop P prop [] a b = refl

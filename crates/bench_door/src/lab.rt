@@ -1,7 +1,7 @@
 //! The lab: a bench with all its desks.
 ghost use Rattle.std.specs.Prelude.{◌≡◌, ◌≤◌, IfOk, IfErr, length};
 ghost use Rattle.std.proofs.Props.{props};
-ghost use Rattle.locality.specs.Lists.{Each};
+ghost use Rattle.turns.specs.Lists.{Each};
 ghost use Rattle.edge_rule.specs.DeskView.{Owns};
 ghost use Rattle.script_reader.specs.Script.{ScriptMeans};
 ghost use Rattle.desk_user.specs.Use.{opened};

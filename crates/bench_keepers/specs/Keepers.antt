@@ -8,7 +8,7 @@ use Rattle.legal_steps.specs.declared.end.End.TheVariants.{Lower, Higher}
 use Rattle.legal_steps.specs.declared.phase.JobState.{JobState}
 use Rattle.legal_steps.specs.State.{edge, phase, neighbour, end_of, bottle_end}
 use Rattle.legal_steps.specs.Legal.{instrument_of}
-use Rattle.locality.specs.Patience.{is_waiting}
+use Rattle.turns.specs.Patience.{is_waiting}
 use Rattle.edge_rule.specs.DeskView.{DeskView, known}
 
 -- a job in this phase is thirsty, and its session needs the instrument

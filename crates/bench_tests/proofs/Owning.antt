@@ -1,6 +1,6 @@
 -- Desks are at their bench.
 use Rattle.std.proofs.Common.{ℕ, zero, suc, List, [], ◌∷◌, ◌++◌, refl}
-use Rattle.locality.specs.Lists.{Each}
+use Rattle.turns.specs.Lists.{Each}
 use Rattle.edge_rule.specs.DeskView.{BenchView, Owns, fresh_desk, fresh_desks}
 
 module _ {A : Type 0} (P : A → Type 0) where

@@ -1,6 +1,6 @@
 //! Calls on desks, and what they answer.
 ghost use Rattle.legal_steps.specs.State.{IsOwn};
-ghost use Rattle.locality.specs.Lists.{Each};
+ghost use Rattle.turns.specs.Lists.{Each};
 ghost use Rattle.edge_rule.specs.DeskView.{Owns};
 
 use crate::benches::{bench_of, is_own, plan_of};

@@ -1,6 +1,6 @@
 //! Benches that are closed: what they leave, and desks that are missing.
 ghost use Rattle.std.specs.Prelude.{◌≡◌, ◌++◌, ◌∷◌, []};
-ghost use Rattle.locality.specs.Lists.{Each};
+ghost use Rattle.turns.specs.Lists.{Each};
 ghost use Rattle.edge_rule.specs.DeskView.{Owns};
 
 use crate::benches::{A, AB, AC, B, BC, C, NOBODY, THREE, TWO, bench_of, both, plan_of};

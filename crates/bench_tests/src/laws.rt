@@ -2,26 +2,26 @@
 
 #[test]
 fn laws_of_locality() {
-    locality::laws::keeps_all();
-    locality::laws::changes_one_seat();
-    locality::laws::changes_one_edge();
-    locality::laws::changes_one_log();
-    locality::laws::groups_change_one_seat_and_edge();
-    locality::laws::reads_alike();
-    locality::laws::entry_reads_alike();
-    locality::laws::knows_itself();
-    locality::laws::knows_what_it_saw();
-    locality::laws::counts_itself();
-    locality::laws::leads_on();
-    locality::laws::is_legal_in_parts();
-    locality::laws::after_every_history();
-    locality::laws::have_their_words();
-    locality::laws::stays_retired();
-    locality::laws::holds_what_it_reaches();
-    locality::laws::keeps_reached_log();
-    locality::laws::has_one_reaching();
-    locality::laws::has_one_entry_each();
-    locality::laws::rests_at_no_command();
+    turns::locality::keeps_all();
+    turns::locality::changes_one_seat();
+    turns::locality::changes_one_edge();
+    turns::locality::changes_one_log();
+    turns::locality::groups_change_one_seat_and_edge();
+    turns::locality::reads_alike();
+    turns::locality::entry_reads_alike();
+    turns::locality::knows_itself();
+    turns::locality::knows_what_it_saw();
+    turns::locality::counts_itself();
+    turns::locality::leads_on();
+    turns::locality::is_legal_in_parts();
+    turns::locality::after_every_history();
+    turns::locality::have_their_words();
+    turns::locality::stays_retired();
+    turns::locality::holds_what_it_reaches();
+    turns::locality::keeps_reached_log();
+    turns::locality::has_one_reaching();
+    turns::locality::has_one_entry_each();
+    turns::locality::rests_at_no_command();
 }
 
 #[test]
@@ -45,16 +45,16 @@ fn laws_of_turns() {
 
 #[test]
 fn laws_of_rounds() {
-    round_laws::quiet::idle_job_knows_what_it_saw();
-    round_laws::quiet::both_saw_is_both_know();
-    round_laws::quiet::quiet_round_is_retired();
-    round_laws::laws::no_quiet_end();
-    round_laws::laws::no_quiet_end_from_rest();
-    round_laws::laws::one_run();
-    round_laws::laws::drives_from_opening();
-    round_laws::laws::never_ends_quiet();
-    round_laws::laws::never_quiet_from_rest();
-    round_laws::laws::one_run_of_a_plan();
+    rounds::quiet::idle_job_knows_what_it_saw();
+    rounds::quiet::both_saw_is_both_know();
+    rounds::quiet::quiet_round_is_retired();
+    rounds::laws::no_quiet_end();
+    rounds::laws::no_quiet_end_from_rest();
+    rounds::laws::one_run();
+    rounds::laws::drives_from_opening();
+    rounds::laws::never_ends_quiet();
+    rounds::laws::never_quiet_from_rest();
+    rounds::laws::one_run_of_a_plan();
 }
 
 #[test]

@@ -1,5 +1,5 @@
 //! Desks that meet, that tell each other what they saw, and that threads call at once.
-ghost use Rattle.locality.specs.Lists.{Each};
+ghost use Rattle.turns.specs.Lists.{Each};
 ghost use Rattle.edge_rule.specs.DeskView.{Owns};
 
 use crate::benches::{A, AB, AC, B, BC, C, THREE, TWO, bench_of, both, is_own, plan_of};

@@ -12,8 +12,8 @@ use Rattle.legal_steps.specs.declared.phase.Drinking.TheVariants.{Tranquil, Thir
 use Rattle.legal_steps.specs.Fitting.{IsPhaseOf}
 use Rattle.legal_steps.specs.State.{State, IsInSession, phase, session}
 use Rattle.legal_steps.specs.Legal.{instrument_of}
-use Rattle.locality.specs.History.{IsHistory}
-use Rattle.locality.specs.Patience.{is_waiting}
+use Rattle.turns.specs.History.{IsHistory}
+use Rattle.turns.specs.Patience.{is_waiting}
 use Rattle.rounds.specs.Rounds.{known_in}
 use Rattle.waiting.specs.Rounds.{AreRoundsOf}
 use Rattle.blocking.specs.declared.places.Place.{Place}

@@ -11,11 +11,11 @@ use Rattle.legal_steps.proofs.ReachedInvariant.{sound_opening, sound_after_all}
 use Rattle.legal_steps.proofs.ReachedLaws.{the_opening_is_acyclic}
 use Rattle.legal_steps.specs.Opening.{the_opening}
 use Rattle.legal_steps.specs.Run.{actor}
-use Rattle.locality.specs.History.{IsHistory, is_by, events_by, learned, learned_all}
-use Rattle.locality.specs.Changes.{seat_after}
-use Rattle.locality.specs.Lists.{StartsWith}
-use Rattle.locality.proofs.Frame.{learned_seat, learned_seats}
-use Rattle.locality.proofs.Runs.{learned_all-append, learned_all_seats, opening_seats, own_known}
+use Rattle.turns.specs.History.{IsHistory, is_by, events_by, learned, learned_all}
+use Rattle.turns.specs.Changes.{seat_after}
+use Rattle.turns.specs.Lists.{StartsWith}
+use Rattle.turns.proofs.Frame.{learned_seat, learned_seats}
+use Rattle.turns.proofs.Runs.{learned_all-append, learned_all_seats, opening_seats, own_known}
 use Rattle.rounds.specs.Rounds.{known_in}
 
 module _ (plan : LabPlan) where

@@ -4,14 +4,14 @@ use Rattle.std.proofs.lemmas.List.Elements.{All-weaker}
 use Rattle.lab_plan.specs.LabPlan.{LabPlan}
 use Rattle.legal_steps.specs.declared.event.Event.{Event}
 use Rattle.legal_steps.specs.State.{neighbour}
-use Rattle.locality.specs.History.{IsHistory}
-use Rattle.locality.specs.Lists.{StartsWith}
+use Rattle.turns.specs.History.{IsHistory}
+use Rattle.turns.specs.Lists.{StartsWith}
 use Rattle.edge_rule.specs.DeskView.{DeskView, BenchView}
 use Rattle.rounds.specs.declared.ended.Ended.{Ended}
 use Rattle.rounds.specs.Company.{first_front}
 use Rattle.rounds.specs.Rounds.{Drove}
-use Rattle.round_laws.specs.FromOpening.{fresh_players, opened}
-use Rattle.round_laws.proofs.SameRun.{rounds_same, legal_from}
+use Rattle.rounds.specs.FromOpening.{fresh_players, opened}
+use Rattle.rounds.proofs.SameRun.{rounds_same, legal_from}
 use Rattle.block_lines.specs.declared.block.Block.{Block}
 use Rattle.waiting.specs.Rounds.{joined, IsAfter}
 use Rattle.waiting.specs.Noting.{LogView, fresh_log}

@@ -5,12 +5,12 @@ use Rattle.std.proofs.lemmas.List.FromFn.{get_or-map-range_with_len, length-map-
 use Rattle.lab_plan.specs.LabPlan.{LabPlan}
 use Rattle.legal_steps.specs.declared.event.Event.{Event}
 use Rattle.legal_steps.specs.State.{session}
-use Rattle.locality.specs.Lists.{StartsWith}
+use Rattle.turns.specs.Lists.{StartsWith}
 use Rattle.edge_rule.specs.DeskView.{DeskView, BenchView}
 use Rattle.rounds.specs.declared.ended.Ended.{Ended}
 use Rattle.rounds.specs.Company.{first_front}
 use Rattle.rounds.specs.Rounds.{Drove, known_in}
-use Rattle.round_laws.specs.FromOpening.{opened}
+use Rattle.rounds.specs.FromOpening.{opened}
 use Rattle.waiting.specs.Rounds.{joined}
 use Rattle.waiting.specs.Noting.{LogView, fresh_log}
 use Rattle.waiting.specs.Watching.{logs_then, Stands, Watched}

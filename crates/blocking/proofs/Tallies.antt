@@ -10,8 +10,8 @@ use Rattle.lab_plan.specs.LabPlan.{LabPlan, sessions}
 use Rattle.legal_steps.specs.declared.event.Event.{Event}
 use Rattle.legal_steps.specs.State.{neighbour, session, no_seat}
 use Rattle.legal_steps.specs.Opening.{idle_seat}
-use Rattle.locality.specs.History.{IsHistory}
-use Rattle.locality.specs.Lists.{StartsWith}
+use Rattle.turns.specs.History.{IsHistory}
+use Rattle.turns.specs.Lists.{StartsWith}
 use Rattle.rounds.specs.Rounds.{known_in}
 use Rattle.block_lines.specs.declared.block.Block.{Block}
 use Rattle.block_lines.specs.Largest.{largest_three}

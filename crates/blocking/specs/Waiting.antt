@@ -8,7 +8,7 @@ use Rattle.legal_steps.specs.declared.phase.Drinking.TheVariants.{Drinking as Dr
 use Rattle.legal_steps.specs.declared.phase.JobState.{JobState}
 use Rattle.legal_steps.specs.State.{State, edge, phase, end_of, bottle_end}
 use Rattle.legal_steps.specs.Legal.{instrument_of}
-use Rattle.locality.specs.Patience.{is_waiting}
+use Rattle.turns.specs.Patience.{is_waiting}
 use Rattle.blocking.specs.declared.places.Place.{Place}
 
 -- it drinks, or reaches while it does

@@ -5,7 +5,7 @@ use Rattle.lab_plan.specs.InstrumentSets.{holds}
 use Rattle.legal_steps.specs.declared.event.Event.{Event}
 use Rattle.legal_steps.specs.State.{IsOwn, neighbour, phase}
 use Rattle.legal_steps.specs.Legal.{instrument_of}
-use Rattle.locality.specs.Patience.{one_more}
+use Rattle.turns.specs.Patience.{one_more}
 use Rattle.edge_rule.specs.DeskView.{DeskView, known}
 use Rattle.rounds.specs.Rounds.{known_in}
 use Rattle.block_lines.specs.declared.block.Block.{Block}

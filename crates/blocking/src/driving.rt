@@ -1,6 +1,6 @@
 //! A bench that is driven one round at a time, and who waits for whom after each.
 ghost use Rattle.std.specs.Prelude.{◌≡◌, [], length, map, replicate, IfOk};
-ghost use Rattle.round_laws.specs.FromOpening.{opened};
+ghost use Rattle.rounds.specs.FromOpening.{opened};
 ghost use Rattle.blocking.specs.Blocks.{places as all_places, block_of, IsBlockedRun};
 ghost use Rattle.blocking.specs.Watching.{Counted};
 ghost use Rattle.waiting.specs.Watching.{is_all_retired};

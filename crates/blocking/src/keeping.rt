@@ -1,7 +1,7 @@
 //! A bench that is driven one round at a time, and who keeps each session waiting.
 ghost use Rattle.std.specs.Prelude.{◌≡◌, ◌<◌, ◌≤◌, length, map, replicate, IfOk, OnOk, ℕ};
 ghost use Rattle.std.specs.List.{range_with_len};
-ghost use Rattle.round_laws.specs.FromOpening.{opened};
+ghost use Rattle.rounds.specs.FromOpening.{opened};
 ghost use Rattle.rounds.specs.Company.{first_front};
 ghost use Rattle.waiting.specs.Noting.{fresh_log};
 ghost use Rattle.blocking.specs.Keepers.{IsKeptRun};

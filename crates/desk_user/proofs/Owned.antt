@@ -3,8 +3,8 @@ use Rattle.std.proofs.Common.{◌≡◌, ◌≢◌, ◌⊎◌, ℕ, zero, suc, �
 use Rattle.std.proofs.lemmas.List.{map-append}
 use Rattle.atomic_table.specs.Seated.{TableId}
 use Rattle.lab_plan.specs.LabPlan.{LabPlan}
-use Rattle.locality.specs.Lists.{Each}
-use Rattle.locality.proofs.Runs.{each-append}
+use Rattle.turns.specs.Lists.{Each}
+use Rattle.turns.proofs.Runs.{each-append}
 use Rattle.edge_rule.proofs.Rosters.{any_left, any_right}
 use Rattle.edge_rule.specs.DeskView.{DeskView, BenchView, Owns, fresh_desk, fresh_desks}
 use Rattle.edge_rule.specs.Company.{jobs_of, Distinct}

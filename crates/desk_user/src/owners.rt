@@ -1,6 +1,6 @@
 //! A thread for each desk.
 ghost use Rattle.std.specs.Prelude.{◌≡◌};
-ghost use Rattle.locality.specs.Lists.{Each};
+ghost use Rattle.turns.specs.Lists.{Each};
 ghost use Rattle.edge_rule.specs.DeskView.{Owns};
 ghost use Rattle.edge_rule.specs.Company.{jobs_of};
 ghost use Rattle.desk_user.specs.Use.{Keeps};

@@ -1,7 +1,7 @@
 //! Turns, one or many, which leave the desk at its bench.
 ghost use Rattle.std.specs.Prelude.{◌↔◌, IsTrue};
 ghost use Rattle.edge_rule.specs.DeskView.{Owns};
-ghost use Rattle.locality.specs.AtTheEnd.{AllRetired};
+ghost use Rattle.turns.specs.AtTheEnd.{AllRetired};
 ghost use Rattle.session_layer.specs.Turn.{Took};
 ghost use Rattle.desk_user.specs.Use.{IsAt, Keeps, Looked, TookUntil, TookUntilAll, TookUpTo};
 

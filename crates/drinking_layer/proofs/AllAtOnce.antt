@@ -12,7 +12,7 @@ use Rattle.edge_word.specs.declared.moves.EdgeMoves.{EdgeMoves}
 use Rattle.edge_word.specs.Moves.{on, events_of, is_nothing}
 use Rattle.edge_rule.specs.declared.calls.Stepped.{Stepped}
 use Rattle.edge_rule.specs.declared.calls.Stepped.TheVariants as stepped
-use Rattle.locality.specs.Patience.{is_waiting}
+use Rattle.turns.specs.Patience.{is_waiting}
 use Rattle.edge_rule.specs.DeskView.{DeskView, known, Tried as SteppedTo}
 use Rattle.turns.specs.Due.{IsGreatest}
 use Rattle.legal_steps.proofs.BottleSets.{has_none, member_below, empty_set}

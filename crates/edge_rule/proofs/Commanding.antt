@@ -28,7 +28,7 @@ use Rattle.one_history.specs.declared.board.View.{View}
 use Rattle.edge_rule.specs.declared.desk.Desk.TheInside.{Inside}
 use Rattle.edge_rule.specs.declared.bench.Bench.TheInside as bench_fields
 use Rattle.plan_logs.specs.Logs.{IsAtCommand}
-use Rattle.locality.specs.History.{learned_all, known_by, state_after, events_by, IsHistory}
+use Rattle.turns.specs.History.{learned_all, known_by, state_after, events_by, IsHistory}
 use Rattle.one_history.specs.Rule.{phase_place, word_count, Kept}
 use Rattle.one_history.specs.Grow.{hand_in, adding, mine, Does, own_phase, next_instrument, reached, acted}
 use Rattle.edge_rule.specs.DeskView.{DeskView, Owns, Adds, Commanded, known}
@@ -41,9 +41,9 @@ use Rattle.edge_rule.specs.BenchInside.{bench_of, IsBench}
 use Rattle.edge_rule.specs.CalmEdges.{AreStill}
 use Rattle.edge_rule.proofs.StillEdges.{same_at, stay_still}
 use Rattle.turns.specs.Due.{but_position}
-use Rattle.locality.specs.Changes.{seat_after}
-use Rattle.locality.proofs.Frame.{learned_seat}
-use Rattle.locality.proofs.Runs.{own_known}
+use Rattle.turns.specs.Changes.{seat_after}
+use Rattle.turns.proofs.Frame.{learned_seat}
+use Rattle.turns.proofs.Runs.{own_known}
 use Rattle.one_history.proofs.Reaching.{next_same, reaches, acts}
 use Rattle.edge_rule.proofs.DeskSteps.{led, hand_grown, mine_grown, mine_seats, rest_grown, desk_seat, framed, plan_known, seat_adds}
 use Rattle.edge_rule.proofs.DeskMoves.{own_is, place_known}

@@ -14,9 +14,9 @@ use Rattle.legal_steps.proofs.MealLaw.{meals_few}
 use Rattle.legal_steps.proofs.ReachedLaws.{the_opening_is_acyclic}
 use Rattle.edge_word.specs.declared.moves.EdgeMoves.{EdgeMoves}
 use Rattle.edge_word.specs.Moves.{events_of}
-use Rattle.locality.specs.History.{IsHistory, events_by, is_by}
-use Rattle.locality.specs.Lists.{Each}
-use Rattle.locality.proofs.Local.{each_move}
+use Rattle.turns.specs.History.{IsHistory, events_by, is_by}
+use Rattle.turns.specs.Lists.{Each}
+use Rattle.turns.proofs.Local.{each_move}
 use Rattle.one_history.specs.declared.phase_event.PhaseEvent.{PhaseEvent}
 use Rattle.one_history.specs.declared.phase_event.PhaseEvent.TheVariants as phase_events
 use Rattle.one_history.specs.PhaseEvents.{event_of}

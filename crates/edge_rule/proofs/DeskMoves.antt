@@ -30,7 +30,7 @@ use Rattle.one_history.specs.PhaseEvents.{event_of, phase_after, clears}
 use Rattle.legal_steps.specs.Counting.{counts_of}
 use Rattle.edge_rule.specs.Counting.{counted, AreFew}
 use Rattle.edge_rule.proofs.CountsKept.{moves_uncounted, counts_grow, counts_whole, few_in}
-use Rattle.locality.specs.History.{learned, learned_all, state_after}
+use Rattle.turns.specs.History.{learned, learned_all, state_after}
 use Rattle.one_history.specs.Rule.{edge_place, phase_place, Kept}
 use Rattle.one_history.specs.Grow.{hand_in, mine, seen_state, Grows, Does, tried, phase_event, own_phase, stored}
 use Rattle.edge_rule.specs.DeskView.{DeskView, Owns, Adds, known, shown}
@@ -40,9 +40,9 @@ use Rattle.edge_rule.specs.CalmEdges.{no_word}
 use Rattle.edge_rule.specs.NeededBottles.{AreNeeded, changes_session}
 use Rattle.edge_rule.proofs.NotedNeeds.{needs_stay, session_stays, session_changes}
 use Rattle.edge_rule.proofs.StillEdges.{none_still}
-use Rattle.locality.proofs.Frame.{learned_seat}
-use Rattle.locality.specs.Changes.{seat_after}
-use Rattle.locality.proofs.Groups.{moved_seat, moved_edges}
+use Rattle.turns.proofs.Frame.{learned_seat}
+use Rattle.turns.specs.Changes.{seat_after}
+use Rattle.turns.proofs.Groups.{moved_seat, moved_edges}
 use Rattle.legal_steps.proofs.FewCommands.{few_commands}
 use Rattle.one_history.proofs.Trying.{tries}
 use Rattle.one_history.proofs.Storing.{by_job, told_back, stores}

@@ -27,9 +27,9 @@ use Rattle.legal_steps.specs.declared.counts.Counts.{Counts}
 use Rattle.legal_steps.specs.Counting.{counts_of}
 use Rattle.edge_rule.proofs.CountsKept.{IsUncounted, counts_stay}
 use Rattle.edge_rule.specs.declared.bench.Bench.TheInside as bench_fields
-use Rattle.locality.specs.History.{events_by, learned_all, known_by, IsHistory}
+use Rattle.turns.specs.History.{events_by, learned_all, known_by, IsHistory}
 use Rattle.one_history.specs.Rule.{edge_place, word_count, Kept}
-use Rattle.locality.specs.Lists.{Each}
+use Rattle.turns.specs.Lists.{Each}
 use Rattle.one_history.specs.Grow.{hand_or, hand_in, rest_hands, adding, IsLed, IsMine, mine, Grows, Does, looked}
 use Rattle.one_history.specs.Groups.{with_group, all_of, StandUnbroken}
 use Rattle.one_history.proofs.Groups.{stand_in_more, with_group_stands, all_with_group}
@@ -43,10 +43,10 @@ use Rattle.turns.specs.Acts.{IsSettled}
 use Rattle.std.proofs.lemmas.Bool.{false≢true}
 use Rattle.turns.specs.Due.{but_position, IsCalm}
 use Rattle.turns.proofs.Calm.{stays_calm}
-use Rattle.locality.specs.Changes.{seat_after}
-use Rattle.locality.proofs.Frame.{learned_seat}
-use Rattle.locality.proofs.Runs.{learned_all-append, learned_all_seats, learned_all_edges, opening_seats, opening_edges, own_known}
-use Rattle.locality.proofs.Histories.{history_fits}
+use Rattle.turns.specs.Changes.{seat_after}
+use Rattle.turns.proofs.Frame.{learned_seat}
+use Rattle.turns.proofs.Runs.{learned_all-append, learned_all_seats, learned_all_edges, opening_seats, opening_edges, own_known}
+use Rattle.turns.proofs.Histories.{history_fits}
 use Rattle.one_history.proofs.Looking.{looks}
 
 pub got : {A : Type 0} (l : List A) (i : ℕ) (a dflt : A) → i < length l → a ≡ get_or l i a → a ≡ get_or l i dflt

@@ -12,9 +12,9 @@ use Rattle.edge_rule.specs.declared.desk.Desk.TheInside.{Inside}
 use Rattle.legal_steps.specs.declared.phase.Drinking.TheVariants.{Reaching}
 use Rattle.legal_steps.specs.State.{Seat, State, edge, phase, seat, drinking}
 use Rattle.legal_steps.specs.Run.{IsLegalFrom, actor}
-use Rattle.locality.specs.History.{state_after, events_by, known_by}
+use Rattle.turns.specs.History.{state_after, events_by, known_by}
 use Rattle.one_history.specs.Rule.{phase_place, Spelled, Held, Kept}
-use Rattle.locality.specs.Lists.{StartsWith, Each}
+use Rattle.turns.specs.Lists.{StartsWith, Each}
 use Rattle.one_history.specs.Groups.{StandUnbroken}
 use Rattle.one_history.proofs.Groups.{stand_in_more}
 use Rattle.one_history.specs.Seating.{glued}
@@ -37,9 +37,9 @@ use Rattle.legal_steps.specs.Legal.{May, after}
 use Rattle.legal_steps.specs.Opening.{the_opening}
 use Rattle.legal_steps.specs.WholeLogs.{log_with_room}
 use Rattle.legal_steps.proofs.FitsLaw.{own_is_job}
-use Rattle.locality.proofs.Few.{phase_fits}
-use Rattle.locality.proofs.Histories.{history_fits, edge_fits}
-use Rattle.locality.proofs.Runs.{own_known, each_map}
+use Rattle.turns.proofs.Few.{phase_fits}
+use Rattle.turns.proofs.Histories.{history_fits, edge_fits}
+use Rattle.turns.proofs.Runs.{own_known, each_map}
 
 module _ {A : Type 0} (P : A → Type 0) where
   pub each_left : (a b : List A) → Each P (a ++ b) → Each P a

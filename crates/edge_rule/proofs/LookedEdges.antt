@@ -6,10 +6,10 @@ use Rattle.legal_steps.specs.declared.event.Event.TheVariants.{Look}
 use Rattle.legal_steps.specs.State.{Seat, State, seat, edge, no_edge, end_of, bottles_at}
 use Rattle.legal_steps.specs.Legal.{fork_mark_seen}
 use Rattle.legal_steps.specs.Opening.{the_opening}
-use Rattle.locality.specs.Changes.{seat_after}
-use Rattle.locality.specs.History.{learned, learned_all, known_by}
-use Rattle.locality.proofs.Frame.{learned_seat}
-use Rattle.locality.proofs.Runs.{learned_all-append, learned_all_seats, learned_all_edges, opening_seats, opening_edges}
+use Rattle.turns.specs.Changes.{seat_after}
+use Rattle.turns.specs.History.{learned, learned_all, known_by}
+use Rattle.turns.proofs.Frame.{learned_seat}
+use Rattle.turns.proofs.Runs.{learned_all-append, learned_all_seats, learned_all_edges, opening_seats, opening_edges}
 use Rattle.turns.specs.Due.{IsCalm}
 use Rattle.edge_rule.specs.DeskView.{DeskView, known}
 use Rattle.edge_rule.specs.Knowing.{IsKnown}

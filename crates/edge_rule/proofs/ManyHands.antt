@@ -18,14 +18,14 @@ use Rattle.atomic_table.specs.Seated.{TableId}
 use Rattle.one_history.specs.declared.board.Hand.{Hand}
 use Rattle.one_history.specs.declared.board.View.{View}
 use Rattle.instrument_log.specs.InstrumentLog.{LogView}
-use Rattle.locality.specs.History.{IsHistory, events_by}
-use Rattle.locality.specs.Lists.{StartsWith, Each}
+use Rattle.turns.specs.History.{IsHistory, events_by}
+use Rattle.turns.specs.Lists.{StartsWith, Each}
 use Rattle.one_history.specs.Rule.{Kept}
 use Rattle.one_history.specs.Grow.{mine, hand_or, hand_in, adding, IsMine, IsLed, rest_hands, Grows}
 use Rattle.one_history.specs.Seating.{glued, lent_left, backed_left, backed_right, but_last, last_hand, but_last_from, last_from, noticed, taken_back}
 use Rattle.one_history.proofs.Keeps.{appends, tells, grown}
 use Rattle.one_history.proofs.Seats.{moves_hand}
-use Rattle.locality.proofs.Runs.{each-append}
+use Rattle.turns.proofs.Runs.{each-append}
 
 but_last_snoc : (x : Hand) (l : List Hand) (y : Hand) → but_last_from x (l ++ y ∷ []) ≡ x ∷ l
 but_last_snoc x [] y = refl

@@ -27,7 +27,7 @@ use Rattle.edge_rule.proofs.StillEdges.{none_still}
 use Rattle.std.proofs.lemmas.Bool.{false≢true}
 use Rattle.edge_rule.proofs.NotedNeeds.{none_needed}
 use Rattle.edge_rule.specs.DeskInside.{kept, AreOfPlan, AtRest, IsDesk}
-use Rattle.locality.proofs.Runs.{opening_edges as opening_wide}
+use Rattle.turns.proofs.Runs.{opening_edges as opening_wide}
 
 -- ---- the words
 

@@ -10,7 +10,7 @@ use Rattle.legal_steps.specs.Legal.{fork_mark_seen}
 use Rattle.turns.specs.Due.{but_position}
 use Rattle.turns.specs.Acts.{IsSettled}
 use Rattle.turns.proofs.Calm.{stays_calm}
-use Rattle.locality.proofs.Reading.{may_same}
+use Rattle.turns.proofs.Reading.{may_same}
 use Rattle.legal_steps.specs.declared.event.Event.TheVariants.{Thirst, Hunger, Sit, Leave, Drink, Reach, Quit, Retire}
 use Rattle.edge_word.specs.Words.{word_of}
 use Rattle.edge_rule.specs.CalmEdges.{no_word, IsStill, AreStill}

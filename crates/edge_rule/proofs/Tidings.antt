@@ -3,8 +3,8 @@ use Rattle.std.proofs.Common.{◌≡◌, List, [], ◌∷◌, ◌++◌, sym, ap,
 use Rattle.legal_steps.specs.declared.event.Event.{Event}
 use Rattle.one_history.specs.declared.board.Hand.{Hand}
 use Rattle.one_history.specs.declared.board.View.{View}
-use Rattle.locality.specs.History.{IsHistory, events_by}
-use Rattle.locality.specs.Lists.{StartsWith, Each}
+use Rattle.turns.specs.History.{IsHistory, events_by}
+use Rattle.turns.specs.Lists.{StartsWith, Each}
 use Rattle.one_history.specs.Grow.{hand_or, hand_in, adding, IsMine, rest_hands, Grows}
 use Rattle.one_history.specs.Seating.{glued}
 use Rattle.edge_rule.specs.DeskView.{DeskView, Adds}

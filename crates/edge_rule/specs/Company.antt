@@ -1,8 +1,8 @@
 -- Desks that meet.
 use Rattle.std.specs.Prelude.{◌≡◌, ◌≢◌, ℕ, List, [], ◌∷◌, ◌++◌, map}
 use Rattle.legal_steps.specs.declared.event.Event.{Event}
-use Rattle.locality.specs.History.{IsHistory, events_by}
-use Rattle.locality.specs.Lists.{StartsWith, Each}
+use Rattle.turns.specs.History.{IsHistory, events_by}
+use Rattle.turns.specs.Lists.{StartsWith, Each}
 use Rattle.edge_rule.specs.DeskView.{DeskView}
 
 abbrev pub jobs_of : List DeskView → List ℕ

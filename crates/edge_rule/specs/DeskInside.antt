@@ -12,7 +12,7 @@ use Rattle.one_history.specs.declared.board.View.{View}
 use Rattle.edge_rule.specs.declared.clock.Clock.{Clock}
 use Rattle.legal_steps.specs.declared.counts.Counts.{Counts}
 use Rattle.legal_steps.specs.Counting.{counts_of}
-use Rattle.locality.specs.History.{IsHistory, events_by}
+use Rattle.turns.specs.History.{IsHistory, events_by}
 use Rattle.one_history.specs.Groups.{all_of, StandUnbroken}
 use Rattle.one_history.specs.Grow.{hand_in, IsMine, mine}
 use Rattle.edge_rule.specs.DeskView.{DeskView}

@@ -10,10 +10,10 @@ use Rattle.instrument_log.specs.declared.entry.Entry.{Entry}
 use Rattle.edge_word.specs.declared.moves.EdgeMoves.{EdgeMoves}
 use Rattle.edge_word.specs.Moves.{events_of}
 use Rattle.edge_rule.specs.declared.clock.Clock.{Clock}
-use Rattle.locality.specs.Patience.{Waited, waited_in, waited_after, one_more}
+use Rattle.turns.specs.Patience.{Waited, waited_in, waited_after, one_more}
 use Rattle.edge_rule.specs.declared.calls.Stepped.{Stepped}
 use Rattle.edge_rule.specs.declared.calls.Stepped.TheVariants.{Done, Moved}
-use Rattle.locality.specs.History.{IsHistory, state_after, events_by, known_by}
+use Rattle.turns.specs.History.{IsHistory, state_after, events_by, known_by}
 use Rattle.one_history.specs.Groups.{with_group}
 
 pub record DeskView : Type 0 where

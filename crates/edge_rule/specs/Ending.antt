@@ -9,9 +9,9 @@ use Rattle.legal_steps.specs.WholeLogs.{log_with_room}
 use Rattle.one_history.specs.declared.board.Hand.{Hand}
 use Rattle.one_history.specs.declared.board.View.{View}
 use Rattle.legal_steps.specs.Run.{actor}
-use Rattle.locality.specs.History.{state_after, IsHistory, events_by}
+use Rattle.turns.specs.History.{state_after, IsHistory, events_by}
 use Rattle.one_history.specs.Groups.{all_of, StandUnbroken}
-use Rattle.locality.specs.Lists.{StartsWith, Each}
+use Rattle.turns.specs.Lists.{StartsWith, Each}
 use Rattle.edge_rule.specs.DeskView.{DeskView, known}
 use Rattle.edge_rule.specs.ClosedView.{ClosedView, edge_in, phase_in, log_in, counts_in}
 use Rattle.legal_steps.specs.Counting.{no_counts, counts_of}

@@ -2,8 +2,8 @@
 use Rattle.std.specs.Prelude.{◌≡◌, ◌++◌, List}
 use Rattle.atomic_table.specs.Seated.{TableId}
 use Rattle.legal_steps.specs.declared.event.Event.{Event}
-use Rattle.locality.specs.History.{IsHistory, events_by}
-use Rattle.locality.specs.Lists.{StartsWith}
+use Rattle.turns.specs.History.{IsHistory, events_by}
+use Rattle.turns.specs.Lists.{StartsWith}
 use Rattle.edge_rule.specs.DeskView.{DeskView}
 
 pub record NewsView : Type 0 where

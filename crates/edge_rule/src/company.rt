@@ -1,10 +1,10 @@
 //! All desks of a slice meet.
 ghost use Rattle.std.specs.Prelude.{◌≡◌, ◌≢◌, ◌<◌, ◌+◌, ◌∷◌, [], ◌++◌, length, map};
 ghost use Rattle.edge_rule.specs.DeskView.{Owns};
-ghost use Rattle.locality.specs.History.{events_by};
+ghost use Rattle.turns.specs.History.{events_by};
 ghost use Rattle.one_history.specs.Grow.{hand_in, IsLed, Grows};
 ghost use Rattle.edge_rule.specs.Company.{Met, Distinct, jobs_of};
-ghost use Rattle.locality.specs.Lists.{Each, StartsWith};
+ghost use Rattle.turns.specs.Lists.{Each, StartsWith};
 
 use crate::bench::Bench;
 use crate::desk::Desk;

@@ -3,8 +3,8 @@ ghost use Rattle.std.specs.Prelude.{◌≡◌, ◌≢◌, ◌<◌, ◌+◌, ◌�
 ghost use Rattle.legal_steps.specs.declared.event.Event.TheVariants.{Glance};
 ghost use Rattle.edge_word.specs.Phases.{phase_word_of, FitsPhaseWord};
 ghost use Rattle.edge_rule.specs.DeskView.{Owns, Adds};
-ghost use Rattle.locality.specs.History.{events_by};
-ghost use Rattle.locality.specs.Lists.{StartsWith};
+ghost use Rattle.turns.specs.History.{events_by};
+ghost use Rattle.turns.specs.Lists.{StartsWith};
 ghost use Rattle.one_history.specs.Rule.{phase_place as place_of};
 ghost use Rattle.one_history.specs.Grow.{hand_in, IsMine, Does};
 ghost use Rattle.legal_steps.specs.declared.phase.JobState.{JobState};

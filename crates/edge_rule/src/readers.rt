@@ -7,7 +7,7 @@ ghost use Rattle.legal_steps.specs.declared.phase.Drinking.TheVariants.{Retired}
 ghost use Rattle.legal_steps.specs.Run.{meals_of, sessions_done_of, withdrawn_of};
 ghost use Rattle.edge_word.specs.Words.{IsOfBottles};
 ghost use Rattle.edge_rule.specs.DeskView.{known, waited, noted, IsAtRest};
-ghost use Rattle.locality.specs.Patience.{is_waiting};
+ghost use Rattle.turns.specs.Patience.{is_waiting};
 ghost use Rattle.legal_steps.specs.Counting.{counts_of};
 ghost use Rattle.edge_rule.specs.Knowing.{IsKnown};
 

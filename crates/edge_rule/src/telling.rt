@@ -1,6 +1,6 @@
 //! What a desk has seen goes to another desk.
 ghost use Rattle.std.specs.Prelude.{◌≡◌};
-ghost use Rattle.locality.specs.History.{IsHistory};
+ghost use Rattle.turns.specs.History.{IsHistory};
 ghost use Rattle.edge_rule.specs.DeskView.{Owns};
 ghost use Rattle.edge_rule.specs.Telling.{Heard};
 

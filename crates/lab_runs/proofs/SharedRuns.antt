@@ -9,8 +9,8 @@ use Rattle.edge_rule.specs.ClosedView.{ClosedView}
 use Rattle.report.specs.Report.{report_of, all_retired}
 use Rattle.report.specs.Events.{HasOneReport, shown_after, report_after, retired_after}
 use Rattle.headline.specs.Headline.{HoldsOfEveryRun}
-use Rattle.round_laws.specs.OneRun.{RanRounds, OneRun}
-use Rattle.round_laws.specs.FromOpening.{fresh_players}
+use Rattle.rounds.specs.OneRun.{RanRounds, OneRun}
+use Rattle.rounds.specs.FromOpening.{fresh_players}
 use Rattle.whole_runs.specs.Shown.{shown_in}
 use Rattle.whole_runs.specs.Runs.{IsRunByTurns, IsRunInRounds}
 use Rattle.lab_program.specs.declared.faults.Outcome.{Outcome}

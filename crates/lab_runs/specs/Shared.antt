@@ -7,8 +7,8 @@ use Rattle.script_reader.specs.Script.{ScriptMeans}
 use Rattle.report.specs.Events.{retired_after}
 use Rattle.rounds.specs.declared.ended.Ended.{Ended}
 use Rattle.rounds.specs.declared.ended.Ended.TheVariants.{Quiet}
-use Rattle.round_laws.specs.OneRun.{RanRounds}
-use Rattle.round_laws.specs.FromOpening.{fresh_players}
+use Rattle.rounds.specs.OneRun.{RanRounds}
+use Rattle.rounds.specs.FromOpening.{fresh_players}
 use Rattle.whole_runs.specs.Turns.{TakeTurns}
 use Rattle.lab_program.specs.declared.faults.RunFault.{RunFault}
 use Rattle.lab_program.specs.declared.faults.Outcome.{Outcome}

@@ -10,7 +10,7 @@ use headline::holds_of_every_run;
 use lab_program::{Outcome, RunFault, Source, read_input};
 use report::Sink;
 use report::laws::one_report;
-use round_laws::laws::one_run;
+use rounds::laws::one_run;
 use script_reader::laws::one_meaning;
 use script_reader::read_plan;
 use std::alloc::Allocator;

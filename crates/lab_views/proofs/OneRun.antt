@@ -5,15 +5,15 @@ use Rattle.std.proofs.lemmas.List.{append_cancel_left}
 use Rattle.lab_plan.specs.LabPlan.{LabPlan}
 use Rattle.legal_steps.specs.declared.event.Event.{Event}
 use Rattle.legal_steps.specs.Opening.{the_opening}
-use Rattle.locality.specs.History.{IsHistory}
+use Rattle.turns.specs.History.{IsHistory}
 use Rattle.script_reader.specs.Script.{ScriptMeans}
 use Rattle.script_reader.specs.Laws.{HasOnePlan}
 use Rattle.report.specs.Events.{report_after, retired_after}
 use Rattle.rounds.specs.declared.ended.Ended.{Ended}
-use Rattle.round_laws.specs.OneRun.{RanRounds, OneRun}
-use Rattle.round_laws.specs.FromOpening.{fresh_players}
-use Rattle.round_laws.proofs.SameRun.{legal_from, rounds_same}
-use Rattle.round_laws.specs.OneRun.{why_ended}
+use Rattle.rounds.specs.OneRun.{RanRounds, OneRun}
+use Rattle.rounds.specs.FromOpening.{fresh_players}
+use Rattle.rounds.proofs.SameRun.{legal_from, rounds_same}
+use Rattle.rounds.specs.OneRun.{why_ended}
 use Rattle.waiting.specs.Rounds.{joined, AreRoundsOf}
 use Rattle.waiting.specs.Waits as waits
 use Rattle.blocking.specs.Blocks as blocks

@@ -10,8 +10,8 @@ use Rattle.legal_steps.specs.Opening.{the_opening}
 use Rattle.script_reader.specs.Script.{ScriptMeans}
 use Rattle.script_reader.specs.Laws.{HasOnePlan}
 use Rattle.report.specs.Events.{report_after}
-use Rattle.round_laws.specs.OneRun.{RanRounds, OneRun}
-use Rattle.round_laws.specs.FromOpening.{fresh_players}
+use Rattle.rounds.specs.OneRun.{RanRounds, OneRun}
+use Rattle.rounds.specs.FromOpening.{fresh_players}
 use Rattle.round_trace.specs.StepsOf.{StepsGiveEvents}
 use Rattle.round_trace.specs.Traces.{IsRunByRounds}
 use Rattle.lab_plan.specs.IsPlan.{IsPlan}

@@ -4,8 +4,8 @@ ghost use Rattle.lab_views.specs.OneRun.{HasOneListOfBlocks, HasOnePicture, Roun
 ghost use Rattle.lab_views.specs.Printed.{PrintedIsDrawn, PrintedIsTabulated};
 ghost use Rattle.lab_views.specs.Traces.{TracesTheRun, TraceIsReplayed};
 
-use round_laws::laws::one_run;
 use round_trace::laws::steps_give_events;
+use rounds::laws::one_run;
 use script_reader::laws::{one_meaning, one_meaning_with_steps};
 
 /// A trace has the steps of the very run that `labrun rounds N` reports, for the same input and N.

@@ -2,13 +2,13 @@
 use Rattle.std.proofs.Common.{◌≡◌, ℕ, zero, suc, ◌≤◌, Bool, true, false, List, [], ◌∷◌, ◌++◌, length, take, drop, refl, sym, ap, ◌∙◌, subst, arith, append_assoc, append-nil}
 use Rattle.lab_plan.specs.LabPlan.{LabPlan}
 use Rattle.legal_steps.specs.declared.event.Event.{Event}
-use Rattle.locality.specs.History.{IsHistory}
+use Rattle.turns.specs.History.{IsHistory}
 use Rattle.rounds.specs.declared.ended.Ended.{Ended}
 use Rattle.rounds.specs.declared.ended.Ended.TheVariants.{AllRetired, Limit}
 use Rattle.rounds.proofs.Lists.{append_cancel}
-use Rattle.round_laws.specs.FromOpening.{fresh_players}
-use Rattle.round_laws.proofs.SameRun.{rounds_same, legal_from, one_run}
-use Rattle.round_laws.specs.OneRun.{why_ended}
+use Rattle.rounds.specs.FromOpening.{fresh_players}
+use Rattle.rounds.proofs.SameRun.{rounds_same, legal_from, one_run}
+use Rattle.rounds.specs.OneRun.{why_ended}
 use Rattle.waiting.specs.Rounds.{joined, IsAfter, AreRoundsOf}
 use Rattle.waiting.specs.Waits.{RunView, IsRunOf, run_of}
 use Rattle.measured_orders.specs.Measures.{measure_of, IsMeasureOf, OneMeasure}

@@ -11,12 +11,12 @@ use Rattle.legal_steps.specs.declared.event.Event.TheVariants.{Glance}
 use Rattle.legal_steps.specs.State.{State, phase}
 use Rattle.legal_steps.specs.Run.{IsLegalFrom}
 use Rattle.one_history.specs.declared.board.View.{View}
-use Rattle.locality.specs.History.{state_after}
+use Rattle.turns.specs.History.{state_after}
 use Rattle.one_history.specs.Rule.{phase_place, Kept}
 use Rattle.one_history.specs.Grow.{hand_in, IsLed, Does, glanced}
-use Rattle.locality.proofs.Few.{phase_fits}
+use Rattle.turns.proofs.Few.{phase_fits}
 use Rattle.one_history.proofs.Keeps.{grown, held_in, appends, tells}
-use Rattle.locality.proofs.Histories.{history_fits}
+use Rattle.turns.proofs.Histories.{history_fits}
 
 module _ (p : LabPlan) (slots id : ℕ) (v : View) (c : List (ℕ × LogView)) (led : IsLed v) (job : (hand_in v).job < length p.jobs) where
   abbrev j : ℕ

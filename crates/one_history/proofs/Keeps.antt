@@ -20,12 +20,12 @@ use Rattle.edge_word.specs.Words.{word_of}
 use Rattle.edge_word.specs.Phases.{phase_word_of}
 use Rattle.one_history.specs.declared.board.Hand.{Hand}
 use Rattle.one_history.specs.declared.board.View.{View}
-use Rattle.locality.specs.History.{is_by, events_by, known_by, IsHistory, state_after}
+use Rattle.turns.specs.History.{is_by, events_by, known_by, IsHistory, state_after}
 use Rattle.one_history.specs.Rule.{edge_place, phase_place, Homed, Spelled, Held, Sees, Kept}
-use Rattle.locality.specs.Reaching.{IsReachingFor}
-use Rattle.locality.specs.Lists.{StartsWith, Each}
+use Rattle.turns.specs.Reaching.{IsReachingFor}
+use Rattle.turns.specs.Lists.{StartsWith, Each}
 use Rattle.one_history.specs.Grow.{hand_in, rest_hands, adding, IsLed, mine, Grows}
-use Rattle.locality.proofs.Runs.{after_all-append, legal-append, own_known, only_mine, none_theirs, each_map, starts_longer}
+use Rattle.turns.proofs.Runs.{after_all-append, legal-append, own_known, only_mine, none_theirs, each_map, starts_longer}
 
 module _ (p : LabPlan) where
   -- the view after the group g was added to the history h

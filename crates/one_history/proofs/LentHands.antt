@@ -3,8 +3,8 @@ use Rattle.std.proofs.Common.{◌≡◌, ◌≢◌, List, [], ◌∷◌, ◌++�
 use Rattle.legal_steps.specs.declared.event.Event.{Event}
 use Rattle.one_history.specs.declared.board.Hand.{Hand}
 use Rattle.one_history.specs.declared.board.View.{View}
-use Rattle.locality.specs.History.{IsHistory, events_by}
-use Rattle.locality.specs.Lists.{StartsWith, Each}
+use Rattle.turns.specs.History.{IsHistory, events_by}
+use Rattle.turns.specs.Lists.{StartsWith, Each}
 use Rattle.one_history.specs.Grow.{hand_or, hand_in, adding, IsMine, IsLed, rest_hands, Grows}
 use Rattle.one_history.specs.Seating.{first_hand, glued, lent_left, returned_left, returned_right, taken_back}
 

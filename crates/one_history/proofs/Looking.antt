@@ -15,14 +15,14 @@ use Rattle.legal_steps.specs.Run.{IsLegalFrom, actor}
 use Rattle.legal_steps.specs.Opening.{the_opening}
 use Rattle.edge_word.specs.Words.{IsOfBottles}
 use Rattle.one_history.specs.declared.board.View.{View}
-use Rattle.locality.specs.History.{state_after}
+use Rattle.turns.specs.History.{state_after}
 use Rattle.one_history.specs.Rule.{edge_place, Kept}
 use Rattle.one_history.specs.Grow.{hand_in, IsLed, Does, looked}
-use Rattle.locality.proofs.Frame.{own_seat, other_seat}
-use Rattle.locality.specs.Changes.{seat_after}
-use Rattle.locality.proofs.Runs.{all_seats, opening_seats}
+use Rattle.turns.proofs.Frame.{own_seat, other_seat}
+use Rattle.turns.specs.Changes.{seat_after}
+use Rattle.turns.proofs.Runs.{all_seats, opening_seats}
 use Rattle.one_history.proofs.Keeps.{grown, held_in, appends, tells, spelled_still, homed_still}
-use Rattle.locality.proofs.Histories.{history_fits, edge_fits, reaching_still}
+use Rattle.turns.proofs.Histories.{history_fits, edge_fits, reaching_still}
 
 -- an event that leaves the phase of its seat leaves all phases
 pub phases_still : (plan : LabPlan) (s : State) (event : Event) → actor event < length s.seats

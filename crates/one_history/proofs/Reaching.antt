@@ -24,18 +24,18 @@ use Rattle.legal_steps.specs.Holding.{IsExclusive}
 use Rattle.legal_steps.specs.WholeLogs.{room_of, log_with_room}
 use Rattle.edge_word.specs.Phases.{phase_word_of}
 use Rattle.one_history.specs.declared.board.View.{View}
-use Rattle.locality.specs.History.{is_by, events_by, IsHistory, known_by, state_after}
+use Rattle.turns.specs.History.{is_by, events_by, IsHistory, known_by, state_after}
 use Rattle.one_history.specs.Rule.{phase_place, Spelled, Homed, Kept}
-use Rattle.locality.specs.Reaching.{IsReachingFor}
+use Rattle.turns.specs.Reaching.{IsReachingFor}
 use Rattle.one_history.specs.Grow.{hand_in, IsLed, mine, own_phase, next_instrument, reached, acted}
-use Rattle.locality.specs.Changes.{seat_after}
-use Rattle.locality.proofs.Local.{reach_alike, act_alike}
-use Rattle.locality.proofs.Runs.{after_all-append, append_self, own_known}
+use Rattle.turns.specs.Changes.{seat_after}
+use Rattle.turns.proofs.Local.{reach_alike, act_alike}
+use Rattle.turns.proofs.Runs.{after_all-append, append_self, own_known}
 use Rattle.one_history.proofs.Keeps.{grown, held_in, appends, tells, known}
-use Rattle.locality.proofs.Histories.{history_fits, history_exclusive, reaching_still}
+use Rattle.turns.proofs.Histories.{history_fits, history_exclusive, reaching_still}
 use Rattle.one_history.proofs.Looking.{jobs_there}
 use Rattle.one_history.proofs.Storing.{phase_here, phase_there, turned_words, others_reach}
-use Rattle.locality.proofs.Holding.{next_inside, none_reaches, reaching_left, log_kept, next_entry_same}
+use Rattle.turns.proofs.Holding.{next_inside, none_reaches, reaching_left, log_kept, next_entry_same}
 
 -- the next command, by the seat
 pub next_same : (plan : LabPlan) (s t : State) (j : ℕ) → seat s j ≡ seat t j → next_command plan s j ≡ next_command plan t j

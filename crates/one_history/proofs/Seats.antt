@@ -15,10 +15,10 @@ use Rattle.instrument_log.specs.InstrumentLog.{empty_log}
 use Rattle.legal_steps.specs.Opening.{the_opening}
 use Rattle.legal_steps.specs.WholeLogs.{room_of, log_with_room}
 use Rattle.one_history.specs.Rule.{hand, fresh, first_view, Spelled, Homed, Held, Sees, Kept}
-use Rattle.locality.specs.Lists.{StartsWith, Each}
+use Rattle.turns.specs.Lists.{StartsWith, Each}
 use Rattle.one_history.specs.Grow.{rest_hands}
 use Rattle.one_history.specs.Seating.{first_hand, dealt_left, dealt_right, note_of, glued, nothing, undealt, lent_left, returned_left, returned_right, taken_back}
-use Rattle.locality.proofs.Runs.{each_map, each-append}
+use Rattle.turns.proofs.Runs.{each_map, each-append}
 
 module _ {A : Type 0} where
   pub snoc_at : (l : List A) (a b : A) (j : ℕ) → get_elem? (l ++ a ∷ []) j ≡ some b → (get_elem? l j ≡ some b) ⊎ ((j ≡ length l) × (a ≡ b))

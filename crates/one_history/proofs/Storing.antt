@@ -21,16 +21,16 @@ use Rattle.one_history.specs.declared.board.View.{View}
 use Rattle.one_history.specs.declared.phase_event.PhaseEvent.{PhaseEvent}
 use Rattle.one_history.specs.declared.phase_event.PhaseEvent.TheVariants.{Thirst, Hunger, Sit, Leave, Drink, Quit, Retire, Withdraw}
 use Rattle.one_history.specs.PhaseEvents.{event_of, phase_after}
-use Rattle.locality.specs.History.{state_after}
+use Rattle.turns.specs.History.{state_after}
 use Rattle.one_history.specs.Rule.{phase_place, Spelled, Kept}
-use Rattle.locality.specs.Reaching.{IsReachingFor}
+use Rattle.turns.specs.Reaching.{IsReachingFor}
 use Rattle.one_history.specs.Grow.{hand_in, IsLed, mine, Does, dining_event, drinking_event, phase_event, own_phase, stored}
-use Rattle.locality.proofs.Frame.{own_seat, other_seat}
-use Rattle.locality.specs.Changes.{seat_after}
-use Rattle.locality.proofs.Local.{thirst_alike, hunger_alike, sit_alike, leave_alike, drink_alike, quit_alike, retire_alike, withdraw_alike}
-use Rattle.locality.proofs.Few.{phase_fits}
+use Rattle.turns.proofs.Frame.{own_seat, other_seat}
+use Rattle.turns.specs.Changes.{seat_after}
+use Rattle.turns.proofs.Local.{thirst_alike, hunger_alike, sit_alike, leave_alike, drink_alike, quit_alike, retire_alike, withdraw_alike}
+use Rattle.turns.proofs.Few.{phase_fits}
 use Rattle.one_history.proofs.Keeps.{grown, appends, tells, known, spelled_phase, homed_still}
-use Rattle.locality.proofs.Histories.{reaching_still, fits_more}
+use Rattle.turns.proofs.Histories.{reaching_still, fits_more}
 use Rattle.one_history.proofs.Looking.{jobs_there}
 
 -- ---- each of them

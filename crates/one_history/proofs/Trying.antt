@@ -21,14 +21,14 @@ use Rattle.edge_word.proofs.WordLemmas.{IsOfBottles-28}
 use Rattle.edge_word.proofs.MoveLaws.{moves_lead, read_back}
 use Rattle.edge_word.proofs.MoveFrame.{moves_change_only_their_edge}
 use Rattle.one_history.specs.declared.board.View.{View}
-use Rattle.locality.specs.History.{state_after}
+use Rattle.turns.specs.History.{state_after}
 use Rattle.one_history.specs.Rule.{edge_place, Spelled, Kept}
-use Rattle.locality.specs.Lists.{Each}
+use Rattle.turns.specs.Lists.{Each}
 use Rattle.one_history.specs.Grow.{no_plan, hand_in, IsLed, mine, Grows, tried}
-use Rattle.locality.proofs.Runs.{learned_all_seats, learned_all_edges, opening_seats, opening_edges}
-use Rattle.locality.proofs.Local.{Alike, each_move, moves_alike}
+use Rattle.turns.proofs.Runs.{learned_all_seats, learned_all_edges, opening_seats, opening_edges}
+use Rattle.turns.proofs.Local.{Alike, each_move, moves_alike}
 use Rattle.one_history.proofs.Keeps.{grown, held_in, appends, tells, known, spelled_edge, homed_still}
-use Rattle.locality.proofs.Histories.{history_fits, edge_fits, reaching_still}
+use Rattle.turns.proofs.Histories.{history_fits, edge_fits, reaching_still}
 use Rattle.one_history.proofs.Looking.{jobs_there, place_edge}
 
 -- all moves are by the job

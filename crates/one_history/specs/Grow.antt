@@ -19,10 +19,10 @@ use Rattle.edge_word.specs.Phases.{phase_word_of, phase_of, FitsPhaseWord}
 use Rattle.edge_word.specs.Moves.{events_of, moves_of_words}
 use Rattle.one_history.specs.declared.board.Hand.{Hand}
 use Rattle.one_history.specs.declared.board.View.{View}
-use Rattle.locality.specs.History.{IsHistory, state_after, events_by, known_by}
+use Rattle.turns.specs.History.{IsHistory, state_after, events_by, known_by}
 use Rattle.one_history.specs.Groups.{with_group}
 use Rattle.one_history.specs.Rule.{hand}
-use Rattle.locality.specs.Lists.{StartsWith, Each}
+use Rattle.turns.specs.Lists.{StartsWith, Each}
 
 -- ---- the hand that a seat acts with
 

@@ -13,9 +13,9 @@ use Rattle.edge_word.specs.Words.{word_of}
 use Rattle.edge_word.specs.Phases.{phase_word_of}
 use Rattle.one_history.specs.declared.board.Hand.{Hand}
 use Rattle.one_history.specs.declared.board.View.{View}
-use Rattle.locality.specs.History.{IsHistory, state_after, events_by}
-use Rattle.locality.specs.Lists.{StartsWith, Each}
-use Rattle.locality.specs.Reaching.{IsReachingFor}
+use Rattle.turns.specs.History.{IsHistory, state_after, events_by}
+use Rattle.turns.specs.Lists.{StartsWith, Each}
+use Rattle.turns.specs.Reaching.{IsReachingFor}
 
 -- ---- the words, each on a cache line of its own: those of the edges, those of the jobs, and a spare one
 

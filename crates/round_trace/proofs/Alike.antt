@@ -12,13 +12,13 @@ use Rattle.legal_steps.proofs.FitsWrites.{edge_same}
 use Rattle.edge_word.specs.declared.moves.EdgeMoves.{EdgeMoves}
 use Rattle.edge_word.specs.Moves.{events_of}
 use Rattle.legal_steps.specs.Run.{actor}
-use Rattle.locality.specs.History.{learned, learned_all}
-use Rattle.locality.specs.Lists.{Each}
-use Rattle.locality.specs.Changes.{seat_after}
-use Rattle.locality.proofs.Frame.{learned_seats, learned_edges, learned_seat}
-use Rattle.locality.proofs.Runs.{each-append}
-use Rattle.locality.proofs.Reading.{reads_alike}
-use Rattle.locality.proofs.Local.{Alike, IsLocal, give_fork_local, ask_fork_local, soil_local, give_bottles_local, ask_bottles_local, each_move}
+use Rattle.turns.specs.History.{learned, learned_all}
+use Rattle.turns.specs.Lists.{Each}
+use Rattle.turns.specs.Changes.{seat_after}
+use Rattle.turns.proofs.Frame.{learned_seats, learned_edges, learned_seat}
+use Rattle.turns.proofs.Runs.{each-append}
+use Rattle.turns.proofs.Reading.{reads_alike}
+use Rattle.turns.proofs.Local.{Alike, IsLocal, give_fork_local, ask_fork_local, soil_local, give_bottles_local, ask_bottles_local, each_move}
 use Rattle.turns.specs.Due.{after_if, AreDue, fork_gone, bottles_gone, fork_asked_for, all_asked_for}
 use Rattle.turns.specs.Acts.{AreFirst, Counts, order}
 use Rattle.turns.specs.Turn.{Visit, visit_events, visits_events, AreVisits, IsTurnBy}

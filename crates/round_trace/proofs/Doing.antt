@@ -7,7 +7,7 @@ use Rattle.legal_steps.specs.Legal.{May}
 use Rattle.legal_steps.specs.Run.{IsLegalFrom, after_all}
 use Rattle.interleaving.specs.World.{WorldView}
 use Rattle.edge_word.specs.Moves.{on}
-use Rattle.locality.proofs.Runs.{after_all-append, legal-append}
+use Rattle.turns.proofs.Runs.{after_all-append, legal-append}
 use Rattle.turns.specs.Due.{after_if}
 use Rattle.round_trace.specs.Doing.{Tries, Does}
 

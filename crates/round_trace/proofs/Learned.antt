@@ -8,7 +8,7 @@ use Rattle.legal_steps.specs.declared.event.Event.TheVariants.{Look, AskFork, Gi
 use Rattle.legal_steps.specs.State.{State, edge, no_edge}
 use Rattle.legal_steps.specs.Legal.{May, after, with_edge}
 use Rattle.legal_steps.specs.Run.{IsLegalFrom, after_all}
-use Rattle.locality.specs.History.{learned, learned_all}
+use Rattle.turns.specs.History.{learned, learned_all}
 
 with_self : (s : State) (e : ℕ) → with_edge s e (edge s e) ≡ s
 with_self s e = ap (λ (l : List EdgeState). record s { edges = l }) (set-get_or s.edges e no_edge)

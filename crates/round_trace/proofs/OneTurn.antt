@@ -7,10 +7,10 @@ use Rattle.legal_steps.specs.Legal.{IsJob, after}
 use Rattle.legal_steps.specs.Opening.{the_opening}
 use Rattle.legal_steps.specs.Run.{IsLegalFrom, after_all}
 use Rattle.interleaving.specs.World.{WorldView}
-use Rattle.locality.specs.History.{events_by, learned_all, IsHistory, state_after}
-use Rattle.locality.specs.Patience.{is_waiting, waited_in}
-use Rattle.locality.proofs.Frame.{as_many_edges}
-use Rattle.locality.proofs.Runs.{after_all-append, legal-append, all_seats, learned_all_seats, learned_all_edges, opening_seats, opening_edges, own_known}
+use Rattle.turns.specs.History.{events_by, learned_all, IsHistory, state_after}
+use Rattle.turns.specs.Patience.{is_waiting, waited_in}
+use Rattle.turns.proofs.Frame.{as_many_edges}
+use Rattle.turns.proofs.Runs.{after_all-append, legal-append, all_seats, learned_all_seats, learned_all_edges, opening_seats, opening_edges, own_known}
 use Rattle.turns.specs.Acts.{AreActs}
 use Rattle.turns.specs.Turn.{is_done, count, once, visits_events, IsTurnBy}
 use Rattle.session_layer.specs.declared.turning.Turned.{Turned}
@@ -18,7 +18,7 @@ use Rattle.session_layer.specs.declared.turning.Turned.TheVariants as answers
 use Rattle.session_layer.specs.Turn.{Says}
 use Rattle.rounds.specs.Rounds as rounds
 use Rattle.rounds.specs.Rounds.{Plays, known_in}
-use Rattle.round_laws.proofs.OneTurn.{turn_by}
+use Rattle.rounds.proofs.OneTurn.{turn_by}
 use Rattle.round_trace.specs.declared.player.Player.{Player}
 use Rattle.round_trace.specs.Doing.{Does, VisitsEdges, ActsDue}
 use Rattle.round_trace.specs.Players.{waits, player_of, waited_then, StandsAt}

@@ -6,21 +6,21 @@ use Rattle.legal_steps.specs.declared.phase.Drinking.TheVariants.{Retired}
 use Rattle.legal_steps.specs.State.{State, drinking}
 use Rattle.legal_steps.specs.Legal.{IsJob}
 use Rattle.interleaving.specs.World.{WorldView}
-use Rattle.locality.specs.History.{IsHistory, state_after}
-use Rattle.locality.specs.Lists.{Each}
-use Rattle.locality.specs.Patience.{no_wait}
-use Rattle.locality.proofs.Runs.{each-append}
+use Rattle.turns.specs.History.{IsHistory, state_after}
+use Rattle.turns.specs.Lists.{Each}
+use Rattle.turns.specs.Patience.{no_wait}
+use Rattle.turns.proofs.Runs.{each-append}
 use Rattle.session_layer.specs.declared.turning.Turned.{Turned}
 use Rattle.rounds.specs.Rounds as rounds
-use Rattle.locality.specs.AtTheEnd.{AllRetired}
+use Rattle.turns.specs.AtTheEnd.{AllRetired}
 use Rattle.rounds.specs.Rounds.{Plays, Round, Rounds, IsOver, is_idle, no_player}
 use Rattle.rounds.proofs.Lists.{take_set, drop_set, get_set, take_snoc, drop_next, get_same}
 use Rattle.rounds.proofs.Snoc.{round-snoc}
-use Rattle.round_laws.specs.QuietEnd.{jobs_in}
-use Rattle.round_laws.specs.FromOpening.{fresh_players}
-use Rattle.round_laws.specs.OneRun.{RanRounds, why_ended}
-use Rattle.round_laws.proofs.InRounds.{rounds_jobs}
-use Rattle.round_laws.proofs.Going.{not_over}
+use Rattle.rounds.specs.QuietEnd.{jobs_in}
+use Rattle.rounds.specs.FromOpening.{fresh_players}
+use Rattle.rounds.specs.OneRun.{RanRounds, why_ended}
+use Rattle.rounds.proofs.InRounds.{rounds_jobs}
+use Rattle.rounds.proofs.Going.{not_over}
 use Rattle.round_trace.specs.declared.player.Player.{Player}
 use Rattle.round_trace.specs.Players.{player_of, players_of, StandsAt, AreJobs}
 

@@ -11,8 +11,8 @@ use Rattle.legal_steps.specs.Legal.{May, after, MayAskBottle, MayGiveBottle}
 use Rattle.interleaving.specs.World.{WorldView}
 use Rattle.edge_word.specs.declared.moves.EdgeMoves.{EdgeMoves}
 use Rattle.edge_word.specs.Moves.{on, events_of, is_nothing}
-use Rattle.locality.specs.History.{learned_all}
-use Rattle.locality.proofs.Runs.{learned_all-append}
+use Rattle.turns.specs.History.{learned_all}
+use Rattle.turns.proofs.Runs.{learned_all-append}
 use Rattle.turns.specs.Due.{after_if, AreDue, IsGreatest, fork_gone, bottles_gone, fork_asked_for, all_asked_for}
 use Rattle.turns.specs.Turn.{Visit, count, is_lost, visit_events, visits_events, AreVisits}
 use Rattle.round_trace.specs.Doing.{Tries, MovesAll, Does, VisitsEdges}

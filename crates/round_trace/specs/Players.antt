@@ -4,9 +4,9 @@ use Rattle.lab_plan.specs.LabPlan.{LabPlan}
 use Rattle.legal_steps.specs.declared.event.Event.{Event}
 use Rattle.legal_steps.specs.declared.phase.JobState.{JobState}
 use Rattle.interleaving.specs.World.{WorldView}
-use Rattle.locality.specs.History.{IsHistory, state_after}
-use Rattle.locality.specs.Lists.{Each}
-use Rattle.locality.specs.Patience.{Waited, is_waiting, one_more, waited_in}
+use Rattle.turns.specs.History.{IsHistory, state_after}
+use Rattle.turns.specs.Lists.{Each}
+use Rattle.turns.specs.Patience.{Waited, is_waiting, one_more, waited_in}
 use Rattle.rounds.specs.Rounds as rounds
 use Rattle.round_trace.specs.declared.player.Player.{Player}
 

@@ -4,8 +4,8 @@ use Rattle.lab_plan.specs.LabPlan.{LabPlan}
 use Rattle.legal_steps.specs.declared.event.Event.{Event}
 use Rattle.rounds.specs.declared.ended.Ended.{Ended}
 use Rattle.rounds.specs.declared.ended.Ended.TheVariants.{Quiet}
-use Rattle.round_laws.specs.OneRun.{RanRounds, why_ended}
-use Rattle.round_laws.specs.FromOpening.{fresh_players}
+use Rattle.rounds.specs.OneRun.{RanRounds, why_ended}
+use Rattle.rounds.specs.FromOpening.{fresh_players}
 
 -- All of it are rounds of all jobs from the initial state on, each with one turn of each job, in ascending order. They ended because all
 -- jobs were retired, or after this many.

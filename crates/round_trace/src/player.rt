@@ -1,6 +1,6 @@
 //! A job that takes turns, and its count of patience.
 ghost use Rattle.std.specs.Prelude.{◌≡◌};
-ghost use Rattle.locality.specs.Patience.{is_waiting, no_wait, waited_in};
+ghost use Rattle.turns.specs.Patience.{is_waiting, no_wait, waited_in};
 ghost use Rattle.round_trace.specs.Players.{waits, player_of, waited_then};
 
 use lab_plan::JobNo;

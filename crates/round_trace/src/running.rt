@@ -2,7 +2,7 @@
 ghost use Rattle.std.specs.Prelude.{◌≡◌, ◌<◌, ◌↔◌, ℕ, [], IsTrue, IfOk, length};
 ghost use Rattle.legal_steps.specs.declared.phase.Drinking.TheVariants.{Retired};
 ghost use Rattle.legal_steps.specs.State.{drinking};
-ghost use Rattle.round_laws.specs.FromOpening.{fresh_players};
+ghost use Rattle.rounds.specs.FromOpening.{fresh_players};
 ghost use Rattle.round_trace.specs.Players.{players_of, StandsAt};
 ghost use Rattle.round_trace.specs.Traces.{Plays, IsRunByRounds};
 

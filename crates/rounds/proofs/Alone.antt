@@ -8,9 +8,9 @@ use Rattle.legal_steps.specs.State.{State, edge}
 use Rattle.legal_steps.specs.Opening.{the_opening}
 use Rattle.edge_word.specs.Moves.{events_of, is_nothing}
 use Rattle.legal_steps.specs.Run.{actor}
-use Rattle.locality.specs.History.{is_by, events_by, state_after, IsHistory}
-use Rattle.locality.specs.Lists.{Each}
-use Rattle.locality.proofs.Runs.{only_mine, append_self, after_all-append, legal-goes_on}
+use Rattle.turns.specs.History.{is_by, events_by, state_after, IsHistory}
+use Rattle.turns.specs.Lists.{Each}
+use Rattle.turns.proofs.Runs.{only_mine, append_self, after_all-append, legal-goes_on}
 use Rattle.edge_rule.specs.DeskView.{DeskView, Adds, IsAtRest, known, shown}
 use Rattle.edge_rule.proofs.ManyHands.{each_begin, each_end}
 use Rattle.turns.specs.Turn.{Visit, is_lost, count}

@@ -2,8 +2,8 @@
 use Rattle.std.proofs.Common.{◌≡◌, ℕ, suc, ◌<◌, false, inl, inr, List, [], ◌∷◌, length, get_or, set, refl, sym, ap, ◌∙◌, subst, arith}
 use Rattle.lab_plan.specs.LabPlan.{LabPlan}
 use Rattle.legal_steps.specs.declared.event.Event.{Event}
-use Rattle.locality.specs.History.{events_by, IsHistory}
-use Rattle.locality.specs.Lists.{StartsWith, Each}
+use Rattle.turns.specs.History.{events_by, IsHistory}
+use Rattle.turns.specs.Lists.{StartsWith, Each}
 use Rattle.edge_rule.specs.DeskView.{DeskView, BenchView, Owns, IsAtRest, waits}
 use Rattle.edge_rule.specs.Company.{Met, Hears, jobs_of}
 use Rattle.edge_rule.specs.Telling.{Heard}

@@ -5,3 +5,16 @@ pub mod Together
 pub mod Snoc
 pub mod Driven
 pub mod Reasons
+pub mod Looks
+pub mod Seeing
+pub mod QuietRound
+pub mod OneTurn
+pub mod InRounds
+pub mod QuietEnd
+pub mod SameTurn
+pub mod SameRun
+pub mod Opened
+pub mod Rested
+pub mod Fresh
+pub mod RoundTurns
+pub mod Going

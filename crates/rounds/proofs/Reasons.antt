@@ -7,16 +7,16 @@ use Rattle.legal_steps.specs.declared.event.Event.{Event}
 use Rattle.legal_steps.specs.declared.phase.Drinking.{Drinking}
 use Rattle.legal_steps.specs.declared.phase.Drinking.TheVariants.{Tranquil, Thirsty, Drinking as Drinks, Reaching, Retired}
 use Rattle.legal_steps.specs.State.{Seat, State, edge, drinking}
-use Rattle.locality.specs.History.{events_by, known_by, state_after}
-use Rattle.locality.specs.Lists.{Each}
-use Rattle.locality.proofs.Runs.{own_known}
+use Rattle.turns.specs.History.{events_by, known_by, state_after}
+use Rattle.turns.specs.Lists.{Each}
+use Rattle.turns.proofs.Runs.{own_known}
 use Rattle.edge_rule.specs.DeskView.{DeskView, BenchView, Owns, IsAtRest, known}
 use Rattle.edge_rule.specs.Company.{jobs_of}
 use Rattle.edge_rule.specs.Ending.{Any}
 use Rattle.rounds.specs.declared.ended.Ended.{Ended}
 use Rattle.rounds.specs.declared.ended.Ended.TheVariants as reasons
 use Rattle.rounds.specs.Company.{AllOf, Company, all_retired, seen_by, IsAgreed}
-use Rattle.locality.specs.AtTheEnd.{AllRetired, BothKnow}
+use Rattle.turns.specs.AtTheEnd.{AllRetired, BothKnow}
 use Rattle.rounds.specs.Rounds.{Player, players_of, known_in, IsOver, Rounds, Why, Played}
 use Rattle.session_layer.specs.Retired.{has_retired, is_retired}
 use Rattle.rounds.proofs.Lists.{zip_each}

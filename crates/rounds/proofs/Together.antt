@@ -11,10 +11,10 @@ use Rattle.legal_steps.specs.Legal.{May, after}
 use Rattle.legal_steps.specs.Run.{IsLegalFrom, actor}
 use Rattle.legal_steps.specs.Opening.{the_opening}
 use Rattle.legal_steps.proofs.FitsLaw.{own_is_job}
-use Rattle.locality.specs.History.{is_by, events_by, known_by, learned_all, state_after, IsHistory}
-use Rattle.locality.specs.Lists.{StartsWith, Each}
-use Rattle.locality.specs.Patience.{waited_in, waited_after, is_waiting}
-use Rattle.locality.proofs.Runs.{legal-goes_on, append_self, each_map, only_mine}
+use Rattle.turns.specs.History.{is_by, events_by, known_by, learned_all, state_after, IsHistory}
+use Rattle.turns.specs.Lists.{StartsWith, Each}
+use Rattle.turns.specs.Patience.{waited_in, waited_after, is_waiting}
+use Rattle.turns.proofs.Runs.{legal-goes_on, append_self, each_map, only_mine}
 use Rattle.edge_rule.specs.declared.clock.Clock.{Clock}
 use Rattle.edge_rule.specs.DeskView.{DeskView, BenchView, Owns, IsAtRest, known, waits, noted}
 use Rattle.edge_rule.specs.Company.{jobs_of}

@@ -4,8 +4,8 @@ use Rattle.lab_plan.specs.LabPlan.{LabPlan, ends}
 use Rattle.legal_steps.specs.declared.event.Event.{Event}
 use Rattle.legal_steps.specs.declared.edge_state.EdgeState.{EdgeState}
 use Rattle.legal_steps.specs.State.{edge, no_edge}
-use Rattle.locality.specs.History.{IsHistory, events_by}
-use Rattle.locality.specs.Lists.{StartsWith, Each}
+use Rattle.turns.specs.History.{IsHistory, events_by}
+use Rattle.turns.specs.Lists.{StartsWith, Each}
 use Rattle.edge_rule.specs.DeskView.{DeskView, BenchView, Owns, IsAtRest, known}
 use Rattle.edge_rule.specs.Ending.{Any}
 use Rattle.session_layer.specs.Retired.{is_retired}

@@ -3,10 +3,10 @@ use Rattle.std.specs.Prelude.{Bool, true, false, ◌&&◌, ◌≡◌, ℕ, zero,
 use Rattle.lab_plan.specs.LabPlan.{LabPlan}
 use Rattle.legal_steps.specs.declared.event.Event.{Event}
 use Rattle.legal_steps.specs.State.{State, session}
-use Rattle.locality.specs.History.{events_by, known_by}
-use Rattle.locality.specs.AtTheEnd.{AllRetired, BothKnow}
-use Rattle.locality.specs.Lists.{StartsWith}
-use Rattle.locality.specs.Patience.{Waited, waited_in, no_wait}
+use Rattle.turns.specs.History.{events_by, known_by}
+use Rattle.turns.specs.AtTheEnd.{AllRetired, BothKnow}
+use Rattle.turns.specs.Lists.{StartsWith}
+use Rattle.turns.specs.Patience.{Waited, waited_in, no_wait}
 use Rattle.edge_rule.specs.DeskView.{DeskView, BenchView, waits}
 use Rattle.edge_rule.specs.Company.{jobs_of}
 use Rattle.turns.specs.Turn.{Visit, IsTurnBy, is_done, is_lost, count, once}

@@ -4,7 +4,7 @@ ghost use Rattle.lab_plan.specs.LabPlan.{edges, ends, bottles};
 ghost use Rattle.edge_word.specs.Words.{IsOfBottles};
 ghost use Rattle.edge_rule.specs.DeskView.{Owns};
 ghost use Rattle.edge_rule.specs.Ending.{Any};
-ghost use Rattle.locality.specs.Lists.{Each};
+ghost use Rattle.turns.specs.Lists.{Each};
 ghost use Rattle.rounds.specs.Company.{AllOf, seen_by, IsAgreed};
 ghost use Rattle.edge_rule.specs.Company.{jobs_of};
 

@@ -1,6 +1,6 @@
 //! Rounds one after another, until all jobs are retired, or a round was quiet, or the limit is there.
 ghost use Rattle.std.specs.Prelude.{◌≡◌};
-ghost use Rattle.locality.specs.Lists.{Each};
+ghost use Rattle.turns.specs.Lists.{Each};
 ghost use Rattle.edge_rule.specs.DeskView.{Owns};
 ghost use Rattle.edge_rule.specs.Ending.{HasAll};
 ghost use Rattle.edge_rule.specs.Company.{jobs_of};

@@ -1,6 +1,6 @@
 //! Whether all jobs are retired, by their desks.
 ghost use Rattle.std.specs.Prelude.{◌≡◌};
-ghost use Rattle.locality.specs.Lists.{Each};
+ghost use Rattle.turns.specs.Lists.{Each};
 ghost use Rattle.edge_rule.specs.DeskView.{IsAtRest};
 ghost use Rattle.edge_rule.specs.Ending.{Rests};
 ghost use Rattle.session_layer.specs.Retired.{is_retired};

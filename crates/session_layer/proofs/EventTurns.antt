@@ -6,9 +6,9 @@ use Rattle.legal_steps.specs.declared.event.Event.TheVariants.{Look}
 use Rattle.legal_steps.specs.State.{State, edge}
 use Rattle.legal_steps.specs.Opening.{the_opening}
 use Rattle.edge_word.specs.Moves.{events_of, is_nothing}
-use Rattle.locality.specs.History.{learned_all, known_by}
+use Rattle.turns.specs.History.{learned_all, known_by}
 use Rattle.edge_rule.specs.DeskView.{DeskView, Adds, known, shown, waited}
-use Rattle.locality.proofs.Runs.{learned_all-append}
+use Rattle.turns.proofs.Runs.{learned_all-append}
 use Rattle.turns.specs.Due.{AreDue}
 use Rattle.turns.specs.Acts.{AreActs}
 use Rattle.turns.specs.Turn.{Visit}

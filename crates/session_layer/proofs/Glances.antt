@@ -9,9 +9,9 @@ use Rattle.legal_steps.specs.declared.phase.Drinking.TheVariants.{Tranquil, Thir
 use Rattle.legal_steps.specs.declared.phase.JobState.{JobState}
 use Rattle.legal_steps.specs.State.{State, Seat, seat, drinking}
 use Rattle.legal_steps.specs.Opening.{the_opening}
-use Rattle.locality.specs.History.{IsHistory, state_after, learned_all, known_by}
-use Rattle.locality.proofs.Runs.{legal-goes_on, own_known}
-use Rattle.locality.proofs.Retired.{retired_on}
+use Rattle.turns.specs.History.{IsHistory, state_after, learned_all, known_by}
+use Rattle.turns.proofs.Runs.{legal-goes_on, own_known}
+use Rattle.turns.proofs.Retired.{retired_on}
 use Rattle.edge_rule.specs.DeskView.{DeskView, IsAtRest, known}
 use Rattle.turns.specs.Turns.{but_glances}
 use Rattle.session_layer.specs.Grown.{Grew}

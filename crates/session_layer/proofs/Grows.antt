@@ -9,11 +9,11 @@ use Rattle.legal_steps.specs.Run.{after_all}
 use Rattle.legal_steps.specs.Opening.{the_opening}
 use Rattle.legal_steps.proofs.FitsWrites.{edge_same}
 use Rattle.edge_word.specs.Moves.{events_of, is_nothing}
-use Rattle.locality.specs.History.{IsHistory, state_after, known_by, learned, learned_all}
-use Rattle.locality.specs.Lists.{Each}
-use Rattle.locality.specs.Patience.{Waited, one_more, waited_after, is_waiting}
-use Rattle.locality.proofs.Runs.{after_all-append, legal-goes_on, learned_all-append, learned_all_edges, opening_edges, each-append}
-use Rattle.locality.proofs.Local.{each_move}
+use Rattle.turns.specs.History.{IsHistory, state_after, known_by, learned, learned_all}
+use Rattle.turns.specs.Lists.{Each}
+use Rattle.turns.specs.Patience.{Waited, one_more, waited_after, is_waiting}
+use Rattle.turns.proofs.Runs.{after_all-append, legal-goes_on, learned_all-append, learned_all_edges, opening_edges, each-append}
+use Rattle.turns.proofs.Local.{each_move}
 use Rattle.edge_rule.specs.declared.clock.Clock.{Clock}
 use Rattle.edge_rule.specs.DeskView.{DeskView, Adds, IsAtRest, known, shown, waited, waits, noted}
 use Rattle.turns.specs.Acts.{whole_act, AreFirst, order}

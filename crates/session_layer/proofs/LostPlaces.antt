@@ -6,8 +6,8 @@ use Rattle.legal_steps.specs.declared.edge_state.EdgeState.{EdgeState}
 use Rattle.legal_steps.specs.declared.event.Event.{Event}
 use Rattle.legal_steps.specs.State.{State, edge}
 use Rattle.legal_steps.specs.Run.{after_all}
-use Rattle.locality.specs.History.{is_by, events_by}
-use Rattle.locality.specs.Lists.{Each}
+use Rattle.turns.specs.History.{is_by, events_by}
+use Rattle.turns.specs.Lists.{Each}
 use Rattle.edge_rule.proofs.ManyHands.{each_begin, each_end}
 use Rattle.turns.specs.Turns.{Group, Did, Lost, Stands, flat, but_glances, is_glance}
 use Rattle.session_layer.specs.Grown.{IsLostAt, LosesInBetween}

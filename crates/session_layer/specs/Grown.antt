@@ -5,8 +5,8 @@ use Rattle.legal_steps.specs.declared.event.Event.{Event}
 use Rattle.legal_steps.specs.declared.edge_state.EdgeState.{EdgeState}
 use Rattle.legal_steps.specs.State.{State, edge}
 use Rattle.legal_steps.specs.Run.{after_all}
-use Rattle.locality.specs.History.{events_by}
-use Rattle.locality.specs.Patience.{one_more}
+use Rattle.turns.specs.History.{events_by}
+use Rattle.turns.specs.Patience.{one_more}
 use Rattle.edge_rule.specs.DeskView.{DeskView, IsAtRest, known, shown, waits}
 use Rattle.edge_rule.specs.Company.{Hears}
 use Rattle.turns.specs.Turns.{Group, Lost, AreGrouped, Stands, flat, but_glances}

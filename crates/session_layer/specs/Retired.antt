@@ -6,7 +6,7 @@ use Rattle.legal_steps.specs.declared.phase.Drinking.{Drinking}
 use Rattle.legal_steps.specs.declared.phase.Drinking.TheVariants.{Tranquil, Thirsty, Drinking as Drinks, Reaching, Retired}
 use Rattle.legal_steps.specs.declared.phase.JobState.{JobState}
 use Rattle.legal_steps.specs.State.{drinking}
-use Rattle.locality.specs.AtTheEnd.{AllRetired}
+use Rattle.turns.specs.AtTheEnd.{AllRetired}
 use Rattle.edge_rule.specs.DeskView.{DeskView, Adds, known}
 use Rattle.session_layer.specs.Grown.{Grew}
 

@@ -6,7 +6,7 @@ use Rattle.legal_steps.specs.declared.event.Event.TheVariants.{Look}
 use Rattle.legal_steps.specs.State.{edge, drinking}
 use Rattle.edge_word.specs.Moves.{events_of, is_nothing}
 use Rattle.edge_rule.specs.DeskView.{DeskView, Adds, known, shown, waited, noted}
-use Rattle.locality.specs.Patience.{is_waiting}
+use Rattle.turns.specs.Patience.{is_waiting}
 use Rattle.session_layer.specs.declared.turning.Visited.{Visited}
 use Rattle.session_layer.specs.declared.turning.Visited.TheVariants as answers
 use Rattle.session_layer.specs.declared.turning.Turned.{Turned}

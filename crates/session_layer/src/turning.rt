@@ -3,7 +3,7 @@ ghost use Rattle.std.specs.Prelude.{◌≡◌, ◌≤◌};
 ghost use Rattle.lab_plan.specs.LabPlan.{edges_of};
 ghost use Rattle.legal_steps.specs.State.{IsOwn, drinking};
 ghost use Rattle.edge_rule.specs.DeskView.{Owns, known};
-ghost use Rattle.locality.specs.Patience.{is_waiting};
+ghost use Rattle.turns.specs.Patience.{is_waiting};
 ghost use Rattle.session_layer.specs.Turn.{IsVisited, Along, Says, Took};
 
 use crate::acting::act;

@@ -1,5 +1,5 @@
 //! The laboratories of the tests: scripts, their plans, and benches that are opened and closed.
-ghost use Rattle.locality.specs.Lists.{Each};
+ghost use Rattle.turns.specs.Lists.{Each};
 ghost use Rattle.edge_rule.specs.DeskView.{Owns};
 
 use edge_rule::{Bench, Closed, Desk};

@@ -1,5 +1,5 @@
 //! Rounds from the opening to the closing of a bench: why they end, after how many, and what is left.
-ghost use Rattle.locality.specs.Lists.{Each};
+ghost use Rattle.turns.specs.Lists.{Each};
 ghost use Rattle.edge_rule.specs.DeskView.{Owns};
 
 use crate::labs::{

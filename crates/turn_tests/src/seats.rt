@@ -1,6 +1,6 @@
 //! A job at its bench: the calls of its desk by name, and what each answers.
 ghost use Rattle.std.specs.Prelude.{IsTrue};
-ghost use Rattle.locality.specs.Lists.{Each};
+ghost use Rattle.turns.specs.Lists.{Each};
 ghost use Rattle.legal_steps.specs.State.{IsOwn};
 ghost use Rattle.edge_rule.specs.DeskView.{Owns};
 

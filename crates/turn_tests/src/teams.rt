@@ -1,6 +1,6 @@
 //! Threads that drive desks: how many, through which gate, and without memory. What is asked holds of every schedule.
 ghost use Rattle.std.specs.Prelude.{◌<◌, length};
-ghost use Rattle.locality.specs.Lists.{Each};
+ghost use Rattle.turns.specs.Lists.{Each};
 ghost use Rattle.edge_rule.specs.DeskView.{Owns};
 
 use crate::gates::{ALL_MEET, Counting, FORTIETH, Meeting, THREE_FIRST, TWO_MEET};

@@ -15,7 +15,7 @@ use Rattle.edge_word.specs.declared.moves.EdgeMoves.{EdgeMoves}
 use Rattle.edge_word.specs.Moves.{on, events_of}
 use Rattle.turns.specs.Due.{after_if, fork_gone, bottles_gone, fork_asked_for, all_asked_for, AreForkMoves, AreDue, WithBottles}
 use Rattle.turns.specs.Laws.{DueIsLegal}
-use Rattle.locality.specs.Patience.{is_waiting}
+use Rattle.turns.specs.Patience.{is_waiting}
 use Rattle.legal_steps.proofs.BottleSets.{member_below, empty_set}
 use Rattle.turns.proofs.Stages.{stage_three}
 use Rattle.turns.proofs.ForkGuards.{same_forks}

@@ -11,7 +11,7 @@ use Rattle.legal_steps.specs.Legal.{with_edge, with_fork_mark, with_bottle_marks
 use Rattle.legal_steps.proofs.FitsWrites.{edge_other, seat_same}
 use Rattle.edge_word.specs.declared.moves.EdgeMoves.{EdgeMoves}
 use Rattle.edge_word.specs.Moves.{events_of, on, is_nothing}
-use Rattle.locality.specs.History.{learned, learned_all}
+use Rattle.turns.specs.History.{learned, learned_all}
 use Rattle.turns.specs.Due.{IsCalm, but_position}
 use Rattle.turns.specs.Acts.{AreActs}
 use Rattle.turns.specs.Turn.{Visit, is_done, is_lost, count, once, visit_events, visits_events, AreVisits, IsTurnBy}

@@ -7,7 +7,7 @@ use Rattle.legal_steps.specs.State.{State, IsOwn, edge, phase}
 use Rattle.legal_steps.specs.Run.{IsLegalFrom}
 use Rattle.edge_word.specs.declared.moves.EdgeMoves.{EdgeMoves}
 use Rattle.edge_word.specs.Moves.{events_of, is_nothing}
-use Rattle.locality.specs.History.{learned_all}
+use Rattle.turns.specs.History.{learned_all}
 use Rattle.turns.specs.Due.{AreDue, IsCalm, no_moves, but_position}
 use Rattle.turns.specs.Acts.{AreActs}
 use Rattle.turns.specs.Turn.{Visit, is_done, is_lost, count, once, IsTurnBy, IsIdleTurn}

@@ -1,3 +1,12 @@
+pub mod History
+pub mod AtTheEnd
+pub mod Lists
+pub mod Changes
+pub mod Exchanges
+pub mod Reads
+pub mod Reaching
+pub mod Patience
+pub mod Locality
 pub mod Due
 pub mod Acts
 pub mod Turn

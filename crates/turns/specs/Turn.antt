@@ -7,7 +7,7 @@ use Rattle.legal_steps.specs.declared.event.Event.TheVariants.{Look}
 use Rattle.legal_steps.specs.State.{State}
 use Rattle.edge_word.specs.declared.moves.EdgeMoves.{EdgeMoves}
 use Rattle.edge_word.specs.Moves.{events_of, is_nothing}
-use Rattle.locality.specs.History.{learned, learned_all}
+use Rattle.turns.specs.History.{learned, learned_all}
 use Rattle.turns.specs.Due.{AreDue}
 use Rattle.turns.specs.Acts.{AreActs}
 

@@ -8,8 +8,8 @@ use Rattle.legal_steps.specs.declared.edge_state.EdgeState.{EdgeState}
 use Rattle.legal_steps.specs.State.{State, edge, session, drinking}
 use Rattle.legal_steps.specs.Run.{after_all}
 use Rattle.edge_word.specs.Moves.{events_of}
-use Rattle.locality.specs.History.{learned_all}
-use Rattle.locality.specs.Patience.{Waited, is_waiting, waited_in, waited_after}
+use Rattle.turns.specs.History.{learned_all}
+use Rattle.turns.specs.Patience.{Waited, is_waiting, waited_in, waited_after}
 use Rattle.turns.specs.Turn.{Visit, is_lost, IsTurnBy}
 
 -- ---- glances, which are no part of turns

@@ -1,8 +1,10 @@
-//! Definitions and laws alone: what a job does in one turn, by its own events: which moves are due on an edge, which phase act is
-//! due, and turns one after another. Each law is the contract of a function that does nothing.
+//! Definitions and laws alone: what an event reads and changes, and what a job knows: its own seat, and each of its edges as it saw it
+//! last (`locality`). What a job does in one turn, by its own events: which moves are due on an edge, which phase act is due, and turns one
+//! after another. Each law is the contract of a function that does nothing.
 #![tactic(auto)]
 
 mod laws;
+pub mod locality;
 
 pub use laws::{
     calm_has_nothing_due, due_is_legal, idle_turn_is_calm, nothing_done_is_idle,

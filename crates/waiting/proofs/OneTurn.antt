@@ -10,12 +10,12 @@ use Rattle.legal_steps.specs.State.{State, Seat, seat, phase, drinking, dining}
 use Rattle.edge_word.specs.declared.moves.EdgeMoves.{EdgeMoves}
 use Rattle.edge_word.specs.Moves.{events_of}
 use Rattle.legal_steps.specs.Run.{actor}
-use Rattle.locality.specs.History.{learned, learned_all}
-use Rattle.locality.specs.Changes.{seat_after}
-use Rattle.locality.specs.Lists.{Each}
-use Rattle.locality.proofs.Frame.{learned_seat, learned_seats}
-use Rattle.locality.proofs.Runs.{learned_all-append, learned_all_seats, each-append}
-use Rattle.locality.proofs.Local.{each_move}
+use Rattle.turns.specs.History.{learned, learned_all}
+use Rattle.turns.specs.Changes.{seat_after}
+use Rattle.turns.specs.Lists.{Each}
+use Rattle.turns.proofs.Frame.{learned_seat, learned_seats}
+use Rattle.turns.proofs.Runs.{learned_all-append, learned_all_seats, each-append}
+use Rattle.turns.proofs.Local.{each_move}
 use Rattle.turns.specs.Acts.{AreFirst, Counts, whole_act, order}
 use Rattle.turns.specs.Turn.{Visit, visit_events, visits_events, IsTurnBy}
 use Rattle.waiting.specs.Sessions.{Deed, in_round, sessions_of, meals_of}

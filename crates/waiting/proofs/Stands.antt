@@ -11,10 +11,10 @@ use Rattle.legal_steps.specs.declared.event.Event.{Event}
 use Rattle.legal_steps.specs.declared.phase.JobState.{JobState}
 use Rattle.legal_steps.specs.State.{State, phase, idle_phase, no_seat}
 use Rattle.legal_steps.specs.Opening.{the_opening, idle_seat}
-use Rattle.locality.specs.History.{IsHistory, is_by, events_by, known_by, learned_all}
-use Rattle.locality.specs.AtTheEnd.{AllRetired}
-use Rattle.locality.specs.Lists.{StartsWith, Each}
-use Rattle.locality.proofs.Runs.{learned_all-append, learned_all_seats, opening_seats, each-append}
+use Rattle.turns.specs.History.{IsHistory, is_by, events_by, known_by, learned_all}
+use Rattle.turns.specs.AtTheEnd.{AllRetired}
+use Rattle.turns.specs.Lists.{StartsWith, Each}
+use Rattle.turns.proofs.Runs.{learned_all-append, learned_all_seats, opening_seats, each-append}
 use Rattle.edge_rule.specs.DeskView.{DeskView, BenchView, Owns, IsAtRest, known, fresh_desk, fresh_desks}
 use Rattle.edge_rule.specs.Company.{jobs_of, Distinct}
 use Rattle.edge_rule.specs.Ending.{Any, HasAll}
@@ -25,15 +25,15 @@ use Rattle.rounds.specs.Rounds.{Player, players_of, known_in, Round, Rounds, IsO
 use Rattle.rounds.proofs.Lists.{append_cancel}
 use Rattle.rounds.proofs.Together.{no_more}
 use Rattle.rounds.proofs.Driven.{all_of}
-use Rattle.round_laws.specs.QuietEnd.{jobs_in}
-use Rattle.round_laws.specs.OneRun.{RanRounds, why_ended}
-use Rattle.round_laws.specs.FromOpening.{fresh_players, opened}
-use Rattle.round_laws.proofs.InRounds.{OneTurn, round_one, rounds_jobs}
-use Rattle.round_laws.proofs.SameRun.{rounds_start, legal_from}
-use Rattle.round_laws.proofs.Opened.{players_fresh, all_players, players_once}
-use Rattle.round_laws.proofs.Going.{round_more}
-use Rattle.round_laws.proofs.QuietEnd.{no_quiet_end}
-use Rattle.round_laws.proofs.Fresh.{opened_own, opened_all, same_desks}
+use Rattle.rounds.specs.QuietEnd.{jobs_in}
+use Rattle.rounds.specs.OneRun.{RanRounds, why_ended}
+use Rattle.rounds.specs.FromOpening.{fresh_players, opened}
+use Rattle.rounds.proofs.InRounds.{OneTurn, round_one, rounds_jobs}
+use Rattle.rounds.proofs.SameRun.{rounds_start, legal_from}
+use Rattle.rounds.proofs.Opened.{players_fresh, all_players, players_once}
+use Rattle.rounds.proofs.Going.{round_more}
+use Rattle.rounds.proofs.QuietEnd.{no_quiet_end}
+use Rattle.rounds.proofs.Fresh.{opened_own, opened_all, same_desks}
 use Rattle.waiting.specs.Rounds.{joined, IsAfter}
 use Rattle.waiting.specs.Sessions.{in_round, deeds_from, deeds_of, sessions_of, meals_of}
 use Rattle.waiting.specs.Noting.{LogView, log_then, fresh_log, sessions_then, meals_then}

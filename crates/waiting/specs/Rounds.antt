@@ -4,8 +4,8 @@ use Rattle.std.specs.List.{flat_map}
 use Rattle.lab_plan.specs.LabPlan.{LabPlan}
 use Rattle.legal_steps.specs.declared.event.Event.{Event}
 use Rattle.rounds.specs.Rounds.{Player, Rounds}
-use Rattle.round_laws.specs.OneRun.{RanRounds, why_ended}
-use Rattle.round_laws.specs.FromOpening.{fresh_players}
+use Rattle.rounds.specs.OneRun.{RanRounds, why_ended}
+use Rattle.rounds.specs.FromOpening.{fresh_players}
 
 -- the events of rounds, one after another
 abbrev pub joined : List (List Event) → List Event

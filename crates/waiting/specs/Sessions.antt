@@ -2,7 +2,7 @@
 use Rattle.std.specs.Prelude.{ℕ, ◌+◌, Bool, true, false, List, [], ◌∷◌, ◌++◌, Option, None, Some, map, if◌then◌else◌}
 use Rattle.legal_steps.specs.declared.event.Event.{Event}
 use Rattle.legal_steps.specs.declared.event.Event.TheVariants.{Thirst, Hunger, Sit, Leave, Drink, Quit, Withdraw}
-use Rattle.locality.specs.History.{events_by}
+use Rattle.turns.specs.History.{events_by}
 use Rattle.waiting.specs.declared.session.Session.{Session}
 use Rattle.waiting.specs.declared.session.Meal.{Meal}
 

@@ -4,15 +4,15 @@ use Rattle.std.specs.List.{range_with_len}
 use Rattle.lab_plan.specs.LabPlan.{LabPlan}
 use Rattle.legal_steps.specs.declared.event.Event.{Event}
 use Rattle.legal_steps.specs.State.{phase}
-use Rattle.locality.specs.History.{IsHistory}
-use Rattle.locality.specs.Lists.{Each}
+use Rattle.turns.specs.History.{IsHistory}
+use Rattle.turns.specs.Lists.{Each}
 use Rattle.edge_rule.specs.DeskView.{DeskView, BenchView, Owns, known}
 use Rattle.edge_rule.specs.Company.{jobs_of}
 use Rattle.rounds.specs.declared.ended.Ended.{Ended}
 use Rattle.rounds.specs.declared.ended.Ended.TheVariants.{AllRetired, Quiet, Limit, NoMemory}
 use Rattle.rounds.specs.Company.{first_front, IsWhole}
 use Rattle.rounds.specs.Rounds.{Rounds, known_in, players_of}
-use Rattle.round_laws.specs.FromOpening.{fresh_players, opened}
+use Rattle.rounds.specs.FromOpening.{fresh_players, opened}
 use Rattle.waiting.specs.Rounds.{joined, IsAfter, AreRoundsOf}
 use Rattle.waiting.specs.Sessions.{deeds_of, sessions_of, meals_of}
 use Rattle.waiting.specs.Noting.{LogView, log_then}

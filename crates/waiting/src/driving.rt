@@ -1,6 +1,6 @@
 //! A bench that is driven one round at a time, and desks that are looked at after each.
 ghost use Rattle.std.specs.Prelude.{◌≡◌, length, replicate, IfOk, OnOk};
-ghost use Rattle.round_laws.specs.FromOpening.{opened};
+ghost use Rattle.rounds.specs.FromOpening.{opened};
 ghost use Rattle.waiting.specs.Noting.{fresh_log};
 ghost use Rattle.waiting.specs.Waits.{IsRunOf};
 ghost use Rattle.waiting.specs.Watching.{Watched, logs_then, is_all_retired};

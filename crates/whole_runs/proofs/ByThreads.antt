@@ -10,11 +10,11 @@ use Rattle.edge_rule.specs.ClosedView.{ClosedView}
 use Rattle.edge_rule.specs.Ending.{Any, IsEnd}
 use Rattle.report.specs.Events.{retired_after}
 use Rattle.rounds.specs.Company.{first_front, all_retired}
-use Rattle.locality.specs.AtTheEnd.{AllRetired}
+use Rattle.turns.specs.AtTheEnd.{AllRetired}
 use Rattle.rounds.proofs.Driven.{all_of}
 use Rattle.rounds.proofs.Reasons.{retired_then}
-use Rattle.round_laws.specs.FromOpening.{opened}
-use Rattle.round_laws.proofs.Fresh.{each_any, fresh_one}
+use Rattle.rounds.specs.FromOpening.{opened}
+use Rattle.rounds.proofs.Fresh.{each_any, fresh_one}
 use Rattle.rounds.specs.declared.ended.Ended.{Ended}
 use Rattle.rounds.specs.declared.ended.Ended.TheVariants as reasons
 use Rattle.workers.specs.Driven.{Driven, Threaded}

@@ -6,8 +6,8 @@ use Rattle.instrument_log.specs.InstrumentLog.{LogView}
 use Rattle.legal_steps.specs.declared.event.Event.{Event}
 use Rattle.legal_steps.specs.declared.phase.JobState.{JobState}
 use Rattle.legal_steps.specs.Opening.{the_opening}
-use Rattle.locality.specs.History.{events_by}
-use Rattle.locality.specs.Patience.{Waited, no_wait}
+use Rattle.turns.specs.History.{events_by}
+use Rattle.turns.specs.Patience.{Waited, no_wait}
 use Rattle.turns.specs.Turns.{Group, AreGrouped, Stands, flat, but_glances}
 use Rattle.edge_rule.specs.DeskView.{DeskView}
 use Rattle.edge_rule.specs.ClosedView.{ClosedView}
@@ -15,7 +15,7 @@ use Rattle.legal_steps.specs.declared.counts.Counts.{Counts}
 use Rattle.edge_rule.specs.Ending.{IsEnd}
 use Rattle.report.specs.Report.{is_retired, jobs}
 use Rattle.report.specs.Events.{ShowsAlike, shown_after, retired_after}
-use Rattle.locality.specs.AtTheEnd.{AllRetired}
+use Rattle.turns.specs.AtTheEnd.{AllRetired}
 use Rattle.whole_runs.specs.Shown.{shown_in}
 use Rattle.whole_runs.specs.Turns.{TakesTurns}
 

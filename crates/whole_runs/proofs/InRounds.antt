@@ -6,8 +6,8 @@ use Rattle.lab_plan.specs.LabPlan.{LabPlan}
 use Rattle.legal_steps.specs.declared.event.Event.{Event}
 use Rattle.legal_steps.specs.Opening.{the_opening}
 use Rattle.legal_steps.specs.Run.{actor}
-use Rattle.locality.specs.History.{is_by, events_by}
-use Rattle.locality.specs.Lists.{StartsWith, Each}
+use Rattle.turns.specs.History.{is_by, events_by}
+use Rattle.turns.specs.Lists.{StartsWith, Each}
 use Rattle.edge_rule.specs.DeskView.{DeskView, BenchView}
 use Rattle.edge_rule.specs.ClosedView.{ClosedView}
 use Rattle.edge_rule.specs.Ending.{HasAll, IsEnd}
@@ -15,14 +15,14 @@ use Rattle.report.specs.Events.{retired_after}
 use Rattle.rounds.specs.declared.ended.Ended.{Ended}
 use Rattle.rounds.specs.declared.ended.Ended.TheVariants as reasons
 use Rattle.rounds.specs.Company.{first_front}
-use Rattle.locality.specs.AtTheEnd.{AllRetired}
+use Rattle.turns.specs.AtTheEnd.{AllRetired}
 use Rattle.rounds.specs.Rounds.{Drove, Why}
 use Rattle.rounds.proofs.Lists.{append_cancel, zip_each}
-use Rattle.round_laws.specs.OneRun.{RanRounds}
-use Rattle.round_laws.specs.FromOpening.{opened, fresh_players, DrivesFromOpening, NeverEndsQuiet}
-use Rattle.round_laws.proofs.Opened.{players_once}
-use Rattle.round_laws.proofs.Fresh.{each_any, fresh_player}
-use Rattle.round_laws.proofs.RoundTurns.{turns_in_rounds}
+use Rattle.rounds.specs.OneRun.{RanRounds}
+use Rattle.rounds.specs.FromOpening.{opened, fresh_players, DrivesFromOpening, NeverEndsQuiet}
+use Rattle.rounds.proofs.Opened.{players_once}
+use Rattle.rounds.proofs.Fresh.{each_any, fresh_player}
+use Rattle.rounds.proofs.RoundTurns.{turns_in_rounds}
 use Rattle.whole_runs.specs.Turns.{TakeTurns}
 use Rattle.whole_runs.specs.Runs.{IsRunInRounds}
 use Rattle.whole_runs.proofs.Ends.{taken, shows, not_retired}

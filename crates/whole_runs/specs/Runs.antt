@@ -9,8 +9,8 @@ use Rattle.edge_rule.specs.ClosedView.{ClosedView}
 use Rattle.report.specs.Events.{ShowsAlike, shown_after, retired_after}
 use Rattle.rounds.specs.declared.ended.Ended.{Ended}
 use Rattle.rounds.specs.declared.ended.Ended.TheVariants.{Quiet}
-use Rattle.round_laws.specs.OneRun.{RanRounds}
-use Rattle.round_laws.specs.FromOpening.{fresh_players}
+use Rattle.rounds.specs.OneRun.{RanRounds}
+use Rattle.rounds.specs.FromOpening.{fresh_players}
 use Rattle.whole_runs.specs.Turns.{TakeTurns}
 use Rattle.whole_runs.specs.Shown.{shown_in}
 

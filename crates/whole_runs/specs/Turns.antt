@@ -3,8 +3,8 @@ use Rattle.std.specs.Prelude.{◌≡◌, ℕ, ◌<◌, ◌≤◌, Bool, false, L
 use Rattle.lab_plan.specs.LabPlan.{LabPlan}
 use Rattle.legal_steps.specs.declared.event.Event.{Event}
 use Rattle.legal_steps.specs.Opening.{the_opening}
-use Rattle.locality.specs.History.{events_by}
-use Rattle.locality.specs.Patience.{Waited, no_wait}
+use Rattle.turns.specs.History.{events_by}
+use Rattle.turns.specs.Patience.{Waited, no_wait}
 use Rattle.turns.specs.Turns.{Group, AreGrouped, Stands, flat, but_glances}
 
 -- Job j took n turns in the run: without its Glances its events are these turns, one after another, from what it knows in the initial state on.

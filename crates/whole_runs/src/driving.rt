@@ -1,14 +1,14 @@
 //! Runs: a bench is opened, driven and closed.
 ghost use Rattle.std.specs.Prelude.{◌≡◌, ◌≤◌, IfOk};
-ghost use Rattle.locality.specs.Lists.{Each};
+ghost use Rattle.turns.specs.Lists.{Each};
 ghost use Rattle.edge_rule.specs.DeskView.{Owns};
 ghost use Rattle.edge_rule.specs.Ending.{HasAll, IsEnd};
-ghost use Rattle.round_laws.specs.FromOpening.{opened};
+ghost use Rattle.rounds.specs.FromOpening.{opened};
 ghost use Rattle.whole_runs.specs.Runs.{IsRunByTurns, IsRunInRounds};
 
 use edge_rule::{Bench, CloseCause, Closed, Desk};
 use lab_plan::Plan;
-use round_laws::laws::{drives_from_opening, never_ends_quiet};
+use rounds::laws::{drives_from_opening, never_ends_quiet};
 use rounds::{Ended, rounds};
 use std::alloc::{AllocError, Allocator};
 use std::sync::Wait;

@@ -3,8 +3,8 @@ use Rattle.std.proofs.Common.{◌≡◌, ◌==◌, ℕ, zero, suc, ◌<◌, cond
 use Rattle.std.specs.List.{swap}
 use Rattle.std.specs.List.Sorted.{IsPermutation}
 use Rattle.std.proofs.lemmas.List.Sorted.{IsPermutation-keeps, IsPermutation-sym, sum_by-IsPermutation}
-use Rattle.locality.specs.Lists.{Each}
-use Rattle.locality.proofs.Runs.{each_map}
+use Rattle.turns.specs.Lists.{Each}
+use Rattle.turns.proofs.Runs.{each_map}
 use Rattle.edge_rule.specs.Company.{Distinct}
 use Rattle.edge_rule.specs.Ending.{Any}
 use Rattle.edge_rule.proofs.Rosters.{seldom, apart}

@@ -1,6 +1,6 @@
 -- Desks before and after, one by one.
 use Rattle.std.proofs.Common.{◌≡◌, suc, List, [], ◌∷◌, ◌++◌, length, sym, ap, subst}
-use Rattle.locality.specs.Lists.{Each}
+use Rattle.turns.specs.Lists.{Each}
 use Rattle.edge_rule.specs.DeskView.{DeskView}
 use Rattle.workers.specs.Pairs.{Pairs}
 

@@ -4,14 +4,14 @@ use Rattle.std.specs.List.Sorted.{IsPermutation, IsNonDecreasingBy}
 use Rattle.std.proofs.lemmas.List.Sorted.{IsPermutation-refl, IsPermutation-map}
 use Rattle.lab_plan.specs.LabPlan.{LabPlan}
 use Rattle.legal_steps.specs.declared.event.Event.{Event}
-use Rattle.locality.specs.History.{IsHistory}
-use Rattle.locality.specs.Lists.{StartsWith, Each}
-use Rattle.locality.proofs.Runs.{each_map}
-use Rattle.locality.proofs.Retired.{retired_on}
+use Rattle.turns.specs.History.{IsHistory}
+use Rattle.turns.specs.Lists.{StartsWith, Each}
+use Rattle.turns.proofs.Runs.{each_map}
+use Rattle.turns.proofs.Retired.{retired_on}
 use Rattle.edge_rule.specs.DeskView.{DeskView, BenchView, Owns, IsAtRest}
 use Rattle.edge_rule.specs.Company.{Hears, Met, Distinct, jobs_of}
 use Rattle.edge_rule.specs.Ending.{Any, HasAll}
-use Rattle.locality.specs.AtTheEnd.{AllRetired}
+use Rattle.turns.specs.AtTheEnd.{AllRetired}
 use Rattle.session_layer.specs.Grown.{TookTurns}
 use Rattle.session_layer.proofs.Grows as grows
 use Rattle.rounds.specs.Company.{first_front, all_retired}
@@ -19,7 +19,7 @@ use Rattle.rounds.proofs.Lists.{zip_each, any_each, starts_then}
 use Rattle.rounds.proofs.Driven.{Knows, met_knows, all_of}
 use Rattle.rounds.proofs.Reasons.{then_retired}
 use Rattle.legal_steps.specs.State.{drinking}
-use Rattle.locality.specs.History.{known_by}
+use Rattle.turns.specs.History.{known_by}
 use Rattle.session_layer.specs.Retired.{has_retired}
 use Rattle.workers.specs.Pairs.{Pairs}
 use Rattle.workers.proofs.Pairs.{pairs_each}

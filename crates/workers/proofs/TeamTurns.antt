@@ -1,12 +1,12 @@
 -- Lists of desks that took turns.
 use Rattle.std.proofs.Common.{take, drop, ◌≡◌, ℕ, zero, suc, ◌+◌, ◌-◌, max, ◌<◌, ◌≤◌, inl, inr, Bool, true, false, List, [], ◌∷◌, ◌++◌, length, get_or, set, refl, sym, ◌∙◌, subst, arith, add-one}
-use Rattle.locality.specs.Lists.{Each}
+use Rattle.turns.specs.Lists.{Each}
 use Rattle.edge_rule.proofs.Rosters.{any_left, any_right}
 use Rattle.edge_rule.specs.DeskView.{DeskView, BenchView, Owns}
 use Rattle.edge_rule.specs.Ending.{Any}
 use Rattle.session_layer.specs.Grown.{TookTurns}
 use Rattle.session_layer.proofs.Grows as grows
-use Rattle.locality.specs.AtTheEnd.{AllRetired}
+use Rattle.turns.specs.AtTheEnd.{AllRetired}
 use Rattle.session_layer.specs.Retired.{Glanced, glances}
 use Rattle.session_layer.proofs.Glances.{glances_none}
 use Rattle.std.proofs.lemmas.Bool.{false≢true}

@@ -1,9 +1,9 @@
 -- The turns of desks in the history that closing their bench gives.
 use Rattle.std.specs.Prelude.{◌≡◌, ℕ, ◌≤◌, false, List, ◌++◌}
 use Rattle.legal_steps.specs.declared.event.Event.{Event}
-use Rattle.locality.specs.History.{events_by}
-use Rattle.locality.specs.Lists.{Each}
-use Rattle.locality.specs.Patience.{Waited}
+use Rattle.turns.specs.History.{events_by}
+use Rattle.turns.specs.Lists.{Each}
+use Rattle.turns.specs.Patience.{Waited}
 use Rattle.edge_rule.specs.ClosedView.{ClosedView}
 use Rattle.edge_rule.specs.DeskView.{DeskView, BenchView, known, shown, waits}
 use Rattle.edge_rule.specs.Ending.{Any, IsEnd}

@@ -1,6 +1,6 @@
 -- For readers: desks that workers drive.
 use Rattle.std.specs.Prelude.{◌≡◌, ℕ, ◌<◌, true, false, List, [], ◌∷◌}
-use Rattle.locality.specs.Lists.{Each}
+use Rattle.turns.specs.Lists.{Each}
 use Rattle.edge_rule.specs.DeskView.{DeskView, BenchView}
 use Rattle.edge_rule.specs.Company.{jobs_of}
 use Rattle.edge_rule.specs.Ending.{Any, HasAll}

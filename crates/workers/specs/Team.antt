@@ -3,7 +3,7 @@ use Rattle.std.specs.Prelude.{◌≡◌, ◌⊎◌, ℕ, zero, suc, ◌<◌, ◌
 use Rattle.edge_rule.specs.DeskView.{DeskView}
 use Rattle.edge_rule.specs.Ending.{Any}
 use Rattle.session_layer.specs.Grown.{TookTurns}
-use Rattle.locality.specs.AtTheEnd.{AllRetired}
+use Rattle.turns.specs.AtTheEnd.{AllRetired}
 use Rattle.session_layer.specs.Retired.{Glanced, is_retired}
 use Rattle.workers.specs.Pairs.{Pairs}
 use Rattle.workers.specs.declared.halt.Halt.{Halt}

@@ -1,6 +1,6 @@
 //! The call that starts the workers, and what it answers.
 ghost use Rattle.std.specs.Prelude.{◌≡◌, ◌<◌, ◌≤◌, length};
-ghost use Rattle.locality.specs.Lists.{Each};
+ghost use Rattle.turns.specs.Lists.{Each};
 ghost use Rattle.edge_rule.specs.DeskView.{Owns};
 ghost use Rattle.edge_rule.specs.Ending.{HasAll};
 ghost use Rattle.workers.specs.Driven.{Threaded};

@@ -1,6 +1,6 @@
 //! The rounds of all desks that are left once the teams have ended.
 ghost use Rattle.std.specs.Prelude.{◌-◌};
-ghost use Rattle.locality.specs.Lists.{Each};
+ghost use Rattle.turns.specs.Lists.{Each};
 ghost use Rattle.edge_rule.specs.DeskView.{Owns};
 ghost use Rattle.workers.specs.Driven.{TookRest};
 

@@ -1,5 +1,5 @@
 //! One turn of each desk of a slice.
-ghost use Rattle.locality.specs.Lists.{Each};
+ghost use Rattle.turns.specs.Lists.{Each};
 ghost use Rattle.edge_rule.specs.DeskView.{Owns};
 ghost use Rattle.session_layer.specs.Grown.{TookTurns};
 ghost use Rattle.workers.specs.Pairs.{Pairs};

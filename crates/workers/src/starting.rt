@@ -1,7 +1,7 @@
 //! All teams, each on a thread of its own if one can be made.
 ghost use Rattle.std.specs.Prelude.{◌≡◌, ℕ, ◌<◌, ◌≤◌, ◌-◌, length};
 ghost use denote.Param.Send.{IsSync, IsSend, Frees};
-ghost use Rattle.locality.specs.Lists.{Each};
+ghost use Rattle.turns.specs.Lists.{Each};
 ghost use Rattle.edge_rule.specs.DeskView.{BenchView, Owns};
 ghost use Rattle.session_layer.specs.Grown.{TookTurns};
 ghost use Rattle.workers.specs.Pairs.{Pairs};

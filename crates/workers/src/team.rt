@@ -1,6 +1,6 @@
 //! A team's rounds.
 ghost use Rattle.std.specs.Prelude.{◌≡◌, ◌<◌, ◌-◌, length};
-ghost use Rattle.locality.specs.Lists.{Each};
+ghost use Rattle.turns.specs.Lists.{Each};
 ghost use Rattle.edge_rule.specs.DeskView.{Owns};
 ghost use Rattle.session_layer.specs.Grown.{TookTurns};
 ghost use Rattle.workers.specs.Pairs.{Pairs};

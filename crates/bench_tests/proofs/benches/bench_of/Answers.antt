@@ -1,6 +1,6 @@
 use Rattle.std.proofs.Common.{length, sym, subst}
 use Rattle.lab_plan.specs.LabPlan.{LabPlan}
-use Rattle.locality.specs.Lists.{Each}
+use Rattle.turns.specs.Lists.{Each}
 use Rattle.edge_rule.specs.DeskView.{BenchView, Owns, fresh_desks}
 use Rattle.bench_tests.proofs.Owning.{opened}
 use Rattle.bench_tests.proofs.benches.bench_of.Goals as goal

@@ -1,5 +1,5 @@
 -- the desks are at their bench
-use Rattle.locality.specs.Lists.{Each}
+use Rattle.turns.specs.Lists.{Each}
 use Rattle.edge_rule.specs.DeskView.{Owns}
 use Rattle.bench_tests.proofs.calls.do_all.Given as goal
 

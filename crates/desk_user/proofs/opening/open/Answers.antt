@@ -1,5 +1,5 @@
 use Rattle.std.proofs.Common.{sym, subst}
-use Rattle.locality.specs.Lists.{Each}
+use Rattle.turns.specs.Lists.{Each}
 use Rattle.edge_rule.specs.DeskView.{BenchView, Owns}
 use Rattle.edge_rule.specs.Ending.{HasAll}
 use Rattle.desk_user.proofs.Owned.{opened_own, opened_all, opened_as}

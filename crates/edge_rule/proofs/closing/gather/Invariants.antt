@@ -1,6 +1,6 @@
 use Rattle.std.proofs.Common.{◌≡◌, List, [], ◌++◌, vec_len}
 use Rattle.edge_rule.specs.DeskView.{DeskView}
-use Rattle.locality.specs.Lists.{Each}
+use Rattle.turns.specs.Lists.{Each}
 use Rattle.edge_rule.specs.Ending.{gathered, RestsInGroups}
 use Rattle.edge_rule.proofs.closing.gather.Given as goal
 

@@ -10,7 +10,7 @@ use Rattle.edge_rule.specs.ClosedView.{ClosedView}
 use Rattle.edge_rule.specs.ClosedInside.{AreWords}
 use Rattle.edge_rule.specs.DeskView.{DeskView, BenchView, Owns}
 use Rattle.edge_rule.specs.Ending.{HasAll, HasLegalLogs, IsEnd}
-use Rattle.locality.proofs.Runs.{each_map}
+use Rattle.turns.proofs.Runs.{each_map}
 use Rattle.edge_rule.proofs.Endings.{ends, words_fit, logs_fit}
 use Rattle.one_history.proofs.Seats.{enters}
 use Rattle.edge_rule.proofs.closing.taken_apart.Goals as goal

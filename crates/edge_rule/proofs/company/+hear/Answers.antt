@@ -8,10 +8,10 @@ use Rattle.atomic_table.specs.Seated.{TableId}
 use Rattle.atomic_table.specs.Table.{Me}
 use Rattle.instrument_log.specs.InstrumentLog.{LogView}
 use Rattle.edge_rule.specs.Company.{jobs_of}
-use Rattle.locality.specs.History.{events_by}
+use Rattle.turns.specs.History.{events_by}
 use Rattle.one_history.specs.Grow.{hand_in, IsLed, Grows, rest_hands, adding}
 use Rattle.one_history.specs.Seating.{glued, backed_right, taken_back}
-use Rattle.locality.specs.Lists.{Each, StartsWith}
+use Rattle.turns.specs.Lists.{Each, StartsWith}
 use Rattle.edge_rule.proofs.ManyHands.{split_first, some_left, row, apart_more, notices, backs, led_all, hands_then, grows_back, starts_there, whole_there, as_it_was, desk_still}
 use Rattle.one_history.proofs.Seats.{lends, glues, takes_back}
 use Rattle.edge_rule.proofs.company.+hear.Goals as goal

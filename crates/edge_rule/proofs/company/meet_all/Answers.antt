@@ -3,11 +3,11 @@ use Rattle.one_history.specs.declared.board.Hand.{Hand}
 use Rattle.edge_rule.specs.DeskView.{BenchView, DeskView, Owns, Adds}
 use Rattle.edge_rule.specs.DeskInside.{seat_view}
 use Rattle.edge_rule.specs.Company.{Met, Hears, Distinct, jobs_of}
-use Rattle.locality.specs.History.{events_by}
+use Rattle.turns.specs.History.{events_by}
 use Rattle.one_history.specs.Grow.{hand_in}
-use Rattle.locality.specs.Lists.{Each, StartsWith}
+use Rattle.turns.specs.Lists.{Each, StartsWith}
 use Rattle.edge_rule.proofs.DeskSteps.{seat_adds, desk_keeps}
-use Rattle.locality.proofs.Runs.{each_map}
+use Rattle.turns.proofs.Runs.{each_map}
 use Rattle.edge_rule.proofs.ManyHands.{split_first, some_left, apart_more}
 use Rattle.edge_rule.proofs.company.meet_all.Goals as goal
 

@@ -5,8 +5,8 @@ use Rattle.lab_plan.specs.LabPlan.{LabPlan}
 use Rattle.legal_steps.specs.declared.event.Event.TheVariants.{Glance}
 use Rattle.one_history.specs.declared.board.View.{View}
 use Rattle.one_history.specs.declared.board.Hand.{Hand}
-use Rattle.locality.specs.History.{events_by}
-use Rattle.locality.specs.Lists.{StartsWith}
+use Rattle.turns.specs.History.{events_by}
+use Rattle.turns.specs.Lists.{StartsWith}
 use Rattle.one_history.specs.Rule.{Kept}
 use Rattle.one_history.specs.Grow.{hand_in, IsLed, Grows, adding, glanced}
 use Rattle.one_history.specs.Seating.{glued, taken_back}

@@ -1,6 +1,6 @@
 use Rattle.std.proofs.Common.{◌≡◌, arith, [], refl, sym, ap, ◌∙◌, subst}
 use Rattle.one_history.specs.declared.board.View.{View}
-use Rattle.locality.specs.Lists.{StartsWith}
+use Rattle.turns.specs.Lists.{StartsWith}
 use Rattle.one_history.specs.Grow.{IsMine}
 use Rattle.one_history.specs.Seating.{glued}
 use Rattle.edge_rule.specs.Telling.{NewsView}

@@ -1,6 +1,6 @@
 use Rattle.std.proofs.Common.{arith, sym, ap, ◌∙◌, subst}
 use Rattle.lab_plan.specs.LabPlan.{LabPlan}
-use Rattle.locality.specs.History.{IsHistory}
+use Rattle.turns.specs.History.{IsHistory}
 use Rattle.one_history.specs.Grow.{hand_in}
 use Rattle.edge_rule.specs.DeskView.{BenchView}
 use Rattle.one_history.proofs.Seats.{notes}

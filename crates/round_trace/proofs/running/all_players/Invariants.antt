@@ -1,5 +1,5 @@
 use Rattle.std.proofs.Common.{◌≡◌}
-use Rattle.round_laws.specs.FromOpening.{fresh_players}
+use Rattle.rounds.specs.FromOpening.{fresh_players}
 use Rattle.round_trace.specs.Players.{players_of}
 use Rattle.round_trace.proofs.running.all_players.Given as goal
 

@@ -1,11 +1,11 @@
 use Rattle.std.proofs.Common.{◌≡◌, ◌↔◌, ◌≤◌, true, sym, ◌∙◌, subst, refl, arith}
 use Rattle.std.proofs.lemmas.Bool.{false≢true}
 use Rattle.lab_plan.specs.LabPlan.{LabPlan}
-use Rattle.locality.specs.History.{IsHistory}
-use Rattle.locality.specs.AtTheEnd.{AllRetired}
+use Rattle.turns.specs.History.{IsHistory}
+use Rattle.turns.specs.AtTheEnd.{AllRetired}
 use Rattle.rounds.specs.Rounds.{Round}
 use Rattle.round_trace.specs.Players.{players_of, AreJobs}
-use Rattle.round_laws.proofs.Going.{round_more}
+use Rattle.rounds.proofs.Going.{round_more}
 use Rattle.round_trace.proofs.Played.{are_jobs, ran, retired_in}
 use Rattle.round_trace.proofs.running.play.Goals as goal
 

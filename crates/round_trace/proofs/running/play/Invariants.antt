@@ -1,6 +1,6 @@
 use Rattle.std.proofs.Common.{◌≡◌, Bool, [], length}
 use Rattle.rounds.specs.Rounds.{Rounds}
-use Rattle.round_laws.specs.FromOpening.{fresh_players}
+use Rattle.rounds.specs.FromOpening.{fresh_players}
 use Rattle.round_trace.specs.Players.{players_of, StandsAt}
 use Rattle.round_trace.proofs.running.play.Given as goal
 

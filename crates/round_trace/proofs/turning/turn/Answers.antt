@@ -1,6 +1,6 @@
 use Rattle.std.proofs.Common.{ap, ◌∙◌}
 use Rattle.legal_steps.specs.declared.phase.JobState.{JobState}
-use Rattle.locality.specs.Patience.{is_waiting, waited_in}
+use Rattle.turns.specs.Patience.{is_waiting, waited_in}
 use Rattle.round_trace.specs.Players.{waits, waited_then}
 use Rattle.round_trace.proofs.OneTurn.{stands_on, turned_does, turned}
 use Rattle.round_trace.proofs.turning.turn.Goals as goal

@@ -8,7 +8,7 @@ use Rattle.edge_word.specs.Words.{IsOfBottles}
 use Rattle.edge_rule.specs.DeskView.{DeskView, BenchView, Owns, known}
 use Rattle.edge_rule.specs.Ending.{Any}
 use Rattle.edge_rule.specs.Company.{jobs_of}
-use Rattle.locality.specs.Lists.{Each}
+use Rattle.turns.specs.Lists.{Each}
 use Rattle.rounds.specs.Company.{seen_by}
 use Rattle.rounds.proofs.agreeing.+seen_by.Goals as goal
 

@@ -1,7 +1,7 @@
 use Rattle.std.proofs.Common.{ℕ, List, length, refl, sym, ◌∙◌, subst, arith, add-one}
 use Rattle.lab_plan.specs.LabPlan.{edges}
 use Rattle.rounds.specs.Company.{AllOf, IsAgreed}
-use Rattle.locality.specs.AtTheEnd.{BothKnow}
+use Rattle.turns.specs.AtTheEnd.{BothKnow}
 use Rattle.rounds.specs.Rounds.{Player, Rounds, players_of}
 use Rattle.rounds.proofs.Together.{company_of}
 use Rattle.rounds.proofs.Reasons.{ended_all, ended_quiet, ended_limit, going, agreed_then, then_agreed, quiet_then, quiet_else}

@@ -2,7 +2,7 @@
 use Rattle.std.proofs.Common.{◌≡◌, true, Bool, IsTrue, ◌↔◌}
 use Rattle.edge_rule.specs.Company.{jobs_of}
 use Rattle.rounds.specs.Company.{Spread, IsWhole}
-use Rattle.locality.specs.AtTheEnd.{BothKnow}
+use Rattle.turns.specs.AtTheEnd.{BothKnow}
 use Rattle.rounds.specs.Rounds.{Rounds, players_of}
 use Rattle.rounds.proofs.driving.play.Given as goal
 

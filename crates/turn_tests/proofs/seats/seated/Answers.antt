@@ -1,5 +1,5 @@
 use Rattle.std.proofs.Common.{subst}
-use Rattle.locality.specs.Lists.{Each}
+use Rattle.turns.specs.Lists.{Each}
 use Rattle.edge_rule.specs.DeskView.{Owns}
 use Rattle.turn_tests.proofs.Owned.{each_last}
 use Rattle.turn_tests.proofs.seats.seated.Goals as goal

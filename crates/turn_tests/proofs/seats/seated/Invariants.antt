@@ -1,5 +1,5 @@
 use Rattle.std.proofs.Common.{vec_len}
-use Rattle.locality.specs.Lists.{Each}
+use Rattle.turns.specs.Lists.{Each}
 use Rattle.edge_rule.specs.DeskView.{Owns}
 use Rattle.turn_tests.proofs.seats.seated.Given as goal
 

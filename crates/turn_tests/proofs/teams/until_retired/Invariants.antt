@@ -1,4 +1,4 @@
-use Rattle.locality.specs.Lists.{Each}
+use Rattle.turns.specs.Lists.{Each}
 use Rattle.edge_rule.specs.DeskView.{Owns}
 use Rattle.turn_tests.proofs.teams.until_retired.Given as goal
 

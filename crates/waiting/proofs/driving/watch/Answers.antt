@@ -1,6 +1,6 @@
 use Rattle.std.proofs.Common.{◌≡◌, ◌↔◌, ℕ, ◌+◌, Bool, true, List, refl, sym, subst, arith}
 use Rattle.edge_rule.specs.DeskView.{DeskView}
-use Rattle.locality.specs.AtTheEnd.{AllRetired}
+use Rattle.turns.specs.AtTheEnd.{AllRetired}
 use Rattle.rounds.specs.Rounds.{Drove}
 use Rattle.waiting.specs.Rounds.{joined}
 use Rattle.waiting.specs.Watching.{Stands, Watched}

@@ -5,9 +5,9 @@ use Rattle.edge_rule.specs.DeskView.{DeskView, BenchView}
 use Rattle.edge_rule.specs.Company.{jobs_of}
 use Rattle.edge_rule.specs.Ending.{HasAll, IsEnd}
 use Rattle.rounds.specs.Rounds.{Drove}
-use Rattle.round_laws.specs.FromOpening.{opened}
+use Rattle.rounds.specs.FromOpening.{opened}
 use Rattle.whole_runs.specs.Runs.{IsRunInRounds}
-use Rattle.round_laws.proofs.Fresh.{same_desks, written_back}
+use Rattle.rounds.proofs.Fresh.{same_desks, written_back}
 use Rattle.whole_runs.proofs.InRounds.{ran_in_rounds}
 use Rattle.whole_runs.proofs.driving.by_rounds.Goals as goal
 

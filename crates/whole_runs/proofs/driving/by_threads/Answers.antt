@@ -4,7 +4,7 @@ use Rattle.lab_plan.specs.LabPlan.{LabPlan}
 use Rattle.edge_rule.specs.DeskView.{DeskView, BenchView}
 use Rattle.edge_rule.specs.Ending.{IsEnd}
 use Rattle.rounds.specs.declared.ended.Ended.TheVariants as reasons
-use Rattle.round_laws.specs.FromOpening.{opened}
+use Rattle.rounds.specs.FromOpening.{opened}
 use Rattle.workers.specs.Driven.{Driven}
 use Rattle.whole_runs.specs.Runs.{IsRunByTurns}
 use Rattle.whole_runs.proofs.ByThreads.{driven, ran_by_turns}

@@ -1,10 +1,10 @@
 use Rattle.std.proofs.Common.{◌≡◌, length, sym, ap, ◌∙◌, subst}
 use Rattle.lab_plan.specs.LabPlan.{LabPlan}
-use Rattle.locality.specs.Lists.{Each}
+use Rattle.turns.specs.Lists.{Each}
 use Rattle.edge_rule.specs.DeskView.{BenchView, Owns, fresh_desks}
 use Rattle.edge_rule.specs.Ending.{HasAll}
-use Rattle.round_laws.specs.FromOpening.{opened}
-use Rattle.round_laws.proofs.Fresh.{opened_own, opened_all}
+use Rattle.rounds.specs.FromOpening.{opened}
+use Rattle.rounds.proofs.Fresh.{opened_own, opened_all}
 use Rattle.whole_runs.proofs.driving.open.Goals as goal
 
 pub returns-clause-own : goal.returns-clause-own

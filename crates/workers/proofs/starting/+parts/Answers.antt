@@ -1,5 +1,5 @@
 use Rattle.std.proofs.Common.{ℕ, List, ◌++◌, sym, subst}
-use Rattle.locality.specs.Lists.{Each}
+use Rattle.turns.specs.Lists.{Each}
 use Rattle.edge_rule.specs.DeskView.{DeskView, Owns}
 use Rattle.workers.specs.declared.halt.Halt.{Halt}
 use Rattle.workers.specs.declared.halt.Halt.TheVariants as halts

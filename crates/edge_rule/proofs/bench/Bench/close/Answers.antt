@@ -1,8 +1,8 @@
 use Rattle.std.proofs.Common.{◌≡◌, List, length, refl, sym, ap, ◌∙◌, subst}
 use Rattle.std.proofs.lemmas.Bool.{false≢true}
 use Rattle.lab_plan.specs.LabPlan.{LabPlan}
-use Rattle.locality.specs.Lists.{Each}
-use Rattle.locality.proofs.Runs.{each_map}
+use Rattle.turns.specs.Lists.{Each}
+use Rattle.turns.proofs.Runs.{each_map}
 use Rattle.edge_rule.specs.DeskView.{DeskView, BenchView, Owns}
 use Rattle.edge_rule.specs.Company.{Distinct, jobs_of}
 use Rattle.edge_rule.specs.Ending.{HasAll, AreCounted}

@@ -1,5 +1,0 @@
-use Rattle.locality.proofs.Changed.{changes_one_edge}
-use Rattle.locality.proofs.laws.changes_one_edge.Goals as goal
-
-pub returns : goal.returns
-returns c = changes_one_edge

@@ -1,5 +1,0 @@
-use Rattle.locality.proofs.Groups.{groups_change_one_seat_and_edge}
-use Rattle.locality.proofs.laws.groups_change_one_seat_and_edge.Goals as goal
-
-pub returns : goal.returns
-returns c = groups_change_one_seat_and_edge

@@ -1,5 +1,0 @@
-use Rattle.round_laws.proofs.QuietEnd.{no_quiet_end}
-use Rattle.round_laws.proofs.laws.no_quiet_end.Goals as goal
-
-pub returns : goal.returns
-returns c = no_quiet_end

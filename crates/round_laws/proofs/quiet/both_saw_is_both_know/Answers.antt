@@ -1,5 +1,0 @@
-use Rattle.round_laws.proofs.QuietRound.{both_saw_is_both_know}
-use Rattle.round_laws.proofs.quiet.both_saw_is_both_know.Goals as goal
-
-pub returns : goal.returns
-returns c = both_saw_is_both_know

@@ -1,5 +1,0 @@
-use Rattle.round_laws.proofs.QuietRound.{idle_job_knows_what_it_saw}
-use Rattle.round_laws.proofs.quiet.idle_job_knows_what_it_saw.Goals as goal
-
-pub returns : goal.returns
-returns c = idle_job_knows_what_it_saw

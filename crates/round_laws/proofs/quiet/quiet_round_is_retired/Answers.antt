@@ -1,5 +1,0 @@
-use Rattle.round_laws.proofs.QuietRound.{quiet_round_is_retired}
-use Rattle.round_laws.proofs.quiet.quiet_round_is_retired.Goals as goal
-
-pub returns : goal.returns
-returns c = quiet_round_is_retired

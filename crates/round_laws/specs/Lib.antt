@@ -1,6 +1,0 @@
-pub mod LastLooks
-pub mod QuietRound
-pub mod QuietEnd
-pub mod OneRun
-pub mod FromOpening
-pub mod FromRest
