@@ -1,7 +1,7 @@
 -- For readers: precedence among jobs, and its cycles.
 use Rattle.std.specs.Prelude.{◌≡◌, ◌⊎◌, ℕ, ◌<◌, true, length}
 use Rattle.lab_plan.specs.LabPlan.{LabPlan, edges}
-pub use Rattle.cycles.specs.Cycles.{HasNoCycle}
+pub use Rattle.cycles.specs.Cycles.{LeadsBackTo, IsCycleOf, HasNoCycle}
 use Rattle.legal_steps.specs.declared.phase.Dining.TheVariants.{Eating}
 use Rattle.legal_steps.specs.State.{State, fork, is_dirty, dining, opposite, job_at_end}
 
