@@ -24,7 +24,9 @@ and again: the exponent that fits best is told, 1.00 where the time grows as the
 doubled, which leaves that number as it is, 0.00 where it doesn't grow).
 
 With `instructions` it counts instead the instructions of `rounds`, of labrun and of the port, with valgrind's callgrind: of all
-turns, of the report, and of reading the script; and of whole runs by one thread and by rounds. They are the same at each run, whatever else the machine does. With
+turns, of the report, and of reading the script; and of whole runs by one thread and by rounds. They are the same at each run, whatever else
+the machine does. A second table has what one look at an edge takes where nothing has changed, and what one turn of a job without edges takes in
+which it does a command: differences of scripts that differ in the number of these alone. A third has the page faults of whole runs. With
 `instructions growth` it tells how those of the turns grow.
 
 Printed are ratios of runs, a line a workload, and their geometric means, with the goals; absolute times only at the end,
@@ -97,6 +99,10 @@ COUNTED = (
     ("report", {"labrun rounds": "showing::send_report", "port rounds": "shared::write_report"}, "entry", 0.90, None),
     ("reading", {"labrun rounds": "plan::read_plan", "port rounds": "shared::read_plan"}, "line", 1.15, None),
 )
+# the scripts by which single steps are counted: so many jobs, and as many commands of each in its last session
+STEP_JOBS, STEP_COMMANDS = 16, (200, 600)
+# the goal of one look where nothing has changed (at most)
+LOOK_GOAL = 9
 
 
 def build(folder):
@@ -276,6 +282,55 @@ def sizes_of(text):
     return {"command": commands, "entry": commands, "line": text.count("\n")}
 
 
+def step_script(shares, commands):
+    """Each job does one command on an instrument, in a session of its own, and then so many on an instrument of its own. If they share the first
+    instrument, each two of them have an edge, and nothing changes on it while the last sessions go on."""
+    lines = ["lab 1"]
+    for job in range(STEP_JOBS):
+        first = "shared" if shares else "own%d" % job
+        lines += ["job j%d" % job, "session", first + " add 1", "end", "session", *["own%d add 1" % job] * commands, "end"]
+    return "\n".join(lines) + "\n"
+
+
+def of_steps(folder, runs):
+    """The instructions of one turn with a command, of a job without edges, and of one look where nothing has changed."""
+    path, more = os.path.join(folder, "steps.lab"), STEP_COMMANDS[1] - STEP_COMMANDS[0]
+    turn, look = {}, {}
+    for run, function in TURN.items():
+        added = {}
+        for shares in (False, True):
+            spent = []
+            for commands in STEP_COMMANDS:
+                with open(path, "w") as out:
+                    out.write(step_script(shares, commands))
+                spent.append(counted(runs[run][0], function, path))
+            added[shares] = spent[1] - spent[0]
+        turn[run] = added[False] / (STEP_JOBS * more)
+        look[run] = (added[True] - added[False]) / (STEP_JOBS * (STEP_JOBS - 1) * more)
+    rows = [
+        ["a look where nothing has changed", *["%.1f" % look[run] for run in TURN], "%d" % LOOK_GOAL],
+        ["a turn with a command, of a job without edges", *["%.1f" % turn[run] for run in TURN], ""],
+    ]
+    table(["instructions of one step", *TURN, "goal, at most"], rows)
+
+
+def faults(words, data):
+    """The page faults of a whole run: the fewest of three."""
+    found = []
+    for _ in range(3):
+        with open(data, "rb") as source:
+            child = subprocess.Popen(words, stdin=source, stdout=subprocess.DEVNULL, stderr=subprocess.DEVNULL)
+            found.append(os.wait4(child.pid, 0)[2].ru_minflt)
+            child.returncode = 0
+    return min(found)
+
+
+def page_faults(made, runs):
+    names = ("labrun rounds", "port rounds", "blocking")
+    rows = [[name] + ["%d" % faults(runs[name][0], path) for _, path, _ in made] for name in names]
+    table(["page faults of a whole run"] + [name for name, _, _ in made], rows)
+
+
 def instructions(folder, runs, only):
     """What the turns, the report and the reading of each run by rounds take: labrun's as multiples of the port's, and of each by size."""
     made = scripts(folder, only)
@@ -299,6 +354,8 @@ def instructions(folder, runs, only):
             rows.append(["%s, %s, by %s" % (heading, run.split()[0], unit)] + told + ["", ""])
     rows.append([" / ".join(ONE_THREAD)] + ["%.2f" % ratio for ratio in by_one.values()] + ["%.2f" % mean(by_one.values()), "%.2f" % ONE_THREAD_GOAL])
     table(["instructions"] + list(spent) + ["mean", "goal, at most"], rows)
+    of_steps(folder, runs)
+    page_faults(made, runs)
 
 
 def main(words):

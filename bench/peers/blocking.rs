@@ -19,7 +19,7 @@ fn drive(plan: &Plan, job: usize, slots: &[Slot]) -> Counts {
             held[instrument] = Some(slots[instrument].0.lock().expect("a lock"));
             needs &= needs - 1;
         }
-        for command in &session.commands {
+        for command in &plan.commands[session.commands.clone()] {
             let log = held[command.instrument as usize].as_mut().expect("held");
             log.append(job, number + 1, command);
         }

@@ -37,7 +37,7 @@ fn drive(plan: &Plan, job: usize, broker: &Broker, slots: &[Slot]) -> Counts {
     let mut counts = Counts { retired: true, ..Counts::default() };
     for (number, session) in plan.jobs[job].iter().enumerate() {
         broker.take(session.needs);
-        for command in &session.commands {
+        for command in &plan.commands[session.commands.clone()] {
             // SAFETY: the broker gave this instrument to this job alone, until it is given back
             let log = unsafe { &mut *slots[command.instrument as usize].0.get() };
             log.append(job, number + 1, command);

@@ -7,7 +7,7 @@
 //! What makes it fast: an edge that is as last seen, while nothing was due there and the own phase is as it was then, is
 //! passed over after its load and one comparison; a worker whose round was all idle yields.
 mod shared;
-use shared::{Counts, Edge, Log, Plan, Times};
+use shared::{Command, Counts, Edge, Log, Plan, Times};
 use std::cell::UnsafeCell;
 use std::sync::atomic::{AtomicU64, Ordering::SeqCst};
 
@@ -64,6 +64,8 @@ struct Desk<'a> {
     drinking: u64,
     session: usize,
     position: usize,
+    /// the commands of the session
+    commands: &'a [Command],
     waited: u32,
     counts: Counts,
 }
@@ -92,6 +94,7 @@ fn open_desk<'a>(plan: &Plan, words: &'a [Word], job: usize) -> Desk<'a> {
         drinking: TRANQUIL,
         session: 0,
         position: 0,
+        commands: &[],
         waited: 0,
         counts: Counts::default(),
     }
@@ -104,7 +107,7 @@ enum Turned {
     Idle,
 }
 
-impl Desk<'_> {
+impl<'a> Desk<'a> {
     /// The marks that a look at a word, turned, sets.
     fn mark(&mut self, at: usize, here: u64) {
         let bit = 1u32 << at;
@@ -167,8 +170,10 @@ impl Desk<'_> {
     }
 
     /// Begins the next session: what it needs of each edge becomes a set of bottles.
-    fn thirst(&mut self, plan: &Plan) {
-        let needs = plan.jobs[self.job][self.session].needs;
+    fn thirst(&mut self, plan: &'a Plan) {
+        let session = &plan.jobs[self.job][self.session];
+        let needs = session.needs;
+        self.commands = &plan.commands[session.commands.clone()];
         self.session += 1;
         self.position = 0;
         self.drinking = THIRSTY;
@@ -190,7 +195,7 @@ impl Desk<'_> {
     }
 
     fn command(&mut self, bench: &Bench) {
-        let command = &bench.plan.jobs[self.job][self.session - 1].commands[self.position];
+        let command = &self.commands[self.position];
         self.drinking = REACHING;
         self.store(bench);
         // SAFETY: this job drinks, so it alone holds the instrument
@@ -211,10 +216,10 @@ impl Desk<'_> {
     }
 
     /// The first act that is legal; whether there was one.
-    fn act(&mut self, bench: &Bench, waited: u32) -> bool {
+    fn act(&mut self, bench: &Bench<'a>, waited: u32) -> bool {
         let own = &bench.plan.jobs[self.job];
         if self.drinking == DRINKING {
-            if self.position < own[self.session - 1].commands.len() {
+            if self.position < self.commands.len() {
                 self.command(bench);
                 return true;
             }
@@ -253,7 +258,7 @@ impl Desk<'_> {
         looks.map(|(k, (word, calm))| (from + k, word.load(SeqCst), calm)).find(|(_, word, calm)| word != *calm).map(|(at, word, _)| (at, word))
     }
 
-    fn turn(&mut self, bench: &Bench) -> Turned {
+    fn turn(&mut self, bench: &Bench<'a>) -> Turned {
         let (thirsty, waited) = (self.drinking == THIRSTY, self.waited);
         let (mut acted, mut lost) = (false, false);
         let mut from = 0;
@@ -284,7 +289,7 @@ impl Desk<'_> {
 }
 
 /// Rounds on one thread, a turn of every desk in each.
-fn rounds(bench: &Bench, desks: &mut [Desk], limit: u64) {
+fn rounds<'a>(bench: &Bench<'a>, desks: &mut [Desk<'a>], limit: u64) {
     for _ in 0..limit {
         if desks.iter().all(|desk| desk.counts.retired) {
             return;
@@ -296,7 +301,7 @@ fn rounds(bench: &Bench, desks: &mut [Desk], limit: u64) {
 }
 
 /// One worker: a turn of each of its desks in each round, until its turns are used or every job is retired.
-fn work(bench: &Bench, mut desks: Vec<&mut Desk>, turns: u64) {
+fn work<'a>(bench: &Bench<'a>, mut desks: Vec<&mut Desk<'a>>, turns: u64) {
     for _ in 0..turns {
         let mut idle = true;
         for desk in desks.iter_mut() {
@@ -311,8 +316,8 @@ fn work(bench: &Bench, mut desks: Vec<&mut Desk>, turns: u64) {
     }
 }
 
-fn threads(bench: &Bench, desks: &mut [Desk], workers: usize, turns: u64) {
-    let mut teams: Vec<Vec<&mut Desk>> = (0..workers).map(|_| Vec::new()).collect();
+fn threads<'a>(bench: &Bench<'a>, desks: &mut [Desk<'a>], workers: usize, turns: u64) {
+    let mut teams: Vec<Vec<&mut Desk<'a>>> = (0..workers).map(|_| Vec::new()).collect();
     for desk in desks {
         teams[desk.job % workers].push(desk);
     }

@@ -22,7 +22,8 @@ pub struct Session {
     pub patience: Option<u32>,
     /// the instruments that it names, a bit for each
     pub needs: u64,
-    pub commands: Vec<Command>,
+    /// where its commands are among those of the plan
+    pub commands: std::ops::Range<usize>,
 }
 
 pub struct Edge {
@@ -38,21 +39,25 @@ pub struct Plan {
     pub job_names: Vec<String>,
     pub instrument_names: Vec<String>,
     pub jobs: Vec<Vec<Session>>,
+    /// the commands of all sessions, in the order of the script
+    pub commands: Vec<Command>,
     pub edges: Vec<Edge>,
     /// for each job the numbers of its edges, ascending
     pub edges_of: Vec<Vec<usize>>,
 }
 
 /// Places and length of a session's commands on each of its instruments.
-fn close(session: &mut Session) {
+fn close(session: &mut Session, commands: &mut Vec<Command>) {
     let mut counts = [0u32; 56];
-    for command in &mut session.commands {
+    session.commands.end = commands.len();
+    let own = &mut commands[session.commands.clone()];
+    for command in own.iter_mut() {
         let count = &mut counts[command.instrument as usize];
         *count += 1;
         command.place = *count;
         session.needs |= 1 << command.instrument;
     }
-    for command in &mut session.commands {
+    for command in own {
         command.length = counts[command.instrument as usize];
     }
 }
@@ -103,14 +108,15 @@ pub fn read_plan(text: &str) -> Plan {
             }
             "session" => {
                 let patience = fields.nth(1).map(|digits| digits.parse().expect("a number"));
-                let session = Session { patience, needs: 0, commands: Vec::new() };
+                let from = plan.commands.len();
+                let session = Session { patience, needs: 0, commands: from..from };
                 plan.jobs.last_mut().expect("a job").push(session);
             }
-            "end" => close(plan.jobs.last_mut().and_then(|own| own.last_mut()).expect("a session")),
+            "end" => close(plan.jobs.last_mut().and_then(|own| own.last_mut()).expect("a session"), &mut plan.commands),
             name => {
                 let verb = fields.next().expect("a verb");
                 let found = command(&mut plan, &mut numbers, name, verb, fields.next());
-                plan.jobs.last_mut().and_then(|own| own.last_mut()).expect("a session").commands.push(found);
+                plan.commands.push(found);
             }
         }
     }
@@ -145,7 +151,7 @@ impl Log {
 
 pub fn empty_logs(plan: &Plan) -> Vec<Log> {
     let mut rooms = vec![0; plan.instrument_names.len()];
-    for command in plan.jobs.iter().flatten().flat_map(|session| &session.commands) {
+    for command in &plan.commands {
         rooms[command.instrument as usize] += 1;
     }
     rooms.into_iter().map(|room| Log { entries: Vec::with_capacity(room), dial: 0 }).collect()
