@@ -1,12 +1,10 @@
 -- Counts of all sessions of a job are together those of the whole run.
-use Rattle.std.proofs.Common.{◌≡◌, ◌⊎◌, ℕ, zero, suc, ◌+◌, ◌-◌, ◌==◌, ◌<◌, ◌≤◌, Bool, true, false, ◌&&◌, List, [], ◌∷◌, length, refl, sym, ap, ◌∙◌, inl, inr, arith, if◌then◌else◌}
+use Rattle.std.proofs.Common.{◌≡◌, ℕ, zero, suc, ◌+◌, ◌-◌, ◌==◌, ◌<◌, ◌≤◌, Bool, true, false, ◌&&◌, List, length, refl, sym, ap, ◌∙◌, inl, inr, arith, if◌then◌else◌}
 use Rattle.std.specs.List.{sum_by, range_with_len}
 use Rattle.std.proofs.lemmas.Bool.{cases_eq, eq-eqb, ne_eqb}
 use Rattle.std.proofs.lemmas.List.Sums.{sum_by-cons}
 use Rattle.lab_plan.specs.LabPlan.{LabPlan, sessions, session_names}
 use Rattle.legal_steps.specs.declared.event.Event.{Event}
-use Rattle.legal_steps.specs.declared.end.End.{End}
-use Rattle.legal_steps.specs.declared.phase.JobState.{JobState}
 use Rattle.legal_steps.specs.declared.phase.Drinking.{Drinking}
 use Rattle.legal_steps.specs.declared.phase.Drinking.TheVariants.{Tranquil, Thirsty, Drinking as Drinks, Reaching, Retired}
 use Rattle.legal_steps.specs.Fitting.{IsPhaseOf}
@@ -15,7 +13,6 @@ use Rattle.legal_steps.specs.Legal.{instrument_of}
 use Rattle.turns.specs.History.{IsHistory}
 use Rattle.turns.specs.Patience.{is_waiting}
 use Rattle.rounds.specs.Rounds.{known_in}
-use Rattle.waiting.specs.Rounds.{AreRoundsOf}
 use Rattle.blocking.specs.declared.places.Place.{Place}
 use Rattle.blocking.specs.Waiting.{waits_at, waits_for}
 use Rattle.blocking.specs.Blocks.{history_after, rounds_where, is_blocked, is_held}

@@ -1,10 +1,9 @@
 -- Counts that are cleared one by one.
 use Rattle.std.proofs.Common.{◌≡◌, ℕ, zero, suc, ◌+◌, ◌<◌, ◌≤◌, List, [], ◌∷◌, ◌++◌, length, map, ◌==◌, Bool, true, false, if◌then◌else◌, take, drop, get_or, set, refl, sym, ap, ◌∙◌, arith, add-one, append-nil}
-use Rattle.std.specs.List.{All}
 use Rattle.std.proofs.lemmas.List.{take_all, drop_all, length-map}
 use Rattle.lab_plan.specs.LabPlan.{LabPlan}
 use Rattle.block_lines.specs.declared.block.Block.{Block}
-use Rattle.blocking.specs.Watching.{IsPlace}
+use Rattle.blocking.specs.Blocks.{places_of}
 use Rattle.blocking.specs.Tallying.{TallyView, FitsTally, cleared, kept_then, moved_to}
 
 abbrev so_far : List Block → ℕ → List Block
@@ -27,14 +26,12 @@ all_cleared l n all =
     ap (λ z. map cleared (take n l) ++ z) (drop_all n l all)
     ∙ (append-nil (map cleared (take n l)) ∙ ap (map cleared) (take_all n l all))
 
--- a tally that goes on to another session counts at the same places
-abbrev pub Placed : LabPlan → TallyView → Type 0
-Placed plan y = All (IsPlace plan) y.places × (length y.blocks ≡ length y.places)
+-- a tally that goes on to another session counts at as many places
+moved_if : (plan : LabPlan) (j s : ℕ) (x : TallyView) → FitsTally plan j x → (b : Bool)
+    → length (if b then x else record { session = s; blocks = map cleared x.blocks; kept = kept_then x.session x.blocks x.kept }).blocks
+    ≡ length (places_of plan j)
+moved_if plan j s x f true = f.many
+moved_if plan j s x f false = length-map x.blocks cleared ∙ f.many
 
-moved_if : (plan : LabPlan) (s : ℕ) (x : TallyView) → FitsTally plan x → (b : Bool)
-    → Placed plan (if b then x else record { session = s; places = x.places; blocks = map cleared x.blocks; kept = kept_then x.session x.blocks x.kept })
-moved_if plan s x f true = (f.places, f.many)
-moved_if plan s x f false = (f.places, length-map x.blocks cleared ∙ f.many)
-
-pub moved_fits : (plan : LabPlan) (s : ℕ) (x : TallyView) → FitsTally plan x → Placed plan (moved_to s x)
-moved_fits plan s x f = moved_if plan s x f (x.session == s)
+pub moved_fits : (plan : LabPlan) (j s : ℕ) (x : TallyView) → FitsTally plan j x → length (moved_to s x).blocks ≡ length (places_of plan j)
+moved_fits plan j s x f = moved_if plan j s x f (x.session == s)

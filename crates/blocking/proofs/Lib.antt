@@ -4,6 +4,7 @@ pub mod Desks
 pub mod Sees
 pub mod Known
 pub mod OneMore
+pub mod FromHere
 pub mod Rises
 pub mod OfSessions
 pub mod Tallies
@@ -12,3 +13,4 @@ pub mod AddUp
 pub mod Clearing
 pub mod Changing
 pub mod KeptRuns
+pub mod Waited

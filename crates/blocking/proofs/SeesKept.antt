@@ -1,8 +1,7 @@
 -- Desks after rounds, and what their tallies tell.
-use Rattle.std.proofs.Common.{◌≡◌, ℕ, zero, suc, ◌+◌, ◌<◌, ◌≤◌, Bool, List, [], ◌∷◌, length, map, take, replicate, get_or, refl, sym, ap, ◌∙◌, subst, arith}
+use Rattle.std.proofs.Common.{◌≡◌, ℕ, ◌+◌, ◌<◌, ◌≤◌, Bool, List, length, map, replicate, sym, ap, ◌∙◌, subst, arith}
 use Rattle.std.specs.List.{range_with_len}
 use Rattle.std.proofs.lemmas.List.FromFn.{get_or-map-range_with_len, length-map-range_with_len}
-use Rattle.lab_plan.specs.LabPlan.{LabPlan}
 use Rattle.legal_steps.specs.declared.event.Event.{Event}
 use Rattle.legal_steps.specs.State.{session}
 use Rattle.turns.specs.Lists.{StartsWith}
@@ -16,9 +15,8 @@ use Rattle.waiting.specs.Noting.{LogView, fresh_log}
 use Rattle.waiting.specs.Watching.{logs_then, Stands, Watched}
 use Rattle.waiting.proofs.Stands.{begins, stands_then}
 use Rattle.blocking.specs.Blocks.{history_after}
-use Rattle.blocking.specs.Keepers.{keepers_of}
 use Rattle.blocking.specs.Watching.{AreHeld}
-use Rattle.blocking.specs.Tallying.{TallyView, FitsTally, tally_at, no_tally, fresh_tally, tally_then, noted_then, put_away, EachThen, Tallied}
+use Rattle.blocking.specs.Tallying.{TallyView, FitsTally, tally_at, no_tally, fresh_tally, tally_then, noted_then, EachThen, Tallied}
 use Rattle.blocking.proofs.Counts.{all_joined}
 use Rattle.blocking.proofs.Sees.{same_history, starts, legal_at, nil_of}
 use Rattle.blocking.proofs.Tallies.{Tells, fits, fresh_tells, tells_then, put_away_all, same_keepers}
@@ -70,15 +68,15 @@ module _ (b : BenchView) (n : ℕ) (desks : List DeskView) (held : List ℕ) (lo
         many = each.many ∙ s.many;
         tell = λ j inside. subst (Tells plan now j)
             (sym (each.each j (let q = s.many in omega (arith, inside, q))
-            ∙ ap (λ h. tally_then plan h held after (session (known_in plan h j) j) (tally_at tallies j)) t.front))
+            ∙ ap (λ h. tally_then plan h held after j (session (known_in plan h j) j) (tally_at tallies j)) t.front))
             (tells_then plan old now n old_long new_long same small held after s.held_is (subst (λ h. AreHeld plan h after) t.front after_is)
             t.legal grown (starts old) j inside (tally_at tallies j) (s.tell j inside));
       }
 
-  pub all_fit : (j : ℕ) → j < length tallies → FitsTally b.plan (tally_at tallies j)
+  pub all_fit : (j : ℕ) → j < length tallies → FitsTally b.plan j (tally_at tallies j)
   all_fit j there = let q = s.many in
       let inside : j < length b.plan.jobs = omega (arith, there, q) in
-      fits b.plan s.stands.rounds j (tally_at tallies j) inside (s.tell j inside)
+      fits b.plan s.stands.rounds j (tally_at tallies j) (s.tell j inside)
 
   -- at the end
   pub sees_all : (limit : ℕ) (retired : Bool) → Watched b.plan limit n retired logs → Tallied b.plan limit n retired logs tallies

@@ -1,10 +1,10 @@
 -- Tallies after rounds.
-use Rattle.std.proofs.Common.{◌≡◌, ◌⊎◌, ℕ, zero, suc, ◌+◌, ◌-◌, ◌==◌, ◌<◌, ◌≤◌, Bool, true, false, if◌then◌else◌, List, [], ◌∷◌, length, map, take, get_or, set, replicate, refl, sym, ap, ◌∙◌, subst, inl, inr, arith, length-set}
+use Rattle.std.proofs.Common.{◌≡◌, ℕ, zero, suc, ◌+◌, ◌-◌, ◌==◌, ◌<◌, ◌≤◌, Bool, true, false, if◌then◌else◌, List, [], ◌∷◌, length, map, take, get_or, set, replicate, refl, sym, ap, ◌∙◌, inl, inr, arith, length-set}
 use Rattle.std.specs.List.{All, range_with_len}
-use Rattle.std.proofs.lemmas.Bool.{cases_eq, eq-eqb, ne_eqb}
+use Rattle.std.proofs.lemmas.Bool.{cases_eq, eq-eqb}
 use Rattle.std.proofs.lemmas.Bool.Decides.{nat_tests}
 use Rattle.std.proofs.lemmas.List.{get_or-set_same, get_or-set_other, length-map, length-replicate, get_or-replicate}
-use Rattle.std.proofs.lemmas.List.Elements.{All-weaker, All-same}
+use Rattle.std.proofs.lemmas.List.Elements.{All-weaker}
 use Rattle.std.proofs.lemmas.List.FromFn.{fill_by_all}
 use Rattle.lab_plan.specs.LabPlan.{LabPlan, sessions}
 use Rattle.legal_steps.specs.declared.event.Event.{Event}
@@ -13,34 +13,31 @@ use Rattle.legal_steps.specs.Opening.{idle_seat}
 use Rattle.turns.specs.History.{IsHistory}
 use Rattle.turns.specs.Lists.{StartsWith}
 use Rattle.rounds.specs.Rounds.{known_in}
-use Rattle.block_lines.specs.declared.block.Block.{Block}
 use Rattle.block_lines.specs.Largest.{largest_three}
 use Rattle.block_lines.specs.Ranking.{count_at, ranked_below}
 use Rattle.block_lines.specs.Sums.{rounds_of}
 use Rattle.block_lines.specs.Text.{block_at}
 use Rattle.waiting.specs.Rounds.{joined}
 use Rattle.blocking.specs.declared.places.Place.{Place}
-use Rattle.blocking.specs.Blocks.{history_after, block_of, places_of}
+use Rattle.blocking.specs.Blocks.{history_after, places_of}
 use Rattle.blocking.specs.Keepers.{session_block, keepers, keepers_of}
-use Rattle.blocking.specs.Watching.{AreHeld, IsPlace, blocks_then}
+use Rattle.blocking.specs.Watching.{AreHeld, blocks_then}
 use Rattle.blocking.specs.Tallying.{TallyView, FitsTally, fresh_tally, kept_then, put_away, cleared, moved_to, counted_on, tally_then}
-use Rattle.blocking.proofs.Placing.{IsPlaceOf, places_of_job, all_of_job, neighbour_inside}
+use Rattle.blocking.proofs.Placing.{IsPlaceOf, places_of_job, neighbour_inside}
 use Rattle.blocking.proofs.Rises.{rises, within}
-use Rattle.blocking.proofs.OfSessions.{none_yet, all_more, all_same, all_cleared, same_sessions}
+use Rattle.blocking.proofs.OfSessions.{all_more, all_same, all_cleared, same_sessions}
 
 -- what a tally of job j tells of these rounds
 pub record Tells (plan : LabPlan) (rounds : List (List Event)) (j : ℕ) (x : TallyView) : Type 0 where
-  pub places : x.places ≡ places_of plan j
   pub session : x.session ≡ session (known_in plan (joined rounds) j) j
   pub there : x.session ≤ length (sessions plan j)
   pub blocks : x.blocks ≡ map (session_block plan rounds x.session) (places_of plan j)
   pub many : length x.kept ≡ length (sessions plan j)
   pub kept : (i : ℕ) → i < length (sessions plan j) → ¬ (i + 1 ≡ x.session) → get_or x.kept i [] ≡ keepers plan rounds j (i + 1)
 
-pub fits : (plan : LabPlan) (rounds : List (List Event)) (j : ℕ) (x : TallyView) → j < length plan.jobs → Tells plan rounds j x → FitsTally plan x
-fits plan rounds j x inside t = record {
-  places = All-same (IsPlace plan) x.places (places_of plan j) t.places (all_of_job plan j inside);
-  many = ap length t.blocks ∙ (length-map (places_of plan j) (session_block plan rounds x.session) ∙ sym (ap length t.places));
+pub fits : (plan : LabPlan) (rounds : List (List Event)) (j : ℕ) (x : TallyView) → Tells plan rounds j x → FitsTally plan j x
+fits plan rounds j x t = record {
+  many = ap length t.blocks ∙ length-map (places_of plan j) (session_block plan rounds x.session);
   there = let a = t.there in let b = t.many in omega (arith, a, b);
 }
 
@@ -108,7 +105,6 @@ module _ (plan : LabPlan) where
 
   pub fresh_tells : (j : ℕ) → Tells plan [] j (fresh_tally plan j)
   fresh_tells j = record {
-    places = refl;
     session = sym (idle_at (length plan.jobs) j);
     there = omega arith;
     blocks = refl;
@@ -128,7 +124,6 @@ module _ (plan : LabPlan) (old new : List (List Event)) (n : ℕ) (old_long : le
 
   -- in the session in which the round ended, and nothing of this round is counted yet
   record Moved (y : TallyView) : Type 0 where
-    places : y.places ≡ places_of plan j
     session : y.session ≡ now
     blocks : y.blocks ≡ map (session_block plan old now) (places_of plan j)
     many : length y.kept ≡ length (sessions plan j)
@@ -136,10 +131,9 @@ module _ (plan : LabPlan) (old new : List (List Event)) (n : ℕ) (old_long : le
 
   module _ (x : TallyView) (t : Tells plan old j x) where
     moves : (b : Bool) → (x.session == now) ≡ b
-        → Moved (if b then x else record { session = now; places = x.places; blocks = map cleared x.blocks; kept = kept_then x.session x.blocks x.kept })
+        → Moved (if b then x else record { session = now; blocks = map cleared x.blocks; kept = kept_then x.session x.blocks x.kept })
     moves true is =
         let e : x.session ≡ now = grind (arith, nat_tests, is) in record {
-          places = t.places;
           session = e;
           blocks = t.blocks ∙ ap (λ s. map (session_block plan old s) (places_of plan j)) e;
           many = t.many;
@@ -149,7 +143,6 @@ module _ (plan : LabPlan) (old new : List (List Event)) (n : ℕ) (old_long : le
         let other : ¬ (x.session ≡ now) = grind (arith, nat_tests, is) in
         let was = t.session in let up = rises plan j (joined new) (joined old) grown inside in
         let less : x.session < now = omega (arith, other, was, up) in record {
-          places = t.places;
           session = refl;
           blocks = ap (map cleared) t.blocks ∙ all_cleared plan old x.session now j
               (λ k few. let q = rises plan j (joined old) (history_after old k) (starts k) inside in omega (arith, q, was, less))
@@ -166,19 +159,18 @@ module _ (plan : LabPlan) (old new : List (List Event)) (n : ℕ) (old_long : le
   near = All-weaker (IsPlaceOf plan j) (λ (x : Place). (neighbour plan x.job x.edge < length plan.jobs) × (x.job ≡ j))
       (λ x is. (neighbour_inside plan x is.0, is.1)) (places_of plan j) (places_of_job plan j inside)
 
-  counts : (y : TallyView) → Moved y → Tells plan new j (counted_on plan (joined new) before after y)
+  counts : (y : TallyView) → Moved y → Tells plan new j (counted_on plan (joined new) before after j y)
   counts y m = record {
-    places = m.places;
     session = m.session;
     there = let a = m.session in let b = (within plan (joined new) j legal inside).session_there in omega (arith, a, b);
-    blocks = (λ i. blocks_then plan (joined new) before after (m.places i) (m.blocks i))
+    blocks = ap (blocks_then plan (joined new) before after (places_of plan j)) m.blocks
         ∙ (all_more plan old new n old_long new_long same small before after held_before held_after now j refl (places_of plan j) near
         ∙ ap (λ s. map (session_block plan new s) (places_of plan j)) (sym m.session));
     many = m.many;
     kept = λ i there other. m.kept i there (λ e. other (e ∙ sym m.session)) ∙ keepers_same i (λ e. other (e ∙ sym m.session));
   }
 
-  pub tells_then : (x : TallyView) → Tells plan old j x → Tells plan new j (tally_then plan (joined new) before after now x)
+  pub tells_then : (x : TallyView) → Tells plan old j x → Tells plan new j (tally_then plan (joined new) before after j now x)
   tells_then x t = counts (moved_to now x) (moves x t (x.session == now) refl)
 
 -- rounds that lead to the same histories

@@ -1,9 +1,10 @@
 -- Desks that are looked at after each round, and what is counted then.
-use Rattle.std.specs.Prelude.{◌≡◌, ℕ, ◌<◌, nat_lt, Bool, ◌&&◌, List, [], ◌∷◌, length, slice_index_or, if◌then◌else◌}
+use Rattle.std.specs.Prelude.{◌≡◌, ℕ, zero, suc, ◌<◌, ◌==◌, nat_lt, Bool, true, ◌&&◌, List, [], ◌∷◌, length, slice_index_or, if◌then◌else◌}
+use Rattle.std.specs.Int.{bit_at}
 use Rattle.lab_plan.specs.LabPlan.{LabPlan, bottles}
 use Rattle.lab_plan.specs.InstrumentSets.{holds}
 use Rattle.legal_steps.specs.declared.event.Event.{Event}
-use Rattle.legal_steps.specs.State.{IsOwn, neighbour, phase}
+use Rattle.legal_steps.specs.State.{State, IsOwn, neighbour, phase}
 use Rattle.legal_steps.specs.Legal.{instrument_of}
 use Rattle.turns.specs.Patience.{one_more}
 use Rattle.edge_rule.specs.DeskView.{DeskView, known}
@@ -11,7 +12,7 @@ use Rattle.rounds.specs.Rounds.{known_in}
 use Rattle.block_lines.specs.declared.block.Block.{Block}
 use Rattle.blocking.specs.declared.places.Place.{Place}
 use Rattle.blocking.specs.Waiting.{waits_at, holds_in}
-use Rattle.blocking.specs.Blocks.{IsBlockedRun}
+use Rattle.blocking.specs.Blocks.{place, IsBlockedRun}
 
 -- a bottle of one of the job's edges
 pub record IsPlace (plan : LabPlan) (x : Place) : Type 0 where
@@ -38,13 +39,24 @@ pub record AreHeld (plan : LabPlan) (h : List Event) (sets : List ℕ) : Type 0 
   pub many : length sets ≡ length plan.jobs
   pub each : (j : ℕ) → j < length plan.jobs → (i : ℕ) → holds (set_at sets j) i ≡ holds_in plan j (phase (known_in plan h j) j) i
 
--- the neighbour holds the instrument when the job's turn is over, by what was held before the round and after it
+-- by this state of what it knows, job j waits for just the bottles of the edge that are in the set
+abbrev pub AreWaitedFor : LabPlan → State → ℕ → ℕ → ℕ → Type 0
+AreWaitedFor plan s j e set = (k : ℕ) → k < length (bottles plan e) → (bit_at set k == 1) ≡ waits_at plan s (place j e k)
+
+-- what the neighbour on an edge holds when the turn of job j is over, by what was held before the round and after it
+abbrev pub held_across : LabPlan → List ℕ → List ℕ → ℕ → ℕ → ℕ
+held_across plan before after j e = set_at (if nat_lt (neighbour plan j e) j then after else before) (neighbour plan j e)
+
+-- the neighbour holds the instrument then
 abbrev pub holds_then : LabPlan → List ℕ → List ℕ → Place → Bool
-holds_then plan before after x =
-    holds (set_at (if nat_lt (neighbour plan x.job x.edge) x.job then after else before) (neighbour plan x.job x.edge)) (instrument_of plan x.edge x.bottle)
+holds_then plan before after x = holds (held_across plan before after x.job x.edge) (instrument_of plan x.edge x.bottle)
 
 abbrev pub counted_if : Bool → ℕ → ℕ
 counted_if b n = if b then one_more 4294967295 n else n
+
+-- what a round adds to the counts of a place of instrument i at which its job has waited, by what the neighbour held
+abbrev pub waited_then : ℕ → ℕ → Block → Block
+waited_then held i b = record b { rounds = counted_if true b.rounds; held = counted_if (holds held i) b.held }
 
 -- what a round adds to the counts of a place
 abbrev pub block_then : LabPlan → List Event → List ℕ → List ℕ → Place → Block → Block
@@ -57,6 +69,12 @@ abbrev pub blocks_then : LabPlan → List Event → List ℕ → List ℕ → Li
 blocks_then plan h before after [] blocks = blocks
 blocks_then plan h before after (x ∷ places) [] = []
 blocks_then plan h before after (x ∷ places) (b ∷ blocks) = block_then plan h before after x b ∷ blocks_then plan h before after places blocks
+
+-- at the places that stand from this number on
+abbrev pub counted_from : LabPlan → List Event → List ℕ → List ℕ → ℕ → List Place → List Block → List Block
+counted_from plan h before after zero places blocks = blocks_then plan h before after places blocks
+counted_from plan h before after (suc n) places [] = []
+counted_from plan h before after (suc n) places (b ∷ blocks) = b ∷ counted_from plan h before after n places blocks
 
 abbrev pub Counted : LabPlan → ℕ → ℕ → Bool → List Block → Type 0
 Counted plan limit number retired blocks = IsBlockedRun plan limit (record { number = number; retired = retired; blocks = blocks })

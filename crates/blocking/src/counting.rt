@@ -1,14 +1,14 @@
 //! What a round adds to the counts.
-ghost use Rattle.std.specs.Prelude.{◌≡◌, ◌<◌, ◌≢◌, length, nat_lt, replicate, map, [], IfOk, if◌then◌else◌};
+ghost use Rattle.std.specs.Prelude.{◌≡◌, ◌<◌, ◌≤◌, ◌+◌, length, map, [], IfOk};
 ghost use Rattle.std.specs.List.{All};
+ghost use Rattle.lab_plan.specs.LabPlan.{edges, bottles};
 ghost use Rattle.legal_steps.specs.State.{IsOwn, neighbour};
+ghost use Rattle.legal_steps.specs.Legal.{instrument_of};
 ghost use Rattle.rounds.specs.Company.{first_front};
-ghost use Rattle.rounds.specs.Rounds.{known_in};
-ghost use Rattle.blocking.specs.Blocks.{block_of};
-ghost use Rattle.blocking.specs.Waiting.{waits_at};
-ghost use Rattle.blocking.specs.Watching.{IsPlace, KnowAll, AreHeld, set_at, holds_then, counted_if, block_then, blocks_then};
+ghost use Rattle.blocking.specs.Blocks.{block_of, places_on, places_of, places};
+ghost use Rattle.blocking.specs.Watching.{IsPlace, KnowAll, AreHeld, held_across, counted_if, waited_then, blocks_then, counted_from};
 
-use crate::knowing::{has, held_by, instrument_at, waits_at};
+use crate::knowing::{has, held_by, instrument_at, is_in, waited_on};
 use crate::places::Place;
 use block_lines::Block;
 use edge_rule::Desk;
@@ -77,66 +77,105 @@ fn counted_if(counts: bool, count: u32) -> u32
     }
 }
 
-/// What the other job holds when the turn of a job is over. By the turns of a round, jobs in front of it have had theirs then, and
-/// those behind it haven't.
-fn set_when_turned(before: &[u64], after: &[u64], job: JobNo, other: JobNo) -> u64
-    requires before { other < length before.now }
-    requires after { other < length after.now }
-    ensures { result ≡ set_at (if nat_lt other job then after.now else before.now) other }
+/// What the neighbour on an edge holds when the turn of the job is over. By the turns of a round, jobs in front of it have had theirs
+/// then, and those behind it haven't.
+fn held_across<A: Allocator>(
+    plan: &Plan<A>,
+    before: &[u64],
+    after: &[u64],
+    job: JobNo,
+    edge: EdgeNo,
+) -> u64
+    requires before { length before.now ≡ length plan.now.jobs }
+    requires after { length after.now ≡ length plan.now.jobs }
+    requires own { IsOwn plan.now job edge }
+    ensures { result ≡ held_across plan.now before.now after.now job edge }
 {
+    let other = neighbour(plan, job, edge);
     let sets = if other.0 < job.0 { after } else { before };
     sets[other.0 as usize]
 }
 
-/// Whether the neighbour holds the instrument of the place when the turn of the place's job is over.
-fn holds_then<A: Allocator>(plan: &Plan<A>, before: &[u64], after: &[u64], place: Place) -> bool
-    requires before { length before.now ≡ length plan.now.jobs }
-    requires after { length after.now ≡ length plan.now.jobs }
-    requires place { IsPlace plan.now place }
-    ensures { result ≡ holds_then plan.now before.now after.now place }
-{
-    let Place { job, edge, bottle } = place;
-    let other = neighbour(plan, job, edge);
-    has(
-        set_when_turned(before, after, job, other),
-        instrument_at(plan, edge, bottle),
-    )
-}
-
-/// Whether the place's job waits there after the round.
-fn waits_now<A: Allocator>(plan: &Plan<A>, desks: &[Desk<A>], place: Place) -> bool
-    requires desks { KnowAll plan.now (first_front desks.now) desks.now }
-    requires place { IsPlace plan.now place }
-    ensures { result ≡ waits_at plan.now (known_in plan.now (first_front desks.now) place.job) place }
-{
-    let desk = &desks[place.job.0 as usize];
-    waits_at(plan, desk, place)
-}
-
-/// The counts of a place after a round.
+/// The counts of a place at which the job has waited in a round, by what its neighbour held.
 fn counted<A: Allocator>(
+    plan: &Plan<A>,
+    edge: EdgeNo,
+    bottle: u32,
+    held: u64,
+    block: Block,
+) -> Block
+    requires edge { edge < length (edges plan.now) }
+    requires bottle { bottle < length (bottles plan.now edge) }
+    ensures { result ≡ waited_then held (instrument_of plan.now edge bottle) block }
+{
+    let is_held = has(held, instrument_at(plan, edge, bottle));
+    Block {
+        rounds: counted_if(true, block.rounds),
+        held: counted_if(is_held, block.held),
+        ..block
+    }
+}
+
+/// Counts a round at each bottle of a job's edge, from this place on. If the job waits for none of them, the edge is passed over.
+/// Answers where the bottles of the next edge begin.
+fn count_on<A: Allocator>(
     plan: &Plan<A>,
     desks: &[Desk<A>],
     before: &[u64],
     after: &[u64],
-    place: &Place,
-    block: Block,
-) -> Block
+    job: JobNo,
+    edge: EdgeNo,
+    from: usize,
+    blocks: &mut [Block],
+) -> usize
     requires desks { KnowAll plan.now (first_front desks.now) desks.now }
     requires before { length before.now ≡ length plan.now.jobs }
     requires after { length after.now ≡ length plan.now.jobs }
-    requires place { IsPlace plan.now place.now }
-    ensures { result ≡ block_then plan.now (first_front desks.now) before.now after.now place.now block }
+    requires job { job < length plan.now.jobs }
+    requires own { IsOwn plan.now job edge }
+    requires room { from + length (bottles plan.now edge) ≤ length blocks.old }
+    ensures next { result ≡ from + length (bottles plan.now edge) }
+    ensures counted { blocks.new ≡ counted_from plan.now (first_front desks.now) before.now after.now from (places_on plan.now job edge) blocks.old }
 {
-    if !waits_now(plan, desks, *place) {
-        return block;
+    let next = from + plan.bottles(edge) as usize;
+    let waited = waited_on(plan, &desks[job.0 as usize], edge);
+    if waited == 0 {
+        return next;
     }
-    let held = holds_then(plan, before, after, *place);
-    Block {
-        rounds: counted_if(true, block.rounds),
-        held: counted_if(held, block.held),
-        ..block
+    let held = held_across(plan, before, after, job, edge);
+    for bottle in 0..plan.bottles(edge) {
+        if is_in(waited, bottle) {
+            let at = from + bottle as usize;
+            blocks[at] = counted(plan, edge, bottle, held, blocks[at]);
+        }
     }
+    next
+}
+
+/// Counts a round at each place of a job, from this one on. Answers where those of the next job begin.
+pub(crate) fn count_job<A: Allocator>(
+    plan: &Plan<A>,
+    desks: &[Desk<A>],
+    before: &[u64],
+    after: &[u64],
+    job: JobNo,
+    from: usize,
+    blocks: &mut [Block],
+) -> usize
+    requires desks { KnowAll plan.now (first_front desks.now) desks.now }
+    requires before { length before.now ≡ length plan.now.jobs }
+    requires after { length after.now ≡ length plan.now.jobs }
+    requires job { job < length plan.now.jobs }
+    requires room { from + length (places_of plan.now job) ≤ length blocks.old }
+    ensures next { result ≡ from + length (places_of plan.now job) }
+    ensures counted { blocks.new ≡ counted_from plan.now (first_front desks.now) before.now after.now from (places_of plan.now job) blocks.old }
+{
+    let mut at = from;
+    let own = plan.edges_of(job);
+    for edge in own {
+        at = count_on(plan, desks, before, after, job, *edge, at, blocks);
+    }
+    at
 }
 
 /// Counts a round at each place.
@@ -145,17 +184,16 @@ pub(crate) fn count_round<A: Allocator>(
     desks: &[Desk<A>],
     before: &[u64],
     after: &[u64],
-    places: &[Place],
     blocks: &mut [Block],
 )
     requires desks { KnowAll plan.now (first_front desks.now) desks.now }
     requires before { length before.now ≡ length plan.now.jobs }
     requires after { length after.now ≡ length plan.now.jobs }
-    requires places { All (IsPlace plan.now) places.now }
-    requires many { length blocks.old ≡ length places.now }
-    ensures { blocks.new ≡ blocks_then plan.now (first_front desks.now) before.now after.now places.now blocks.old }
+    requires many { length blocks.old ≡ length (places plan.now) }
+    ensures { blocks.new ≡ blocks_then plan.now (first_front desks.now) before.now after.now (places plan.now) blocks.old }
 {
-    for at in 0..places.len() {
-        blocks[at] = counted(plan, desks, before, after, &places[at], blocks[at]);
+    let mut at = 0;
+    for job in 0..plan.jobs() {
+        at = count_job(plan, desks, before, after, JobNo(job as u8), at, blocks);
     }
 }

@@ -6,7 +6,7 @@ ghost use Rattle.blocking.specs.Watching.{Counted};
 ghost use Rattle.waiting.specs.Watching.{is_all_retired};
 
 use crate::counting::{count_round, fresh_blocks, note_held};
-use crate::places::{Place, places};
+use crate::places::places;
 use crate::run::BlockedRun;
 use block_lines::Block;
 use edge_rule::{Bench, Desk};
@@ -39,15 +39,13 @@ fn watch<A: Allocator>(
     desks: &mut [Desk<A>],
     before: &mut [u64],
     after: &mut [u64],
-    places: &[Place],
     blocks: &mut [Block],
     limit: u32,
 ) -> (u32, bool)
     requires opened { desks.old ≡ opened bench.now }
     requires before { length before.old ≡ length desks.old }
     requires after { length after.old ≡ length desks.old }
-    requires places { places.now ≡ all_places bench.now.plan }
-    requires fresh { blocks.old ≡ map (block_of bench.now.plan []) places.now }
+    requires fresh { blocks.old ≡ map (block_of bench.now.plan []) (all_places bench.now.plan) }
     ensures { Counted bench.now.plan limit result.0 result.1 blocks.new }
 {
     let plan = bench.plan();
@@ -58,7 +56,7 @@ fn watch<A: Allocator>(
             return (number, true);
         }
         note_held(plan, desks, after);
-        count_round(plan, desks, before, after, places, blocks);
+        count_round(plan, desks, before, after, blocks);
         note_held(plan, desks, before);
     }
     let (ended, _) = rounds(bench, desks, 0);
@@ -87,7 +85,6 @@ pub fn blocks_by_rounds<A: Allocator + Copy>(
         desks.as_mut_slice(),
         before.as_mut_slice(),
         after.as_mut_slice(),
-        &places,
         blocks.as_mut_slice(),
         limit,
     );

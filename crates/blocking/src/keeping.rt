@@ -45,12 +45,15 @@ fn note_tallies<A: Allocator + Copy>(
     requires before { length before.now ≡ length plan.now.jobs }
     requires after { length after.now ≡ length plan.now.jobs }
     requires many { length tallies.old ≡ length plan.now.jobs }
-    requires fit { (j : ℕ) → j < length tallies.old → FitsTally plan.now (tally_at tallies.old j) }
+    requires fit { (j : ℕ) → j < length tallies.old → FitsTally plan.now j (tally_at tallies.old j) }
     ensures { OnOk result (EachThen (noted_then plan.now (first_front desks.now) before.now after.now) tallies.old tallies.new) }
 {
+    // A plan has 32 jobs at most.
+    let _ = plan.jobs();
     for place in 0..tallies.len() {
         let session = desks[place].phase().session;
-        tallies[place].note(alloc, plan, desks, before, after, session)?;
+        let job = JobNo(place as u8);
+        tallies[place].note(alloc, plan, desks, before, after, job, session)?;
     }
     Ok(())
 }

@@ -1,14 +1,15 @@
 //! What a job waits for, and what it holds, by what its desk knows.
-ghost use Rattle.std.specs.Prelude.{◌≡◌, ◌<◌, ◌≤◌, ℕ, length};
+ghost use Rattle.std.specs.Prelude.{◌≡◌, ◌<◌, ◌≤◌, ◌==◌, ℕ, length, true};
+ghost use Rattle.std.specs.Int.{bit_at};
 ghost use Rattle.lab_plan.specs.LabPlan.{edges, bottles, sessions, session_names};
 ghost use Rattle.lab_plan.specs.InstrumentSets.{holds};
-ghost use Rattle.legal_steps.specs.Fitting.{IsPhaseOf};
 ghost use Rattle.legal_steps.specs.State.{IsOwn, phase as phase_at};
 ghost use Rattle.legal_steps.specs.Legal.{instrument_of};
+ghost use Rattle.turns.specs.Patience.{is_waiting};
 ghost use Rattle.edge_rule.specs.DeskView.{known};
-ghost use Rattle.blocking.specs.Waiting.{is_across, waits_for, holds_in, waits_at};
+ghost use Rattle.blocking.specs.Waiting.{holds_in};
+ghost use Rattle.blocking.specs.Watching.{AreWaitedFor};
 
-use crate::places::Place;
 use edge_rule::Desk;
 use lab_plan::{EdgeNo, InstrumentNo, JobNo, Plan};
 use legal_steps::{Drinking, End, JobState};
@@ -33,21 +34,6 @@ fn named<A: Allocator>(plan: &Plan<A>, job: JobNo, session: u32) -> u64
     plan.needs(job, session)
 }
 
-/// Whether a job in this phase is thirsty, and needs the instrument.
-fn waits_for<A: Allocator>(
-    plan: &Plan<A>,
-    job: JobNo,
-    phase: JobState,
-    instrument: InstrumentNo,
-) -> bool
-    requires is_job { job < length plan.now.jobs }
-    requires fits { IsPhaseOf plan.now job phase }
-    requires instrument { instrument < 64 }
-    ensures { result ≡ waits_for plan.now job phase instrument }
-{
-    phase.drinking == Drinking::Thirsty && has(named(plan, job, phase.session), instrument)
-}
-
 /// The instruments that the desk's job holds: those of its session while it drinks, and else none.
 pub(crate) fn held_by<A: Allocator>(plan: &Plan<A>, desk: &Desk<A>) -> u64
     requires { desk.now.plan ≡ plan.now }
@@ -59,13 +45,6 @@ pub(crate) fn held_by<A: Allocator>(plan: &Plan<A>, desk: &Desk<A>) -> u64
     } else {
         0
     }
-}
-
-/// Whether the bottle isn't here.
-fn is_across(bottle: End, here: End) -> bool
-    ensures { result ≡ is_across bottle here }
-{
-    bottle != here
 }
 
 /// The instrument of a bottle.
@@ -80,23 +59,47 @@ pub(crate) fn instrument_at<A: Allocator>(plan: &Plan<A>, edge: EdgeNo, bottle: 
     plan.instrument_of(edge, bottle)
 }
 
-/// Whether the desk's job waits at the place: it is thirsty, needs the instrument of the bottle, and knows the bottle to be at
-/// its neighbour.
-pub(crate) fn waits_at<A: Allocator>(plan: &Plan<A>, desk: &Desk<A>, place: Place) -> bool
-    requires plan { desk.now.plan ≡ plan.now }
-    requires job { desk.now.job ≡ place.job }
-    requires own { IsOwn plan.now place.job place.edge }
-    requires bottle { place.bottle < length (bottles plan.now place.edge) }
-    ensures { result ≡ waits_at plan.now (known desk.now) place }
+/// Whether the bottle is in the set.
+#[tactic(auto, using(std::proofs::lemmas::Nat::Bits::shr_and_one))]
+pub(crate) fn is_in(set: u32, bottle: u32) -> bool
+    requires { bottle < 32 }
+    ensures { result ≡ (bit_at set bottle == 1) }
 {
-    // An edge has 28 bottles at most.
-    let _ = plan.bottles(place.edge);
-    let bottle = desk.seen(place.edge).bottle_end(place.bottle);
-    is_across(bottle, End::of(plan, place.job, place.edge))
-        && waits_for(
-            plan,
-            place.job,
-            desk.phase(),
-            instrument_at(plan, place.edge, place.bottle),
-        )
+    set >> bottle & 1 == 1
+}
+
+/// Whether a job in this phase is thirsty.
+fn is_thirsty(phase: JobState) -> bool
+    ensures { result ≡ is_waiting phase.drinking }
+{
+    phase.drinking == Drinking::Thirsty
+}
+
+/// The bottles of an edge that the desk's job needs and knows to be at its neighbour, if it is thirsty.
+fn needed_across<A: Allocator>(plan: &Plan<A>, desk: &Desk<A>, edge: EdgeNo) -> u32
+    requires plan { desk.now.plan ≡ plan.now }
+    requires own { IsOwn plan.now desk.now.job edge }
+    requires thirsty { is_waiting (phase_at (known desk.now) desk.now.job).drinking ≡ true }
+    ensures { AreWaitedFor plan.now (known desk.now) desk.now.job edge result }
+{
+    let needed = desk.needed(edge);
+    let higher = needed & desk.seen(edge).unpacked().bottles;
+    match End::of(plan, desk.job(), edge) {
+        End::Lower => higher,
+        End::Higher => needed ^ higher,
+    }
+}
+
+/// The bottles of an edge for which the desk's job waits: none if it isn't thirsty, and else those that it needs and knows to be at
+/// its neighbour.
+pub(crate) fn waited_on<A: Allocator>(plan: &Plan<A>, desk: &Desk<A>, edge: EdgeNo) -> u32
+    requires plan { desk.now.plan ≡ plan.now }
+    requires own { IsOwn plan.now desk.now.job edge }
+    ensures { AreWaitedFor plan.now (known desk.now) desk.now.job edge result }
+{
+    if is_thirsty(desk.phase()) {
+        needed_across(plan, desk, edge)
+    } else {
+        0
+    }
 }

@@ -1,12 +1,12 @@
 //! What is counted of a job's present session, and who kept its earlier ones.
 ghost use Rattle.std.specs.Prelude.{◌≡◌, ◌<◌, ◌≤◌, length, map, replicate, [], IfOk, OnOk};
-ghost use Rattle.std.specs.List.{All};
 ghost use Rattle.rounds.specs.Company.{first_front};
-ghost use Rattle.blocking.specs.Watching.{IsPlace, KnowAll};
+ghost use Rattle.blocking.specs.Blocks.{places_of};
+ghost use Rattle.blocking.specs.Watching.{KnowAll};
 ghost use Rattle.blocking.specs.Tallying.{fresh_tally, put_away, cleared, moved_to, counted_on, tally_then, FitsTally};
 
-use crate::counting::{count_round, fresh_blocks};
-use crate::places::{Place, add_of_job};
+use crate::counting::{count_job, fresh_blocks};
+use crate::places::add_of_job;
 use block_lines::{Block, largest_three};
 use edge_rule::Desk;
 use lab_plan::{JobNo, Plan};
@@ -36,12 +36,11 @@ impl<A: Allocator> Kept<A> {
     }
 }
 
-/// The number of a job's present session, where the job may wait, what is counted there of this session, and who kept each of
-/// the others, by their numbers.
+/// The number of a job's present session, what is counted of this session at each place of the job, and who kept each of the others,
+/// by their numbers.
 #[derive(Drop)]
 pub(crate) struct Tally<A: Allocator = Global> {
     session: u32,
-    places: Vec<Place, A>,
     blocks: Vec<Block, A>,
     kept: Vec<Kept<A>, A>,
 }
@@ -51,7 +50,7 @@ impl<A: Allocator> Model for Tally<A> {
 
     ghost Value = { TallyView };
 
-    ghost view = { λ t. record { session = t.session; places = t.places.items; blocks = t.blocks.items; kept = t.kept.items } };
+    ghost view = { λ t. record { session = t.session; blocks = t.blocks.items; kept = t.kept.items } };
 }
 
 /// Nobody, for each of this many sessions.
@@ -101,7 +100,6 @@ impl<A: Allocator> Tally<A> {
         let kept = nobody(alloc, plan.sessions(job))?;
         Ok(Tally {
             session: 0,
-            places,
             blocks,
             kept,
         })
@@ -146,20 +144,28 @@ impl<A: Allocator> Tally<A> {
     }
 
     /// Counts a round.
-    fn count(&mut self, plan: &Plan<A>, desks: &[Desk<A>], before: &[u64], after: &[u64])
+    fn count(
+        &mut self,
+        plan: &Plan<A>,
+        desks: &[Desk<A>],
+        before: &[u64],
+        after: &[u64],
+        job: JobNo,
+    )
         requires desks { KnowAll plan.now (first_front desks.now) desks.now }
         requires before { length before.now ≡ length plan.now.jobs }
         requires after { length after.now ≡ length plan.now.jobs }
-        requires places { All (IsPlace plan.now) self.old.places }
-        requires many { length self.old.blocks ≡ length self.old.places }
-        ensures { self.new ≡ counted_on plan.now (first_front desks.now) before.now after.now self.old }
+        requires job { job < length plan.now.jobs }
+        requires many { length self.old.blocks ≡ length (places_of plan.now job) }
+        ensures { self.new ≡ counted_on plan.now (first_front desks.now) before.now after.now job self.old }
     {
-        count_round(
+        count_job(
             plan,
             desks,
             before,
             after,
-            &self.places,
+            job,
+            0,
             self.blocks.as_mut_slice(),
         );
     }
@@ -172,6 +178,7 @@ impl<A: Allocator> Tally<A> {
         desks: &[Desk<A>],
         before: &[u64],
         after: &[u64],
+        job: JobNo,
         session: u32,
     ) -> Result<(), AllocError>
     where
@@ -179,11 +186,12 @@ impl<A: Allocator> Tally<A> {
         requires desks { KnowAll plan.now (first_front desks.now) desks.now }
         requires before { length before.now ≡ length plan.now.jobs }
         requires after { length after.now ≡ length plan.now.jobs }
-        requires fits { FitsTally plan.now self.old }
-        ensures { OnOk result (self.new ≡ tally_then plan.now (first_front desks.now) before.now after.now session self.old) }
+        requires job { job < length plan.now.jobs }
+        requires fits { FitsTally plan.now job self.old }
+        ensures { OnOk result (self.new ≡ tally_then plan.now (first_front desks.now) before.now after.now job session self.old) }
     {
         self.move_to(alloc, session)?;
-        self.count(plan, desks, before, after);
+        self.count(plan, desks, before, after, job);
         Ok(())
     }
 }

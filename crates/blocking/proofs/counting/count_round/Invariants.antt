@@ -1,8 +1,12 @@
-use Rattle.std.proofs.Common.{◌≡◌, take}
+use Rattle.std.proofs.Common.{◌≡◌, length}
+use Rattle.std.specs.List.{flat_map, range_with_len}
 use Rattle.rounds.specs.Company.{first_front}
+use Rattle.blocking.specs.Blocks.{places_of}
 use Rattle.blocking.specs.Watching.{blocks_then}
 use Rattle.blocking.proofs.counting.count_round.Given as goal
 
--- at so many places
-abbrev pub invariant-loop-at : goal.invariant-loop-at
-invariant-loop-at g l = l.blocks ≡ blocks_then l.plan (first_front l.desks) l.before l.after (take l.at l.places) l.fn.blocks
+-- of so many jobs
+abbrev pub invariant-loop-job : goal.invariant-loop-job
+invariant-loop-job g l =
+    (l.at ≡ length (flat_map (places_of l.plan) (range_with_len 0 l.job)))
+    × (l.blocks ≡ blocks_then l.plan (first_front l.desks) l.before l.after (flat_map (places_of l.plan) (range_with_len 0 l.job)) l.fn.blocks)

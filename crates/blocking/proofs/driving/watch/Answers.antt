@@ -1,5 +1,4 @@
-use Rattle.std.proofs.Common.{◌≡◌, ◌↔◌, ℕ, ◌+◌, Bool, true, List, [], length, map, replicate, refl, sym, ap, ◌∙◌, subst, arith}
-use Rattle.std.specs.List.{All}
+use Rattle.std.proofs.Common.{◌≡◌, ◌↔◌, ℕ, ◌+◌, Bool, true, List, [], length, replicate, refl, sym, ap, ◌∙◌, subst, arith}
 use Rattle.std.proofs.lemmas.List.{length-map}
 use Rattle.lab_plan.specs.LabPlan.{LabPlan}
 use Rattle.turns.specs.AtTheEnd.{AllRetired}
@@ -12,11 +11,9 @@ use Rattle.waiting.specs.Rounds.{joined}
 use Rattle.waiting.specs.Noting.{fresh_log}
 use Rattle.waiting.specs.Watching.{logs_then}
 use Rattle.waiting.proofs.Stands.{begins, has_all, why_none, stands_then, watched, none_going, none_asked}
-use Rattle.blocking.specs.declared.places.Place.{Place}
-use Rattle.blocking.specs.Blocks.{block_of}
-use Rattle.blocking.specs.Watching.{IsPlace, KnowAll, AreHeld, blocks_then, Counted}
+use Rattle.blocking.specs.Blocks.{block_of, places}
+use Rattle.blocking.specs.Watching.{KnowAll, AreHeld, blocks_then, Counted}
 use Rattle.blocking.proofs.Desks.{know_all}
-use Rattle.blocking.proofs.Placing.{all_places}
 use Rattle.blocking.proofs.Sees.{Sees, sees_start, sees_then, sees_all}
 use Rattle.blocking.proofs.driving.watch.Goals as goal
 
@@ -40,9 +37,9 @@ loop-number-init g c =
     (begins b desks (replicate (length desks) fresh_log) c.requires.opened refl)).many in (
       sees_start b desks c.note_held.new.sets c.args.blocks.now c.requires.opened
           (subst (λ (p : LabPlan). AreHeld p (first_front desks) c.note_held.new.sets) c.plan-plan.ensures c.note_held.ensures)
-          (c.requires.fresh ∙ ap (λ (l : List Place). map (block_of b.plan []) l) c.requires.places),
+          c.requires.fresh,
       c.requires.after ∙ many,
-      ap length c.requires.fresh ∙ length-map c.args.places.now (block_of b.plan []),
+      ap length c.requires.fresh ∙ length-map (places b.plan) (block_of b.plan []),
     )
 
 pub rounds-done-requires-clause-all : goal.rounds-done-requires-clause-all
@@ -106,10 +103,6 @@ note_held-requires-in-loop-number-2-clause-desks g c =
     subst (λ (p : LabPlan). KnowAll p (first_front new) new) (sym c.plan-plan.ensures)
     (known_then b c.loop-number.number c.loop-number.desks new c.loop-number.before c.loop-number.blocks c.loop-number.invariant.0 ended d)
 
-pub count_round-requires-clause-places : goal.count_round-requires-clause-places
-count_round-requires-clause-places g c =
-    subst (λ (z : LabPlan × List Place). All (IsPlace z.0) z.1) (λ i. (sym c.plan-plan.ensures i, sym c.requires.places i)) (all_places c.args.bench.now.plan)
-
 pub loop-number-preserved : goal.loop-number-preserved
 loop-number-preserved g c =
     let b = c.args.bench.now in let new : List DeskView = c.rounds-done.new.desks in let ended = c.rounds-done.result.0 in
@@ -125,7 +118,7 @@ loop-number-preserved g c =
     let less = c.loop-number-test.true in let most_rounds = c.ranges.limit.fits in (
       subst (Sees b (n + 1) new later)
           (sym (c.count_round.ensures
-          ∙ (λ i. blocks_then (c.plan-plan.ensures i) (first_front new) c.loop-number.before after (c.requires.places i) c.loop-number.blocks)))
+          ∙ (λ i. blocks_then (c.plan-plan.ensures i) (first_front new) c.loop-number.before after (places (c.plan-plan.ensures i)) c.loop-number.blocks)))
           (sees_then b n c.loop-number.desks c.loop-number.before c.loop-number.blocks x (omega (arith, less, most_rounds)) ended new d after later after_is later_is),
       after_is.many,
       c.count_round.auto.blocks ∙ c.loop-number.invariant.2,

@@ -1,5 +1,4 @@
-use Rattle.std.proofs.Common.{◌≡◌, ◌<◌, ℕ, length, get_or, sym, ap, ◌∙◌, subst, arith}
-use Rattle.legal_steps.specs.declared.phase.JobState.{JobState}
+use Rattle.std.proofs.Common.{◌<◌, length, sym, ◌∙◌, subst, arith}
 use Rattle.rounds.specs.Company.{first_front}
 use Rattle.blocking.specs.Tallying.{FitsTally, noted_then, tally_then}
 use Rattle.blocking.proofs.Changing.{none_changed, one_changed, all_changed, same_tally, session_by}
@@ -17,7 +16,7 @@ pub note-requires-clause-fits : goal.note-requires-clause-fits
 note-requires-clause-fits g c =
     let l = c.loop-place-test.true in let m = c.loop-place.invariant.many in
     let inside : c.loop-place.place < length c.args.tallies.now = omega (arith, l, m) in
-    subst (FitsTally c.args.plan.now)
+    subst (FitsTally c.args.plan.now c.loop-place.place)
     (sym (same_tally (noted_then c.args.plan.now (first_front c.args.desks.now) c.args.before.now c.args.after.now) c.loop-place.place c.args.tallies.now
     c.loop-place.tallies c.index-tallies-place.result c.loop-place.invariant inside))
     (c.requires.fit c.loop-place.place inside)
@@ -33,4 +32,4 @@ loop-place-preserved g c =
     let was = same_tally (noted_then plan h c.args.before.now c.args.after.now) n c.args.tallies.now c.loop-place.tallies c.index-tallies-place.result
     c.loop-place.invariant inside in
     one_changed (noted_then plan h c.args.before.now c.args.after.now) n c.args.tallies.now c.loop-place.tallies c.note.new.self c.loop-place.invariant inside
-    (c.in_ok-note.ensures ∙ (λ i. tally_then plan h c.args.before.now c.args.after.now (in_it i) (was i)))
+    (c.in_ok-note.ensures ∙ (λ i. tally_then plan h c.args.before.now c.args.after.now n (in_it i) (was i)))

@@ -1,6 +1,5 @@
-use Rattle.std.proofs.Common.{◌≡◌, ◌<◌, ◌≤◌, ℕ, length}
 use Rattle.rounds.specs.Company.{first_front}
-use Rattle.blocking.specs.Tallying.{tally_at, noted_then}
+use Rattle.blocking.specs.Tallying.{noted_then}
 use Rattle.blocking.proofs.Changing.{Changed}
 use Rattle.blocking.proofs.keeping.note_tallies.Given as goal
 

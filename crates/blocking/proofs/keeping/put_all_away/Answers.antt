@@ -1,4 +1,4 @@
-use Rattle.std.proofs.Common.{◌≡◌, ◌<◌, ◌≤◌, length, sym, ap, ◌∙◌, subst, arith}
+use Rattle.std.proofs.Common.{◌<◌, ◌≤◌, length, sym, ap, ◌∙◌, subst, arith}
 use Rattle.blocking.specs.Tallying.{TallyView, put_away}
 use Rattle.blocking.proofs.Changing.{none_changed, one_changed, all_changed, same_tally}
 use Rattle.blocking.proofs.keeping.put_all_away.Goals as goal

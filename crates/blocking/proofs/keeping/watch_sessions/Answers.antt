@@ -102,7 +102,7 @@ note_held-requires-in-loop-number-2-clause-desks g c =
 pub note_tallies-requires-clause-fit : goal.note_tallies-requires-clause-fit
 note_tallies-requires-clause-fit g c =
     let b = c.args.bench.now in
-    subst (λ (p : LabPlan). (j : ℕ) → j < length c.loop-number.tallies → FitsTally p (tally_at c.loop-number.tallies j)) (sym c.plan-plan.ensures)
+    subst (λ (p : LabPlan). (j : ℕ) → j < length c.loop-number.tallies → FitsTally p j (tally_at c.loop-number.tallies j)) (sym c.plan-plan.ensures)
     (all_fit b c.loop-number.number c.loop-number.desks c.loop-number.before c.loop-number.logs c.loop-number.tallies c.loop-number.invariant.0)
 
 pub loop-number-preserved : goal.loop-number-preserved
