@@ -16,5 +16,5 @@ returns g c =
     let moves = (rw c.in-Some.is at c.in_ok-made.ensures) in
     let means = (rw c.in-Some-read.is at c.in_ok-read.ensures) in
     arranged_as c.args.plan.now c.in-Some-read.other c.in_ok-colouring.colouring c.args.input.now c.deref.result.now c.deref-2.result.now text.items
-    c.deref-3.result.now c.in_ok-colouring.ensures.colouring (c.deref.ensures.value ∙ c.in_ok-whole.ensures) (c.deref-2.ensures.value ∙ c.in_ok-order.ensures)
+    c.deref-3.result.now c.in_ok-colouring.ensures.colouring c.in_ok-colouring.ensures.greedy (c.deref.ensures.value ∙ c.in_ok-whole.ensures) (c.deref-2.ensures.value ∙ c.in_ok-order.ensures)
     moves (omega (arith, c.if-len-gt-MOST_BYTES.false)) c.deref-3.ensures.value means (c.is_arrangement.ensures.0 c.if-not-is_arrangement.false)
