@@ -1,7 +1,6 @@
 -- What a handle has may go from thread to thread: nothing of it names a thread.
 use mathlib.Core.Bool.{Bool, true, false}
 use mathlib.Core.List.{List, [], ◌∷◌}
-use Prim.Native.Nat.{ℕ}
 use mir.Syntax.{Ty}
 use mir.Raw.{raw}
 use base.Fml.{Fml}

@@ -1,12 +1,12 @@
 -- From the end of a bench to its report.
-use Rattle.std.proofs.Common.{◌≡◌, ℕ, List, sym, ap, ◌∙◌, subst}
+use Rattle.std.proofs.Common.{◌≡◌, ℕ, List, ap, ◌∙◌}
 use Rattle.lab_plan.specs.LabPlan.{LabPlan}
 use Rattle.legal_steps.specs.Opening.{the_opening}
 use Rattle.edge_rule.specs.DeskView.{DeskView}
 use Rattle.edge_rule.specs.ClosedView.{ClosedView}
 use Rattle.edge_rule.specs.Ending.{IsEnd}
 use Rattle.report.specs.Report.{report_of, all_retired}
-use Rattle.report.specs.Events.{HasOneReport, shown_after, report_after}
+use Rattle.report.specs.Events.{HasOneReport, shown_after}
 use Rattle.headline.specs.Headline.{HoldsOfEveryRun}
 use Rattle.whole_runs.specs.Shown.{shown_in}
 use Rattle.whole_runs.proofs.Ends.{shows}

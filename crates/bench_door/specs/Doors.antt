@@ -1,5 +1,5 @@
 -- For readers: what is promised of a lab, a bench with all its desks.
-use Rattle.std.specs.Prelude.{◌≡◌, ◌≢◌, ◌⊎◌, ℕ, ◌≤◌, ◌<◌, Bool, true, false, if◌then◌else◌, List, [], ◌∷◌}
+use Rattle.std.specs.Prelude.{◌≡◌, ◌⊎◌, ℕ, ◌≤◌, ◌<◌, Bool, true, false, if◌then◌else◌, List, [], ◌∷◌}
 use Rattle.std.specs.Prelude.{length, Option, Some, None, slice_get, slice_set, slice_index_or}
 use Rattle.std.specs.Int.{bit_at}
 use Rattle.lab_plan.specs.LabPlan.{LabPlan, sessions, commands, patience, session_names}

@@ -1,5 +1,5 @@
 -- That each desk is of the bench is a fact with one proof at most.
-use Rattle.std.specs.Prelude.{◌≡◌, List, [], ◌∷◌}
+use Rattle.std.specs.Prelude.{List, [], ◌∷◌}
 use mathlib.Core.Path.{refl}
 use Rattle.turns.specs.Lists.{Each}
 

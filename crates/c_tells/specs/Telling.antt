@@ -1,10 +1,9 @@
 -- For readers: what is told of a fault, and what is put into the caller's memory.
-use Rattle.std.specs.Prelude.{◌≡◌, ◌⊎◌, ℕ, ◌≤◌, ◌<◌, List, length, ◌++◌, drop, Result, Err}
+use Rattle.std.specs.Prelude.{◌≡◌, ◌⊎◌, ℕ, ◌≤◌, ◌<◌, List, length, ◌++◌, drop, Err}
 use Rattle.script_reader.specs.declared.fault.ScriptCause.{ScriptCause}
 use Rattle.script_reader.specs.declared.fault.ScriptCause.TheVariants as causes
 use Rattle.lab_program.specs.declared.faults.RunFault.{RunFault}
 use Rattle.lab_program.specs.declared.faults.RunFault.TheVariants.{Script, Step}
-use Rattle.lab_program.specs.declared.faults.Outcome.{Outcome}
 use Rattle.lab_program.specs.Faults.{status_of}
 use Rattle.c_tells.specs.declared.telling.Told.{Told}
 

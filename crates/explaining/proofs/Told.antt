@@ -1,11 +1,10 @@
 -- What is told of a replay from the initial state.
-use Rattle.std.proofs.Common.{◌≡◌, ℕ, ◌<◌, List, length, map, take, slice_index_or, arith, refl, sym, ap, ◌∙◌, subst}
+use Rattle.std.proofs.Common.{◌≡◌, ℕ, ◌<◌, List, length, take, slice_index_or, arith, refl, sym, ap, ◌∙◌, subst}
 use Rattle.std.specs.Prelude.{slice_get, Some}
 use Rattle.std.specs.List.{All}
 use Rattle.std.proofs.lemmas.Option.{slice_get_read}
 use Rattle.lab_plan.specs.LabPlan.{LabPlan}
 use Rattle.legal_steps.specs.declared.event.StepLine.{StepLine}
-use Rattle.legal_steps.specs.State.{State}
 use Rattle.legal_steps.specs.Legal.{May}
 use Rattle.legal_steps.specs.Steps.{IsStepOf, event_of, step_events}
 use Rattle.legal_steps.specs.Opening.{the_opening}

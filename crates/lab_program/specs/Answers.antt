@@ -5,7 +5,7 @@ use Rattle.std.specs.Io.KnownBytes.{Keeps, Appends}
 use Rattle.script_reader.specs.Script.{text_lines, Refuses}
 use Rattle.report.specs.Taken.{AppendsPrefix}
 use Rattle.lab_program.specs.declared.faults.RunFault.{RunFault}
-use Rattle.lab_program.specs.declared.faults.RunFault.TheVariants.{Script, Step, Read, TooLong, Write, NoMemory}
+use Rattle.lab_program.specs.declared.faults.RunFault.TheVariants.{Script, Read, TooLong, Write, NoMemory}
 use Rattle.lab_program.specs.declared.faults.Outcome.{Outcome}
 use Rattle.lab_program.specs.Input.{IsInput, IsTooLong}
 

@@ -6,10 +6,8 @@ use Rattle.lab_plan.specs.LabPlan.{LabPlan}
 use Rattle.legal_steps.specs.declared.event.Event.{Event}
 use Rattle.legal_steps.specs.Opening.{the_opening}
 use Rattle.turns.specs.History.{IsHistory}
-use Rattle.script_reader.specs.Script.{ScriptMeans}
 use Rattle.script_reader.specs.Laws.{HasOnePlan}
 use Rattle.report.specs.Events.{report_after, retired_after}
-use Rattle.rounds.specs.declared.ended.Ended.{Ended}
 use Rattle.rounds.specs.OneRun.{RanRounds, OneRun}
 use Rattle.rounds.specs.FromOpening.{fresh_players}
 use Rattle.rounds.proofs.SameRun.{legal_from, rounds_same}
@@ -21,8 +19,7 @@ use Rattle.blocking.specs.Keepers as keeping
 use Rattle.block_lines.specs.Text.{blocks_text}
 use Rattle.round_picture.specs.Gantt.{gantt_of}
 use Rattle.lab_program.specs.Reports.{outcome_of}
-use Rattle.lab_runs.specs.Shared.{RunsInRounds}
-use Rattle.lab_views.specs.OneRun.{AreReported, RoundsAreReported, HasOnePicture, HasOneListOfBlocks}
+use Rattle.lab_views.specs.OneRun.{RoundsAreReported, HasOnePicture, HasOneListOfBlocks}
 
 -- ---- rounds are known by what they come to, one after another
 

@@ -22,7 +22,7 @@ use Rattle.lab_program.specs.Reports.{Reports}
 use Rattle.lab_views.specs.declared.picture_fault.PictureFault.TheVariants.{Report, Timeline, Read, TooLong, Write, NoMemory}
 use Rattle.lab_views.specs.Pictures.{Pictures, IsNoReport}
 use Rattle.lab_views.specs.Tables.{Tabulates}
-use Rattle.lab_views.specs.Printed.{report_of_run, DrawsReport, PrintedIsDrawn, PrintedIsTabulated}
+use Rattle.lab_views.specs.Printed.{report_of_run, PrintedIsDrawn, PrintedIsTabulated}
 
 read_back : (plan : LabPlan) (history : List Event) (text : List ℕ) (outcome : Outcome) → Reports plan history text outcome
     → IsReadAs (report_of_run plan history) text

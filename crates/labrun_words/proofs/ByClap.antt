@@ -1,16 +1,15 @@
 -- What clap makes of the words.
-use Rattle.std.proofs.Common.{◌≡◌, Bool, true, false, List, [], ◌∷◌, Option, Some, None, ℕ, option_map, refl, sym, subst, codes, arith}
+use Rattle.std.proofs.Common.{◌≡◌, Bool, true, false, List, [], ◌∷◌, Some, None, refl, sym, subst, codes, arith}
 use Rattle.std.specs.Str.{bytes_eq}
 use Rattle.std.proofs.lemmas.Slice.Eq.{bytes_eq-Decides}
 use Rattle.clap.specs.Words.{Text, fault_of, is_simple, is_simple_and_free, subcommand_of}
 use Rattle.clap.specs.Simple.{built, names_of}
 use Rattle.clap.specs.Walk.{idle, nothing_held, subcommand_met}
 use Rattle.clap.proofs.OnLiterals.{clap_on_literals}
-use Rattle.command_line.proofs.Programs.{AreOther, HasNumber, HasNumbers, IsAlone, IsComplete, IsProgram, IsRight, IsSound, by_word, other_word, with_one, with_two, without_values}
+use Rattle.command_line.proofs.Programs.{AreOther, HasNumber, HasNumbers, IsAlone, IsComplete, IsProgram, IsRight, by_word, other_word, with_one, with_two, without_values}
 use Rattle.command_line.proofs.Tops.{end_of_top}
 use Rattle.labrun_words.specs.Command.{labrun_app, task_found}
 use Rattle.labrun_words.specs.Words.{task_of, task_with}
-use Rattle.labrun_words.specs.declared.words.Task.{Task}
 use Rattle.labrun_words.specs.declared.words.Task.TheVariants.{Rounds, Threads, Replay, Check, Upgrade}
 
 pub simple : is_simple labrun_app ≡ true

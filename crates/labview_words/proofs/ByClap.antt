@@ -1,8 +1,6 @@
 -- What clap makes of the words.
-use Rattle.std.proofs.Common.{◌≡◌, ◌∙◌, Bool, true, false, List, [], ◌∷◌, Option, Some, None, ℕ, option_map, refl, sym, ap, subst, inl, inr, codes, arith}
-use Rattle.std.specs.Str.{bytes_eq}
-use Rattle.std.proofs.lemmas.Slice.Eq.{bytes_eq-Decides}
-use Rattle.clap.specs.Words.{Text, fault_of, is_simple, is_simple_and_free, subcommand_of}
+use Rattle.std.proofs.Common.{◌≡◌, ◌∙◌, Bool, true, false, List, [], ◌∷◌, Option, Some, None, ℕ, option_map, refl, sym, ap, inl, inr, codes, arith}
+use Rattle.clap.specs.Words.{Text, is_simple, is_simple_and_free, subcommand_of}
 use Rattle.clap.specs.Simple.{built, names_of}
 use Rattle.clap.specs.Walk.{idle, nothing_held, rows_after, subcommand_met}
 use Rattle.clap.proofs.OnLiterals.{clap_on_literals}
@@ -10,7 +8,7 @@ use Rattle.command_line.specs.Command.{word_of_optional_number}
 use Rattle.command_line.specs.Grammar.{number_within, values_given}
 use Rattle.command_line.specs.Reading.{number_found}
 use Rattle.command_line.proofs.Leaves.{MayFind, fault_at, leaf, told_number, word_with_optional_number, word_with_optional_number_passes, word_without_number_passes}
-use Rattle.command_line.proofs.Programs.{AreOther, HasNumber, IsAlone, IsComplete, IsProgram, IsRight, IsSound, IsWord, by_values, by_word, other_word, with_one, without_values}
+use Rattle.command_line.proofs.Programs.{AreOther, HasNumber, IsAlone, IsComplete, IsProgram, IsRight, IsWord, by_values, by_word, other_word, with_one, without_values}
 use Rattle.command_line.proofs.Tops.{end_of_top}
 use Rattle.labview_words.specs.Command.{arrange_found, labview_app, view_found}
 use Rattle.labview_words.specs.Words.{alone_or_over, view_of, view_with}

@@ -1,5 +1,5 @@
 -- The command line as clap is told of it, and what is made of that which it finds.
-use Rattle.std.specs.Prelude.{ℕ, List, [], ◌∷◌, Option, None, Some, codes, option_map, if◌then◌else◌}
+use Rattle.std.specs.Prelude.{ℕ, List, Option, None, Some, codes, option_map, if◌then◌else◌}
 use Rattle.std.specs.Str.{bytes_eq}
 use Rattle.clap.specs.Words.{App, Row, Text, with_subcommand}
 use Rattle.command_line.specs.Command.{program_app, word_app, word_of_number, word_of_optional_number}

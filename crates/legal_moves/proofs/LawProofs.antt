@@ -1,20 +1,19 @@
 -- What the list of moves leaves out.
-use Rattle.std.proofs.Common.{◌≡◌, ◌⊎◌, ℕ, ◌^◌, ◌<◌, List, [], ◌∷◌, ◌++◌, length, arith, refl, sym, ap, ◌∙◌, subst, inl, inr}
+use Rattle.std.proofs.Common.{ℕ, ◌^◌, ◌<◌, List, [], ◌∷◌, length, arith, refl, sym, ◌∙◌, subst, inl, inr}
 use Rattle.std.specs.List.{flat_map, range_with_len, Contains}
-use Rattle.std.specs.Int.{bit_at}
 use Rattle.std.proofs.lemmas.Nat.Bits.{bit_at-pow_same}
 use Rattle.std.proofs.lemmas.List.Elements.{Contains-append_left, Contains-append_right, Contains-append_cases, Contains-push_cases}
 use Rattle.std.proofs.lemmas.List.FromFn.{get_or-range_with_len, length-range_with_len}
 use Rattle.lab_plan.specs.LabPlan.{LabPlan, edges_of, bottles}
 use Rattle.legal_steps.specs.declared.event.Step.{Step}
 use Rattle.legal_steps.specs.declared.event.Step.TheVariants.{Look, AskFork, GiveFork, Soil, AskBottles, GiveBottles, Thirst, Hunger, Sit, Leave, Drink, Reach, Act, Quit, Retire, Glance, Withdraw}
-use Rattle.legal_steps.specs.State.{State, Has, IsOwn}
+use Rattle.legal_steps.specs.State.{Has, IsOwn}
 use Rattle.legal_steps.specs.Legal.{IsBottleSet, MayAskBottle, MayGiveBottle}
 use Rattle.legal_steps.proofs.FitsLaw.{own_is_job}
 use Rattle.legal_steps.proofs.OwnEdges.{own_edge_listed}
 use Rattle.legal_steps.proofs.BottleSets.{member_below, one_bottle, only_one, some_bottle}
-use Rattle.legal_moves.specs.Moves.{own_moves, fork_moves, bottle_moves, edge_moves, moves_of, all_moves, IsLegalNow}
-use Rattle.legal_moves.specs.Laws.{Always, IsAlwaysLegal, Alone, AreBottlesAlone, IsListed, IsEveryStep}
+use Rattle.legal_moves.specs.Moves.{own_moves, fork_moves, bottle_moves, edge_moves, moves_of, all_moves}
+use Rattle.legal_moves.specs.Laws.{IsAlwaysLegal, AreBottlesAlone, IsEveryStep}
 
 pub always_legal : IsAlwaysLegal
 always_legal plan s = record { look = λ j e own. (own, refl); glance = λ j other job is_job apart. (job, is_job, apart, refl) }

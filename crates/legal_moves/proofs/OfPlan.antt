@@ -5,11 +5,11 @@ use Rattle.std.proofs.lemmas.List.Elements.{All-nil, All-head, All-tail, All-app
 use Rattle.std.proofs.lemmas.List.FromFn.{get_or-range_with_len, length-range_with_len}
 use Rattle.lab_plan.specs.LabPlan.{LabPlan, edges, edges_of, bottles}
 use Rattle.legal_steps.specs.declared.event.Step.{Step}
-use Rattle.legal_steps.specs.State.{State, IsOwn}
+use Rattle.legal_steps.specs.State.{IsOwn}
 use Rattle.legal_steps.specs.Steps.{IsStepOf}
 use Rattle.legal_steps.proofs.FitsLaw.{own_is_job}
 use Rattle.legal_steps.proofs.OwnEdges.{own_edges}
-use Rattle.legal_moves.specs.Moves.{own_moves, fork_moves, bottle_moves, edge_moves, moves_of, all_moves, Keeps}
+use Rattle.legal_moves.specs.Moves.{own_moves, fork_moves, bottle_moves, edge_moves, moves_of, all_moves}
 
 -- what holds of each element's list holds of all
 pub all_flat : {X Y : Type 0} (P : Y → Type 0) (Q : X → Type 0) (f : X → List Y) (xs : List X)

@@ -1,5 +1,5 @@
 -- For readers: what the list of moves leaves out.
-use Rattle.std.specs.Prelude.{◌≡◌, ◌≢◌, ◌↔◌, ℕ, ◌^◌}
+use Rattle.std.specs.Prelude.{◌≢◌, ◌↔◌, ℕ, ◌^◌}
 use Rattle.std.specs.List.{Contains}
 use Rattle.lab_plan.specs.LabPlan.{LabPlan}
 use Rattle.legal_steps.specs.declared.event.Step.{Step}

@@ -1,5 +1,5 @@
 -- A log without entries takes a first place.
-use Rattle.std.proofs.Common.{◌≡◌, ℕ, ◌<◌, List, [], ◌∷◌, length, refl, sym, ap, subst, arith}
+use Rattle.std.proofs.Common.{◌≡◌, ◌<◌, List, [], ◌∷◌, length, arith}
 use Rattle.instrument_log.specs.declared.entry.Entry.{Entry}
 use Rattle.instrument_log.specs.InstrumentLog.{LogView, MayAppend}
 use Rattle.instrument_log.specs.Parts.{open_entry, Follows}

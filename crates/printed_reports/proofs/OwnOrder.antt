@@ -1,5 +1,5 @@
 -- The sessions of each job that logs have entries of ended in the job's own order: so a report that was printed has a timeline.
-use Rattle.std.proofs.Common.{◌≡◌, ◌⊎◌, ℕ, zero, suc, ◌+◌, ◌*◌, ◌<◌, ◌≤◌, Bool, true, false, ◌==◌, ◌&&◌, if◌then◌else◌, List, [], ◌∷◌, ◌++◌, length, map, slice_index_or, take, true≢false, refl, sym, ap, ◌∙◌, subst, inl, inr, arith, eq-eqb, eqb-true, All}
+use Rattle.std.proofs.Common.{◌≡◌, ◌⊎◌, ℕ, zero, suc, ◌+◌, ◌<◌, ◌≤◌, true, false, ◌==◌, ◌&&◌, if◌then◌else◌, List, [], ◌∷◌, ◌++◌, length, map, slice_index_or, take, true≢false, refl, sym, ap, ◌∙◌, subst, inl, inr, arith, eq-eqb, eqb-true, All}
 use Rattle.std.specs.Prelude.{None, Some, slice_get}
 use Rattle.std.specs.List.{AllByRecursion, range_with_len}
 use Rattle.std.proofs.lemmas.Bool.{and_parts, cases_Bool, cases_eq, cases_lt}
@@ -7,7 +7,6 @@ use Rattle.std.proofs.lemmas.List.{length-map}
 use Rattle.std.proofs.lemmas.List.Elements.{All-nil, All-cons}
 use Rattle.std.proofs.lemmas.List.FromFn.{length-range_with_len}
 use Rattle.lab_plan.specs.declared.verb.Verb.{Verb}
-use Rattle.lab_plan.specs.Limits.{most_commands}
 use Rattle.lab_plan.specs.LabPlan.{LabPlan, commands}
 use Rattle.lab_plan.specs.IsPlan.{IsPlan}
 use Rattle.lab_plan.specs.Texts.{job_name}
@@ -22,7 +21,7 @@ use Rattle.legal_steps.proofs.LogEnded.{IsPast, HasEnded, past_before}
 use Rattle.legal_steps.proofs.LogKept.{IsKept, part_so_far}
 use Rattle.legal_steps.proofs.LogRun.{logged}
 use Rattle.legal_steps.proofs.WholeLaw.{drinking_inside}
-use Rattle.report.specs.Report.{Shown, jobs, instruments}
+use Rattle.report.specs.Report.{jobs, instruments}
 use Rattle.report.specs.Events.{shown_after}
 use Rattle.report_reader.specs.Line.{EntryText}
 use Rattle.report_reader.specs.Report.{LogText}

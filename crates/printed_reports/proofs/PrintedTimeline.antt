@@ -16,24 +16,17 @@ use Rattle.lab_plan.specs.LabPlan.{LabPlan, no_job}
 use Rattle.lab_plan.specs.IsPlan.{IsPlan}
 use Rattle.lab_plan.specs.Texts.{job_name}
 use Rattle.instrument_log.specs.declared.entry.Entry.{Entry as LogEntry}
-use Rattle.legal_steps.specs.State.{log}
-use Rattle.legal_steps.specs.Run.{after_all}
-use Rattle.legal_steps.specs.WholeLogs.{line_of, ended_sessions}
-use Rattle.legal_steps.proofs.LogBooks.{books}
-use Rattle.legal_steps.proofs.LogRun.{logged}
-use Rattle.report.specs.Report.{Shown, jobs, instruments}
-use Rattle.report.specs.Events.{shown_after}
+use Rattle.legal_steps.specs.WholeLogs.{line_of}
+use Rattle.report.specs.Report.{Shown, jobs}
 use Rattle.report_reader.specs.Line.{JobText}
-use Rattle.report_reader.specs.Report.{LogText}
 use Rattle.timeline.proofs.Apart.{tests_hold}
 use Rattle.timeline.specs.declared.span.Span.{Span}
 use Rattle.timeline.specs.Spans.{job_number, slot_of, span_of}
-use Rattle.timeline.specs.Timelines.{TimelineView, Stands, IsNextOf, EachNext, Agrees}
-use Rattle.printed_reports.specs.Printed.{printed_entry, printed_log, printed_job}
-use Rattle.printed_reports.specs.HasTimeline.{HasTimeline}
-use Rattle.printed_reports.proofs.Orders.{rank, rank_few, Next, Chained, log_chained}
+use Rattle.timeline.specs.Timelines.{TimelineView, Stands, IsNextOf, EachNext}
+use Rattle.printed_reports.specs.Printed.{printed_entry, printed_job}
+use Rattle.printed_reports.proofs.Orders.{rank, rank_few, Next, Chained}
 use Rattle.printed_reports.proofs.Places.{entry_at, written_at, next_at}
-use Rattle.printed_reports.proofs.Written.{IsWritten, logs_written}
+use Rattle.printed_reports.proofs.Written.{IsWritten}
 
 -- ---- columns by rank
 

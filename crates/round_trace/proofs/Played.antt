@@ -1,5 +1,5 @@
 -- Rounds of all jobs, and why they end.
-use Rattle.std.proofs.Common.{◌≡◌, ◌↔◌, ℕ, zero, suc, ◌+◌, ◌<◌, ◌≤◌, Bool, true, false, List, [], ◌∷◌, ◌++◌, length, get_or, set, take, drop, refl, sym, ap, ◌∙◌, subst, inl, inr, arith, add-one, length-set, ◌&&◌}
+use Rattle.std.proofs.Common.{◌≡◌, ◌↔◌, ℕ, zero, suc, ◌+◌, ◌<◌, ◌≤◌, Bool, true, false, List, [], ◌∷◌, ◌++◌, length, get_or, set, take, drop, refl, sym, ap, ◌∙◌, subst, arith, length-set, ◌&&◌}
 use Rattle.lab_plan.specs.LabPlan.{LabPlan}
 use Rattle.legal_steps.specs.declared.event.Event.{Event}
 use Rattle.legal_steps.specs.declared.phase.Drinking.TheVariants.{Retired}
@@ -13,7 +13,7 @@ use Rattle.turns.proofs.Runs.{each-append}
 use Rattle.session_layer.specs.declared.turning.Turned.{Turned}
 use Rattle.rounds.specs.Rounds as rounds
 use Rattle.turns.specs.AtTheEnd.{AllRetired}
-use Rattle.rounds.specs.Rounds.{Plays, Round, Rounds, IsOver, is_idle, no_player}
+use Rattle.rounds.specs.Rounds.{Plays, Round, Rounds, is_idle, no_player}
 use Rattle.rounds.proofs.Lists.{take_set, drop_set, get_set, take_snoc, drop_next, get_same}
 use Rattle.rounds.proofs.Snoc.{round-snoc}
 use Rattle.rounds.specs.QuietEnd.{jobs_in}

@@ -1,5 +1,5 @@
 -- Rounds from the initial state on go on as long as a job isn't retired.
-use Rattle.std.proofs.Common.{◌≡◌, ℕ, ◌+◌, Bool, List, [], length, sym, subst, inl, inr, add-one}
+use Rattle.std.proofs.Common.{ℕ, ◌+◌, Bool, List, [], length, sym, subst, inl, inr, add-one}
 use Rattle.lab_plan.specs.LabPlan.{LabPlan}
 use Rattle.legal_steps.specs.declared.event.Event.{Event}
 use Rattle.turns.specs.History.{IsHistory}

@@ -1,7 +1,7 @@
 -- A text that is written line by line: its lines, and their fields.
-use Rattle.std.proofs.Common.{◌≡◌, ℕ, ◌-◌, ◌<◌, ◌≤◌, Bool, true, false, cond, ◌&&◌, List, [], ◌∷◌, ◌++◌, length, get_or, take, drop, refl, sym, ap, ◌∙◌, ⊎_elim, inl, arith, suc, zero, append_assoc, append-nil, length-append, length-drop}
-use Rattle.std.specs.Prelude.{nat_le, nat_lt, ◌==◌, All, map}
-use Rattle.std.specs.List.{list_all, filter}
+use Rattle.std.proofs.Common.{◌≡◌, ℕ, ◌-◌, ◌<◌, ◌≤◌, Bool, true, false, cond, ◌&&◌, List, [], ◌∷◌, ◌++◌, length, get_or, take, drop, refl, sym, ap, ◌∙◌, ⊎_elim, arith, suc, zero, append_assoc, length-append, length-drop}
+use Rattle.std.specs.Prelude.{nat_le, nat_lt, ◌==◌, map}
+use Rattle.std.specs.List.{list_all}
 use Rattle.std.proofs.lemmas.Bool.{cases_Bool, and_parts}
 use Rattle.std.proofs.lemmas.Bool.Decides.{nat_tests}
 use Rattle.std.proofs.lemmas.List.{take_at, drop_at}

@@ -1,6 +1,6 @@
 -- The sessions that logs have entries of, and each with the next one of its job.
 use Rattle.std.proofs.Common.{◌≡◌, ℕ, zero, suc, ◌+◌, ◌*◌, ◌/◌, ◌<◌, ◌≤◌, Bool, true, false, List, [], ◌∷◌, ◌++◌, Some, length, slice_index_or, set, inl, inr, refl, sym, ◌∙◌, ap, subst, arith, length-set, ◌≢◌}
-use Rattle.std.specs.Prelude.{None, slice_get, replicate, IfSome, Option}
+use Rattle.std.specs.Prelude.{None, slice_get, replicate}
 use Rattle.std.specs.List.{Contains}
 use Rattle.std.proofs.lemmas.Bool.{cases_eq, cases_lt, cases_Bool, false≢true}
 use Rattle.std.proofs.lemmas.Option.{slice_get_within}

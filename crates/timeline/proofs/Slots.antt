@@ -1,5 +1,5 @@
 -- Slots and the sessions that they are of.
-use Rattle.std.proofs.Common.{◌≡◌, if◌then◌else◌, ℕ, ◌+◌, ◌*◌, ◌/◌, ◌-◌, ◌<◌, ◌≤◌, ◌==◌, ◌&&◌, Bool, true, false, List, [], None, Some, length, slice_index_or, refl, sym, ◌∙◌, ap, arith, nat_lt}
+use Rattle.std.proofs.Common.{◌≡◌, if◌then◌else◌, ℕ, ◌+◌, ◌*◌, ◌/◌, ◌-◌, ◌<◌, ◌≤◌, ◌==◌, ◌&&◌, Bool, true, false, List, [], None, Some, slice_index_or, refl, sym, ◌∙◌, ap, arith, nat_lt}
 use Rattle.std.specs.Prelude.{nat_le, slice_get}
 use Rattle.std.specs.Str.{bytes_eq}
 use Rattle.std.proofs.lemmas.Bool.{and_parts}

@@ -1,4 +1,4 @@
-use Rattle.std.proofs.Common.{◌≡◌, refl, sym, subst}
+use Rattle.std.proofs.Common.{sym, subst}
 use Rattle.bench_door.specs.declared.going.Aim.TheVariants.{Hold}
 use Rattle.bench_c.specs.Calls.{InLab, InHeld, GoesOn}
 use Rattle.bench_c.proofs.lab_begin.Goals as goal

@@ -1,4 +1,4 @@
-use Rattle.std.proofs.Common.{◌≡◌, ◌⊎◌, inl, refl, sym, subst, ap, ◌∙◌, Some}
+use Rattle.std.proofs.Common.{inl, refl, sym, subst, ap, ◌∙◌, Some}
 use Rattle.bench_c.specs.Calls.{Opens}
 use Rattle.box_parts.proofs.Slots.{vacant_of}
 use Rattle.bench_c.proofs.lab_bench_open.Goals as goal

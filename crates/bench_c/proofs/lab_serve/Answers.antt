@@ -1,4 +1,4 @@
-use Rattle.std.proofs.Common.{◌≡◌, refl, sym, subst}
+use Rattle.std.proofs.Common.{sym, subst}
 use Rattle.desk_user.specs.Serving.{Served}
 use Rattle.bench_c.specs.Calls.{InLab, InHeld, Drives}
 use Rattle.bench_c.proofs.lab_serve.Goals as goal

@@ -1,4 +1,4 @@
-use Rattle.std.proofs.Common.{◌≡◌, refl, sym, subst}
+use Rattle.std.proofs.Common.{sym, subst}
 use Rattle.bench_c.specs.Calls.{InLab, InHeld, ServesRest}
 use Rattle.bench_c.proofs.lab_serve_others.Goals as goal
 

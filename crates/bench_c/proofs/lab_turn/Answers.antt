@@ -1,4 +1,4 @@
-use Rattle.std.proofs.Common.{◌≡◌, refl, sym, subst}
+use Rattle.std.proofs.Common.{sym, subst}
 use Rattle.session_layer.specs.Turn.{Took}
 use Rattle.bench_c.specs.Calls.{InLab, InHeld, Drives}
 use Rattle.bench_c.proofs.lab_turn.Goals as goal

@@ -1,4 +1,4 @@
-use Rattle.std.proofs.Common.{◌≡◌, refl, sym, subst}
+use Rattle.std.proofs.Common.{sym, subst}
 use Rattle.bench_door.specs.declared.going.Aim.TheVariants.{Retire}
 use Rattle.desk_c.specs.Calls.{OnDesk, InDesk, GoesOn}
 use Rattle.desk_c.proofs.lab_desk_retire.Goals as goal

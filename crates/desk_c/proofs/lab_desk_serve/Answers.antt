@@ -1,4 +1,4 @@
-use Rattle.std.proofs.Common.{◌≡◌, refl, sym, subst}
+use Rattle.std.proofs.Common.{sym, subst}
 use Rattle.desk_user.specs.Serving.{Served}
 use Rattle.desk_c.specs.Calls.{OnDesk, InDesk, Drives}
 use Rattle.desk_c.proofs.lab_desk_serve.Goals as goal

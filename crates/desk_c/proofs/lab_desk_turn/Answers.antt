@@ -1,4 +1,4 @@
-use Rattle.std.proofs.Common.{◌≡◌, refl, sym, subst}
+use Rattle.std.proofs.Common.{sym, subst}
 use Rattle.session_layer.specs.Turn.{Took}
 use Rattle.desk_c.specs.Calls.{OnDesk, InDesk, Drives}
 use Rattle.desk_c.proofs.lab_desk_turn.Goals as goal

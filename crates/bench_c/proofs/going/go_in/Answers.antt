@@ -1,4 +1,4 @@
-use Rattle.std.proofs.Common.{◌≡◌, ◌⊎◌, inl, inr, refl, sym, subst}
+use Rattle.std.proofs.Common.{inl, inr, refl, sym, subst}
 use Rattle.bench_c.specs.Calls.{InHeld, GoesOn}
 use Rattle.bench_calls.specs.declared.ending.Held.TheVariants.{Open}
 use Rattle.bench_c.proofs.going.go_in.Goals as goal

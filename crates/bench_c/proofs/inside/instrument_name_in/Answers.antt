@@ -1,4 +1,4 @@
-use Rattle.std.proofs.Common.{◌≡◌, ◌⊎◌, length, inl, inr, refl, sym, subst}
+use Rattle.std.proofs.Common.{length, inl, inr, refl, sym, subst}
 use Rattle.bench_c.specs.Calls.{InHeld, TellsInstrumentName}
 use Rattle.bench_c.proofs.inside.instrument_name_in.Goals as goal
 

@@ -1,4 +1,4 @@
-use Rattle.std.proofs.Common.{◌≡◌, ◌⊎◌, inl, inr, refl, sym, subst}
+use Rattle.std.proofs.Common.{inl, inr, refl, sym, subst}
 use Rattle.desk_user.specs.Serving.{Served}
 use Rattle.bench_c.specs.Calls.{InHeld, Drives}
 use Rattle.bench_calls.specs.declared.ending.Held.TheVariants.{Open}

@@ -1,4 +1,4 @@
-use Rattle.std.proofs.Common.{◌≡◌, refl, sym, subst}
+use Rattle.std.proofs.Common.{refl, sym, subst}
 use Rattle.bench_c.specs.Calls.{InHeld, TellsSize}
 use Rattle.bench_c.proofs.inside.size_in.Goals as goal
 

@@ -1,4 +1,4 @@
-use Rattle.std.proofs.Common.{◌≡◌, ◌⊎◌, inl, inr, refl, sym, subst}
+use Rattle.std.proofs.Common.{inl, inr, refl, sym, subst}
 use Rattle.bench_c.specs.Calls.{InHeld, TellsState}
 use Rattle.bench_c.proofs.inside.state_in.Goals as goal
 

@@ -1,4 +1,4 @@
-use Rattle.std.proofs.Common.{◌≡◌, ◌⊎◌, inl, inr, refl, sym, subst}
+use Rattle.std.proofs.Common.{inl, inr, refl, sym, subst}
 use Rattle.session_layer.specs.Turn.{Took}
 use Rattle.bench_c.specs.Calls.{InHeld, Drives}
 use Rattle.bench_calls.specs.declared.ending.Held.TheVariants.{Open}

@@ -1,4 +1,4 @@
-use Rattle.std.proofs.Common.{◌≡◌, ◌∙◌}
+use Rattle.std.proofs.Common.{◌∙◌}
 use Rattle.bench_door.proofs.driving.next_command.Goals as goal
 
 pub returns-clause-keeps : goal.returns-clause-keeps

@@ -1,4 +1,4 @@
-use Rattle.std.proofs.Common.{◌+◌, ◌≤◌, length, vec_len, vec_capacity}
+use Rattle.std.proofs.Common.{◌+◌, ◌≤◌, vec_len, vec_capacity}
 use Rattle.turns.specs.Lists.{Each}
 use Rattle.edge_rule.specs.DeskView.{Owns}
 use Rattle.bench_hall.proofs.hall.gathered.Given as goal

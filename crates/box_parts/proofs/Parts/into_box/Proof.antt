@@ -1,10 +1,10 @@
 -- `into_box` hands on what the parts own. Assumes `Logic`.
-use Rattle.std.proofs.Common.{◌≡◌, List, [], ◌∷◌, ◌++◌, refl, sym, subst, ap, ◌∙◌}
-use mir.Syntax.{Ty, ty_ptr, a_type, dcons, dnil}
+use Rattle.std.proofs.Common.{◌≡◌, List, [], ◌∷◌, ◌++◌, refl, ◌∙◌}
+use mir.Syntax.{ty_ptr, a_type, dcons, dnil}
 use mir.MapTy.{inst_fn}
 use mir.Val.{Val, vstruct, vcons, vnil, of_list}
 use prog.Wp.{WpFn}
-use base.Logic.{ent, id⊢, emp}
+use base.Logic.{id⊢, emp}
 use contract.Monad.{fact, fact_i}
 use contract.Running.{tables}
 use types.Kit.{‵, raw, ◌⊛◌, some, later, at_ret, ◌$◌, ◌∵◌, !, qed, drop, use0, use1, split, move, join, fpick, fsplit, fjoin, feq_l, await, pick, regoal, rewrite, keep, prop, by}
@@ -15,7 +15,7 @@ use denote.Exit.{no}
 use denote.Laws.{Is, shows}
 use denote.Param.{param, bounded, layout}
 use denote.Param.Laws.{param_laws}
-use denote.RattleType.{Valss, owns}
+use denote.RattleType.{owns}
 use denote.RawPtr.{RawPtr, rawptr_vals, rawptr_Tells, rawptr_Lawful}
 use denote.Signature.{plain, type_at, types_at}
 use contract.Lifetimes.{lft_at}
@@ -32,7 +32,6 @@ use Rattle.core.proofs.alloc.Calls.{Goes-blank, Al, handle_tells}
 use Rattle.std.proofs.raw_atomic.Walks.{proved_at, leaves}
 use Rattle.std_alloc.specs.Box.{box_allocator}
 use Rattle.std.proofs.VecSteps.Shapes.{after}
-use Rattle.box_parts.proofs.Steps.{single}
 use Rattle.box_parts.specs.contracts.Parts as P
 use Rattle.std_alloc.specs.contracts.boxed.Box as B
 use Rattle.std_alloc.proofs.boxed.Box.TheLaws as BL

@@ -1,13 +1,12 @@
 -- `of` hands on what the box owned. Assumes `Logic`.
 use Rattle.std.proofs.Common.{◌≡◌, List, [], ◌∷◌, ◌++◌, refl, sym, subst, ap, ◌∙◌}
-use mir.Syntax.{Ty, ty_ptr, a_type, dcons, dnil}
+use mir.Syntax.{ty_ptr, a_type, dcons, dnil}
 use mir.MapTy.{inst_fn}
 use mir.Val.{Val, vstruct, vcons, vnil, of_list}
-use mir.Val.{has_ty, WT}
 use prog.Wp.{WpFn}
 use base.Logic.{ent, id⊢, emp}
 use contract.Running.{tables}
-use types.Kit.{‵, raw, ◌⊛◌, some, later, ◌$◌, ◌∵◌, !, qed, done, drop, use1, split, move, fpick, fsplit, feq_l, feq_i, fjoin, fpack, rewrite, use0, by, await, pick}
+use types.Kit.{‵, raw, ◌⊛◌, some, later, ◌$◌, ◌∵◌, !, qed, drop, use1, split, move, fpick, fsplit, feq_l, feq_i, fjoin, fpack, rewrite, use0, by, await, pick}
 use types.Run.{of_opd, no_more, and_then, enter, stop, fld, returns}
 use types.Part.{whole, sub, agg}
 use types.ByLocal.{alloc_all, pass_all, free_all, look_at, get, get_in, sets, lands_as}

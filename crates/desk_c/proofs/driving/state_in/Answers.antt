@@ -1,7 +1,6 @@
-use Rattle.std.proofs.Common.{◌≡◌, ap, ◌∙◌, refl, sym, subst}
+use Rattle.std.proofs.Common.{ap, ◌∙◌, refl, sym, subst}
 use Rattle.bench_calls.specs.Telling.{state_of}
 use Rattle.desk_c.specs.Calls.{InDesk, TellsState}
-use Rattle.desk_c.specs.declared.slot.Shared.TheVariants.{Seat}
 use Rattle.desk_c.proofs.driving.state_in.Goals as goal
 
 pub returns-in-Seat : goal.returns-in-Seat

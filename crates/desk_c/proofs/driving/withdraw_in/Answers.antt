@@ -1,4 +1,4 @@
-use Rattle.std.proofs.Common.{◌≡◌, refl, sym, subst}
+use Rattle.std.proofs.Common.{refl, sym, subst}
 use Rattle.desk_c.specs.Calls.{InDesk, GivesUp}
 use Rattle.desk_c.specs.declared.slot.Shared.TheVariants.{Seat}
 use Rattle.desk_c.proofs.driving.withdraw_in.Goals as goal

@@ -1,13 +1,12 @@
-use Rattle.std.proofs.Common.{◌≡◌, ◌<◌, ◌++◌, ◌∷◌, [], ◌+◌, ℕ, refl, length, take, slice_index_or, ap, sym, ◌∙◌, subst}
+use Rattle.std.proofs.Common.{◌≡◌, ◌<◌, ◌++◌, ◌∷◌, [], ◌+◌, refl, length, take, slice_index_or, ap, sym, ◌∙◌, subst}
 use Rattle.std.specs.List.{All}
 use Rattle.std.proofs.lemmas.List.Elements.{All-push}
 use Rattle.std.proofs.lemmas.Bool.{false≢true}
-use Rattle.legal_steps.specs.declared.event.Event.{Event}
 use Rattle.legal_steps.specs.Steps.{IsStepOf}
 use Rattle.legal_steps.specs.Legal.{May}
 use Rattle.legal_moves.specs.Moves.{all_moves, Keeps, IsLegalNow}
 use Rattle.legal_moves.proofs.Lists.{keeps_more, keeps_less}
-use Rattle.legal_moves.proofs.OfPlan.{all_of_plan, of_plan_at}
+use Rattle.legal_moves.proofs.OfPlan.{of_plan_at}
 use Rattle.legal_moves.proofs.legal.legal_moves.Goals as goal
 use Rattle.legal_moves.proofs.legal.legal_moves.Goals.{then-enabled+in_ok-push, else-enabled}
 

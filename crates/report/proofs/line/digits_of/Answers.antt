@@ -1,4 +1,4 @@
-use Rattle.std.proofs.Common.{rules, arith, ◌≡◌, ◌+◌, ◌≤◌, ◌<◌, ◌/◌, ◌^◌, ◌++◌, ℕ, length, decimal, ap, ◌∙◌, length-append}
+use Rattle.std.proofs.Common.{rules, arith, ◌≡◌, ◌+◌, ◌≤◌, ◌<◌, ◌/◌, ◌^◌, ℕ, length, decimal, ap, ◌∙◌, length-append}
 use Rattle.std.proofs.lemmas.Fmt.{decimal_step, decimal_nonempty, length-decimal-le}
 use Rattle.report.proofs.line.digits_of.Goals as goal
 

@@ -2,7 +2,6 @@ use Rattle.std.proofs.Common.{◌≡◌, ◌++◌, ◌==◌, ℕ, Bool, true, fa
 use Rattle.std.specs.Prelude.{codes}
 use Rattle.std.specs.Int.{bit_at}
 use Rattle.step_texts.specs.Names.{bottle_name}
-use Rattle.step_texts.specs.StepTexts.{member_text}
 use Rattle.step_texts.proofs.Members.{member}
 use Rattle.step_texts.proofs.steps.add_member.Goals as goal
 

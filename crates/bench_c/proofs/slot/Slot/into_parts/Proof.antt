@@ -1,18 +1,16 @@
 -- `into_parts` hands on what the slot owns. Assumes `Logic`.
-use Rattle.std.proofs.Common.{◌≡◌, List, [], ◌∷◌, ◌++◌, refl, sym, ◌∙◌, Option, Some}
+use Rattle.std.proofs.Common.{◌≡◌, List, [], ◌∷◌, ◌++◌, refl, sym, Option, Some}
 use mir.Syntax.{Fn}
-use mir.Val.{Val, vunit, vstruct, vcons, vnil, of_list}
+use mir.Val.{Val}
 use base.Logic.{SProp, emp}
-use base.Fml.{ftrue}
 use prog.Wp.{WpFn}
 use contract.Monad.{fact, fact_i}
 use contract.Running.{tables}
-use types.Kit.{‵, raw, ◌⊛◌, prop, given, ◌$◌, ◌∵◌, !, qed, by, move, keep, drop, use0, split, regoal, rewrite, learn, fsplit, fjoin}
+use types.Kit.{‵, raw, ◌⊛◌, prop, ◌$◌, ◌∵◌, !, qed, by, move, keep, drop, use0, split, regoal, rewrite, fsplit, fjoin}
 use types.Part.{whole, sub, agg}
 use types.Run.{stop, fld, of_opd, no_more, and_then, returns, enter}
 use types.ByLocal.{alloc_all, pass_all, free_all, look_at, get, get_in, sets}
 use denote.RattleType.{owns}
-use denote.RawPtr.{ptr_val}
 use denote.Signature.{types_at}
 use denote.Steps.{nothing, heard}
 use denote.Triple.Entry.{alive}

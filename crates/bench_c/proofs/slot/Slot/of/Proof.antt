@@ -4,7 +4,7 @@ use mir.Syntax.{Fn}
 use mir.Val.{Val, vunit, vstruct, vcons, vnil, of_list}
 use base.Logic.{SProp, emp}
 use base.Fml.{ftrue}
-use prog.Wp.{Env, WpFn}
+use prog.Wp.{WpFn}
 use contract.Monad.{fact, fact_i}
 use contract.Running.{tables}
 use types.Kit.{‵, raw, ◌⊛◌, prop, ◌$◌, ◌∵◌, !, qed, by, move, drop, use0, split, regoal, fsplit, fjoin}
