@@ -1,8 +1,8 @@
 -- A colouring on its way: what is near a job, and one more job that gets its colour.
-use Rattle.std.proofs.Common.{◌≡◌, ◌≢◌, ◌⊎◌, ◌↔◌, ℕ, ◌+◌, ◌<◌, ◌≤◌, Bool, List, length, slice_index, slice_index_or, arith, refl, sym, subst, ap, ◌∙◌}
+use Rattle.std.proofs.Common.{◌≡◌, ◌≢◌, ◌⊎◌, ℕ, ◌+◌, ◌<◌, ◌≤◌, List, length, slice_index, slice_index_or, arith, refl, sym, subst, ap, ◌∙◌}
 use Rattle.std.proofs.Common.{inl, inr, get_or-set_same, get_or-set_other}
-use Rattle.std.specs.Prelude.{◌==◌, min, max, Option, None, Some, MatchOption, cond, true, false, replicate}
-use Rattle.std.specs.List.{All, Contains, slice_get, count_by, sum_by}
+use Rattle.std.specs.Prelude.{◌==◌, min, max, Some, cond, true, false, replicate}
+use Rattle.std.specs.List.{All, Contains, slice_get, count_by}
 use Rattle.std.proofs.Math.ListN.{set, length-set}
 use Rattle.std.proofs.lemmas.Bool.{cases_eq, eq-eqb, ne_eqb}
 use Rattle.std.proofs.lemmas.List.{length-replicate, get_or-replicate}
@@ -11,7 +11,7 @@ use Rattle.std.proofs.lemmas.List.Sums.{sum_by-set, count_by-le-length}
 use Rattle.std.proofs.lemmas.Option.{slice_get_within, get_or_from_slice_get}
 use Rattle.lab_plan.specs.LabPlan.{LabPlan, edges, ends, lower_first}
 use Rattle.lab_plan.proofs.Edges.{IsPair, edges_are_pairs, ends_are_pair}
-use Rattle.arranging.specs.Colours.{IsNear, IsGreedy, NeighboursDiffer}
+use Rattle.arranging.specs.Colours.{IsNear}
 
 -- ---- neighbours
 
