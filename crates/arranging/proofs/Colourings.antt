@@ -1,27 +1,18 @@
 -- A colouring on its way: what is near a job, and one more job that gets its colour.
 use Rattle.std.proofs.Common.{◌≡◌, ◌≢◌, ◌⊎◌, ℕ, ◌+◌, ◌<◌, ◌≤◌, List, length, slice_index, slice_index_or, arith, refl, sym, subst, ap, ◌∙◌}
 use Rattle.std.proofs.Common.{inl, inr, get_or-set_same, get_or-set_other}
-use Rattle.std.specs.Prelude.{◌==◌, min, max, Some, cond, true, false, replicate}
-use Rattle.std.specs.List.{All, Contains, slice_get, count_by}
+use Rattle.std.specs.Prelude.{◌==◌, min, max, cond, true, false, replicate}
+use Rattle.std.specs.List.{All, Contains, count_by}
 use Rattle.std.proofs.Math.ListN.{set, length-set}
 use Rattle.std.proofs.lemmas.Bool.{cases_eq, eq-eqb, ne_eqb}
 use Rattle.std.proofs.lemmas.List.{length-replicate, get_or-replicate}
 use Rattle.std.proofs.lemmas.List.Elements.{All-replicate, Contains-get_or}
 use Rattle.std.proofs.lemmas.List.Sums.{sum_by-set, count_by-le-length}
-use Rattle.std.proofs.lemmas.Option.{slice_get_within, get_or_from_slice_get}
 use Rattle.lab_plan.specs.LabPlan.{LabPlan, edges, ends, lower_first}
 use Rattle.lab_plan.proofs.Edges.{IsPair, edges_are_pairs, ends_are_pair}
 use Rattle.arranging.specs.Colours.{IsNear}
 
 -- ---- neighbours
-
--- an edge that was found is one of the two jobs
-pub edge_there : (plan : LabPlan) (a b e : ℕ) → slice_get (edges plan) e ≡ Some (lower_first a b) → Contains (edges plan) (lower_first a b)
-edge_there plan a b e is = (
-  e,
-  slice_get_within (edges plan) e (lower_first a b) is,
-  get_or_from_slice_get (edges plan) e (lower_first a b) (lower_first a b) is,
-)
 
 -- a neighbour is a job of the plan, and another one
 pub other_job : (plan : LabPlan) (a b : ℕ) → Contains (edges plan) (lower_first a b) → (b < length plan.jobs) × (b ≢ a)
