@@ -107,7 +107,7 @@ impl<A: Allocator> Draft<A> {
     {
         let last = self.jobs.len() - 1;
         let job = &mut self.jobs[last];
-        job.begin(alloc, patience)
+        job.begin(patience)
     }
 
     fn add_instrument(&mut self, alloc: A, name: &[u8]) -> Result<(), AllocError>
@@ -215,7 +215,7 @@ impl<A: Allocator> Draft<A> {
         requires is_session { session ≤ length (sessions self.now job) }
         ensures { result.now ≡ commands self.now job session }
     {
-        self.jobs[job.0 as usize].session(session).commands()
+        self.jobs[job.0 as usize].commands(session)
     }
 
     pub(crate) fn patience(&self, job: JobNo, session: u32) -> Option<u32>
@@ -224,11 +224,15 @@ impl<A: Allocator> Draft<A> {
         requires is_session { session ≤ length (sessions self.now job) }
         ensures { result ≡ patience self.now job session }
     {
-        self.jobs[job.0 as usize].session(session).patience()
+        self.jobs[job.0 as usize].patience(session)
     }
 }
 
 impl<A: Allocator> Draft<A> {
+    pub(crate) fn start(&self, job: JobNo, session: u32) -> usize {
+        self.jobs[job.0 as usize].start(session)
+    }
+
     pub(crate) fn all_jobs(&self) -> &[Job<A>]
         ensures { result.now ≡ self.now.jobs }
     {

@@ -20,9 +20,7 @@ fn named_by<A: Allocator>(job: &Job<A>) -> InstrumentSet
     ensures { (i : ℕ) → holds result i ≡ is_named_by job.now i }
 {
     let mut set = InstrumentSet::empty();
-    for session in job.sessions() {
-        set = set.union(InstrumentSet::of(session.commands()));
-    }
+    set = set.union(InstrumentSet::of(job.all_commands()));
     set
 }
 

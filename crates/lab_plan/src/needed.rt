@@ -18,6 +18,6 @@ impl<A: Allocator> Plan<A> {
         ensures { AreNamed self.now job session edge result }
     {
         self.bottles_at(edge)
-            .within(self.table(job, session).needs())
+            .within(self.table(job).needs(session))
     }
 }

@@ -7,7 +7,7 @@ use crate::bottles::Bottles;
 use crate::draft::Draft;
 use crate::numbers::{EdgeNo, InstrumentNo, JobNo};
 use crate::place::Place;
-use crate::session_table::SessionTable;
+use crate::session_table::JobTable;
 use crate::tables::Tables;
 use crate::verb::Verb;
 use std::alloc::{Allocator, Global};
@@ -201,15 +201,8 @@ impl<A: Allocator> Plan<A> {
         self.draft.patience(job, session)
     }
 
-    #[tactic(auto, using(crate::proofs::Readers::table_of, crate::proofs::Readers::job_tables_of, crate::proofs::Readers::session_tables_of))]
-    pub(crate) fn table(&self, job: JobNo, session: u32) -> &SessionTable<A>
-        requires is_job { job < length self.now.jobs }
-        requires begun { 1 ≤ session }
-        requires is_session { session ≤ length (sessions self.now job) }
-        ensures table { IsTable (commands self.now job session) result.now }
-        ensures plan { IsPlan self.now }
-    {
-        self.tables.session(job, session)
+    pub(crate) fn table(&self, job: JobNo) -> &JobTable<A> {
+        self.tables.job(job)
     }
 
     /// The instruments that a session names, as a set: bit i stands for instrument i.
@@ -220,7 +213,7 @@ impl<A: Allocator> Plan<A> {
         ensures needs { (i : ℕ) → bit_at result i ≡ (if session_names self.now job session i then 1 else 0) }
         ensures few { result < 2 ^ length self.now.instruments }
     {
-        self.table(job, session).needs().bits()
+        self.table(job).needs(session).bits()
     }
 
     /// How many of a session's commands are on an instrument.
@@ -232,7 +225,13 @@ impl<A: Allocator> Plan<A> {
         requires is_instrument { instrument < length self.now.instruments }
         ensures { result ≡ part self.now job session instrument }
     {
-        self.table(job, session).part(instrument)
+        let mut count = 0u32;
+        for (other, _) in self.commands(job, session) {
+            if other.0 == instrument.0 {
+                count += 1;
+            }
+        }
+        count
     }
 
     /// The place of a session's command, by its position counted from 0, within the session's part on its instrument.
@@ -244,11 +243,6 @@ impl<A: Allocator> Plan<A> {
         ensures place { result.place ≡ place_at self.now job session position }
         ensures length { result.length ≡ length_at self.now job session position }
     {
-        let (instrument, _) = self.commands(job, session)[position as usize];
-        let table = self.table(job, session);
-        Place {
-            place: table.place(position),
-            length: table.part(instrument),
-        }
+        self.table(job).place(self.draft.start(job, session) + position as usize)
     }
 }

@@ -18,8 +18,8 @@ fn add_session<A: Allocator>(plan: &Plan<A>, job: JobNo, session: u32, rooms: &m
     requires few { (i : ℕ) → i < length plan.now.instruments → slice_index_or rooms.old.items i 0 + part plan.now job session i ≤ 100000 }
     ensures { AreAdded (part plan.now job session) rooms.old.items rooms.new.items }
 {
-    for number in 0..plan.instruments() {
-        rooms[number] += plan.part(job, session, InstrumentNo(number as u8));
+    for (instrument, _) in plan.commands(job, session) {
+        rooms[instrument.0 as usize] += 1;
     }
 }
 
