@@ -1,15 +1,18 @@
 #!/usr/bin/env python3
 """Measures the run of labrun alone, by one, two and four threads.
 
-Usage: bench/alone.py [rounds=N] [program=PATH] [only=NAME,..] [ahead=yes]     (from anywhere, after ./labrun was built; Linux, with cc)
+Usage: bench/alone.py [rounds=N] [program=PATH] [only=NAME,..] [ahead=yes] [awake=yes]     (from anywhere, after ./labrun was built; Linux, with cc)
 
 The workloads are those of speed.py, and `most`: 12 jobs with 100000 commands, as many as a script may have, each on instruments of its
 own. What is measured is told in alone.c, which is preloaded. Each run is made N times (20 unless said), one after another with the others.
 With ahead=yes, as root, they have real-time priority, so that a machine with other work can measure; what else runs waits meanwhile.
+With awake=yes too, a loop of the lowest priority runs on each processor meanwhile. A virtual processor with nothing to do is halted, and
+its host may take a millisecond to wake it when a thread starts there; a machine of one's own takes a few microseconds.
 
 Told are the best times in milliseconds, how many times as fast as one thread two and four are, by the best times and by those in the
 middle, and what starting four threads takes.
 """
+import contextlib
 import os
 import random
 import subprocess
@@ -29,6 +32,18 @@ def measured(words, data, preload):
     return [int(number) for number in told.stderr.split()]
 
 
+@contextlib.contextmanager
+def awake(wanted):
+    """Keeps all processors busy, by loops that give way to whatever else runs."""
+    loop = "import os; os.sched_setaffinity(0, {%d}); os.sched_setscheduler(0, os.SCHED_IDLE, os.sched_param(0))\nwhile True: pass"
+    loops = [subprocess.Popen([sys.executable, "-c", loop % it]) for it in os.sched_getaffinity(0)] if wanted else []
+    try:
+        yield
+    finally:
+        for it in loops:
+            it.kill()
+
+
 def middle(numbers):
     return sorted(numbers)[len(numbers) // 2]
 
@@ -42,7 +57,7 @@ def main(words):
     if keys.get("ahead") == "yes":
         speed.START["preexec_fn"] = speed.goes_ahead
     rows, starts = [], []
-    with tempfile.TemporaryDirectory() as folder:
+    with tempfile.TemporaryDirectory() as folder, awake(keys.get("awake") == "yes"):
         preload, data = os.path.join(folder, "alone.so"), os.path.join(folder, "script")
         subprocess.run(["cc", "-O2", "-shared", "-fPIC", "-o", preload, os.path.join(speed.HERE, "alone.c"), "-ldl"], check=True)
         for name, shape, named in (MOST, *speed.WORKLOADS):
