@@ -103,7 +103,8 @@ pub fn visit_all<A: Allocator>(bench: &Bench<A>, desk: &mut Desk<A>) -> (u32, u3
     (done, lost)
 }
 
-/// What follows a look at an edge whose word isn't the one noted as calm.
+/// What follows a look at an edge whose word isn't the one noted as calm. Kept out of the turn, so that its loop has the registers.
+#[inline(never)]
 fn judge<A: Allocator>(
     bench: &Bench<A>,
     desk: &mut Desk<A>,
