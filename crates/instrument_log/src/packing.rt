@@ -15,19 +15,15 @@ pub fn pack_entry(entry: Entry) -> [u8; 16]
     requires { IsWithinLimits entry }
     ensures { result ≡ entry_bytes entry }
 {
-    let job = u64::from(byte_of_job(entry.job));
-    let code = u64::from(code_of_verb(entry.verb));
-    let number = u64::from(number_of_verb(entry.verb));
-    let length = u64::from(entry.length);
-    let low = job
-        | (u64::from(entry.session) << 8)
-        | (u64::from(entry.place) << 24)
-        | (length << 48);
-    let high = (length >> 16) | (code << 8) | (number << 16) | (u64::from(entry.value) << 40);
-    let [a0, a1, a2, a3, a4, a5, a6, a7] = low.to_le_bytes();
-    let [b0, b1, b2, b3, b4, b5, b6, b7] = high.to_le_bytes();
+    let [s0, s1, _, _] = entry.session.to_le_bytes();
+    let [p0, p1, p2, _] = entry.place.to_le_bytes();
+    let [l0, l1, l2, _] = entry.length.to_le_bytes();
+    let [n0, n1, n2, _] = number_of_verb(entry.verb).to_le_bytes();
+    let [v0, v1, v2, _] = entry.value.to_le_bytes();
+    let job = byte_of_job(entry.job);
+    let code = code_of_verb(entry.verb);
     [
-        a0, a1, a2, a3, a4, a5, a6, a7, b0, b1, b2, b3, b4, b5, b6, b7,
+        job, s0, s1, p0, p1, p2, l0, l1, l2, code, n0, n1, n2, v0, v1, v2,
     ]
 }
 
