@@ -1,7 +1,7 @@
 //! Who keeps whom waiting, in words.
 use crate::reading::plan_of;
 use crate::rows::check;
-use block_lines::{Block, add_blocks};
+use block_lines::{Block, add_blocks, largest_three};
 use lab_plan::{InstrumentNo, JobNo, Plan};
 use std::alloc::Global;
 use std::process::Abort;
@@ -61,4 +61,36 @@ fn blocks_largest_first(rt: HostRuntime) {
     ];
     let text = told(&rt, rt.alloc(), &plan, &blocks);
     check(&rt, "blocks", text.as_slice(), WANTED.as_bytes());
+}
+
+fn check_largest(rt: &impl Abort, alloc: Global, blocks: &[Block], wanted: &[Block]) {
+    match largest_three(alloc, blocks) {
+        Ok(few) => check(rt, "largest", few.as_slice(), wanted),
+        Err(_) => panic!(rt; "no memory for blocks"),
+    }
+}
+
+/// By hand: 7 is most, and of two places with 2 the first comes first. One with 1 is a fourth, and one with none is left out.
+#[test]
+fn three_largest_blocks(rt: HostRuntime) {
+    let blocks = [
+        block(B, B, LAMP, (1, 1)),
+        block(A, B, SCALE, (2, 1)),
+        block(A, B, LAMP, (0, 0)),
+        block(B, A, LAMP, (2, 2)),
+        block(B, A, SCALE, (7, 3)),
+    ];
+    let wanted = [
+        block(B, A, SCALE, (7, 3)),
+        block(A, B, SCALE, (2, 1)),
+        block(B, A, LAMP, (2, 2)),
+    ];
+    check_largest(&rt, rt.alloc(), &blocks, &wanted);
+}
+
+#[test]
+fn fewer_than_three_blocks(rt: HostRuntime) {
+    let blocks = [block(A, B, LAMP, (0, 0)), block(B, A, LAMP, (1, 1))];
+    let wanted = [block(B, A, LAMP, (1, 1))];
+    check_largest(&rt, rt.alloc(), &blocks, &wanted);
 }
