@@ -5,16 +5,9 @@
 static struct lab_shared shared;
 static struct lab_desk desks[MOST_JOBS];
 
-static void look(struct seen *seen) {
-    memset(seen, 0, sizeof *seen);
-    seen->live = shared.live;
-    for (uint32_t job = 0; job < MOST_JOBS; job++) {
-        seen->desks[job] = desks[job].live;
-        seen->status[job] = lab_desk_state(&desks[job], &seen->states[job]);
-    }
-}
+static void look(struct seen *seen) { look_at_desks(seen, &shared, desks); }
 
-static int is_kept(const struct seen *before, const struct seen *after) { return memcmp(before, after, sizeof *before) == 0; }
+static int is_kept(const struct seen *before, const struct seen *after) { return is_same(before, after); }
 
 /* The same calls each time: each job in turn begins, does one command, ends and retires, while the others serve. */
 static void life(struct text script) {

@@ -2,21 +2,14 @@
    changes nothing; called again it goes on, and the report at the end is the one without a refusal. No block is left, but for what an open
    keeps (the number is printed).
 
-   A program says what it looks at (`look`), what a call that answers 5 leaves as it was (`is_kept`), and its lives. */
+   A program says what it looks at (`look`), whether a call that answers 5 left that as it was (`is_kept`), and its lives. */
 #ifndef LIVES_H
 #define LIVES_H
 #include "heap.h"
-#include "scripts.h"
+#include "looks.h"
 
 #define MOST_CALLS 4000
 
-/* What can be seen of a bench: whether its handle and those of its desks are in use, and each job's state. */
-struct seen {
-    uint32_t live, desks[MOST_JOBS], status[MOST_JOBS];
-    struct lab_state states[MOST_JOBS];
-};
-
-static void look(struct seen *seen);
 static int is_kept(const struct seen *before, const struct seen *after);
 
 static uint8_t report[4000000], untouched[4000000], first[4000000];

@@ -4,16 +4,12 @@
 
 static struct lab_bench bench;
 
-static void look(struct seen *seen) {
-    memset(seen, 0, sizeof *seen);
-    seen->live = bench.live;
-    for (uint32_t job = 0; job < MOST_JOBS; job++) seen->status[job] = lab_state(&bench, job, &seen->states[job]);
-}
+static void look(struct seen *seen) { look_at_bench(seen, &bench); }
 
 /* (a close that got as far as to close the bench keeps it closed) */
 static int is_kept(const struct seen *before, const struct seen *after) {
     int closed_now = after->status[0] == LAB_NOT_OPEN && before->status[0] != LAB_NOT_OPEN;
-    return closed_now || memcmp(before, after, sizeof *before) == 0;
+    return closed_now || is_same(before, after);
 }
 
 /* The same calls each time: each job in turn begins, does one command, ends, and retires. */
