@@ -55,8 +55,5 @@ def reckon(plan, limit):
 
 
 if __name__ == "__main__":
-    if len(sys.argv) != 2 or sys.argv[1] == "--help":
-        print(__doc__, end="")
-        sys.exit(0 if sys.argv[1:] == ["--help"] else 2)
-    for line in reckon(simulate.read_script(sys.stdin.buffer.read()), int(sys.argv[1])):
+    for line in reckon(*simulate.given_run(__doc__)):
         print(line)

@@ -165,7 +165,4 @@ LEGEND = (
 )
 
 if __name__ == "__main__":
-    if len(sys.argv) != 2 or sys.argv[1] == "--help":
-        print(__doc__, end="")
-        sys.exit(0 if sys.argv[1:] == ["--help"] else 2)
-    sys.stdout.write(Picture(simulate.read_script(sys.stdin.buffer.read()), int(sys.argv[1])).draw())
+    sys.stdout.write(Picture(*simulate.given_run(__doc__)).draw())

@@ -1005,6 +1005,14 @@ def refused():
     return told("command line refused", 2)
 
 
+def given_run(usage):
+    """What a reckoner is given: the plan on standard input, and the number that is its one word. With other words it ends, and says its usage."""
+    if len(sys.argv) != 2 or sys.argv[1] == "--help":
+        print(usage, end="")
+        sys.exit(0 if sys.argv[1:] == ["--help"] else 2)
+    return read_script(sys.stdin.buffer.read()), int(sys.argv[1])
+
+
 def main(words):
     if words and words[0] == "--check":
         return check(int(words[1]) if len(words) > 1 else 200)

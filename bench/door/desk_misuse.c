@@ -1,61 +1,12 @@
 /* desk_misuse.c: each status and each misuse of a bench with a desk for each thread that a call can tell. At each of them nothing
    changes: the handles, how far each job is, and what the caller's structs held.
    cc -I include bench/door/desk_misuse.c FOLDER/liblabrun.a */
-#include "tests.h"
-
-#define POISON 0xa5
-
-static const char two[] = "lab 2\njob a\nsession\nscale add 1\nlamp set 7\nscale read\nend\nsession\nlamp read\nend\n"
-                          "job b\nsession patience 3\nscale add 2\nend\njob c\n";
+#include "poison.h"
 
 static struct lab_shared shared;
-static struct lab_desk desks[3], none;
+static struct lab_desk desks[MOST_JOBS], *const none = &desks[MOST_JOBS - 1];
 
-static union {
-    uint8_t bytes[512];
-    struct lab_told told;
-    struct lab_size size;
-    struct lab_turned turned;
-    struct lab_state state;
-    struct lab_entry entry;
-} out;
-
-static int untouched(void) {
-    for (size_t at = 0; at < sizeof out.bytes; at++)
-        if (out.bytes[at] != POISON) return 0;
-    return 1;
-}
-
-struct all {
-    uint32_t live[5], status[3];
-    struct lab_state states[3];
-};
-
-static struct all all_of_it(void) {
-    struct all all;
-    memset(&all, 0, sizeof all);
-    all.live[0] = shared.live;
-    all.live[1] = none.live;
-    for (int job = 0; job < 3; job++) {
-        all.live[2 + job] = desks[job].live;
-        all.status[job] = lab_desk_state(&desks[job], &all.states[job]);
-    }
-    return all;
-}
-
-/* A call that has to answer `wanted` and to change and to tell nothing. */
-#define REFUSED(wanted, call)                                                                                      \
-    do {                                                                                                           \
-        struct all before = all_of_it();                                                                           \
-        memset(out.bytes, POISON, sizeof out.bytes);                                                               \
-        uint32_t got = (call);                                                                                     \
-        int told = !untouched();                                                                                   \
-        struct all after = all_of_it();                                                                            \
-        expect(got == (wanted) && !told && memcmp(&before, &after, sizeof before) == 0, "line %d: %s: status %u, wanted %u%s", __LINE__, \
-               #call, got, (unsigned)(wanted), told ? ", and something was told" : "");                            \
-    } while (0)
-
-#define IS(what) expect((what), "line %d: %s", __LINE__, #what)
+static void look(struct seen *seen) { look_at_desks(seen, &shared, desks); }
 
 static uint8_t report[4096], as_it_was[4096];
 
@@ -77,8 +28,8 @@ static void no_desk(struct lab_desk *desk) {
 /* Every call on a bench that isn't open. */
 static void no_bench(int is_closed) {
     REFUSED(LAB_NOT_OPEN, lab_shared_size(&shared, &out.size));
-    REFUSED(LAB_NOT_OPEN, lab_take_desk(&shared, 0, &none));
-    REFUSED(LAB_NOT_OPEN, lab_take_desk(&shared, 99, &none));
+    REFUSED(LAB_NOT_OPEN, lab_take_desk(&shared, 0, none));
+    REFUSED(LAB_NOT_OPEN, lab_take_desk(&shared, 99, none));
     if (!is_closed) REFUSED(LAB_NOT_OPEN, lab_shared_close(&shared, report, sizeof report, &out.told));
 }
 
@@ -98,12 +49,12 @@ static void taking(void) {
     IS(open_two(&shared) == LAB_DONE && shared.live == 1);
     REFUSED(LAB_NOT_OPEN, open_two(&shared));
     IS(lab_shared_size(&shared, &out.size) == LAB_DONE && out.size.jobs == 3 && out.size.instruments == 2);
-    no_desk(&none);
-    REFUSED(LAB_NOT_THERE, lab_take_desk(&shared, 3, &none));
-    REFUSED(LAB_NOT_THERE, lab_take_desk(&shared, 0xffffffffu, &none));
+    no_desk(none);
+    REFUSED(LAB_NOT_THERE, lab_take_desk(&shared, 3, none));
+    REFUSED(LAB_NOT_THERE, lab_take_desk(&shared, 0xffffffffu, none));
     for (uint32_t job = 0; job < 3; job++) {
         IS(lab_take_desk(&shared, job, &desks[job]) == LAB_DONE && desks[job].live == 1);
-        REFUSED(LAB_NOT_YET, lab_take_desk(&shared, job, &none));
+        REFUSED(LAB_NOT_YET, lab_take_desk(&shared, job, none));
         REFUSED(LAB_NOT_OPEN, lab_take_desk(&shared, job, &desks[0]));
         REFUSED(LAB_NOT_YET, lab_shared_close(&shared, report, sizeof report, &out.told));
     }
@@ -216,7 +167,7 @@ int main(void) {
     memset(as_it_was, 0xaa, sizeof as_it_was);
     memcpy(report, as_it_was, sizeof report);
     no_bench(0);
-    no_desk(&none);
+    no_desk(none);
     faults();
     no_bench(0);
     taking();

@@ -1,23 +1,9 @@
 /* memory.c SCRIPT ..: each allocation of each call is refused in turn. The status is then 5, the report as it was, and no block is left.
    cc -I include bench/door/memory.c FOLDER/liblabrun.a -Wl,--wrap=malloc -Wl,--wrap=realloc -Wl,--wrap=free */
+#include "heap.h"
 #include "labrun.h"
 #include <stdio.h>
-#include <stdlib.h>
 #include <string.h>
-
-static long asked, refused, blocks;
-void *__real_malloc(size_t), *__real_realloc(void *, size_t);
-void __real_free(void *);
-void *__wrap_malloc(size_t size) {
-    if (++asked == refused) return NULL;
-    blocks++;
-    return __real_malloc(size);
-}
-void *__wrap_realloc(void *old, size_t size) { return ++asked == refused ? NULL : __real_realloc(old, size); }
-void __wrap_free(void *old) {
-    if (old) blocks--;
-    __real_free(old);
-}
 
 static uint8_t script[16777217], report[4000000], before[4000000];
 static struct lab_told told;

@@ -1,82 +1,15 @@
 /* misuse.c: each status and each misuse of a bench that a call can tell. At each of them nothing changes: the handle, how far each job
    is, and what the caller's structs held.
    cc -I include bench/door/misuse.c FOLDER/liblabrun.a */
-#include "tests.h"
+#include "poison.h"
 
-#define POISON 0xa5
-
-static const char two[] = "lab 2\njob a\nsession\nscale add 1\nlamp set 7\nscale read\nend\nsession\nlamp read\nend\n"
-                          "job b\nsession patience 3\nscale add 2\nend\njob c\n";
 static const char three[] = "lab 1\njob x\nsession\ndial add 1\nend\njob y\nsession\ndial add 2\nlamp read\nend\n"
                             "job z\nsession\nlamp read\ndial read\nend\n";
 static const char lone[] = "lab 1\njob only\nsession\ndial add 999999\ndial add 5\nend\n";
 
 static struct lab_bench bench;
 
-/* Room for whatever a call tells, poisoned before the call. */
-static union {
-    uint8_t bytes[512];
-    struct lab_told told;
-    struct lab_size size;
-    struct lab_session session;
-    struct lab_turned turned;
-    struct lab_state state;
-    struct lab_entry entry;
-    struct lab_planned planned;
-    uint32_t jobs;
-    struct {
-        size_t written;
-        uint8_t name[64];
-    } name;
-} out;
-
-static void poison(void) { memset(out.bytes, POISON, sizeof out.bytes); }
-
-static int untouched(size_t from) {
-    for (size_t at = from; at < sizeof out.bytes; at++)
-        if (out.bytes[at] != POISON) return 0;
-    return 1;
-}
-
-struct all {
-    struct lab_bench bench;
-    uint32_t status[4];
-    struct lab_state states[4];
-};
-
-static struct all all_of_it(struct lab_bench *of) {
-    struct all all;
-    memset(&all, 0, sizeof all);
-    all.bench.live = of->live;
-    for (uint32_t job = 0; job < 4; job++) all.status[job] = lab_state(of, job, &all.states[job]);
-    return all;
-}
-
-static int is_same(struct lab_bench *of, struct all before) {
-    struct all after = all_of_it(of);
-    return memcmp(&before, &after, sizeof before) == 0;
-}
-
-/* A call that has to answer `wanted` and to change and to tell nothing. */
-#define REFUSED(wanted, call)                                                                                      \
-    do {                                                                                                           \
-        struct all before_it = all_of_it(&bench);                                                                  \
-        poison();                                                                                                  \
-        uint32_t got = (call);                                                                                     \
-        expect(got == (wanted) && untouched(0) && is_same(&bench, before_it), "line %d: %s: status %u, wanted %u%s", __LINE__, #call, got, \
-               (unsigned)(wanted), untouched(0) ? "" : ", and something was told");                                \
-    } while (0)
-
-/* A call that has to answer `wanted` and to leave all jobs as they are; what it tells is looked at afterwards. */
-#define TELLS(wanted, call)                                                                                        \
-    do {                                                                                                           \
-        struct all before_it = all_of_it(&bench);                                                                  \
-        poison();                                                                                                  \
-        uint32_t got = (call);                                                                                     \
-        expect(got == (wanted) && is_same(&bench, before_it), "line %d: %s: status %u, wanted %u", __LINE__, #call, got, (unsigned)(wanted)); \
-    } while (0)
-
-#define IS(what) expect((what), "line %d: %s", __LINE__, #what)
+static void look(struct seen *seen) { look_at_bench(seen, &bench); }
 
 static uint32_t open_two(void) { return lab_bench_open((const uint8_t *)two, sizeof two - 1, &bench, &out.told); }
 
@@ -214,9 +147,7 @@ static void no_such_job(void) {
 /* What a job that holds nothing is refused. */
 static void holds_not(uint32_t job) {
     REFUSED(LAB_NOT_YET, lab_command(&bench, job, &out.entry));
-    struct all before = all_of_it(&bench);
-    poison();
-    IS(lab_end(&bench, job, &out.turned) == LAB_NOT_YET && is_same(&bench, before));
+    TELLS(LAB_NOT_YET, lab_end(&bench, job, &out.turned));
 }
 
 /* These jobs, and no others, keep the job waiting for the instrument. */

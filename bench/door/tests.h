@@ -60,30 +60,29 @@ static inline int same_text(struct text one, struct text other) {
     return one.length == other.length && (one.length == 0 || memcmp(one.bytes, other.bytes, one.length) == 0);
 }
 
-/* The report of a bench that is closed by this; the first call only asks how long it is. */
+/* Whether a call that was given no room has a report, and is to be made again with as much room as that needs. */
+static inline int has_report(uint32_t status, struct lab_told told, struct text *report) {
+    report->length = 0;
+    report->bytes = NULL;
+    if (status != LAB_NO_ROOM) return 0;
+    report->length = told.written;
+    report->bytes = (uint8_t *)malloc(told.written);
+    if (!report->bytes) exit(70);
+    return 1;
+}
+
+/* The report of a bench that is closed by this. */
 static inline uint32_t close_bench(struct lab_bench *bench, struct text *report) {
     struct lab_told told = {0, 0, 0};
     uint8_t none[1] = {0};
     uint32_t status = lab_bench_close(bench, none, 0, &told);
-    report->length = 0;
-    report->bytes = NULL;
-    if (status != LAB_NO_ROOM) return status;
-    report->length = told.written;
-    report->bytes = (uint8_t *)malloc(told.written);
-    if (!report->bytes) exit(70);
-    return lab_bench_close(bench, report->bytes, report->length, &told);
+    return has_report(status, told, report) ? lab_bench_close(bench, report->bytes, report->length, &told) : status;
 }
 
 /* The report of the script's run in rounds, by the call that is proved to give it. */
 static inline uint32_t in_rounds(struct text script, uint32_t limit, struct text *report, struct lab_told *told) {
     uint8_t none[1] = {0};
     uint32_t status = lab_rounds(script.bytes, script.length, limit, none, 0, told);
-    report->length = 0;
-    report->bytes = NULL;
-    if (status != LAB_NO_ROOM) return status;
-    report->length = told->written;
-    report->bytes = (uint8_t *)malloc(told->written);
-    if (!report->bytes) exit(70);
-    return lab_rounds(script.bytes, script.length, limit, report->bytes, report->length, told);
+    return has_report(status, *told, report) ? lab_rounds(script.bytes, script.length, limit, report->bytes, report->length, told) : status;
 }
 #endif

@@ -40,22 +40,8 @@ fn main() {
     times.part("read");
     let slots: Vec<Slot> = shared::empty_logs(&plan).into_iter().map(|log| Slot(Mutex::new(log))).collect();
     times.part("open");
-    let mut counts = vec![Counts::default(); plan.jobs.len()];
-    if turns > 0 {
-        std::thread::scope(|scope| {
-            let running: Vec<_> = (0..plan.jobs.len()).map(|job| scope.spawn({
-                let (plan, slots) = (&plan, &slots);
-                move || drive(plan, job, slots)
-            })).collect();
-            for (job, one) in running.into_iter().enumerate() {
-                counts[job] = one.join().expect("a whole run");
-            }
-        });
-    }
+    let counts = shared::thread_a_job(plan.jobs.len(), turns, |job| drive(&plan, job, &slots));
     times.part("run");
     let logs: Vec<Log> = slots.into_iter().map(|slot| slot.0.into_inner().expect("a log")).collect();
-    let finished = shared::write_report(&plan, &logs.iter().collect::<Vec<_>>(), &counts);
-    times.part("print");
-    times.tell();
-    std::process::exit(if finished { 0 } else { 3 });
+    shared::end(&plan, &logs, &counts, times)
 }

@@ -56,22 +56,8 @@ fn main() {
     let slots: Vec<Slot> = shared::empty_logs(&plan).into_iter().map(|log| Slot(UnsafeCell::new(log))).collect();
     let broker = Broker { taken: Mutex::new(0), freed: Condvar::new() };
     times.part("open");
-    let mut counts = vec![Counts::default(); plan.jobs.len()];
-    if turns > 0 {
-        std::thread::scope(|scope| {
-            let running: Vec<_> = (0..plan.jobs.len()).map(|job| scope.spawn({
-                let (plan, broker, slots) = (&plan, &broker, &slots);
-                move || drive(plan, job, broker, slots)
-            })).collect();
-            for (job, one) in running.into_iter().enumerate() {
-                counts[job] = one.join().expect("a whole run");
-            }
-        });
-    }
+    let counts = shared::thread_a_job(plan.jobs.len(), turns, |job| drive(&plan, job, &broker, &slots));
     times.part("run");
     let logs: Vec<Log> = slots.into_iter().map(|slot| slot.0.into_inner()).collect();
-    let finished = shared::write_report(&plan, &logs.iter().collect::<Vec<_>>(), &counts);
-    times.part("print");
-    times.tell();
-    std::process::exit(if finished { 0 } else { 3 });
+    shared::end(&plan, &logs, &counts, times)
 }

@@ -350,8 +350,5 @@ fn main() {
     times.part("run");
     let counts: Vec<Counts> = desks.iter().map(|desk| desk.counts).collect();
     let logs: Vec<Log> = bench.slots.into_iter().map(|slot| slot.0.into_inner()).collect();
-    let finished = shared::write_report(&plan, &logs.iter().collect::<Vec<_>>(), &counts);
-    times.part("print");
-    times.tell();
-    std::process::exit(if finished { 0 } else { 3 });
+    shared::end(&plan, &logs, &counts, times)
 }

@@ -205,7 +205,7 @@ fn put_entry(out: &mut Vec<u8>, plan: &Plan, &Entry(first, second): &Entry) {
 /// Writes the report, by a buffer; answers whether every job is retired.
 // (a function of its own, as read_plan is)
 #[inline(never)]
-pub fn write_report(plan: &Plan, logs: &[&Log], counts: &[Counts]) -> bool {
+fn write_report(plan: &Plan, logs: &[Log], counts: &[Counts]) -> bool {
     let mut writer = std::io::BufWriter::new(std::io::stdout().lock());
     let mut out = Vec::with_capacity(256);
     writeln!(writer, "lab {}", plan.version).expect("written");
@@ -275,4 +275,27 @@ pub fn words() -> (usize, u64) {
             std::process::exit(2)
         }
     }
+}
+
+/// Drives each job on a thread of its own, or none if there are no turns.
+pub fn thread_a_job(jobs: usize, turns: u64, drive: impl Fn(usize) -> Counts + Sync) -> Vec<Counts> {
+    let mut counts = vec![Counts::default(); jobs];
+    if turns > 0 {
+        let drive = &drive;
+        std::thread::scope(|scope| {
+            let running: Vec<_> = (0..jobs).map(|job| scope.spawn(move || drive(job))).collect();
+            for (job, one) in running.into_iter().enumerate() {
+                counts[job] = one.join().expect("a whole run");
+            }
+        });
+    }
+    counts
+}
+
+/// Writes the report and the times, and ends the program as labrun does.
+pub fn end(plan: &Plan, logs: &[Log], counts: &[Counts], mut times: Times) -> ! {
+    let finished = write_report(plan, logs, counts);
+    times.part("print");
+    times.tell();
+    std::process::exit(if finished { 0 } else { 3 });
 }

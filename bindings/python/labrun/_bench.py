@@ -153,12 +153,10 @@ class Session:
                     bench._may_go_on()
                     if not woken.wait(self._span(until)):
                         bench._look_again(job.index)
-                        if wait.outcome is None and until is not None and time.monotonic() >= until:
-                            raise self._timed_out()
+                        self._check_time(wait, until)
                 self._came(wait)
         except BaseException as fault:
-            if not isinstance(fault, LabrunError) or isinstance(fault, Stopped):
-                self.give_up()
+            self._left_by(fault)
             raise
 
     async def acquire_async(self, timeout: Optional[float] = None) -> None:
@@ -189,12 +187,10 @@ class Session:
                     if wait.outcome is None:
                         bench._may_go_on()
                         bench._look_again(job.index)
-                    if wait.outcome is None and until is not None and time.monotonic() >= until:
-                        raise self._timed_out()
+                    self._check_time(wait, until)
             self._came(wait)
         except BaseException as fault:
-            if not isinstance(fault, LabrunError) or isinstance(fault, Stopped):
-                self.give_up()
+            self._left_by(fault)
             raise
 
     def _span(self, until: Optional[float]) -> float:
@@ -207,11 +203,19 @@ class Session:
             raise Withdrawn(self)
         self.state = "held"
 
-    def _timed_out(self) -> TimeoutError:
+    def _check_time(self, wait: _Wait, until: Optional[float]) -> None:
+        """Raises TimeoutError if the session still waits and its time is over."""
         bench, job = self.job.bench, self.job
+        if wait.outcome is not None or until is None or time.monotonic() < until:
+            return
         bench._waiting[job.index].wake = _nobody
         self.state, job._asked = "asked", self
-        return TimeoutError(self, bench._keepers(job.index))
+        raise TimeoutError(self, bench._keepers(job.index))
+
+    def _left_by(self, fault: BaseException) -> None:
+        """Gives the session up, but for a fault that says itself what became of it."""
+        if not isinstance(fault, LabrunError) or isinstance(fault, Stopped):
+            self.give_up()
 
     def release(self) -> None:
         """Logs the session's commands that are left, and lets its instruments go. NotHeld if it doesn't hold them."""

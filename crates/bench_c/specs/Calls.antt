@@ -22,6 +22,7 @@ use Rattle.bench_keepers.specs.Keepers.{AreKeepersAt}
 use Rattle.bench_calls.specs.declared.ending.Held.{Held}
 use Rattle.bench_calls.specs.declared.ending.Held.TheVariants.{Open, Ended, Reported, Moved as Gone}
 use Rattle.bench_calls.specs.Closing.{ClosesHeld}
+use Rattle.bench_calls.specs.Handles.{InHandle}
 use Rattle.c_tells.specs.declared.telling.Told.{Told}
 use Rattle.bench_calls.specs.declared.told.LabTurned.{LabTurned}
 use Rattle.bench_calls.specs.declared.told.LabSize.{LabSize}
@@ -32,14 +33,9 @@ use Rattle.bench_calls.specs.declared.told.LabPlanned.{LabPlanned}
 use Rattle.c_tells.specs.Telling.{told_of, Gives}
 use Rattle.bench_calls.specs.Telling.{turned_of, session_of, state_of, planned_of, stage_status, TellsEnded, TellsEntry}
 
--- what was taken out of a handle
-abbrev pub IsHeld : {B : Type 0} → (B → Held) → Option B → Option Held → Type 0
-IsHeld value (Some b) held = held ≡ Some (value b)
-IsHeld value None held = held ≡ None
-
 -- ---- opening
 
--- an empty handle has the lab of the script now (0), or no lab was opened, the handle is as it was and the fault is told; or the handle
+-- an empty handle has the lab of the script now (0), or no lab was opened, the handle is as it was and the fault is reported; or the handle
 -- is in use, and nothing changed (7)
 abbrev pub Opens : List ℕ → Option Held → Option Held → Told → Told → ℕ → Type 0
 Opens script (Some held) new told told' status = (status ≡ 7) × (new ≡ Some held) × (told' ≡ told)
@@ -58,8 +54,7 @@ InHeld Did Gone new told told' status = (status ≡ 7) × (new ≡ Gone) × (tol
 
 -- the same of a handle, which may have nothing
 abbrev pub InLab : {T : Type 0} → (Lab → Lab → T → T → ℕ → Type 0) → Option Held → Option Held → T → T → ℕ → Type 0
-InLab Did (Some old) new told told' status = (h : Held) × (new ≡ Some h) × InHeld Did old h told told' status
-InLab Did None new told told' status = (status ≡ 7) × (new ≡ None) × (told' ≡ told)
+InLab Did old new told told' status = InHandle (InHeld Did) old new told told' status
 
 -- the job's desk did so, no other was touched, and the answer is told; or there is no such job, and nothing changed (2)
 abbrev pub Drives : (DeskView → Turned → DeskView → Type 0) → ℕ → Lab → Lab → LabTurned → LabTurned → ℕ → Type 0

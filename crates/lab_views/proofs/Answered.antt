@@ -11,6 +11,7 @@ use Rattle.lab_program.specs.Faults.{fault_of}
 use Rattle.lab_program.specs.Input.{IsTooLong}
 use Rattle.lab_program.specs.Answers.{AnswersFor, AnswersTo, ScriptRefuses}
 use Rattle.lab_program.proofs.RunAnswers.{for_read, not_read}
+use Rattle.timeline.specs.declared.fault.TimelineFault.{TimelineFault}
 use Rattle.measured_orders.specs.declared.gain.Gain.{Gain}
 use Rattle.labview_words.specs.declared.words.View.{View}
 use Rattle.labview_words.specs.declared.words.View.TheVariants.{Explain, Picture, Table, Arrange, ArrangeMeasured, Trace, Waits, Blocks, Gantt}
@@ -19,8 +20,9 @@ use Rattle.lab_views.specs.declared.picture_fault.PictureFault.TheVariants.{Repo
 use Rattle.lab_views.specs.declared.view_fault.ViewFault.{ViewFault}
 use Rattle.lab_views.specs.declared.view_fault.ViewFault.TheVariants.{OfScript, OfReport, GivenScript, GivenReport}
 use Rattle.lab_views.specs.Views.{Explains, StepsAreRefused}
-use Rattle.lab_views.specs.Pictures.{DrawsFor, PictureAnswers, for_reading}
-use Rattle.lab_views.specs.Tables.{TabulatesFor, TableAnswers}
+use Rattle.lab_views.specs.ReportViews.{ReportAnswersFor, ReportAnswersTo}
+use Rattle.lab_views.specs.Pictures.{Pictures, HasNoTimeline, for_reading}
+use Rattle.lab_views.specs.Tables.{Tabulates, LacksNothing}
 use Rattle.lab_views.specs.Arranged.{Arranges}
 use Rattle.lab_views.specs.BestOrders.{ArrangesBest}
 use Rattle.lab_views.specs.Traces.{Traces}
@@ -62,39 +64,33 @@ script_at W R left old new seen input r is whole within a = (
   of_script_on (IsReport seen) (IsGiven IsReport left) (given IsReport left seen input is whole within) a.0 r a.2,
 )
 
-picture_at : (left old new : Option (List ℕ)) (input : List ℕ) (a : Result (Unit {0}) PictureFault)
-    → IfSome left (λ all. input ≡ all) → length input ≤ 16777216 → DrawsFor input old new a → PictureAnswers left old new a
-picture_at left old new input (Ok done) whole within d = (input, record { whole = whole; within = within }, d)
-picture_at left old new input (Err (Report fault)) whole within d = (input, record { whole = whole; within = within }, d)
-picture_at left old new input (Err (Timeline fault)) whole within d = (input, record { whole = whole; within = within }, d)
-picture_at left old new input (Err Write) whole within d = (input, record { whole = whole; within = within }, d)
-picture_at left old new input (Err Read) whole within d = absurd d
-picture_at left old new input (Err TooLong) whole within d = absurd d
-picture_at left old new input (Err NoMemory) whole within d = d
+read_at : (Writes : List ℕ → List ℕ → Type 0) (Lacks : List ℕ → TimelineFault → Type 0)
+    (left old new : Option (List ℕ)) (input : List ℕ) (a : Result (Unit {0}) PictureFault)
+    → IfSome left (λ all. input ≡ all) → length input ≤ 16777216 → ReportAnswersFor Writes Lacks input old new a → ReportAnswersTo Writes Lacks left old new a
+read_at W L left old new input (Ok done) whole within d = (input, record { whole = whole; within = within }, d)
+read_at W L left old new input (Err (Report fault)) whole within d = (input, record { whole = whole; within = within }, d)
+read_at W L left old new input (Err (Timeline fault)) whole within d = (input, record { whole = whole; within = within }, d)
+read_at W L left old new input (Err Write) whole within d = (input, record { whole = whole; within = within }, d)
+read_at W L left old new input (Err Read) whole within d = absurd d
+read_at W L left old new input (Err TooLong) whole within d = absurd d
+read_at W L left old new input (Err NoMemory) whole within d = d
 
-table_at : (left old new : Option (List ℕ)) (input : List ℕ) (a : Result (Unit {0}) PictureFault)
-    → IfSome left (λ all. input ≡ all) → length input ≤ 16777216 → TabulatesFor input old new a → TableAnswers left old new a
-table_at left old new input (Ok done) whole within d = (input, record { whole = whole; within = within }, d)
-table_at left old new input (Err (Report fault)) whole within d = (input, record { whole = whole; within = within }, d)
-table_at left old new input (Err (Timeline fault)) whole within d = absurd d
-table_at left old new input (Err Write) whole within d = (input, record { whole = whole; within = within }, d)
-table_at left old new input (Err Read) whole within d = absurd d
-table_at left old new input (Err TooLong) whole within d = absurd d
-table_at left old new input (Err NoMemory) whole within d = d
+report_at : (Writes : List ℕ → List ℕ → Type 0) (Lacks : List ℕ → TimelineFault → Type 0)
+    (left old new : Option (List ℕ)) (seen input : List ℕ) (r : Result Outcome ViewFault)
+    → seen ≡ input → IfSome left (λ all. input ≡ all) → length input ≤ 16777216
+    → ForReport (λ a. ReportAnswersFor Writes Lacks seen old new a) (IsScript seen) r
+    → ForReport (λ a. ReportAnswersTo Writes Lacks left old new a) (IsGiven IsScript left) r
+report_at W L left old new seen input r is whole within a = (
+  a.0,
+  read_at W L left old new input a.0 whole within (subst (λ t. ReportAnswersFor W L t old new a.0) is a.1),
+  of_report_on (IsScript seen) (IsGiven IsScript left) (given IsScript left seen input is whole within) a.0 r a.2,
+)
 
 pub at_source : (view : View) (told : Option Gain) (left old new : Option (List ℕ)) (seen input : List ℕ) (r : Result Outcome ViewFault)
     → seen ≡ input → IfSome left (λ all. input ≡ all) → length input ≤ 16777216 → ViewAnswersFor view told seen old new r → ViewAnswers view told left old new r
 at_source Explain told left old new seen input r is whole within a = script_at Explains StepsAreRefused left old new seen input r is whole within a
-at_source Picture told left old new seen input r is whole within a = (
-  a.0,
-  picture_at left old new input a.0 whole within (subst (λ t. DrawsFor t old new a.0) is a.1),
-  of_report_on (IsScript seen) (IsGiven IsScript left) (given IsScript left seen input is whole within) a.0 r a.2,
-)
-at_source Table told left old new seen input r is whole within a = (
-  a.0,
-  table_at left old new input a.0 whole within (subst (λ t. TabulatesFor t old new a.0) is a.1),
-  of_report_on (IsScript seen) (IsGiven IsScript left) (given IsScript left seen input is whole within) a.0 r a.2,
-)
+at_source Picture told left old new seen input r is whole within a = report_at Pictures HasNoTimeline left old new seen input r is whole within a
+at_source Table told left old new seen input r is whole within a = report_at Tabulates LacksNothing left old new seen input r is whole within a
 at_source Arrange told left old new seen input r is whole within a = script_at Arranges ScriptRefuses left old new seen input r is whole within a
 at_source (ArrangeMeasured limit) told left old new seen input r is whole within a = script_at (ArrangesBest limit told) ScriptRefuses left old new seen input r is whole within a
 at_source (Trace limit) told left old new seen input r is whole within a = script_at (Traces limit) ScriptRefuses left old new seen input r is whole within a
@@ -111,23 +107,23 @@ script_unread W R left old e told is long =
     subst (λ t. ForScript (λ a. AnswersTo W R left old old a) (IsGiven IsReport left) (Err t)) (sym is)
     (Err (fault_of e), not_read W R left old e (Err (fault_of e)) refl long, refl)
 
-picture_unread : (left old : Option (List ℕ)) (e : ReadFault) → (e ≡ reading.TooLong → IsTooLong left) → PictureAnswers left old old (Err (for_reading e))
-picture_unread left old reading.Read long = Keeps-refl old
-picture_unread left old reading.TooLong long = (long refl, Keeps-refl old)
-picture_unread left old reading.NoMemory long = Keeps-refl old
+unread_at : (Writes : List ℕ → List ℕ → Type 0) (Lacks : List ℕ → TimelineFault → Type 0)
+    (left old : Option (List ℕ)) (e : ReadFault) → (e ≡ reading.TooLong → IsTooLong left) → ReportAnswersTo Writes Lacks left old old (Err (for_reading e))
+unread_at W L left old reading.Read long = Keeps-refl old
+unread_at W L left old reading.TooLong long = (long refl, Keeps-refl old)
+unread_at W L left old reading.NoMemory long = Keeps-refl old
 
-table_unread : (left old : Option (List ℕ)) (e : ReadFault) → (e ≡ reading.TooLong → IsTooLong left) → TableAnswers left old old (Err (for_reading e))
-table_unread left old reading.Read long = Keeps-refl old
-table_unread left old reading.TooLong long = (long refl, Keeps-refl old)
-table_unread left old reading.NoMemory long = Keeps-refl old
+report_unread : (Writes : List ℕ → List ℕ → Type 0) (Lacks : List ℕ → TimelineFault → Type 0) (left old : Option (List ℕ)) (e : ReadFault) (told : ViewFault)
+    → told ≡ OfReport (for_reading e) → (e ≡ reading.TooLong → IsTooLong left)
+    → ForReport (λ a. ReportAnswersTo Writes Lacks left old old a) (IsGiven IsScript left) (Err told)
+report_unread W L left old e told is long =
+    subst (λ t. ForReport (λ a. ReportAnswersTo W L left old old a) (IsGiven IsScript left) (Err t)) (sym is) (Err (for_reading e), unread_at W L left old e long, refl)
 
 pub unread : (view : View) (gain : Option Gain) (left old : Option (List ℕ)) (e : ReadFault) (told : ViewFault) → NotRead view e told → (e ≡ reading.TooLong → IsTooLong left)
     → ViewAnswers view gain left old old (Err told)
 unread Explain gain left old e told is long = script_unread Explains StepsAreRefused left old e told is long
-unread Picture gain left old e told is long =
-    subst (λ t. ForReport (λ a. PictureAnswers left old old a) (IsGiven IsScript left) (Err t)) (sym is) (Err (for_reading e), picture_unread left old e long, refl)
-unread Table gain left old e told is long =
-    subst (λ t. ForReport (λ a. TableAnswers left old old a) (IsGiven IsScript left) (Err t)) (sym is) (Err (for_reading e), table_unread left old e long, refl)
+unread Picture gain left old e told is long = report_unread Pictures HasNoTimeline left old e told is long
+unread Table gain left old e told is long = report_unread Tabulates LacksNothing left old e told is long
 unread Arrange gain left old e told is long = script_unread Arranges ScriptRefuses left old e told is long
 unread (ArrangeMeasured limit) gain left old e told is long = script_unread (ArrangesBest limit gain) ScriptRefuses left old e told is long
 unread (Trace limit) gain left old e told is long = script_unread (Traces limit) ScriptRefuses left old e told is long

@@ -1,8 +1,7 @@
 pub mod Answered
 pub mod Explained
-pub mod Drawn
+pub mod Refused
 pub mod Traced
-pub mod Tabulated
 pub mod Blocked
 pub mod Waited
 pub mod Printed

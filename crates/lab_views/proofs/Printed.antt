@@ -20,7 +20,8 @@ use Rattle.picture.specs.LogTable.{table_text}
 use Rattle.lab_program.specs.declared.faults.Outcome.{Outcome}
 use Rattle.lab_program.specs.Reports.{Reports}
 use Rattle.lab_views.specs.declared.picture_fault.PictureFault.TheVariants.{Report, Timeline, Read, TooLong, Write, NoMemory}
-use Rattle.lab_views.specs.Pictures.{Pictures, IsNoReport}
+use Rattle.lab_views.specs.ReportViews.{IsNoReport}
+use Rattle.lab_views.specs.Pictures.{Pictures}
 use Rattle.lab_views.specs.Tables.{Tabulates}
 use Rattle.lab_views.specs.Printed.{report_of_run, PrintedIsDrawn, PrintedIsTabulated}
 
@@ -73,7 +74,7 @@ printed_is_tabulated plan history text outcome reports old new (Err Write) write
     same_table (report_of_run plan history) text writes.0 (AppendsPrefix old new) (read_back plan history text outcome reports) writes.1 writes.2
 printed_is_tabulated plan history text outcome reports old new (Err (Report fault)) writes =
     absurd (never_refused (report_of_run plan history) text fault (read_back plan history text outcome reports) writes.0)
-printed_is_tabulated plan history text outcome reports old new (Err (Timeline fault)) writes = absurd writes
+printed_is_tabulated plan history text outcome reports old new (Err (Timeline fault)) writes = absurd writes.0
 printed_is_tabulated plan history text outcome reports old new (Err NoMemory) writes = writes
 printed_is_tabulated plan history text outcome reports old new (Err Read) writes = writes
 printed_is_tabulated plan history text outcome reports old new (Err TooLong) writes = writes

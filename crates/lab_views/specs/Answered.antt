@@ -46,14 +46,14 @@ IsReport input = (report : ReportText) × IsTextOf report input
 abbrev pub IsScript : List ℕ → Type 0
 IsScript input = (plan : LabPlan) × (steps : List StepLine) × StepsMean input plan steps
 
--- a script's answer is told as it is; but of a script that is refused it may be told that it is a report, which is so
+-- a script's answer is given as it is; but of a script that is refused it may be said that it is a report, if it is one
 abbrev pub TellsOfScript : Type 0 → Result Outcome RunFault → Result Outcome ViewFault → Type 0
 TellsOfScript Other answer (Ok outcome) = answer ≡ Ok outcome
 TellsOfScript Other answer (Err (OfScript fault)) = answer ≡ Err fault
 TellsOfScript Other answer (Err (GivenReport line view)) = (fault : ScriptFault) × (answer ≡ Err (run.Script fault)) × (line ≡ fault.line) × Other
 TellsOfScript Other answer (Err fault) = ⊥
 
--- a report's answer is told as it is; but of a report that is refused it may be told that it is a script, which is so
+-- a report's answer is given as it is; but of a report that is refused it may be said that it is a script, if it is one
 abbrev pub TellsOfReport : Type 0 → Result (Unit {0}) PictureFault → Result Outcome ViewFault → Type 0
 TellsOfReport Other answer (Ok Finished) = answer ≡ Ok tt
 TellsOfReport Other answer (Err (OfReport fault)) = answer ≡ Err fault
@@ -68,7 +68,7 @@ ForScript Answers Other result = (answer : Result Outcome RunFault) × Answers a
 abbrev pub ForReport : (Result (Unit {0}) PictureFault → Type 0) → Type 0 → Result Outcome ViewFault → Type 0
 ForReport Answers Other result = (answer : Result (Unit {0}) PictureFault) × Answers answer × TellsOfReport Other answer result
 
--- for an input, what a sink has taken before and after, and what is told of the best order's gain
+-- for an input, what a sink has taken before and after, and what is reported of the best order's gain
 abbrev pub ViewAnswersFor : View → Option Gain → List ℕ → Option (List ℕ) → Option (List ℕ) → Result Outcome ViewFault → Type 0
 ViewAnswersFor Explain told input old new result = ForScript (λ a. AnswersFor Explains StepsAreRefused input old new a) (IsReport input) result
 ViewAnswersFor Picture told input old new result = ForReport (λ a. DrawsFor input old new a) (IsScript input) result
@@ -97,7 +97,7 @@ ViewAnswers (Waits limit) told left old new result = ForScript (λ a. WaitsAnswe
 ViewAnswers (Blocks limit) told left old new result = ForScript (λ a. BlocksAnswers limit left old new a) (IsGiven IsReport left) result
 ViewAnswers (Gantt limit) told left old new result = ForScript (λ a. GanttAnswers limit left old new a) (IsGiven IsReport left) result
 
--- only `arrange N` tells what was gained
+-- only `arrange N` reports what was gained
 abbrev pub TellsGain : View → Option Gain → Type 0
 TellsGain (ArrangeMeasured limit) told = Unit
 TellsGain view told = told ≡ None

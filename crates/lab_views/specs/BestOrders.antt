@@ -1,4 +1,4 @@
--- For readers: what `arrange N` writes for a script, and what is told of it.
+-- For readers: what `arrange N` writes for a script, and what is reported of it.
 use Rattle.std.specs.Prelude.{ℕ, ◌≡◌, List, Option, None, Some, Result}
 use Rattle.lab_plan.specs.LabPlan.{LabPlan}
 use Rattle.script_reader.specs.Script.{ScriptMeans}
@@ -9,7 +9,7 @@ use Rattle.lab_program.specs.declared.faults.Outcome.{Outcome}
 use Rattle.lab_program.specs.declared.faults.Outcome.TheVariants.{Finished, Unfinished}
 use Rattle.lab_program.specs.Answers.{ScriptRefuses, AnswersTo}
 
--- the input is a script; Finished means that the text is this script in the best order that was measured, and that what was gained is told;
+-- the input is a script; Finished means that the text is this script in the best order that was measured, and that what was gained is reported;
 -- Unfinished means that it went out as it was
 abbrev pub ArrangesBest : ℕ → Option Gain → List ℕ → List ℕ → Outcome → Type 0
 ArrangesBest limit told input text Finished =

@@ -1,5 +1,6 @@
 pub mod Views
 pub mod Answered
+pub mod ReportViews
 pub mod Pictures
 pub mod Tables
 pub mod Traces

@@ -28,7 +28,7 @@ abbrev pub HasOnePicture : Type 0
 HasOnePicture = (limit : ℕ) (input text text' : List ℕ) (outcome outcome' : Outcome)
     → DrawsRun limit input text outcome → DrawsRun limit input text' outcome' → text ≡ text'
 
--- of `waits` that isn't so: of several longest chains any may be told
+-- that isn't so of `waits`, which may name any of several longest chains
 abbrev pub HasOneListOfBlocks : Type 0
 HasOneListOfBlocks = (limit : ℕ) (input text text' : List ℕ) (outcome outcome' : Outcome)
     → TellsBlocks limit input text outcome → TellsBlocks limit input text' outcome' → text ≡ text'

@@ -1,12 +1,9 @@
 -- For readers: what is drawn for an input, and why nothing is.
-use Rattle.std.specs.Prelude.{◌≡◌, ◌≢◌, ℕ, List, [], ◌∷◌, ◌++◌, Option, Result, Ok, Err}
-use Rattle.std.specs.Io.KnownBytes.{Keeps, Appends}
-use Rattle.report.specs.Taken.{AppendsPrefix}
+use Rattle.std.specs.Prelude.{◌≡◌, ◌≢◌, ℕ, List, Option, Result, Ok, Err}
 use Rattle.report_reader.specs.declared.fault.ReportCause.{ReportCause}
 use Rattle.report_reader.specs.declared.fault.ReportCause.TheVariants as causes
 use Rattle.report_reader.specs.declared.fault.ReportFault.{ReportFault}
-use Rattle.report_reader.specs.Report.{ReportText, text_lines, IsTextOf}
-use Rattle.report_reader.specs.Reading.{Refuses}
+use Rattle.report_reader.specs.Report.{ReportText, IsTextOf}
 use Rattle.timeline.specs.declared.fault.TimelineFault.{TimelineFault}
 use Rattle.timeline.specs.declared.fault.TimelineFault.TheVariants as faults
 use Rattle.timeline.specs.Faults.{IsFaultOf}
@@ -14,9 +11,9 @@ use Rattle.timeline.specs.Timelines.{TimelineView, IsTimeline}
 use Rattle.picture.specs.Picture.{picture_of}
 use Rattle.lab_program.specs.declared.reading.ReadFault.{ReadFault}
 use Rattle.lab_program.specs.declared.reading.ReadFault.TheVariants as reading
-use Rattle.lab_program.specs.Input.{IsInput, IsTooLong}
 use Rattle.lab_views.specs.declared.picture_fault.PictureFault.{PictureFault}
 use Rattle.lab_views.specs.declared.picture_fault.PictureFault.TheVariants.{Report, Timeline, Read, TooLong, Write, NoMemory}
+use Rattle.lab_views.specs.ReportViews.{ReportAnswersFor, ReportAnswersTo}
 
 -- the input is a report's text, and the text is its picture
 pub record Pictures (input text : List ℕ) : Type 0 where
@@ -26,13 +23,6 @@ pub record Pictures (input text : List ℕ) : Type 0 where
   pub agrees : IsTimeline report timeline
   pub drawn : text ≡ picture_of report timeline
 
--- the input is no report: its parts between line feeds are refused
-pub record IsNoReport (input : List ℕ) (fault : ReportFault) : Type 0 where
-  pub parts : List (List ℕ)
-  pub tail : List ℕ
-  pub lines : text_lines input ≡ parts ++ tail ∷ []
-  pub refused : Refuses parts tail fault
-
 -- the input is a report's text, and the report has this fault; that memory ran out is no fault of a report
 pub record HasNoTimeline (input : List ℕ) (fault : TimelineFault) : Type 0 where
   pub report : ReportText
@@ -40,22 +30,12 @@ pub record HasNoTimeline (input : List ℕ) (fault : TimelineFault) : Type 0 whe
   pub fails : IsFaultOf report fault
   pub not_memory : fault ≢ faults.NoMemory
 
--- for an input: Ok means that its picture went out, and a write fault that a prefix of it did; else nothing did
+-- for an input, and for a source
 abbrev pub DrawsFor : List ℕ → Option (List ℕ) → Option (List ℕ) → Result (Unit {0}) PictureFault → Type 0
-DrawsFor input old new (Ok done) = (text : List ℕ) × Pictures input text × Appends old new text
-DrawsFor input old new (Err Write) = (text : List ℕ) × Pictures input text × AppendsPrefix old new text
-DrawsFor input old new (Err (Report fault)) = IsNoReport input fault × Keeps old new
-DrawsFor input old new (Err (Timeline fault)) = HasNoTimeline input fault × Keeps old new
-DrawsFor input old new (Err NoMemory) = Keeps old new
-DrawsFor input old new (Err Read) = ⊥
-DrawsFor input old new (Err TooLong) = ⊥
+DrawsFor input old new result = ReportAnswersFor Pictures HasNoTimeline input old new result
 
--- for a source: what it had left was the input, or it was not read, or too long
 abbrev pub PictureAnswers : Option (List ℕ) → Option (List ℕ) → Option (List ℕ) → Result (Unit {0}) PictureFault → Type 0
-PictureAnswers left old new (Err Read) = Keeps old new
-PictureAnswers left old new (Err TooLong) = IsTooLong left × Keeps old new
-PictureAnswers left old new (Err NoMemory) = Keeps old new
-PictureAnswers left old new result = (input : List ℕ) × IsInput left input × DrawsFor input old new result
+PictureAnswers left old new result = ReportAnswersTo Pictures HasNoTimeline left old new result
 
 -- the status that the program ends with
 abbrev pub status_of_picture : Result (Unit {0}) PictureFault → ℕ

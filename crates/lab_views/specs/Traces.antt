@@ -30,8 +30,8 @@ trace_text plan input events = script_head input ++ step_lines plan events
 abbrev pub is_replayable : List Event → List ℕ → Bool
 is_replayable history text = nat_le (length history) 1000000 && nat_le (length text) 16777216
 
--- The input is a script, the history is that of its run by at most this many rounds, and the text has the script and the steps of this history. Where these
--- are at most 1000000, the text is read as the script's plan and exactly these steps; it is Finished where a replay reads it, and else Unfinished
+-- The input is a script, the history is that of its run by at most this many rounds, and the text has the script and the steps of this history. If these
+-- are at most 1000000, the text is read as the script's plan and exactly these steps; it is Finished if a replay reads it, otherwise Unfinished
 pub record Traces (limit : ℕ) (input text : List ℕ) (outcome : Outcome) : Type 0 where
   pub plan : LabPlan
   pub means : ScriptMeans input plan
@@ -59,7 +59,7 @@ TracesTheRun = (limit : ℕ) (input text report : List ℕ) (outcome ended : Out
 
 -- ---- a replay of a trace is the run by rounds
 
--- where the trace's steps aren't too many, whatever a replay reports of its text is what the run by rounds reports of the script, and no step is refused
+-- if the trace's steps aren't too many, whatever a replay reports of its text is what the run by rounds reports of the script, and no step is refused
 pub record ReplaysAsRounds (text report : List ℕ) (ended : Outcome) : Type 0 where
   pub replayed : (again : List ℕ) (said : Outcome) → ReplaysScript text again said → (again ≡ report) × (said ≡ ended)
   pub all_legal : (line : ℕ) → ¬ HasIllegalStep text line

@@ -1,4 +1,4 @@
-//! What holds of traces, of what is told of a run by rounds, and of pictures and tables of what was printed. Each law is the contract of a
+//! What holds of traces, of what the views say of a run by rounds, and of pictures and tables of what was printed. Each law is the contract of a
 //! function that does nothing.
 ghost use Rattle.lab_views.specs.OneRun.{HasOneListOfBlocks, HasOnePicture, RoundsAreReported};
 ghost use Rattle.lab_views.specs.Printed.{PrintedIsDrawn, PrintedIsTabulated};

@@ -40,12 +40,12 @@ pub(crate) fn arrange_measured<A: Allocator + Copy, W: Sink>(
 }
 
 /// Reads a script and writes it again, with its jobs in the best order of those that were tried, each measured by the run of the
-/// script in that order by at most so many rounds. What was gained is told in `gain`.
+/// script in that order by at most this many rounds. What was gained is reported in `gain`.
 ///
 /// The order as it is and that of `run_arrange` are among them, and up to 398 orders near to the better of these. Lines and comments
 /// move as in `run_arrange`, and a script whose own order is the best goes out as it came. The input is at most 16777216 bytes. The
-/// same input and number of rounds give the same text. Where `run_arrange` ends with Unfinished this does too, and tells nothing in
-/// `gain`.
+/// same input and number of rounds give the same text. If `run_arrange` ends with Unfinished, so does this, and it reports
+/// nothing in `gain`.
 pub fn run_arrange_measured<A: Allocator + Copy, R: Source, W: Sink>(
     alloc: A,
     source: &mut R,

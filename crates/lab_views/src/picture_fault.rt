@@ -45,7 +45,7 @@ pub fn status_of_picture(answer: &Result<(), PictureFault>) -> u8
     }
 }
 
-/// Where the input is no report, or there was no memory to read it.
+/// The fault if the input is no report, or there was no memory to read it.
 pub(crate) fn for_report(fault: ReportFault) -> PictureFault
     ensures { result ≡ for_report fault.cause fault }
 {
@@ -55,7 +55,7 @@ pub(crate) fn for_report(fault: ReportFault) -> PictureFault
     }
 }
 
-/// Where the report has no timeline, or there was no memory for it.
+/// The fault if the report has no timeline, or there was no memory for it.
 pub(crate) fn for_timeline(fault: TimelineFault) -> PictureFault
     ensures { result ≡ for_timeline fault }
 {
@@ -65,7 +65,7 @@ pub(crate) fn for_timeline(fault: TimelineFault) -> PictureFault
     }
 }
 
-/// Where the input was not read.
+/// The fault if the input was not read.
 pub(crate) fn for_reading(fault: ReadFault) -> PictureFault
     ensures { result ≡ for_reading fault }
 {

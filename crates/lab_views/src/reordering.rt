@@ -40,7 +40,7 @@ pub(crate) fn arrange_input<A: Allocator + Copy, W: Sink>(
 ///
 /// Lines and comments stay with their job: its block begins at the comments directly above its line, and the lines above the first
 /// block stay first. The input is at most 16777216 bytes, and its last line may lack its end, which it gets. The outcome is Unfinished
-/// where the text would be longer than that with this end, or where what was made isn't read as the same jobs, which was never met: then
+/// if the text would be longer than that with this end, or if what was made isn't read as the same jobs, which has never been seen: then
 /// the input goes out as it was.
 pub fn run_arrange<A: Allocator + Copy, R: Source, W: Sink>(
     alloc: A,

@@ -27,7 +27,7 @@ pub(crate) fn explain_input<A: Allocator + Copy, W: Sink>(
     Ok(Outcome::Finished)
 }
 
-/// Reads a script with steps and writes what there is to say of them: of the first that isn't legal where its turn comes, or
+/// Reads a script with steps and writes what there is to say of them: of the first that isn't legal when its turn comes, or
 /// of their end. The input is at most 16777216 bytes. The outcome is Finished, whichever it is.
 pub fn run_explain<A: Allocator + Copy, R: Source, W: Sink>(
     alloc: A,

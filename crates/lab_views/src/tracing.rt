@@ -131,7 +131,7 @@ pub(crate) fn trace_input<A: Allocator + Copy, W: Sink>(
 
 /// Reads a script and writes it again, with the line `steps` and the steps of its run by at most this many rounds behind it.
 ///
-/// The input is at most 16777216 bytes, and its last line may lack its end. The outcome is Finished where a replay reads the trace: it has
+/// The input is at most 16777216 bytes, and its last line may lack its end. The outcome is Finished if a replay reads the trace: it has
 /// at most 1000000 steps, in 16777216 bytes. A longer one goes out whole, and the outcome is Unfinished. Whether all jobs are retired then
 /// makes no difference.
 pub fn run_trace<A: Allocator + Copy, R: Source, W: Sink>(

@@ -1,4 +1,4 @@
-//! Why a view isn't written, and what is told of an input of the other kind.
+//! Why a view isn't written, and what is said of an input of the other kind.
 ghost use Rattle.std.specs.Prelude.{◌≡◌, true};
 ghost use Rattle.lab_program.specs.Faults.{failed_reads, failed_writes};
 ghost use Rattle.lab_views.specs.Pictures.{failed_picture_reads, failed_picture_writes};
@@ -61,7 +61,7 @@ fn is_script<A: Allocator + Copy>(alloc: A, input: &[u8]) -> bool
     }
 }
 
-/// What is told of a script's answer: the answer itself, but of a script that is refused, and is a report, just this.
+/// The answer to a script; but if the script is refused and is a report, that it is one.
 pub(crate) fn of_script<A: Allocator + Copy>(
     alloc: A,
     view: &'static str,
@@ -85,7 +85,7 @@ pub(crate) fn of_script<A: Allocator + Copy>(
     }
 }
 
-/// What is told of a report's answer: the answer itself, but of a report that is refused, and is a script, just this.
+/// The answer to a report; but if the report is refused and is a script, that it is one.
 pub(crate) fn of_report<A: Allocator + Copy>(
     alloc: A,
     view: &'static str,

@@ -85,7 +85,7 @@ fn view_input<A: Allocator + Copy, W: Sink>(
     }
 }
 
-/// Reads an input and writes a view of it. What the best order gained is told in `gain`. The input is at most 16777216 bytes. A
+/// Reads an input and writes a view of it. What the best order gained is reported in `gain`. The input is at most 16777216 bytes. A
 /// view of scripts that is given a report says so, and so does a view of reports that is given a script.
 pub fn run_view<A: Allocator + Copy, R: Source, W: Sink>(
     view: View,
