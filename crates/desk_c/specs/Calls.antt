@@ -30,13 +30,9 @@ use Rattle.bench_calls.specs.declared.told.LabState.{LabState}
 use Rattle.bench_calls.specs.declared.told.LabEntry.{LabEntry}
 use Rattle.bench_calls.specs.Telling.{turned_of, state_of, stage_status, TellsEnded, TellsEntry}
 use Rattle.bench_calls.specs.Closing.{ClosesHeld, NoRoomYet}
+use Rattle.bench_calls.specs.Handles.{InHandle}
 use Rattle.desk_c.specs.declared.slot.Shared.{Shared}
 use Rattle.desk_c.specs.declared.slot.Shared.TheVariants.{Open, Seat, Closing, Moved as Gone}
-
--- what was taken out of a handle
-abbrev pub IsHeld : {B : Type 0} → (B → Shared) → Option B → Option Shared → Type 0
-IsHeld value (Some b) held = held ≡ Some (value b)
-IsHeld value None held = held ≡ None
 
 -- a bench that threads share
 abbrev pub Bench : Type 0
@@ -113,8 +109,7 @@ InDesk Did Gone new told told' status = (status ≡ 7) × (new ≡ Gone) × (tol
 
 -- the same of a handle, which may have nothing
 abbrev pub OnDesk : {T : Type 0} → (DeskView → DeskView → T → T → ℕ → Type 0) → Option Shared → Option Shared → T → T → ℕ → Type 0
-OnDesk Did (Some old) new told told' status = (h : Shared) × (new ≡ Some h) × InDesk Did old h told told' status
-OnDesk Did None new told told' status = (status ≡ 7) × (new ≡ None) × (told' ≡ told)
+OnDesk Did old new told told' status = InHandle (InDesk Did) old new told told' status
 
 -- the answer is told
 abbrev pub Drives : (DeskView → Turned → DeskView → Type 0) → DeskView → DeskView → LabTurned → LabTurned → ℕ → Type 0

@@ -1,7 +1,7 @@
 //! The handle that C keeps.
 ghost use Rattle.std.specs.Prelude.{◌≡◌, Option, Some, None, IsTrue, ◌↔◌};
 ghost use Rattle.box_parts.specs.Owned.{holds};
-ghost use Rattle.desk_c.specs.Calls.{IsHeld};
+ghost use Rattle.bench_calls.specs.Handles.{IsHeld};
 
 use crate::slot::{Shared, Slot};
 use box_parts::Parts;
