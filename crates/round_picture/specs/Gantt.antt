@@ -36,7 +36,7 @@ legend =
     ++ codes "<path d=\"M540 8h30\" stroke=\"#222\" stroke-width=\"5\"/><text x=\"576\" y=\"12\">eats</text></g>\n"
     ++ codes "<text x=\"10\" y=\"84\" fill=\"#555\">round</text>\n"
 
--- lines are thin where rounds are narrow
+-- lines are thin if rounds are narrow
 abbrev pub thin : ℕ → List ℕ
 thin last = if nat_le last 300 then [] else codes " stroke-width=\"0.4\""
 
@@ -54,7 +54,7 @@ tick x bottom k =
     codes "<path d=\"M" ++ decimal x ++ codes " 0V" ++ decimal bottom ++ codes "\" stroke=\"#ddd\"/><text x=\"" ++ decimal x
     ++ codes "\" y=\"-6\" text-anchor=\"middle\" fill=\"#555\">" ++ decimal k ++ codes "</text>\n"
 
--- where the run has this round
+-- if the run has this round
 unfoldable pub tick_text : ℕ → ℕ → ℕ → ℕ → List ℕ
 tick_text last bottom step n = if nat_le (step * n) last then tick (place last (step * n)) bottom (step * n) else []
 

@@ -1,4 +1,4 @@
--- For readers: what is told under the pointer of those who kept a session waiting.
+-- For readers: what a session's tooltip says of those who kept it waiting.
 use Rattle.std.specs.Prelude.{ℕ, ◌==◌, List, [], ◌∷◌, ◌++◌, codes, decimal, if◌then◌else◌}
 use Rattle.std.specs.List.{flat_map}
 use Rattle.lab_plan.specs.LabPlan.{LabPlan}

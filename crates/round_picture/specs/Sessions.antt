@@ -1,4 +1,4 @@
--- For readers: what is told of a session under the pointer, and its shapes.
+-- For readers: a session's tooltip and its shapes.
 use Rattle.std.specs.Prelude.{ℕ, ◌+◌, ◌==◌, nat_le, List, [], ◌∷◌, ◌++◌, codes, decimal, length, if◌then◌else◌}
 use Rattle.std.specs.List.{flat_map}
 use Rattle.lab_plan.specs.LabPlan.{LabPlan, sessions, part, instrument_numbers}
@@ -10,9 +10,9 @@ use Rattle.blocking.specs.Keepers.{KeptView, keepers_at}
 use Rattle.round_picture.specs.Shapes.{shapes}
 use Rattle.round_picture.specs.Keepers.{keepers_text}
 
--- ---- under the pointer
+-- ---- the tooltip
 
--- an instrument, where the session has commands on it
+-- an instrument, if the session has commands on it
 abbrev pub instrument_text : LabPlan → ℕ → ℕ → ℕ → List ℕ
 instrument_text plan j s i = if part plan j s i == 0 then [] else codes " " ++ instrument_name plan i
 

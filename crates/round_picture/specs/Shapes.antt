@@ -19,7 +19,7 @@ thirsty_box last a b = box_of last a b ++ codes " fill=\"#fff4d9\" stroke=\"#c77
 unfoldable pub holding_box : ℕ → ℕ → ℕ → List ℕ
 holding_box last a b = box_of last a b ++ codes " fill=\"#56b4e9\" stroke=\"#222\"/>"
 
--- its number, where the box has room for it: a digit is 6 units wide
+-- its number, if the box has room for it: a digit is 6 units wide
 abbrev pub room_for : ℕ → ℕ
 room_for s = 6 + 6 * length (decimal s)
 
@@ -28,7 +28,7 @@ number_text last s a b =
     if nat_le (room_for s) (width last a b)
     then codes "<text x=\"" ++ decimal (place last a + 3) ++ codes "\" y=\"16\">" ++ decimal s ++ codes "</text>" else []
 
--- where it was given up
+-- a cross at the round in which it was given up
 unfoldable pub cross : ℕ → ℕ → List ℕ
 cross last k = codes "<path d=\"M" ++ decimal (place last k) ++ codes " 12m-5-5l10 10m0-10l-10 10\" fill=\"none\" stroke=\"#d00000\" stroke-width=\"2\"/>"
 

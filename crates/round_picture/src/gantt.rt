@@ -130,7 +130,7 @@ fn add_tick<A: Allocator>(
     add_text(out, b"</text>\n")
 }
 
-/// Adds a round of the scale, where the run has it.
+/// Adds a round of the scale, if the run has it.
 #[tactic(auto, unfolding(crate::specs::Gantt::tick_text))]
 fn add_tick_at<A: Allocator>(
     out: &mut Vec<u8, A>,

@@ -1,4 +1,4 @@
-//! What is told of those who kept a session waiting.
+//! What a session's tooltip says of those who kept it waiting.
 ghost use Rattle.std.specs.Prelude.{◌≡◌, ◌++◌, OnOk};
 ghost use Rattle.std.specs.List.{All, flat_map};
 ghost use Rattle.block_lines.specs.Text.{IsOfPlan};

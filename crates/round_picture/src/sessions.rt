@@ -1,4 +1,4 @@
-//! What is told of a session, and its shapes.
+//! A session's tooltip and its shapes.
 ghost use Rattle.std.specs.Prelude.{◌≡◌, ◌+◌, ◌≤◌, ◌<◌, ◌++◌, length, OnOk};
 ghost use Rattle.std.specs.List.{All, flat_map};
 ghost use Rattle.lab_plan.specs.LabPlan.{sessions, instrument_numbers};
@@ -15,7 +15,7 @@ use lab_plan::{InstrumentNo, JobNo, Plan};
 use std::alloc::{AllocError, Allocator};
 use waiting::{Session, add_outcome};
 
-/// Adds the name of an instrument, where the session has commands on it.
+/// Adds the name of an instrument, if the session has commands on it.
 fn add_instrument<A: Allocator, B: Allocator>(
     out: &mut Vec<u8, A>,
     plan: &Plan<B>,
@@ -73,7 +73,7 @@ fn add_instruments<A: Allocator, B: Allocator>(
     }
 }
 
-/// Adds what is told of a session under the pointer.
+/// Adds a session's tooltip.
 #[tactic(auto, unfolding(crate::specs::Sessions::title_text))]
 fn add_title<A: Allocator, B: Allocator>(
     out: &mut Vec<u8, A>,

@@ -67,7 +67,7 @@ fn room_for(number: usize) -> u64
     6 + 6 * Buffer::new().format(number as u64).as_bytes().len() as u64
 }
 
-/// Adds the number of a session, where its box has room.
+/// Adds the number of a session, if its box has room.
 #[tactic(auto, unfolding(crate::specs::Shapes::number_text))]
 fn add_number_of<A: Allocator>(
     out: &mut Vec<u8, A>,

@@ -248,7 +248,7 @@ fn ends_without_task(rt: HostRuntime) -> Result<(), Fail> {
     Ok(())
 }
 
-/// A view that went out, but is not all that it might be, is told.
+/// What is said of a view that went out, but isn't all that it might be.
 #[test]
 fn ends_of_views(rt: HostRuntime) {
     let as_it_was =
@@ -266,7 +266,7 @@ fn ends_of_views(rt: HostRuntime) {
     }
 }
 
-/// What an order gained is told; of PATIENT and GIVES_UP `measured` says how they were reckoned.
+/// What is said of an order's gain; of PATIENT and GIVES_UP `measured` says how they were reckoned.
 #[test]
 fn command_lines_that_arrange(rt: HostRuntime) {
     for (limit, input, out, said) in [

@@ -1,4 +1,4 @@
-//! Memory that runs out: each allocation of a view is refused in turn. That is told and nothing is written, or it is made up for.
+//! Memory that runs out: each allocation of a view is refused in turn. The view says so and writes nothing, or makes up for it.
 use lab_program::{FromRead, status_of};
 use lab_views::{
     View, run_arrange, run_arrange_measured, run_blocks, run_explain, run_gantt, run_picture,
@@ -62,7 +62,7 @@ fn allocations_of_each_view(rt: HostRuntime) {
         let mut told = 0u64;
         for number in 0..all {
             let (after, status, _) = told_without(rt.alloc(), view, text.as_bytes(), number + 1);
-            // where a list is collected, less room is asked for after a refusal, and nothing is lost
+            // if a list is collected, less room is asked for after a refusal, and nothing is lost
             let made_up = after == written && status == 0;
             assert!(rt; made_up || after == 0 && status == 5, "allocation {number}");
             if !made_up {

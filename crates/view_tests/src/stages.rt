@@ -76,7 +76,7 @@ const THIRSTY: JobState = JobState {
     position: 0,
 };
 
-/// An event, and why it isn't legal; None where it is.
+/// An event, and why it isn't legal; None if it is.
 #[derive(Clone, Copy)]
 struct Case(Event, Option<Cause>);
 
