@@ -1,17 +1,16 @@
 -- A plan and a limit have one run by rounds, so one measure.
-use Rattle.std.proofs.Common.{◌≡◌, ℕ, zero, suc, ◌≤◌, Bool, true, false, List, [], ◌∷◌, ◌++◌, length, take, drop, refl, sym, ap, ◌∙◌, subst, arith, append_assoc, append-nil}
+use Rattle.std.proofs.Common.{◌≡◌, ℕ, zero, suc, ◌≤◌, Bool, true, false, List, [], ◌∷◌, ◌++◌, length, take, drop, refl, sym, ap, ◌∙◌, arith, append_assoc, append-nil}
 use Rattle.lab_plan.specs.LabPlan.{LabPlan}
 use Rattle.legal_steps.specs.declared.event.Event.{Event}
 use Rattle.turns.specs.History.{IsHistory}
-use Rattle.rounds.specs.declared.ended.Ended.{Ended}
 use Rattle.rounds.specs.declared.ended.Ended.TheVariants.{AllRetired, Limit}
 use Rattle.rounds.proofs.Lists.{append_cancel}
 use Rattle.rounds.specs.FromOpening.{fresh_players}
 use Rattle.rounds.proofs.SameRun.{rounds_same, legal_from, one_run}
 use Rattle.rounds.specs.OneRun.{why_ended}
-use Rattle.waiting.specs.Rounds.{joined, IsAfter, AreRoundsOf}
+use Rattle.waiting.specs.Rounds.{joined, IsAfter}
 use Rattle.waiting.specs.Waits.{RunView, IsRunOf, run_of}
-use Rattle.measured_orders.specs.Measures.{measure_of, IsMeasureOf, OneMeasure}
+use Rattle.measured_orders.specs.Measures.{measure_of, OneMeasure}
 
 cut : (rounds : List (List Event)) (k : ℕ) → joined rounds ≡ joined (take k rounds) ++ joined (drop k rounds)
 cut [] zero = refl

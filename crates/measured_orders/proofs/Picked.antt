@@ -1,5 +1,5 @@
 -- The best of what was tried.
-use Rattle.std.proofs.Common.{◌≡◌, ◌⊎◌, inl, inr, ℕ, Bool, true, false, List, refl, sym, ap, ◌∙◌, subst}
+use Rattle.std.proofs.Common.{◌≡◌, ◌⊎◌, inl, inr, ℕ, true, false, List, sym, subst}
 use Rattle.lab_plan.specs.LabPlan.{LabPlan}
 use Rattle.arranged_scripts.specs.Arranged.{with_line_end, IsArranged}
 use Rattle.script_reader.specs.Script.{ScriptMeans}

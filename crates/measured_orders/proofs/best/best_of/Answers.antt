@@ -1,4 +1,4 @@
-use Rattle.std.proofs.Common.{◌≡◌, ◌∙◌, ap, false, sym, true}
+use Rattle.std.proofs.Common.{◌∙◌, ap, false, sym, true}
 use Rattle.std.proofs.lemmas.Result.{IfOk-weaker}
 use Rattle.measured_orders.specs.Measures.{is_better}
 use Rattle.measured_orders.specs.Orders.{IsBestOf, IsClimbed, TriedView}
