@@ -1,10 +1,8 @@
 //! Colours of a plan's jobs.
-ghost use Rattle.std.specs.Prelude.{◌≡◌, ◌≤◌, IfOk, length};
-ghost use Rattle.std.specs.List.{range_with_len};
-ghost use Rattle.lab_plan.specs.Limits.{most_jobs};
-ghost use Rattle.arranging.specs.Colours.{IsColouring, IsLeast};
+ghost use Rattle.std.specs.Prelude.{IfOk};
+ghost use Rattle.arranging.specs.Colours.{IsColouring, IsGreedy, IsLeast};
 
-use crate::checking::{all_differ, count_of};
+use crate::counting::count_of;
 use crate::greedy::by_saturation;
 use lab_plan::Plan;
 use std::alloc::{AllocError, Allocator, Global};
@@ -43,31 +41,17 @@ impl<A: Allocator> Colouring<A> {
     }
 }
 
-/// A colour of its own for each of some jobs.
-fn own_colours<A: Allocator>(alloc: A, jobs: usize) -> Result<Vec<u8, A>, AllocError>
-    requires { jobs ≤ most_jobs }
-    ensures { IfOk result (λ colours. colours.items ≡ range_with_len 0 jobs) }
-{
-    let mut colours = Vec::new(alloc);
-    for job in 0..jobs {
-        colours.push(job as u8)?;
-    }
-    Ok(colours)
-}
-
 /// Colours of a plan's jobs, so that two jobs that share an instrument differ: by saturation (DSATUR), in as few colours as
-/// that finds. Memory is taken for a byte a job, and time for some 30000 looks at pairs of jobs at most.
+/// that finds. Memory is taken for a byte a job, and time for some 200000 looks at pairs of jobs at most.
 pub fn colours_of<A: Allocator + Copy, B: Allocator>(
     alloc: A,
     plan: &Plan<B>,
 ) -> Result<Colouring<A>, AllocError>
     ensures colouring { IfOk result (λ made. IsColouring plan.now made.colours made.count) }
+    ensures greedy { IfOk result (λ made. IsGreedy plan.now made.colours) }
     ensures least { IfOk result (λ made. IsLeast made.colours made.count) }
 {
-    let mut colours = by_saturation(alloc, plan)?;
-    if !all_differ(plan, &colours) {
-        colours = own_colours(alloc, plan.jobs())?;
-    }
+    let colours = by_saturation(alloc, plan)?;
     let count = count_of(&colours);
     Ok(Colouring { colours, count })
 }

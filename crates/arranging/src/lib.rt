@@ -2,8 +2,8 @@
 //! different colours, and jobs stand in the order of their colours.
 #![tactic(auto)]
 
-mod checking;
 pub mod colouring;
+mod counting;
 mod greedy;
 pub mod laws;
 pub mod ordering;

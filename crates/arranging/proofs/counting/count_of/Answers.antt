@@ -1,9 +1,9 @@
 use Rattle.std.proofs.Common.{◌≡◌, ℕ, ◌<◌, slice_index_or, length, arith}
 use Rattle.std.proofs.lemmas.List.{get_or_default}
 use borrow.Author.Count.{below_more}
-use Rattle.arranging.proofs.checking.count_of.Goals as goal
+use Rattle.arranging.proofs.counting.count_of.Goals as goal
 
--- src/checking.rt:30:5
+-- src/counting.rt
 pub loop-colour-preserved : goal.loop-colour-preserved
 loop-colour-preserved c =
     let xs = c.args.colours.now in

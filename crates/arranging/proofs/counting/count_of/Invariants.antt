@@ -1,6 +1,6 @@
 -- the colours so far are below the count, and no smaller count is above all of them
 use Rattle.std.proofs.Common.{ℕ, ◌<◌, ◌≤◌, slice_index_or}
-use Rattle.arranging.proofs.checking.count_of.Given as goal
+use Rattle.arranging.proofs.counting.count_of.Given as goal
 
 abbrev pub invariant-loop-colour : goal.invariant-loop-colour
 invariant-loop-colour l =
