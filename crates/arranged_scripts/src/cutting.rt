@@ -1,9 +1,9 @@
 //! A script is cut into its head and a block of lines for each job. Comments directly above a job's line are the job's own.
 //! How it is cut is judged by what the pieces are read as, in another order.
-ghost use Rattle.std.specs.Prelude.{◌≡◌, ◌≤◌, ◌<◌, ◌++◌, ℕ, [], length, map, slice_index_or, OnOk, IfOk, IfSome};
+ghost use Rattle.std.specs.Prelude.{◌≡◌, ◌≤◌, ◌<◌, ◌++◌, ℕ, [], length, map, slice_index_or, OnOk, IfOk, MatchOption};
 ghost use Rattle.std.specs.List.{All, flat_map, concat};
 ghost use Rattle.std.specs.Io.BufRead.{ends_with_byte};
-ghost use Rattle.arranged_scripts.specs.Arranged.{with_line_end, MovesBlocks};
+ghost use Rattle.arranged_scripts.specs.Arranged.{with_line_end, HasOtherBlocks, MovesBlocks};
 
 use bstr::ByteSlice;
 use lab_plan::JobNo;
@@ -143,7 +143,7 @@ pub fn moved<A: Allocator + Copy>(
     order: &[JobNo],
 ) -> Result<Option<Vec<u8, A>>, AllocError>
     requires { All (λ job. job < length order.now) order.now }
-    ensures { IfOk result (λ made. IfSome made (λ moved. MovesBlocks text.now order.now moved.items)) }
+    ensures { IfOk result (λ made. MatchOption made (HasOtherBlocks text.now (length order.now)) (λ moved. MovesBlocks text.now order.now moved.items)) }
 {
     let (head, rest) = text.split_at(up_to_job(text));
     let blocks = blocks_of(alloc, rest)?;

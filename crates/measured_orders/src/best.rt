@@ -1,7 +1,8 @@
 //! The best order of a script's jobs that was measured.
-ghost use Rattle.std.specs.Prelude.{◌≡◌, ◌≤◌, IfOk, IfSome};
+ghost use Rattle.std.specs.Prelude.{◌≡◌, ◌≤◌, IfOk, MatchOption};
 ghost use Rattle.std.specs.List.{range_with_len};
 ghost use Rattle.lab_plan.specs.Limits.{most_jobs};
+ghost use Rattle.arranged_scripts.specs.Arranged.{IsNotArranged};
 ghost use Rattle.measured_orders.specs.Orders.{IsOrder, IsBest, IsBestOf};
 
 use crate::climbing::climbed;
@@ -92,14 +93,14 @@ fn best_of<A: Allocator + Copy>(
 /// A script of this plan with its jobs in the best order of those that were tried, each measured by its run of at most so many
 /// rounds: the order as it is, that of `arranged_script`, and orders near to the better of these. At most 400 runs are made.
 ///
-/// None where `arranged_script` gives none. Memory is taken for the text a few times, for a second plan and for its run.
+/// None only where `arranged_script` gives none, for the same reason. Memory is taken for the text a few times, for a second plan and for its run.
 pub fn best_order<A: Allocator + Copy>(
     alloc: A,
     plan: &Plan<A>,
     input: &[u8],
     limit: u32,
 ) -> Result<Option<BestOrder<A>>, AllocError>
-    ensures { IfOk result (λ found. IfSome found (IsBest plan.now limit input.now)) }
+    ensures { IfOk result (λ found. MatchOption found (IsNotArranged plan.now input.now) (IsBest plan.now limit input.now)) }
 {
     one_meaning();
     let before = measured(alloc, plan, limit)?;

@@ -1,5 +1,6 @@
 //! A text that is tried: read back, and measured.
-ghost use Rattle.std.specs.Prelude.{◌≡◌, IfOk, IfSome};
+ghost use Rattle.std.specs.Prelude.{◌≡◌, IfOk, IfSome, IfNone};
+ghost use Rattle.arranged_scripts.specs.Arranged.{IsNoScript};
 ghost use Rattle.measured_orders.specs.Measures.{IsScriptMeasure};
 ghost use Rattle.measured_orders.specs.Orders.{IsOrder, IsInOrder};
 
@@ -25,7 +26,7 @@ impl<A: Allocator> Model for Tried<A> {
     ghost view = { λ t. record { text = t.text.items; measure = t.measure } };
 }
 
-/// A text as it is, measured. None where it is no script.
+/// A text as it is, measured. None only where it is no script.
 pub(crate) fn as_it_is<A: Allocator + Copy>(
     alloc: A,
     text: Vec<u8, A>,
@@ -33,6 +34,7 @@ pub(crate) fn as_it_is<A: Allocator + Copy>(
 ) -> Result<Option<Tried<A>>, AllocError>
     ensures same { IfOk result (λ made. IfSome made (λ t. t.text ≡ text.items)) }
     ensures ran { IfOk result (λ made. IfSome made (λ t. IsScriptMeasure t.text limit t.measure)) }
+    ensures none { IfOk result (λ made. IfNone made (IsNoScript text.items)) }
 {
     let read = read_back(alloc, &text)?;
     let Some(plan) = read else {

@@ -4,6 +4,16 @@ use Rattle.measured_orders.specs.Orders.{IsBest, TriedView}
 use Rattle.measured_orders.proofs.Picked.{is_best}
 use Rattle.measured_orders.proofs.best.best_order.Goals as goal
 
+pub returns-in_default : goal.returns-in_default
+returns-in_default g c = (rw c.in_default.is at c.in_ok-made.ensures)
+
+-- an arranged script is a script
+pub returns-in_default-tried : goal.returns-in_default-tried
+returns-in_default-tried g c =
+    let none = (rw c.in_default-tried.is at c.in_ok-tried.ensures.none) in
+    let arranged = (rw c.in-Some.is at c.in_ok-made.ensures) in
+    absurd (none arranged.arranged arranged.read_back)
+
 pub returns : goal.returns
 returns g c =
     let other = c.in-Some-tried.other in
