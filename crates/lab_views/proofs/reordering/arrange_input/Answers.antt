@@ -14,5 +14,9 @@ returns-in_err-plan-clause-answer g c =
 
 pub returns-in_err-send_text-in-None-clause-answer : goal.returns-in_err-send_text-in-None-clause-answer
 returns-in_err-send_text-in-None-clause-answer g c =
-    ends_with Arranges ScriptRefuses _ _ _ c.from_residual-in_err-send_text-in-None.result Write c.from_residual-in_err-send_text-in-None.ensures.1
-    (c.args.input.now, Unfinished, (c.in_ok-plan.plan, c.in_ok-plan.ensures, refl), c.in_err-send_text-in-None.ensures.0)
+    ends_with Arranges ScriptRefuses _ _ _ c.from_residual-in_err-send_text-in-None.result Write c.from_residual-in_err-send_text-in-None.ensures.1 (
+      c.args.input.now,
+      Unfinished,
+      (c.in_ok-plan.plan, c.in_ok-plan.ensures, (rw c.in-None.is at c.in_ok-made.ensures), refl),
+      c.in_err-send_text-in-None.ensures.0,
+    )
