@@ -5,6 +5,7 @@ use arranging::has_jobs_of;
 use lab_plan::JobNo;
 use lab_program::{FromRead, Outcome, RunFault};
 use lab_views::run_arrange_measured;
+use measured_orders::laws::{best_is_no_worse, one_measure};
 use measured_orders::{Gain, Measure, best_order, is_better, measured};
 use report::ToWrite;
 use script_reader::read_plan;
@@ -239,4 +240,10 @@ fn blocks_change_places(rt: HostRuntime) -> Result<(), Fail> {
     assert!(rt; has_jobs_of(&plan, order.as_slice(), &other));
     assert!(rt; !has_jobs_of(&plan, [JobNo(0), JobNo(1)].as_slice(), &other));
     Ok(())
+}
+
+#[test]
+fn laws_can_be_called(_rt: HostRuntime) {
+    one_measure();
+    best_is_no_worse();
 }
