@@ -14,7 +14,8 @@ fn told(alloc: Global, input: &str, limit: u32) -> (Vec<u8>, Result<Outcome, Run
 }
 
 /// Two jobs that share a scale. The fork and the bottle start at a, so b precedes a.
-const SHARED: &str = "lab 1\njob a\nsession\nscale add 1\nend\njob b\nsession\nscale add 1\nend\n";
+pub(crate) const SHARED: &str =
+    "lab 1\njob a\nsession\nscale add 1\nend\njob b\nsession\nscale add 1\nend\n";
 
 /// By hand: in round 1 both are thirsty, and b sees the bottle at a, as it does up to round 4; a drinks in rounds 2 and 3, and
 /// has ended its session in round 4 before b's turn; b drinks in round 5.
@@ -29,7 +30,7 @@ instrument scale blocked 3 held 2
 ";
 
 /// b gives up in round 2, and in round 1 the other is thirsty too.
-const IMPATIENT: &str =
+pub(crate) const IMPATIENT: &str =
     "lab 2\njob a\nsession\nscale add 1\nend\njob b\nsession patience 0\nscale add 1\nend\n";
 
 const GIVEN_UP: &str = "rounds 5 finished

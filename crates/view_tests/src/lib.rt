@@ -9,6 +9,8 @@ mod commands;
 #[cfg(test)]
 mod gantts;
 #[cfg(test)]
+mod keepers;
+#[cfg(test)]
 mod measured;
 #[cfg(test)]
 mod memory;
