@@ -91,20 +91,28 @@ const WRONG: [(usize, u8); 11] = [
     (15, 16),
 ];
 
-/// The bytes of `FIRST` with another at this place.
-fn first_with(rt: &impl Abort, place: usize, byte: u8) -> [u8; 16] {
-    let mut bytes = FIRST;
+/// Bytes of `LAST` that make one of its numbers one too many: the job, the session, the length, the verb's number and the value.
+const ONE_TOO_MANY: [(usize, u8); 5] = [(0, 32), (1, 0xe9), (6, 0xa1), (10, 0x40), (13, 0x40)];
+
+/// The bytes with another at this place.
+fn bytes_with(rt: &impl Abort, mut bytes: [u8; 16], place: usize, byte: u8) -> [u8; 16] {
     assert!(rt; place < 16);
     bytes[place] = byte;
     bytes
 }
 
+/// None of these bytes makes an entry of the others.
+fn make_none(rt: &impl Abort, bytes: [u8; 16], wrong: &[(usize, u8)]) {
+    for &(place, byte) in wrong {
+        let bytes = bytes_with(rt, bytes, place, byte);
+        check(rt, (place, byte), unpack_entry(bytes), None);
+    }
+}
+
 #[test]
 fn unpacks_no_entry_past_the_limits(rt: HostRuntime) {
-    for &(place, byte) in &WRONG {
-        let bytes = first_with(&rt, place, byte);
-        check(&rt, (place, byte), unpack_entry(bytes), None);
-    }
+    make_none(&rt, FIRST, &WRONG);
+    make_none(&rt, LAST, &ONE_TOO_MANY);
 }
 
 /// An entry that is offered: its session, place, length and verb, and the answer.
@@ -186,8 +194,8 @@ fn refuses_in_a_part_without_room(rt: HostRuntime) {
     );
 }
 
-/// A part of a single command, and one of five. Each entry is followed by one that is refused: the next place but one,
-/// or of another length.
+/// A part of a single command, and one of five. Each entry is followed by some that are refused: the next place but one,
+/// or of another length, or both.
 const PARTS: [Stage<'static>; 6] = [
     (
         &[
@@ -200,6 +208,8 @@ const PARTS: [Stage<'static>; 6] = [
         &[
             (2, 1, 5, Verb::Add(1), Ok(())),
             (2, 3, 6, Verb::Read, Err(LogRefusal::NotNextPlace)),
+            (2, 3, 5, Verb::Read, Err(LogRefusal::NotNextPlace)),
+            (2, 2, 6, Verb::Read, Err(LogRefusal::NotNextPlace)),
         ],
         ((2, 1, 1), (1, Verb::Add(1), 8)),
     ),
@@ -207,6 +217,8 @@ const PARTS: [Stage<'static>; 6] = [
         &[
             (2, 2, 5, Verb::Add(1), Ok(())),
             (2, 4, 6, Verb::Read, Err(LogRefusal::NotNextPlace)),
+            (2, 4, 5, Verb::Read, Err(LogRefusal::NotNextPlace)),
+            (2, 3, 6, Verb::Read, Err(LogRefusal::NotNextPlace)),
         ],
         ((3, 1, 2), (2, Verb::Add(1), 9)),
     ),
@@ -214,6 +226,8 @@ const PARTS: [Stage<'static>; 6] = [
         &[
             (2, 3, 5, Verb::Add(1), Ok(())),
             (2, 5, 6, Verb::Read, Err(LogRefusal::NotNextPlace)),
+            (2, 5, 5, Verb::Read, Err(LogRefusal::NotNextPlace)),
+            (2, 4, 6, Verb::Read, Err(LogRefusal::NotNextPlace)),
         ],
         ((4, 1, 3), (3, Verb::Add(1), 10)),
     ),
@@ -221,6 +235,7 @@ const PARTS: [Stage<'static>; 6] = [
         &[
             (2, 4, 5, Verb::Add(1), Ok(())),
             (2, 6, 6, Verb::Read, Err(LogRefusal::NotNextPlace)),
+            (2, 5, 6, Verb::Read, Err(LogRefusal::NotNextPlace)),
         ],
         ((5, 1, 4), (4, Verb::Add(1), 11)),
     ),
