@@ -2,6 +2,7 @@
 ghost use Rattle.std.specs.Prelude.{◌≡◌, ◌<◌, ◌≤◌, ◌+◌, length, map, [], IfOk};
 ghost use Rattle.std.specs.List.{All};
 ghost use Rattle.lab_plan.specs.LabPlan.{edges, bottles};
+ghost use Rattle.lab_plan.specs.InstrumentSets.{holds};
 ghost use Rattle.legal_steps.specs.State.{IsOwn, neighbour};
 ghost use Rattle.legal_steps.specs.Legal.{instrument_of};
 ghost use Rattle.rounds.specs.Company.{first_front};
@@ -96,6 +97,19 @@ fn held_across<A: Allocator>(
     sets[other.0 as usize]
 }
 
+/// Whether a bottle's instrument is in the set of those that are held. Most jobs hold none, and then the instrument needn't be looked up.
+#[tactic(auto, using(lab_plan::proofs::Bits::holds_none))]
+fn is_held<A: Allocator>(plan: &Plan<A>, edge: EdgeNo, bottle: u32, held: u64) -> bool
+    requires edge { edge < length (edges plan.now) }
+    requires bottle { bottle < length (bottles plan.now edge) }
+    ensures { result ≡ holds held (instrument_of plan.now edge bottle) }
+{
+    if held == 0 {
+        return false;
+    }
+    has(held, instrument_at(plan, edge, bottle))
+}
+
 /// The counts of a place at which the job has waited in a round, by what its neighbour held.
 fn counted<A: Allocator>(
     plan: &Plan<A>,
@@ -108,7 +122,7 @@ fn counted<A: Allocator>(
     requires bottle { bottle < length (bottles plan.now edge) }
     ensures { result ≡ waited_then held (instrument_of plan.now edge bottle) block }
 {
-    let is_held = has(held, instrument_at(plan, edge, bottle));
+    let is_held = is_held(plan, edge, bottle, held);
     Block {
         rounds: counted_if(true, block.rounds),
         held: counted_if(is_held, block.held),
