@@ -272,10 +272,11 @@ fn wakes_sleepers<R: Threads + Wait + Abort + Clock + Sync>(rt: &R) {
     let rounds = Rounds::new();
     let (heard, quick) = join(rt, || rounds.hears(rt, NAPS), || rounds.wakes(rt, NAPS));
     assert!(rt; heard == NAPS, "round {heard} was the last heard");
-    assert!(rt; quick >= NAPS / 4, "{quick} were woken at once");
+    assert!(rt; quick >= NAPS / 10, "{quick} were woken at once");
 }
 
-/// Who isn't woken sleeps for five milliseconds, four of them after the ring.
+/// Who isn't woken sleeps for five milliseconds, four of them after the ring, so no time is short. That a tenth is short leaves room for a
+/// host that takes its time to run the sleeper.
 #[test]
 fn sleeper_is_woken(rt: HostRuntime) {
     wakes_sleepers(&rt);
