@@ -1,341 +1,215 @@
-//! Calls on desks, and what they answer.
-ghost use Rattle.legal_steps.specs.State.{IsOwn};
-ghost use Rattle.turns.specs.Lists.{Each};
-ghost use Rattle.edge_rule.specs.DeskView.{Owns};
-
-use crate::benches::{bench_of, is_own, plan_of};
-use crate::words::{edge, phase};
-use desk_calls::{
-    ask_bottles, ask_fork, give_bottles, give_fork, may_ask_bottles, may_ask_fork, may_command,
-    may_exchange, may_give_bottles, may_give_fork, may_phase, may_soil, soil,
+//! Calls one after another: moves of the layers, and moves by their names.
+//!
+//! A row says who calls what and what it answers, the words that this job then saw last on its edges, and how far it is (dining,
+//! drinking, session, position). The numbers at the end of `check` say how many turns each job's session has waited after the rows.
+use crate::labs::{PATIENCE_1, TWO};
+use crate::seats::Answer::{
+    Acted, Done, Far, Found, Legal as Allows, Moves, No, NotLegal, Saw, Stored, Value, Yes,
 };
-use dining_layer::fork_moves;
-use drinking_layer::with_bottles;
-use edge_rule::{
-    Bench, Counts, Desk, PhaseEvent, Stepped, command, exchange, glance, look, store_phase,
+use crate::seats::Call::{AllRetired, Command, Drink, Glance, On, Store, Table, Turn};
+use crate::seats::Move::{
+    Ask, AskBottles, AskFork, Dine, Due, Forks, Give, GiveBottles, GiveFork, Legal, Look, Serve,
+    Soil, SoilFork, Want,
 };
-use edge_word::{EdgeMoves, PhaseWord};
-use instrument_log::Entry;
-use lab_plan::{EdgeNo, JobNo, Verb};
-use legal_steps::{EdgeState, JobState};
-use std::alloc::Allocator;
-use std::process::Abort;
+use crate::seats::{
+    MAY_ASK, MAY_ASK_BOTTLE, MAY_COMMAND, MAY_DRINK, MAY_GIVE, MAY_GIVE_BOTTLE, MAY_HUNGER,
+    MAY_LEAVE, MAY_QUIT, MAY_RETIRE, MAY_SIT, MAY_SOIL, MAY_THIRST, MAY_WITHDRAW,
+};
+use crate::tables::{A, AB, B, Row, check, rows};
+use crate::words::{
+    CLEAN_B_ASKED_BOTTLE_B, CLEAN_B_ASKED_BOTTLE_B_ASKED, CLEAN_B_BOTTLE_A, CLEAN_B_BOTTLE_A_ASKED,
+    CLEAN_B_BOTTLE_B, CLEAN_B_BOTTLE_B_ASKED, DIRTY_A_ASKED_BOTTLE_A, DIRTY_A_ASKED_BOTTLE_A_ASKED,
+    DIRTY_A_BOTTLE_A_ASKED, DIRTY_B_ASKED_BOTTLE_A, DIRTY_B_ASKED_BOTTLE_B_ASKED, DIRTY_B_BOTTLE_A,
+    OPEN,
+};
+use edge_rule::PhaseEvent;
+use edge_rule::PhaseEvent::{Hunger, Leave, Quit, Retire, Sit, Thirst};
+use edge_word::EdgeMoves;
+use legal_steps::Dining::{Eating, Hungry, Thinking};
+use legal_steps::Drinking::{Drinking as Drinks, Retired, Thirsty, Tranquil};
 
-/// A move on an edge, or all that are due there, or a group of moves.
-#[derive(Clone, Copy)]
-pub(crate) enum Move {
-    GiveFork,
-    GiveBottles(u32),
-    AskFork,
-    AskBottles(u32),
-    Soil,
-    AllDue,
-    These(EdgeMoves),
+/// Forks and meals: b gets the fork from a, who asks for it during b's meal.
+const A_MEAL: [Row; 22] = rows! {
+    A: Store(Thirst) => Done, [OPEN], Thinking Thirsty 1 0;
+    B: Store(Thirst) => Done, [OPEN], Thinking Thirsty 1 0;
+    B: On(AB, Ask) => NotLegal, [OPEN], Thinking Thirsty 1 0;
+    B: Table => Stored(Hunger), [OPEN], Hungry Thirsty 1 0;
+    B: Table => NotLegal, [OPEN], Hungry Thirsty 1 0;
+    B: On(AB, Look) => Saw(OPEN), [OPEN], Hungry Thirsty 1 0;
+    B: On(AB, Ask) => Done, [DIRTY_A_ASKED_BOTTLE_A], Hungry Thirsty 1 0;
+    B: On(AB, Ask) => NotLegal, [DIRTY_A_ASKED_BOTTLE_A], Hungry Thirsty 1 0;
+    A: On(AB, Give) => NotLegal, [OPEN], Thinking Thirsty 1 0;
+    A: On(AB, Dine) => Done, [CLEAN_B_BOTTLE_A], Thinking Thirsty 1 0;
+    B: Table => NotLegal, [DIRTY_A_ASKED_BOTTLE_A], Hungry Thirsty 1 0;
+    B: On(AB, Look) => Saw(CLEAN_B_BOTTLE_A), [CLEAN_B_BOTTLE_A], Hungry Thirsty 1 0;
+    B: Table => Stored(Sit), [CLEAN_B_BOTTLE_A], Eating Thirsty 1 0;
+    A: Table => Stored(Hunger), [CLEAN_B_BOTTLE_A], Hungry Thirsty 1 0;
+    B: On(AB, Soil) => Done, [DIRTY_B_BOTTLE_A], Eating Thirsty 1 0;
+    B: On(AB, Soil) => NotLegal, [DIRTY_B_BOTTLE_A], Eating Thirsty 1 0;
+    A: On(AB, Ask) => Found(DIRTY_B_BOTTLE_A), [CLEAN_B_BOTTLE_A], Hungry Thirsty 1 0;
+    A: On(AB, Dine) => Done, [DIRTY_B_ASKED_BOTTLE_A], Hungry Thirsty 1 0;
+    B: On(AB, Look) => Saw(DIRTY_B_ASKED_BOTTLE_A), [DIRTY_B_ASKED_BOTTLE_A], Eating Thirsty 1 0;
+    B: On(AB, Give) => NotLegal, [DIRTY_B_ASKED_BOTTLE_A], Eating Thirsty 1 0;
+    B: On(AB, Dine) => NotLegal, [DIRTY_B_ASKED_BOTTLE_A], Eating Thirsty 1 0;
+    B: Table => NotLegal, [DIRTY_B_ASKED_BOTTLE_A], Eating Thirsty 1 0;
+};
+
+#[test]
+fn forks_and_meals(rt: HostRuntime) {
+    check(&rt, rt.alloc(), TWO, &A_MEAL, &[0, 0]);
 }
 
-/// A call on a desk, with the number of an edge or of another job.
-#[derive(Clone, Copy)]
-pub(crate) enum Call {
-    Look(u16),
-    Try(Move, u16),
-    May(Move, u16),
-    Store(PhaseEvent),
-    Command,
-    Glance(u8),
-    NoteTurn(bool),
-    Seen(u16),
-    Marks(u16),
-    Phase,
-    Retired,
-    Counts,
+/// Bottles: a keeps the one that it needs as long as it has the fork, and b drinks with it.
+const A_BOTTLE: [Row; 23] = rows! {
+    A: Store(Thirst) => Done, [OPEN], Thinking Thirsty 1 0;
+    B: Store(Thirst) => Done, [OPEN], Thinking Thirsty 1 0;
+    A: On(AB, Serve) => NotLegal, [OPEN], Thinking Thirsty 1 0;
+    A: On(AB, Want) => NotLegal, [OPEN], Thinking Thirsty 1 0;
+    B: On(AB, Want) => Done, [DIRTY_A_BOTTLE_A_ASKED], Thinking Thirsty 1 0;
+    B: On(AB, Want) => NotLegal, [DIRTY_A_BOTTLE_A_ASKED], Thinking Thirsty 1 0;
+    B: Store(Hunger) => Done, [DIRTY_A_BOTTLE_A_ASKED], Hungry Thirsty 1 0;
+    B: On(AB, Ask) => Done, [DIRTY_A_ASKED_BOTTLE_A_ASKED], Hungry Thirsty 1 0;
+    A: On(AB, Look) => Saw(DIRTY_A_ASKED_BOTTLE_A_ASKED), [DIRTY_A_ASKED_BOTTLE_A_ASKED], Thinking Thirsty 1 0;
+    A: On(AB, Serve) => NotLegal, [DIRTY_A_ASKED_BOTTLE_A_ASKED], Thinking Thirsty 1 0;
+    A: On(AB, Give) => Done, [CLEAN_B_BOTTLE_A_ASKED], Thinking Thirsty 1 0;
+    A: On(AB, Serve) => Done, [CLEAN_B_BOTTLE_B], Thinking Thirsty 1 0;
+    B: Drink => No, [DIRTY_A_ASKED_BOTTLE_A_ASKED], Hungry Thirsty 1 0;
+    B: On(AB, Look) => Saw(CLEAN_B_BOTTLE_B), [CLEAN_B_BOTTLE_B], Hungry Thirsty 1 0;
+    B: Drink => Yes, [CLEAN_B_BOTTLE_B], Hungry Drinks 1 0;
+    A: On(AB, Want) => Done, [CLEAN_B_BOTTLE_B_ASKED], Thinking Thirsty 1 0;
+    B: On(AB, Serve) => NotLegal, [CLEAN_B_BOTTLE_B], Hungry Drinks 1 0;
+    B: On(AB, Look) => Saw(CLEAN_B_BOTTLE_B_ASKED), [CLEAN_B_BOTTLE_B_ASKED], Hungry Drinks 1 0;
+    B: On(AB, Serve) => NotLegal, [CLEAN_B_BOTTLE_B_ASKED], Hungry Drinks 1 0;
+    A: Glance(1) => Far((Hungry, Drinks, 1, 0)), [CLEAN_B_BOTTLE_B_ASKED], Thinking Thirsty 1 0;
+    A: AllRetired => No, [CLEAN_B_BOTTLE_B_ASKED], Thinking Thirsty 1 0;
+    B: Command => Value(1), [CLEAN_B_BOTTLE_B_ASKED], Hungry Drinks 1 1;
+    B: Drink => No, [CLEAN_B_BOTTLE_B_ASKED], Hungry Drinks 1 1;
+};
+
+#[test]
+fn bottles_and_drinking(rt: HostRuntime) {
+    check(&rt, rt.alloc(), TWO, &A_BOTTLE, &[0, 0]);
 }
 
-/// What is answered; words as they are packed.
-#[derive(Clone, Copy, PartialEq, Eq, Debug)]
-pub(crate) enum Answer {
-    /// an edge as it was seen, or as a move left it
-    Word(u64),
-    /// how far a job is
-    Far(u64),
-    /// the other word that an exchange found
-    Found(u64),
-    Is(bool),
-    /// the job and the value of an entry
-    Added(u8, u32),
-    /// whether there is a mark for the fork, and which bottles there are marks for
-    Marks(bool, u32),
-    /// the turns, and in how many of them the session waited
-    Turns(u64, u32),
-    Counted(Counts),
+const ASKS_FORK: EdgeMoves = EdgeMoves {
+    ask_fork: true,
+    ..EdgeMoves::NONE
+};
+
+const ASKS_BOTH: EdgeMoves = EdgeMoves {
+    ask_fork: true,
+    ask_bottles: 1,
+    ..EdgeMoves::NONE
+};
+
+const GIVES_AND_ASKS_FORK: EdgeMoves = EdgeMoves {
+    give_fork: true,
+    ask_fork: true,
+    ..EdgeMoves::NONE
+};
+
+const GIVES_AND_ASKS_BOTH: EdgeMoves = EdgeMoves {
+    give_fork: true,
+    give_bottles: 1,
+    ask_fork: true,
+    ask_bottles: 1,
+    ..EdgeMoves::NONE
+};
+
+const SOILS: EdgeMoves = EdgeMoves {
+    soil: true,
+    ..EdgeMoves::NONE
+};
+
+/// All that is due on an edge goes in one exchange: a gives fork and bottle, and asks for both again.
+const ALL_AT_ONCE: [Row; 19] = rows! {
+    A: Store(Thirst) => Done, [OPEN], Thinking Thirsty 1 0;
+    A: Store(Hunger) => Done, [OPEN], Hungry Thirsty 1 0;
+    B: Store(Thirst) => Done, [OPEN], Thinking Thirsty 1 0;
+    B: Store(Hunger) => Done, [OPEN], Hungry Thirsty 1 0;
+    B: On(AB, Look) => Saw(OPEN), [OPEN], Hungry Thirsty 1 0;
+    B: On(AB, Forks) => Moves(ASKS_FORK), [OPEN], Hungry Thirsty 1 0;
+    B: On(AB, Due) => Moves(ASKS_BOTH), [OPEN], Hungry Thirsty 1 0;
+    B: Turn => Acted(1), [DIRTY_A_ASKED_BOTTLE_A_ASKED], Hungry Thirsty 1 0;
+    A: On(AB, Look) => Saw(DIRTY_A_ASKED_BOTTLE_A_ASKED), [DIRTY_A_ASKED_BOTTLE_A_ASKED], Hungry Thirsty 1 0;
+    A: On(AB, Forks) => Moves(GIVES_AND_ASKS_FORK), [DIRTY_A_ASKED_BOTTLE_A_ASKED], Hungry Thirsty 1 0;
+    A: On(AB, Due) => Moves(GIVES_AND_ASKS_BOTH), [DIRTY_A_ASKED_BOTTLE_A_ASKED], Hungry Thirsty 1 0;
+    A: Turn => Acted(1), [CLEAN_B_ASKED_BOTTLE_B_ASKED], Hungry Thirsty 1 0;
+    B: On(AB, Look) => Saw(CLEAN_B_ASKED_BOTTLE_B_ASKED), [CLEAN_B_ASKED_BOTTLE_B_ASKED], Hungry Thirsty 1 0;
+    B: On(AB, Forks) => Moves(EdgeMoves::NONE), [CLEAN_B_ASKED_BOTTLE_B_ASKED], Hungry Thirsty 1 0;
+    B: On(AB, Due) => Moves(EdgeMoves::NONE), [CLEAN_B_ASKED_BOTTLE_B_ASKED], Hungry Thirsty 1 0;
+    B: Store(Sit) => Done, [CLEAN_B_ASKED_BOTTLE_B_ASKED], Eating Thirsty 1 0;
+    B: On(AB, Forks) => Moves(SOILS), [CLEAN_B_ASKED_BOTTLE_B_ASKED], Eating Thirsty 1 0;
+    B: On(AB, Due) => Moves(SOILS), [CLEAN_B_ASKED_BOTTLE_B_ASKED], Eating Thirsty 1 0;
+    B: Turn => Acted(2), [DIRTY_B_ASKED_BOTTLE_B_ASKED], Eating Drinks 1 0;
+};
+
+#[test]
+fn moves_that_are_due(rt: HostRuntime) {
+    check(&rt, rt.alloc(), TWO, &ALL_AT_ONCE, &[1, 1]);
 }
 
-fn looked<T: Allocator>(
-    rt: &impl Abort,
-    bench: &Bench<T>,
-    desk: &mut Desk<T>,
-    edge: EdgeNo,
-) -> Answer
-    requires own { Owns bench.now desk.old }
-    ensures { Owns bench.now desk.new }
-{
-    assert!(rt; is_own(bench, desk, edge));
-    Answer::Word(look(bench, desk, edge).pack())
-}
+const MAY_ASK_BOTTLE_HUNGER_WITHDRAW: u32 = MAY_ASK_BOTTLE | MAY_HUNGER | MAY_WITHDRAW;
 
-/// Moves that are seen to be legal.
-fn moved<T: Allocator>(
-    rt: &impl Abort,
-    bench: &Bench<T>,
-    desk: &mut Desk<T>,
-    what: Move,
-    edge: EdgeNo,
-) -> Stepped
-    requires own { Owns bench.now desk.old }
-    requires edge { IsOwn desk.old.plan desk.old.job edge }
-    ensures { Owns bench.now desk.new }
-{
-    match what {
-        Move::GiveFork => {
-            assert!(rt; may_give_fork(bench, desk, edge));
-            give_fork(bench, desk, edge)
-        }
-        Move::GiveBottles(set) => {
-            assert!(rt; may_give_bottles(bench, desk, edge, set));
-            give_bottles(bench, desk, edge, set)
-        }
-        Move::AskFork => {
-            assert!(rt; may_ask_fork(bench, desk, edge));
-            ask_fork(bench, desk, edge)
-        }
-        Move::AskBottles(set) => {
-            assert!(rt; may_ask_bottles(bench, desk, edge, set));
-            ask_bottles(bench, desk, edge, set)
-        }
-        Move::Soil => {
-            assert!(rt; may_soil(bench, desk, edge));
-            soil(bench, desk, edge)
-        }
-        Move::AllDue => {
-            let forks = fork_moves(bench, desk, edge);
-            let moves = with_bottles(bench, desk, edge, forks);
-            assert!(rt; may_exchange(bench, desk, edge, moves));
-            exchange(bench, desk, edge, moves)
-        }
-        Move::These(moves) => {
-            assert!(rt; may_exchange(bench, desk, edge, moves));
-            exchange(bench, desk, edge, moves)
-        }
-    }
-}
+const MAY_ASK_ASK_BOTTLE_WITHDRAW: u32 = MAY_ASK | MAY_ASK_BOTTLE | MAY_WITHDRAW;
 
-fn seen<T: Allocator>(rt: &impl Abort, bench: &Bench<T>, desk: &Desk<T>, edge: EdgeNo) -> u64
-    requires own { Owns bench.now desk.now }
-{
-    assert!(rt; is_own(bench, desk, edge));
-    desk.seen(edge).pack()
-}
+const MAY_GIVE_DRINK: u32 = MAY_GIVE | MAY_DRINK;
 
-fn tried<T: Allocator>(
-    rt: &impl Abort,
-    bench: &Bench<T>,
-    desk: &mut Desk<T>,
-    what: Move,
-    edge: EdgeNo,
-) -> Answer
-    requires own { Owns bench.now desk.old }
-    ensures { Owns bench.now desk.new }
-{
-    assert!(rt; is_own(bench, desk, edge));
-    match moved(rt, bench, desk, what, edge) {
-        Stepped::Done => Answer::Word(seen(rt, bench, desk, edge)),
-        Stepped::Moved(found) => Answer::Found(found.pack()),
-    }
-}
+const MAY_ASK_GIVE_BOTTLE_DRINK: u32 = MAY_ASK | MAY_GIVE_BOTTLE | MAY_DRINK;
 
-/// Whether a single move, or a group of them, is legal by the word last seen.
-fn may<T: Allocator>(
-    rt: &impl Abort,
-    bench: &Bench<T>,
-    desk: &Desk<T>,
-    what: Move,
-    edge: EdgeNo,
-) -> bool
-    requires own { Owns bench.now desk.now }
-{
-    if let Move::These(moves) = what {
-        return may_exchange(bench, desk, edge, moves);
-    }
-    assert!(rt; is_own(bench, desk, edge));
-    match what {
-        Move::GiveFork => may_give_fork(bench, desk, edge),
-        Move::GiveBottles(set) => may_give_bottles(bench, desk, edge, set),
-        Move::AskFork => may_ask_fork(bench, desk, edge),
-        Move::AskBottles(set) => may_ask_bottles(bench, desk, edge, set),
-        Move::Soil => may_soil(bench, desk, edge),
-        Move::AllDue | Move::These(_) => true,
-    }
-}
+const MAY_SIT_DRINK_WITHDRAW: u32 = MAY_SIT | MAY_DRINK | MAY_WITHDRAW;
 
-fn phase_of<T: Allocator>(rt: &impl Abort, desk: &Desk<T>) -> u64 {
-    let phase = desk.phase();
-    assert!(rt; phase.session < 16_777_216);
-    PhaseWord::new(phase).pack()
-}
+const MAY_SOIL_DRINK_WITHDRAW: u32 = MAY_SOIL | MAY_DRINK | MAY_WITHDRAW;
 
-fn stored<T: Allocator>(
-    rt: &impl Abort,
-    bench: &Bench<T>,
-    desk: &mut Desk<T>,
-    what: PhaseEvent,
-) -> Answer
-    requires own { Owns bench.now desk.old }
-    ensures { Owns bench.now desk.new }
-{
-    assert!(rt; may_phase(bench, desk, what));
-    store_phase(bench, desk, what);
-    Answer::Far(phase_of(rt, desk))
-}
+const MAY_COMMAND_LEAVE: u32 = MAY_COMMAND | MAY_LEAVE;
 
-/// The entry of the one command of a job's first session on an instrument, which adds 1.
-pub(crate) fn entry_of(job: JobNo, value: u32) -> Entry {
-    Entry {
-        job,
-        session: 1,
-        place: 1,
-        length: 1,
-        verb: Verb::Add(1),
-        value,
-    }
-}
+const MAY_LEAVE_QUIT: u32 = MAY_LEAVE | MAY_QUIT;
 
-fn commanded<T: Allocator>(rt: &impl Abort, bench: &Bench<T>, desk: &mut Desk<T>) -> Answer
-    requires own { Owns bench.now desk.old }
-    ensures { Owns bench.now desk.new }
-{
-    assert!(rt; may_command(bench, desk));
-    let entry = command(bench, desk);
-    let (job, value) = (entry.job.0, entry.value);
-    let wanted = entry_of(JobNo(job), value);
-    assert!(rt; entry == wanted, "{wanted:?} was wanted, not {entry:?}");
-    Answer::Added(job, value)
-}
+const MAY_GIVE_BOTTLE_LEAVE: u32 = MAY_GIVE_BOTTLE | MAY_LEAVE;
 
-fn glanced<T: Allocator>(
-    rt: &impl Abort,
-    bench: &Bench<T>,
-    desk: &mut Desk<T>,
-    other: JobNo,
-) -> Answer
-    requires own { Owns bench.now desk.old }
-    ensures { Owns bench.now desk.new }
-{
-    let me = desk.job();
-    let jobs = bench.plan().jobs();
-    assert!(rt; (other.0 as usize) < jobs && other.0 != me.0);
-    Answer::Far(glance(bench, desk, other).pack())
-}
+const MAY_GIVE_GIVE_BOTTLE_RETIRE: u32 = MAY_GIVE | MAY_GIVE_BOTTLE | MAY_RETIRE;
 
-fn noted<T: Allocator>(bench: &Bench<T>, desk: &mut Desk<T>, thirsty_at_start: bool) -> Answer
-    requires own { Owns bench.now desk.old }
-    ensures { Owns bench.now desk.new }
-{
-    desk.note_turn(thirsty_at_start);
-    Answer::Turns(desk.turns(), desk.waited())
-}
+const MAY_GIVE_GIVE_BOTTLE: u32 = MAY_GIVE | MAY_GIVE_BOTTLE;
 
-fn marks<T: Allocator>(rt: &impl Abort, bench: &Bench<T>, desk: &Desk<T>, edge: EdgeNo) -> Answer
-    requires own { Owns bench.now desk.now }
-{
-    assert!(rt; is_own(bench, desk, edge));
-    Answer::Marks(desk.fork_mark(edge), desk.bottle_marks(edge))
-}
+/// Moves by their names, and what is legal between them. The session of b may be given up while it is thirsty.
+const BY_NAME: [Row; 34] = rows! {
+    A: On(AB, Legal) => Allows(MAY_THIRST), [OPEN], Thinking Tranquil 0 0;
+    A: Store(Thirst) => Done, [OPEN], Thinking Thirsty 1 0;
+    A: On(AB, Legal) => Allows(MAY_HUNGER), [OPEN], Thinking Thirsty 1 0;
+    B: Store(Thirst) => Done, [OPEN], Thinking Thirsty 1 0;
+    B: On(AB, Legal) => Allows(MAY_ASK_BOTTLE_HUNGER_WITHDRAW), [OPEN], Thinking Thirsty 1 0;
+    B: Store(Hunger) => Done, [OPEN], Hungry Thirsty 1 0;
+    B: On(AB, Legal) => Allows(MAY_ASK_ASK_BOTTLE_WITHDRAW), [OPEN], Hungry Thirsty 1 0;
+    B: On(AB, AskFork) => Done, [DIRTY_A_ASKED_BOTTLE_A], Hungry Thirsty 1 0;
+    A: Store(Hunger) => Done, [OPEN], Hungry Thirsty 1 0;
+    A: On(AB, Look) => Saw(DIRTY_A_ASKED_BOTTLE_A), [DIRTY_A_ASKED_BOTTLE_A], Hungry Thirsty 1 0;
+    A: On(AB, Legal) => Allows(MAY_GIVE_DRINK), [DIRTY_A_ASKED_BOTTLE_A], Hungry Thirsty 1 0;
+    B: On(AB, AskBottles(1)) => Done, [DIRTY_A_ASKED_BOTTLE_A_ASKED], Hungry Thirsty 1 0;
+    A: On(AB, GiveFork) => Found(DIRTY_A_ASKED_BOTTLE_A_ASKED), [DIRTY_A_ASKED_BOTTLE_A], Hungry Thirsty 1 0;
+    A: On(AB, Look) => Saw(DIRTY_A_ASKED_BOTTLE_A_ASKED), [DIRTY_A_ASKED_BOTTLE_A_ASKED], Hungry Thirsty 1 0;
+    A: On(AB, GiveFork) => Done, [CLEAN_B_BOTTLE_A_ASKED], Hungry Thirsty 1 0;
+    A: On(AB, Legal) => Allows(MAY_ASK_GIVE_BOTTLE_DRINK), [CLEAN_B_BOTTLE_A_ASKED], Hungry Thirsty 1 0;
+    A: On(AB, GiveBottles(1)) => Done, [CLEAN_B_BOTTLE_B], Hungry Thirsty 1 0;
+    A: On(AB, AskFork) => Done, [CLEAN_B_ASKED_BOTTLE_B], Hungry Thirsty 1 0;
+    A: On(AB, AskBottles(1)) => Done, [CLEAN_B_ASKED_BOTTLE_B_ASKED], Hungry Thirsty 1 0;
+    B: On(AB, Look) => Saw(CLEAN_B_ASKED_BOTTLE_B_ASKED), [CLEAN_B_ASKED_BOTTLE_B_ASKED], Hungry Thirsty 1 0;
+    B: On(AB, Legal) => Allows(MAY_SIT_DRINK_WITHDRAW), [CLEAN_B_ASKED_BOTTLE_B_ASKED], Hungry Thirsty 1 0;
+    B: Store(Sit) => Done, [CLEAN_B_ASKED_BOTTLE_B_ASKED], Eating Thirsty 1 0;
+    B: On(AB, Legal) => Allows(MAY_SOIL_DRINK_WITHDRAW), [CLEAN_B_ASKED_BOTTLE_B_ASKED], Eating Thirsty 1 0;
+    B: On(AB, SoilFork) => Done, [DIRTY_B_ASKED_BOTTLE_B_ASKED], Eating Thirsty 1 0;
+    B: Store(PhaseEvent::Drink) => Done, [DIRTY_B_ASKED_BOTTLE_B_ASKED], Eating Drinks 1 0;
+    B: On(AB, Legal) => Allows(MAY_COMMAND_LEAVE), [DIRTY_B_ASKED_BOTTLE_B_ASKED], Eating Drinks 1 0;
+    B: Command => Value(1), [DIRTY_B_ASKED_BOTTLE_B_ASKED], Eating Drinks 1 1;
+    B: On(AB, Legal) => Allows(MAY_LEAVE_QUIT), [DIRTY_B_ASKED_BOTTLE_B_ASKED], Eating Drinks 1 1;
+    B: Store(Quit) => Done, [DIRTY_B_ASKED_BOTTLE_B_ASKED], Eating Tranquil 1 0;
+    B: On(AB, Legal) => Allows(MAY_GIVE_BOTTLE_LEAVE), [DIRTY_B_ASKED_BOTTLE_B_ASKED], Eating Tranquil 1 0;
+    B: Store(Leave) => Done, [DIRTY_B_ASKED_BOTTLE_B_ASKED], Thinking Tranquil 1 0;
+    B: On(AB, Legal) => Allows(MAY_GIVE_GIVE_BOTTLE_RETIRE), [DIRTY_B_ASKED_BOTTLE_B_ASKED], Thinking Tranquil 1 0;
+    B: Store(Retire) => Done, [DIRTY_B_ASKED_BOTTLE_B_ASKED], Thinking Retired 1 0;
+    B: On(AB, Legal) => Allows(MAY_GIVE_GIVE_BOTTLE), [DIRTY_B_ASKED_BOTTLE_B_ASKED], Thinking Retired 1 0;
+};
 
-fn counted<T: Allocator>(rt: &impl Abort, desk: &Desk<T>) -> Answer {
-    let counts = desk.counts();
-    assert!(rt; counts.meals == desk.meals());
-    assert!(rt; counts.sessions_done == desk.sessions_done());
-    assert!(rt; counts.withdrawn == desk.withdrawn());
-    Answer::Counted(counts)
-}
-
-pub(crate) fn called<T: Allocator>(
-    rt: &impl Abort,
-    bench: &Bench<T>,
-    desk: &mut Desk<T>,
-    call: Call,
-) -> Answer
-    requires own { Owns bench.now desk.old }
-    ensures { Owns bench.now desk.new }
-{
-    match call {
-        Call::Look(edge) => looked(rt, bench, desk, EdgeNo(edge)),
-        Call::Try(what, edge) => tried(rt, bench, desk, what, EdgeNo(edge)),
-        Call::May(what, edge) => Answer::Is(may(rt, bench, desk, what, EdgeNo(edge))),
-        Call::Store(what) => stored(rt, bench, desk, what),
-        Call::Command => commanded(rt, bench, desk),
-        Call::Glance(other) => glanced(rt, bench, desk, JobNo(other)),
-        Call::NoteTurn(thirsty_at_start) => noted(bench, desk, thirsty_at_start),
-        Call::Seen(edge) => Answer::Word(seen(rt, bench, desk, EdgeNo(edge))),
-        Call::Marks(edge) => marks(rt, bench, desk, EdgeNo(edge)),
-        Call::Phase => Answer::Far(phase_of(rt, desk)),
-        Call::Retired => Answer::Is(desk.retired()),
-        Call::Counts => counted(rt, desk),
-    }
-}
-
-/// The desks stand in ascending order of their jobs.
-fn answer_of<T: Allocator>(
-    rt: &impl Abort,
-    bench: &Bench<T>,
-    desks: &mut [Desk<T>],
-    job: u8,
-    call: Call,
-) -> Answer
-    requires own { Each (Owns bench.now) desks.old }
-    ensures { Each (Owns bench.now) desks.new }
-{
-    let place = usize::from(job);
-    assert!(rt; place < desks.len());
-    assert!(rt; desks[place].job().0 == job);
-    called(rt, bench, &mut desks[place], call)
-}
-
-/// A job, a call on its desk, and what has to be answered.
-pub(crate) type Line = (u8, Call, Answer);
-
-/// An answer as a failure tells it, with what its word says of an edge, or of how far a job is.
-fn said(answer: Answer) -> (Answer, Option<EdgeState>, Option<JobState>) {
-    match answer {
-        Answer::Word(word) | Answer::Found(word) => (answer, edge(word), None),
-        Answer::Far(word) => (answer, None, phase(word)),
-        _ => (answer, None, None),
-    }
-}
-
-/// Does all the calls, and compares each answer.
-pub(crate) fn do_all<T: Allocator>(
-    rt: &impl Abort,
-    bench: &Bench<T>,
-    desks: &mut [Desk<T>],
-    lines: &[Line],
-)
-    requires own { Each (Owns bench.now) desks.old }
-    ensures { Each (Owns bench.now) desks.new }
-{
-    for number in 0..lines.len() {
-        let (job, call, wanted) = lines[number];
-        let told = answer_of(rt, bench, desks, job, call);
-        let (want, came) = (said(wanted), said(told));
-        assert!(rt;
-            told == wanted,
-            "call {number}: {want:?} was wanted, not {came:?}"
-        );
-    }
-}
-
-/// The calls on a bench that is opened for them.
-pub(crate) fn check<T: Allocator + Copy>(rt: &impl Abort, alloc: T, script: &str, lines: &[Line]) {
-    let plan = plan_of(rt, alloc, script);
-    let (bench, mut desks) = bench_of(rt, alloc, &plan);
-    do_all(rt, &bench, desks.as_mut_slice(), lines);
+#[test]
+fn moves_by_name(rt: HostRuntime) {
+    check(&rt, rt.alloc(), PATIENCE_1, &BY_NAME, &[0, 0]);
 }

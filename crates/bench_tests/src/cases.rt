@@ -1,9 +1,10 @@
 //! Worked runs, whose answers were worked out by hand: forks, bottles, all moves at once, marks, counts and patience.
-use crate::benches::{A, AB, AC, B, BC, C, IMPATIENT, THREE, TWICE, TWO};
-use crate::calls::Answer::{Far, Found, Is, Word};
-use crate::calls::Call::{Glance, Look, May, Seen, Store, Try};
-use crate::calls::Move::{AllDue, AskBottles, AskFork, GiveBottles, GiveFork, Soil, These};
-use crate::calls::{Answer, Call, Line, check};
+use crate::desks::{A, AB, AC, B, BC, C};
+use crate::labs::{PATIENCE_0, THREE, TWICE, TWO};
+use crate::lines::Answer::{Far, Found, Is, Word};
+use crate::lines::Call::{Glance, Look, May, Seen, Store, Try};
+use crate::lines::Move::{AllDue, AskBottles, AskFork, GiveBottles, GiveFork, Soil, These};
+use crate::lines::{Answer, Call, Line, check};
 use crate::words::{
     CLEAN_B_ASKED_BOTTLE_B, CLEAN_B_ASKED_BOTTLE_B_ASKED, CLEAN_B_BOTTLE_A, CLEAN_B_BOTTLE_A_ASKED,
     CLEAN_B_BOTTLE_B, CLEAN_B_BOTTLE_B_ASKED, DIRTY_A_ALL_28_B, DIRTY_A_ASKED_BOTTLE_A,
@@ -258,7 +259,7 @@ const RUNS: [(&str, &[Line]); 9] = [
     (TWO, &AT_ONCE),
     (TWO, &IN_GROUPS),
     (THREE, &OF_OTHERS),
-    (IMPATIENT, &GIVEN_UP),
+    (PATIENCE_0, &GIVEN_UP),
     (TWICE, &TWO_SESSIONS),
     (THREE, &RING),
 ];

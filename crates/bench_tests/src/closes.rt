@@ -3,11 +3,12 @@ ghost use Rattle.std.specs.Prelude.{◌≡◌, ◌++◌, ◌∷◌, []};
 ghost use Rattle.turns.specs.Lists.{Each};
 ghost use Rattle.edge_rule.specs.DeskView.{Owns};
 
-use crate::benches::{A, AB, AC, B, BC, C, NOBODY, THREE, TWO, bench_of, both, plan_of};
-use crate::calls::Answer::{Added, Far, Word};
-use crate::calls::Call::{Look, Store, Try};
-use crate::calls::Move::AllDue;
-use crate::calls::{Call, Line, do_all, entry_of};
+use crate::desks::{A, AB, AC, B, BC, C, both};
+use crate::labs::{NOBODY, THREE, TWO, opened, plan_of};
+use crate::lines::Answer::{Added, Far, Word};
+use crate::lines::Call::{Look, Store, Try};
+use crate::lines::Move::AllDue;
+use crate::lines::{Call, Line, do_all, entry_of};
 use crate::words::{
     DIRTY_A_BOTTLE_A_ASKED, DIRTY_A_BOTTLE_B, DIRTY_B_BOTTLE_B, DRINKS, DRINKS_ONE_DONE, OPEN,
     OPEN_OF_THREE, RETIRED, THIRSTY, TRANQUIL, edge, phase,
@@ -116,7 +117,7 @@ pub(crate) fn closes<T: Allocator + Copy>(
     wanted: &Left,
 ) -> bool {
     let plan = plan_of(rt, alloc, script);
-    let (bench, mut desks) = bench_of(rt, alloc, &plan);
+    let (bench, mut desks) = opened(rt, alloc, &plan);
     do_all(rt, &bench, desks.as_mut_slice(), lines);
     assert!(rt; bench.has_all(desks.as_slice()));
     match bench.close(small, desks) {
@@ -292,7 +293,7 @@ fn closes_in_order<T: Allocator + Copy>(
     wanted: &Left,
 ) {
     let plan = plan_of(rt, alloc, TWO);
-    let (bench, mut desks) = bench_of(rt, alloc, &plan);
+    let (bench, mut desks) = opened(rt, alloc, &plan);
     take_turns(rt, &bench, desks.as_mut_slice(), limit, ends);
     let (a, b) = both(rt, &bench, desks);
     if is_swapped {

@@ -1,8 +1,9 @@
-//! Tests of the shared bench and its desks, and that each law about them can be called; over public calls alone.
+//! Tests of the shared bench over public calls alone: words, single calls on desks, turns one after another, rounds, threads and their gates,
+//! the bell; and that each law about them can be called.
 #![tactic(auto)]
 
 #[cfg(test)]
-mod benches;
+mod bells;
 #[cfg(test)]
 mod calls;
 #[cfg(test)]
@@ -10,10 +11,34 @@ mod cases;
 #[cfg(test)]
 mod closes;
 #[cfg(test)]
+mod desks;
+#[cfg(test)]
+mod gates;
+#[cfg(test)]
+mod labs;
+#[cfg(test)]
 mod laws;
+#[cfg(test)]
+mod lines;
 #[cfg(test)]
 mod memory;
 #[cfg(test)]
+mod owners;
+#[cfg(test)]
 mod pairs;
+#[cfg(test)]
+mod runs;
+#[cfg(test)]
+mod seats;
+#[cfg(test)]
+mod sleepers;
+#[cfg(test)]
+mod tables;
+#[cfg(test)]
+mod teams;
+#[cfg(test)]
+mod visits;
+#[cfg(test)]
+mod whole_turns;
 #[cfg(test)]
 mod words;

@@ -1,6 +1,6 @@
 //! Memory that is refused when a bench is opened or closed, each allocation in turn.
-use crate::benches::{THREE, TWO, plan_of};
 use crate::closes::{BOTH_DRANK, BOTH_DRINK, closes};
+use crate::labs::{THREE, TWO, plan_of};
 use edge_rule::{Bench, OpenError};
 use lab_plan::Plan;
 use refusing_heap::RefusingHeap;

@@ -2,11 +2,12 @@
 ghost use Rattle.turns.specs.Lists.{Each};
 ghost use Rattle.edge_rule.specs.DeskView.{Owns};
 
-use crate::benches::{A, AB, AC, B, BC, C, THREE, TWO, bench_of, both, is_own, plan_of};
-use crate::calls::Answer::{Far, Word};
-use crate::calls::Call::{Glance, Look, Seen, Store, Try};
-use crate::calls::Move::AllDue;
-use crate::calls::{Answer, Call, Line, called, do_all};
+use crate::desks::{A, AB, AC, B, BC, C, both, is_own};
+use crate::labs::{THREE, TWO, opened, plan_of};
+use crate::lines::Answer::{Far, Word};
+use crate::lines::Call::{Glance, Look, Seen, Store, Try};
+use crate::lines::Move::AllDue;
+use crate::lines::{Answer, Call, Line, called, do_all};
 use crate::words::{DIRTY_A_BOTTLE_A_ASKED, OPEN, OPEN_OF_THREE, THIRSTY};
 use edge_rule::PhaseEvent::Thirst;
 use edge_rule::{Bench, Desk, heed, look, meet, meet_all, tell};
@@ -110,7 +111,7 @@ fn both_meet<T: Allocator>(rt: &impl Abort, bench: &Bench<T>, a: &mut Desk<T>, b
 
 fn two_desks<R: Threads + Sync + Abort, T: Allocator + Copy + Send + Sync>(rt: &R, alloc: T) {
     let plan = plan_of(rt, alloc, TWO);
-    let (bench, desks) = bench_of(rt, alloc, &plan);
+    let (bench, desks) = opened(rt, alloc, &plan);
     let (mut a, mut b) = both(rt, &bench, desks);
     both_look(rt, &bench, &mut a, &mut b);
     both_saw(rt, &bench, &a, &b);
@@ -150,7 +151,7 @@ fn all_meet<T: Allocator>(rt: &impl Abort, bench: &Bench<T>, desks: &mut [Desk<T
 
 fn three_desks<T: Allocator + Copy>(rt: &impl Abort, alloc: T) {
     let plan = plan_of(rt, alloc, THREE);
-    let (bench, mut desks) = bench_of(rt, alloc, &plan);
+    let (bench, mut desks) = opened(rt, alloc, &plan);
     do_all(rt, &bench, desks.as_mut_slice(), &BEFORE);
     all_meet(rt, &bench, desks.as_mut_slice());
     do_all(rt, &bench, desks.as_mut_slice(), &AFTER);

@@ -19,6 +19,8 @@ pub(crate) const DIRTY_A: u64 = DIRTY | FORK_TOKEN;
 
 pub(crate) const DIRTY_A_ASKED: u64 = DIRTY;
 
+pub(crate) const CLEAN_A: u64 = FORK_TOKEN;
+
 /// The fork at B.
 pub(crate) const CLEAN_B: u64 = FORK;
 
@@ -42,6 +44,8 @@ pub(crate) const BOTTLE_B_ASKED: u64 = BOTTLE | BOTTLE_TOKEN;
 pub(crate) const OPEN: u64 = DIRTY_A | BOTTLE_A;
 
 /// Fork and bottle. The tables name whole words: an `|` in a table is costly to prove.
+pub(crate) const CLEAN_A_BOTTLE_A: u64 = CLEAN_A | BOTTLE_A;
+
 pub(crate) const CLEAN_B_ASKED_BOTTLE_B: u64 = CLEAN_B_ASKED | BOTTLE_B;
 
 pub(crate) const CLEAN_B_ASKED_BOTTLE_B_ASKED: u64 = CLEAN_B_ASKED | BOTTLE_B_ASKED;
@@ -70,9 +74,15 @@ pub(crate) const DIRTY_A_THREE_BOTTLES_B: u64 = DIRTY_A | THREE_BOTTLES_B;
 
 pub(crate) const DIRTY_B_ASKED_BOTTLE_A: u64 = DIRTY_B_ASKED | BOTTLE_A;
 
+pub(crate) const DIRTY_B_ASKED_BOTTLE_B_ASKED: u64 = DIRTY_B_ASKED | BOTTLE_B_ASKED;
+
 pub(crate) const DIRTY_B_BOTTLE_A: u64 = DIRTY_B | BOTTLE_A;
 
+pub(crate) const DIRTY_B_BOTTLE_A_ASKED: u64 = DIRTY_B | BOTTLE_A_ASKED;
+
 pub(crate) const DIRTY_B_BOTTLE_B: u64 = DIRTY_B | BOTTLE_B;
+
+pub(crate) const DIRTY_B_BOTTLE_B_ASKED: u64 = DIRTY_B | BOTTLE_B_ASKED;
 
 /// Of an edge with three bottles: as it opens, and after some went to B, which had asked for all.
 pub(crate) const OPEN_OF_THREE: u64 = DIRTY_A | 7 << 32;

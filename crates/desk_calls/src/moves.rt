@@ -15,11 +15,7 @@ pub fn ask_fork<A: Allocator>(bench: &Bench<A>, desk: &mut Desk<A>, edge: EdgeNo
     requires may { May desk.old.plan (known desk.old) (AskFork desk.old.job edge) }
     ensures { Made desk.old (AskFork desk.old.job edge) edge result desk.new }
 {
-    let moves = EdgeMoves {
-        ask_fork: true,
-        ..EdgeMoves::NONE
-    };
-    exchange(bench, desk, edge, moves)
+    exchange(bench, desk, edge, EdgeMoves::ASK_FORK)
 }
 
 /// Sends the fork of the edge to the other end, clean.
@@ -28,11 +24,7 @@ pub fn give_fork<A: Allocator>(bench: &Bench<A>, desk: &mut Desk<A>, edge: EdgeN
     requires may { May desk.old.plan (known desk.old) (GiveFork desk.old.job edge) }
     ensures { Made desk.old (GiveFork desk.old.job edge) edge result desk.new }
 {
-    let moves = EdgeMoves {
-        give_fork: true,
-        ..EdgeMoves::NONE
-    };
-    exchange(bench, desk, edge, moves)
+    exchange(bench, desk, edge, EdgeMoves::GIVE_FORK)
 }
 
 /// Makes the fork of the edge dirty.
@@ -41,11 +33,7 @@ pub fn soil<A: Allocator>(bench: &Bench<A>, desk: &mut Desk<A>, edge: EdgeNo) ->
     requires may { May desk.old.plan (known desk.old) (Soil desk.old.job edge) }
     ensures { Made desk.old (Soil desk.old.job edge) edge result desk.new }
 {
-    let moves = EdgeMoves {
-        soil: true,
-        ..EdgeMoves::NONE
-    };
-    exchange(bench, desk, edge, moves)
+    exchange(bench, desk, edge, EdgeMoves::SOIL)
 }
 
 /// Sends the request tokens of a set of bottles to the other end, all at once.

@@ -21,11 +21,7 @@ pub fn give<A: Allocator>(bench: &Bench<A>, desk: &mut Desk<A>, edge: EdgeNo) ->
     if !may_give(bench, desk, edge) {
         return Tried::NotLegal;
     }
-    let moves = EdgeMoves {
-        give_fork: true,
-        ..EdgeMoves::NONE
-    };
-    answered(exchange(bench, desk, edge, moves))
+    answered(exchange(bench, desk, edge, EdgeMoves::GIVE_FORK))
 }
 
 /// Asks for the fork of the edge, if that is legal by the word last seen.
@@ -37,11 +33,7 @@ pub fn ask<A: Allocator>(bench: &Bench<A>, desk: &mut Desk<A>, edge: EdgeNo) -> 
     if !may_ask(bench, desk, edge) {
         return Tried::NotLegal;
     }
-    let moves = EdgeMoves {
-        ask_fork: true,
-        ..EdgeMoves::NONE
-    };
-    answered(exchange(bench, desk, edge, moves))
+    answered(exchange(bench, desk, edge, EdgeMoves::ASK_FORK))
 }
 
 /// Soils the fork of the edge, if that is legal by the word last seen.
@@ -53,11 +45,7 @@ pub fn soil<A: Allocator>(bench: &Bench<A>, desk: &mut Desk<A>, edge: EdgeNo) ->
     if !may_soil(bench, desk, edge) {
         return Tried::NotLegal;
     }
-    let moves = EdgeMoves {
-        soil: true,
-        ..EdgeMoves::NONE
-    };
-    answered(exchange(bench, desk, edge, moves))
+    answered(exchange(bench, desk, edge, EdgeMoves::SOIL))
 }
 
 /// Looks at the edge, and then does the first that is legal of giving its fork, asking for it and soiling it.

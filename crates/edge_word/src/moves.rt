@@ -30,6 +30,24 @@ impl EdgeMoves {
         soil: false,
     };
 
+    /// The fork goes to the other end, and nothing else moves.
+    pub const GIVE_FORK: EdgeMoves = EdgeMoves {
+        give_fork: true,
+        ..EdgeMoves::NONE
+    };
+
+    /// The fork's request token goes to the other end, and nothing else moves.
+    pub const ASK_FORK: EdgeMoves = EdgeMoves {
+        ask_fork: true,
+        ..EdgeMoves::NONE
+    };
+
+    /// The fork is made dirty, and nothing moves.
+    pub const SOIL: EdgeMoves = EdgeMoves {
+        soil: true,
+        ..EdgeMoves::NONE
+    };
+
     /// Whether there is no move.
     pub fn is_empty(&self) -> bool
         ensures { result ≡ is_nothing self.now }

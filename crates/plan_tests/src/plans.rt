@@ -1,13 +1,12 @@
 //! What no clause says of the builder: that its calls succeed, and go on once memory is there again; and
 //! each reader of a plan on plans worked out by hand.
+use crate::asking::{ends_of, instrument_name, job_of, session_of};
 use crate::rows::check;
-use asking::{ends_of, instrument_name, job_of, session_of};
 use lab_plan::name::is_name;
 use lab_plan::{EdgeNo, InstrumentNo, JobNo, Plan, PlanBuilder, PlanRefusal, Verb};
 use std::alloc::Allocator;
 use std::process::Abort;
 
-mod asking;
 mod limits;
 mod logged;
 mod memory;

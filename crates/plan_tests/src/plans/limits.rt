@@ -1,9 +1,9 @@
 //! Names, verbs and each limit at its number and one past it, with the refusals in their order.
-use super::asking::{ends_of, session_of};
 use super::{
     EXAMPLE, Line, check_example, counts, finished, name_of, plan_of, put_all, put_commands,
     put_one, put_sessions, refuse, refuse_line, share,
 };
+use crate::asking::{ends_of, session_of};
 use crate::rows::check;
 use lab_plan::name::{is_digit, is_name, is_same_name};
 use lab_plan::{Plan, PlanBuilder, PlanRefusal, Verb};

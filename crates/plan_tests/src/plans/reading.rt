@@ -1,9 +1,9 @@
 //! Readers of a plan: each on its happy path, at the largest conflict graph and at the longest session.
-use super::asking::{
-    bottle_of, edge_of, ends_of, instrument_of, job_of, needed_of, part_of, place_of, session_of,
-};
 use super::logged::check_logs;
 use super::{Line, counts, finished, name_of, plan_of, put_all, put_commands};
+use crate::asking::{
+    bottle_of, edge_of, ends_of, instrument_of, job_of, needed_of, part_of, place_of, session_of,
+};
 use crate::rows::check;
 use lab_plan::{EdgeNo, InstrumentNo, JobNo, Place, Plan, PlanBuilder, Verb};
 use std::alloc::Allocator;

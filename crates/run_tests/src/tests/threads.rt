@@ -1,8 +1,9 @@
 //! Scripts by threads: what must be true of a report on every schedule.
-use super::gates::{Abreast, Counting, Flags};
+use super::gates::{Abreast, Flags};
 use super::in_rounds::SECOND_SESSION;
 use super::reports::is_report_of;
 use super::{Pieces, Slow, TWO_ADD, Told, may_run, told};
+use counting_gate::CountingGate;
 use lab_program::{FromRead, Outcome};
 use lab_runs::{Gate, Task, run_task};
 use report::ToWrite;
@@ -63,10 +64,10 @@ fn three_workers_go_on(rt: HostRuntime) {
 /// Each job of the ring passes before each of its turns: three, which finish none, and many.
 #[test]
 fn gate_counts_turns(rt: HostRuntime) {
-    let few = Counting::new();
+    let few = CountingGate::new();
     let (_, answer) = told_through(&rt, rt.alloc(), 2, 3, &few, RING.as_bytes());
     assert!(rt; answer == Ok(Outcome::Unfinished) && few.is_in_order());
-    let many = Counting::new();
+    let many = CountingGate::new();
     let (_, answer) = told_through(&rt, rt.alloc(), 2, 10000, &many, RING.as_bytes());
     assert!(rt; answer.is_ok() && many.is_in_order());
     for job in 0..4u8 {
