@@ -14,7 +14,7 @@ use std::sync::Wait;
 use std::thread::Threads;
 use workers::Gate;
 
-/// More turns than any wait takes where threads run side by side.
+/// More turns than any wait takes if threads run side by side.
 const TURNS: u32 = 50_000;
 
 /// The owners of all desks: the first two meet before they begin.

@@ -24,7 +24,7 @@ const FIVE: &str =
     "lab 1\njob a\nsession\nscale add 1\nend\njob b\nsession\nscale add 1\nend\njob c\nsession\nscale add 1\nend
 job d\nsession\nscale add 1\nend\njob e\nsession\nscale add 1\nend\n";
 
-/// More turns than any wait takes where threads run side by side.
+/// More turns than any wait takes if threads run side by side.
 const TURNS: u32 = 1_000_000;
 
 /// The owners of the desks of one run, which are held up at moments that the seed chooses.

@@ -41,7 +41,7 @@ pub record KeptView : Type 0 where
   pub run : RunView
   pub keepers : List (List (List Block))
 
--- of session s of job j; nobody where there is no such session
+-- of session s of job j; nobody if there is no such session
 abbrev pub keepers_at : KeptView → ℕ → ℕ → List Block
 keepers_at x j s = slice_index_or (slice_index_or x.keepers j []) (s - 1) []
 

@@ -1,4 +1,4 @@
-//! Where calls may be made, by what the desk knows.
+//! Whether a call may be made, by what the desk knows.
 ghost use Rattle.std.specs.Prelude.{◌≡◌, ◌↔◌, IsTrue};
 ghost use Rattle.legal_steps.specs.declared.event.Event.TheVariants.{GiveBottles, AskBottles, Withdraw};
 ghost use Rattle.legal_steps.specs.State.{IsOwn};

@@ -1,4 +1,4 @@
-//! The calls of a desk by their own names: each move on an edge, and each test that says by the desk alone where a call may be made.
+//! The calls of a desk by their own names: each move on an edge, and each test that says by the desk alone whether a call may be made.
 #![tactic(auto)]
 
 mod exchanging;

@@ -19,7 +19,7 @@ has_instruments Drinks = true
 has_instruments Reaching = true
 has_instruments _ = false
 
--- the bottles that are kept, where given says whether the fork is sent away just before
+-- the bottles that are kept; given says whether the fork is sent away just before
 abbrev pub kept : JobState → ℕ → EdgeState → Bool → ℕ
 kept phase needed x given = if has_instruments phase.drinking || is_at Higher (when given fork_given x).fork then needed else 0
 

@@ -12,7 +12,7 @@ fn without(set: u32, other: u32) -> u32
     set ^ (set & other)
 }
 
-/// The bottles that are kept, needed as they are, where `given` says whether the fork is sent away just before.
+/// The bottles that are kept, needed as they are; `given` says whether the fork is sent away just before.
 fn kept(phase: JobState, needed: u32, mine: EdgeState, given: bool) -> u32
     ensures { result ≡ kept_of phase needed mine given }
 {
@@ -24,7 +24,7 @@ fn kept(phase: JobState, needed: u32, mine: EdgeState, given: bool) -> u32
     }
 }
 
-/// The bottles that are given, where `given` says whether the fork is sent away just before.
+/// The bottles that are given; `given` says whether the fork is sent away just before.
 pub(crate) fn gifts(phase: JobState, needed: u32, mine: EdgeState, given: bool) -> u32
     ensures { result ≡ gifts_of phase needed mine given }
 {

@@ -1,4 +1,4 @@
--- For readers: what is said of a list of steps from the initial state: of the first that isn't legal where its turn comes, or else of the end.
+-- For readers: what is said of a list of steps from the initial state: of the first that isn't legal when its turn comes, or else of the end.
 use Rattle.std.specs.Prelude.{◌≡◌, ℕ, List, ◌++◌, length, map, codes, decimal, Option, None, Some, slice_get}
 use Rattle.std.specs.List.{flat_map, range_with_len}
 use Rattle.lab_plan.specs.LabPlan.{LabPlan}

@@ -119,7 +119,7 @@ fn tell_end<A: Allocator + Copy, B: Allocator>(
     Ok(out)
 }
 
-/// Takes the steps one after another from the initial state, and explains the first that isn't legal where its turn comes:
+/// Takes the steps one after another from the initial state, and explains the first that isn't legal when its turn comes:
 /// which part of its guard fails, how its job and the job's edges are there, and which moves of any job are legal there.
 /// If all are legal, it says the same of the state after them, for all jobs.
 pub fn explain<A: Allocator + Copy>(

@@ -1,4 +1,4 @@
-//! Explanations: why a step of a list isn't legal where its turn comes, how its job and the job's edges are there,
+//! Explanations: why a step of a list isn't legal when its turn comes, how its job and the job's edges are there,
 //! and which moves are legal. Each text is a function of a plan, a state and what it tells.
 #![tactic(auto)]
 

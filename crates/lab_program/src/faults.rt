@@ -24,7 +24,7 @@ pub enum RunFault {
     /// The script or its steps are refused.
     #[error("{0}")]
     Script(ScriptFault),
-    /// The step of this line, counted from 1, isn't legal where its turn comes.
+    /// The step of this line, counted from 1, isn't legal when its turn comes.
     #[error("line {line}: step is not legal")]
     Step { line: usize },
     /// A read of the input failed.

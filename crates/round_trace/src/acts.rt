@@ -19,7 +19,7 @@ fn withdraws<A: Allocator>(world: &World<A>, job: JobNo, waited: u32) -> bool
     world.job(job).gives_up(world.plan(), job, waited)
 }
 
-/// The first phase act that is legal, where a session is given up only when its patience is used up by this count; of a
+/// The first phase act that is legal; a session is given up only when its patience is used up by this count; of a
 /// command, its Reach.
 fn first_act<A: Allocator>(world: &World<A>, job: JobNo, waited: u32) -> Option<Event>
     requires { IsJob world.now.plan job }

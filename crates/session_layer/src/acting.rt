@@ -68,7 +68,7 @@ fn settled_due<A: Allocator>(bench: &Bench<A>, desk: &Desk<A>, waited: u32) -> D
     }
 }
 
-/// The first phase act that is legal, where a session is given up only when its patience is used up by this count.
+/// The first phase act that is legal; a session is given up only when its patience is used up by this count.
 pub fn phase_due<A: Allocator>(bench: &Bench<A>, desk: &Desk<A>, waited: u32) -> Due
     requires own { Owns bench.now desk.now }
     ensures first { AreActs desk.now.plan (known desk.now) desk.now.job waited (events_due result desk.now.job) }

@@ -8,7 +8,7 @@ use Rattle.waiting.specs.declared.session.Session.{Session}
 use Rattle.waiting.specs.declared.session.Meal.{Meal}
 use Rattle.waiting.specs.OneRound.{begins_session, session_then, begins_meal, meal_then, begun_session, begun_meal}
 
--- the last of a list is changed, where there is one
+-- the last of a list is changed, if there is one
 abbrev pub on_last : {A : Type 0} → (A → A) → List A → List A
 on_last f [] = []
 on_last f (x ∷ []) = f x ∷ []

@@ -53,11 +53,11 @@ abbrev pub longest_below : RunView → ℕ → Longest
 longest_below run zero = no_wait
 longest_below run (suc j) = longest_after run.number j (longest_below run j) 1 (job_of run j).sessions
 
--- whose it is; nobody's where nobody waited
+-- whose it is; nobody's if nobody waited
 unfoldable pub holder_text : LabPlan → Longest → List ℕ
 holder_text plan x = if x.wait == 0 then codes "\n" else codes " " ++ job_name plan x.job ++ codes " " ++ decimal x.session ++ codes "\n"
 
--- `longest wait W J S`, or `longest wait 0` where nobody waited
+-- `longest wait W J S`, or `longest wait 0` if nobody waited
 unfoldable pub longest_line : LabPlan → Longest → List ℕ
 longest_line plan x = codes "longest wait " ++ decimal x.wait ++ holder_text plan x
 

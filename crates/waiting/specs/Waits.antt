@@ -21,7 +21,7 @@ pub record RunView : Type 0 where
   pub retired : Bool
   pub jobs : List JobRounds
 
--- of one job; of none where there is no such job
+-- of one job; of none if there is no such job
 abbrev pub job_of : RunView → ℕ → JobRounds
 job_of run j = slice_index_or run.jobs j (record { sessions = []; meals = [] })
 

@@ -55,7 +55,7 @@ pub fn add_rounds<A: Allocator, B: Allocator>(
     out.extend_from_slice(ending(run.retired()))
 }
 
-/// Adds the round in which a session was done, where it was.
+/// Adds the round in which a session was done, if it was.
 fn add_done<A: Allocator>(out: &mut Vec<u8, A>, done: Option<u32>) -> Result<(), AllocError>
     ensures { OnOk result (out.new.items ≡ out.old.items ++ done_text done) }
 {
@@ -194,7 +194,7 @@ fn add_jobs<A: Allocator, B: Allocator, C: Allocator>(
     Ok(())
 }
 
-/// Adds whose the longest wait is, where somebody waited, and ends the line.
+/// Adds whose the longest wait is, if somebody waited, and ends the line.
 #[tactic(auto, unfolding(crate::specs::Text::holder_text))]
 fn add_holder<A: Allocator, B: Allocator>(
     out: &mut Vec<u8, A>,

@@ -11,7 +11,7 @@ use Rattle.rounds.specs.declared.ended.Ended.TheVariants as Ends
 use Rattle.workers.specs.Pairs.{Pairs}
 use Rattle.workers.specs.Team.{TookUpTo}
 
--- each took at most this many turns, and that many where not every desk is retired
+-- each took at most this many turns, and that many if not every desk is retired
 pub record TookRest (rest : ℕ) (old new : List DeskView) : Type 0 where
   pub took : Pairs (TookUpTo rest) old new
   pub full : all_retired new ≡ false → Pairs (TookTurns rest) old new
@@ -24,7 +24,7 @@ abbrev pub Ascending : List ℕ → Type 0
 Ascending [] = Unit {0}
 Ascending (j ∷ js) = Each (λ (k : ℕ). j < k) js × Ascending js
 
--- Every desk came back, in ascending order of the jobs. Each took whole turns, and all that were asked for where not every desk is retired. The first has seen
+-- Every desk came back, in ascending order of the jobs. Each took whole turns, and all that were asked for if not every desk is retired. The first has seen
 -- all records whole
 pub record Driven (b : BenchView) (turns : ℕ) (old new : List DeskView) : Type 0 where
   pub order : Ascending (jobs_of new)

@@ -71,7 +71,7 @@ impl<R: Wait + Sync, A: Allocator + Send + Sync, P: Passage + Sync> Crew<A>
 }
 
 /// The teams from `first` on, this many of them. Team `t` has the desks whose job is `t` modulo the workers, and the desks stand in the order
-/// of their teams. Each team but the last gets a thread of its own where one can be made, and the calling thread works as the last.
+/// of their teams. Each team but the last gets a thread of its own if one can be made, and the calling thread works as the last.
 /// Threads are started one right after another, all by the calling thread: were one to start the next, the last would begin later by as
 /// many starts. A part that stopped earlier catches up, so that one number says how far all its desks are.
 #[cycle(parts)]
@@ -110,7 +110,7 @@ pub(crate) fn in_teams<R: Threads + Sync, A: Allocator + Send + Sync, C: Crew<A>
     Halt::After(most)
 }
 
-/// Both parts, the first on a thread of its own; where none can be made, `join_mut` runs both on this one, the first after the other.
+/// Both parts, the first on a thread of its own; if none can be made, `join_mut` runs both on this one, the first after the other.
 #[cycle(parts)]
 fn in_parts<R: Threads + Sync, A: Allocator + Send + Sync, C: Crew<A>>(
     rt: &R,

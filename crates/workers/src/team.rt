@@ -25,8 +25,8 @@ fn saw_all_retired<A: Allocator>(bench: &Bench<A>, desk: &mut Desk<A>) -> bool
     desk.retired() && sees_all_retired(bench, desk)
 }
 
-/// A worker: one turn of each desk a round, and the gate is passed before each turn. It ends after its turns, or after a round where its
-/// first desk saw all jobs retired, or after an idle round where other teams have no thread. After many idle rounds it sleeps between
+/// A worker: one turn of each desk a round, and the gate is passed before each turn. It ends after its turns, or after a round in which its
+/// first desk saw all jobs retired, or after an idle round if other teams have no thread. After many idle rounds it sleeps between
 /// them, until another team does something.
 pub fn work<R: Wait, A: Allocator, P: Passage>(
     rt: &R,

@@ -1,4 +1,4 @@
-//! Sessions that may be given up: whole runs in turns by the patience of job b, and where giving up isn't legal.
+//! Sessions that may be given up: whole runs in turns by the patience of job b, and when giving up isn't legal.
 ghost use Rattle.std.specs.List.{All};
 ghost use Rattle.legal_steps.specs.Steps.{IsStepOf};
 
