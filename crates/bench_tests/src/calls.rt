@@ -3,14 +3,12 @@
 //! A row says who calls what and what it answers, the words that this job then saw last on its edges, and how far it is (dining,
 //! drinking, session, position). The numbers at the end of `check` say how many turns each job's session has waited after the rows.
 use crate::labs::{PATIENCE_1, TWO};
+use crate::lines::Move::{AskBottles, AskFork, GiveBottles, GiveFork, Soil as SoilFork};
 use crate::seats::Answer::{
     Acted, Done, Far, Found, Legal as Allows, Moves, No, NotLegal, Saw, Stored, Value, Yes,
 };
 use crate::seats::Call::{AllRetired, Command, Drink, Glance, On, Store, Table, Turn};
-use crate::seats::Move::{
-    Ask, AskBottles, AskFork, Dine, Due, Forks, Give, GiveBottles, GiveFork, Legal, Look, Serve,
-    Soil, SoilFork, Want,
-};
+use crate::seats::Move::{Ask, Dine, Due, Forks, Give, Legal, Look, Named, Serve, Soil, Want};
 use crate::seats::{
     MAY_ASK, MAY_ASK_BOTTLE, MAY_COMMAND, MAY_DRINK, MAY_GIVE, MAY_GIVE_BOTTLE, MAY_HUNGER,
     MAY_LEAVE, MAY_QUIT, MAY_RETIRE, MAY_SIT, MAY_SOIL, MAY_THIRST, MAY_WITHDRAW,
@@ -180,23 +178,23 @@ const BY_NAME: [Row; 34] = rows! {
     B: On(AB, Legal) => Allows(MAY_ASK_BOTTLE_HUNGER_WITHDRAW), [OPEN], Thinking Thirsty 1 0;
     B: Store(Hunger) => Done, [OPEN], Hungry Thirsty 1 0;
     B: On(AB, Legal) => Allows(MAY_ASK_ASK_BOTTLE_WITHDRAW), [OPEN], Hungry Thirsty 1 0;
-    B: On(AB, AskFork) => Done, [DIRTY_A_ASKED_BOTTLE_A], Hungry Thirsty 1 0;
+    B: On(AB, Named(AskFork)) => Done, [DIRTY_A_ASKED_BOTTLE_A], Hungry Thirsty 1 0;
     A: Store(Hunger) => Done, [OPEN], Hungry Thirsty 1 0;
     A: On(AB, Look) => Saw(DIRTY_A_ASKED_BOTTLE_A), [DIRTY_A_ASKED_BOTTLE_A], Hungry Thirsty 1 0;
     A: On(AB, Legal) => Allows(MAY_GIVE_DRINK), [DIRTY_A_ASKED_BOTTLE_A], Hungry Thirsty 1 0;
-    B: On(AB, AskBottles(1)) => Done, [DIRTY_A_ASKED_BOTTLE_A_ASKED], Hungry Thirsty 1 0;
-    A: On(AB, GiveFork) => Found(DIRTY_A_ASKED_BOTTLE_A_ASKED), [DIRTY_A_ASKED_BOTTLE_A], Hungry Thirsty 1 0;
+    B: On(AB, Named(AskBottles(1))) => Done, [DIRTY_A_ASKED_BOTTLE_A_ASKED], Hungry Thirsty 1 0;
+    A: On(AB, Named(GiveFork)) => Found(DIRTY_A_ASKED_BOTTLE_A_ASKED), [DIRTY_A_ASKED_BOTTLE_A], Hungry Thirsty 1 0;
     A: On(AB, Look) => Saw(DIRTY_A_ASKED_BOTTLE_A_ASKED), [DIRTY_A_ASKED_BOTTLE_A_ASKED], Hungry Thirsty 1 0;
-    A: On(AB, GiveFork) => Done, [CLEAN_B_BOTTLE_A_ASKED], Hungry Thirsty 1 0;
+    A: On(AB, Named(GiveFork)) => Done, [CLEAN_B_BOTTLE_A_ASKED], Hungry Thirsty 1 0;
     A: On(AB, Legal) => Allows(MAY_ASK_GIVE_BOTTLE_DRINK), [CLEAN_B_BOTTLE_A_ASKED], Hungry Thirsty 1 0;
-    A: On(AB, GiveBottles(1)) => Done, [CLEAN_B_BOTTLE_B], Hungry Thirsty 1 0;
-    A: On(AB, AskFork) => Done, [CLEAN_B_ASKED_BOTTLE_B], Hungry Thirsty 1 0;
-    A: On(AB, AskBottles(1)) => Done, [CLEAN_B_ASKED_BOTTLE_B_ASKED], Hungry Thirsty 1 0;
+    A: On(AB, Named(GiveBottles(1))) => Done, [CLEAN_B_BOTTLE_B], Hungry Thirsty 1 0;
+    A: On(AB, Named(AskFork)) => Done, [CLEAN_B_ASKED_BOTTLE_B], Hungry Thirsty 1 0;
+    A: On(AB, Named(AskBottles(1))) => Done, [CLEAN_B_ASKED_BOTTLE_B_ASKED], Hungry Thirsty 1 0;
     B: On(AB, Look) => Saw(CLEAN_B_ASKED_BOTTLE_B_ASKED), [CLEAN_B_ASKED_BOTTLE_B_ASKED], Hungry Thirsty 1 0;
     B: On(AB, Legal) => Allows(MAY_SIT_DRINK_WITHDRAW), [CLEAN_B_ASKED_BOTTLE_B_ASKED], Hungry Thirsty 1 0;
     B: Store(Sit) => Done, [CLEAN_B_ASKED_BOTTLE_B_ASKED], Eating Thirsty 1 0;
     B: On(AB, Legal) => Allows(MAY_SOIL_DRINK_WITHDRAW), [CLEAN_B_ASKED_BOTTLE_B_ASKED], Eating Thirsty 1 0;
-    B: On(AB, SoilFork) => Done, [DIRTY_B_ASKED_BOTTLE_B_ASKED], Eating Thirsty 1 0;
+    B: On(AB, Named(SoilFork)) => Done, [DIRTY_B_ASKED_BOTTLE_B_ASKED], Eating Thirsty 1 0;
     B: Store(PhaseEvent::Drink) => Done, [DIRTY_B_ASKED_BOTTLE_B_ASKED], Eating Drinks 1 0;
     B: On(AB, Legal) => Allows(MAY_COMMAND_LEAVE), [DIRTY_B_ASKED_BOTTLE_B_ASKED], Eating Drinks 1 0;
     B: Command => Value(1), [DIRTY_B_ASKED_BOTTLE_B_ASKED], Eating Drinks 1 1;

@@ -1,10 +1,13 @@
-//! The ends of the edges of two or three jobs, and the desks of two.
+//! The ends of the edges of two or three jobs, the desks of two, and calls on a desk that have to be legal.
 ghost use Rattle.std.specs.Prelude.{IsTrue};
 ghost use Rattle.legal_steps.specs.State.{IsOwn};
 ghost use Rattle.turns.specs.Lists.{Each};
 ghost use Rattle.edge_rule.specs.DeskView.{Owns};
 
-use edge_rule::{Bench, Desk};
+use desk_calls::{may_command, may_phase};
+use edge_rule::{Bench, Desk, PhaseEvent, command, glance, store_phase};
+use edge_word::PhaseWord;
+use instrument_log::Entry;
 use lab_plan::{EdgeNo, JobNo, Plan};
 use std::alloc::Allocator;
 use std::process::Abort;
@@ -60,4 +63,47 @@ pub(crate) fn both<'p, T: Allocator>(
         panic!(rt; "one desk");
     };
     (first, second)
+}
+
+/// Stores a phase, which has to be legal.
+pub(crate) fn store<T: Allocator>(
+    rt: &impl Abort,
+    bench: &Bench<T>,
+    desk: &mut Desk<T>,
+    what: PhaseEvent,
+)
+    requires own { Owns bench.now desk.old }
+    ensures { Owns bench.now desk.new }
+{
+    assert!(rt; may_phase(bench, desk, what));
+    store_phase(bench, desk, what);
+}
+
+/// Does the next command, which has to be legal.
+pub(crate) fn commanded<T: Allocator>(
+    rt: &impl Abort,
+    bench: &Bench<T>,
+    desk: &mut Desk<T>,
+) -> Entry
+    requires own { Owns bench.now desk.old }
+    ensures { Owns bench.now desk.new }
+{
+    assert!(rt; may_command(bench, desk));
+    command(bench, desk)
+}
+
+/// Looks how far another job is.
+pub(crate) fn glanced<T: Allocator>(
+    rt: &impl Abort,
+    bench: &Bench<T>,
+    desk: &mut Desk<T>,
+    other: JobNo,
+) -> PhaseWord
+    requires own { Owns bench.now desk.old }
+    ensures { Owns bench.now desk.new }
+{
+    let me = desk.job();
+    let jobs = bench.plan().jobs();
+    assert!(rt; (other.0 as usize) < jobs && other.0 != me.0);
+    glance(bench, desk, other)
 }

@@ -3,18 +3,16 @@ ghost use Rattle.legal_steps.specs.State.{IsOwn};
 ghost use Rattle.turns.specs.Lists.{Each};
 ghost use Rattle.edge_rule.specs.DeskView.{Owns};
 
-use crate::desks::is_own;
+use crate::desks::{commanded, glanced, is_own, store};
 use crate::labs::{opened, plan_of};
 use crate::words::{edge, phase};
 use desk_calls::{
-    ask_bottles, ask_fork, give_bottles, give_fork, may_ask_bottles, may_ask_fork, may_command,
-    may_exchange, may_give_bottles, may_give_fork, may_phase, may_soil, soil,
+    ask_bottles, ask_fork, give_bottles, give_fork, may_ask_bottles, may_ask_fork, may_exchange,
+    may_give_bottles, may_give_fork, may_soil, soil,
 };
 use dining_layer::fork_moves;
 use drinking_layer::with_bottles;
-use edge_rule::{
-    Bench, Counts, Desk, PhaseEvent, Stepped, command, exchange, glance, look, store_phase,
-};
+use edge_rule::{Bench, Counts, Desk, PhaseEvent, Stepped, exchange, look};
 use edge_word::{EdgeMoves, PhaseWord};
 use instrument_log::Entry;
 use lab_plan::{EdgeNo, JobNo, Verb};
@@ -84,7 +82,7 @@ fn looked<T: Allocator>(
 }
 
 /// Moves that are seen to be legal.
-fn moved<T: Allocator>(
+pub(crate) fn moved<T: Allocator>(
     rt: &impl Abort,
     bench: &Bench<T>,
     desk: &mut Desk<T>,
@@ -183,20 +181,6 @@ fn phase_of<T: Allocator>(rt: &impl Abort, desk: &Desk<T>) -> u64 {
     PhaseWord::new(phase).pack()
 }
 
-fn stored<T: Allocator>(
-    rt: &impl Abort,
-    bench: &Bench<T>,
-    desk: &mut Desk<T>,
-    what: PhaseEvent,
-) -> Answer
-    requires own { Owns bench.now desk.old }
-    ensures { Owns bench.now desk.new }
-{
-    assert!(rt; may_phase(bench, desk, what));
-    store_phase(bench, desk, what);
-    Answer::Far(phase_of(rt, desk))
-}
-
 /// The entry of the one command of a job's first session on an instrument, which adds 1.
 pub(crate) fn entry_of(job: JobNo, value: u32) -> Entry {
     Entry {
@@ -209,31 +193,15 @@ pub(crate) fn entry_of(job: JobNo, value: u32) -> Entry {
     }
 }
 
-fn commanded<T: Allocator>(rt: &impl Abort, bench: &Bench<T>, desk: &mut Desk<T>) -> Answer
+fn added<T: Allocator>(rt: &impl Abort, bench: &Bench<T>, desk: &mut Desk<T>) -> Answer
     requires own { Owns bench.now desk.old }
     ensures { Owns bench.now desk.new }
 {
-    assert!(rt; may_command(bench, desk));
-    let entry = command(bench, desk);
+    let entry = commanded(rt, bench, desk);
     let (job, value) = (entry.job.0, entry.value);
     let wanted = entry_of(JobNo(job), value);
     assert!(rt; entry == wanted, "{wanted:?} was wanted, not {entry:?}");
     Answer::Added(job, value)
-}
-
-fn glanced<T: Allocator>(
-    rt: &impl Abort,
-    bench: &Bench<T>,
-    desk: &mut Desk<T>,
-    other: JobNo,
-) -> Answer
-    requires own { Owns bench.now desk.old }
-    ensures { Owns bench.now desk.new }
-{
-    let me = desk.job();
-    let jobs = bench.plan().jobs();
-    assert!(rt; (other.0 as usize) < jobs && other.0 != me.0);
-    Answer::Far(glance(bench, desk, other).pack())
 }
 
 fn noted<T: Allocator>(bench: &Bench<T>, desk: &mut Desk<T>, thirsty_at_start: bool) -> Answer
@@ -272,9 +240,12 @@ pub(crate) fn called<T: Allocator>(
         Call::Look(edge) => looked(rt, bench, desk, EdgeNo(edge)),
         Call::Try(what, edge) => tried(rt, bench, desk, what, EdgeNo(edge)),
         Call::May(what, edge) => Answer::Is(may(rt, bench, desk, what, EdgeNo(edge))),
-        Call::Store(what) => stored(rt, bench, desk, what),
-        Call::Command => commanded(rt, bench, desk),
-        Call::Glance(other) => glanced(rt, bench, desk, JobNo(other)),
+        Call::Store(what) => {
+            store(rt, bench, desk, what);
+            Answer::Far(phase_of(rt, desk))
+        }
+        Call::Command => added(rt, bench, desk),
+        Call::Glance(other) => Answer::Far(glanced(rt, bench, desk, JobNo(other)).pack()),
         Call::NoteTurn(thirsty_at_start) => noted(bench, desk, thirsty_at_start),
         Call::Seen(edge) => Answer::Word(seen(rt, bench, desk, EdgeNo(edge))),
         Call::Marks(edge) => marks(rt, bench, desk, EdgeNo(edge)),

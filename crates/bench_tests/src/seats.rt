@@ -1,19 +1,20 @@
 //! A job at its bench: the calls of its desk by name, and what each answers.
-ghost use Rattle.std.specs.Prelude.{IsTrue};
 ghost use Rattle.turns.specs.Lists.{Each};
 ghost use Rattle.legal_steps.specs.State.{IsOwn};
 ghost use Rattle.edge_rule.specs.DeskView.{Owns};
 
+use crate::desks::{commanded, glanced, is_own, store};
+use crate::lines::{self, moved};
 use desk_calls::{
-    ask_bottles, ask_fork, give_bottles, give_fork, may_ask_bottles, may_ask_fork, may_command,
-    may_drink, may_give_bottles, may_give_fork, may_hunger, may_leave, may_phase, may_quit,
-    may_retire, may_sit, may_soil, may_thirst, may_withdraw,
+    may_ask_bottles, may_ask_fork, may_command, may_drink, may_give_bottles, may_give_fork,
+    may_hunger, may_leave, may_phase, may_quit, may_retire, may_sit, may_soil, may_thirst,
+    may_withdraw,
 };
 use dining_layer::{Tried, ask, dine, fork_moves, give, soil, table};
 use drinking_layer::{drink, due_moves, serve_bottles, want_bottles};
-use edge_rule::{Bench, Desk, PhaseEvent, Stepped, command, glance, look, store_phase};
+use edge_rule::{Bench, Desk, PhaseEvent, Stepped, look};
 use edge_word::{EdgeMoves, PhaseWord};
-use lab_plan::{EdgeNo, JobNo, Plan};
+use lab_plan::{EdgeNo, JobNo};
 use legal_steps::{Dining, Drinking};
 use session_layer::{Due, Turned, Visited, act, all_retired, phase_due, turn, visit};
 use std::alloc::Allocator;
@@ -41,11 +42,7 @@ pub(crate) enum Move {
     /// all that is legal, as a set
     Legal,
     /// one named move, which has to be legal
-    GiveFork,
-    AskFork,
-    SoilFork,
-    GiveBottles(u32),
-    AskBottles(u32),
+    Named(lines::Move),
 }
 
 /// A call of a job. Jobs and edges are plain numbers here: a table with an `EdgeNo` in it isn't a constant to the prover, and is costly.
@@ -138,27 +135,6 @@ fn of_glance(word: PhaseWord) -> Answer {
 
 fn yes_or_no(yes: bool) -> Answer {
     if yes { Answer::Yes } else { Answer::No }
-}
-
-/// Whether the edge is one of the job's.
-fn has_end<A: Allocator>(plan: &Plan<A>, job: JobNo, edge: EdgeNo) -> bool
-    ensures { IsTrue result → IsOwn plan.now job edge }
-{
-    if edge.0 >= plan.edges() {
-        return false;
-    }
-    let (lower, higher) = plan.ends(edge);
-    lower == job || higher == job
-}
-
-/// Whether the edge is one of the desk's job.
-fn is_own<A: Allocator>(bench: &Bench<A>, desk: &Desk<A>, edge: EdgeNo) -> bool
-    requires { Owns bench.now desk.now }
-    ensures { IsTrue result → IsOwn desk.now.plan desk.now.job edge }
-{
-    let job = desk.job();
-    let plan = bench.plan();
-    has_end(plan, job, edge)
 }
 
 /// A move of a layer.
@@ -299,60 +275,6 @@ fn legal<A: Allocator>(rt: &impl Abort, bench: &Bench<A>, desk: &Desk<A>, edge: 
     Answer::Legal(acts | legal_moves(bench, desk, edge))
 }
 
-/// A named move of the fork, which has to be legal.
-fn named_move<A: Allocator>(
-    rt: &impl Abort,
-    bench: &Bench<A>,
-    desk: &mut Desk<A>,
-    edge: EdgeNo,
-    what: Move,
-) -> Answer
-    requires own { Owns bench.now desk.old }
-    requires edge { IsOwn desk.old.plan desk.old.job edge }
-    ensures { Owns bench.now desk.new }
-{
-    match what {
-        Move::GiveFork => {
-            assert!(rt; may_give_fork(bench, desk, edge));
-            of_exchange(give_fork(bench, desk, edge))
-        }
-        Move::AskFork => {
-            assert!(rt; may_ask_fork(bench, desk, edge));
-            of_exchange(ask_fork(bench, desk, edge))
-        }
-        Move::SoilFork => {
-            assert!(rt; may_soil(bench, desk, edge));
-            of_exchange(desk_calls::soil(bench, desk, edge))
-        }
-        _ => panic!(rt; "no named move"),
-    }
-}
-
-/// The same of bottles.
-fn named_bottles<A: Allocator>(
-    rt: &impl Abort,
-    bench: &Bench<A>,
-    desk: &mut Desk<A>,
-    edge: EdgeNo,
-    what: Move,
-) -> Answer
-    requires own { Owns bench.now desk.old }
-    requires edge { IsOwn desk.old.plan desk.old.job edge }
-    ensures { Owns bench.now desk.new }
-{
-    match what {
-        Move::GiveBottles(set) => {
-            assert!(rt; may_give_bottles(bench, desk, edge, set));
-            of_exchange(give_bottles(bench, desk, edge, set))
-        }
-        Move::AskBottles(set) => {
-            assert!(rt; may_ask_bottles(bench, desk, edge, set));
-            of_exchange(ask_bottles(bench, desk, edge, set))
-        }
-        _ => panic!(rt; "no named move"),
-    }
-}
-
 /// A call on one edge.
 fn on_edge<A: Allocator>(
     rt: &impl Abort,
@@ -369,8 +291,7 @@ fn on_edge<A: Allocator>(
         Move::Forks => due(bench, desk, edge, false),
         Move::Due => due(bench, desk, edge, true),
         Move::Legal => legal(rt, bench, desk, edge),
-        Move::GiveFork | Move::AskFork | Move::SoilFork => named_move(rt, bench, desk, edge, what),
-        Move::GiveBottles(_) | Move::AskBottles(_) => named_bottles(rt, bench, desk, edge, what),
+        Move::Named(named) => of_exchange(moved(rt, bench, desk, named, edge)),
         _ => layer_move(bench, desk, edge, what),
     }
 }
@@ -380,43 +301,6 @@ fn taken<A: Allocator>(bench: &Bench<A>, desk: &mut Desk<A>) -> Answer
     ensures { Owns bench.now desk.new }
 {
     of_turn(turn(bench, desk))
-}
-
-fn stored<A: Allocator>(
-    rt: &impl Abort,
-    bench: &Bench<A>,
-    desk: &mut Desk<A>,
-    what: PhaseEvent,
-) -> Answer
-    requires { Owns bench.now desk.old }
-    ensures { Owns bench.now desk.new }
-{
-    assert!(rt; may_phase(bench, desk, what));
-    store_phase(bench, desk, what);
-    Answer::Done
-}
-
-fn commanded<A: Allocator>(rt: &impl Abort, bench: &Bench<A>, desk: &mut Desk<A>) -> Answer
-    requires { Owns bench.now desk.old }
-    ensures { Owns bench.now desk.new }
-{
-    assert!(rt; may_command(bench, desk));
-    Answer::Value(command(bench, desk).value)
-}
-
-fn glanced<A: Allocator>(
-    rt: &impl Abort,
-    bench: &Bench<A>,
-    desk: &mut Desk<A>,
-    other: JobNo,
-) -> Answer
-    requires { Owns bench.now desk.old }
-    ensures { Owns bench.now desk.new }
-{
-    let me = desk.job();
-    let jobs = bench.plan().jobs();
-    assert!(rt; (other.0 as usize) < jobs && other.0 != me.0);
-    of_glance(glance(bench, desk, other))
 }
 
 /// A call of a job.
@@ -432,9 +316,12 @@ fn by_job<A: Allocator>(rt: &impl Abort, bench: &Bench<A>, desk: &mut Desk<A>, c
         Call::AllRetired => yes_or_no(all_retired(bench, desk)),
         Call::Table => of_table(table(bench, desk)),
         Call::Drink => yes_or_no(drink(bench, desk)),
-        Call::Store(what) => stored(rt, bench, desk, what),
-        Call::Command => commanded(rt, bench, desk),
-        Call::Glance(other) => glanced(rt, bench, desk, JobNo(other)),
+        Call::Store(what) => {
+            store(rt, bench, desk, what);
+            Answer::Done
+        }
+        Call::Command => Answer::Value(commanded(rt, bench, desk).value),
+        Call::Glance(other) => of_glance(glanced(rt, bench, desk, JobNo(other))),
         Call::On(edge, what) => on_edge(rt, bench, desk, EdgeNo(edge), what),
     }
 }
