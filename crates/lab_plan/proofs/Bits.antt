@@ -3,7 +3,7 @@ use Rattle.std.proofs.Common.{◌≡◌, ◌⊎◌, ℕ, ◌*◌, ◌/◌, ◌%�
 use Rattle.std.proofs.Math.Bool.{or-false, or-true}
 use Rattle.std.proofs.lemmas.Bool.{cases_eq, eq-eqb, ne_eqb}
 use Rattle.std.specs.Int.{bit_at, w64}
-use Rattle.std.proofs.lemmas.Nat.Bits.{bit_at-lt, bit_at_or, bit_at-zero, bit_at_set_same, bit_at_set_other, shr_and_one}
+use Rattle.std.proofs.lemmas.Nat.Bits.{bit_at-lt, bit_at-zero, bit_at_set_same, bit_at_set_other, shr_and_one}
 use Rattle.lab_plan.specs.InstrumentSets.{holds}
 
 pub bit_cases : (n k : ℕ) → (bit_at n k ≡ 0) ⊎ (bit_at n k ≡ 1)
@@ -18,13 +18,6 @@ holds_none i = rw (bit_at-zero i) refl
 pub holds_is : (set k : ℕ) → nat_eq (bit_and (set / 2 ^ k) 1) 1 ≡ holds set k
 unfolding holds
 holds_is set k = ap (λ b. nat_eq b 1) (shr_and_one set k)
-
-pub holds_union : (a b i : ℕ) → holds (bit_or a b) i ≡ (holds a i || holds b i)
-unfolding holds
-holds_union a b i = elim (bit_cases a i) [
-  | inl h ↦ elim (bit_cases b i) [ inl g ↦ rw (bit_at_or a b i, h, g) refl | inr g ↦ rw (bit_at_or a b i, h, g) refl ]
-  | inr h ↦ elim (bit_cases b i) [ inl g ↦ rw (bit_at_or a b i, h, g) refl | inr g ↦ rw (bit_at_or a b i, h, g) refl ]
-]
 
 pub holds_with : (set k i : ℕ) → k < 64 → holds (bit_or set (1 * 2 ^ k % 2 ^ 64)) i ≡ (holds set i || nat_eq k i)
 unfolding holds

@@ -12,7 +12,7 @@ use Rattle.lab_plan.specs.Limits.{most_instruments}
 use Rattle.lab_plan.specs.LabPlan.{LabPlan, bottles, common, ends, both_name, instrument_numbers, commands}
 use Rattle.lab_plan.specs.IsPlan.{IsPlan}
 use Rattle.lab_plan.specs.InstrumentSets.{holds}
-use Rattle.lab_plan.specs.SessionTables.{SessionTable, IsTable}
+use Rattle.lab_plan.specs.SessionTables.{AreNeeds}
 use Rattle.lab_plan.specs.NeededBottles.{AreNamed}
 
 -- the numbers below n of which P holds, as a set
@@ -59,12 +59,12 @@ below_all plan e =
 pub small_instruments : (plan : LabPlan) (e : ℕ) → IsPlan plan → All (λ i. i < most_instruments) (bottles plan e)
 small_instruments plan e is k d inside = omega (arith, below_all plan e k d inside, is.draft.few_instruments)
 
-pub are_named : (plan : LabPlan) (j s e set : ℕ) (table : SessionTable) → IsTable (commands plan j s) table → set < 2 ^ length (bottles plan e)
-    → ((k : ℕ) → k < length (bottles plan e) → (bit_at set k ≡ 1) ↔ (holds table.needs (slice_index_or (bottles plan e) k 0) ≡ true))
+pub are_named : (plan : LabPlan) (j s e set needs : ℕ) → AreNeeds (commands plan j s) needs → set < 2 ^ length (bottles plan e)
+    → ((k : ℕ) → k < length (bottles plan e) → (bit_at set k ≡ 1) ↔ (holds needs (slice_index_or (bottles plan e) k 0) ≡ true))
     → AreNamed plan j s e set
-are_named plan j s e set table is below just = record {
+are_named plan j s e set needs is below just = record {
   of_edge = below;
-  just = λ k l. let named = is.needs (slice_index_or (bottles plan e) k 0) in
+  just = λ k l. let named = is (slice_index_or (bottles plan e) k 0) in
       let has = just k l in
       ((λ h. sym named ∙ has.0 h), (λ h. has.1 (named ∙ h)));
 }

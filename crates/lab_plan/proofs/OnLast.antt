@@ -1,9 +1,8 @@
 -- The last element changed, as a write at the last place.
 use Rattle.std.proofs.Common.{◌≡◌, ℕ, ◌-◌, ◌<◌, Bool, true, false, if◌then◌else◌, List, [], ◌∷◌, length, get_or, set, suc, refl, ap, ◌∙◌, arith}
 use Rattle.std.proofs.lemmas.List.{set-get_or}
-use Rattle.lab_plan.specs.declared.verb.Verb.{Verb}
-use Rattle.lab_plan.specs.LabPlan.{SessionPlan, JobPlan, LabPlan}
-use Rattle.lab_plan.specs.Building.{on_last, and_command, in_last_session, has_session}
+use Rattle.lab_plan.specs.LabPlan.{JobPlan, LabPlan}
+use Rattle.lab_plan.specs.Building.{on_last, has_session}
 
 pub on_last-write : {X : Type 0} (change : X → X) (xs : List X) (d : X) → 0 < length xs
     → set xs (length xs - 1) (change (get_or xs (length xs - 1) d)) ≡ on_last change xs
@@ -28,17 +27,6 @@ on_last-item change xs n x y done e inside is changed =
 if_made : {X Y : Type 0} (make : X → Y) (done : Bool) (a b : X) → make (if done then a else b) ≡ (if done then make a else make b)
 if_made make true a b = refl
 if_made make false a b = refl
-
-pub last_session_changed : (name : List ℕ) (xs : List SessionPlan) (job : JobPlan) (i : ℕ) (verb : Verb) (n : ℕ) (x y : SessionPlan) (done : Bool)
-    → (let j : JobPlan = record { name = name; sessions = xs } in j ≡ job) → 0 < length job.sessions
-    → n ≡ length xs → x ≡ get_or xs (n - 1) x → y ≡ (if done then and_command i verb x else x)
-    → (let j : JobPlan = record { name = name; sessions = set xs (n - 1) y } in j ≡ (if done then in_last_session i verb job else job))
-last_session_changed name xs job i verb n x y done is some len item changed =
-    let make : List SessionPlan → JobPlan = λ sessions. record { name = name; sessions = sessions } in
-    let there : length xs ≡ length job.sessions = ap (λ (j : JobPlan). length j.sessions) is in
-    ap make (on_last-item (and_command i verb) xs n x y done len (omega arith) item changed)
-    ∙ if_made make done (on_last (and_command i verb) xs) xs
-    ∙ ap (λ (j : JobPlan). if done then in_last_session i verb j else j) is
 
 pub last_job_changed : (version : ℕ) (xs : List JobPlan) (instruments : List (List ℕ))
     (plan : LabPlan) (change : JobPlan → JobPlan) (n : ℕ) (x y : JobPlan) (done : Bool)

@@ -8,11 +8,14 @@ use Rattle.std.proofs.lemmas.List.{get_or-map}
 use Rattle.std.proofs.lemmas.List.Elements.{filter_passes}
 use Rattle.std.proofs.lemmas.Nat.Bits.{same_from_bits, bit_at_cat_low, bit_at_above}
 use Rattle.std.proofs.lemmas.List.{length-map}
-use Rattle.lab_plan.specs.LabPlan.{LabPlan, edges, ends, edges_of, common, bottles, both_name, instrument_numbers, pairs, pairs_with, sessions, commands, session_names, part}
+use Rattle.lab_plan.specs.LabPlan.{LabPlan, edges, ends, edges_of, common, bottles, both_name, instrument_numbers, pairs, pairs_with, job_at, sessions, commands, session_names}
 use Rattle.lab_plan.specs.IsPlan.{IsPlan}
 use Rattle.lab_plan.specs.InstrumentSets.{holds}
-use Rattle.lab_plan.specs.SessionTables.{SessionTable, IsTable, AreJobTables, no_table}
+use Rattle.lab_plan.specs.Cuts.{commands_before}
+use Rattle.lab_plan.specs.SessionTables.{JobTable, AreNeeds, IsJobTable, AreJobTables, place_of, all_places, no_table, no_place}
 use Rattle.lab_plan.proofs.Bits.{bit_cases}
+use Rattle.lab_plan.proofs.Places.{length-places, place_within, place_read}
+use Rattle.lab_plan.proofs.Small.{few_in_job}
 use Rattle.lab_plan.proofs.Shared.{session-instrument}
 
 pub pairs_with_is : (plan : LabPlan) (found : List (ℕ × ℕ)) (j : ℕ) → found ≡ edges plan → pairs_with found j ≡ edges_of plan j
@@ -43,24 +46,18 @@ some_bottles plan e within =
 
 -- ---- sessions
 
-pub job_tables_of : (plan : LabPlan) (tables : List (List SessionTable)) → AreJobTables plan.jobs tables → length tables ≡ length plan.jobs
+pub job_tables_of : (plan : LabPlan) (tables : List JobTable) → AreJobTables plan.jobs tables → length tables ≡ length plan.jobs
 job_tables_of plan tables are = are.0
 
-pub session_tables_of : (plan : LabPlan) (tables : List (List SessionTable)) (j : ℕ) → AreJobTables plan.jobs tables
-    → j < length plan.jobs → length (slice_index_or tables j []) ≡ length (sessions plan j)
-session_tables_of plan tables j are within = (are.1 j within).0
+pub table_of : (plan : LabPlan) (tables : List JobTable) (j : ℕ) → AreJobTables plan.jobs tables → j < length plan.jobs
+    → IsJobTable (job_at plan j) (slice_index_or tables j no_table)
+table_of plan tables j are within = are.1 j within
 
-pub table_of : (plan : LabPlan) (tables : List (List SessionTable)) (j s : ℕ)
-    → AreJobTables plan.jobs tables → j < length plan.jobs → 1 ≤ s → s ≤ length (sessions plan j)
-    → IsTable (commands plan j s) (slice_index_or (slice_index_or tables j []) (s - 1) no_table)
-table_of plan tables j s are within begun is_session = (are.1 j within).1 (s - 1) (omega (arith, begun, is_session))
-
-pub needs_bit : (plan : LabPlan) (j s i : ℕ) (table : SessionTable)
-    → IsTable (commands plan j s) table → bit_at table.needs i ≡ cond (session_names plan j s i) 1 0
+pub needs_bit : (plan : LabPlan) (j s i set : ℕ) → AreNeeds (commands plan j s) set → bit_at set i ≡ cond (session_names plan j s i) 1 0
 unfolding holds
-needs_bit plan j s i table is = elim (bit_cases table.needs i) [
-  | inl h ↦ h ∙ ap (λ b. cond b 1 0) (ap (λ n. nat_eq n 1) (sym h) ∙ is.needs i)
-  | inr h ↦ h ∙ ap (λ b. cond b 1 0) (ap (λ n. nat_eq n 1) (sym h) ∙ is.needs i)
+needs_bit plan j s i set is = elim (bit_cases set i) [
+  | inl h ↦ h ∙ ap (λ b. cond b 1 0) (ap (λ n. nat_eq n 1) (sym h) ∙ is i)
+  | inr h ↦ h ∙ ap (λ b. cond b 1 0) (ap (λ n. nat_eq n 1) (sym h) ∙ is i)
 ]
 
 -- a number with no bit from k on
@@ -75,17 +72,31 @@ below_from_bits n k none =
     ]) in
     subst (λ m. m < 2 ^ k) (sym same) low
 
-pub needs_below : (plan : LabPlan) (j s : ℕ) (table : SessionTable) → IsPlan plan
-    → IsTable (commands plan j s) table → table.needs < 2 ^ length plan.instruments
-needs_below plan j s table plan_is is = below_from_bits table.needs (length plan.instruments) (λ i past.
-    needs_bit plan j s i table is ∙ elim (cases_Bool (session_names plan j s i)) [
+pub needs_below : (plan : LabPlan) (j s set : ℕ) → IsPlan plan → AreNeeds (commands plan j s) set → set < 2 ^ length plan.instruments
+needs_below plan j s set plan_is is = below_from_bits set (length plan.instruments) (λ i past.
+    needs_bit plan j s i set is ∙ elim (cases_Bool (session_names plan j s i)) [
       | inl h ↦ let below = session-instrument plan j s i plan_is.draft.named h in absurd (omega (arith, below, past))
       | inr h ↦ ap (λ b. cond b 1 0) h
     ])
 
-pub part_is : (plan : LabPlan) (j s i : ℕ) (table : SessionTable)
-    → IsTable (commands plan j s) table → i < 56 → slice_index_or table.parts i 0 ≡ part plan j s i
-part_is plan j s i table is below = is.parts i below
+-- ---- the place of a command, which stands behind those of the sessions before
 
-pub few_instruments : (plan : LabPlan) → IsPlan plan → length plan.instruments ≤ 56
-few_instruments plan plan_is = plan_is.draft.few_instruments
+pub place_few : (plan : LabPlan) (j s n at : ℕ) → IsPlan plan → j < length plan.jobs → 1 ≤ s → s ≤ length (sessions plan j) → n < length (commands plan j s)
+    → at ≡ commands_before (sessions plan j) (s - 1) → at + n < 100000
+place_few plan j s n at plan_is in_jobs begun is_session within is =
+    let inside = place_within (sessions plan j) (s - 1) n (omega (arith, begun, is_session)) within in
+    omega (arith, inside, is, few_in_job plan j plan_is.draft in_jobs)
+
+pub place_inside : (plan : LabPlan) (j s n at : ℕ) (table : JobTable) → IsJobTable (job_at plan j) table → 1 ≤ s → s ≤ length (sessions plan j)
+    → n < length (commands plan j s) → at ≡ commands_before (sessions plan j) (s - 1) → at + n < length table.places
+place_inside plan j s n at table table_is begun is_session within is =
+    let inside = place_within (sessions plan j) (s - 1) n (omega (arith, begun, is_session)) within in
+    omega (arith, inside, is, length-places (sessions plan j), ap length table_is.places)
+
+pub place_is : (plan : LabPlan) (j s n at : ℕ) (table : JobTable) → IsJobTable (job_at plan j) table → 1 ≤ s → s ≤ length (sessions plan j)
+    → n < length (commands plan j s) → at ≡ commands_before (sessions plan j) (s - 1)
+    → slice_index_or table.places (at + n) no_place ≡ place_of (commands plan j s) n
+place_is plan j s n at table table_is begun is_session within is =
+    ap (λ l. slice_index_or l (at + n) no_place) table_is.places
+    ∙ ap (λ m. slice_index_or (all_places (sessions plan j)) (m + n) no_place) is
+    ∙ place_read (sessions plan j) (s - 1) n (omega (arith, begun, is_session)) within

@@ -1,11 +1,8 @@
 -- Related lists, element by element.
-use Rattle.std.proofs.Common.{◌≡◌, ℕ, ◌+◌, ◌<◌, ◌≤◌, List, [], ◌∷◌, ◌++◌, length, take, slice_index_or, arith, sym, ap, ◌∙◌, subst, inl, inr}
+use Rattle.std.proofs.Common.{◌≡◌, ℕ, ◌+◌, ◌<◌, ◌≤◌, List, [], ◌∷◌, ◌++◌, length, take, slice_index_or, arith, sym, ◌∙◌, subst, inl, inr}
 use Rattle.std.proofs.lemmas.Bool.{cases_eq}
 use Rattle.std.proofs.lemmas.List.{get_or-take, length-take, get_or_push, get_or_append_left, length_push, take_all}
 use Rattle.lab_plan.specs.SessionTables.{Related}
-
-pub related_none : {X Y : Type 0} (R : X → Y → Type 0) (no_x : X) (no_y : Y) (xs : List X) (ys : List Y) → ys ≡ [] → Related R no_x no_y (take 0 xs) ys
-related_none R no_x no_y xs ys is = (ap length is, λ k h. absurd (omega (arith, h)))
 
 pub related_more : {X Y : Type 0} (R : X → Y → Type 0) (no_x : X) (no_y : Y) (xs : List X) (ys : List Y) (k : ℕ) (y : Y) → k < length xs
     → R (slice_index_or xs k no_x) y → Related R no_x no_y (take k xs) ys → Related R no_x no_y (take (k + 1) xs) (ys ++ y ∷ [])

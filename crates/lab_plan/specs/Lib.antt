@@ -10,5 +10,6 @@ pub mod NeededBottles
 pub mod InstrumentSets
 pub mod NamedBy
 pub mod PairTables
+pub mod Cuts
 pub mod SessionTables
 pub mod Tables

@@ -1,40 +1,52 @@
--- What is kept of each session, so that its readers count nothing again.
-use Rattle.std.specs.Prelude.{◌≡◌, ℕ, ◌<◌, List, [], length, slice_index_or}
+-- What is kept of the sessions of each job, so that its readers count nothing again.
+use Rattle.std.specs.Prelude.{◌≡◌, ℕ, ◌<◌, List, [], length, map, slice_index_or}
+use Rattle.std.specs.List.{flat_map, range_with_len}
 use Rattle.lab_plan.specs.declared.verb.Verb.{Verb}
-use Rattle.lab_plan.specs.Limits.{most_instruments}
+use Rattle.lab_plan.specs.declared.verb.Verb.TheVariants.{Read}
+use Rattle.lab_plan.specs.declared.place.Place.{Place}
 use Rattle.lab_plan.specs.LabPlan.{SessionPlan, JobPlan, no_job, no_session, count_on, any_on, place_in}
 use Rattle.lab_plan.specs.InstrumentSets.{holds}
 
--- what is kept of a session: the set of what it names, how many commands it has on each instrument,
--- and for each command its place among those on its instrument, counted from 1
-pub record SessionTable : Type 0 where
-  pub needs : ℕ
-  pub parts : List ℕ
-  pub places : List ℕ
+-- the set of the instruments that some commands name
+abbrev pub AreNeeds : List (ℕ × Verb) → ℕ → Type 0
+AreNeeds commands set = (i : ℕ) → holds set i ≡ any_on i commands
 
-abbrev pub no_table : SessionTable
-no_table = record { needs = 0; parts = []; places = [] }
+-- the place of the command at a position, among those on its instrument
+abbrev pub place_of : List (ℕ × Verb) → ℕ → Place
+place_of commands k = record { place = place_in commands k; length = count_on (slice_index_or commands k (0, Read)).0 commands }
 
-pub record IsTable (commands : List (ℕ × Verb)) (table : SessionTable) : Type 0 where
-  pub needs : (i : ℕ) → holds table.needs i ≡ any_on i commands
-  pub parts : (i : ℕ) → i < most_instruments → slice_index_or table.parts i 0 ≡ count_on i commands
-  pub numbered : length table.parts ≡ most_instruments
-  pub placed : length table.places ≡ length commands
-  pub places : (k : ℕ) → k < length commands → slice_index_or table.places k 0 ≡ place_in commands k
+-- the places of all
+abbrev pub places_of : List (ℕ × Verb) → List Place
+places_of commands = map (place_of commands) (range_with_len 0 (length commands))
+
+-- what is kept of a job: what each session needs, and the places of the commands of all sessions
+pub record JobTable : Type 0 where
+  pub needs : List ℕ
+  pub places : List Place
+
+abbrev pub no_table : JobTable
+no_table = record { needs = []; places = [] }
+
+abbrev pub no_place : Place
+no_place = record { place = 0; length = 0 }
 
 -- two lists are of one length, and what stands at one place is related
 abbrev pub Related : {X Y : Type 0} → (X → Y → Type 0) → X → Y → List X → List Y → Type 0
 Related R no_x no_y xs ys = (length ys ≡ length xs) × ((k : ℕ) → k < length xs → R (slice_index_or xs k no_x) (slice_index_or ys k no_y))
 
--- the tables of a job's sessions, and of all jobs
-abbrev pub IsSessionTable : SessionPlan → SessionTable → Type 0
-IsSessionTable session table = IsTable session.commands table
+abbrev pub IsSessionNeeds : SessionPlan → ℕ → Type 0
+IsSessionNeeds session set = AreNeeds session.commands set
 
-abbrev pub AreTables : List SessionPlan → List SessionTable → Type 0
-AreTables sessions tables = Related IsSessionTable no_session no_table sessions tables
+-- the needs of some sessions, and the places of their commands
+abbrev pub AreAllNeeds : List SessionPlan → List ℕ → Type 0
+AreAllNeeds sessions sets = Related IsSessionNeeds no_session 0 sessions sets
 
-abbrev pub IsJobTable : JobPlan → List SessionTable → Type 0
-IsJobTable job tables = AreTables job.sessions tables
+abbrev pub all_places : List SessionPlan → List Place
+all_places sessions = flat_map (λ session. places_of session.commands) sessions
 
-abbrev pub AreJobTables : List JobPlan → List (List SessionTable) → Type 0
-AreJobTables jobs tables = Related IsJobTable no_job [] jobs tables
+pub record IsJobTable (job : JobPlan) (table : JobTable) : Type 0 where
+  pub needs : AreAllNeeds job.sessions table.needs
+  pub places : table.places ≡ all_places job.sessions
+
+abbrev pub AreJobTables : List JobPlan → List JobTable → Type 0
+AreJobTables jobs tables = Related IsJobTable no_job no_table jobs tables

@@ -1,13 +1,13 @@
 -- What a plan keeps beside its jobs, so that its readers need no search.
 use Rattle.std.specs.Prelude.{◌≡◌, ℕ, map, List}
 use Rattle.lab_plan.specs.LabPlan.{LabPlan, edges, common}
-use Rattle.lab_plan.specs.SessionTables.{SessionTable, AreJobTables}
+use Rattle.lab_plan.specs.SessionTables.{JobTable, AreJobTables}
 
--- all tables of a plan: its edges, the bottles of each, and the tables of the sessions of each job
+-- all tables of a plan: its edges, the bottles of each, and the table of each job
 pub record PlanTables : Type 0 where
   pub pairs : List (ℕ × ℕ)
   pub bottle_lists : List (List ℕ)
-  pub job_tables : List (List SessionTable)
+  pub job_tables : List JobTable
 
 pub record AreTablesOf (plan : LabPlan) (tables : PlanTables) : Type 0 where
   pub pairs_are : tables.pairs ≡ edges plan

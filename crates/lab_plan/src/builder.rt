@@ -145,7 +145,7 @@ impl<A: Allocator + Copy> PlanBuilder<A> {
         if self.draft.last_sessions() >= MOST_SESSIONS as usize {
             return Err(PlanRefusal::LimitPassed);
         }
-        self.draft.begin(self.alloc, patience)?;
+        self.draft.begin(patience)?;
         Ok(())
     }
 

@@ -28,6 +28,7 @@ impl<A: Allocator> Model for Draft<A> {
 
 impl<A: Allocator> Draft<A> {
     ghost use Rattle.lab_plan.specs.LabPlan.{sessions, commands, patience, job_at};
+    ghost use Rattle.lab_plan.specs.Cuts.{commands_before};
     ghost use Rattle.lab_plan.specs.Building.{is_job, is_bare, has_session, last_job, with_job, with_session, with_command, on_last, in_last_session, IsPlace};
 
     pub(crate) fn new(alloc: A, version: u8) -> Draft<A>
@@ -101,13 +102,13 @@ impl<A: Allocator> Draft<A> {
         Ok(())
     }
 
-    pub(crate) fn begin(&mut self, alloc: A, patience: Option<u32>) -> Result<(), AllocError>
+    pub(crate) fn begin(&mut self, patience: Option<u32>) -> Result<(), AllocError>
         requires { 0 < length self.old.jobs }
         ensures { self.new ≡ (if is_ok result then with_session patience self.old else self.old) }
     {
         let last = self.jobs.len() - 1;
         let job = &mut self.jobs[last];
-        job.begin(alloc, patience)
+        job.begin(patience)
     }
 
     fn add_instrument(&mut self, alloc: A, name: &[u8]) -> Result<(), AllocError>
@@ -215,7 +216,7 @@ impl<A: Allocator> Draft<A> {
         requires is_session { session ≤ length (sessions self.now job) }
         ensures { result.now ≡ commands self.now job session }
     {
-        self.jobs[job.0 as usize].session(session).commands()
+        self.jobs[job.0 as usize].commands(session as usize - 1)
     }
 
     pub(crate) fn patience(&self, job: JobNo, session: u32) -> Option<u32>
@@ -224,7 +225,17 @@ impl<A: Allocator> Draft<A> {
         requires is_session { session ≤ length (sessions self.now job) }
         ensures { result ≡ patience self.now job session }
     {
-        self.jobs[job.0 as usize].session(session).patience()
+        self.jobs[job.0 as usize].patience(session as usize - 1)
+    }
+
+    /// Where a session's commands begin among all of its job.
+    pub(crate) fn start(&self, job: JobNo, session: u32) -> usize
+        requires is_job { job < length self.now.jobs }
+        requires begun { 1 ≤ session }
+        requires is_session { session ≤ length (sessions self.now job) }
+        ensures { result ≡ commands_before (sessions self.now job) (session - 1) }
+    {
+        self.jobs[job.0 as usize].start(session as usize - 1)
     }
 }
 

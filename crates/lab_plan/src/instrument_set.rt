@@ -60,15 +60,6 @@ impl InstrumentSet {
         }
     }
 
-    #[tactic(auto, using(crate::proofs::Bits::holds_union))]
-    pub(crate) fn union(self, other: InstrumentSet) -> InstrumentSet
-        ensures { (i : ℕ) → holds result i ≡ (holds self i || holds other i) }
-    {
-        InstrumentSet {
-            bits: self.bits | other.bits,
-        }
-    }
-
     /// The instruments of some commands.
     #[tactic(auto, using(crate::proofs::Bits::holds_none))]
     pub(crate) fn of(commands: &[(InstrumentNo, Verb)]) -> InstrumentSet

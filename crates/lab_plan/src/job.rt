@@ -1,8 +1,9 @@
 //! Jobs and their sessions.
-ghost use Rattle.std.specs.Prelude.{◌≡◌, ℕ, ◌-◌, ◌≤◌, ◌<◌, ◌&&◌, ◌==◌, nat_lt, [], ◌∷◌, ◌++◌, length, slice_index_or, is_ok, if◌then◌else◌};
+ghost use Rattle.std.specs.Prelude.{◌≡◌, ℕ, ◌+◌, ◌-◌, ◌≤◌, ◌<◌, ◌&&◌, ◌==◌, nat_lt, [], ◌∷◌, ◌++◌, length, slice_index_or, is_ok, if◌then◌else◌};
 ghost use Rattle.std.specs.Str.{bytes_eq};
 ghost use Rattle.lab_plan.specs.LabPlan.{no_session};
-ghost use Rattle.lab_plan.specs.Building.{and_command, in_last_session, and_session};
+ghost use Rattle.lab_plan.specs.Building.{in_last_session, and_session};
+ghost use Rattle.lab_plan.specs.Cuts.{commands_of, commands_before};
 
 use crate::name::Name;
 use crate::numbers::InstrumentNo;
@@ -10,77 +11,46 @@ use crate::verb::Verb;
 use std::alloc::{AllocError, Allocator, Global};
 use std::marker::Model;
 
-#[derive(Drop)]
-pub(crate) struct Session<A: Allocator = Global> {
+/// A session: its patience, and where its commands begin among those of its job.
+#[derive(Clone, Copy)]
+pub(crate) struct Session {
     patience: Option<u32>,
-    commands: Vec<(InstrumentNo, Verb), A>,
+    start: usize,
 }
 
-impl<A: Allocator> Model for Session<A> {
-    ghost use Rattle.lab_plan.specs.LabPlan.{SessionPlan};
-
-    ghost Value = { SessionPlan };
-
-    ghost view = { λ s. record { patience = s.patience; commands = s.commands.items } };
-}
-
-impl<A: Allocator> Session<A> {
-    fn new(alloc: A, patience: Option<u32>) -> Session<A>
-        ensures { result ≡ record { patience = patience; commands = [] } }
-    {
-        Session {
-            patience,
-            commands: Vec::new(alloc),
-        }
-    }
-
-    fn push(&mut self, instrument: InstrumentNo, verb: Verb) -> Result<(), AllocError>
-        ensures { self.new ≡ (if is_ok result then and_command instrument verb self.old else self.old) }
-    {
-        self.commands.push((instrument, verb))?;
-        Ok(())
-    }
-
-    fn is_empty(&self) -> bool
-        ensures { result ≡ (length self.now.commands == 0) }
-    {
-        self.commands.is_empty()
-    }
-
-    pub(crate) fn commands(&self) -> &[(InstrumentNo, Verb)]
-        ensures { result.now ≡ self.now.commands }
-    {
-        &self.commands
-    }
-
-    pub(crate) fn patience(&self) -> Option<u32>
-        ensures { result ≡ self.now.patience }
-    {
-        self.patience
-    }
-}
-
+/// A job: its name, its sessions, and the commands of all of them, one session's behind the other's.
 #[derive(Drop)]
 pub(crate) struct Job<A: Allocator = Global> {
     name: Name<A>,
-    sessions: Vec<Session<A>, A>,
+    sessions: Vec<Session, A>,
+    commands: Vec<(InstrumentNo, Verb), A>,
 }
 
 impl<A: Allocator> Model for Job<A> {
+    ghost use Rattle.std.specs.Prelude.{◌≡◌, length};
     ghost use Rattle.lab_plan.specs.LabPlan.{JobPlan};
+    ghost use Rattle.lab_plan.specs.Cuts.{cut, first_start, AreInOrder};
 
     ghost Value = { JobPlan };
 
-    ghost view = { λ j. record { name = j.name; sessions = j.sessions.items } };
+    ghost view = { λ j. record { name = j.name; sessions = cut j.sessions.items j.commands.items } };
+
+    ghost invariant = { λ j. record {
+      whole : first_start j.sessions.items (length j.commands.items) ≡ 0;
+      in_order : AreInOrder j.sessions.items (length j.commands.items);
+    } };
 }
 
 impl<A: Allocator> Job<A> {
     pub(crate) fn new(alloc: A, name: Name<A>) -> Job<A>
+    where
+        A: Copy,
         ensures { result ≡ record { name = name; sessions = [] } }
     {
         Job {
             name,
             sessions: Vec::new(alloc),
+            commands: Vec::new(alloc),
         }
     }
 
@@ -95,13 +65,15 @@ impl<A: Allocator> Job<A> {
         ensures { result ≡ nat_lt 0 (length self.now.sessions)
             && (length (slice_index_or self.now.sessions (length self.now.sessions - 1) no_session).commands == 0) }
     {
-        !self.sessions.is_empty() && self.sessions[self.sessions.len() - 1].is_empty()
+        !self.sessions.is_empty()
+            && self.sessions[self.sessions.len() - 1].start == self.commands.len()
     }
 
-    pub(crate) fn begin(&mut self, alloc: A, patience: Option<u32>) -> Result<(), AllocError>
+    pub(crate) fn begin(&mut self, patience: Option<u32>) -> Result<(), AllocError>
         ensures { self.new ≡ (if is_ok result then and_session patience self.old else self.old) }
     {
-        self.sessions.push(Session::new(alloc, patience))?;
+        let start = self.commands.len();
+        self.sessions.push(Session { patience, start })?;
         Ok(())
     }
 
@@ -109,9 +81,8 @@ impl<A: Allocator> Job<A> {
         requires { 0 < length self.old.sessions }
         ensures { self.new ≡ (if is_ok result then in_last_session instrument verb self.old else self.old) }
     {
-        let last = self.sessions.len() - 1;
-        let session = &mut self.sessions[last];
-        session.push(instrument, verb)
+        self.commands.push((instrument, verb))?;
+        Ok(())
     }
 
     pub(crate) fn name(&self) -> &Name<A>
@@ -125,20 +96,47 @@ impl<A: Allocator> Job<A> {
     {
         self.sessions.len()
     }
-
-    pub(crate) fn session(&self, session: u32) -> &Session<A>
-        requires begun { 1 ≤ session }
-        requires is_session { session ≤ length self.now.sessions }
-        ensures { result.now ≡ slice_index_or self.now.sessions (session - 1) no_session }
-    {
-        &self.sessions[session as usize - 1]
-    }
 }
 
+/// A session is named by how many of its job come before it.
 impl<A: Allocator> Job<A> {
-    pub(crate) fn sessions(&self) -> &[Session<A>]
-        ensures { result.now ≡ self.now.sessions }
+    pub(crate) fn patience(&self, before: usize) -> Option<u32>
+        requires { before < length self.now.sessions }
+        ensures { result ≡ (slice_index_or self.now.sessions before no_session).patience }
     {
-        &self.sessions
+        self.sessions[before].patience
+    }
+
+    /// Where a session's commands begin among all of the job.
+    pub(crate) fn start(&self, before: usize) -> usize
+        requires { before < length self.now.sessions }
+        ensures { result ≡ commands_before self.now.sessions before }
+    {
+        self.sessions[before].start
+    }
+
+    /// Where they end.
+    fn end(&self, before: usize) -> usize
+        requires { before < length self.now.sessions }
+        ensures { result ≡ commands_before self.now.sessions (before + 1) }
+    {
+        match self.sessions.get(before + 1) {
+            Some(next) => next.start,
+            None => self.commands.len(),
+        }
+    }
+
+    pub(crate) fn commands(&self, before: usize) -> &[(InstrumentNo, Verb)]
+        requires { before < length self.now.sessions }
+        ensures { result.now ≡ (slice_index_or self.now.sessions before no_session).commands }
+    {
+        &self.all_commands()[self.start(before)..self.end(before)]
+    }
+
+    /// The commands of all sessions, in order.
+    pub(crate) fn all_commands(&self) -> &[(InstrumentNo, Verb)]
+        ensures { result.now ≡ commands_of self.now.sessions }
+    {
+        &self.commands
     }
 }

@@ -19,11 +19,7 @@ fn named_by<A: Allocator>(job: &Job<A>) -> InstrumentSet
     requires { HasSmall job.now }
     ensures { (i : ℕ) → holds result i ≡ is_named_by job.now i }
 {
-    let mut set = InstrumentSet::empty();
-    for session in job.sessions() {
-        set = set.union(InstrumentSet::of(session.commands()));
-    }
-    set
+    InstrumentSet::of(job.all_commands())
 }
 
 #[derive(Clone, Copy)]

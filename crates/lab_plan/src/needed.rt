@@ -17,7 +17,6 @@ impl<A: Allocator> Plan<A> {
         requires is_edge { edge < length (edges self.now) }
         ensures { AreNamed self.now job session edge result }
     {
-        self.bottles_at(edge)
-            .within(self.table(job, session).needs())
+        self.bottles_at(edge).within(self.needed(job, session))
     }
 }

@@ -5,9 +5,10 @@ ghost use Rattle.std.specs.Int.{bit_at};
 
 use crate::bottles::Bottles;
 use crate::draft::Draft;
+use crate::instrument_set::InstrumentSet;
 use crate::numbers::{EdgeNo, InstrumentNo, JobNo};
 use crate::place::Place;
-use crate::session_table::SessionTable;
+use crate::session_table::JobTable;
 use crate::tables::Tables;
 use crate::verb::Verb;
 use std::alloc::{Allocator, Global};
@@ -41,7 +42,7 @@ impl<A: Allocator> Plan<A> {
     ghost use Rattle.lab_plan.specs.LabPlan.{patience, session_names, part, place_at, length_at, job_at};
     ghost use Rattle.lab_plan.specs.IsPlan.{IsPlan};
     ghost use Rattle.lab_plan.specs.Names.{IsName};
-    ghost use Rattle.lab_plan.specs.SessionTables.{IsTable};
+    ghost use Rattle.lab_plan.specs.SessionTables.{IsJobTable, AreNeeds};
     ghost use Rattle.lab_plan.specs.Tables.{AreTablesOf};
 
     pub(crate) fn new(draft: Draft<A>, tables: Tables<A>) -> Plan<A>
@@ -201,15 +202,24 @@ impl<A: Allocator> Plan<A> {
         self.draft.patience(job, session)
     }
 
-    #[tactic(auto, using(crate::proofs::Readers::table_of, crate::proofs::Readers::job_tables_of, crate::proofs::Readers::session_tables_of))]
-    pub(crate) fn table(&self, job: JobNo, session: u32) -> &SessionTable<A>
+    #[tactic(auto, using(crate::proofs::Readers::table_of, crate::proofs::Readers::job_tables_of))]
+    fn table(&self, job: JobNo) -> &JobTable<A>
+        requires { job < length self.now.jobs }
+        ensures table { IsJobTable (job_at self.now job) result.now }
+        ensures plan { IsPlan self.now }
+    {
+        self.tables.job(job)
+    }
+
+    /// The instruments that a session names.
+    pub(crate) fn needed(&self, job: JobNo, session: u32) -> InstrumentSet
         requires is_job { job < length self.now.jobs }
         requires begun { 1 ≤ session }
         requires is_session { session ≤ length (sessions self.now job) }
-        ensures table { IsTable (commands self.now job session) result.now }
+        ensures needs { AreNeeds (commands self.now job session) result }
         ensures plan { IsPlan self.now }
     {
-        self.tables.session(job, session)
+        self.table(job).needs(session as usize - 1)
     }
 
     /// The instruments that a session names, as a set: bit i stands for instrument i.
@@ -220,11 +230,10 @@ impl<A: Allocator> Plan<A> {
         ensures needs { (i : ℕ) → bit_at result i ≡ (if session_names self.now job session i then 1 else 0) }
         ensures few { result < 2 ^ length self.now.instruments }
     {
-        self.table(job, session).needs().bits()
+        self.needed(job, session).bits()
     }
 
     /// How many of a session's commands are on an instrument.
-    #[tactic(auto, using(crate::proofs::Readers::part_is, crate::proofs::Readers::few_instruments))]
     pub fn part(&self, job: JobNo, session: u32, instrument: InstrumentNo) -> u32
         requires is_job { job < length self.now.jobs }
         requires begun { 1 ≤ session }
@@ -232,7 +241,13 @@ impl<A: Allocator> Plan<A> {
         requires is_instrument { instrument < length self.now.instruments }
         ensures { result ≡ part self.now job session instrument }
     {
-        self.table(job, session).part(instrument)
+        let mut count = 0u32;
+        for (other, _) in self.draft.commands(job, session) {
+            if *other == instrument {
+                count += 1;
+            }
+        }
+        count
     }
 
     /// The place of a session's command, by its position counted from 0, within the session's part on its instrument.
@@ -244,11 +259,7 @@ impl<A: Allocator> Plan<A> {
         ensures place { result.place ≡ place_at self.now job session position }
         ensures length { result.length ≡ length_at self.now job session position }
     {
-        let (instrument, _) = self.commands(job, session)[position as usize];
-        let table = self.table(job, session);
-        Place {
-            place: table.place(position),
-            length: table.part(instrument),
-        }
+        self.table(job)
+            .place(self.draft.start(job, session) + position as usize)
     }
 }

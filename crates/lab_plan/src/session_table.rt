@@ -1,93 +1,65 @@
-//! What is kept of each session: what it needs, its parts, and the place of each command in its part.
-ghost use Rattle.std.specs.Prelude.{◌≡◌, ℕ, ◌<◌, ◌≤◌, ◌-◌, length, slice_index_or, IfOk};
+//! What is kept of the sessions of each job: what each needs, and the place of each command in its part.
+ghost use Rattle.std.specs.Prelude.{◌≡◌, ℕ, ◌+◌, ◌<◌, ◌≤◌, ◌++◌, length, slice_index_or, vec_capacity, IfOk};
 ghost use Rattle.std.specs.List.{All};
 ghost use Rattle.lab_plan.specs.Limits.{most_instruments, most_commands};
+ghost use Rattle.lab_plan.specs.LabPlan.{count_on};
 ghost use Rattle.lab_plan.specs.NamedBy.{HasSmall};
-ghost use Rattle.lab_plan.specs.SessionTables.{IsTable, AreTables, AreJobTables, no_table};
+ghost use Rattle.lab_plan.specs.SessionTables.{IsJobTable, AreJobTables, places_of, no_place};
 
 use crate::instrument_set::InstrumentSet;
 use crate::job::Job;
 use crate::limits::MOST_INSTRUMENTS;
 use crate::numbers::InstrumentNo;
+use crate::place::Place;
 use crate::verb::Verb;
 use std::alloc::{AllocError, Allocator, Global};
 use std::marker::Model;
 
-/// What is kept of one session.
-#[derive(Drop)]
-pub(crate) struct SessionTable<A: Allocator = Global> {
-    needs: InstrumentSet,
-    parts: [u32; MOST_INSTRUMENTS],
-    places: Vec<u32, A>,
+/// How many of some commands are on each instrument.
+fn parts_of(commands: &[(InstrumentNo, Verb)]) -> [u32; MOST_INSTRUMENTS]
+    requires numbered { All (λ command. command.0 < most_instruments) commands.now }
+    requires few { length commands.now ≤ most_commands }
+    ensures length { length result ≡ most_instruments }
+    ensures parts { (i : ℕ) → i < most_instruments → slice_index_or result i 0 ≡ count_on i commands.now }
+{
+    let mut parts = [0; MOST_INSTRUMENTS];
+    for (instrument, _) in commands {
+        parts[instrument.0 as usize] += 1;
+    }
+    parts
 }
 
-impl<A: Allocator> Model for SessionTable<A> {
-    ghost use Rattle.lab_plan.specs.SessionTables.{SessionTable};
-
-    ghost Value = { SessionTable };
-
-    ghost view = { λ t. record { needs = t.needs; parts = t.parts; places = t.places.items } };
-}
-
-impl<A: Allocator> SessionTable<A> {
-    pub(crate) fn new(
-        alloc: A,
-        commands: &[(InstrumentNo, Verb)],
-    ) -> Result<SessionTable<A>, AllocError>
-        requires numbered { All (λ command. command.0 < most_instruments) commands.now }
-        requires few { length commands.now ≤ most_commands }
-        ensures { IfOk result (λ table. IsTable commands.now table) }
-    {
-        let needs = InstrumentSet::of(commands);
-        let mut parts = [0; MOST_INSTRUMENTS];
-        let mut places = Vec::with_capacity(alloc, commands.len())?;
-        for (instrument, _) in commands {
-            let place = parts[instrument.0 as usize] + 1;
-            parts[instrument.0 as usize] = place;
-            places.push_reserved(place);
-        }
-        Ok(SessionTable {
-            needs,
-            parts,
-            places,
-        })
-    }
-
-    pub(crate) fn needs(&self) -> InstrumentSet
-        ensures { result ≡ self.now.needs }
-    {
-        self.needs
-    }
-
-    /// How many of the session's commands are on the instrument.
-    pub(crate) fn part(&self, instrument: InstrumentNo) -> u32
-        requires { instrument < most_instruments }
-        ensures { result ≡ slice_index_or self.now.parts instrument 0 }
-    {
-        self.parts[instrument.0 as usize]
-    }
-
-    pub(crate) fn place(&self, position: u32) -> u32
-        requires { position < length self.now.places }
-        ensures { result ≡ slice_index_or self.now.places position 0 }
-    {
-        self.places[position as usize]
+/// Adds the places of a session's commands.
+fn push_places<A: Allocator>(places: &mut Vec<Place, A>, commands: &[(InstrumentNo, Verb)])
+    requires numbered { All (λ command. command.0 < most_instruments) commands.now }
+    requires few { length commands.now ≤ most_commands }
+    requires room { length places.old.items + length commands.now ≤ vec_capacity places.old }
+    ensures places { places.new.items ≡ places.old.items ++ places_of commands.now }
+    ensures room { vec_capacity places.new ≡ vec_capacity places.old }
+{
+    let lengths = parts_of(commands);
+    let mut parts = [0; MOST_INSTRUMENTS];
+    for (instrument, _) in commands {
+        let place = parts[instrument.0 as usize] + 1;
+        parts[instrument.0 as usize] = place;
+        let length = lengths[instrument.0 as usize];
+        places.push_reserved(Place { place, length });
     }
 }
 
-/// What is kept of the sessions of one job.
+/// What is kept of the sessions of one job: what each names, and the places of the commands of all.
 #[derive(Drop)]
 pub(crate) struct JobTable<A: Allocator = Global> {
-    sessions: Vec<SessionTable<A>, A>,
+    needs: Vec<InstrumentSet, A>,
+    places: Vec<Place, A>,
 }
 
 impl<A: Allocator> Model for JobTable<A> {
-    ghost use Rattle.std.specs.Prelude.{List};
-    ghost use Rattle.lab_plan.specs.SessionTables.{SessionTable};
+    ghost use Rattle.lab_plan.specs.SessionTables.{JobTable};
 
-    ghost Value = { List SessionTable };
+    ghost Value = { JobTable };
 
-    ghost view = { λ t. t.sessions.items };
+    ghost view = { λ t. record { needs = t.needs.items; places = t.places.items } };
 }
 
 impl<A: Allocator> JobTable<A> {
@@ -95,22 +67,32 @@ impl<A: Allocator> JobTable<A> {
     where
         A: Copy,
         requires { HasSmall job.now }
-        ensures { IfOk result (λ tables. AreTables job.now.sessions tables) }
+        ensures { IfOk result (λ table. IsJobTable job.now table) }
     {
-        let mut tables = Vec::new(alloc);
-        for session in job.sessions() {
-            tables.push(SessionTable::new(alloc, session.commands())?)?;
+        let mut needs = Vec::with_capacity(alloc, job.len())?;
+        let mut places = Vec::with_capacity(alloc, job.all_commands().len())?;
+        for before in 0..job.len() {
+            let commands = job.commands(before);
+            needs.push_reserved(InstrumentSet::of(commands));
+            push_places(&mut places, commands);
         }
-        Ok(JobTable { sessions: tables })
+        Ok(JobTable { needs, places })
     }
 
-    /// The table of a session, counted from 1.
-    pub(crate) fn session(&self, session: u32) -> &SessionTable<A>
-        requires begun { 1 ≤ session }
-        requires is_session { session ≤ length self.now }
-        ensures { result.now ≡ slice_index_or self.now (session - 1) no_table }
+    /// What the session after so many names.
+    pub(crate) fn needs(&self, before: usize) -> InstrumentSet
+        requires { before < length self.now.needs }
+        ensures { result ≡ slice_index_or self.now.needs before 0 }
     {
-        &self.sessions[session as usize - 1]
+        self.needs[before]
+    }
+
+    /// The place of a command, by its position among all of the job.
+    pub(crate) fn place(&self, position: usize) -> Place
+        requires { position < length self.now.places }
+        ensures { result ≡ slice_index_or self.now.places position no_place }
+    {
+        self.places[position]
     }
 }
 
@@ -122,9 +104,9 @@ pub(crate) fn job_tables<A: Allocator + Copy>(
     requires { All HasSmall jobs.now }
     ensures { IfOk result (λ tables. AreJobTables jobs.now tables.items) }
 {
-    let mut tables = Vec::new(alloc);
+    let mut tables = Vec::with_capacity(alloc, jobs.len())?;
     for job in jobs {
-        tables.push(JobTable::new(alloc, job)?)?;
+        tables.push_reserved(JobTable::new(alloc, job)?);
     }
     Ok(tables)
 }

@@ -1,5 +1,5 @@
 //! The tables of a plan, made from its draft in one go.
-ghost use Rattle.std.specs.Prelude.{◌≡◌, ℕ, ◌-◌, ◌<◌, ◌≤◌, [], length, slice_index_or, IfOk};
+ghost use Rattle.std.specs.Prelude.{◌≡◌, ◌<◌, [], length, slice_index_or, IfOk};
 ghost use Rattle.lab_plan.specs.IsPlan.{IsDraft};
 ghost use Rattle.lab_plan.specs.SessionTables.{no_table};
 ghost use Rattle.lab_plan.specs.Tables.{AreTablesOf};
@@ -9,7 +9,7 @@ use crate::draft::Draft;
 use crate::edge_table::EdgeTable;
 use crate::naming::Naming;
 use crate::numbers::{EdgeNo, JobNo};
-use crate::session_table::{JobTable, SessionTable, job_tables};
+use crate::session_table::{JobTable, job_tables};
 use std::alloc::{AllocError, Allocator, Global};
 use std::marker::Model;
 
@@ -59,13 +59,10 @@ impl<A: Allocator> Tables<A> {
         &self.bottles[edge.0 as usize]
     }
 
-    /// The table of a session, counted from 1.
-    pub(crate) fn session(&self, job: JobNo, session: u32) -> &SessionTable<A>
-        requires is_job { job < length self.now.job_tables }
-        requires begun { 1 ≤ session }
-        requires is_session { session ≤ length (slice_index_or self.now.job_tables job []) }
-        ensures { result.now ≡ slice_index_or (slice_index_or self.now.job_tables job []) (session - 1) no_table }
+    pub(crate) fn job(&self, job: JobNo) -> &JobTable<A>
+        requires { job < length self.now.job_tables }
+        ensures { result.now ≡ slice_index_or self.now.job_tables job no_table }
     {
-        self.jobs[job.0 as usize].session(session)
+        &self.jobs[job.0 as usize]
     }
 }

@@ -20,7 +20,6 @@ within-requires-clause-numbered g c =
 
 pub returns : goal.returns
 returns g c =
-    are_named c.args.self.now c.args.job c.args.session c.args.edge c.within.result c.table.result.now c.table.ensures.table
+    are_named c.args.self.now c.args.job c.args.session c.args.edge c.within.result c.needed.result c.needed.ensures.needs
     (subst (λ (l : List ℕ). c.within.result < 2 ^ length l) c.bottles_at.ensures.bottles c.within.ensures.of_edge)
-    (subst (AreNeeded c.within.result c.table.result.now.needs) c.bottles_at.ensures.bottles
-    (subst (λ n. AreNeeded c.within.result n c.bottles_at.result.now) c.needs.ensures c.within.ensures.just))
+    (subst (AreNeeded c.within.result c.needed.result) c.bottles_at.ensures.bottles c.within.ensures.just)

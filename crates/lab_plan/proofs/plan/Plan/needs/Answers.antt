@@ -5,10 +5,9 @@ use Rattle.lab_plan.proofs.plan.Plan.needs.Goals as goal
 
 pub returns-clause-needs : goal.returns-clause-needs
 returns-clause-needs g c i =
-    ap (λ n. bit_at n i) (c.bits.ensures ∙ c.needs.ensures)
-    ∙ needs_bit c.args.self.now c.args.job c.args.session i c.table.result.now c.table.ensures.table
+    ap (λ n. bit_at n i) c.bits.ensures ∙ needs_bit c.args.self.now c.args.job c.args.session i c.needed.result c.needed.ensures.needs
 
 pub returns-clause-few : goal.returns-clause-few
 returns-clause-few g c =
-    subst (λ n. n < 2 ^ length c.args.self.now.instruments) (sym (c.bits.ensures ∙ c.needs.ensures))
-    (needs_below c.args.self.now c.args.job c.args.session c.table.result.now c.table.ensures.plan c.table.ensures.table)
+    subst (λ n. n < 2 ^ length c.args.self.now.instruments) (sym c.bits.ensures)
+    (needs_below c.args.self.now c.args.job c.args.session c.needed.result c.needed.ensures.plan c.needed.ensures.needs)

@@ -1,51 +1,38 @@
-use Rattle.std.proofs.Common.{◌∙◌, ◌<◌, ◌≤◌, ap, sym, subst, length, take, ◌+◌}
-use Rattle.std.specs.List.{All}
-use Rattle.std.proofs.lemmas.List.{get_or_read}
-use Rattle.std.proofs.lemmas.Result.{IfOk-from_err}
-use Rattle.lab_plan.specs.Limits.{most_instruments, most_commands}
-use Rattle.lab_plan.specs.LabPlan.{SessionPlan, no_session}
-use Rattle.lab_plan.specs.NamedBy.{IsSmall}
-use Rattle.lab_plan.specs.SessionTables.{AreTables, IsTable, IsSessionTable, no_table}
-use Rattle.lab_plan.proofs.Relations.{related_none, related_more, related_all}
+use Rattle.std.proofs.Common.{ℕ, ◌+◌, ◌<◌, ◌++◌, List, length, take, arith, sym, ap, ◌∙◌, subst}
+use Rattle.lab_plan.specs.declared.verb.Verb.{Verb}
+use Rattle.lab_plan.specs.declared.place.Place.{Place}
+use Rattle.lab_plan.specs.LabPlan.{no_session, any_on}
+use Rattle.lab_plan.specs.SessionTables.{AreAllNeeds, IsSessionNeeds, places_of, all_places}
+use Rattle.lab_plan.proofs.Places.{places_more, room_left}
+use Rattle.lab_plan.proofs.Relations.{related_more}
 use Rattle.lab_plan.proofs.session_table.JobTable.new.Goals as goal
 
-pub loop-session-init : goal.loop-session-init
-loop-session-init g c = related_none IsSessionTable no_session no_table c.sessions-session-items.result.now _ c.new-tables.ensures.items
+pub push_places-requires-clause-room : goal.push_places-requires-clause-room
+push_places-requires-clause-room g c =
+    let sessions = c.args.job.now.sessions in
+    let k = c.loop-before.before in
+    omega (
+      arith,
+      room_left sessions k (omega arith),
+      ap (λ (l : List Place). length l) c.loop-before.invariant.places,
+      ap (λ (l : List (ℕ × Verb)). length l) c.commands-commands.ensures,
+      c.loop-before.invariant.room_places,
+    )
 
-pub new-requires-clause-numbered : goal.new-requires-clause-numbered
-new-requires-clause-numbered g c =
-    let sessions = c.sessions-session-items.result.now in
-    let k = c.loop-session.session-index in
-    let read = get_or_read sessions k c.session-item.result c.loop-session-test.true c.session-item.is no_session in
-    let small = subst (All IsSmall) (sym c.sessions-session-items.ensures) c.requires k no_session c.loop-session-test.true in
-    subst (All (λ command. command.0 < most_instruments)) (sym (c.commands.ensures ∙ ap (λ (s : SessionPlan). s.commands) read)) small.numbered
-
-pub new-requires-clause-few : goal.new-requires-clause-few
-new-requires-clause-few g c =
-    let sessions = c.sessions-session-items.result.now in
-    let k = c.loop-session.session-index in
-    let read = get_or_read sessions k c.session-item.result c.loop-session-test.true c.session-item.is no_session in
-    let small = subst (All IsSmall) (sym c.sessions-session-items.ensures) c.requires k no_session c.loop-session-test.true in
-    subst (λ commands. length commands ≤ most_commands) (sym (c.commands.ensures ∙ ap (λ (s : SessionPlan). s.commands) read)) small.few
-
-pub returns-in_err-new : goal.returns-in_err-new
-returns-in_err-new g c = IfOk-from_err c.from_residual.result _ c.from_residual.ensures.0
-
-pub returns-in_err-push : goal.returns-in_err-push
-returns-in_err-push g c = IfOk-from_err c.from_residual-in_err-push.result _ c.from_residual-in_err-push.ensures.0
-
-pub loop-session-preserved : goal.loop-session-preserved
-loop-session-preserved g c =
-    let sessions = c.sessions-session-items.result.now in
-    let k = c.loop-session.session-index in
-    let read = get_or_read sessions k c.session-item.result c.loop-session-test.true c.session-item.is no_session in
-    let one = subst (λ commands. IsTable commands c.in_ok-new.field-0) (c.commands.ensures ∙ ap (λ (s : SessionPlan). s.commands) read) c.in_ok-new.ensures in
-    subst (AreTables (take (k + 1) sessions)) (sym c.in_ok-push.ensures.items)
-    (related_more IsSessionTable no_session no_table sessions c.loop-session.tables.items
-    k c.in_ok-new.field-0 c.loop-session-test.true one c.loop-session.invariant)
-
-pub returns : goal.returns
-returns g c =
-    let all = related_all IsSessionTable no_session no_table c.sessions-session-items.result.now
-    c.loop-session.tables.items c.loop-session.session-index c.loop-session-test.false c.loop-session.invariant in
-    subst (λ sessions. AreTables sessions c.loop-session.tables.items) c.sessions-session-items.ensures all
+pub loop-before-preserved : goal.loop-before-preserved
+loop-before-preserved g c =
+    let sessions = c.args.job.now.sessions in
+    let k = c.loop-before.before in
+    let before = c.loop-before.invariant in
+    let inside : k < length sessions = omega arith in
+    record {
+      needs = subst (AreAllNeeds (take (k + 1) sessions)) (sym c.push_reserved.ensures.items)
+          (related_more IsSessionNeeds no_session 0 sessions c.loop-before.needs.items k c.of.result inside
+          (λ i. c.of.ensures i ∙ ap (any_on i) c.commands-commands.ensures) before.needs);
+      places = c.push_places.ensures.places
+          ∙ ap (λ l. l ++ places_of c.commands-commands.result.now) before.places
+          ∙ ap (λ l. all_places (take k sessions) ++ places_of l) c.commands-commands.ensures
+          ∙ sym (places_more sessions k inside);
+      room_needs = omega (arith, c.push_reserved.ensures.capacity, before.room_needs);
+      room_places = omega (arith, c.push_places.ensures.room, before.room_places);
+    }
