@@ -6,10 +6,10 @@ ghost use Rattle.plan_logs.specs.Logs.{empty_logs};
 ghost use Rattle.plan_logs.specs.Rooms.{on_by, AreAdded, AreRooms};
 
 use instrument_log::InstrumentLog;
-use lab_plan::{InstrumentNo, JobNo, Plan};
+use lab_plan::{JobNo, Plan};
 use std::alloc::{AllocError, Allocator};
 
-/// Adds to each instrument's number how many commands of a session are on it. A session's numbers stand next to one another.
+/// Adds to each instrument's number how many commands of a session are on it.
 fn add_session<A: Allocator>(plan: &Plan<A>, job: JobNo, session: u32, rooms: &mut Vec<u32, A>)
     requires is_job { job < length plan.now.jobs }
     requires begun { 1 ≤ session }
@@ -18,8 +18,8 @@ fn add_session<A: Allocator>(plan: &Plan<A>, job: JobNo, session: u32, rooms: &m
     requires few { (i : ℕ) → i < length plan.now.instruments → slice_index_or rooms.old.items i 0 + part plan.now job session i ≤ 100000 }
     ensures { AreAdded (part plan.now job session) rooms.old.items rooms.new.items }
 {
-    for number in 0..plan.instruments() {
-        rooms[number] += plan.part(job, session, InstrumentNo(number as u8));
+    for (instrument, _) in plan.commands(job, session) {
+        rooms[instrument.0 as usize] += 1;
     }
 }
 
