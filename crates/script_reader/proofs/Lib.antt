@@ -1,4 +1,5 @@
 pub mod FieldLemmas
+pub mod Ended
 pub mod OnLast
 pub mod OneMore
 pub mod Namings
