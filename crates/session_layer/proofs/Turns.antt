@@ -57,22 +57,28 @@ module _ (d m : DeskView) (e : ℕ) (x : EdgeState) (mv : EdgeMoves) (look : Add
     lost = λ i. if not (is i) && true then 1 else 0;
   }
 
--- a visit leaves plan, job and table
+-- a visit leaves plan, job, table and clock
 pub record Frame (d e : DeskView) : Type 0 where
   pub plan : e.plan ≡ d.plan
   pub job : e.job ≡ d.job
   pub table : e.table ≡ d.table
+  pub clock : e.clock ≡ d.clock
 
 tries_frame : (d : DeskView) (v : Visit) (d' : DeskView) (b c : Bool)
     → Chosen b (d' ≡ d) (Chosen c (Adds d [] d' × (edge (shown d') v.edge ≢ edge (known d) v.edge)) (Adds d (events_of v.moves d.job v.edge) d')) → Frame d d'
-tries_frame d v d' true c t = record { plan = ap (λ (z : DeskView). z.plan) t; job = ap (λ (z : DeskView). z.job) t; table = ap (λ (z : DeskView). z.table) t }
-tries_frame d v d' false true t = record { plan = t.0.plan; job = t.0.job; table = t.0.table }
-tries_frame d v d' false false t = record { plan = t.plan; job = t.job; table = t.table }
+tries_frame d v d' true c t = record {
+  plan = ap (λ (z : DeskView). z.plan) t;
+  job = ap (λ (z : DeskView). z.job) t;
+  table = ap (λ (z : DeskView). z.table) t;
+  clock = ap (λ (z : DeskView). z.clock) t;
+}
+tries_frame d v d' false true t = record { plan = t.0.plan; job = t.0.job; table = t.0.table; clock = t.0.clock }
+tries_frame d v d' false false t = record { plan = t.plan; job = t.job; table = t.table; clock = t.clock }
 
 pub visits_frame : (d : DeskView) (v : Visit) (d' : DeskView) → Visits d v d' → Frame d d'
 visits_frame d v d' t =
     let f = tries_frame t.looked v d' (is_nothing v.moves) v.lost t.tries in
-    record { plan = f.plan ∙ t.look.plan; job = f.job ∙ t.look.job; table = f.table ∙ t.look.table }
+    record { plan = f.plan ∙ t.look.plan; job = f.job ∙ t.look.job; table = f.table ∙ t.look.table; clock = f.clock ∙ t.look.clock }
 
 pub visits-snoc : (d m d' : DeskView) (vs : List Visit) (v : Visit) → VisitsAll d vs m → Visits m v d' → VisitsAll d (vs ++ v ∷ []) d'
 visits-snoc d m d' [] v is last = (d', subst (λ (z : DeskView). Visits z v d') is last, refl)

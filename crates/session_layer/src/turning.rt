@@ -111,10 +111,10 @@ pub fn turn<A: Allocator>(bench: &Bench<A>, desk: &mut Desk<A>) -> Turned
     requires own { Owns bench.now desk.old }
     ensures { Took desk.old result desk.new }
 {
-    // Whether patience is used up is decided by the count at the turn's start, whatever the turn does.
+    let (done, lost) = visit_all(bench, desk);
+    // Visits change neither: so these are those of the turn's start, by which it is decided whether patience is used up.
     let thirsty = is_thirsty(desk);
     let waited = desk.waited();
-    let (done, lost) = visit_all(bench, desk);
     let all = done + act(bench, desk, waited);
     desk.note_turn(thirsty);
     Turned::of(all, lost)
