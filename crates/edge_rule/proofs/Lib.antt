@@ -13,3 +13,4 @@ pub mod Rosters
 pub mod OpenedDesks
 pub mod Knowledge
 pub mod LookedEdges
+pub mod PassedEdges
