@@ -1,5 +1,6 @@
 pub mod CountsKept
 pub mod StillEdges
+pub mod WrittenLists
 pub mod NotedNeeds
 pub mod DeskSteps
 pub mod DeskMoves

@@ -109,7 +109,8 @@ module _ {A : Type 0} (b : bench_fields.Inside A) (d : Inside A) (is_bench : IsB
 
   pub passed : (n : ℕ) (s' : TableSeat LogView View) → from + n ≤ length es
       → ReadsOn b.table.shared.table_id.slots es notes from n d.seat s' → HasPassed n s'
-  passed zero s' inside is = subst (λ (s : TableSeat LogView View). HasPassed zero s) (sym is) (record { desk_ok = ok; desk_owns = owns; edges_own = own; passes = refl })
+  passed zero s' inside is = subst (λ (s : TableSeat LogView View). HasPassed zero s) (sym is)
+      (record { desk_ok = ok; desk_owns = owns; edges_own = own; passes = refl })
   passed (suc n) s' inside (k, before, read) =
       let h = passed n k (omega arith) before in
       let e : ℕ = get_or es (from + n) 0 in

@@ -23,8 +23,10 @@ invariant_of-desk g c =
     let b = c.bench.inside in
     let owns = owned b d _ _ c.bench.view_is c.desk.view_is c.requires.own in
     let own = of_seat (λ (z : DeskView). All (IsOwn z.plan z.job) c.args.edges.now) d _ c.desk.view_is c.requires.edges in
+    let low = c.loop-at.auto.at in
+    let high = c.loop-at.auto.at-end c.requires.from in
     let h = passed b d c.bench.invariant c.desk.invariant owns c.args.edges.now c.as_slice-notes.result.now own c.as_slice-notes.ensures.value c.args.from
-    (c.loop-at.at - c.args.from) c.loop-at.desk-inside.1.0 (let low = c.loop-at.auto.at in let high = c.loop-at.auto.at-end c.requires.from in omega arith) c.loop-at.invariant in
+    (c.loop-at.at - c.args.from) c.loop-at.desk-inside.1.0 (omega arith) c.loop-at.invariant in
     h.desk_ok
 
 pub load-word-requires : goal.load-word-requires
@@ -119,7 +121,7 @@ invariant_of-desk-then-notes-place g c =
     let t = look_told b k c.bench.invariant h.desk_ok h.desk_owns c.load-word.new.seat c.index-edges-at.result c.edge_place.result c.load-word.result
     c.unpacked-seen.result c.edge_place.ensures.0 mine c.unpacked-seen.ensures.word c.unpacked-seen.ensures.fits c.load-word.ensures.2 in
     look_kept k _ h.desk_ok c.index-edges-at.result c.unpacked-seen.result c.marks_of-fork.result.0
-    c.marks_of-fork.result.1 b.plan.now mine.is_edge (plan_known b k c.bench.invariant h.desk_ok h.desk_owns) c.unpacked-seen.ensures.fits t.0 t.1 refl refl
+    c.marks_of-fork.result.1 b.plan.now mine (plan_known b k c.bench.invariant h.desk_ok h.desk_owns) c.unpacked-seen.ensures.fits t.0 t.1 refl refl
     c.marks_of-fork.ensures.fork c.marks_of-fork.ensures.bottles (λ i. set d.fork_marks.items (c.number-place.ensures.0 i) c.marks_of-fork.result.0)
     (λ i. set d.bottle_marks.items (c.number-place.ensures.0 i) c.marks_of-fork.result.1)
     (λ i. set d.seen.items (c.number-place.ensures.0 i) c.unpacked-seen.result) (λ i. set d.calm.items (c.number-place.ensures.0 i) no_word) refl
@@ -171,8 +173,10 @@ returns g c =
     let b = c.bench.inside in
     let owns = owned b d _ _ c.bench.view_is c.desk.view_is c.requires.own in
     let own = of_seat (λ (z : DeskView). All (IsOwn z.plan z.job) c.args.edges.now) d _ c.desk.view_is c.requires.edges in
+    let low = c.loop-at.auto.at in
+    let high = c.loop-at.auto.at-end c.requires.from in
     let h = passed b d c.bench.invariant c.desk.invariant owns c.args.edges.now c.as_slice-notes.result.now own c.as_slice-notes.ensures.value c.args.from
-    (c.loop-at.at - c.args.from) c.loop-at.desk-inside.1.0 (let low = c.loop-at.auto.at in let high = c.loop-at.auto.at-end c.requires.from in omega arith) c.loop-at.invariant in
+    (c.loop-at.at - c.args.from) c.loop-at.desk-inside.1.0 (omega arith) c.loop-at.invariant in
     let all : c.loop-at.at - c.args.from ≡ length c.args.edges.now - c.args.from =
     let high = c.loop-at.auto.at-end c.requires.from in let past = c.loop-at-test.false in omega arith in
     subst (λ (z : ℕ × DeskView). PassesBy c.args.edges.now c.args.from z.0 z.1 (seat_view d.clock c.loop-at.desk-inside.1.0))
