@@ -4,7 +4,8 @@ use mathlib.Core.Option.{none}
 use prog.Atomic.{either}
 use Rattle.atomic_table.specs.Table.{step, Allows}
 use Rattle.atomic_table.specs.declared.shared.Seat.{Seat as TableSeat}
-use Rattle.lab_plan.specs.LabPlan.{LabPlan, edges, bottles, sessions, commands}
+use Rattle.std.specs.List.{All}
+use Rattle.lab_plan.specs.LabPlan.{LabPlan, edges, edges_of, bottles, sessions, commands}
 use Rattle.lab_plan.specs.IsPlan.{IsPlan}
 use Rattle.instrument_log.specs.InstrumentLog.{LogView}
 use Rattle.legal_steps.specs.declared.edge_state.EdgeState.{EdgeState}
@@ -39,14 +40,15 @@ use Rattle.edge_rule.specs.BenchInside.{bench_of, IsBench}
 use Rattle.edge_rule.specs.CalmEdges.{no_word}
 use Rattle.edge_rule.specs.NeededBottles.{AreNeeded, changes_session}
 use Rattle.edge_rule.proofs.NotedNeeds.{needs_stay, session_stays, session_changes}
-use Rattle.edge_rule.proofs.StillEdges.{none_still}
+use Rattle.edge_rule.proofs.StillEdges.{none_still, all_same}
 use Rattle.turns.proofs.Frame.{learned_seat}
 use Rattle.turns.specs.Changes.{seat_after}
 use Rattle.turns.proofs.Groups.{moved_seat, moved_edges}
 use Rattle.legal_steps.proofs.FewCommands.{few_commands}
+use Rattle.legal_steps.proofs.OwnEdges.{own_edges}
 use Rattle.one_history.proofs.Trying.{tries}
 use Rattle.one_history.proofs.Storing.{by_job, told_back, stores}
-use Rattle.edge_rule.proofs.DeskSteps.{got, led, hand_grown, mine_seats, mine_edges, desk_seat, desk_grows, desk_keeps, of_plan_set, noted_but, not_settled, framed, plan_known, seat_adds}
+use Rattle.edge_rule.proofs.DeskSteps.{got, led, fork_unmarked, hand_grown, mine_seats, mine_edges, desk_seat, desk_grows, desk_keeps, of_plan_set, noted_but, not_settled, framed, plan_known, seat_adds}
 
 -- ---- an exchange
 
@@ -163,7 +165,7 @@ module _ {A : Type 0} (b : bench_fields.Inside A) (d : Inside A) (is_bench : IsB
       moved_edges mp mj e m (mine mv) (omega arith) ∙ ((λ i. set (ok.seen i) e (sym y_is i)) ∙ sym seen_now) in
       desk_keeps d ok d' (events_of m mj e) (moves_uncounted mj mp e m) t (empty ∙ ok.empty) job own_now edges_now
       (subst (AreOfPlan mp) (sym seen_now) (of_plan_set d ok e y own.is_edge fits))
-      (noted_but d ok (learned_all mp (mine mv) (events_of m mj e)) d' e own.is_edge own_now edges_now phase _ forks_now _ marks_now y seen_now (calm
+      (noted_but d ok (learned_all mp (mine mv) (events_of m mj e)) d' e own own_now edges_now phase _ forks_now _ marks_now y seen_now (calm
       ∙ ap (λ k. set d.calm.items k no_word) at))
       (not_settled d ok d' unsettled)
       (subst (λ (z : JobState). z.drinking ≢ Reaching) (sym phase) ok.rests)
@@ -217,6 +219,11 @@ still_rests phase_events.Drink x h = λ e. cc
 still_rests phase_events.Quit x h = λ e. cc
 still_rests phase_events.Retire x h = λ e. cc
 still_rests phase_events.Withdraw x h = λ e. cc
+
+-- marks that are cleared or stay
+unmarked_still : (b : Bool) (l : List Bool) (e : ℕ) → get_or l e false ≡ false → get_or (if b then replicate (length l) false else l) e false ≡ false
+unmarked_still true l e is = all_same (length l) e false
+unmarked_still false l e is = is
 
 -- what is asked before the needed bottles are renewed
 pub record Renews (what : PhaseEvent) (plan : LabPlan) (j : ℕ) (y : JobState) (sets : List ℕ) : Type 0 where
@@ -304,6 +311,15 @@ module _ {A : Type 0} (b : bench_fields.Inside A) (d : Inside A) (is_bench : IsB
   pub renewed : (y : JobState) (sets : List ℕ) → AreNeeded b.plan.now d.job y sets → AreNeeded sp sj y sets
   renewed y sets all = subst (λ (z : LabPlan × ℕ). AreNeeded z.0 z.1 y sets) (λ i. (plan_known b d is_bench ok owns i, sym ok.job i)) all
 
+  -- the own edges are inside each list by edge number
+  pub own_listed : (own : List ℕ) → own ≡ edges_of b.plan.now d.job → own ≡ edges_of sp sj
+  own_listed own is = is ∙ (λ i. edges_of (plan_known b d is_bench ok owns i) (sym ok.job i))
+
+  pub own_inside : {X : Type 0} (own : List ℕ) (l : List X) → own ≡ edges_of b.plan.now d.job → length l ≡ length (edges sp) → All (λ e. e < length l) own
+  own_inside own l is wide k dflt inside =
+      let own_edge = (subst (All (IsOwn sp sj)) (sym (own_listed own is)) (own_edges sp sj) k dflt inside).is_edge in
+      omega (arith, own_edge, wide)
+
   -- the desk after it
   pub phase_kept : (what : PhaseEvent) (d' : Inside A) → Does sv (event_of what sj) d'.seat.me.0
       → d'.seat.me.1 ≡ d.seat.me.1 → d'.job ≡ d.job → d'.counts ≡ counted what d.counts → d'.phase ≡ phase_after what d.phase
@@ -321,7 +337,9 @@ module _ {A : Type 0} (b : bench_fields.Inside A) (d : Inside A) (is_bench : IsB
       ∙ (seat_stored what sp sj (kept d) ∙ (λ i. record { phase = sym phase i; fork_marks = sym forks_are i; bottle_marks = sym marks_are i }))) in
       desk_grows d ok d' (event_of what sj ∷ []) t (empty ∙ ok.empty) job own_now
       (learned_phase what sp sj (mine sv) ∙ (ok.seen ∙ sym seen)) (subst (AreOfPlan sp) (sym seen) ok.of_plan)
-      (none_still sp (learned_all sp (mine sv) (event_of what sj ∷ [])) sj (length d.calm.items) d'.calm.items calm ok.calm.wide)
+      (none_still sp (learned_all sp (mine sv) (event_of what sj ∷ [])) sj (length d.calm.items) d'.calm.items calm ok.calm.wide
+      (λ e others. ap (λ (x : Seat). get_or x.fork_marks e false) own_now
+      ∙ (ap (λ l. get_or l e false) forks_are ∙ unmarked_still (clears what) d.fork_marks.items e (fork_unmarked d ok e others))))
       (not_settled d ok d' unsettled)
       (subst (λ (z : JobState). z.drinking ≢ Reaching) (sym phase) (still_rests what d.phase ok.rests))
       (counts_grow what sj (hand_in sv).deeds ∙ (ap (counted what) ok.counts ∙ sym counts)) needed

@@ -142,6 +142,13 @@ module _ {A : Type 0} (d : Inside A) (ok : IsDesk d) where
       let read = got d.calm.items e noted no_word (let l = ok.calm.wide in omega arith) (is ∙ ap (λ k. get_or d.calm.items k noted) at) in
       subst (λ w. (w ≡ word_of (edge (mine v) e)) × IsStill p (mine v) j e) (sym read) (ok.calm.each e (λ none. some (read ∙ none)))
 
+  -- only own edges have a note or a fork mark
+  pub unnoted : (e : ℕ) → ¬ IsOwn p j e → get_or d.calm.items e no_word ≡ no_word
+  unnoted e others = ok.calm.unnoted e others
+
+  pub fork_unmarked : (e : ℕ) → ¬ IsOwn p j e → get_or d.fork_marks.items e false ≡ false
+  fork_unmarked e others = ap (λ (x : Seat). get_or x.fork_marks e false) (sym ok.own) ∙ ok.calm.unmarked e others
+
   -- a desk after a group of events, where its fields follow
   pub desk_grows : (d' : Inside A) (g : List Event) → Grows v g d'.seat.me.0 → d'.seat.me.1 ≡ [] → d'.job ≡ d.job
       → seat (learned_all p (mine v) g) j ≡ kept d' → (learned_all p (mine v) g).edges ≡ d'.seen.items → AreOfPlan p d'.seen.items
@@ -179,12 +186,12 @@ module _ {A : Type 0} (d : Inside A) (ok : IsDesk d) where
   not_settled d' unsettled is = absurd (false≢true (sym unsettled ∙ is))
 
   -- the notes but that of one edge, where the desk else is as before
-  pub noted_but : (t : State) (d' : Inside A) (e : ℕ) → e < length (edges p) → seat t j ≡ kept d'
+  pub noted_but : (t : State) (d' : Inside A) (e : ℕ) → IsOwn p j e → seat t j ≡ kept d'
       → t.edges ≡ d'.seen.items → d'.phase ≡ d.phase → (fork : Bool) → d'.fork_marks.items ≡ set d.fork_marks.items e fork
       → (marks : ℕ) → d'.bottle_marks.items ≡ set d.bottle_marks.items e marks → (x : EdgeState)
       → d'.seen.items ≡ set d.seen.items e x → d'.calm.items ≡ set d.calm.items e no_word → AreStill p t j d'.calm.items
-  noted_but t d' e inside own edges phase fork forks marks bottles x seen calm = subst (AreStill p t j) (sym calm)
-      (but_one p (mine v) t j e d.calm.items inside (λ f other. same_at (mine v) t j f (kept d) (kept d') d.seen.items d'.seen.items ok.own own ok.seen edges
+  noted_but t d' e is_own own edges phase fork forks marks bottles x seen calm = subst (AreStill p t j) (sym calm)
+      (but_one p (mine v) t j e d.calm.items is_own (λ f other. same_at (mine v) t j f (kept d) (kept d') d.seen.items d'.seen.items ok.own own ok.seen edges
       (ap (λ l. get_or l f no_edge) seen ∙ get_or-set_other d.seen.items e f x no_edge other)
       (ap but_position phase)
       (ap (λ l. get_or l f false) forks ∙ get_or-set_other d.fork_marks.items e f fork false other)
@@ -285,12 +292,12 @@ module _ {A : Type 0} (d d' : Inside A) (ok : IsDesk d) (e : ℕ) (x : EdgeState
   lj = (hand_in lv).job
 
   -- the desk after a look
-  pub look_kept : (fork : Bool) (marks : ℕ) (q : LabPlan) → e < length (edges lp) → q ≡ lp → IsOfBottles (length (bottles q e)) x
+  pub look_kept : (fork : Bool) (marks : ℕ) (q : LabPlan) → IsOwn lp lj e → q ≡ lp → IsOfBottles (length (bottles q e)) x
       → Does lv (Look lj e x) d'.seat.me.0 → d'.seat.me.1 ≡ d.seat.me.1 → fixed d' ≡ fixed d → d'.phase ≡ d.phase
       → fork ≡ fork_mark_seen d.phase.dining (end_of q d.job e) x → marks ≡ bottles_at q e (end_of q d.job e) x
       → d'.fork_marks.items ≡ set d.fork_marks.items e fork → d'.bottle_marks.items ≡ set d.bottle_marks.items e marks
       → d'.seen.items ≡ set d.seen.items e x → d'.calm.items ≡ set d.calm.items e no_word → d'.settled ≡ false → IsDesk d'
-  look_kept fork marks q inside is_p fits t empty job phase is_fork is_marks forks bottle_marks seen calm unsettled =
+  look_kept fork marks q is_own is_p fits t empty job phase is_fork is_marks forks bottle_marks seen calm unsettled =
       let event : Event = Look lj e x in
       let jobs = mine_seats lv in
       let here = ok.at_rest.inside in
@@ -306,8 +313,8 @@ module _ {A : Type 0} (d d' : Inside A) (ok : IsDesk d) (e : ℕ) (x : EdgeState
       })) in
       let edges_now = ap (λ (l : List EdgeState). set l e x) ok.seen ∙ sym seen in
       desk_keeps d ok d' (event ∷ []) ((refl, refl, refl), tt) t (empty ∙ ok.empty) job own edges_now
-      (subst (AreOfPlan lp) (sym seen) (of_plan_set d ok e x inside (subst (λ (z : LabPlan). IsOfBottles (length (bottles z e)) x) is_p fits)))
-      (noted_but d ok (learned_all lp (mine lv) (event ∷ [])) d' e inside own edges_now phase fork forks marks bottle_marks x seen calm)
+      (subst (AreOfPlan lp) (sym seen) (of_plan_set d ok e x is_own.is_edge (subst (λ (z : LabPlan). IsOfBottles (length (bottles z e)) x) is_p fits)))
+      (noted_but d ok (learned_all lp (mine lv) (event ∷ [])) d' e is_own own edges_now phase fork forks marks bottle_marks x seen calm)
       (not_settled d ok d' unsettled)
       (subst (λ (z : JobState). z.drinking ≢ Reaching) (sym phase) ok.rests)
 

@@ -1,5 +1,6 @@
 pub mod CountsKept
 pub mod StillEdges
+pub mod WrittenLists
 pub mod NotedNeeds
 pub mod DeskSteps
 pub mod DeskMoves
@@ -13,3 +14,4 @@ pub mod Rosters
 pub mod OpenedDesks
 pub mod Knowledge
 pub mod LookedEdges
+pub mod PassedEdges

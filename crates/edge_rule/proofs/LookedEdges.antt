@@ -1,19 +1,27 @@
 -- Right after a look at an edge, its marks are those that the word seen sets.
-use Rattle.std.proofs.Common.{◌≡◌, ℕ, ◌<◌, false, [], ◌∷◌, ◌++◌, length, get_or, sym, ap, ◌∙◌, arith, length-set, get_or-set_same}
+use Rattle.std.proofs.Common.{◌≡◌, ℕ, ◌<◌, false, List, [], ◌∷◌, ◌++◌, length, get_or, sym, ap, ◌∙◌, subst, arith, length-set, get_or-set_same}
 use Rattle.lab_plan.specs.LabPlan.{edges}
 use Rattle.legal_steps.specs.declared.event.Event.{Event}
 use Rattle.legal_steps.specs.declared.event.Event.TheVariants.{Look}
-use Rattle.legal_steps.specs.State.{Seat, State, seat, edge, no_edge, end_of, bottles_at}
+use Rattle.legal_steps.specs.State.{Seat, State, IsOwn, seat, edge, no_edge, end_of, bottles_at}
 use Rattle.legal_steps.specs.Legal.{fork_mark_seen}
 use Rattle.legal_steps.specs.Opening.{the_opening}
 use Rattle.turns.specs.Changes.{seat_after}
-use Rattle.turns.specs.History.{learned, learned_all, known_by}
+use Rattle.turns.specs.History.{IsHistory, learned, learned_all, known_by}
 use Rattle.turns.proofs.Frame.{learned_seat}
-use Rattle.turns.proofs.Runs.{learned_all-append, learned_all_seats, learned_all_edges, opening_seats, opening_edges}
+use Rattle.turns.proofs.Runs.{legal-goes_on, learned_all-append, learned_all_seats, learned_all_edges, opening_seats, opening_edges}
 use Rattle.turns.specs.Due.{IsCalm}
 use Rattle.edge_rule.specs.DeskView.{DeskView, known}
 use Rattle.edge_rule.specs.Knowing.{IsKnown}
 use Rattle.edge_rule.specs.CalmEdges.{IsStill, HasJustLooked}
+
+-- only own edges are looked at
+pub looked_own : (y : DeskView) (e : ℕ) → HasJustLooked y e → IsOwn y.plan y.job e
+looked_own y e looked =
+    let since : List Event = looked.before.front ++ looked.look.between in
+    let may = legal-goes_on y.plan (the_opening y.plan) since (Look looked.before.job e looked.seen ∷ [])
+    (subst (IsHistory y.plan) looked.look.front looked.look.legal) in
+    subst (λ j. IsOwn y.plan j e) (sym looked.look.job) may.0.0
 
 module _ (y : DeskView) (e : ℕ) (fits : IsKnown y.plan (known y) y.job) (inside : e < length (edges y.plan))
     (calm : IsCalm y.plan (known y) y.job e) (looked : HasJustLooked y e) where

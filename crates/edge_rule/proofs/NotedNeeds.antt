@@ -1,5 +1,5 @@
 -- The needed bottles that a desk keeps, from one phase to the next.
-use Rattle.std.proofs.Common.{◌≡◌, ◌↔◌, ℕ, zero, suc, ◌+◌, ◌<◌, ◌≤◌, true, false, List, length, get_or, set, replicate, refl, sym, ap, ◌∙◌, subst, inl, inr, arith, get_or-set_same, get_or-set_other}
+use Rattle.std.proofs.Common.{◌≡◌, ◌↔◌, ℕ, ◌+◌, ◌<◌, ◌≤◌, true, false, List, length, get_or, set, replicate, refl, sym, ap, ◌∙◌, subst, inl, inr, arith, get_or-set_same, get_or-set_other}
 use Rattle.std.proofs.lemmas.List.{length-replicate}
 use Rattle.std.proofs.lemmas.Bool.{cases_eq, false≢true}
 use Rattle.std.proofs.lemmas.Nat.{pow_pos}
@@ -15,6 +15,7 @@ use Rattle.one_history.specs.declared.phase_event.PhaseEvent.{PhaseEvent}
 use Rattle.one_history.specs.declared.phase_event.PhaseEvent.TheVariants as events
 use Rattle.one_history.specs.PhaseEvents.{event_of, phase_after}
 use Rattle.edge_rule.specs.NeededBottles.{AreNeededIn, AreNeeded, changes_session}
+use Rattle.edge_rule.proofs.StillEdges.{all_same}
 
 -- ---- in a session and out of it
 
@@ -43,17 +44,12 @@ none_at plan j e x out = record {
 
 -- ---- all edges
 
-same_all : (n e x : ℕ) → get_or (replicate n x) e x ≡ x
-same_all zero e x = refl
-same_all (suc n) zero x = refl
-same_all (suc n) (suc e) x = same_all n e x
-
 -- a tranquil job needs none
 pub none_needed : (plan : LabPlan) (j n : ℕ) (x : JobState) (sets : List ℕ) → x.drinking ≡ Tranquil
     → sets ≡ replicate n 0 → n ≡ length (edges plan) → AreNeeded plan j x sets
 none_needed plan j n x sets tranquil is wide = record {
   wide = ap length is ∙ (length-replicate n 0 ∙ wide);
-  each = λ e own. subst (AreNeededIn plan j x e) (sym (ap (λ (l : List ℕ). get_or l e 0) is ∙ same_all n e 0))
+  each = λ e own. subst (AreNeededIn plan j x e) (sym (ap (λ (l : List ℕ). get_or l e 0) is ∙ all_same n e 0))
       (none_at plan j e x (out_tranquil x.drinking tranquil));
 }
 

@@ -10,7 +10,7 @@ use Rattle.lab_plan.specs.LabPlan.{LabPlan, edges, bottles}
 use Rattle.instrument_log.specs.InstrumentLog.{LogView, empty_log}
 use Rattle.legal_steps.specs.declared.edge_state.EdgeState.{EdgeState}
 use Rattle.legal_steps.specs.declared.phase.Drinking.TheVariants.{Tranquil, Reaching}
-use Rattle.legal_steps.specs.State.{Seat, seat, no_edge, no_seat, idle_phase}
+use Rattle.legal_steps.specs.State.{Seat, seat, fork_mark, no_edge, no_seat, idle_phase}
 use Rattle.legal_steps.specs.Opening.{the_opening, idle_seat}
 use Rattle.legal_steps.specs.WholeLogs.{room_of}
 use Rattle.edge_word.specs.Words.{word_of, opening_edge, IsOfBottles}
@@ -23,7 +23,7 @@ use Rattle.one_history.specs.Grow.{hand_in, mine}
 use Rattle.edge_rule.specs.Openings.{opening_edges, AreWritten}
 use Rattle.legal_steps.specs.Counting.{counts_of}
 use Rattle.edge_rule.specs.CalmEdges.{no_word}
-use Rattle.edge_rule.proofs.StillEdges.{none_still}
+use Rattle.edge_rule.proofs.StillEdges.{none_still, all_same}
 use Rattle.std.proofs.lemmas.Bool.{false≢true}
 use Rattle.edge_rule.proofs.NotedNeeds.{none_needed}
 use Rattle.edge_rule.specs.DeskInside.{kept, AreOfPlan, AtRest, IsDesk}
@@ -84,6 +84,9 @@ fresh_view plan j = record { hands = hand plan j ∷ []; front = []; told = [] }
 fresh_rests : (plan : LabPlan) (j : ℕ) → j < length plan.jobs → AtRest (fresh_view plan j)
 fresh_rests plan j job = record { mine = refl; inside = job; none_told = refl; legal = tt; whole = refl; groups = (refl, tt) }
 
+fresh_unmarked : (plan : LabPlan) (j : ℕ) → j < length plan.jobs → (e : ℕ) → fork_mark (the_opening plan) j e ≡ false
+fresh_unmarked plan j job e = ap (λ (x : Seat). get_or x.fork_marks e false) (opening_seat plan j job) ∙ all_same (length (edges plan)) e false
+
 pub fresh_is_desk : {A : Type 0} (d : Inside A) (plan : LabPlan) (j : ℕ) → d.seat.me ≡ (fresh_view plan j, []) → j < length plan.jobs
     → d.job ≡ j → d.counts ≡ counts_of j [] → kept d ≡ idle_seat plan → d.seen.items ≡ opening_edges plan (length (edges plan))
     → d.calm.items ≡ replicate (length (edges plan)) no_word → d.settled ≡ false → d.needed.items ≡ replicate (length (edges plan)) 0 → IsDesk d
@@ -100,7 +103,8 @@ fresh_is_desk d plan j me job is_job counts own seen calm unsettled needed =
           (subst (AreOfPlan plan) (sym seen)
           (λ e l. subst (IsOfBottles (length (bottles plan e))) (sym (edges_at plan (length (edges plan)) e l)) (opening_fits (length (bottles plan e)))));
       calm = none_still (hand_in d.seat.me.0).plan (mine d.seat.me.0) (hand_in d.seat.me.0).job
-          (length (edges plan)) d.calm.items calm (ap (λ (z : View). length (edges (hand_in z).plan)) (sym v));
+          (length (edges plan)) d.calm.items calm (ap (λ (z : View). length (edges (hand_in z).plan)) (sym v))
+          (λ e others. ap (λ (z : View). fork_mark (mine z) (hand_in z).job e) v ∙ fresh_unmarked plan j job e);
       settled = λ is. absurd (false≢true (sym unsettled ∙ is));
       needed = none_needed (hand_in d.seat.me.0).plan (hand_in d.seat.me.0).job
           (length (edges plan)) d.phase d.needed.items (ap (λ (x : Seat). x.phase.drinking) own) needed (ap (λ (z : View). length (edges (hand_in z).plan)) (sym v));

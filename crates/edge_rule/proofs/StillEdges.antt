@@ -1,11 +1,11 @@
 -- What is noted stays true: of a calm edge where neither the edge nor its marks change, nor how the job dines and drinks; of phase acts where the job's seat
 -- doesn't.
-use Rattle.std.proofs.Common.{◌≡◌, ◌≢◌, ℕ, zero, suc, ◌<◌, false, List, length, get_or, set, replicate, refl, sym, ap, ◌∙◌, subst, inl, inr, arith, length-set, get_or-set_same, get_or-set_other}
+use Rattle.std.proofs.Common.{◌≡◌, ◌≢◌, ℕ, zero, suc, false, List, length, get_or, set, replicate, refl, sym, ap, ◌∙◌, subst, inl, inr, arith, length-set, get_or-set_same, get_or-set_other}
 use Rattle.std.proofs.lemmas.List.{length-replicate}
 use Rattle.std.proofs.lemmas.Bool.{cases_eq}
 use Rattle.lab_plan.specs.LabPlan.{LabPlan, edges}
 use Rattle.legal_steps.specs.declared.edge_state.EdgeState.{EdgeState}
-use Rattle.legal_steps.specs.State.{Seat, State, seat, edge, phase, fork_mark, bottle_marks, no_edge, end_of, bottles_at}
+use Rattle.legal_steps.specs.State.{Seat, State, IsOwn, seat, edge, phase, fork_mark, bottle_marks, no_edge, end_of, bottles_at}
 use Rattle.legal_steps.specs.Legal.{fork_mark_seen}
 use Rattle.turns.specs.Due.{but_position}
 use Rattle.turns.specs.Acts.{IsSettled}
@@ -60,29 +60,37 @@ stays_noted plan s t j e w same noted = (noted.0 ∙ ap word_of (sym same.edge_i
 
 -- all notes stay
 pub stay_still : (plan : LabPlan) (s t : State) (j : ℕ) (noted : List ℕ) → ((e : ℕ) → IsSameAt s t j e) → AreStill plan s j noted → AreStill plan t j noted
-stay_still plan s t j noted same all = record { wide = all.wide; each = λ e is. stays_noted plan s t j e _ (same e) (all.each e is) }
+stay_still plan s t j noted same all = record {
+  wide = all.wide;
+  each = λ e is. stays_noted plan s t j e _ (same e) (all.each e is);
+  unnoted = all.unnoted;
+  unmarked = λ e other. (same e).fork_is ∙ all.unmarked e other;
+}
 
 -- all but one stay, which goes
-pub but_one : (plan : LabPlan) (s t : State) (j e : ℕ) (noted : List ℕ) → e < length (edges plan)
+pub but_one : (plan : LabPlan) (s t : State) (j e : ℕ) (noted : List ℕ) → IsOwn plan j e
     → ((f : ℕ) → f ≢ e → IsSameAt s t j f) → AreStill plan s j noted → AreStill plan t j (set noted e no_word)
-but_one plan s t j e noted inside same all = record {
+but_one plan s t j e noted own same all = record {
   wide = length-set noted e no_word ∙ all.wide;
   each = λ f is. elim (cases_eq f e) [
-    | inl here ↦ let n = all.wide in
+    | inl here ↦ let n = all.wide in let inside = own.is_edge in
         absurd (is (ap (λ k. get_or (set noted e no_word) k no_word) here ∙ get_or-set_same noted e no_word no_word (omega arith)))
     | inr other ↦ let kept = get_or-set_other noted e f no_word no_word other in
         subst (λ w. (w ≡ word_of (edge t f)) × IsStill plan t j f) (sym kept)
         (stays_noted plan s t j f _ (same f other) (all.each f (λ none. is (kept ∙ none))))
   ];
+  unnoted = λ f others. let other : f ≢ e = λ is. others (subst (IsOwn plan j) (sym is) own) in
+      get_or-set_other noted e f no_word no_word other ∙ all.unnoted f others;
+  unmarked = λ f others. (same f (λ is. others (subst (IsOwn plan j) (sym is) own))).fork_is ∙ all.unmarked f others;
 }
 
 -- one more is noted
-pub one_more : (plan : LabPlan) (s : State) (j e n w : ℕ) (noted : List ℕ) → n ≡ e → e < length (edges plan)
+pub one_more : (plan : LabPlan) (s : State) (j e n w : ℕ) (noted : List ℕ) → n ≡ e → IsOwn plan j e
     → w ≡ word_of (edge s e) → IsStill plan s j e → AreStill plan s j noted → AreStill plan s j (set noted n w)
-one_more plan s j e n w noted at inside word still all = record {
+one_more plan s j e n w noted at own word still all = record {
   wide = length-set noted n w ∙ all.wide;
   each = λ f is. elim (cases_eq f e) [
-    | inl here ↦ let wide = all.wide in
+    | inl here ↦ let wide = all.wide in let inside = own.is_edge in
         let there : get_or (set noted n w) f no_word ≡ w =
         ap (λ k. get_or (set noted n w) k no_word) (here ∙ sym at) ∙ get_or-set_same noted n w no_word (omega (arith, wide)) in
         (there ∙ (word ∙ ap (λ k. word_of (edge s k)) (sym here)), subst (IsStill plan s j) (sym here) still)
@@ -91,16 +99,22 @@ one_more plan s j e n w noted at inside word still all = record {
         ap (λ k. get_or (set noted k w) f no_word) at ∙ get_or-set_other noted e f w no_word other in
         subst (λ x. (x ≡ word_of (edge s f)) × IsStill plan s j f) (sym kept) (all.each f (λ none. is (kept ∙ none)))
   ];
+  unnoted = λ f others. let other : f ≢ e = λ is. others (subst (IsOwn plan j) (sym is) own) in
+      ap (λ k. get_or (set noted k w) f no_word) at ∙ (get_or-set_other noted e f w no_word other ∙ all.unnoted f others);
+  unmarked = all.unmarked;
 }
 
-none_noted : (n e : ℕ) → get_or (replicate n no_word) e no_word ≡ no_word
-none_noted zero e = refl
-none_noted (suc n) zero = refl
-none_noted (suc n) (suc e) = none_noted n e
+pub all_same : {X : Type 0} (n e : ℕ) (x : X) → get_or (replicate n x) e x ≡ x
+all_same zero e x = refl
+all_same (suc n) zero x = refl
+all_same (suc n) (suc e) x = all_same n e x
 
--- where none is noted, nothing is claimed
-pub none_still : (plan : LabPlan) (s : State) (j n : ℕ) (noted : List ℕ) → noted ≡ replicate n no_word → n ≡ length (edges plan) → AreStill plan s j noted
-none_still plan s j n noted is wide = record {
+-- where none is noted, nothing is claimed of calm
+pub none_still : (plan : LabPlan) (s : State) (j n : ℕ) (noted : List ℕ) → noted ≡ replicate n no_word → n ≡ length (edges plan)
+    → ((e : ℕ) → ¬ IsOwn plan j e → fork_mark s j e ≡ false) → AreStill plan s j noted
+none_still plan s j n noted is wide unmarked = record {
   wide = ap length is ∙ (length-replicate n no_word ∙ wide);
-  each = λ e some. absurd (some (ap (λ z. get_or z e no_word) is ∙ none_noted n e));
+  each = λ e some. absurd (some (ap (λ z. get_or z e no_word) is ∙ all_same n e no_word));
+  unnoted = λ e others. ap (λ z. get_or z e no_word) is ∙ all_same n e no_word;
+  unmarked = unmarked;
 }

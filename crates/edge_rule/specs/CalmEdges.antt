@@ -1,9 +1,9 @@
 -- Which edges a desk has noted as calm, and what that rests on.
-use Rattle.std.specs.Prelude.{◌≡◌, ◌≢◌, ℕ, List, [], ◌∷◌, length, slice_index_or}
+use Rattle.std.specs.Prelude.{◌≡◌, ◌≢◌, ℕ, false, List, [], ◌∷◌, length, slice_index_or, slice_set}
 use Rattle.lab_plan.specs.LabPlan.{LabPlan, edges}
 use Rattle.legal_steps.specs.declared.edge_state.EdgeState.{EdgeState}
 use Rattle.legal_steps.specs.declared.event.Event.TheVariants.{Look}
-use Rattle.legal_steps.specs.State.{State, edge, dining, fork_mark, bottle_marks, end_of, bottles_at}
+use Rattle.legal_steps.specs.State.{State, IsOwn, edge, dining, fork_mark, bottle_marks, end_of, bottles_at}
 use Rattle.legal_steps.specs.Legal.{fork_mark_seen}
 use Rattle.edge_word.specs.Words.{word_of}
 use Rattle.turns.specs.Due.{IsCalm}
@@ -20,10 +20,17 @@ pub record IsStill (plan : LabPlan) (s : State) (j e : ℕ) : Type 0 where
 abbrev pub no_word : ℕ
 no_word = 18446744073709551615
 
--- each edge that has a note is so, and what is noted is its word
+-- each edge that has a note is so, and what is noted is its word. Other edges than the job's own have no note and no fork mark
 pub record AreStill (plan : LabPlan) (s : State) (j : ℕ) (noted : List ℕ) : Type 0 where
   pub wide : length noted ≡ length (edges plan)
   pub each : (e : ℕ) → slice_index_or noted e no_word ≢ no_word → (slice_index_or noted e no_word ≡ word_of (edge s e)) × IsStill plan s j e
+  pub unnoted : (e : ℕ) → ¬ IsOwn plan j e → slice_index_or noted e no_word ≡ no_word
+  pub unmarked : (e : ℕ) → ¬ IsOwn plan j e → fork_mark s j e ≡ false
+
+-- the list with x at each of these places
+abbrev pub written_at : {X : Type 0} → List ℕ → X → List X → List X
+written_at [] x l = l
+written_at (k ∷ ks) x l = written_at ks x (slice_set l k x)
 
 -- the last thing that the job did was a look at the edge
 pub record HasJustLooked (d : DeskView) (e : ℕ) : Type 0 where

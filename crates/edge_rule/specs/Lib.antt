@@ -1,6 +1,7 @@
 pub mod Counting
 pub mod DeskView
 pub mod CalmEdges
+pub mod Passing
 pub mod NeededBottles
 pub mod DeskInside
 pub mod BenchInside

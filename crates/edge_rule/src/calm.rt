@@ -1,11 +1,12 @@
 //! What a desk notes of having nothing to do: where nothing was due on an edge, nothing is due there until its word or the
 //! job's phase changes, and where no phase act was due, none is due until the job's phase or a mark does.
 ghost use Rattle.std.specs.Prelude.{◌≡◌, ◌<◌, length, IsTrue};
+ghost use Rattle.std.specs.List.{All};
 ghost use Rattle.lab_plan.specs.LabPlan.{edges};
 ghost use Rattle.turns.specs.Due.{IsCalm};
 ghost use Rattle.turns.specs.Acts.{IsSettled};
 ghost use Rattle.edge_rule.specs.DeskView.{known};
-ghost use Rattle.edge_rule.specs.CalmEdges.{HasJustLooked};
+ghost use Rattle.edge_rule.specs.CalmEdges.{HasJustLooked, written_at};
 
 use crate::desk::Desk;
 use crate::words::number;
@@ -14,6 +15,16 @@ use std::alloc::Allocator;
 
 /// A note that there is none: no edge has this word, because some of the set bits are zero in every edge's word.
 pub(crate) const NO_WORD: u64 = 0xffff_ffff_ffff_ffff;
+
+/// Writes the same for each of these edges into a list by edge number.
+pub(crate) fn write_at<T: Copy, A: Allocator>(edges: &[EdgeNo], what: T, list: &mut Vec<T, A>)
+    requires { All (λ e. e < length list.old.items) edges.now }
+    ensures { list.new.items ≡ written_at edges.now what list.old.items }
+{
+    for edge in edges {
+        list[number(*edge)] = what;
+    }
+}
 
 impl<A: Allocator> Desk<A> {
     /// Whether the edge was noted as calm, and neither its word nor the job's phase has changed since, but for the count of
