@@ -107,127 +107,95 @@ fn ends(rt: &impl Abort, told: Told, out: &str, errors: &str, status: u8) {
     assert!(rt; code == ExitCode::from(status), "{code:?}, not {status}");
 }
 
-const COUNTS: &str = "ok jobs 2 instruments 1 edges 1 sessions 2 commands 2\n";
-
-const WAITING: &str =
-    "lab 1\ninstrument scale 0\njob a sessions 0 of 1 meals 0 waiting\njob b sessions 0 of 1 meals 0 waiting\nunfinished\n";
-
-/// The words of a command line and its input; what goes out, what is printed on standard error, and the status.
-type Line = (
-    &'static [&'static str],
-    &'static str,
-    &'static str,
-    &'static str,
-    u8,
-);
-
-const OF_LABRUN: [Line; 6] = [
-    (&[], SCRIPT, REPORT, "", 0),
-    (&["labrun", "rounds", "9"], SCRIPT, REPORT, "", 0),
-    (&["labrun", "threads", "2", "0"], SCRIPT, WAITING, "", 3),
-    (&["labrun", "check"], SCRIPT, COUNTS, "", 0),
-    (
-        &["labrun", "upgrade"],
-        "",
-        "",
-        "labrun: line 1: S1 no lab header\n",
-        1,
-    ),
-    (
-        &["labrun", "walk"],
-        SCRIPT,
-        "",
-        "labrun: command line refused\n",
-        2,
-    ),
-];
-
 #[test]
 fn command_lines_of_labrun(rt: HostRuntime) {
-    for &(words, input, out, errors, status) in &OF_LABRUN {
+    let refused = "labrun: command line refused\n";
+    let counts = "ok jobs 2 instruments 1 edges 1 sessions 2 commands 2\n";
+    let waiting =
+        "lab 1\ninstrument scale 0\njob a sessions 0 of 1 meals 0 waiting\njob b sessions 0 of 1 meals 0 waiting\nunfinished\n";
+    let no_header = "labrun: line 1: S1 no lab header\n";
+    for (words, input, out, errors, status) in [
+        ([].as_slice(), SCRIPT, REPORT, "", 0),
+        (["labrun", "rounds", "9"].as_slice(), SCRIPT, REPORT, "", 0),
+        (
+            ["labrun", "threads", "2", "0"].as_slice(),
+            SCRIPT,
+            waiting,
+            "",
+            3,
+        ),
+        (["labrun", "check"].as_slice(), SCRIPT, counts, "", 0),
+        (["labrun", "upgrade"].as_slice(), "", "", no_header, 1),
+        (["labrun", "walk"].as_slice(), SCRIPT, "", refused, 2),
+    ] {
         let told = labrun(&rt, rt.alloc(), words, input);
         ends(&rt, told, out, errors, status);
     }
 }
 
-const OF_LABVIEW: [Line; 10] = [
-    (
-        &["labview"],
-        SCRIPT,
-        "",
-        "labview: command line refused: a command is missing; see labview --help\n",
-        2,
-    ),
-    (
-        &["labview", "wait", "9"],
-        SCRIPT,
-        "",
-        "labview: command line refused: unrecognized subcommand 'wait'; see labview --help\n",
-        2,
-    ),
-    (
-        &["labview", "waits"],
-        SCRIPT,
-        "",
-        "labview: command line refused: the following required arguments were not provided: <N>; see labview --help\n",
-        2,
-    ),
-    (
-        &["labview", "picture"],
-        SCRIPT,
-        "",
-        "labview: line 2: this is a script; picture reads a report: labrun < script | labview picture\n",
-        1,
-    ),
-    (
-        &["labview", "table"],
-        SCRIPT,
-        "",
-        "labview: line 2: this is a script; table reads a report: labrun < script | labview table\n",
-        1,
-    ),
-    (
-        &["labview", "picture"],
-        "lab 1\nscale\n",
-        "",
-        "labview: line 2: not a line of a report\n",
-        1,
-    ),
-    (
-        &["labview", "gantt", "9"],
-        REPORT,
-        "",
-        "labview: line 2: this is a report; gantt reads a script\n",
-        1,
-    ),
-    (
-        &["labview", "explain"],
-        REPORT,
-        "",
-        "labview: line 2: this is a report; explain reads a script\n",
-        1,
-    ),
-    (
-        &["labview", "waits", "9"],
-        "",
-        "",
-        "labview: line 1: S1 no lab header\n",
-        1,
-    ),
-    (
-        &["labview", "table"],
-        "lab 1\nfinished\n",
-        "instrument,entry,job,session,place,length,verb,number,value\n",
-        "",
-        0,
-    ),
-];
-
 #[test]
 fn command_lines_of_labview(rt: HostRuntime) {
-    for &(words, input, out, errors, status) in &OF_LABVIEW {
-        ends(&rt, labview(rt.alloc(), words, input), out, errors, status);
+    let table = "instrument,entry,job,session,place,length,verb,number,value\n";
+    for (words, input, errors, status) in [
+        (
+            ["labview"].as_slice(),
+            SCRIPT,
+            "labview: command line refused: a command is missing; see labview --help\n",
+            2,
+        ),
+        (
+            ["labview", "wait", "9"].as_slice(),
+            SCRIPT,
+            "labview: command line refused: unrecognized subcommand 'wait'; see labview --help\n",
+            2,
+        ),
+        (
+            ["labview", "waits"].as_slice(),
+            SCRIPT,
+            "labview: command line refused: the following required arguments were not provided: <N>; see labview --help\n",
+            2,
+        ),
+        (
+            ["labview", "picture"].as_slice(),
+            SCRIPT,
+            "labview: line 2: this is a script; picture reads a report: labrun < script | labview picture\n",
+            1,
+        ),
+        (
+            ["labview", "table"].as_slice(),
+            SCRIPT,
+            "labview: line 2: this is a script; table reads a report: labrun < script | labview table\n",
+            1,
+        ),
+        (
+            ["labview", "picture"].as_slice(),
+            "lab 1\nscale\n",
+            "labview: line 2: not a line of a report\n",
+            1,
+        ),
+        (
+            ["labview", "gantt", "9"].as_slice(),
+            REPORT,
+            "labview: line 2: this is a report; gantt reads a script\n",
+            1,
+        ),
+        (
+            ["labview", "explain"].as_slice(),
+            REPORT,
+            "labview: line 2: this is a report; explain reads a script\n",
+            1,
+        ),
+        (
+            ["labview", "waits", "9"].as_slice(),
+            "",
+            "labview: line 1: S1 no lab header\n",
+            1,
+        ),
+    ] {
+        ends(&rt, labview(rt.alloc(), words, input), "", errors, status);
     }
+    let told = labview(rt.alloc(), &["labview", "table"], "lab 1\nfinished\n");
+    ends(&rt, told, table, "", 0);
 }
 
 /// What was printed, on standard output and on standard error, and the status.
@@ -299,33 +267,26 @@ fn ends_of_views(rt: HostRuntime) {
 }
 
 /// What is said of an order's gain; of PATIENT and GIVES_UP `measured` says how they were reckoned.
-const ARRANGED: [Line; 3] = [
-    (
-        &["labview", "arrange", "100"],
-        PATIENT,
-        GIVES_UP,
-        "labview: rounds 9, now 5; waited 5, now 2\n",
-        0,
-    ),
-    (
-        &["labview", "arrange", "4"],
-        PATIENT,
-        GIVES_UP,
-        "labview: rounds 4 unfinished, now 4 unfinished; waited 4, now 2\n",
-        0,
-    ),
-    (
-        &["labview", "arrange", "9"],
-        REPORT,
-        "",
-        "labview: line 2: this is a report; arrange reads a script\n",
-        1,
-    ),
-];
-
 #[test]
 fn command_lines_that_arrange(rt: HostRuntime) {
-    for &(words, input, out, errors, status) in &ARRANGED {
-        ends(&rt, labview(rt.alloc(), words, input), out, errors, status);
+    for (limit, input, out, said) in [
+        (
+            "100",
+            PATIENT,
+            GIVES_UP,
+            "labview: rounds 9, now 5; waited 5, now 2\n",
+        ),
+        (
+            "4",
+            PATIENT,
+            GIVES_UP,
+            "labview: rounds 4 unfinished, now 4 unfinished; waited 4, now 2\n",
+        ),
+    ] {
+        let told = labview(rt.alloc(), &["labview", "arrange", limit], input);
+        ends(&rt, told, out, said, 0);
     }
+    let refused = "labview: line 2: this is a report; arrange reads a script\n";
+    let told = labview(rt.alloc(), &["labview", "arrange", "9"], REPORT);
+    ends(&rt, told, "", refused, 1);
 }

@@ -144,33 +144,17 @@ y read
 end
 ";
 
-/// Whether a run ended, its rounds, and how long was waited in it.
-type Numbers = (bool, u32, u128);
-
-fn measure_of(numbers: Numbers) -> Measure {
-    let (finished, rounds, waited) = numbers;
-    Measure {
-        finished,
-        rounds,
-        waited,
-    }
-}
-
-/// Scripts, the most rounds of a run, and what goes out; and the measures of both.
-const BEST: [(&str, u32, &str, Numbers, Numbers); 7] = [
-    (ALIKE, 100, ALIKE, (true, 9, 5), (true, 9, 5)),
-    (PATIENT, 100, GIVES_UP, (true, 9, 5), (true, 5, 2)),
-    (PATIENT, 4, GIVES_UP, (false, 4, 4), (false, 4, 2)),
-    (PATIENT, 0, PATIENT, (false, 0, 0), (false, 0, 0)),
-    (GIVES_UP, 100, GIVES_UP, (true, 5, 2), (true, 5, 2)),
-    (FOUR, 1000, FOUR_BEST, (true, 29, 50), (true, 24, 34)),
-    ("lab 1\n", 5, "lab 1\n", (true, 0, 0), (true, 0, 0)),
-];
-
 #[test]
 fn best_orders_by_hand(rt: HostRuntime) {
-    for &(script, limit, wanted, before, after) in &BEST {
-        let (before, after) = (measure_of(before), measure_of(after));
+    for (script, limit, wanted, before, after) in [
+        (ALIKE, 100, ALIKE, finished(9, 5), finished(9, 5)),
+        (PATIENT, 100, GIVES_UP, finished(9, 5), finished(5, 2)),
+        (PATIENT, 4, GIVES_UP, unfinished(4, 4), unfinished(4, 2)),
+        (PATIENT, 0, PATIENT, unfinished(0, 0), unfinished(0, 0)),
+        (GIVES_UP, 100, GIVES_UP, finished(5, 2), finished(5, 2)),
+        (FOUR, 1000, FOUR_BEST, finished(29, 50), finished(24, 34)),
+        ("lab 1\n", 5, "lab 1\n", finished(0, 0), finished(0, 0)),
+    ] {
         let (text, answer, gain) = told(rt.alloc(), script, limit);
         assert!(rt;
             answer == Ok(Outcome::Finished) && text.as_slice() == wanted.as_bytes(),

@@ -2,11 +2,10 @@
 use lab_program::FromRead;
 use lab_views::{PictureFault, run_picture, status_of_picture};
 use report::ToWrite;
-use report_reader::{Report, read_report};
-use std::alloc::{Allocator, Global};
-use std::process::Abort;
+use report_reader::read_report;
+use std::alloc::Global;
 use std::test::Fail;
-use timeline::{Span, Timeline, span_of, timeline_of};
+use timeline::{Span, span_of, timeline_of};
 
 /// b stands right of a by the scale, and c right of b by the lamp; b has three columns by the lamp. The second session of a stands
 /// right of its first, which has two columns, though no log has both.
@@ -30,41 +29,6 @@ job d sessions 1 of 1 meals 1 retired
 finished
 ";
 
-/// An instrument and an entry of its log, and the columns of the entry's session: the first, and how many.
-type Columns = (usize, usize, u32, u32);
-
-const COLUMNS: [Columns; 7] = [
-    (0, 0, 0, 2),
-    (0, 1, 0, 2),
-    (0, 2, 2, 3),
-    (1, 0, 2, 3),
-    (1, 3, 5, 1),
-    (2, 0, 0, 1),
-    (2, 1, 2, 1),
-];
-
-fn has_columns<A: Allocator>(
-    rt: &impl Abort,
-    report: &Report<'_, A>,
-    timeline: &Timeline<A>,
-    wanted: Columns,
-) {
-    let (instrument, place, start, width) = wanted;
-    let logs = report.logs();
-    assert!(rt; instrument < logs.len());
-    let entries = logs[instrument].entries();
-    assert!(rt; place < entries.len());
-    let span = span_of(report.jobs(), timeline.spans(), &entries[place]);
-    assert!(rt; span == Some(Span { start, width }), "{instrument} {place}");
-}
-
-fn have_columns<A: Allocator>(rt: &impl Abort, report: &Report<'_, A>, timeline: &Timeline<A>) {
-    assert!(rt; timeline.columns() == 6);
-    for &wanted in &COLUMNS {
-        has_columns(rt, report, timeline, wanted);
-    }
-}
-
 #[test]
 fn sessions_have_columns(rt: HostRuntime) {
     let Ok(report) = read_report(rt.alloc(), THREE.as_bytes()) else {
@@ -73,7 +37,25 @@ fn sessions_have_columns(rt: HostRuntime) {
     let Ok(timeline) = timeline_of(rt.alloc(), &report) else {
         panic!(rt; "no timeline");
     };
-    have_columns(&rt, &report, &timeline);
+    assert!(rt; timeline.columns() == 6);
+    // instrument, entry, start, width
+    let wanted = [
+        (0usize, 0usize, 0, 2),
+        (0, 1, 0, 2),
+        (0, 2, 2, 3),
+        (1, 0, 2, 3),
+        (1, 3, 5, 1),
+        (2, 0, 0, 1),
+        (2, 1, 2, 1),
+    ];
+    for (instrument, place, start, width) in wanted {
+        let logs = report.logs();
+        assert!(rt; instrument < logs.len());
+        let entries = logs[instrument].entries();
+        assert!(rt; place < entries.len());
+        let span = span_of(report.jobs(), timeline.spans(), &entries[place]);
+        assert!(rt; span == Some(Span { start, width }), "{instrument} {place}");
+    }
 }
 
 const REPORT: &str = "lab 1
@@ -120,46 +102,44 @@ fn draws_by_its_bytes(rt: HostRuntime) {
     assert!(rt; answer == Ok(()) && bytes.as_slice() == PICTURE.as_bytes());
 }
 
-/// Reports, and what is said of each.
-const FAULTS: [(&str, &str); 9] = [
-    ("lab 1\n", "line 2: report not whole"),
-    (
-        "lab 1\ninstrument x 1\na 1 1/1 read = 0\nfinished\n",
-        "instrument 1, entry 1: its job has no job line",
-    ),
-    (
-        "lab 1\njob a sessions 0 of 0 meals 0 retired\njob a sessions 0 of 0 meals 0 retired\nfinished\n",
-        "job line 2: a job of this name stands before it",
-    ),
-    (
-        "lab 1\ninstrument x 1\na 1001 1/1 read = 0\njob a sessions 0 of 0 meals 0 retired\nfinished\n",
-        "instrument 1, entry 1: more sessions or commands than a lab has",
-    ),
-    (
-        "lab 1\ninstrument x 1\na 1 2/1 read = 0\njob a sessions 0 of 0 meals 0 retired\nfinished\n",
-        "instrument 1, entry 1: no such session or place",
-    ),
-    (
-        "lab 1\ninstrument x 2\na 1 1/2 read = 0\na 1 1/2 read = 0\njob a sessions 0 of 0 meals 0 retired\nfinished\n",
-        "instrument 1, entry 2: it doesn't follow the entry before it",
-    ),
-    (
-        "lab 1\ninstrument x 3\na 1 1/2 read = 0\na 2 1/1 read = 0\na 1 2/2 read = 0\njob a sessions 0 of 0 meals 0 retired\nfinished\n",
-        "instrument 1, entry 3: its session stands in two places of the log",
-    ),
-    (
-        "lab 1\ninstrument x 2\na 1 1/1 read = 0\na 2 1/1 read = 0\ninstrument y 2\na 2 1/1 read = 0\na 1 1/1 read = 0\njob a sessions 0 of 0 meals 0 retired\nfinished\n",
-        "the logs contradict each other: no order of the sessions agrees with all of them",
-    ),
-    (
-        "lab 1\ninstrument x 2\na 2 1/1 read = 0\nb 1 1/1 read = 0\ninstrument y 2\nb 1 1/1 read = 0\na 1 1/1 read = 0\njob a sessions 0 of 0 meals 0 retired\njob b sessions 0 of 0 meals 0 retired\nfinished\n",
-        "the logs contradict each other: no order of the sessions agrees with all of them",
-    ),
-];
-
 #[test]
 fn faults_of_reports(rt: HostRuntime) -> Result<(), Fail> {
-    for (i, &(text, wanted)) in FAULTS.iter().enumerate() {
+    let texts = [
+        ("lab 1\n", "line 2: report not whole"),
+        (
+            "lab 1\ninstrument x 1\na 1 1/1 read = 0\nfinished\n",
+            "instrument 1, entry 1: its job has no job line",
+        ),
+        (
+            "lab 1\njob a sessions 0 of 0 meals 0 retired\njob a sessions 0 of 0 meals 0 retired\nfinished\n",
+            "job line 2: a job of this name stands before it",
+        ),
+        (
+            "lab 1\ninstrument x 1\na 1001 1/1 read = 0\njob a sessions 0 of 0 meals 0 retired\nfinished\n",
+            "instrument 1, entry 1: more sessions or commands than a lab has",
+        ),
+        (
+            "lab 1\ninstrument x 1\na 1 2/1 read = 0\njob a sessions 0 of 0 meals 0 retired\nfinished\n",
+            "instrument 1, entry 1: no such session or place",
+        ),
+        (
+            "lab 1\ninstrument x 2\na 1 1/2 read = 0\na 1 1/2 read = 0\njob a sessions 0 of 0 meals 0 retired\nfinished\n",
+            "instrument 1, entry 2: it doesn't follow the entry before it",
+        ),
+        (
+            "lab 1\ninstrument x 3\na 1 1/2 read = 0\na 2 1/1 read = 0\na 1 2/2 read = 0\njob a sessions 0 of 0 meals 0 retired\nfinished\n",
+            "instrument 1, entry 3: its session stands in two places of the log",
+        ),
+        (
+            "lab 1\ninstrument x 2\na 1 1/1 read = 0\na 2 1/1 read = 0\ninstrument y 2\na 2 1/1 read = 0\na 1 1/1 read = 0\njob a sessions 0 of 0 meals 0 retired\nfinished\n",
+            "the logs contradict each other: no order of the sessions agrees with all of them",
+        ),
+        (
+            "lab 1\ninstrument x 2\na 2 1/1 read = 0\nb 1 1/1 read = 0\ninstrument y 2\nb 1 1/1 read = 0\na 1 1/1 read = 0\njob a sessions 0 of 0 meals 0 retired\njob b sessions 0 of 0 meals 0 retired\nfinished\n",
+            "the logs contradict each other: no order of the sessions agrees with all of them",
+        ),
+    ];
+    for (i, (text, wanted)) in texts.into_iter().enumerate() {
         let (bytes, answer) = drawn(rt.alloc(), text.as_bytes());
         assert!(rt;
             bytes.is_empty() && status_of_picture(&answer) == 1,

@@ -34,150 +34,101 @@ fn report_of<'a, A: Allocator + Copy>(rt: &impl Abort, alloc: A, text: &'a [u8])
     }
 }
 
-/// An entry: its job, its session, place, length and value, and its verb.
-type EntryRow = (&'static [u8], [u32; 4], Verb);
-
-fn is_entry(entry: &EntryLine, wanted: &EntryRow) -> bool {
-    entry.job == wanted.0
-        && [entry.session, entry.place, entry.length, entry.value] == wanted.1
-        && entry.verb == wanted.2
+fn is_entry(entry: &EntryLine, job: &[u8], numbers: [u32; 4], verb: Verb) -> bool {
+    entry.job == job
+        && [entry.session, entry.place, entry.length, entry.value] == numbers
+        && entry.verb == verb
 }
 
-fn are_entries(entries: &[EntryLine], wanted: &[EntryRow]) -> bool {
-    for (entry, row) in entries.iter().zip(wanted) {
-        if !is_entry(entry, row) {
-            return false;
-        }
-    }
-    entries.len() == wanted.len()
+fn is_job(line: &JobLine, name: &[u8], numbers: [u32; 3], withdrawn: Option<u32>) -> bool {
+    line.name == name
+        && [line.done, line.sessions, line.meals] == numbers
+        && line.withdrawn == withdrawn
 }
-
-/// A log: its name, and its entries.
-type LogRow = (&'static [u8], &'static [EntryRow]);
-
-fn have_logs<A: Allocator>(rt: &impl Abort, report: &Report<'_, A>, wanted: &[LogRow]) {
-    assert!(rt; report.logs().len() == wanted.len());
-    for (log, (name, entries)) in report.logs().iter().zip(wanted) {
-        assert!(rt; log.name() == *name && are_entries(log.entries(), entries));
-    }
-}
-
-/// A job: its name, how many sessions it has done and has, and its meals, how many it has given up, and whether it is retired.
-type JobRow = (&'static [u8], [u32; 3], Option<u32>, bool);
-
-fn is_job(line: &JobLine, wanted: &JobRow) -> bool {
-    line.name == wanted.0
-        && [line.done, line.sessions, line.meals] == wanted.1
-        && line.withdrawn == wanted.2
-        && line.is_retired == wanted.3
-}
-
-fn have_jobs<A: Allocator>(rt: &impl Abort, report: &Report<'_, A>, wanted: &[JobRow]) {
-    assert!(rt; report.jobs().len() == wanted.len());
-    for (line, row) in report.jobs().iter().zip(wanted) {
-        assert!(rt; is_job(line, row));
-    }
-}
-
-/// A report has this version and end, these logs and these jobs.
-fn check_report<A: Allocator>(
-    rt: &impl Abort,
-    report: &Report<'_, A>,
-    version_and_end: (u8, bool),
-    logs: &[LogRow],
-    jobs: &[JobRow],
-) {
-    assert!(rt; (report.version(), report.is_finished()) == version_and_end);
-    have_logs(rt, report, logs);
-    have_jobs(rt, report, jobs);
-}
-
-const LOGS_OF_ONE: [LogRow; 3] = [
-    (
-        b"scale",
-        &[
-            (b"a", [1, 1, 1, 1], Verb::Add(1)),
-            (b"b-2", [1, 1, 2, 999_999], Verb::Set(999_999)),
-        ],
-    ),
-    (b"lamp", &[]),
-    (b"instrument", &[(b"a", [1, 1, 1, 0], Verb::Read)]),
-];
-
-const JOBS_OF_ONE: [JobRow; 2] = [
-    (b"a", [1, 1, 0], None, true),
-    (b"b-2", [0, 1, u32::MAX], None, false),
-];
 
 #[test]
 fn report_of_version_one(rt: HostRuntime) {
     let report = report_of(&rt, rt.alloc(), ONE);
-    check_report(&rt, &report, (1, false), &LOGS_OF_ONE, &JOBS_OF_ONE);
+    assert!(rt; report.version() == 1 && !report.is_finished());
+    let logs = report.logs();
+    assert!(rt; logs.len() == 3 && report.jobs().len() == 2);
+    assert!(rt; logs[0].name() == b"scale".as_slice() && logs[0].entries().len() == 2);
+    assert!(rt; is_entry(&logs[0].entries()[0], b"a", [1, 1, 1, 1], Verb::Add(1)));
+    assert!(rt;
+        is_entry(
+            &logs[0].entries()[1],
+            b"b-2",
+            [1, 1, 2, 999_999],
+            Verb::Set(999_999)
+        )
+    );
+    assert!(rt; logs[1].name() == b"lamp".as_slice() && logs[1].entries().is_empty());
+    assert!(rt; logs[2].name() == b"instrument".as_slice() && logs[2].entries().len() == 1);
+    assert!(rt; is_entry(&logs[2].entries()[0], b"a", [1, 1, 1, 0], Verb::Read));
+    let jobs = report.jobs();
+    assert!(rt; is_job(&jobs[0], b"a", [1, 1, 0], None) && jobs[0].is_retired);
+    assert!(rt; is_job(&jobs[1], b"b-2", [0, 1, u32::MAX], None) && !jobs[1].is_retired);
 }
-
-const LOGS_OF_TWO: [LogRow; 1] = [(b"scale", &[(b"a", [1, 1, 1, 1], Verb::Add(1))])];
-
-const JOBS_OF_TWO: [JobRow; 2] = [
-    (b"a", [1, 1, 0], Some(0), true),
-    (b"b", [0, 1, 0], Some(1), true),
-];
 
 #[test]
 fn report_of_version_two(rt: HostRuntime) {
     let report = report_of(&rt, rt.alloc(), TWO);
-    check_report(&rt, &report, (2, true), &LOGS_OF_TWO, &JOBS_OF_TWO);
+    assert!(rt; report.version() == 2 && report.is_finished());
+    let jobs = report.jobs();
+    assert!(rt; report.logs().len() == 1 && jobs.len() == 2);
+    assert!(rt; is_job(&jobs[0], b"a", [1, 1, 0], Some(0)));
+    assert!(rt; is_job(&jobs[1], b"b", [0, 1, 0], Some(1)) && jobs[1].is_retired);
 }
-
-const FAULTS: [(&str, usize, ReportCause); 24] = [
-    ("", 1, NotWhole),
-    ("\n", 1, UnknownLine),
-    ("lab 1", 1, NotWhole),
-    ("lab 1\n", 2, NotWhole),
-    ("lab 1\nfinished", 2, NotWhole),
-    ("lab 1\nfinished\n\n", 3, UnknownLine),
-    ("lab 3\nfinished\n", 1, UnknownLine),
-    ("lab 1\r\nfinished\r\n", 1, UnknownLine),
-    ("lab  1\nfinished\n", 1, UnknownLine),
-    ("lab 1 \nfinished\n", 1, UnknownLine),
-    ("finished\n", 1, OutOfPlace),
-    ("lab 1\nlab 1\nfinished\n", 2, OutOfPlace),
-    ("lab 1\nfinished\nfinished\n", 3, OutOfPlace),
-    ("lab 1\ninstrument a 1\nfinished\n", 3, OutOfPlace),
-    ("lab 1\na 1 1/1 read = 0\nfinished\n", 2, OutOfPlace),
-    (
-        "lab 1\ninstrument a 1\na 1 1/1 read = 0\na 1 1/1 read = 0\n",
-        4,
-        OutOfPlace,
-    ),
-    ("lab 1\ninstrument a 01\n", 2, UnknownLine),
-    ("lab 1\ninstrument A 1\n", 2, UnknownLine),
-    ("lab 1\ninstrument a 4294967296\n", 2, UnknownLine),
-    ("lab 1\ninstrument a 1\na 1 1-1 read = 0\n", 3, UnknownLine),
-    (
-        "lab 1\njob a sessions 0 of 0 meals 0 retired\ninstrument a 0\n",
-        3,
-        OutOfPlace,
-    ),
-    (
-        "lab 2\njob a sessions 0 of 0 meals 0 retired\nfinished\n",
-        2,
-        OtherVersion,
-    ),
-    (
-        "lab 1\njob a sessions 0 of 0 withdrawn 0 meals 0 retired\n",
-        2,
-        OtherVersion,
-    ),
-    (
-        "lab 1\njob a sessions 0 of 1 meals 0 waiting\nfinished\n",
-        3,
-        WrongEnd,
-    ),
-];
 
 #[test]
 fn faults_of_reports(rt: HostRuntime) {
-    for &(text, line, cause) in &FAULTS {
+    let texts: [(&str, usize, ReportCause); 24] = [
+        ("", 1, NotWhole),
+        ("\n", 1, UnknownLine),
+        ("lab 1", 1, NotWhole),
+        ("lab 1\n", 2, NotWhole),
+        ("lab 1\nfinished", 2, NotWhole),
+        ("lab 1\nfinished\n\n", 3, UnknownLine),
+        ("lab 3\nfinished\n", 1, UnknownLine),
+        ("lab 1\r\nfinished\r\n", 1, UnknownLine),
+        ("lab  1\nfinished\n", 1, UnknownLine),
+        ("lab 1 \nfinished\n", 1, UnknownLine),
+        ("finished\n", 1, OutOfPlace),
+        ("lab 1\nlab 1\nfinished\n", 2, OutOfPlace),
+        ("lab 1\nfinished\nfinished\n", 3, OutOfPlace),
+        ("lab 1\ninstrument a 1\nfinished\n", 3, OutOfPlace),
+        ("lab 1\na 1 1/1 read = 0\nfinished\n", 2, OutOfPlace),
+        (
+            "lab 1\ninstrument a 1\na 1 1/1 read = 0\na 1 1/1 read = 0\n",
+            4,
+            OutOfPlace,
+        ),
+        ("lab 1\ninstrument a 01\n", 2, UnknownLine),
+        ("lab 1\ninstrument A 1\n", 2, UnknownLine),
+        ("lab 1\ninstrument a 4294967296\n", 2, UnknownLine),
+        ("lab 1\ninstrument a 1\na 1 1-1 read = 0\n", 3, UnknownLine),
+        (
+            "lab 1\njob a sessions 0 of 0 meals 0 retired\ninstrument a 0\n",
+            3,
+            OutOfPlace,
+        ),
+        (
+            "lab 2\njob a sessions 0 of 0 meals 0 retired\nfinished\n",
+            2,
+            OtherVersion,
+        ),
+        (
+            "lab 1\njob a sessions 0 of 0 withdrawn 0 meals 0 retired\n",
+            2,
+            OtherVersion,
+        ),
+        (
+            "lab 1\njob a sessions 0 of 1 meals 0 waiting\nfinished\n",
+            3,
+            WrongEnd,
+        ),
+    ];
+    for (text, line, cause) in texts {
         match read_report(rt.alloc(), text.as_bytes()) {
             Ok(_) => panic!(rt; "read"),
             Err(fault) => assert!(rt; fault == ReportFault { line, cause }, "{text}"),

@@ -21,129 +21,127 @@ fn is_help(answer: &Result<Task, NoTask>, wanted: &str) -> bool {
     }
 }
 
-const ROUNDS_10000: Option<Task> = Some(Task::Rounds { limit: 10_000 });
+fn rounds(limit: u32) -> Option<Task> {
+    Some(Task::Rounds { limit })
+}
 
-const ROUNDS_0: Option<Task> = Some(Task::Rounds { limit: 0 });
-
-const ROUNDS_7: Option<Task> = Some(Task::Rounds { limit: 7 });
-
-const ROUNDS_MOST: Option<Task> = Some(Task::Rounds {
-    limit: 1_000_000_000,
-});
-
-const THREADS_1_0: Option<Task> = Some(Task::Threads {
-    workers: 1,
-    turns: 0,
-});
-
-const THREADS_MOST: Option<Task> = Some(Task::Threads {
-    workers: 32,
-    turns: 1_000_000_000,
-});
-
-const THREADS_32_10: Option<Task> = Some(Task::Threads {
-    workers: 32,
-    turns: 10,
-});
-
-const THREADS_2_7: Option<Task> = Some(Task::Threads {
-    workers: 2,
-    turns: 7,
-});
-
-/// The words of a command line, and the task that they ask for; without one they are refused.
-type Line = (&'static [&'static str], Option<Task>);
-
-const LINES: [Line; 81] = [
-    (&["labrun", "replay"], Some(Task::Replay)),
-    (&["./labrun", "check"], Some(Task::Check)),
-    (&["", "upgrade"], Some(Task::Upgrade)),
-    (&[], ROUNDS_10000),
-    (&["labrun"], ROUNDS_10000),
-    (&["labrun", "--"], ROUNDS_10000),
-    (&["labrun", "rounds", "0"], ROUNDS_0),
-    (&["labrun", "rounds", "7"], ROUNDS_7),
-    (&["labrun", "rounds", "007"], ROUNDS_7),
-    (&["", "rounds", "1000000000"], ROUNDS_MOST),
-    (&["labrun", "rounds", "00000000001000000000"], ROUNDS_MOST),
-    (&["labrun", "threads", "1", "0"], THREADS_1_0),
-    (&["labrun", "threads", "32", "1000000000"], THREADS_MOST),
-    (
-        &["labrun", "threads", "0000000000000000000032", "010"],
-        THREADS_32_10,
-    ),
-    (&["labrun", "rounds"], None),
-    (&["labrun", "rounds", ""], None),
-    (&["labrun", "rounds", "+7"], ROUNDS_7),
-    (&["labrun", "rounds", "+007"], ROUNDS_7),
-    (&["labrun", "rounds", "--", "7"], ROUNDS_7),
-    (&["labrun", "rounds", "7", "--"], ROUNDS_7),
-    (&["labrun", "threads", "--", "2", "7"], THREADS_2_7),
-    (&["labrun", "threads", "2", "--", "7"], THREADS_2_7),
-    (&["labrun", "threads", "2", "7", "--"], THREADS_2_7),
-    (&["labrun", "threads", "+2", "7"], THREADS_2_7),
-    (&["labrun", "replay", "--"], Some(Task::Replay)),
-    (&["labrun", "check", "--"], Some(Task::Check)),
-    (&["labrun", "rounds", "++7"], None),
-    (&["labrun", "rounds", "+"], None),
-    (&["labrun", "rounds", "+-7"], None),
-    (&["labrun", "rounds", "-"], None),
-    (&["labrun", "rounds", "--"], None),
-    (&["labrun", "rounds", "--", "--", "7"], None),
-    (&["labrun", "rounds", "--", "-7"], None),
-    (&["labrun", "rounds", "7", "--", "7"], None),
-    (&["labrun", "rounds", "--", "7", "--"], None),
-    (&["labrun", "threads", "2", "--"], None),
-    (&["labrun", "replay", "--", "x"], None),
-    (&["labrun", "replay", "--", "--"], None),
-    (&["labrun", "--", "rounds", "7"], None),
-    (&["labrun", "--", "--"], None),
-    (&["labrun", "rounds", "-x"], None),
-    (&["labrun", "rounds", "--rounds", "7"], None),
-    (&["labrun", "rounds", "-0"], None),
-    (&["labrun", "rounds", "7 "], None),
-    (&["labrun", "rounds", " 7"], None),
-    (&["labrun", "rounds", "1_0"], None),
-    (&["labrun", "rounds", "0x7"], None),
-    (&["labrun", "rounds", "7.0"], None),
-    (&["labrun", "rounds", "seven"], None),
-    (&["labrun", "rounds", "1000000001"], None),
-    (&["labrun", "rounds", "4294967296"], None),
-    (&["labrun", "rounds", "18446744073709551616"], None),
-    (&["labrun", "rounds", "99999999999999999999999999"], None),
-    (&["labrun", "Rounds", "7"], None),
-    (&["labrun", "round", "7"], None),
-    (&["labrun", "rounds", "7", "7"], None),
-    (&["labrun", "rounds=7"], None),
-    (&["labrun", "7"], None),
-    (&["labrun", "threads"], None),
-    (&["labrun", "threads", "2"], None),
-    (&["labrun", "threads", "0", "7"], None),
-    (&["labrun", "threads", "33", "7"], None),
-    (&["labrun", "threads", "2", "1000000001"], None),
-    (&["labrun", "threads", "2", "-7"], None),
-    (&["labrun", "threads", "2", "7", "7"], None),
-    (&["labrun", "thread", "2", "7"], None),
-    (&["labrun", ""], None),
-    (&["labrun", "repla"], None),
-    (&["labrun", "Replay"], None),
-    (&["labrun", "replay", "x"], None),
-    (&["labrun", "--", "replay"], None),
-    (&["labrun", "check", "upgrade"], None),
-    (&["labrun", "--hel"], None),
-    (&["labrun", "--help=x"], None),
-    (&["labrun", "rounds", "x", "--help"], None),
-    (&["labrun", "rounds", "--", "--help"], None),
-    (&["labrun", "x", "--help"], None),
-    (&["labrun", "replay", "--version"], None),
-    (&["labrun", "-V"], None),
-    (&["labrun", "--version"], None),
-    (&["labrun", "help"], None),
-];
+fn threads(workers: u32, turns: u32) -> Option<Task> {
+    Some(Task::Threads { workers, turns })
+}
 
 #[test]
 fn words(rt: HostRuntime) {
-    for (i, &(words, want)) in LINES.iter().enumerate() {
+    let lines = [
+        (["labrun", "replay"].as_slice(), Some(Task::Replay)),
+        (["./labrun", "check"].as_slice(), Some(Task::Check)),
+        (["", "upgrade"].as_slice(), Some(Task::Upgrade)),
+        ([].as_slice(), rounds(10_000)),
+        (["labrun"].as_slice(), rounds(10_000)),
+        (["labrun", "--"].as_slice(), rounds(10_000)),
+        (["labrun", "rounds", "0"].as_slice(), rounds(0)),
+        (["labrun", "rounds", "7"].as_slice(), rounds(7)),
+        (["labrun", "rounds", "007"].as_slice(), rounds(7)),
+        (
+            ["", "rounds", "1000000000"].as_slice(),
+            rounds(1_000_000_000),
+        ),
+        (
+            ["labrun", "rounds", "00000000001000000000"].as_slice(),
+            rounds(1_000_000_000),
+        ),
+        (["labrun", "threads", "1", "0"].as_slice(), threads(1, 0)),
+        (
+            ["labrun", "threads", "32", "1000000000"].as_slice(),
+            threads(32, 1_000_000_000),
+        ),
+        (
+            ["labrun", "threads", "0000000000000000000032", "010"].as_slice(),
+            threads(32, 10),
+        ),
+        (["labrun", "rounds"].as_slice(), None),
+        (["labrun", "rounds", ""].as_slice(), None),
+        (["labrun", "rounds", "+7"].as_slice(), rounds(7)),
+        (["labrun", "rounds", "+007"].as_slice(), rounds(7)),
+        (["labrun", "rounds", "--", "7"].as_slice(), rounds(7)),
+        (["labrun", "rounds", "7", "--"].as_slice(), rounds(7)),
+        (
+            ["labrun", "threads", "--", "2", "7"].as_slice(),
+            threads(2, 7),
+        ),
+        (
+            ["labrun", "threads", "2", "--", "7"].as_slice(),
+            threads(2, 7),
+        ),
+        (
+            ["labrun", "threads", "2", "7", "--"].as_slice(),
+            threads(2, 7),
+        ),
+        (["labrun", "threads", "+2", "7"].as_slice(), threads(2, 7)),
+        (["labrun", "replay", "--"].as_slice(), Some(Task::Replay)),
+        (["labrun", "check", "--"].as_slice(), Some(Task::Check)),
+        (["labrun", "rounds", "++7"].as_slice(), None),
+        (["labrun", "rounds", "+"].as_slice(), None),
+        (["labrun", "rounds", "+-7"].as_slice(), None),
+        (["labrun", "rounds", "-"].as_slice(), None),
+        (["labrun", "rounds", "--"].as_slice(), None),
+        (["labrun", "rounds", "--", "--", "7"].as_slice(), None),
+        (["labrun", "rounds", "--", "-7"].as_slice(), None),
+        (["labrun", "rounds", "7", "--", "7"].as_slice(), None),
+        (["labrun", "rounds", "--", "7", "--"].as_slice(), None),
+        (["labrun", "threads", "2", "--"].as_slice(), None),
+        (["labrun", "replay", "--", "x"].as_slice(), None),
+        (["labrun", "replay", "--", "--"].as_slice(), None),
+        (["labrun", "--", "rounds", "7"].as_slice(), None),
+        (["labrun", "--", "--"].as_slice(), None),
+        (["labrun", "rounds", "-x"].as_slice(), None),
+        (["labrun", "rounds", "--rounds", "7"].as_slice(), None),
+        (["labrun", "rounds", "-0"].as_slice(), None),
+        (["labrun", "rounds", "7 "].as_slice(), None),
+        (["labrun", "rounds", " 7"].as_slice(), None),
+        (["labrun", "rounds", "1_0"].as_slice(), None),
+        (["labrun", "rounds", "0x7"].as_slice(), None),
+        (["labrun", "rounds", "7.0"].as_slice(), None),
+        (["labrun", "rounds", "seven"].as_slice(), None),
+        (["labrun", "rounds", "1000000001"].as_slice(), None),
+        (["labrun", "rounds", "4294967296"].as_slice(), None),
+        (
+            ["labrun", "rounds", "18446744073709551616"].as_slice(),
+            None,
+        ),
+        (
+            ["labrun", "rounds", "99999999999999999999999999"].as_slice(),
+            None,
+        ),
+        (["labrun", "Rounds", "7"].as_slice(), None),
+        (["labrun", "round", "7"].as_slice(), None),
+        (["labrun", "rounds", "7", "7"].as_slice(), None),
+        (["labrun", "rounds=7"].as_slice(), None),
+        (["labrun", "7"].as_slice(), None),
+        (["labrun", "threads"].as_slice(), None),
+        (["labrun", "threads", "2"].as_slice(), None),
+        (["labrun", "threads", "0", "7"].as_slice(), None),
+        (["labrun", "threads", "33", "7"].as_slice(), None),
+        (["labrun", "threads", "2", "1000000001"].as_slice(), None),
+        (["labrun", "threads", "2", "-7"].as_slice(), None),
+        (["labrun", "threads", "2", "7", "7"].as_slice(), None),
+        (["labrun", "thread", "2", "7"].as_slice(), None),
+        (["labrun", ""].as_slice(), None),
+        (["labrun", "repla"].as_slice(), None),
+        (["labrun", "Replay"].as_slice(), None),
+        (["labrun", "replay", "x"].as_slice(), None),
+        (["labrun", "--", "replay"].as_slice(), None),
+        (["labrun", "check", "upgrade"].as_slice(), None),
+        (["labrun", "--hel"].as_slice(), None),
+        (["labrun", "--help=x"].as_slice(), None),
+        (["labrun", "rounds", "x", "--help"].as_slice(), None),
+        (["labrun", "rounds", "--", "--help"].as_slice(), None),
+        (["labrun", "x", "--help"].as_slice(), None),
+        (["labrun", "replay", "--version"].as_slice(), None),
+        (["labrun", "-V"].as_slice(), None),
+        (["labrun", "--version"].as_slice(), None),
+        (["labrun", "help"].as_slice(), None),
+    ];
+    for (i, (words, want)) in lines.into_iter().enumerate() {
         let answer = read_words(rt.alloc(), words);
         assert!(rt; is_told(&answer, want), "line {i}");
     }
@@ -200,61 +198,59 @@ Options:
   -h, --help  Print help
 ";
 
-/// Words that ask for help, and its text.
-const ASK_FOR_HELP: [(&[&str], &str); 8] = [
-    (&["labrun", "-h"], HELP),
-    (&["labrun", "--help", "replay"], HELP),
-    (&["labrun", "--help", "--help"], HELP),
-    (&["labrun", "-h", "x"], HELP),
-    (&["labrun", "threads", "--help"], THREADS_HELP),
-    (&["labrun", "threads", "-h"], THREADS_HELP),
-    (&["labrun", "threads", "2", "-h", "7"], THREADS_HELP),
-    (&["labrun", "threads", "2", "7", "--help"], THREADS_HELP),
-];
-
 /// Which lines ask for help, and for which.
 #[test]
 fn lines_that_ask_for_help(rt: HostRuntime) {
-    for &(words, wanted) in &ASK_FOR_HELP {
+    for (words, wanted) in [
+        (["labrun", "-h"].as_slice(), HELP),
+        (["labrun", "--help", "replay"].as_slice(), HELP),
+        (["labrun", "--help", "--help"].as_slice(), HELP),
+        (["labrun", "-h", "x"].as_slice(), HELP),
+        (["labrun", "threads", "--help"].as_slice(), THREADS_HELP),
+        (["labrun", "threads", "-h"].as_slice(), THREADS_HELP),
+        (
+            ["labrun", "threads", "2", "-h", "7"].as_slice(),
+            THREADS_HELP,
+        ),
+        (
+            ["labrun", "threads", "2", "7", "--help"].as_slice(),
+            THREADS_HELP,
+        ),
+    ] {
         let answer = read_words(rt.alloc(), words);
         assert!(rt; is_help(&answer, wanted));
     }
 }
 
-const NO_HEADER: ScriptFault = ScriptFault {
-    line: 1,
-    cause: ScriptCause::NoHeader,
-};
-
-const OUT_OF_MEMORY: ScriptFault = ScriptFault {
-    line: 603,
-    cause: ScriptCause::NoMemory,
-};
-
-const NO_STEP: ScriptFault = ScriptFault {
-    line: 9,
-    cause: ScriptCause::BadStep,
-};
-
-/// Faults of runs, the status of each, and its text.
-const FAULTS: [(RunFault, u8, &str); 8] = [
-    (RunFault::Script(NO_HEADER), 1, "line 1: S1 no lab header"),
-    (
-        RunFault::Script(OUT_OF_MEMORY),
-        5,
-        "line 603: S12 no memory",
-    ),
-    (RunFault::Script(NO_STEP), 1, "line 9: S13 bad step"),
-    (RunFault::Step { line: 13 }, 1, "line 13: step is not legal"),
-    (RunFault::Read, 4, "read fault"),
-    (RunFault::TooLong, 4, "input longer than 16777216 bytes"),
-    (RunFault::Write, 4, "write fault"),
-    (RunFault::NoMemory, 5, "no memory"),
-];
+fn script_fault(line: usize, cause: ScriptCause) -> RunFault {
+    RunFault::Script(ScriptFault { line, cause })
+}
 
 #[test]
 fn faults(rt: HostRuntime) -> Result<(), Fail> {
-    for &(fault, status, text) in &FAULTS {
+    let faults = [
+        (
+            script_fault(1, ScriptCause::NoHeader),
+            1,
+            "line 1: S1 no lab header",
+        ),
+        (
+            script_fault(603, ScriptCause::NoMemory),
+            5,
+            "line 603: S12 no memory",
+        ),
+        (
+            script_fault(9, ScriptCause::BadStep),
+            1,
+            "line 9: S13 bad step",
+        ),
+        (RunFault::Step { line: 13 }, 1, "line 13: step is not legal"),
+        (RunFault::Read, 4, "read fault"),
+        (RunFault::TooLong, 4, "input longer than 16777216 bytes"),
+        (RunFault::Write, 4, "write fault"),
+        (RunFault::NoMemory, 5, "no memory"),
+    ];
+    for (fault, status, text) in faults {
         let printed = format!(in rt.alloc(); "{fault}")?;
         assert!(rt; printed.as_str() == text, "{text}");
         assert!(rt; status_of(&Err(fault)) == status, "{text}");
