@@ -1,2 +1,4 @@
 pub mod Arranged
 pub mod Cut
+pub mod Lines
+pub mod OneCut

@@ -8,18 +8,19 @@ use Rattle.arranging.specs.Colours.{ColouringView, IsColouring, IsGreedy, in_ord
 use Rattle.arranging.specs.Chains.{IsChain}
 use Rattle.arranging.specs.Reordered.{IsArrangement}
 use Rattle.script_reader.specs.Script.{ScriptMeans}
+use Rattle.arranged_scripts.specs.Blocks.{IsCut}
 
 -- the text, with a line end added if its last line has none
 unfoldable pub with_line_end : List ℕ → List ℕ
 with_line_end text = if ends_with_byte 10 text then text else text ++ 10 ∷ []
 
--- a text is cut into a head and a block for each job; the other has the same head, and behind it the same blocks in this order
+-- the lines of a text are a head and a block for each job; the other has the same head, and behind it the same blocks in this order
 pub record MovesBlocks (text : List ℕ) (order : List ℕ) (moved : List ℕ) : Type 0 where
-  pub head : List ℕ
-  pub blocks : List (List ℕ)
-  pub cut : text ≡ head ++ concat blocks
+  pub head : List (List ℕ)
+  pub blocks : List (List (List ℕ))
+  pub is_cut : IsCut text head blocks
   pub one_each : length blocks ≡ length order
-  pub joined : moved ≡ head ++ flat_map (λ job. slice_index_or blocks job []) order
+  pub joined : moved ≡ concat head ++ flat_map (λ job. concat (slice_index_or blocks job [])) order
 
 -- There are greedy colours of the plan's jobs, and the text is the input with the blocks of its jobs in the order of these colours. It is no
 -- longer than a run reads, and it is read as a plan that has the same jobs in that order, each with its own sessions, commands and patience
@@ -39,7 +40,7 @@ IsNoScript text = (plan : LabPlan) → ScriptMeans text plan → ⊥
 
 -- the blocks of the text aren't as many as the jobs
 abbrev pub HasOtherBlocks : List ℕ → ℕ → Type 0
-HasOtherBlocks text jobs = (head : List ℕ) × (blocks : List (List ℕ)) × (text ≡ head ++ concat blocks) × (length blocks ≢ jobs)
+HasOtherBlocks text jobs = (head : List (List ℕ)) × (blocks : List (List (List ℕ))) × IsCut text head blocks × (length blocks ≢ jobs)
 
 -- the text is longer than a run reads, or it isn't read as the jobs of the plan in the order of their colours
 abbrev pub IsUnfit : LabPlan → ColouringView → List ℕ → Type 0

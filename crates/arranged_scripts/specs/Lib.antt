@@ -1,1 +1,3 @@
 pub mod Arranged
+pub mod Blocks
+pub mod Cutting

@@ -1,81 +1,87 @@
 //! A script is cut into its head and a block of lines for each job. Comments directly above a job's line are the job's own.
-//! How it is cut is judged by what the pieces are read as, in another order.
-ghost use Rattle.std.specs.Prelude.{◌≡◌, ◌≤◌, ◌<◌, ◌++◌, ℕ, [], length, map, slice_index_or, OnOk, IfOk, MatchOption};
-ghost use Rattle.std.specs.List.{All, flat_map, concat};
+ghost use Rattle.std.specs.Prelude.{◌≡◌, ◌≤◌, ◌<◌, ◌++◌, [], length, map, drop, slice_index_or, IfOk, MatchOption};
+ghost use Rattle.std.specs.List.{All, flat_map, take_while};
 ghost use Rattle.std.specs.Io.BufRead.{ends_with_byte};
+ghost use Rattle.bstr.specs.Text.{lines_of};
+ghost use Rattle.script_reader.specs.Fields.{is_gap};
 ghost use Rattle.arranged_scripts.specs.Arranged.{with_line_end, HasOtherBlocks, MovesBlocks};
+ghost use Rattle.arranged_scripts.specs.Blocks.{is_comment, is_job_line, BeginWithJob};
+ghost use Rattle.arranged_scripts.specs.Cutting.{EndBefore, IsUpToJob, IsBehindJob, IsBlockLen, AreCutInto};
 
 use bstr::ByteSlice;
 use lab_plan::JobNo;
 use std::alloc::{AllocError, Allocator};
 
-/// How long the first line is, with its end.
-fn line_len(text: &[u8]) -> usize
-    requires { 0 < length text.now }
-    ensures some { 0 < result }
-    ensures most { result ≤ length text.now }
+/// How many spaces and tabs a line begins with.
+fn gap_len(line: &[u8]) -> usize
+    ensures value { result ≡ length (take_while is_gap line.now) }
+    ensures most { result ≤ length line.now }
 {
-    match text.find_byte(b'\n') {
-        Some(at) => at + 1,
-        None => text.len(),
-    }
+    line.iter()
+        .take_while(|b| **b == b' ' || **b == b'\t')
+        .count()
 }
 
-/// The line behind the spaces and tabs that it begins with.
-fn inked(line: &[u8]) -> &[u8] {
-    match line.find_not_byteset(b" \t") {
-        Some(start) => &line[start..],
-        None => &[],
-    }
+/// A line behind the spaces and tabs that it begins with.
+#[tactic(auto, using(std::proofs::lemmas::List::take_rest))]
+fn inked(line: &[u8]) -> &[u8]
+    ensures { result.now ≡ drop (length (take_while is_gap line.now)) line.now }
+{
+    &line[gap_len(line)..]
 }
 
-fn is_comment(line: &[u8]) -> bool {
-    matches!(inked(line), [b'#', ..])
+fn is_comment(line: &[u8]) -> bool
+    ensures { result ≡ is_comment line.now }
+{
+    inked(line).starts_with(b"#")
 }
 
-fn is_job_line(line: &[u8]) -> bool {
-    matches!(inked(line), [b'j', b'o', b'b', b' ' | b'\t', ..])
+fn is_job_line(line: &[u8]) -> bool
+    ensures { result ≡ is_job_line line.now }
+{
+    let ink = inked(line);
+    ink.starts_with(b"job ") || ink.starts_with(b"job\t")
 }
 
 /// Where the block of the first job line begins, at the comments directly above it; or the end of the text.
 fn up_to_job(text: &[u8]) -> usize
-    ensures { result ≤ length text.now }
-{
-    let mut rest = text;
-    let mut start = 0;
-    while !rest.is_empty() {
-        let (line, more) = rest.split_at(line_len(rest));
-        if is_job_line(line) {
-            return start;
-        }
-        rest = more;
-        if !is_comment(line) {
-            start = text.len() - rest.len();
-        }
-    }
-    text.len()
-}
-
-/// Where the line behind the first job line begins; or the end of the text.
-fn behind_job(text: &[u8]) -> usize
-    requires { 0 < length text.now }
-    ensures some { 0 < result }
+    ensures up { IsUpToJob (lines_of text.now) result }
     ensures most { result ≤ length text.now }
 {
-    let mut rest = text;
-    while !rest.is_empty() {
-        let (line, more) = rest.split_at(line_len(rest));
-        rest = more;
+    let mut above = 0;
+    let mut read = 0;
+    for line in text.lines_with_terminator() {
         if is_job_line(line) {
-            return text.len() - rest.len();
+            return above;
+        }
+        read += line.len();
+        if !is_comment(line) {
+            above = read;
         }
     }
-    text.len()
+    read
+}
+
+/// Where the line behind the first job line begins.
+fn behind_job(text: &[u8]) -> usize
+    requires { BeginWithJob (lines_of text.now) }
+    ensures behind { IsBehindJob (lines_of text.now) result }
+    ensures most { result ≤ length text.now }
+{
+    let mut read = 0;
+    for line in text.lines_with_terminator() {
+        read += line.len();
+        if is_job_line(line) {
+            return read;
+        }
+    }
+    read
 }
 
 /// How long the block is that a text begins with.
 fn block_len(text: &[u8]) -> usize
-    requires { 0 < length text.now }
+    requires { BeginWithJob (lines_of text.now) }
+    ensures block { IsBlockLen (lines_of text.now) result }
     ensures some { 0 < result }
     ensures most { result ≤ length text.now }
 {
@@ -85,7 +91,8 @@ fn block_len(text: &[u8]) -> usize
 
 /// The blocks of a text, one after another.
 fn blocks_of<'a, A: Allocator>(alloc: A, text: &'a [u8]) -> Result<Vec<&'a [u8], A>, AllocError>
-    ensures { IfOk result (λ blocks. concat (map (λ block. block.now) blocks.items) ≡ text.now) }
+    requires { EndBefore [] (lines_of text.now) }
+    ensures { IfOk result (λ blocks. AreCutInto (lines_of text.now) (map (λ block. block.now) blocks.items)) }
 {
     let mut pieces = Vec::new(alloc);
     let mut rest = text;

@@ -1,5 +1,6 @@
-//! What holds of arranged scripts. The law is the contract of a function that does nothing.
+//! What holds of arranged scripts. Each law is the contract of a function that does nothing.
 ghost use Rattle.arranged_scripts.specs.Arranged.{ArrangedTextsHaveShortChains};
+ghost use Rattle.arranged_scripts.specs.Blocks.{HasOneCut};
 
 use arranging::laws::arranged_chains_are_short;
 use script_reader::laws::one_meaning;
@@ -11,3 +12,8 @@ pub fn arranged_texts_have_short_chains()
     one_meaning();
     arranged_chains_are_short();
 }
+
+/// A text is cut into a head and blocks in one way.
+pub fn texts_are_cut_in_one_way()
+    ensures { HasOneCut }
+{}

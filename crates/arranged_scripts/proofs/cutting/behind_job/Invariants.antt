@@ -1,9 +1,8 @@
--- what is left is no longer than the text
-use Rattle.std.proofs.Common.{◌≤◌, length}
+-- the comments so far, above the block's job line
+use Rattle.std.specs.Prelude.{map}
+use Rattle.bstr.specs.Text.{lines_of}
+use Rattle.arranged_scripts.proofs.Cut.{IsAtBlock}
 use Rattle.arranged_scripts.proofs.cutting.behind_job.Given as goal
 
-abbrev pub invariant-loop-rest : goal.invariant-loop-rest
-invariant-loop-rest l = length l.rest ≤ length l.text
-
-abbrev pub decreases-loop-rest : goal.decreases-loop-rest
-decreases-loop-rest l = length l.rest
+abbrev pub invariant-loop-line : goal.invariant-loop-line
+invariant-loop-line l = IsAtBlock (lines_of l.fn.text) (map (λ line. line.now) l.yielded) l.line-iterator l.read
