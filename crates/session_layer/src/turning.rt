@@ -55,8 +55,8 @@ impl Turned {
     }
 }
 
-/// Does in one exchange what is due on the edge by what was just seen there. If nothing is due, the desk notes it, so that the next look is enough while
-/// neither the edge nor the job's phase changes. It is kept out of the loop of `visit_all`, which has the registers to itself then.
+/// Does in one exchange what is due on the edge by what was just seen there. If nothing is due, the desk notes it, so that the next look is enough while neither
+/// the edge nor the job's phase changes. It is kept out of the loop of `visit_all`, which so has the registers to itself.
 #[inline(never)]
 fn judge<A: Allocator>(
     bench: &Bench<A>,
