@@ -1,7 +1,6 @@
 -- One turn of a job, as a chain of steps on its desk.
 use Rattle.std.specs.Prelude.{◌≡◌, ◌≢◌, ℕ, ◌+◌, ◌<◌, Bool, true, false, if◌then◌else◌, List, [], ◌∷◌, ◌++◌, map}
 use Rattle.lab_plan.specs.LabPlan.{edges_of}
-use Rattle.legal_steps.specs.declared.edge_state.EdgeState.{EdgeState}
 use Rattle.legal_steps.specs.declared.event.Event.{Event}
 use Rattle.legal_steps.specs.declared.event.Event.TheVariants.{Look}
 use Rattle.legal_steps.specs.State.{edge, drinking}
@@ -67,10 +66,6 @@ pub record IsVisited (d : DeskView) (e : ℕ) (r : Visited) (d' : DeskView) : Ty
   pub visits : Visits d visit d'
   pub done : (if is_done visit then 1 else 0) ≡ done_by r
   pub lost : (if is_lost visit then 1 else 0) ≡ lost_by r
-
--- the edge was just seen so: with that look, what was done since is a visit with this answer
-abbrev pub IsJudged : DeskView → ℕ → EdgeState → Visited → DeskView → Type 0
-IsJudged d e seen r d' = (before : DeskView) → Adds before (Look before.job e seen ∷ []) d → IsVisited before e r d'
 
 -- the edges of the list were visited in its order, with this many exchanges done, and that many that found another word
 pub record Along (d : DeskView) (es : List ℕ) (done lost : ℕ) (d' : DeskView) : Type 0 where

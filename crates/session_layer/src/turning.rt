@@ -1,17 +1,14 @@
 //! A turn: each own edge is visited, and then comes the phase act.
-ghost use Rattle.std.specs.Prelude.{◌≡◌, ◌≤◌, length};
-ghost use Rattle.lab_plan.specs.LabPlan.{edges_of, bottles};
-ghost use Rattle.legal_steps.specs.State.{IsOwn, drinking, edge as edge_at};
-ghost use Rattle.edge_word.specs.Words.{IsOfBottles};
+ghost use Rattle.std.specs.Prelude.{◌≡◌, ◌≤◌};
+ghost use Rattle.lab_plan.specs.LabPlan.{edges_of};
+ghost use Rattle.legal_steps.specs.State.{IsOwn, drinking};
 ghost use Rattle.edge_rule.specs.DeskView.{Owns, known};
-ghost use Rattle.edge_rule.specs.CalmEdges.{HasJustLooked};
 ghost use Rattle.turns.specs.Patience.{is_waiting};
-ghost use Rattle.session_layer.specs.Turn.{IsVisited, IsJudged, Along, Says, Took};
+ghost use Rattle.session_layer.specs.Turn.{IsVisited, Along, Says, Took};
 
 use crate::acting::act;
 use drinking_layer::due_moves_seen;
-use edge_rule::{Bench, Desk, Stepped, exchange_seen, first_changed, look_at};
-use edge_word::EdgeWord;
+use edge_rule::{Bench, Desk, Stepped, exchange_seen, look_at};
 use lab_plan::EdgeNo;
 use legal_steps::Drinking;
 use std::alloc::Allocator;
@@ -55,35 +52,6 @@ impl Turned {
     }
 }
 
-/// Does in one exchange what is due on the edge by what was just seen there. If nothing is due, the desk notes it, so that the next look is enough while neither
-/// the edge nor the job's phase changes. It is kept out of the loop of `visit_all`, which so has the registers to itself.
-#[inline(never)]
-fn judge<A: Allocator>(
-    bench: &Bench<A>,
-    desk: &mut Desk<A>,
-    edge: EdgeNo,
-    seen: EdgeWord,
-) -> Visited
-    requires own { Owns bench.now desk.old }
-    requires edge { IsOwn desk.old.plan desk.old.job edge }
-    requires seen { seen ≡ edge_at (known desk.old) edge }
-    requires fits { IsOfBottles (length (bottles desk.old.plan edge)) seen }
-    requires looked { HasJustLooked desk.old edge }
-    ensures { IsJudged desk.old edge seen result desk.new }
-{
-    let moves = due_moves_seen(bench, desk, edge, seen);
-    if moves.is_empty() {
-        desk.note_calm(edge);
-        return Visited::Calm;
-    }
-    // The moves are due by the word just seen, and the exchange is done only if the edge has it still. It isn't tried again: what is
-    // due by the other word is a matter of the next turn's look, so no turn waits for a neighbour.
-    match exchange_seen(bench, desk, edge, seen, moves) {
-        Stepped::Done => Visited::Done,
-        Stepped::Moved(_) => Visited::Lost,
-    }
-}
-
 /// Looks at the edge, and does in one exchange what is due by what it saw. If nothing is due, the desk notes it, so that
 /// the next visit costs the look alone while neither the edge nor the job's phase changes.
 pub fn visit<A: Allocator>(bench: &Bench<A>, desk: &mut Desk<A>, edge: EdgeNo) -> Visited
@@ -96,7 +64,17 @@ pub fn visit<A: Allocator>(bench: &Bench<A>, desk: &mut Desk<A>, edge: EdgeNo) -
     if looked.calm {
         return Visited::Calm;
     }
-    judge(bench, desk, edge, looked.seen)
+    let moves = due_moves_seen(bench, desk, edge, looked.seen);
+    if moves.is_empty() {
+        desk.note_calm(edge);
+        return Visited::Calm;
+    }
+    // The moves are due by the word just seen, and the exchange is done only if the edge has it still. It isn't tried again: what is
+    // due by the other word is a matter of the next turn's look, so no turn waits for a neighbour.
+    match exchange_seen(bench, desk, edge, looked.seen, moves) {
+        Stepped::Done => Visited::Done,
+        Stepped::Moved(_) => Visited::Lost,
+    }
 }
 
 /// Visits each edge of the job once, in ascending order: gives what is asked for there and may be given, and asks for what is wanted. Answers how many
@@ -112,15 +90,12 @@ pub fn visit_all<A: Allocator>(bench: &Bench<A>, desk: &mut Desk<A>) -> (u32, u3
     let own = plan.edges_of(desk.job());
     let mut done = 0u32;
     let mut lost = 0u32;
-    let mut from = 0usize;
-    while let Some(stop) = first_changed(bench, desk, own, from) {
-        let (place, seen) = stop;
-        match judge(bench, desk, own[place], seen) {
+    for edge in own {
+        match visit(bench, desk, *edge) {
             Visited::Done => done += 1,
             Visited::Lost => lost += 1,
             Visited::Calm => (),
         }
-        from = place + 1;
     }
     (done, lost)
 }
