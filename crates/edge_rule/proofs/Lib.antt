@@ -14,4 +14,3 @@ pub mod Rosters
 pub mod OpenedDesks
 pub mod Knowledge
 pub mod LookedEdges
-pub mod PassedEdges

@@ -1,7 +1,6 @@
 pub mod Counting
 pub mod DeskView
 pub mod CalmEdges
-pub mod Passing
 pub mod NeededBottles
 pub mod DeskInside
 pub mod BenchInside

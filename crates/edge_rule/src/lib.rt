@@ -35,5 +35,5 @@ pub use legal_steps::Counts;
 pub use meeting::{glance, meet};
 pub use one_history::PhaseEvent;
 pub use refusals::{CloseCause, CloseRefused, OpenError};
-pub use steps::{exchange, exchange_seen, first_changed, look, look_at, store_phase};
+pub use steps::{exchange, exchange_seen, look, look_at, store_phase};
 pub use telling::{News, heed, tell};
