@@ -1,11 +1,8 @@
 -- The desks of a bench stay its desks.
 use Rattle.std.proofs.Common.{◌≡◌, ℕ, zero, suc, List, [], ◌∷◌, ◌++◌, length, refl, sym, ap, ◌∙◌, subst}
-use Rattle.std.specs.Prelude.{Option, Some, None, ◌-◌}
 use Rattle.lab_plan.specs.LabPlan.{LabPlan}
-use Rattle.legal_steps.specs.declared.edge_state.EdgeState.{EdgeState}
 use Rattle.turns.specs.Lists.{Each}
 use Rattle.edge_rule.specs.DeskView.{DeskView, BenchView, Owns, fresh_desk, fresh_desks}
-use Rattle.edge_rule.specs.Passing.{PassesBy, LooksOn}
 use Rattle.session_layer.specs.declared.turning.Turned.{Turned}
 use Rattle.session_layer.specs.Turn.{Took}
 use Rattle.session_layer.proofs.Grows as grows
@@ -17,17 +14,6 @@ use Rattle.workers.specs.Driven.{TookRest}
 -- a turn leaves the bench and the plan
 pub took_owned : (b : BenchView) (d : DeskView) (r : Turned) (d' : DeskView) → Owns b d → Took d r d' → Owns b d'
 took_owned b d r d' own t = let n = grows.one_turn d r d' t in (n.grew.table ∙ own.0, n.grew.plan ∙ own.1)
-
--- looks at edges leave them too
-passed_owned : (b : BenchView) (es : List ℕ) (from n : ℕ) (d d' : DeskView) → PassesBy es from n d d' → Owns b d → Owns b d'
-passed_owned b es from zero d d' is own = subst (Owns b) (sym is) own
-passed_owned b es from (suc n) d d' (m, before, last) own =
-    let o = passed_owned b es from n d m before own in (last.look.table ∙ o.0, last.look.plan ∙ o.1)
-
-pub looked_owned : (b : BenchView) (es : List ℕ) (from : ℕ) (d d' : DeskView) (r : Option (ℕ × EdgeState)) → LooksOn d es from r d' → Owns b d → Owns b d'
-looked_owned b es from d d' None passes own = passed_owned b es from (length es - from) d d' passes own
-looked_owned b es from d d' (Some stop) s own =
-    let o = passed_owned b es from (stop.0 - from) d s.before s.passes own in (s.look.table ∙ o.0, s.look.plan ∙ o.1)
 
 each-append : (P : DeskView → Type 0) (a b : List DeskView) → Each P a → Each P b → Each P (a ++ b)
 each-append P [] b p q = q

@@ -12,7 +12,7 @@ use desk_calls::{
 };
 use dining_layer::{Tried, ask, dine, fork_moves, give, soil, table};
 use drinking_layer::{drink, due_moves, serve_bottles, want_bottles};
-use edge_rule::{Bench, Desk, PhaseEvent, Stepped, first_changed, look};
+use edge_rule::{Bench, Desk, PhaseEvent, Stepped, look};
 use edge_word::{EdgeMoves, PhaseWord};
 use lab_plan::{EdgeNo, JobNo};
 use legal_steps::{Dining, Drinking};
@@ -61,8 +61,6 @@ pub(crate) enum Call {
     Store(PhaseEvent),
     Command,
     Glance(u8),
-    /// looks at the job's edges from this place on, up to one that isn't as it was noted
-    Pass(usize),
 }
 
 /// What a call answers.
@@ -77,8 +75,6 @@ pub(crate) enum Answer {
     Moves(EdgeMoves),
     Calm,
     Lost,
-    /// the place of an edge, and what was seen there
-    Stops(usize, u64),
     Does(Due),
     Acted(u32),
     Moved,
@@ -307,25 +303,6 @@ fn taken<A: Allocator>(bench: &Bench<A>, desk: &mut Desk<A>) -> Answer
     of_turn(turn(bench, desk))
 }
 
-/// Looks at the job's edges from a place on.
-fn passed<A: Allocator>(
-    rt: &impl Abort,
-    bench: &Bench<A>,
-    desk: &mut Desk<A>,
-    from: usize,
-) -> Answer
-    requires { Owns bench.now desk.old }
-    ensures { Owns bench.now desk.new }
-{
-    let plan = bench.plan();
-    let own = plan.edges_of(desk.job());
-    assert!(rt; from <= own.len());
-    match first_changed(bench, desk, own, from) {
-        Some((place, seen)) => Answer::Stops(place, seen.pack()),
-        None => Answer::Calm,
-    }
-}
-
 /// A call of a job.
 fn by_job<A: Allocator>(rt: &impl Abort, bench: &Bench<A>, desk: &mut Desk<A>, call: Call) -> Answer
     requires { Owns bench.now desk.old }
@@ -345,7 +322,6 @@ fn by_job<A: Allocator>(rt: &impl Abort, bench: &Bench<A>, desk: &mut Desk<A>, c
         }
         Call::Command => Answer::Value(commanded(rt, bench, desk).value),
         Call::Glance(other) => of_glance(glanced(rt, bench, desk, JobNo(other))),
-        Call::Pass(from) => passed(rt, bench, desk, from),
         Call::On(edge, what) => on_edge(rt, bench, desk, EdgeNo(edge), what),
     }
 }

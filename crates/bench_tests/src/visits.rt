@@ -3,8 +3,8 @@
 //! A row says who calls what and what it answers, the words that this job then saw last on its edges, and how far it is (dining,
 //! drinking, session, position). The numbers at the end of `check` say how many turns each job's session has waited after the rows.
 use crate::labs::PATIENCE_1;
-use crate::seats::Answer::{Acted, Calm, Does, Done, No, Saw, Stops, Stored, Yes};
-use crate::seats::Call::{Act, ActDue, On, Pass, Settled, Table};
+use crate::seats::Answer::{Acted, Calm, Does, Done, No, Saw, Stored, Yes};
+use crate::seats::Call::{Act, ActDue, On, Settled, Table};
 use crate::seats::Move::{Needed, Noted, Visit};
 use crate::tables::{A, AB, B, Row, check, rows};
 use crate::words::{
@@ -19,14 +19,11 @@ use session_layer::Due::{Command, Nothing, Store};
 const DRINK: PhaseEvent = PhaseEvent::Drink;
 
 /// Job a drinks first, then b, which eats after it. The session of b could be given up once it has waited for a turn.
-const PARTS: [Row; 54] = rows! {
+const PARTS: [Row; 49] = rows! {
     A: On(AB, Noted) => No, [OPEN], Thinking Tranquil 0 0;
-    A: Pass(0) => Stops(0, OPEN), [OPEN], Thinking Tranquil 0 0;
-    A: Pass(1) => Calm, [OPEN], Thinking Tranquil 0 0;
     A: ActDue(0) => Does(Store(Thirst)), [OPEN], Thinking Tranquil 0 0;
     A: On(AB, Visit) => Calm, [OPEN], Thinking Tranquil 0 0;
     A: On(AB, Noted) => Yes, [OPEN], Thinking Tranquil 0 0;
-    A: Pass(0) => Calm, [OPEN], Thinking Tranquil 0 0;
     A: Act(0) => Acted(1), [OPEN], Thinking Thirsty 1 0;
     A: On(AB, Noted) => No, [OPEN], Thinking Thirsty 1 0;
     A: ActDue(0) => Does(Store(DRINK)), [OPEN], Thinking Thirsty 1 0;
@@ -71,9 +68,7 @@ const PARTS: [Row; 54] = rows! {
     B: ActDue(0) => Does(Store(Retire)), [DIRTY_B_BOTTLE_B], Thinking Tranquil 1 0;
     B: Act(0) => Acted(1), [DIRTY_B_BOTTLE_B], Thinking Retired 1 0;
     B: On(AB, Visit) => Calm, [DIRTY_B_BOTTLE_B], Thinking Retired 1 0;
-    A: Pass(0) => Stops(0, DIRTY_B_BOTTLE_B), [DIRTY_B_BOTTLE_B], Thinking Retired 1 0;
     A: On(AB, Visit) => Calm, [DIRTY_B_BOTTLE_B], Thinking Retired 1 0;
-    A: Pass(0) => Calm, [DIRTY_B_BOTTLE_B], Thinking Retired 1 0;
 };
 
 #[test]
