@@ -84,7 +84,7 @@ module _ (plan : LabPlan) (h : List Event) (before after : List ℕ) where
       ∙ (ap (λ l. set l p (after_round (place j e k) (get_or l p d))) is ∙ bottle j e n k old p d at inside)
 
   -- one at which it doesn't
-  pub one_passed : (j e n k : ℕ) (old now : List Block) → now ≡ from n (some j e k) old → n + k < length old
+  one_passed : (j e n k : ℕ) (old now : List Block) → now ≡ from n (some j e k) old → n + k < length old
       → waits (place j e k) ≡ false → now ≡ from n (some j e (k + 1)) old
   one_passed j e n k old now is inside still =
       let d : Block = record { job = 0; neighbour = 0; instrument = 0; rounds = 0; held = 0 } in
@@ -92,13 +92,26 @@ module _ (plan : LabPlan) (h : List Event) (before after : List ℕ) where
       ∙ (ap (set (from n (some j e k) old) (n + k)) (sym (unmoved (place j e k) (get_or (from n (some j e k) old) (n + k) d) still))
       ∙ bottle j e n k old (n + k) d (omega arith) inside))
 
+  passed_on : (j e n k more : ℕ) (old now : List Block) → now ≡ from n (some j e k) old → n + (k + more) ≤ length old
+      → ((i : ℕ) → k ≤ i → i < k + more → waits (place j e i) ≡ false) → now ≡ from n (some j e (k + more)) old
+  passed_on j e n k zero old now is few still = is ∙ ap (λ q. from n (some j e q) old) (omega arith)
+  passed_on j e n k (suc more) old now is few still =
+      one_passed j e n (k + more) old now
+      (passed_on j e n k more old now is (omega (arith, few)) (λ i low less. still i low (omega (arith, less)))) (omega (arith, few))
+      (still (k + more) (omega arith) (omega arith))
+      ∙ ap (λ q. from n (some j e q) old) (omega arith)
+
+  -- further ones at which it doesn't
+  pub passed_to : (j e n k m : ℕ) (old now : List Block) → now ≡ from n (some j e k) old → k ≤ m → n + m ≤ length old
+      → ((i : ℕ) → k ≤ i → i < m → waits (place j e i) ≡ false) → now ≡ from n (some j e m) old
+  passed_to j e n k m old now is up few still =
+      passed_on j e n k (m - k) old now is (omega (arith, up, few)) (λ i low less. still i low (omega (arith, up, less)))
+      ∙ ap (λ q. from n (some j e q) old) (omega (arith, up))
+
   -- and if it waits at none
   pub all_passed : (j e n m : ℕ) (old : List Block) → n + m ≤ length old → ((k : ℕ) → k < m → waits (place j e k) ≡ false)
       → old ≡ from n (some j e m) old
-  all_passed j e n zero old few still = sym (none n old)
-  all_passed j e n (suc m) old few still =
-      one_passed j e n m old old (all_passed j e n m old (omega (arith, few)) (λ k less. still k (omega (arith, less)))) (omega (arith, few)) (still m (omega arith))
-      ∙ ap (λ q. from n (some j e q) old) (add-one m)
+  all_passed j e n m old few still = passed_to j e n 0 m old old (sym (none n old)) (omega arith) few (λ k low less. still k less)
 
   pub on_edge : (j e : ℕ) → length (places_on plan j e) ≡ length (bottles plan e)
   on_edge j e = length-map-range_with_len (place j e) 0 (length (bottles plan e))

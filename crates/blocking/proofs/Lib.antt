@@ -14,3 +14,4 @@ pub mod Clearing
 pub mod Changing
 pub mod KeptRuns
 pub mod Waited
+pub mod NextIn

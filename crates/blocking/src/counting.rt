@@ -9,7 +9,7 @@ ghost use Rattle.rounds.specs.Company.{first_front};
 ghost use Rattle.blocking.specs.Blocks.{block_of, places_on, places_of, places};
 ghost use Rattle.blocking.specs.Watching.{IsPlace, KnowAll, AreHeld, held_across, counted_if, waited_then, blocks_then, counted_from};
 
-use crate::knowing::{has, held_by, instrument_at, is_in, waited_on};
+use crate::knowing::{has, held_by, instrument_at, next_in, waited_on};
 use crate::places::Place;
 use block_lines::Block;
 use edge_rule::Desk;
@@ -130,7 +130,7 @@ fn counted<A: Allocator>(
     }
 }
 
-/// Counts a round at each bottle of a job's edge, from this place on. If the job waits for none of them, the edge is passed over.
+/// Counts a round at each bottle of a job's edge for which the job waits, from this place on.
 /// Answers where the bottles of the next edge begin.
 fn count_on<A: Allocator>(
     plan: &Plan<A>,
@@ -151,17 +151,18 @@ fn count_on<A: Allocator>(
     ensures next { result ≡ from + length (bottles plan.now edge) }
     ensures counted { blocks.new ≡ counted_from plan.now (first_front desks.now) before.now after.now from (places_on plan.now job edge) blocks.old }
 {
-    let next = from + plan.bottles(edge) as usize;
+    let bottles = plan.bottles(edge);
+    let next = from + bottles as usize;
     let waited = waited_on(plan, &desks[job.0 as usize], edge);
     if waited == 0 {
         return next;
     }
     let held = held_across(plan, before, after, job, edge);
-    for bottle in 0..plan.bottles(edge) {
-        if is_in(waited, bottle) {
-            let at = from + bottle as usize;
-            blocks[at] = counted(plan, edge, bottle, held, blocks[at]);
-        }
+    let mut bottle = next_in(waited, 0, bottles);
+    while bottle < bottles {
+        let at = from + bottle as usize;
+        blocks[at] = counted(plan, edge, bottle, held, blocks[at]);
+        bottle = next_in(waited, bottle + 1, bottles);
     }
     next
 }
