@@ -93,10 +93,11 @@ WHOLE, WHOLE_GOAL = ("labrun rounds", "labrun threads 2", "labrun threads 4"), 1
 
 # the function that is one turn
 TURN = {"labrun rounds": "turning::turn", "port rounds": "Desk::turn"}
+# (where there are several functions, one in another, the first that the compiler hasn't inlined counts)
 # whose instructions are counted: heading, the function in each program, by what it is told, and the goals (at most): of the mean, of the worst
 COUNTED = (
     ("turns", TURN, "command", 1.10, 1.20),
-    ("report", {"labrun rounds": "showing::send_report", "port rounds": "shared::write_report"}, "entry", 0.90, None),
+    ("report", {"labrun rounds": ("showing::send_report", "showing::show_run"), "port rounds": "shared::write_report"}, "entry", 0.90, None),
     ("reading", {"labrun rounds": "plan::read_plan", "port rounds": "shared::read_plan"}, "line", 1.15, None),
 )
 # the scripts by which single steps are counted: so many jobs, and as many commands of each in its last session
@@ -269,6 +270,8 @@ def growth(folder, names, unit, spent_on):
 
 def counted(words, function, data):
     """The instructions of a function of a program, with all that it calls; of the whole program where none is named."""
+    if isinstance(function, tuple):
+        return next(filter(None, (counted(words, each, data) for each in function)), 0)
     toggle = ["--toggle-collect=*%s*" % function] if function else []
     words = ["valgrind", "--tool=callgrind", "--callgrind-out-file=/dev/null", *toggle] + words
     with open(data, "rb") as source:
