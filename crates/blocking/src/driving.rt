@@ -67,7 +67,7 @@ fn watch<A: Allocator>(
 
 /// Who kept whom waiting in the run of a plan by at most this many rounds.
 ///
-/// Memory is taken for a bench, and for each bottle of an edge at either end of it: 27776 at most.
+/// Memory is taken for a bench, for each job's end of an edge, and twice for each bottle there: 27776 at most.
 pub fn blocks_by_rounds<A: Allocator + Copy>(
     alloc: A,
     plan: &Plan<A>,

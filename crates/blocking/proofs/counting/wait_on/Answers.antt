@@ -1,4 +1,3 @@
-use Rattle.std.proofs.Common.{◌≡◌}
 use Rattle.rounds.specs.Company.{first_front}
 use Rattle.rounds.specs.Rounds.{known_in}
 use Rattle.blocking.specs.Watching.{AreWaitedFor}
