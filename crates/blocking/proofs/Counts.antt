@@ -31,7 +31,7 @@ pub few : (test : List Event → List Event → Bool) (rounds : List (List Event
 few test rounds zero = omega arith
 few test rounds (suc n) = few_if (test (history_after rounds n) (history_after rounds (suc n))) (rounds_where test rounds n) n (few test rounds n)
 
-small_if : (b : Bool) (m : ℕ) → m < 4294967295 → counted_if b m ≡ (if b then m + 1 else m)
+small_if : (b : Bool) (m : ℕ) → m < 4294967295 → counted_if b 1 m ≡ (if b then m + 1 else m)
 small_if true m small = omega (arith, small)
 small_if false m small = refl
 
@@ -54,7 +54,7 @@ module _ (plan : LabPlan) (old new : List (List Event)) (n : ℕ) (old_long : le
 
   -- what passes a test in the last round
   pub counted : (test : List Event → List Event → Bool) (b : Bool) → b ≡ test (joined old) (joined new)
-      → counted_if b (rounds_where test old (length old)) ≡ rounds_where test new (length new)
+      → counted_if b 1 (rounds_where test old (length old)) ≡ rounds_where test new (length new)
   counted test b is =
       let lengths : length new ≡ suc n = omega (arith, new_long) in
       let so_far : rounds_where test old (length old) ≡ rounds_where test new n = ap (rounds_where test old) old_long ∙ same_where test old new n same in

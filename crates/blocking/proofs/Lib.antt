@@ -15,3 +15,6 @@ pub mod Changing
 pub mod KeptRuns
 pub mod Waited
 pub mod NextIn
+pub mod Each
+pub mod Waits
+pub mod Owing

@@ -14,7 +14,7 @@ use Rattle.blocking.specs.declared.places.Place.{Place}
 use Rattle.blocking.specs.Blocks.{place, places_on, places_of, places}
 use Rattle.blocking.specs.Watching.{IsPlace}
 
-numbers_below : (n : ℕ) → All (λ i. i < n) (range_with_len 0 n)
+pub numbers_below : (n : ℕ) → All (λ i. i < n) (range_with_len 0 n)
 numbers_below n k d inside =
     rw (get_or-range_with_len 0 n k d (omega (arith, inside, length-range_with_len 0 n))) (omega (arith, inside, length-range_with_len 0 n))
 
@@ -23,23 +23,29 @@ unfolding common
 below_all plan e =
     All-filter (both_name plan (ends plan e)) (λ i. i < length plan.instruments) (instrument_numbers plan) (numbers_below (length plan.instruments))
 
-all_flat : {A B : Type 0} (P : B → Type 0) (Q : A → Type 0) (f : A → List B) (l : List A) → ((x : A) → Q x → All P (f x)) → All Q l → All P (flat_map f l)
+pub all_flat : {A B : Type 0} (P : B → Type 0) (Q : A → Type 0) (f : A → List B) (l : List A) → ((x : A) → Q x → All P (f x)) → All Q l → All P (flat_map f l)
 all_flat P Q f [] each all = All-nil P
 all_flat P Q f (x ∷ l) each all =
     All-append P (f x) (flat_map f l) (each x (All-head Q x l all)) (all_flat P Q f l each (All-tail Q x l all))
 
 module _ (plan : LabPlan) where
+  pub all_on : (j e : ℕ) (P : Place → Type 0) → ((k : ℕ) → k < length (bottles plan e) → P (place j e k)) → All P (places_on plan j e)
+  all_on j e P each = All-map P (place j e) (range_with_len 0 (length (bottles plan e)))
+      (All-weaker (λ k. k < length (bottles plan e)) (λ k. P (place j e k)) each (range_with_len 0 (length (bottles plan e)))
+      (numbers_below (length (bottles plan e))))
+
   is_place : (j e k : ℕ) → j < length plan.jobs → IsOwn plan j e → k < length (bottles plan e) → IsPlace plan (place j e k)
   is_place j e k job own bottle = record { job = job; own = own; bottle = bottle }
+
+  pub places_on_edge : (j e : ℕ) → j < length plan.jobs → IsOwn plan j e → All (IsPlace plan) (places_on plan j e)
+  places_on_edge j e job own = all_on j e (IsPlace plan) (λ k bottle. is_place j e k job own bottle)
 
   abbrev pub IsPlaceOf : ℕ → Place → Type 0
   IsPlaceOf j x = IsPlace plan x × (x.job ≡ j)
 
   pub places_of_job : (j : ℕ) → j < length plan.jobs → All (IsPlaceOf j) (places_of plan j)
   places_of_job j job = all_flat (IsPlaceOf j) (IsOwn plan j) (places_on plan j) (edges_of plan j)
-      (λ e own. All-map (IsPlaceOf j) (place j e) (range_with_len 0 (length (bottles plan e)))
-      (All-weaker (λ k. k < length (bottles plan e)) (λ k. IsPlaceOf j (place j e k)) (λ k bottle. (is_place j e k job own bottle, refl))
-      (range_with_len 0 (length (bottles plan e))) (numbers_below (length (bottles plan e)))))
+      (λ e own. all_on j e (IsPlaceOf j) (λ k bottle. (is_place j e k job own bottle, refl)))
       (own_edges plan j)
 
   pub all_of_job : (j : ℕ) → j < length plan.jobs → All (IsPlace plan) (places_of plan j)
@@ -62,13 +68,13 @@ module _ (plan : LabPlan) where
   pub instrument_inside : (x : Place) → IsPlace plan x → instrument_of plan x.edge x.bottle < length plan.instruments
   instrument_inside x is = instrument_below x.edge x.bottle is.bottle
 
--- one job more
-pub jobs_more : (plan : LabPlan) (now new : List Place) (n : ℕ) → now ≡ flat_map (places_of plan) (range_with_len 0 n) → new ≡ now ++ places_of plan n
-    → new ≡ flat_map (places_of plan) (range_with_len 0 (n + 1))
-jobs_more plan now new n is added =
-    added ∙ (ap (λ l. l ++ places_of plan n) is
-    ∙ (sym (more 0 n n (omega arith)) ∙ ap (λ m. flat_map (places_of plan) (range_with_len 0 m)) (sym (add-one n)))) where
-      more : (a m k : ℕ) → a + m ≡ k → flat_map (places_of plan) (range_with_len a (suc m)) ≡ flat_map (places_of plan) (range_with_len a m) ++ places_of plan k
-      more a zero k e = let same : a ≡ k = omega (arith, e) in append-nil (places_of plan a) ∙ ap (places_of plan) same
-      more a (suc m) k e = ap (λ l. places_of plan a ++ l) (more (a + 1) m k (omega (arith, e)))
-          ∙ sym (append_assoc (places_of plan a) (flat_map (places_of plan) (range_with_len (a + 1) m)) (places_of plan k))
+-- one number more
+pub numbers_more : {A : Type 0} (f : ℕ → List A) (now new : List A) (n : ℕ) → now ≡ flat_map f (range_with_len 0 n) → new ≡ now ++ f n
+    → new ≡ flat_map f (range_with_len 0 (n + 1))
+numbers_more {A} f now new n is added =
+    added ∙ (ap (λ (l : List A). l ++ f n) is
+    ∙ (sym (more 0 n n (omega arith)) ∙ ap (λ m. flat_map f (range_with_len 0 m)) (sym (add-one n)))) where
+      more : (a m k : ℕ) → a + m ≡ k → flat_map f (range_with_len a (suc m)) ≡ flat_map f (range_with_len a m) ++ f k
+      more a zero k e = let same : a ≡ k = omega (arith, e) in append-nil (f a) ∙ ap f same
+      more a (suc m) k e = ap (λ (l : List A). f a ++ l) (more (a + 1) m k (omega (arith, e)))
+          ∙ sym (append_assoc (f a) (flat_map f (range_with_len (a + 1) m)) (f k))

@@ -1,15 +1,15 @@
 -- Desks that are looked at after each round, and what is counted then.
-use Rattle.std.specs.Prelude.{◌≡◌, ℕ, zero, suc, ◌<◌, ◌==◌, nat_lt, Bool, true, ◌&&◌, List, [], ◌∷◌, length, slice_index_or, if◌then◌else◌}
+use Rattle.std.specs.Prelude.{◌≡◌, ℕ, zero, suc, ◌+◌, ◌<◌, ◌==◌, min, nat_lt, Bool, true, ◌&&◌, List, [], ◌∷◌, length, slice_index_or, if◌then◌else◌}
 use Rattle.std.specs.Int.{bit_at}
 use Rattle.lab_plan.specs.LabPlan.{LabPlan, bottles}
 use Rattle.lab_plan.specs.InstrumentSets.{holds}
 use Rattle.legal_steps.specs.declared.event.Event.{Event}
 use Rattle.legal_steps.specs.State.{State, IsOwn, neighbour, phase}
 use Rattle.legal_steps.specs.Legal.{instrument_of}
-use Rattle.turns.specs.Patience.{one_more}
 use Rattle.edge_rule.specs.DeskView.{DeskView, known}
 use Rattle.rounds.specs.Rounds.{known_in}
 use Rattle.block_lines.specs.declared.block.Block.{Block}
+use Rattle.blocking.specs.declared.counting.Wait.{Wait}
 use Rattle.blocking.specs.declared.places.Place.{Place}
 use Rattle.blocking.specs.Waiting.{waits_at, holds_in}
 use Rattle.blocking.specs.Blocks.{place, IsBlockedRun}
@@ -51,30 +51,50 @@ held_across plan before after j e = set_at (if nat_lt (neighbour plan j e) j the
 abbrev pub holds_then : LabPlan → List ℕ → List ℕ → Place → Bool
 holds_then plan before after x = holds (held_across plan before after x.job x.edge) (instrument_of plan x.edge x.bottle)
 
-abbrev pub counted_if : Bool → ℕ → ℕ
-counted_if b n = if b then one_more 4294967295 n else n
+-- so many rounds more, if they count, up to the largest number
+abbrev pub counted_if : Bool → ℕ → ℕ → ℕ
+counted_if b n count = if b then min (count + n) 4294967295 else count
 
--- what a round adds to the counts of a place of instrument i at which its job has waited, by what the neighbour held
-abbrev pub waited_then : ℕ → ℕ → Block → Block
-waited_then held i b = record b { rounds = counted_if true b.rounds; held = counted_if (holds held i) b.held }
+-- what so many rounds add to the counts of a place of instrument i at which its job has waited, by what the neighbour held
+abbrev pub waited_then : ℕ → ℕ → ℕ → Block → Block
+waited_then n held i b = record b { rounds = counted_if true n b.rounds; held = counted_if (holds held i) n b.held }
+
+-- what so many rounds, in each of which the job waits like this on the edge, add to the counts of a place
+abbrev pub rounds_then : LabPlan → Wait → ℕ → Place → Block → Block
+rounds_then plan w n x b = record b {
+  rounds = counted_if (bit_at w.bottles x.bottle == 1) n b.rounds;
+  held = counted_if (bit_at w.bottles x.bottle == 1 && holds w.held (instrument_of plan x.edge x.bottle)) n b.held;
+}
 
 -- what a round adds to the counts of a place
 abbrev pub block_then : LabPlan → List Event → List ℕ → List ℕ → Place → Block → Block
 block_then plan h before after x b = record b {
-  rounds = counted_if (waits_at plan (known_in plan h x.job) x) b.rounds;
-  held = counted_if (waits_at plan (known_in plan h x.job) x && holds_then plan before after x) b.held;
+  rounds = counted_if (waits_at plan (known_in plan h x.job) x) 1 b.rounds;
+  held = counted_if (waits_at plan (known_in plan h x.job) x && holds_then plan before after x) 1 b.held;
 }
 
-abbrev pub blocks_then : LabPlan → List Event → List ℕ → List ℕ → List Place → List Block → List Block
-blocks_then plan h before after [] blocks = blocks
-blocks_then plan h before after (x ∷ places) [] = []
-blocks_then plan h before after (x ∷ places) (b ∷ blocks) = block_then plan h before after x b ∷ blocks_then plan h before after places blocks
+-- in the round job j waits like this on the edge
+abbrev pub IsWait : LabPlan → List Event → List ℕ → List ℕ → ℕ → ℕ → Wait → Type 0
+IsWait plan h before after j e w =
+    (k : ℕ) → k < length (bottles plan e) → (b : Block) → rounds_then plan w 1 (place j e k) b ≡ block_then plan h before after (place j e k) b
 
--- at the places that stand from this number on
+-- the counts of each place, changed like this
+abbrev pub each_by : (Place → Block → Block) → List Place → List Block → List Block
+each_by f [] blocks = blocks
+each_by f (x ∷ places) [] = []
+each_by f (x ∷ places) (b ∷ blocks) = f x b ∷ each_by f places blocks
+
+-- those of the places that stand from this number on
+abbrev pub each_from : (Place → Block → Block) → ℕ → List Place → List Block → List Block
+each_from f zero places blocks = each_by f places blocks
+each_from f (suc n) places [] = []
+each_from f (suc n) places (b ∷ blocks) = b ∷ each_from f n places blocks
+
+abbrev pub blocks_then : LabPlan → List Event → List ℕ → List ℕ → List Place → List Block → List Block
+blocks_then plan h before after places blocks = each_by (block_then plan h before after) places blocks
+
 abbrev pub counted_from : LabPlan → List Event → List ℕ → List ℕ → ℕ → List Place → List Block → List Block
-counted_from plan h before after zero places blocks = blocks_then plan h before after places blocks
-counted_from plan h before after (suc n) places [] = []
-counted_from plan h before after (suc n) places (b ∷ blocks) = b ∷ counted_from plan h before after n places blocks
+counted_from plan h before after n places blocks = each_from (block_then plan h before after) n places blocks
 
 abbrev pub Counted : LabPlan → ℕ → ℕ → Bool → List Block → Type 0
 Counted plan limit number retired blocks = IsBlockedRun plan limit (record { number = number; retired = retired; blocks = blocks })

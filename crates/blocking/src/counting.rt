@@ -1,13 +1,13 @@
 //! What a round adds to the counts.
-ghost use Rattle.std.specs.Prelude.{◌≡◌, ◌<◌, ◌≤◌, ◌+◌, length, map, [], IfOk};
+ghost use Rattle.std.specs.Prelude.{◌≡◌, ◌<◌, ◌≤◌, ◌+◌, ℕ, length, map, [], IfOk};
 ghost use Rattle.std.specs.List.{All};
 ghost use Rattle.lab_plan.specs.LabPlan.{edges, bottles};
 ghost use Rattle.lab_plan.specs.InstrumentSets.{holds};
 ghost use Rattle.legal_steps.specs.State.{IsOwn, neighbour};
 ghost use Rattle.legal_steps.specs.Legal.{instrument_of};
 ghost use Rattle.rounds.specs.Company.{first_front};
-ghost use Rattle.blocking.specs.Blocks.{block_of, places_on, places_of, places};
-ghost use Rattle.blocking.specs.Watching.{IsPlace, KnowAll, AreHeld, held_across, counted_if, waited_then, blocks_then, counted_from};
+ghost use Rattle.blocking.specs.Blocks.{block_of, places_on, places_of};
+ghost use Rattle.blocking.specs.Watching.{IsPlace, KnowAll, AreHeld, IsWait, held_across, counted_if, waited_then, rounds_then, each_from, counted_from};
 
 use crate::knowing::{has, held_by, instrument_at, next_in, waited_on};
 use crate::places::Place;
@@ -15,6 +15,21 @@ use block_lines::Block;
 use edge_rule::Desk;
 use lab_plan::{EdgeNo, JobNo, Plan};
 use std::alloc::{AllocError, Allocator};
+
+/// The bottles of an edge for which its job waits in a round, and what the neighbour holds then.
+#[derive(Clone, Copy, PartialEq, Eq, Debug)]
+pub(crate) struct Wait {
+    bottles: u32,
+    held: u64,
+}
+
+impl Wait {
+    /// It waits for no bottle.
+    pub(crate) const NONE: Wait = Wait {
+        bottles: 0,
+        held: 0,
+    };
+}
 
 /// The job at the other end of an edge.
 fn neighbour<A: Allocator>(plan: &Plan<A>, job: JobNo, edge: EdgeNo) -> JobNo
@@ -67,12 +82,12 @@ pub(crate) fn note_held<A: Allocator>(plan: &Plan<A>, desks: &[Desk<A>], sets: &
     }
 }
 
-/// The count, one higher if there is one to count.
-fn counted_if(counts: bool, count: u32) -> u32
-    ensures { result ≡ counted_if counts count }
+/// The count, higher by this many rounds if they count.
+fn counted_if(counts: bool, rounds: u32, count: u32) -> u32
+    ensures { result ≡ counted_if counts rounds count }
 {
     if counts {
-        count.saturating_add(1)
+        count.saturating_add(rounds)
     } else {
         count
     }
@@ -110,23 +125,71 @@ fn is_held<A: Allocator>(plan: &Plan<A>, edge: EdgeNo, bottle: u32, held: u64) -
     has(held, instrument_at(plan, edge, bottle))
 }
 
-/// The counts of a place at which the job has waited in a round, by what its neighbour held.
+/// How a job waits on an edge in this round.
+pub(crate) fn wait_on<A: Allocator>(
+    plan: &Plan<A>,
+    desks: &[Desk<A>],
+    before: &[u64],
+    after: &[u64],
+    job: JobNo,
+    edge: EdgeNo,
+) -> Wait
+    requires desks { KnowAll plan.now (first_front desks.now) desks.now }
+    requires before { length before.now ≡ length plan.now.jobs }
+    requires after { length after.now ≡ length plan.now.jobs }
+    requires job { job < length plan.now.jobs }
+    requires own { IsOwn plan.now job edge }
+    ensures { IsWait plan.now (first_front desks.now) before.now after.now job edge result }
+{
+    let bottles = waited_on(plan, &desks[job.0 as usize], edge);
+    if bottles == 0 {
+        return Wait::NONE;
+    }
+    let held = held_across(plan, before, after, job, edge);
+    Wait { bottles, held }
+}
+
+/// The counts of a place at which the job has waited in this many rounds, by what its neighbour held.
 fn counted<A: Allocator>(
     plan: &Plan<A>,
     edge: EdgeNo,
     bottle: u32,
     held: u64,
+    rounds: u32,
     block: Block,
 ) -> Block
     requires edge { edge < length (edges plan.now) }
     requires bottle { bottle < length (bottles plan.now edge) }
-    ensures { result ≡ waited_then held (instrument_of plan.now edge bottle) block }
+    ensures { result ≡ waited_then rounds held (instrument_of plan.now edge bottle) block }
 {
     let is_held = is_held(plan, edge, bottle, held);
     Block {
-        rounds: counted_if(true, block.rounds),
-        held: counted_if(is_held, block.held),
+        rounds: counted_if(true, rounds, block.rounds),
+        held: counted_if(is_held, rounds, block.held),
         ..block
+    }
+}
+
+/// Counts this many rounds, in each of which a job waits like this on an edge, at the bottles of the edge, which stand from this
+/// place on.
+pub(crate) fn count_rounds<A: Allocator>(
+    plan: &Plan<A>,
+    edge: EdgeNo,
+    wait: Wait,
+    rounds: u32,
+    from: usize,
+    blocks: &mut [Block],
+)
+    requires edge { edge < length (edges plan.now) }
+    requires room { from + length (bottles plan.now edge) ≤ length blocks.old }
+    ensures { (j : ℕ) → blocks.new ≡ each_from (rounds_then plan.now wait rounds) from (places_on plan.now j edge) blocks.old }
+{
+    let bottles = plan.bottles(edge);
+    let mut bottle = next_in(wait.bottles, 0, bottles);
+    while bottle < bottles {
+        let at = from + bottle as usize;
+        blocks[at] = counted(plan, edge, bottle, wait.held, rounds, blocks[at]);
+        bottle = next_in(wait.bottles, bottle + 1, bottles);
     }
 }
 
@@ -151,20 +214,9 @@ fn count_on<A: Allocator>(
     ensures next { result ≡ from + length (bottles plan.now edge) }
     ensures counted { blocks.new ≡ counted_from plan.now (first_front desks.now) before.now after.now from (places_on plan.now job edge) blocks.old }
 {
-    let bottles = plan.bottles(edge);
-    let next = from + bottles as usize;
-    let waited = waited_on(plan, &desks[job.0 as usize], edge);
-    if waited == 0 {
-        return next;
-    }
-    let held = held_across(plan, before, after, job, edge);
-    let mut bottle = next_in(waited, 0, bottles);
-    while bottle < bottles {
-        let at = from + bottle as usize;
-        blocks[at] = counted(plan, edge, bottle, held, blocks[at]);
-        bottle = next_in(waited, bottle + 1, bottles);
-    }
-    next
+    let wait = wait_on(plan, desks, before, after, job, edge);
+    count_rounds(plan, edge, wait, 1, from, blocks);
+    from + plan.bottles(edge) as usize
 }
 
 /// Counts a round at each place of a job, from this one on. Answers where those of the next job begin.
@@ -191,24 +243,4 @@ pub(crate) fn count_job<A: Allocator>(
         at = count_on(plan, desks, before, after, job, *edge, at, blocks);
     }
     at
-}
-
-/// Counts a round at each place.
-pub(crate) fn count_round<A: Allocator>(
-    plan: &Plan<A>,
-    desks: &[Desk<A>],
-    before: &[u64],
-    after: &[u64],
-    blocks: &mut [Block],
-)
-    requires desks { KnowAll plan.now (first_front desks.now) desks.now }
-    requires before { length before.now ≡ length plan.now.jobs }
-    requires after { length after.now ≡ length plan.now.jobs }
-    requires many { length blocks.old ≡ length (places plan.now) }
-    ensures { blocks.new ≡ blocks_then plan.now (first_front desks.now) before.now after.now (places plan.now) blocks.old }
-{
-    let mut at = 0;
-    for job in 0..plan.jobs() {
-        at = count_job(plan, desks, before, after, JobNo(job as u8), at, blocks);
-    }
 }

@@ -1,14 +1,15 @@
 //! A bench that is driven one round at a time, and who waits for whom after each.
-ghost use Rattle.std.specs.Prelude.{◌≡◌, [], length, map, replicate, IfOk};
+ghost use Rattle.std.specs.Prelude.{◌≡◌, length, replicate, IfOk};
+ghost use Rattle.std.specs.List.{All};
 ghost use Rattle.rounds.specs.FromOpening.{opened};
-ghost use Rattle.blocking.specs.Blocks.{places as all_places, block_of, IsBlockedRun};
+ghost use Rattle.blocking.specs.Blocks.{IsBlockedRun};
+ghost use Rattle.blocking.specs.Owing.{all_settled, fresh_sides, FitsSide};
 ghost use Rattle.blocking.specs.Watching.{Counted};
 ghost use Rattle.waiting.specs.Watching.{is_all_retired};
 
-use crate::counting::{count_round, fresh_blocks, note_held};
-use crate::places::places;
+use crate::counting::note_held;
 use crate::run::BlockedRun;
-use block_lines::Block;
+use crate::sides::{Side, all_counts, count_round, fresh_sides};
 use edge_rule::{Bench, Desk};
 use lab_plan::Plan;
 use rounds::{Ended, rounds};
@@ -39,14 +40,15 @@ fn watch<A: Allocator>(
     desks: &mut [Desk<A>],
     before: &mut [u64],
     after: &mut [u64],
-    blocks: &mut [Block],
+    sides: &mut [Side<A>],
     limit: u32,
 ) -> (u32, bool)
     requires opened { desks.old ≡ opened bench.now }
     requires before { length before.old ≡ length desks.old }
     requires after { length after.old ≡ length desks.old }
-    requires fresh { blocks.old ≡ map (block_of bench.now.plan []) (all_places bench.now.plan) }
-    ensures { Counted bench.now.plan limit result.0 result.1 blocks.new }
+    requires fresh { sides.old ≡ fresh_sides bench.now.plan }
+    ensures counted { Counted bench.now.plan limit result.0 result.1 (all_settled bench.now.plan sides.new) }
+    ensures fit { All (FitsSide bench.now.plan) sides.new }
 {
     let plan = bench.plan();
     note_held(plan, desks, before);
@@ -56,7 +58,7 @@ fn watch<A: Allocator>(
             return (number, true);
         }
         note_held(plan, desks, after);
-        count_round(plan, desks, before, after, blocks);
+        count_round(plan, desks, before, after, sides);
         note_held(plan, desks, before);
     }
     let (ended, _) = rounds(bench, desks, 0);
@@ -65,7 +67,7 @@ fn watch<A: Allocator>(
 
 /// Who kept whom waiting in the run of a plan by at most this many rounds.
 ///
-/// Memory is taken for a bench, and for each bottle of an edge at either end of it: 27776 at most.
+/// Memory is taken for a bench, for each job's end of an edge, and twice for each bottle there: 27776 at most.
 pub fn blocks_by_rounds<A: Allocator + Copy>(
     alloc: A,
     plan: &Plan<A>,
@@ -76,8 +78,7 @@ pub fn blocks_by_rounds<A: Allocator + Copy>(
     let Ok((bench, mut desks)) = Bench::open(alloc, plan) else {
         return Err(AllocError);
     };
-    let places = places(alloc, plan)?;
-    let mut blocks = fresh_blocks(alloc, plan, &places)?;
+    let mut sides = fresh_sides(alloc, plan)?;
     let mut before = no_sets(alloc, desks.len())?;
     let mut after = no_sets(alloc, desks.len())?;
     let (number, retired) = watch(
@@ -85,9 +86,10 @@ pub fn blocks_by_rounds<A: Allocator + Copy>(
         desks.as_mut_slice(),
         before.as_mut_slice(),
         after.as_mut_slice(),
-        blocks.as_mut_slice(),
+        sides.as_mut_slice(),
         limit,
     );
+    let blocks = all_counts(alloc, plan, &sides)?;
     Ok(BlockedRun {
         number,
         retired,

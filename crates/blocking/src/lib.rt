@@ -14,6 +14,7 @@ mod knowing;
 mod laws;
 mod places;
 mod run;
+mod sides;
 mod tally;
 
 pub use driving::blocks_by_rounds;

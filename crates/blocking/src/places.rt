@@ -1,8 +1,7 @@
 //! Where jobs may wait: for each bottle of each of its edges.
-ghost use Rattle.std.specs.Prelude.{◌≡◌, ◌<◌, ◌++◌, length, IfOk, OnOk, map};
-ghost use Rattle.std.specs.List.{flat_map, range_with_len};
+ghost use Rattle.std.specs.Prelude.{◌≡◌, ◌<◌, ◌++◌, length, OnOk};
 ghost use Rattle.lab_plan.specs.LabPlan.{edges, edges_of};
-ghost use Rattle.blocking.specs.Blocks.{places_on, places_of, places};
+ghost use Rattle.blocking.specs.Blocks.{places_on, places_of};
 
 use lab_plan::{EdgeNo, JobNo, Plan};
 use std::alloc::{AllocError, Allocator};
@@ -16,7 +15,7 @@ pub(crate) struct Place {
 }
 
 /// Adds the places of a job on one of its edges.
-fn add_on_edge<A: Allocator, B: Allocator>(
+pub(crate) fn add_on_edge<A: Allocator, B: Allocator>(
     out: &mut Vec<Place, A>,
     plan: &Plan<B>,
     job: JobNo,
@@ -45,18 +44,4 @@ pub(crate) fn add_of_job<A: Allocator, B: Allocator>(
         add_on_edge(out, plan, job, *edge)?;
     }
     Ok(())
-}
-
-/// The places of all jobs, in the order of the script.
-pub(crate) fn places<A: Allocator, B: Allocator>(
-    alloc: A,
-    plan: &Plan<B>,
-) -> Result<Vec<Place, A>, AllocError>
-    ensures { IfOk result (λ all. all.items ≡ places plan.now) }
-{
-    let mut all = Vec::new(alloc);
-    for job in 0..plan.jobs() {
-        add_of_job(&mut all, plan, JobNo(job as u8))?;
-    }
-    Ok(all)
 }
