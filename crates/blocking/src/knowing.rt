@@ -1,5 +1,5 @@
 //! What a job waits for, and what it holds, by what its desk knows.
-ghost use Rattle.std.specs.Prelude.{◌≡◌, ◌<◌, ◌≤◌, ℕ, length, true};
+ghost use Rattle.std.specs.Prelude.{◌≡◌, ◌<◌, ◌≤◌, ◌==◌, ℕ, length, true};
 ghost use Rattle.std.specs.Int.{bit_at};
 ghost use Rattle.lab_plan.specs.LabPlan.{edges, bottles, sessions, session_names};
 ghost use Rattle.lab_plan.specs.InstrumentSets.{holds};
@@ -59,8 +59,17 @@ pub(crate) fn instrument_at<A: Allocator>(plan: &Plan<A>, edge: EdgeNo, bottle: 
     plan.instrument_of(edge, bottle)
 }
 
+/// Whether the bottle is in the set.
+#[tactic(auto, using(std::proofs::lemmas::Nat::Bits::shr_and_one))]
+fn is_in(set: u32, bottle: u32) -> bool
+    requires { bottle < 32 }
+    ensures { result ≡ (bit_at set bottle == 1) }
+{
+    set >> bottle & 1 == 1
+}
+
 /// The first bottle of the set from this one on, or the end if there is none in front of it.
-pub(crate) fn next_in(set: u32, from: u32, end: u32) -> u32
+fn later_in(set: u32, from: u32, end: u32) -> u32
     requires inside { from ≤ end }
     requires few { end ≤ 32 }
     ensures low { from ≤ result }
@@ -70,6 +79,22 @@ pub(crate) fn next_in(set: u32, from: u32, end: u32) -> u32
 {
     let rest = u64::from(set) >> from;
     (from + rest.trailing_zeros()).min(end)
+}
+
+/// The same, quicker if this one is in the set already.
+pub(crate) fn next_in(set: u32, from: u32, end: u32) -> u32
+    requires inside { from ≤ end }
+    requires few { end ≤ 32 }
+    ensures low { from ≤ result }
+    ensures high { result ≤ end }
+    ensures passed { (k : ℕ) → from ≤ k → k < result → bit_at set k ≡ 0 }
+    ensures found { result < end → bit_at set result ≡ 1 }
+{
+    if from < end && is_in(set, from) {
+        from
+    } else {
+        later_in(set, from, end)
+    }
 }
 
 /// Whether a job in this phase is thirsty.

@@ -1,7 +1,7 @@
 use Rattle.std.proofs.Common.{◌/◌, ◌^◌, refl, sym, ap, ◌∙◌, arith}
 use Rattle.std.specs.Int.{bit_at, trailing_zeros, w64}
 use Rattle.blocking.proofs.NextIn.{rest_fits, passed_over, found_there}
-use Rattle.blocking.proofs.knowing.next_in.Goals as goal
+use Rattle.blocking.proofs.knowing.later_in.Goals as goal
 
 pub returns-clause-passed : goal.returns-clause-passed
 returns-clause-passed c =
