@@ -10,11 +10,11 @@ use Rattle.script_reader.specs.Fields.{is_gap}
 abbrev pub goes_on : List ℕ → List ℕ → Bool
 goes_on word line = starts_with (λ a b. a == b) (drop (length (take_while is_gap line)) line) word
 
--- a line that begins with #
+-- a line that begins with #, behind its spaces and tabs
 abbrev pub is_comment : List ℕ → Bool
 is_comment line = goes_on (codes "#") line
 
--- a line that begins with `job` and a space or a tab
+-- a line that begins with `job` and a space or a tab, behind its spaces and tabs
 abbrev pub is_job_line : List ℕ → Bool
 is_job_line line = goes_on (codes "job ") line || goes_on (codes "job\t") line
 

@@ -7,7 +7,7 @@ use Rattle.arranged_scripts.specs.Blocks.{HaveNoJob, EndPlain, BeginWithJob, IsB
 abbrev pub EndBefore : List (List ℕ) → List (List ℕ) → Type 0
 EndBefore above below = (below ≡ []) ⊎ (EndPlain above × BeginWithJob below)
 
--- the lines above the first block have so many bytes
+-- the lines above the first block have this many bytes
 pub record IsUpToJob (lines : List (List ℕ)) (len : ℕ) : Type 0 where
   pub above : List (List ℕ)
   pub below : List (List ℕ)
@@ -16,12 +16,12 @@ pub record IsUpToJob (lines : List (List ℕ)) (len : ℕ) : Type 0 where
   pub no_job : HaveNoJob above
   pub next : EndBefore above below
 
--- the lines up to and with the first job's line have so many bytes
+-- the lines up to and with the first job's line have this many bytes
 pub record IsBehindJob (lines : List (List ℕ)) (len : ℕ) : Type 0 where
   pub begin : BeginWithJob lines
   pub long : len ≡ length (concat (begin.comments ++ begin.job ∷ []))
 
--- the block with which the lines begin has so many bytes
+-- the block with which the lines begin has this many bytes
 pub record IsBlockLen (lines : List (List ℕ)) (len : ℕ) : Type 0 where
   pub block : List (List ℕ)
   pub below : List (List ℕ)

@@ -51,15 +51,15 @@ held_across plan before after j e = set_at (if nat_lt (neighbour plan j e) j the
 abbrev pub holds_then : LabPlan → List ℕ → List ℕ → Place → Bool
 holds_then plan before after x = holds (held_across plan before after x.job x.edge) (instrument_of plan x.edge x.bottle)
 
--- so many rounds more, if they count, up to the largest number
+-- this many rounds more, if they count, up to the largest number
 abbrev pub counted_if : Bool → ℕ → ℕ → ℕ
 counted_if b n count = if b then min (count + n) 4294967295 else count
 
--- what so many rounds add to the counts of a place of instrument i at which its job has waited, by what the neighbour held
+-- what this many rounds add to the counts of a place of instrument i at which its job has waited, by what the neighbour held
 abbrev pub waited_then : ℕ → ℕ → ℕ → Block → Block
 waited_then n held i b = record b { rounds = counted_if true n b.rounds; held = counted_if (holds held i) n b.held }
 
--- what so many rounds, in each of which the job waits like this on the edge, add to the counts of a place
+-- what this many rounds, in each of which the job waits like this on the edge, add to the counts of a place
 abbrev pub rounds_then : LabPlan → Wait → ℕ → Place → Block → Block
 rounds_then plan w n x b = record b {
   rounds = counted_if (bit_at w.bottles x.bottle == 1) n b.rounds;

@@ -79,7 +79,7 @@ impl<A: Allocator> JobTable<A> {
         Ok(JobTable { needs, places })
     }
 
-    /// What the session after so many names.
+    /// What the session with this many before it names.
     pub(crate) fn needs(&self, before: usize) -> InstrumentSet
         requires { before < length self.now.needs }
         ensures { result ≡ slice_index_or self.now.needs before 0 }

@@ -1,5 +1,6 @@
 //! The best order that was measured, and what `labview arrange N` writes, by its bytes.
 use crate::orders::RING_OF_EIGHT;
+use arranged_scripts::laws::{arranged_texts_have_short_chains, texts_are_cut_in_one_way};
 use arranged_scripts::{moved, read_back, with_line_end};
 use arranging::has_jobs_of;
 use lab_plan::JobNo;
@@ -244,6 +245,8 @@ fn blocks_change_places(rt: HostRuntime) -> Result<(), Fail> {
 
 #[test]
 fn laws_can_be_called(_rt: HostRuntime) {
+    arranged_texts_have_short_chains();
+    texts_are_cut_in_one_way();
     one_measure();
     best_is_no_worse();
 }
