@@ -43,7 +43,6 @@ pub fn drawn_once()
     ensures list { HasOneListOfBlocks }
 {
     one_meaning();
-    one_run();
 }
 
 /// `labview picture` of what `labrun` printed draws the report of that very run: its text is never refused. Its logs have an order

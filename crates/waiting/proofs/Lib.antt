@@ -7,3 +7,4 @@ pub mod Stands
 pub mod Ranges
 pub mod Known
 pub mod Pieces
+pub mod OneRun
