@@ -91,7 +91,7 @@ Takes job bench old new status =
     ((status ≡ 0) × (a : Shared) × (s : Seated) × (bench ≡ Some a) × IsSeatIn a job s × (old ≡ None) × (new ≡ Some (Seat s)))
     ⊎ ((new ≡ old) × ((status ≡ 5) ⊎ (status ≡ 7) ⊎ ((a : Shared) × (bench ≡ Some a) × IsWhyNone a job status)))
 
--- the desk is back at its place, and the handle has nothing (0); or the place has a desk (8), or the handle has none (7), and nothing changed
+-- the desk was given back, and the handle has nothing (0); or the place has a desk (8), or the handle has none (7), and nothing changed
 abbrev pub GivesBack : Option Shared → Option Shared → ℕ → Type 0
 GivesBack old new status =
     ((status ≡ 0) × (s : Seated) × (old ≡ Some (Seat s)) × (new ≡ None))
