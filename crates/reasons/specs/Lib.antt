@@ -1,0 +1,4 @@
+pub mod Quiet
+pub mod Reasons
+pub mod Deeds
+pub mod Laws
