@@ -1,5 +1,6 @@
 pub mod Pairs
 pub mod Rooms
+pub mod KeptPlan
 pub mod Step
 pub mod Counting
 pub mod World

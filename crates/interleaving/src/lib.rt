@@ -6,6 +6,7 @@ mod bottle_moves;
 mod counts;
 mod dining;
 mod drinking;
+mod kept_plan;
 mod needs;
 mod opening;
 mod precedence;

@@ -11,7 +11,7 @@ use legal_steps::has;
 use std::alloc::Allocator;
 
 impl<'a, A: Allocator> Tables<'a, A> {
-    pub(crate) fn own_edges(&self, job: JobNo) -> &'a [EdgeNo]
+    pub(crate) fn own_edges(&self, job: JobNo) -> &[EdgeNo]
         requires { IsJob self.now.plan job }
         ensures { result.now ≡ edges_of self.now.plan job }
     {

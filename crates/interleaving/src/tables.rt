@@ -13,6 +13,7 @@ ghost use Rattle.instrument_log.specs.Dial.{turned, dial};
 ghost use Rattle.instrument_log.specs.Entries.{IsWithinLimits};
 ghost use Rattle.instrument_log.specs.InstrumentLog.{MayAppend};
 
+use crate::kept_plan::KeptPlan;
 use crate::opening::{chosen_edges, idle_seats, lower_choices};
 use crate::seat::JobSeat;
 use instrument_log::{Entry, InstrumentLog};
@@ -24,7 +25,7 @@ use std::marker::Model;
 
 #[derive(Drop)]
 pub(crate) struct Tables<'a, A: Allocator = Global> {
-    plan: &'a Plan<A>,
+    plan: KeptPlan<'a, A>,
     edges: Vec<EdgeState, A>,
     seats: Vec<JobSeat<A>, A>,
     logs: Vec<InstrumentLog<A>, A>,
@@ -41,14 +42,14 @@ impl<'a, A: Allocator> Model for Tables<'a, A> {
     ghost Value = { Setting };
 
     ghost view = { λ w. record {
-      plan = w.plan.now;
+      plan = w.plan;
       state = record { edges = w.edges.items; seats = w.seats.items; logs = map (λ (l : LogView). l.entries) w.logs.items };
     } };
 
     ghost invariant = { λ w. record {
-      is_plan : IsPlan w.plan.now;
-      fits : Fits w.plan.now (record { edges = w.edges.items; seats = w.seats.items; logs = map (λ (l : LogView). l.entries) w.logs.items });
-      rooms : HasRooms w.plan.now w.logs.items;
+      is_plan : IsPlan w.plan;
+      fits : Fits w.plan (record { edges = w.edges.items; seats = w.seats.items; logs = map (λ (l : LogView). l.entries) w.logs.items });
+      rooms : HasRooms w.plan w.logs.items;
     } };
 }
 
@@ -56,36 +57,40 @@ impl<'a, A: Allocator + Copy> Tables<'a, A> {
     /// The tables of the opening state that the choices give.
     pub(crate) fn opened(
         alloc: A,
-        plan: &'a Plan<A>,
+        plan: KeptPlan<'a, A>,
         choices: &[EndChoice],
     ) -> Result<Tables<'a, A>, AllocError>
-        requires { AreChoices plan.now choices.now }
-        ensures { IfOk result (λ tables. tables ≡ record { plan = plan.now; state = opening_of plan.now choices.now }) }
+        requires { AreChoices plan choices.now }
+        ensures { IfOk result (λ tables. tables ≡ record { plan = plan; state = opening_of plan choices.now }) }
     {
+        let seen = plan.get();
+        let edges = chosen_edges(alloc, seen, choices)?;
+        let seats = idle_seats(alloc, seen.jobs(), seen.edges() as usize)?;
+        let logs = empty_logs(alloc, seen)?;
         Ok(Tables {
             plan,
-            edges: chosen_edges(alloc, plan, choices)?,
-            seats: idle_seats(alloc, plan.jobs(), plan.edges() as usize)?,
-            logs: empty_logs(alloc, plan)?,
+            edges,
+            seats,
+            logs,
         })
     }
 
     /// The tables of the initial state.
-    pub(crate) fn opening(alloc: A, plan: &'a Plan<A>) -> Result<Tables<'a, A>, AllocError>
-        ensures { IfOk result (λ tables. tables ≡ record { plan = plan.now; state = the_opening plan.now }) }
+    pub(crate) fn opening(alloc: A, plan: KeptPlan<'a, A>) -> Result<Tables<'a, A>, AllocError>
+        ensures { IfOk result (λ tables. tables ≡ record { plan = plan; state = the_opening plan }) }
     {
-        let choices = lower_choices(alloc, plan.edges() as usize)?;
+        let choices = lower_choices(alloc, plan.get().edges() as usize)?;
         Tables::opened(alloc, plan, &choices)
     }
 }
 
 impl<'a, A: Allocator> Tables<'a, A> {
-    pub(crate) fn plan(&self) -> &'a Plan<A>
+    pub(crate) fn plan(&self) -> &Plan<A>
         ensures plan { result.now ≡ self.now.plan }
         ensures fits { Fits self.now.plan self.now.state }
         ensures is_plan { IsPlan self.now.plan }
     {
-        self.plan
+        self.plan.get()
     }
 
     pub(crate) fn is_job(&self, job: JobNo) -> bool
@@ -99,10 +104,11 @@ impl<'a, A: Allocator> Tables<'a, A> {
         ensures owns { IsTrue result ↔ IsOwn self.now.plan job edge }
         ensures is_job { IsOwn self.now.plan job edge → IsJob self.now.plan job }
     {
-        if edge.0 >= self.plan.edges() {
+        let plan = self.plan.get();
+        if edge.0 >= plan.edges() {
             return false;
         }
-        let (lower, higher) = self.plan.ends(edge);
+        let (lower, higher) = plan.ends(edge);
         lower == job || higher == job
     }
 
@@ -112,7 +118,7 @@ impl<'a, A: Allocator> Tables<'a, A> {
         ensures end { result ≡ end_of self.now.plan job edge }
         ensures is_job { IsJob self.now.plan job }
     {
-        End::of(self.plan, job, edge)
+        End::of(self.plan.get(), job, edge)
     }
 
     pub(crate) fn edge(&self, edge: EdgeNo) -> EdgeState

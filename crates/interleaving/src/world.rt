@@ -14,6 +14,7 @@ ghost use Rattle.legal_steps.specs.Opening.{AreChoices, opening_of, the_opening}
 ghost use Rattle.legal_steps.specs.Precedence.{IsAcyclic, Precedes};
 
 use crate::counts::JobCounts;
+use crate::kept_plan::KeptPlan;
 use crate::opening::are_choices;
 use crate::refusal::StartRefusal;
 use crate::tables::Tables;
@@ -60,7 +61,7 @@ impl<'a, A: Allocator + Copy> World<'a, A> {
         if !are_choices(plan, choices) {
             return Err(StartRefusal::BadChoices);
         }
-        let tables = Tables::opened(alloc, plan, choices)?;
+        let tables = Tables::opened(alloc, KeptPlan::lent(plan), choices)?;
         let tally = JobCounts::new(alloc, plan.jobs())?;
         if tables.has_cycle(alloc)? {
             return Err(StartRefusal::Cycle);
@@ -73,9 +74,25 @@ impl<'a, A: Allocator + Copy> World<'a, A> {
     pub fn opening(alloc: A, plan: &'a Plan<A>) -> Result<World<'a, A>, NoMemory>
         ensures { IfOk result (λ world. world ≡ at_start plan.now (the_opening plan.now)) }
     {
+        World::at_opening(alloc, KeptPlan::lent(plan))
+    }
+
+    fn at_opening(alloc: A, plan: KeptPlan<'a, A>) -> Result<World<'a, A>, NoMemory>
+        ensures { IfOk result (λ world. world ≡ at_start plan (the_opening plan)) }
+    {
+        let jobs = plan.get().jobs();
         let tables = Tables::opening(alloc, plan)?;
-        let tally = JobCounts::new(alloc, plan.jobs())?;
+        let tally = JobCounts::new(alloc, jobs)?;
         Ok(World { tables, tally })
+    }
+}
+
+impl<A: Allocator + Copy> World<'static, A> {
+    /// A world as by [`opening`](Self::opening) that owns its plan. When it is dropped it gives back all memory of both.
+    pub fn of_plan(alloc: A, plan: Plan<A>) -> Result<World<'static, A>, NoMemory>
+        ensures { IfOk result (λ world. world ≡ at_start plan (the_opening plan)) }
+    {
+        World::at_opening(alloc, KeptPlan::own(plan))
     }
 }
 
@@ -111,8 +128,8 @@ impl<'a, A: Allocator> World<'a, A> {
         Ok(done)
     }
 
-    /// The plan, which the world borrows.
-    pub fn plan(&self) -> &'a Plan<A>
+    /// The plan, as long as the world isn't stepped: it may be the world's own.
+    pub fn plan(&self) -> &Plan<A>
         ensures plan { result.now ≡ self.now.plan }
         ensures reached { IsReachedWith self.now.plan self.now.state self.now.counts }
     {

@@ -15,7 +15,7 @@ index-requires g c =
       seats = c.self.inside.seats.items;
       logs = map (λ (l : LogView). l.entries) c.self.inside.logs.items;
     } in
-    let plan : LabPlan = c.self.inside.plan.now in
+    let plan : LabPlan = c.self.inside.plan in
     let j = c.job.inside.0 in
     let here : j < length plan.jobs = of_inside (λ p k. k < length p.jobs) c.args.self.now plan s j c.args.job c.self.view_is c.job.view_is c.requires in
     omega (arith, here, c.self.invariant.fits.seats_there)
@@ -27,7 +27,7 @@ returns-clause-phase g c =
       seats = c.self.inside.seats.items;
       logs = map (λ (l : LogView). l.entries) c.self.inside.logs.items;
     } in
-    let plan : LabPlan = c.self.inside.plan.now in
+    let plan : LabPlan = c.self.inside.plan in
     let j = c.job.inside.0 in
     let here : j < length plan.jobs = of_inside (λ p k. k < length p.jobs) c.args.self.now plan s j c.args.job c.self.view_is c.job.view_is c.requires in
     let inside : j < length c.self.inside.seats.items = omega (arith, here, c.self.invariant.fits.seats_there) in
@@ -42,7 +42,7 @@ returns-clause-fits g c =
       seats = c.self.inside.seats.items;
       logs = map (λ (l : LogView). l.entries) c.self.inside.logs.items;
     } in
-    let plan : LabPlan = c.self.inside.plan.now in
+    let plan : LabPlan = c.self.inside.plan in
     let j = c.job.inside.0 in
     let here : j < length plan.jobs = of_inside (λ p k. k < length p.jobs) c.args.self.now plan s j c.args.job c.self.view_is c.job.view_is c.requires in
     let inside : j < length c.self.inside.seats.items = omega (arith, here, c.self.invariant.fits.seats_there) in
@@ -58,7 +58,7 @@ returns-clause-few g c =
       seats = c.self.inside.seats.items;
       logs = map (λ (l : LogView). l.entries) c.self.inside.logs.items;
     } in
-    let plan : LabPlan = c.self.inside.plan.now in
+    let plan : LabPlan = c.self.inside.plan in
     let j = c.job.inside.0 in
     let here : j < length plan.jobs = of_inside (λ p k. k < length p.jobs) c.args.self.now plan s j c.args.job c.self.view_is c.job.view_is c.requires in
     let inside : j < length c.self.inside.seats.items = omega (arith, here, c.self.invariant.fits.seats_there) in

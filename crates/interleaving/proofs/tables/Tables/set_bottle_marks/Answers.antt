@@ -15,7 +15,7 @@ index_mut-seat-requires g c =
       seats = c.self.inside.seats.items;
       logs = map (λ (l : LogView). l.entries) c.self.inside.logs.items;
     } in
-    let plan : LabPlan = c.self.inside.plan.now in
+    let plan : LabPlan = c.self.inside.plan in
     let j = c.job.inside.0 in
     let here : j < length plan.jobs = of_inside (λ p k. k < length p.jobs) c.args.self.now plan s j c.args.job c.self.view_is c.job.view_is c.requires.is_job in
     omega (arith, here, c.self.invariant.fits.seats_there)
@@ -27,7 +27,7 @@ set_bottle_marks-requires g c =
       seats = c.self.inside.seats.items;
       logs = map (λ (l : LogView). l.entries) c.self.inside.logs.items;
     } in
-    let plan : LabPlan = c.self.inside.plan.now in
+    let plan : LabPlan = c.self.inside.plan in
     let j = c.job.inside.0 in
     let e = c.edge.inside.0 in
     let here : j < length plan.jobs = of_inside (λ p k. k < length p.jobs) c.args.self.now plan s j c.args.job c.self.view_is c.job.view_is c.requires.is_job in
@@ -46,7 +46,7 @@ invariant_of-self g c =
       seats = c.self.inside.seats.items;
       logs = map (λ (l : LogView). l.entries) c.self.inside.logs.items;
     } in
-    let plan : LabPlan = c.self.inside.plan.now in
+    let plan : LabPlan = c.self.inside.plan in
     let j = c.job.inside.0 in
     let e = c.edge.inside.0 in
     let here : j < length plan.jobs = of_inside (λ p k. k < length p.jobs) c.args.self.now plan s j c.args.job c.self.view_is c.job.view_is c.requires.is_job in
@@ -70,7 +70,7 @@ returns-clause-state g c =
       seats = c.self.inside.seats.items;
       logs = map (λ (l : LogView). l.entries) c.self.inside.logs.items;
     } in
-    let plan : LabPlan = c.self.inside.plan.now in
+    let plan : LabPlan = c.self.inside.plan in
     let j = c.job.inside.0 in
     let e = c.edge.inside.0 in
     let here : j < length plan.jobs = of_inside (λ p k. k < length p.jobs) c.args.self.now plan s j c.args.job c.self.view_is c.job.view_is c.requires.is_job in

@@ -13,7 +13,7 @@ index_mut-requires g c =
       seats = c.self.inside.seats.items;
       logs = map (λ (l : LogView). l.entries) c.self.inside.logs.items;
     } in
-    let plan : LabPlan = c.self.inside.plan.now in
+    let plan : LabPlan = c.self.inside.plan in
     let here : c.edge.inside.0 < length (edges plan) =
     of_inside (λ p k. k < length (edges p)) c.args.self.now plan s c.edge.inside.0 c.args.edge c.self.view_is c.edge.view_is c.requires.is_edge in
     let there = c.self.invariant.fits.edges_there in
@@ -26,7 +26,7 @@ invariant_of-self g c =
       seats = c.self.inside.seats.items;
       logs = map (λ (l : LogView). l.entries) c.self.inside.logs.items;
     } in
-    let plan : LabPlan = c.self.inside.plan.now in
+    let plan : LabPlan = c.self.inside.plan in
     let e = c.edge.inside.0 in
     record {
       is_plan = c.self.invariant.is_plan;
@@ -46,7 +46,7 @@ returns-clause-state g c =
       seats = c.self.inside.seats.items;
       logs = map (λ (l : LogView). l.entries) c.self.inside.logs.items;
     } in
-    edge_written c.args.self.now c.self.inside.plan.now s c.edge.inside.0 c.args.edge c.args.state c.self.view_is c.edge.view_is
+    edge_written c.args.self.now c.self.inside.plan s c.edge.inside.0 c.args.edge c.args.state c.self.view_is c.edge.view_is
 
 pub returns-clause-plan : goal.returns-clause-plan
 returns-clause-plan g c = ap (λ (x : Setting). x.plan) c.self.view_is

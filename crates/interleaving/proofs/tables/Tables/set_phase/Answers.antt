@@ -15,7 +15,7 @@ invariant_of-self g c =
       seats = c.self.inside.seats.items;
       logs = map (λ (l : LogView). l.entries) c.self.inside.logs.items;
     } in
-    let plan : LabPlan = c.self.inside.plan.now in
+    let plan : LabPlan = c.self.inside.plan in
     let j = c.job.inside.0 in
     let same : plan ≡ c.args.self.now.plan = ap (λ (x : Setting). x.plan) c.self.view_is in
     let here : j < length plan.jobs = grind arith in

@@ -14,7 +14,7 @@ invariant_of-self g c =
       seats = c.self.inside.seats.items;
       logs = map (λ (l : LogView). l.entries) c.self.inside.logs.items;
     } in
-    let plan : LabPlan = c.self.inside.plan.now in
+    let plan : LabPlan = c.self.inside.plan in
     let j = c.job.inside.0 in
     let here : j < length plan.jobs = grind arith in
     let inside : j < length c.self.inside.seats.items = omega (arith, here, c.self.invariant.fits.seats_there) in
