@@ -1,0 +1,23 @@
+-- For readers: who keeps a job waiting for an instrument.
+use Rattle.std.specs.Prelude.{◌≡◌, ◌⊎◌, ℕ, ◌≤◌, ◌<◌, length, Option, Some, None}
+use Rattle.lab_plan.specs.LabPlan.{LabPlan}
+use Rattle.legal_steps.specs.State.{State, IsDrinking, phase}
+use Rattle.legal_steps.specs.Legal.{IsJob, instrument_of}
+use Rattle.interleaving.specs.World.{WorldView}
+use Rattle.reasons.specs.Reasons.{Lacks, Keeps as KeepsBottle}
+use Rattle.live_lab.specs.declared.keeping.Keepers.{Keepers}
+use Rattle.live_lab.specs.Sets.{AreJobs}
+
+-- job k keeps a bottle of the instrument that job j lacks
+abbrev pub IsKeeper : LabPlan → State → ℕ → ℕ → ℕ → Type 0
+IsKeeper plan s j i k = (e : ℕ) × (b : ℕ) × (instrument_of plan e b ≡ i) × Lacks plan s j e b × KeepsBottle plan s k e b
+
+-- the jobs that do, and those of them that hold
+pub record AreKeepers (w : WorldView) (j i : ℕ) (r : Keepers) : Type 0 where
+  pub jobs : AreJobs w.plan r.jobs (IsKeeper w.plan w.state j i)
+  pub holding : AreJobs w.plan r.holding (λ k. IsKeeper w.plan w.state j i k × IsDrinking (phase w.state k))
+
+-- these; or there is no such job, or no such instrument
+abbrev pub AreKeepersAt : WorldView → ℕ → ℕ → Option Keepers → Type 0
+AreKeepersAt w job i (Some r) = IsJob w.plan job × (i < length w.plan.instruments) × AreKeepers w job i r
+AreKeepersAt w job i None = (length w.plan.jobs ≤ job) ⊎ (length w.plan.instruments ≤ i)

@@ -1,0 +1,10 @@
+pub mod Clocks
+pub mod Labs
+pub mod Calls
+pub mod Sets
+pub mod Settles
+pub mod Stages
+pub mod Ends
+pub mod Readers
+pub mod Keepers
+pub mod Prints

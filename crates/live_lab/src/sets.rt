@@ -1,0 +1,1 @@
+//! Sets of jobs, a bit for each.
