@@ -38,8 +38,8 @@ pub fn due_moves<A: Allocator>(world: &World<A>, job: JobNo, edge: EdgeNo) -> Ed
     ensures legal { IsLegalFrom world.now.plan world.now.state (events_of result job edge) }
 {
     let plan = world.plan();
-    let phase = world.job(job);
     let here = End::of(plan, job, edge);
+    let phase = world.job(job);
     let mine = seen_from(plan, edge, here, world.edge(edge));
     let needed = needed_in(plan, job, phase, edge);
     let forks = due_forks(phase.dining, End::Higher, mine);
