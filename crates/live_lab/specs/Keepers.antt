@@ -8,9 +8,13 @@ use Rattle.reasons.specs.Reasons.{Lacks, Keeps as KeepsBottle}
 use Rattle.live_lab.specs.declared.keeping.Keepers.{Keepers}
 use Rattle.live_lab.specs.Sets.{AreJobs}
 
--- job k keeps a bottle of the instrument that job j lacks
+-- job k keeps a bottle of the instrument on edge e that job j lacks
+abbrev pub IsKeptAt : LabPlan → State → ℕ → ℕ → ℕ → ℕ → Type 0
+IsKeptAt plan s j i k e = (b : ℕ) × (instrument_of plan e b ≡ i) × Lacks plan s j e b × KeepsBottle plan s k e b
+
+-- on any edge
 abbrev pub IsKeeper : LabPlan → State → ℕ → ℕ → ℕ → Type 0
-IsKeeper plan s j i k = (e : ℕ) × (b : ℕ) × (instrument_of plan e b ≡ i) × Lacks plan s j e b × KeepsBottle plan s k e b
+IsKeeper plan s j i k = (e : ℕ) × IsKeptAt plan s j i k e
 
 -- the jobs that do, and those of them that hold
 pub record AreKeepers (w : WorldView) (j i : ℕ) (r : Keepers) : Type 0 where

@@ -1,7 +1,17 @@
 //! Who keeps a job waiting.
-ghost use Rattle.live_lab.specs.Keepers.{AreKeepersAt};
+ghost use Rattle.std.specs.Prelude.{◌≡◌, ◌<◌, ◌↔◌, IsTrue, length};
+ghost use Rattle.lab_plan.specs.LabPlan.{bottles};
+ghost use Rattle.lab_plan.specs.InstrumentSets.{holds};
+ghost use Rattle.legal_steps.specs.State.{IsOwn, edge as edge_at, bottle_end as end_of_bottle};
+ghost use Rattle.legal_steps.specs.Legal.{IsJob, Here, Needs};
+ghost use Rattle.reasons.specs.Reasons.{Lacks, Keeps};
+ghost use Rattle.live_lab.specs.Keepers.{IsKeptAt, IsKeeper, AreKeepers, AreKeepersAt};
 
 use crate::lab::Lab;
+use interleaving::World;
+use lab_plan::{EdgeNo, InstrumentNo, JobNo};
+use legal_steps::{End, bottle_end};
+use std::alloc::Allocator;
 
 /// Jobs that keep a job waiting for an instrument. Sets of jobs have bit k for job k.
 #[derive(Clone, Copy, PartialEq, Eq, Debug)]
@@ -12,11 +22,133 @@ pub struct Keepers {
     pub holding: u32,
 }
 
+/// Whether the set has the instrument.
+#[tactic(auto, using(lab_plan::proofs::Bits::holds_is))]
+fn names(set: u64, instrument: InstrumentNo) -> bool
+    requires { instrument < 64 }
+    ensures { result ≡ holds set instrument }
+{
+    set >> instrument.0 & 1 == 1
+}
+
+/// Whether the job is in a session that names the instrument.
+fn needs<A: Allocator>(world: &World<A>, job: JobNo, instrument: InstrumentNo) -> bool
+    requires job { IsJob world.now.plan job }
+    requires few { instrument < 64 }
+    ensures { IsTrue result ↔ Needs world.now.plan world.now.state job instrument }
+{
+    let phase = world.job(job);
+    phase.is_in_session() && names(world.plan().needs(job, phase.session), instrument)
+}
+
+/// Whether the job has the bottle.
+fn is_here<A: Allocator>(world: &World<A>, job: JobNo, edge: EdgeNo, bottle: u32) -> bool
+    requires own { IsOwn world.now.plan job edge }
+    requires bottle { bottle < length (bottles world.now.plan edge) }
+    ensures { IsTrue result ↔ Here world.now.plan job edge (end_of_bottle (edge_at world.now.state edge).bottles bottle) }
+{
+    let _ = world.plan().bottles(edge);
+    bottle_end(world.edge(edge).bottles, bottle) == End::of(world.plan(), job, edge)
+}
+
+/// Whether the first job lacks the bottle, and the second keeps it.
+fn is_kept<A: Allocator>(
+    world: &World<A>,
+    job: JobNo,
+    other: JobNo,
+    edge: EdgeNo,
+    bottle: u32,
+) -> bool
+    requires own { IsOwn world.now.plan job edge }
+    requires across { IsOwn world.now.plan other edge }
+    requires bottle { bottle < length (bottles world.now.plan edge) }
+    ensures { IsTrue result ↔ (Lacks world.now.plan world.now.state job edge bottle × Keeps world.now.plan world.now.state other edge bottle) }
+{
+    let plan = world.plan();
+    let instrument = plan.instrument_of(edge, bottle);
+    !is_here(world, job, edge, bottle)
+        && needs(world, job, instrument)
+        && is_here(world, other, edge, bottle)
+        && needs(world, other, instrument)
+        && (world.job(other).is_drinking() || world.edge(edge).fork == End::of(plan, other, edge))
+}
+
+/// Whether the second job keeps a bottle of the instrument on the edge that the first lacks.
+fn keeps_there<A: Allocator>(
+    world: &World<A>,
+    job: JobNo,
+    other: JobNo,
+    instrument: InstrumentNo,
+    edge: EdgeNo,
+) -> bool
+    requires own { IsOwn world.now.plan job edge }
+    requires across { IsOwn world.now.plan other edge }
+    ensures { IsTrue result ↔ IsKeptAt world.now.plan world.now.state job instrument other edge }
+{
+    for bottle in 0..world.plan().bottles(edge) {
+        if world.plan().instrument_of(edge, bottle) == instrument
+            && is_kept(world, job, other, edge, bottle)
+        {
+            return true;
+        }
+    }
+    false
+}
+
+/// Whether the second job keeps a bottle of the instrument that the first lacks.
+fn is_keeper<A: Allocator>(
+    world: &World<A>,
+    job: JobNo,
+    other: JobNo,
+    instrument: InstrumentNo,
+) -> bool
+    requires job { IsJob world.now.plan job }
+    ensures { IsTrue result ↔ IsKeeper world.now.plan world.now.state job instrument other }
+{
+    let plan = world.plan();
+    for edge in plan.edges_of(job) {
+        let (lower, higher) = plan.ends(*edge);
+        if (lower == other || higher == other)
+            && keeps_there(world, job, other, instrument, *edge)
+        {
+            return true;
+        }
+    }
+    false
+}
+
+/// The jobs that keep the job waiting for the instrument.
+fn keepers_of<A: Allocator>(world: &World<A>, job: JobNo, instrument: InstrumentNo) -> Keepers
+    requires { IsJob world.now.plan job }
+    ensures { AreKeepers world.now job instrument result }
+{
+    let mut jobs = 0u32;
+    let mut holding = 0u32;
+    for number in 0..world.plan().jobs() {
+        let other = JobNo(number as u8);
+        if is_keeper(world, job, other, instrument) {
+            jobs |= 1 << number;
+            if world.job(other).is_drinking() {
+                holding |= 1 << number;
+            }
+        }
+    }
+    Keepers { jobs, holding }
+}
+
 impl Lab {
     /// The jobs that keep a job waiting for an instrument, if there is such a job and such an instrument.
     pub fn keepers(&self, job: u32, instrument: u32) -> Option<Keepers>
         ensures { AreKeepersAt self.now.world job instrument result }
     {
-        unreachable!()
+        let plan = self.world.plan();
+        if plan.jobs() <= job as usize || plan.instruments() <= instrument as usize {
+            return None;
+        }
+        Some(keepers_of(
+            &self.world,
+            JobNo(job as u8),
+            InstrumentNo(instrument as u8),
+        ))
     }
 }

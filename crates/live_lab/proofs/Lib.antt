@@ -1,0 +1,3 @@
+mod Phases
+mod Lists
+mod InLab
