@@ -42,17 +42,6 @@ nil_of : (l : List Event) → length l ≡ 0 → l ≡ []
 nil_of [] h = refl
 nil_of (x ∷ l) h = absurd (omega (arith, h))
 
--- it was noted already
-pub edge_noted : (w : WorldView) (due : DueView) (j e : ℕ) → AreMarked w.plan w.state due → is_due due j ≡ true →
-    is_noted due (end_of w.plan j e) e ≡ true → AttendsEdge w due j e 0 w due
-edge_noted w due j e marked is noted = record {
-  alone = alone_none w;
-  marked = marked;
-  still_due = is;
-  noted = λ h. noted;
-  no_more = λ h. record { jobs = λ k out. out; notes = λ end f n. n };
-}
-
 module _ (old new : WorldView) (due : DueView) (j e n : ℕ) (fit : Fits old.plan old.state) (own : IsOwn old.plan j e)
     (marked : AreMarked old.plan old.state due) (is : is_due due j ≡ true) (v : VisitsEdge old j e n new) where
   abbrev plan : LabPlan

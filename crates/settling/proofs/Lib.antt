@@ -8,3 +8,4 @@ pub mod Marks
 pub mod Waking
 pub mod Deeds
 pub mod Attended
+pub mod Rested
