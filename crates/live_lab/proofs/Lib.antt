@@ -1,3 +1,7 @@
 mod Phases
 mod Lists
 mod InLab
+mod Turns
+mod Bits
+mod Sayings
+mod Clocks

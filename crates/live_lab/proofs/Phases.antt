@@ -1,5 +1,5 @@
 -- How far a job is after a command and after words of owners.
-use Rattle.std.proofs.Common.{◌≡◌, ◌≢◌, ℕ, ◌+◌, ◌<◌, List, [], ◌∷◌, length, refl, sym, ap, ◌∙◌, subst}
+use Rattle.std.proofs.Common.{◌≡◌, ◌≢◌, ℕ, ◌+◌, ◌<◌, List, [], ◌∷◌, length, refl, sym, ap, ◌∙◌, subst, arith}
 use Rattle.lab_plan.specs.LabPlan.{LabPlan, commands}
 use Rattle.legal_steps.specs.declared.event.Event.{Event}
 use Rattle.legal_steps.specs.declared.event.Event.TheVariants.{Reach, Act, Quit}
@@ -57,3 +57,21 @@ acted old new j inside l =
     let s : State = old.state in
     ap (λ (p : JobState). p.drinking) (phase_after old new (Act j) j l
     ∙ phase_set (with_entry s (next_command old.plan s j).0 (next_entry old.plan s j)) j (record (phase s j) { drinking = Drinks; position = position s j + 1 }) inside)
+
+-- ---- commands one after another
+
+pub plus_none : (n : ℕ) → n ≡ n + 0
+plus_none n = omega arith
+
+-- the session's commands are as many as before
+pub left_same : (old w : WorldView) (j : ℕ) {n : ℕ} → phase w.state j ≡ record (phase old.state j) { position = n } → w.plan ≡ old.plan
+    → length (session_commands w.plan w.state j) ≡ length (session_commands old.plan old.state j)
+left_same old w j at same = λ i. length (commands (same i) j (at i).session)
+
+-- n commands, and one more
+pub further : (p n : ℕ) (s : State) (j : ℕ) (t m : State) → drinking s j ≡ Drinks → phase m j ≡ record (phase s j) { position = p + n }
+    → phase t j ≡ record (phase m j) { drinking = Drinks; position = position m j + 1 } → phase t j ≡ record (phase s j) { position = p + (n + 1) }
+further p n s j t m drinks before more =
+    let one : p + n + 1 ≡ p + (n + 1) = omega arith in
+    more ∙ (ap (λ (x : JobState). record x { drinking = Drinks; position = x.position + 1 }) before
+    ∙ (λ i. record (phase s j) { drinking = sym drinks i; position = one i }))

@@ -16,6 +16,7 @@ use Rattle.reasons.specs.Deeds.{is_deed}
 use Rattle.live_lab.specs.declared.words.Word.{Word}
 use Rattle.live_lab.specs.declared.words.Word.TheVariants.{Begins, GivesUp}
 use Rattle.live_lab.specs.Calls.{IsMealDue}
+use Rattle.live_lab.specs.Settles.{ComesToRest}
 use Rattle.live_lab.specs.Ends.{in_hand, rest_of_session}
 
 -- the phase act was done that was due, and it is said whether there was one
@@ -74,3 +75,9 @@ pub record LetsGo (old : WorldView) (j n : ℕ) (new : WorldView) : Type 0 where
 abbrev pub said : Word → ℕ → Event
 said Begins j = Thirst j
 said GivesUp j = Withdraw j
+
+-- all was done that was due of itself: so many deeds
+pub record RestsIn (old : WorldView) (n : ℕ) (new : WorldView) : Type 0 where
+  pub events : List Event
+  pub rests : ComesToRest old events new
+  pub deeds : n ≡ count_by is_deed events

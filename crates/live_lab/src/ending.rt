@@ -10,12 +10,12 @@ ghost use Rattle.live_lab.specs.Doing.{TakesFromHand, LetsGo};
 ghost use Rattle.live_lab.specs.Ends.{EndsSession, commands_by};
 
 use crate::lab::Lab;
+use crate::resting::come_to_rest;
 use crate::stepping::step;
 use interleaving::World;
 use lab_plan::JobNo;
 use legal_steps::{Drinking, Event};
 use session_layer::Turned;
-use crate::stub::rest;
 use settling::wake_near;
 use std::alloc::Allocator;
 
@@ -81,7 +81,7 @@ impl Lab {
         }
         let own = let_go(&mut self.world, job);
         wake_near(self.world.plan(), &mut self.due, job);
-        let more = rest(&mut self.world, &mut self.due);
+        let more = come_to_rest(&mut self.world, &mut self.due);
         Ended::LetGo(Turned::of(own + more, 0))
     }
 

@@ -1,15 +1,15 @@
 //! Who keeps a job waiting.
-ghost use Rattle.std.specs.Prelude.{◌≡◌, ◌<◌, ◌↔◌, IsTrue, length};
-ghost use Rattle.lab_plan.specs.LabPlan.{bottles};
+ghost use Rattle.std.specs.Prelude.{◌≡◌, ℕ, ◌≤◌, ◌<◌, ◌↔◌, IsTrue, length};
+ghost use Rattle.lab_plan.specs.LabPlan.{bottles, sessions, session_names};
 ghost use Rattle.lab_plan.specs.InstrumentSets.{holds};
 ghost use Rattle.legal_steps.specs.State.{IsOwn, edge as edge_at, bottle_end as end_of_bottle};
-ghost use Rattle.legal_steps.specs.Legal.{IsJob, Here, Needs};
+ghost use Rattle.legal_steps.specs.Legal.{IsJob, Here, Needs, instrument_of};
 ghost use Rattle.reasons.specs.Reasons.{Lacks, Keeps};
 ghost use Rattle.live_lab.specs.Keepers.{IsKeptAt, IsKeeper, AreKeepers, AreKeepersAt};
 
 use crate::lab::Lab;
 use interleaving::World;
-use lab_plan::{EdgeNo, InstrumentNo, JobNo};
+use lab_plan::{EdgeNo, InstrumentNo, JobNo, Plan};
 use legal_steps::{End, bottle_end};
 use std::alloc::Allocator;
 
@@ -31,6 +31,16 @@ fn names(set: u64, instrument: InstrumentNo) -> bool
     set >> instrument.0 & 1 == 1
 }
 
+/// The instruments that a session of the job names.
+fn named<A: Allocator>(plan: &Plan<A>, job: JobNo, session: u32) -> u64
+    requires is_job { IsJob plan.now job }
+    requires begun { 1 ≤ session }
+    requires is_session { session ≤ length (sessions plan.now job) }
+    ensures { (i : ℕ) → holds result i ≡ session_names plan.now job session i }
+{
+    plan.needs(job, session)
+}
+
 /// Whether the job is in a session that names the instrument.
 fn needs<A: Allocator>(world: &World<A>, job: JobNo, instrument: InstrumentNo) -> bool
     requires job { IsJob world.now.plan job }
@@ -38,7 +48,10 @@ fn needs<A: Allocator>(world: &World<A>, job: JobNo, instrument: InstrumentNo) -
     ensures { IsTrue result ↔ Needs world.now.plan world.now.state job instrument }
 {
     let phase = world.job(job);
-    phase.is_in_session() && names(world.plan().needs(job, phase.session), instrument)
+    if !phase.is_in_session() {
+        return false;
+    }
+    names(named(world.plan(), job, phase.session), instrument)
 }
 
 /// Whether the job has the bottle.
@@ -51,26 +64,52 @@ fn is_here<A: Allocator>(world: &World<A>, job: JobNo, edge: EdgeNo, bottle: u32
     bottle_end(world.edge(edge).bottles, bottle) == End::of(world.plan(), job, edge)
 }
 
-/// Whether the first job lacks the bottle, and the second keeps it.
-fn is_kept<A: Allocator>(
+/// Whether the job lacks the bottle, which is the instrument's.
+fn lacks<A: Allocator>(
     world: &World<A>,
     job: JobNo,
-    other: JobNo,
     edge: EdgeNo,
     bottle: u32,
+    instrument: InstrumentNo,
 ) -> bool
+    requires job { IsJob world.now.plan job }
     requires own { IsOwn world.now.plan job edge }
-    requires across { IsOwn world.now.plan other edge }
     requires bottle { bottle < length (bottles world.now.plan edge) }
-    ensures { IsTrue result ↔ (Lacks world.now.plan world.now.state job edge bottle × Keeps world.now.plan world.now.state other edge bottle) }
+    requires is { instrument_of world.now.plan edge bottle ≡ instrument }
+    requires few { instrument < 64 }
+    ensures { IsTrue result ↔ Lacks world.now.plan world.now.state job edge bottle }
 {
-    let plan = world.plan();
-    let instrument = plan.instrument_of(edge, bottle);
-    !is_here(world, job, edge, bottle)
-        && needs(world, job, instrument)
-        && is_here(world, other, edge, bottle)
-        && needs(world, other, instrument)
-        && (world.job(other).is_drinking() || world.edge(edge).fork == End::of(plan, other, edge))
+    if is_here(world, job, edge, bottle) {
+        return false;
+    }
+    needs(world, job, instrument)
+}
+
+/// Whether the job keeps the bottle, which is the instrument's.
+fn keeps<A: Allocator>(
+    world: &World<A>,
+    job: JobNo,
+    edge: EdgeNo,
+    bottle: u32,
+    instrument: InstrumentNo,
+) -> bool
+    requires job { IsJob world.now.plan job }
+    requires own { IsOwn world.now.plan job edge }
+    requires bottle { bottle < length (bottles world.now.plan edge) }
+    requires is { instrument_of world.now.plan edge bottle ≡ instrument }
+    requires few { instrument < 64 }
+    ensures { IsTrue result ↔ Keeps world.now.plan world.now.state job edge bottle }
+{
+    if !is_here(world, job, edge, bottle) {
+        return false;
+    }
+    if !needs(world, job, instrument) {
+        return false;
+    }
+    if world.job(job).is_drinking() {
+        return true;
+    }
+    world.edge(edge).fork == End::of(world.plan(), job, edge)
 }
 
 /// Whether the second job keeps a bottle of the instrument on the edge that the first lacks.
@@ -81,13 +120,17 @@ fn keeps_there<A: Allocator>(
     instrument: InstrumentNo,
     edge: EdgeNo,
 ) -> bool
+    requires job { IsJob world.now.plan job }
+    requires other { IsJob world.now.plan other }
     requires own { IsOwn world.now.plan job edge }
     requires across { IsOwn world.now.plan other edge }
+    requires few { instrument < 64 }
     ensures { IsTrue result ↔ IsKeptAt world.now.plan world.now.state job instrument other edge }
 {
     for bottle in 0..world.plan().bottles(edge) {
         if world.plan().instrument_of(edge, bottle) == instrument
-            && is_kept(world, job, other, edge, bottle)
+            && lacks(world, job, edge, bottle, instrument)
+            && keeps(world, other, edge, bottle, instrument)
         {
             return true;
         }
@@ -103,10 +146,13 @@ fn is_keeper<A: Allocator>(
     instrument: InstrumentNo,
 ) -> bool
     requires job { IsJob world.now.plan job }
+    requires other { IsJob world.now.plan other }
+    requires few { instrument < 64 }
     ensures { IsTrue result ↔ IsKeeper world.now.plan world.now.state job instrument other }
 {
     let plan = world.plan();
-    for edge in plan.edges_of(job) {
+    let own = plan.edges_of(job);
+    for edge in own {
         let (lower, higher) = plan.ends(*edge);
         if (lower == other || higher == other)
             && keeps_there(world, job, other, instrument, *edge)
@@ -119,7 +165,8 @@ fn is_keeper<A: Allocator>(
 
 /// The jobs that keep the job waiting for the instrument.
 fn keepers_of<A: Allocator>(world: &World<A>, job: JobNo, instrument: InstrumentNo) -> Keepers
-    requires { IsJob world.now.plan job }
+    requires job { IsJob world.now.plan job }
+    requires few { instrument < 64 }
     ensures { AreKeepers world.now job instrument result }
 {
     let mut jobs = 0u32;

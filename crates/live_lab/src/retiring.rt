@@ -4,12 +4,12 @@ ghost use Rattle.live_lab.specs.Calls.{AtJob};
 ghost use Rattle.live_lab.specs.Stages.{GoesToRetire, RestsAndRetires};
 
 use crate::lab::Lab;
+use crate::resting::come_to_rest;
 use crate::stage::{Aim, Stage, stage_of};
 use crate::stepping::attempt;
 use lab_plan::JobNo;
 use legal_steps::Event;
 use session_layer::Turned;
-use crate::stub::rest;
 use settling::wake_near;
 
 impl Lab {
@@ -17,7 +17,7 @@ impl Lab {
         requires { IsJob self.old.world.plan job }
         ensures { RestsAndRetires job self.old result self.new }
     {
-        let done = rest(&mut self.world, &mut self.due);
+        let done = come_to_rest(&mut self.world, &mut self.due);
         let did = attempt(&mut self.world, Event::Retire(job));
         if did {
             wake_near(self.world.plan(), &mut self.due, job);

@@ -6,10 +6,10 @@ ghost use Rattle.live_lab.specs.Settles.{Settles};
 use crate::clock::{Clock, after_turn};
 use crate::kinds::{Kind, has, jobs_of};
 use crate::lab::Lab;
+use crate::resting::come_to_rest;
 use crate::words::{Word, say_each};
 use interleaving::World;
 use lab_plan::JobNo;
-use crate::stub::rest;
 use std::alloc::Allocator;
 
 /// What came of a settle. Sets of jobs have bit k for job k.
@@ -46,13 +46,13 @@ impl Lab {
         ensures { Settles waiting self.old result self.new }
     {
         let thirsty = jobs_of(&self.world, &self.clocks, waiting, Kind::Waits);
-        let first = rest(&mut self.world, &mut self.due);
+        let first = come_to_rest(&mut self.world, &mut self.due);
         let begun = jobs_of(&self.world, &self.clocks, waiting, Kind::Begins);
         let began = say_each(&mut self.world, &mut self.due, begun, Word::Begins);
-        let second = rest(&mut self.world, &mut self.due);
+        let second = come_to_rest(&mut self.world, &mut self.due);
         let given_up = jobs_of(&self.world, &self.clocks, waiting, Kind::IsImpatient);
         let gave_up = say_each(&mut self.world, &mut self.due, given_up, Word::GivesUp);
-        let third = rest(&mut self.world, &mut self.due);
+        let third = come_to_rest(&mut self.world, &mut self.due);
         count_turns(&mut self.clocks, &self.world, waiting, thirsty);
         Came {
             holds: jobs_of(&self.world, &self.clocks, waiting, Kind::Holds),

@@ -1,9 +1,6 @@
-use Rattle.std.proofs.Common.{rules, ◌≡◌, ◌≤◌, length, ℕ, ◌+◌, ◌-◌, ◌*◌, ◌<◌, ◌/◌, ◌%◌, Bool, true, false, nat_eq, nat_lt, List, [], ◌∷◌, ◌++◌, slice_index_or, slice_set, bit_and, bit_or, Fits, w8, w32, w64, Bor, MutBor}
-use Rattle.legal_steps.specs.Legal.{IsJob}
-use Rattle.live_lab.specs.Calls.{AtJob, Serves, ServesOthers, both}
-use Rattle.live_lab.specs.Doing.{MealIn, ServesIn}
+use Rattle.live_lab.proofs.Turns.{served}
 use Rattle.live_lab.proofs.serving.serve.Goals as goal
 
--- src/serving.rt:28:1
 pub returns : goal.returns
-returns g c = ?
+returns g c = served c.args.world.now c.visit_all-done.new.world c.meal.new.world c.args.job c.visit_all-done.result c.meal.result
+    c.visit_all-done.ensures.visits c.meal.ensures.meal

@@ -1,9 +1,6 @@
-use Rattle.std.proofs.Common.{rules, ◌≡◌, ◌≤◌, ℕ, ◌+◌, ◌-◌, ◌*◌, ◌<◌, length, ◌/◌, ◌%◌, Bool, true, false, nat_eq, nat_lt, List, [], ◌∷◌, ◌++◌, slice_index_or, slice_set, bit_and, bit_or, Fits, w8, w32, w64, Bor, MutBor}
-use Rattle.legal_steps.specs.Legal.{IsJob}
-use Rattle.live_lab.specs.Calls.{AtJob, TakesTurn}
-use Rattle.live_lab.specs.Doing.{ActsIn, TurnsIn}
+use Rattle.live_lab.proofs.Turns.{turned}
 use Rattle.live_lab.proofs.turning.turn.Goals as goal
 
--- src/turning.rt:33:1
 pub returns : goal.returns
-returns g c = ?
+returns g c = turned c.args.world.now c.visit_all-done.new.world c.act.new.world c.args.job c.args.waited c.visit_all-done.result c.act.result
+    c.visit_all-done.ensures.visits c.act.ensures.acts

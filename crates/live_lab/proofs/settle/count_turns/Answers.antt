@@ -1,0 +1,8 @@
+use Rattle.std.proofs.Common.{rules, ◌≡◌, length, ℕ, ◌+◌, ◌-◌, ◌*◌, ◌<◌, ◌≤◌, ◌/◌, ◌%◌, Bool, true, false, nat_eq, nat_lt, List, [], ◌∷◌, ◌++◌, slice_index_or, slice_set, bit_and, bit_or, Fits, w8, w32, w64, Bor, MutBor}
+use Rattle.live_lab.specs.Counting.{AreTurnsCounted}
+use Rattle.live_lab.specs.Settles.{Settles}
+use Rattle.live_lab.proofs.settle.count_turns.Goals as goal
+
+-- src/settle.rt:33:5
+pub loop-job-preserved : goal.loop-job-preserved
+loop-job-preserved g c = ?
