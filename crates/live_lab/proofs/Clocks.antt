@@ -1,7 +1,8 @@
 -- Turns that are counted job by job.
 use Rattle.std.proofs.Common.{◌≡◌, ◌≢◌, ◌⊎◌, ℕ, ◌+◌, ◌≤◌, ◌<◌, Bool, true, false, ◌||◌, if◌then◌else◌, List, length, set, slice_index_or, get_or-set_same, get_or-set_other, length-set, refl, sym, ap, ◌∙◌, subst, inl, inr, arith}
-use Rattle.std.proofs.lemmas.Bool.{cases_eq}
+use Rattle.std.proofs.lemmas.Bool.{cases_eq, false≢true}
 use Rattle.lab_plan.specs.InstrumentSets.{holds}
+use Rattle.legal_steps.specs.declared.phase.JobState.{JobState}
 use Rattle.legal_steps.specs.State.{phase}
 use Rattle.interleaving.specs.World.{WorldView}
 use Rattle.live_lab.specs.declared.clock.Clock.{Clock}
@@ -44,3 +45,26 @@ one_left w waiting thirsty old n mid is c = record {
   ];
   left = λ j above. c.left j (omega (arith, above));
 }
+
+either : (a b : Bool) → (a ≡ true) ⊎ (b ≡ true) → (a || b) ≡ true
+either true b h = refl
+either false b (inl h) = absurd (false≢true h)
+either false b (inr h) = h
+
+neither : (a b : Bool) → a ≡ false → b ≡ false → (a || b) ≡ false
+neither a b f g = (λ i. f i || b) ∙ g
+
+-- the clock of a job that is counted
+pub goes_on : (w : WorldView) (waiting thirsty : ℕ) (old : List Clock) (n : ℕ) (mid x : Clock) (a : Bool) (p : JobState) → mid ≡ at old n → a ≡ holds thirsty n
+    → p ≡ phase w.state n → (holds waiting n ≡ true) ⊎ (holds thirsty n ≡ true) → x ≡ after_turn a p mid → x ≡ clock_then w waiting thirsty old n
+goes_on w waiting thirsty old n mid x a p left thirst there counts is =
+    let go : Clock = after_turn (holds thirsty n) (phase w.state n) (at old n) in
+    is ∙ ((λ i. after_turn (thirst i) (there i) (left i))
+    ∙ sym (ap (λ (b : Bool). if b then go else at old n) (either (holds waiting n) (holds thirsty n) counts)))
+
+-- and of one that isn't
+pub stays : (w : WorldView) (waiting thirsty : ℕ) (old : List Clock) (n : ℕ) → holds waiting n ≡ false → holds thirsty n ≡ false
+    → at old n ≡ clock_then w waiting thirsty old n
+stays w waiting thirsty old n f g =
+    let go : Clock = after_turn (holds thirsty n) (phase w.state n) (at old n) in
+    sym (ap (λ (b : Bool). if b then go else at old n) (neither (holds waiting n) (holds thirsty n) f g))

@@ -5,3 +5,5 @@ mod Turns
 mod Bits
 mod Sayings
 mod Clocks
+mod Tests
+mod Sessions

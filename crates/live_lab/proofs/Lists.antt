@@ -93,7 +93,7 @@ commands_are_by j zero = tt
 commands_are_by j (suc n) = by_both j (commands_by j n) (Reach j ∷ Act j ∷ []) (commands_are_by j n) (refl, refl, tt)
 
 pub session_by : (d : Drinking) (j n : ℕ) → AreBy j (rest_of_session d j n)
-session_by d j n = by_both j (in_hand d j) (commands_by j n ++ Quit j ∷ []) (hand_by d j) (by_both j (commands_by j n) (Quit j ∷ []) (commands_are_by j n) (refl, tt))
+session_by d j n = by_both j (in_hand d j ++ commands_by j n) (Quit j ∷ []) (by_both j (in_hand d j) (commands_by j n) (hand_by d j) (commands_are_by j n)) (refl, tt)
 
 pub on_by : (j : ℕ) (b : Bool) (x : Event) → actor x ≡ j → AreBy j (on b x [])
 on_by j b x is = by_on j b x [] is tt

@@ -1,11 +1,11 @@
 //! Who keeps a job waiting.
 ghost use Rattle.std.specs.Prelude.{◌≡◌, ℕ, ◌≤◌, ◌<◌, ◌↔◌, IsTrue, length};
-ghost use Rattle.lab_plan.specs.LabPlan.{bottles, sessions, session_names};
+ghost use Rattle.lab_plan.specs.LabPlan.{edges, bottles, sessions, session_names};
 ghost use Rattle.lab_plan.specs.InstrumentSets.{holds};
 ghost use Rattle.legal_steps.specs.State.{IsOwn, edge as edge_at, bottle_end as end_of_bottle};
 ghost use Rattle.legal_steps.specs.Legal.{IsJob, Here, Needs, instrument_of};
 ghost use Rattle.reasons.specs.Reasons.{Lacks, Keeps};
-ghost use Rattle.live_lab.specs.Keepers.{IsKeptAt, IsKeeper, AreKeepers, AreKeepersAt};
+ghost use Rattle.live_lab.specs.Keepers.{IsKept, IsKeptAt, IsKeeper, AreKeepers, AreKeepersAt};
 
 use crate::lab::Lab;
 use interleaving::World;
@@ -112,8 +112,48 @@ fn keeps<A: Allocator>(
     world.edge(edge).fork == End::of(world.plan(), job, edge)
 }
 
-/// Whether the second job keeps a bottle of the instrument on the edge that the first lacks.
-fn keeps_there<A: Allocator>(
+/// Whether the bottle is the instrument's.
+fn is_of<A: Allocator>(
+    world: &World<A>,
+    edge: EdgeNo,
+    bottle: u32,
+    instrument: InstrumentNo,
+) -> bool
+    requires edge { edge < length (edges world.now.plan) }
+    requires bottle { bottle < length (bottles world.now.plan edge) }
+    ensures { IsTrue result ↔ (instrument_of world.now.plan edge bottle ≡ instrument) }
+{
+    world.plan().instrument_of(edge, bottle) == instrument
+}
+
+/// Whether the bottle is the instrument's, the first job lacks it and the second keeps it.
+fn is_kept<A: Allocator>(
+    world: &World<A>,
+    job: JobNo,
+    other: JobNo,
+    instrument: InstrumentNo,
+    edge: EdgeNo,
+    bottle: u32,
+) -> bool
+    requires job { IsJob world.now.plan job }
+    requires other { IsJob world.now.plan other }
+    requires own { IsOwn world.now.plan job edge }
+    requires across { IsOwn world.now.plan other edge }
+    requires few { instrument < 64 }
+    requires bottle { bottle < length (bottles world.now.plan edge) }
+    ensures { IsTrue result ↔ IsKept world.now.plan world.now.state job instrument other edge bottle }
+{
+    if !is_of(world, edge, bottle, instrument) {
+        return false;
+    }
+    if !lacks(world, job, edge, bottle, instrument) {
+        return false;
+    }
+    keeps(world, other, edge, bottle, instrument)
+}
+
+/// Whether the second job keeps a bottle of the instrument on the edge that the first lacks. The edge is the first job's.
+fn is_kept_at<A: Allocator>(
     world: &World<A>,
     job: JobNo,
     other: JobNo,
@@ -123,15 +163,15 @@ fn keeps_there<A: Allocator>(
     requires job { IsJob world.now.plan job }
     requires other { IsJob world.now.plan other }
     requires own { IsOwn world.now.plan job edge }
-    requires across { IsOwn world.now.plan other edge }
     requires few { instrument < 64 }
     ensures { IsTrue result ↔ IsKeptAt world.now.plan world.now.state job instrument other edge }
 {
+    let (lower, higher) = world.plan().ends(edge);
+    if lower != other && higher != other {
+        return false;
+    }
     for bottle in 0..world.plan().bottles(edge) {
-        if world.plan().instrument_of(edge, bottle) == instrument
-            && lacks(world, job, edge, bottle, instrument)
-            && keeps(world, other, edge, bottle, instrument)
-        {
+        if is_kept(world, job, other, instrument, edge, bottle) {
             return true;
         }
     }
@@ -150,13 +190,9 @@ fn is_keeper<A: Allocator>(
     requires few { instrument < 64 }
     ensures { IsTrue result ↔ IsKeeper world.now.plan world.now.state job instrument other }
 {
-    let plan = world.plan();
-    let own = plan.edges_of(job);
+    let own = world.plan().edges_of(job);
     for edge in own {
-        let (lower, higher) = plan.ends(*edge);
-        if (lower == other || higher == other)
-            && keeps_there(world, job, other, instrument, *edge)
-        {
+        if is_kept_at(world, job, other, instrument, *edge) {
             return true;
         }
     }

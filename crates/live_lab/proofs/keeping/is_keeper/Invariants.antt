@@ -1,13 +1,7 @@
-use Rattle.std.proofs.Common.{◌≡◌, ℕ, ◌≤◌, ◌<◌, ◌↔◌, IsTrue, length, ◌+◌, ◌-◌, ◌*◌}
-use Rattle.lab_plan.specs.LabPlan.{bottles, sessions, session_names}
-use Rattle.lab_plan.specs.InstrumentSets.{holds}
-use Rattle.legal_steps.specs.State.{IsOwn}
-use Rattle.legal_steps.specs.State.{edge as edge_at}
-use Rattle.legal_steps.specs.State.{bottle_end as end_of_bottle}
-use Rattle.legal_steps.specs.Legal.{IsJob, Here, Needs, instrument_of}
-use Rattle.reasons.specs.Reasons.{Lacks, Keeps}
-use Rattle.live_lab.specs.Keepers.{IsKeptAt, IsKeeper, AreKeepers, AreKeepersAt}
+-- no edge so far has such a bottle
+use Rattle.std.proofs.Common.{ℕ, ◌<◌, slice_index_or}
+use Rattle.live_lab.specs.Keepers.{IsKeptAt}
 use Rattle.live_lab.proofs.keeping.is_keeper.Given as goal
 
 abbrev pub invariant-loop-edge : goal.invariant-loop-edge
-invariant-loop-edge g l = ?
+invariant-loop-edge g l = (k : ℕ) → k < l.edge-index → ¬ IsKeptAt l.world.plan l.world.state l.job l.instrument l.other (slice_index_or l.own k 0)
