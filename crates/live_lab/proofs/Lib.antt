@@ -7,3 +7,4 @@ mod Sayings
 mod Clocks
 mod Tests
 mod Sessions
+mod Calls
