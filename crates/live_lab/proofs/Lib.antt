@@ -8,3 +8,4 @@ mod Clocks
 mod Tests
 mod Sessions
 mod Calls
+mod Reported

@@ -10,7 +10,6 @@ use lab_plan::JobNo;
 use session_layer::Turned;
 
 /// The set of this job alone.
-#[tactic(auto, using(round_trace::proofs::Sets::shifted))]
 fn only(job: JobNo) -> u32
     requires { job < 32 }
     ensures { result ≡ 2 ^ job }

@@ -20,7 +20,7 @@ invariant_of-self c =
     in_lab x.world c.turn-done.new.world x.clocks.items _ (visits_events j t.visits ++ t.acts) (IsBy j) c.plan.result.now x.due c.wake_near.new.due
     t.leads (by_both j (visits_events j t.visits) t.acts (visits_by j t.visits) (acts_by x.world.plan (learned_all x.world.plan x.world.state (visits_events j t.visits)) j
     c.waited_in-waited.result t.acts t.turn.acts_due)) c.wake_near.ensures.keeps
-    c.plan.ensures.plan (length-set x.clocks.items c.job-3.inside.0 c.after_turn-next.result) c.self.invariant
+    c.plan.ensures.plan (length-set x.clocks.items c.job-2.inside.0 c.after_turn-next.result) c.self.invariant
 
 pub returns : goal.returns
 returns c =
@@ -29,7 +29,7 @@ returns c =
     let same = c.waited_in-waited.ensures ∙ (λ i. waited_in (waits (at i)) (c.job-before.ensures.phase i).session) in
     let next = c.after_turn-next.ensures
     ∙ (λ i. after_turn ((c.is_waiting-thirsty.ensures ∙ ap (λ (p : JobState). is_waiting p.drinking) c.job-before.ensures.phase) i) (c.job.ensures.phase i) (at i)) in
-    subst (λ (old : LabView). TakesTurn j old c.of.result (record { world = c.turn-done.new.world; clocks = slice_set x.clocks.items c.job-3.inside.0 c.after_turn-next.result })) c.self.view_is (record {
+    subst (λ (old : LabView). TakesTurn j old c.of.result (record { world = c.turn-done.new.world; clocks = slice_set x.clocks.items c.job-2.inside.0 c.after_turn-next.result })) c.self.view_is (record {
       visits = t.visits;
       acts = t.acts;
       events = visits_events j t.visits ++ t.acts;
@@ -37,5 +37,5 @@ returns c =
       none_lost = t.none_lost;
       says = subst (λ (n : ℕ). Says c.of.result n 0) t.says c.of.ensures;
       leads = t.leads;
-      clocks = λ i. slice_set x.clocks.items (c.job-3.view_is i) (next i);
+      clocks = λ i. slice_set x.clocks.items (c.job-2.view_is i) (next i);
     })
