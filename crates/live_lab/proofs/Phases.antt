@@ -35,9 +35,10 @@ job_after old new x j l job = subst (λ (p : LabPlan). IsJob p j) (sym l.same_pl
 -- a job that reached may act
 pub may_act : (old mid : WorldView) (j : ℕ) → IsReachedWith old.plan old.state old.counts → LeadsTo old (Reach j ∷ []) mid → May mid.plan mid.state (Act j)
 may_act old mid j r l =
-    let job : IsJob old.plan j = l.run.legal.0.0 in
-    (job_after old mid (Reach j) j l job,
-    ap (λ (p : JobState). p.drinking) (phase_after old mid (Reach j) j l ∙ phase_set old.state j (record (phase old.state j) { drinking = Reaching }) (has_seat old j r job)))
+    let job : IsJob old.plan j = l.run.legal.0.0 in (
+      job_after old mid (Reach j) j l job,
+      ap (λ (p : JobState). p.drinking) (phase_after old mid (Reach j) j l ∙ phase_set old.state j (record (phase old.state j) { drinking = Reaching }) (has_seat old j r job)),
+    )
 
 -- a command leaves the job where it was, but for one command more
 pub commanded : (old a b : WorldView) (j : ℕ) → HasSeat old.state j → LeadsTo old (Reach j ∷ []) a → LeadsTo a (Act j ∷ []) b

@@ -18,7 +18,7 @@ invariant_of-result c =
         history = [];
         leads = subst (λ (v : WorldView). LeadsTo v [] w) (is ∙ ap opened (sym plan)) (leads_none w);
         one_each = ap (λ (l : List Clock). length l) c.in-Ok-fresh_clocks.ensures ∙ (length-replicate c.jobs.result no_clock
-        ∙ (c.jobs.ensures.jobs ∙ ap (λ (p : LabPlan). length p.jobs) (sym plan)));
+            ∙ (c.jobs.ensures.jobs ∙ ap (λ (p : LabPlan). length p.jobs) (sym plan)));
       },
       subst (λ (p : LabPlan). AreMarked p w.state c.in-Ok.due) (sym plan) (c.in-Ok.ensures.marked w.state),
     )
