@@ -1,13 +1,12 @@
 -- How far a job is after a command and after words of owners.
-use Rattle.std.proofs.Common.{◌≡◌, ◌≢◌, ℕ, ◌+◌, ◌<◌, List, [], ◌∷◌, length, refl, sym, ap, ◌∙◌, subst, arith}
+use Rattle.std.proofs.Common.{◌≡◌, ℕ, ◌+◌, ◌<◌, [], ◌∷◌, length, sym, ap, ◌∙◌, subst, arith}
 use Rattle.lab_plan.specs.LabPlan.{LabPlan, commands}
 use Rattle.legal_steps.specs.declared.event.Event.{Event}
-use Rattle.legal_steps.specs.declared.event.Event.TheVariants.{Reach, Act, Quit}
+use Rattle.legal_steps.specs.declared.event.Event.TheVariants.{Reach, Act}
 use Rattle.legal_steps.specs.declared.phase.JobState.{JobState}
 use Rattle.legal_steps.specs.declared.phase.Drinking.TheVariants.{Drinking as Drinks, Reaching}
-use Rattle.legal_steps.specs.State.{State, Seat, seat, phase, drinking, position, session}
+use Rattle.legal_steps.specs.State.{State, Seat, seat, phase, drinking, position}
 use Rattle.legal_steps.specs.Legal.{May, after, IsJob, with_phase, with_entry, next_command, next_entry, session_commands}
-use Rattle.legal_steps.specs.Fitting.{Fits}
 use Rattle.legal_steps.proofs.FitsWrites.{seat_same}
 use Rattle.turns.proofs.Frame.{as_many_seats}
 use Rattle.interleaving.specs.World.{WorldView, LeadsTo, IsReachedWith}

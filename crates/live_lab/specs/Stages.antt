@@ -1,5 +1,5 @@
 -- For readers: how far a job is on its way, and the calls that take it there.
-use Rattle.std.specs.Prelude.{◌≡◌, ◌⊎◌, ℕ, zero, suc, ◌+◌, ◌^◌, min, ◌≤◌, not, ◌==◌, Bool, true, false, List, [], ◌∷◌, ◌↔◌}
+use Rattle.std.specs.Prelude.{◌≡◌, ◌⊎◌, ℕ, zero, suc, ◌+◌, ◌^◌, min, ◌≤◌, not, ◌==◌, Bool, true, false, List, [], ◌↔◌}
 use Rattle.std.specs.List.{count_by}
 use Rattle.legal_steps.specs.declared.event.Event.{Event}
 use Rattle.legal_steps.specs.declared.event.Event.TheVariants.{Retire as Retires}

@@ -1,10 +1,10 @@
-use Rattle.std.proofs.Common.{◌≡◌, ◌≤◌, ◌<◌, ◌+◌, ◌-◌, ℕ, List, [], ◌∷◌, length, refl, sym, ap, ◌∙◌, subst, arith, add-one}
+use Rattle.std.proofs.Common.{◌≡◌, ◌-◌, ℕ, List, [], ◌∷◌, length, sym, ap, ◌∙◌, subst, arith, add-one}
 use Rattle.lab_plan.specs.LabPlan.{LabPlan, commands}
 use Rattle.lab_plan.specs.declared.verb.Verb.{Verb}
 use Rattle.legal_steps.specs.declared.event.Event.TheVariants.{Reach, Act}
 use Rattle.legal_steps.specs.declared.phase.JobState.{JobState}
 use Rattle.legal_steps.specs.State.{phase, position}
-use Rattle.legal_steps.specs.Legal.{IsJob, session_commands}
+use Rattle.legal_steps.specs.Legal.{IsJob}
 use Rattle.lab_plan.specs.IsPlan.{IsPlan}
 use Rattle.legal_steps.proofs.FewCommands.{few_commands}
 use Rattle.interleaving.specs.World.{LeadsTo}

@@ -1,7 +1,6 @@
-use Rattle.std.proofs.Common.{◌≡◌, ◌⊎◌, ◌+◌, ◌<◌, true, List, length, set, ◌∙◌, sym, ap, subst, inl, inr, arith}
+use Rattle.std.proofs.Common.{◌≡◌, ◌⊎◌, ◌+◌, ◌<◌, true, length, ◌∙◌, sym, ap, subst, inl, inr, arith}
 use Rattle.lab_plan.specs.LabPlan.{LabPlan}
 use Rattle.lab_plan.specs.InstrumentSets.{holds}
-use Rattle.live_lab.specs.declared.clock.Clock.{Clock}
 use Rattle.live_lab.proofs.Clocks.{at, IsCountedTo, one_counted, one_left, goes_on, stays}
 use Rattle.live_lab.proofs.settle.count_turns.Goals as goal
 use Rattle.live_lab.proofs.settle.count_turns.Goals.{then-has, else-has+else-was_thirsty}

@@ -1,5 +1,4 @@
-use Rattle.std.proofs.Common.{List, ℕ, subst, sym}
-use Rattle.lab_plan.specs.LabPlan.{LabPlan}
+use Rattle.std.proofs.Common.{subst}
 use Rattle.lab_plan.specs.IsPlan.{IsPlan}
 use Rattle.live_lab.specs.Labs.{LabView}
 use Rattle.live_lab.specs.Prints.{HasReport}
