@@ -185,7 +185,7 @@ one_visit j e n m old new a some none =
     let q : EdgeMoves = a.moves in
     let saw : EdgeState = edge old.state e in
     let all = some_on q.give_fork (q.give_bottles == 0) q.ask_fork (q.ask_bottles == 0) q.soil (GiveFork j e) (GiveBottles j e q.give_bottles)
-        (AskFork j e) (AskBottles j e q.ask_bottles) (Soil j e) n a.many in
+    (AskFork j e) (AskBottles j e q.ask_bottles) (Soil j e) n a.many in
     record {
       visits = record { edge = e; saw = saw; moves = q; lost = false } ∷ [];
       edges = refl;

@@ -1,12 +1,9 @@
 -- Lists of legal events, one after another.
-use Rattle.std.proofs.Common.{◌≡◌, ℕ, ◌+◌, Bool, true, false, cond, List, [], ◌∷◌, ◌++◌, refl, sym, ap, ◌∙◌, subst, arith}
-use Rattle.std.specs.Prelude.{Result, Ok, Err, is_err}
+use Rattle.std.proofs.Common.{◌≡◌, ℕ, ◌+◌, Bool, cond, List, [], ◌++◌, refl, sym, ap, ◌∙◌, subst, arith}
 use Rattle.std.specs.List.{count_by}
-use Rattle.std.proofs.lemmas.Bool.{false≢true}
 use Rattle.std.proofs.lemmas.List.Sums.{sum_by-append}
 use Rattle.lab_plan.specs.LabPlan.{LabPlan}
 use Rattle.legal_steps.specs.declared.event.Event.{Event}
-use Rattle.legal_steps.specs.declared.event.NotLegal.{NotLegal}
 use Rattle.legal_steps.specs.State.{State}
 use Rattle.legal_steps.specs.Run.{IsLegalFrom, after_all, is_sit, is_quit, is_withdraw}
 use Rattle.legal_steps.specs.declared.counts.Counts.{Counts}
@@ -14,7 +11,7 @@ use Rattle.legal_steps.specs.Counting.{counts_of}
 use Rattle.legal_steps.specs.Fitting.{Fits}
 use Rattle.legal_steps.proofs.ReachedInvariant.{IsSound, sound_opening, sound_after_all}
 use Rattle.interleaving.specs.Counting.{both_counts, count_at, GoOnBy}
-use Rattle.interleaving.specs.World.{WorldView, LeadsTo, Steps, IsReachedWith}
+use Rattle.interleaving.specs.World.{WorldView, LeadsTo, IsReachedWith}
 use Rattle.turns.proofs.Runs.{after_all-append, legal-append}
 
 -- ---- counts
