@@ -1,0 +1,11 @@
+pub mod Worlds
+pub mod DueThere
+pub mod Visits
+pub mod Few
+pub mod Local
+pub mod Still
+pub mod Marks
+pub mod Waking
+pub mod Deeds
+pub mod Attended
+pub mod Rested
