@@ -8,7 +8,8 @@ use Rattle.legal_steps.specs.Legal.{IsJob}
 use Rattle.lab_plan.specs.IsPlan.{IsPlan}
 use Rattle.legal_steps.proofs.FewCommands.{few_commands}
 use Rattle.interleaving.specs.World.{LeadsTo}
-use Rattle.settling.proofs.Worlds.{leads_none, leads_both}
+use Rattle.settling.proofs.Worlds.{leads_both}
+use Rattle.live_lab.proofs.Nothing.{leads_none}
 use Rattle.live_lab.specs.Ends.{commands_by}
 use Rattle.live_lab.proofs.Phases.{has_seat, seat_after, commanded, plus_none, left_same, further}
 use Rattle.live_lab.proofs.ending.command_all.Goals as goal
