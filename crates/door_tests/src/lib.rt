@@ -6,4 +6,6 @@ mod hall;
 #[cfg(test)]
 mod keepers;
 #[cfg(test)]
+mod live;
+#[cfg(test)]
 mod runs;
