@@ -15,7 +15,7 @@ struct Rested {
 }
 
 /// Takes these events, which have to be legal, and lets the world rest then, which is done after one rest.
-fn rested<T: Allocator + Copy>(
+fn let_rest<T: Allocator + Copy>(
     rt: &impl Abort,
     alloc: T,
     world: &mut World<'_, T>,
@@ -95,8 +95,8 @@ fn all_rests<T: Allocator + Copy>(rt: &impl Abort, alloc: T) -> [Rested; 2] {
     };
     let begun = [Event::Thirst(A), Event::Thirst(B)];
     let ended = [Event::Reach(A), Event::Act(A), Event::Quit(A)];
-    let first = rested(rt, alloc, &mut world, &begun);
-    let second = rested(rt, alloc, &mut world, &ended);
+    let first = let_rest(rt, alloc, &mut world, &begun);
+    let second = let_rest(rt, alloc, &mut world, &ended);
     [first, second]
 }
 
