@@ -1,0 +1,48 @@
+-- For readers: a lab as contracts see it, and what is true of every lab.
+use Rattle.std.specs.Prelude.{◌≡◌, ℕ, ◌<◌, List, length, replicate, slice_index_or}
+use Rattle.lab_plan.specs.LabPlan.{LabPlan}
+use Rattle.legal_steps.specs.declared.event.Event.{Event}
+use Rattle.legal_steps.specs.State.{session}
+use Rattle.legal_steps.specs.Opening.{the_opening}
+use Rattle.turns.specs.Patience.{waited_in}
+use Rattle.interleaving.specs.World.{WorldView, LeadsTo}
+use Rattle.interleaving.specs.Start.{at_start}
+use Rattle.lab_program.specs.Answers.{ScriptRefuses}
+use Rattle.lab_program.specs.declared.faults.RunFault.{RunFault}
+use Rattle.lab_program.specs.declared.faults.RunFault.TheVariants.{TooLong, NoMemory}
+use Rattle.live_lab.specs.declared.clock.Clock.{Clock}
+use Rattle.live_lab.specs.Clocks.{no_clock, waits}
+
+-- its world, and a clock for each job
+pub record LabView : Type 0 where
+  pub world : WorldView
+  pub clocks : List Clock
+
+-- the world of a plan before its first event
+abbrev pub opened : LabPlan → WorldView
+opened plan = at_start plan (the_opening plan)
+
+-- legal events, one after another, led from the plan's initial state to where the lab is, and each job has a clock
+pub record IsLab (x : LabView) : Type 0 where
+  pub history : List Event
+  pub leads : LeadsTo (opened x.world.plan) history x.world
+  pub one_each : length x.clocks ≡ length x.world.plan.jobs
+
+-- a lab of the plan before its first event
+abbrev pub fresh_lab : LabPlan → LabView
+fresh_lab plan = record { world = opened plan; clocks = replicate (length plan.jobs) no_clock }
+
+-- why no lab was opened: the script is too long, or it has this fault; or there was no memory
+abbrev pub IsWhyNot : List ℕ → RunFault → Type 0
+IsWhyNot script TooLong = 16777216 < length script
+IsWhyNot script NoMemory = Unit {0}
+IsWhyNot script fault = ScriptRefuses script fault
+
+-- ---- what is read of a lab
+
+abbrev pub clock_at : LabView → ℕ → Clock
+clock_at x j = slice_index_or x.clocks j no_clock
+
+-- how many turns the session that job j is in, or was in last, has waited
+abbrev pub waited : LabView → ℕ → ℕ
+waited x j = waited_in (waits (clock_at x j)) (session x.world.state j)

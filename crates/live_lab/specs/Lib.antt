@@ -1,0 +1,13 @@
+pub mod Clocks
+pub mod Labs
+pub mod Calls
+pub mod Sets
+pub mod Doing
+pub mod Kinds
+pub mod Counting
+pub mod Settles
+pub mod Stages
+pub mod Ends
+pub mod Readers
+pub mod Keepers
+pub mod Prints

@@ -1,0 +1,33 @@
+//! The lab of one handle: a world that owns its plan, for callers that name a job by its number. One call at a time.
+//!
+//! A job is driven by single turns, or all jobs together by settles: a settle does all that can be done without a word from an owner. A call
+//! that names a job that isn't there changes nothing and answers `None`. No call but the first takes memory, but for what it hands out.
+#![tactic(auto)]
+
+mod beginning;
+mod clock;
+mod commanding;
+mod ending;
+mod keeping;
+mod kinds;
+mod lab;
+mod planned;
+mod printing;
+mod readers;
+mod resting;
+mod retiring;
+mod serving;
+mod settle;
+mod stage;
+mod stepping;
+mod turning;
+mod words;
+
+pub use ending::Ended;
+pub use keeping::Keepers;
+pub use lab::Lab;
+pub use planned::Planned;
+pub use printing::Printed;
+pub use readers::{SessionFacts, Standing};
+pub use settle::Came;
+pub use stage::{Aim, Stage};
