@@ -106,8 +106,20 @@ fn settles_in_turn(rt: HostRuntime) {
     let mut lab = opened(&rt, rt.alloc());
     settles(&rt, &mut lab, 0, came(0, 0, 0, 0));
     both_come(&rt, &mut lab);
-    assert!(rt; lab.keepers(1, 0) == Some(Keepers { jobs: 1, holding: 1 }));
-    assert!(rt; lab.keepers(0, 0) == Some(Keepers { jobs: 0, holding: 0 }));
+    assert!(rt;
+        lab.keepers(1, 0)
+            == Some(Keepers {
+                jobs: 1,
+                holding: 1
+            })
+    );
+    assert!(rt;
+        lab.keepers(0, 0)
+            == Some(Keepers {
+                jobs: 0,
+                holding: 0
+            })
+    );
     adds_one(&rt, &mut lab);
     both_end(&rt, &mut lab);
     both_retire(&rt, &mut lab);
