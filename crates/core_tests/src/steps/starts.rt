@@ -1,7 +1,7 @@
 //! Starts, and memory that runs out.
 use crate::benches::{A, AB, THREE, TWO, plan_of};
 use interleaving::{EdgeState, End, EndChoice, Event, NoMemory, StartRefusal, World};
-use lab_plan::Plan;
+use lab_plan::{EdgeNo, JobNo, Plan};
 use linked_list_allocator::LocalHeap;
 use script_reader::read_plan;
 use std::alloc::Allocator;
@@ -27,7 +27,7 @@ fn start_of<T: Allocator + Copy>(
 ) -> Result<EdgeState, StartRefusal> {
     assert!(rt; plan.edges() > 0);
     match World::start(alloc, plan, choices) {
-        Ok(world) => Ok(world.edge(AB)),
+        Ok(world) => Ok(world.edge(EdgeNo(AB))),
         Err(refusal) => Err(refusal),
     }
 }
@@ -122,7 +122,7 @@ fn starts<T: Allocator + Copy>(rt: &impl Abort, heap: T, plan: &Plan<T>) -> bool
     let unfit = World::start(heap, plan, &[]);
     assert!(rt; matches!(&unfit, Err(StartRefusal::BadChoices)));
     match World::start(heap, plan, &[HIGHER]) {
-        Ok(world) => world.enabled(Event::Thirst(A)),
+        Ok(world) => world.enabled(Event::Thirst(JobNo(A))),
         Err(refusal) => {
             assert!(rt; refusal == StartRefusal::NoMemory);
             false
@@ -133,7 +133,7 @@ fn starts<T: Allocator + Copy>(rt: &impl Abort, heap: T, plan: &Plan<T>) -> bool
 /// The same for the initial state.
 fn opens<T: Allocator + Copy>(heap: T, plan: &Plan<T>) -> bool {
     match World::opening(heap, plan) {
-        Ok(world) => world.enabled(Event::Thirst(A)),
+        Ok(world) => world.enabled(Event::Thirst(JobNo(A))),
         Err(NoMemory) => false,
     }
 }
