@@ -18,7 +18,7 @@ const HIGHER: EndChoice = EndChoice {
     bottles: 0,
 };
 
-/// The first edge of a world at its start, or why there is none.
+/// The first edge of a world at its start, where the first job may begin its session, or why there is none.
 fn start_of<T: Allocator + Copy>(
     rt: &impl Abort,
     alloc: T,
@@ -27,7 +27,10 @@ fn start_of<T: Allocator + Copy>(
 ) -> Result<EdgeState, StartRefusal> {
     assert!(rt; plan.edges() > 0);
     match World::start(alloc, plan, choices) {
-        Ok(world) => Ok(world.edge(EdgeNo(AB))),
+        Ok(world) => {
+            assert!(rt; world.enabled(Event::Thirst(JobNo(A))));
+            Ok(world.edge(EdgeNo(AB)))
+        }
         Err(refusal) => Err(refusal),
     }
 }
@@ -119,15 +122,10 @@ fn many_in_common(rt: HostRuntime) {
 
 /// Whether there is memory for a start; choices that don't fit come first.
 fn starts<T: Allocator + Copy>(rt: &impl Abort, heap: T, plan: &Plan<T>) -> bool {
-    let unfit = World::start(heap, plan, &[]);
-    assert!(rt; matches!(&unfit, Err(StartRefusal::BadChoices)));
-    match World::start(heap, plan, &[HIGHER]) {
-        Ok(world) => world.enabled(Event::Thirst(JobNo(A))),
-        Err(refusal) => {
-            assert!(rt; refusal == StartRefusal::NoMemory);
-            false
-        }
-    }
+    assert!(rt; start_of(rt, heap, plan, &[]) == Err(StartRefusal::BadChoices));
+    let answer = start_of(rt, heap, plan, &[HIGHER]);
+    assert!(rt; answer.is_ok() || answer == Err(StartRefusal::NoMemory));
+    answer.is_ok()
 }
 
 /// The same for the initial state.
