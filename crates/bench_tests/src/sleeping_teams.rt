@@ -1,24 +1,23 @@
 //! Workers that sleep while one is held up at its gate. Where they sleep by a bell of the test's, a sleep may take a minute, as long as a
 //! test has: so it doesn't end if one that sleeps isn't woken.
+ghost use Rattle.turns.specs.Lists.{Each};
 ghost use Rattle.edge_rule.specs.DeskView.{Owns};
-ghost use Rattle.desk_user.specs.Use.{Keeps};
 
 use crate::labs::{FOUR, TWO, closed, opened, plan_of};
 use crate::sleepers::{HOLDS, MINUTE, most_turns};
 use crate::teams::{all_count_up, are_full, driven, ended_all};
 use bell::Bell;
-use desk_user::{Owner, on_threads};
 use edge_rule::{Bench, Desk};
 use lab_plan::{JobNo, Plan};
 use rounds::Ended;
-use std::alloc::{Allocator, Global};
+use std::alloc::Global;
 use std::process::Abort;
 use std::rt::Clock;
 use std::slice::from_mut;
 use std::sync::Wait;
-use std::thread::{Threads, sleep};
+use std::thread::{Threads, for_each_mut, sleep};
 use std::time::Duration;
-use workers::{Gate, Halt, Muster, Through, work};
+use workers::{Gate, Muster, Through, work};
 
 /// Holds the first job up before its third turn.
 #[derive(Drop)]
@@ -70,35 +69,49 @@ struct Teams<'w, R> {
 
 /// A team that has one desk.
 #[tactic(auto, using(crate::proofs::Owned::one_kept))]
-fn works<R: Wait + Clock + Sync, A: Allocator>(
-    teams: &Teams<'_, R>,
-    bench: &Bench<A>,
-    desk: &mut Desk<A>,
-    turns: u32,
-) -> Halt
+fn works<R: Wait + Clock + Sync>(teams: &Teams<'_, R>, bench: &Bench, desk: &mut Desk)
     requires own { Owns bench.now desk.old }
-    ensures { Keeps bench.now desk.old desk.new }
+    ensures { Owns bench.now desk.new }
 {
+    let turns = if desk.job().0 == 0 {
+        teams.first
+    } else {
+        teams.others
+    };
     let gate = Holding { rt: teams.rt };
-    work(
+    let _ = work(
         teams.rt,
         bench,
         &Through { gate: &gate },
         teams.muster,
         turns,
         from_mut(desk),
-    )
+    );
 }
 
-impl<R: Wait + Clock + Sync> Owner for Teams<'_, R> {
-    fn work<A: Allocator>(&self, bench: &Bench<A>, desk: &mut Desk<A>) {
-        let turns = if desk.job().0 == 0 {
-            self.first
-        } else {
-            self.others
-        };
-        let _ = works(self, bench, desk, turns);
+/// All teams, each on a thread of its own.
+fn all_work<R: Threads + Wait + Clock + Sync>(
+    rt: &R,
+    bench: &Bench,
+    desks: &mut [Desk],
+    teams: &Teams<'_, R>,
+)
+    requires own { Each (Owns bench.now) desks.old }
+    ensures own { Each (Owns bench.now) desks.new }
+{
+    let threads = desks.len();
+    if threads == 0 {
+        return;
     }
+    for_each_mut(
+        rt,
+        desks,
+        threads,
+        &|_place: usize, desk: &mut Desk|
+            requires { Owns bench.now desk.now }
+            ensures { Owns bench.entry.now desk.exit.now }
+        { works(teams, bench, desk) },
+    );
 }
 
 /// More turns than any wait takes if threads run side by side.
@@ -114,7 +127,7 @@ fn teams_to_the_end<R: Threads + Wait + Clock + Abort + Sync>(rt: &R, alloc: Glo
         first: TURNS,
         others: TURNS,
     };
-    on_threads(rt, &bench, desks.as_mut_slice(), &teams);
+    all_work(rt, &bench, desks.as_mut_slice(), &teams);
     let left = closed(rt, alloc, bench, desks);
     ended_all(rt, &left);
     are_full(rt, &left);
@@ -146,7 +159,7 @@ fn turns_pass<R: Threads + Wait + Clock + Abort + Sync>(
         first,
         others: 10_000,
     };
-    on_threads(rt, &bench, desks.as_mut_slice(), &teams);
+    all_work(rt, &bench, desks.as_mut_slice(), &teams);
     for desk in desks.as_slice() {
         let wanted = if desk.job().0 == 0 {
             u64::from(first)
