@@ -145,7 +145,7 @@ fn sleeping_teams_are_woken(rt: HostRuntime) {
 }
 
 /// Some times as many turns as a team takes before it sleeps. Few, because on a machine that is busy each may take a millisecond.
-const OTHERS: u32 = 1000;
+const OTHERS: u32 = 500;
 
 /// The first team takes few turns and ends. What the others wait for never comes, and so they don't sleep any more: each takes all its turns.
 fn turns_pass<R: Threads + Wait + Clock + Abort + Sync>(
