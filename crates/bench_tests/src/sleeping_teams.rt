@@ -144,6 +144,9 @@ fn sleeping_teams_are_woken(rt: HostRuntime) {
     }
 }
 
+/// Some times as many turns as a team takes before it sleeps. Few, because on a machine that is busy each may take a millisecond.
+const OTHERS: u32 = 500;
+
 /// The first team takes few turns and ends. What the others wait for never comes, and so they don't sleep any more: each takes all its turns.
 fn turns_pass<R: Threads + Wait + Clock + Abort + Sync>(
     rt: &R,
@@ -157,14 +160,14 @@ fn turns_pass<R: Threads + Wait + Clock + Abort + Sync>(
         rt,
         muster: &muster,
         first,
-        others: 10_000,
+        others: OTHERS,
     };
     all_work(rt, &bench, desks.as_mut_slice(), &teams);
     for desk in desks.as_slice() {
         let wanted = if desk.job().0 == 0 {
             u64::from(first)
         } else {
-            10_000
+            u64::from(OTHERS)
         };
         assert!(rt; desk.turns() == wanted);
     }
