@@ -9,7 +9,7 @@ mod meals;
 mod moves;
 
 pub use answers::{Tried, answered};
-pub use edges::{AtEdge, at_edge, at_edge_seen};
+pub use edges::{AtEdge, at_edge, at_edge_seen, seen_from};
 pub use forks::{due_forks, fork_moves, may_ask, may_give, may_soil};
 pub use meals::{may_hunger, may_leave, may_sit, table};
 pub use moves::{ask, dine, give, soil};

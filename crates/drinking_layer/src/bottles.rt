@@ -19,8 +19,8 @@ use lab_plan::EdgeNo;
 use legal_steps::{EdgeState, End, JobState};
 use std::alloc::Allocator;
 
-/// The moves with the bottles that are given and asked for.
-fn with_sets(phase: JobState, needed: u32, mine: EdgeState, moves: EdgeMoves) -> EdgeMoves
+/// The moves with the bottles that are given and asked for at an edge that was seen so from the job's own end.
+pub fn with_sets(phase: JobState, needed: u32, mine: EdgeState, moves: EdgeMoves) -> EdgeMoves
     ensures { result ≡ sets_added phase needed mine moves }
 {
     let given = gifts(phase, needed, mine, moves.give_fork);

@@ -7,7 +7,9 @@ mod drinks;
 mod needs;
 mod serving;
 
-pub use bottles::{all_gifts, all_wishes, due_moves, due_moves_seen, greatest_sets, with_bottles};
+pub use bottles::{
+    all_gifts, all_wishes, due_moves, due_moves_seen, greatest_sets, with_bottles, with_sets,
+};
 pub use dining_layer::{may_hunger, may_leave, may_sit};
 pub use drinks::{drink, may_drink};
 pub use serving::{serve_bottles, want_bottles};

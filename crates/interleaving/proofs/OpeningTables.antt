@@ -64,6 +64,11 @@ reached_at_start plan s is_plan opens acyclic = record {
   counted = record { one_each = length-replicate (length plan.jobs) no_counts; counted = λ k below. none_counted (length plan.jobs) k below };
 }
 
+-- tables that show the opening of a plan that is the same
+pub opened_of : (t : Setting) (kept plan : LabPlan) (choices : List EndChoice) → t ≡ record { plan = kept; state = opening_of kept choices }
+    → kept ≡ plan → t ≡ record { plan = plan; state = opening_of plan choices }
+opened_of t kept plan choices shows same = let make : LabPlan → Setting = λ p. record { plan = p; state = opening_of p choices } in shows ∙ ap make same
+
 -- tables that show an opening state, with a tally of no counts
 pub reached_opened : (t : Setting) (plan : LabPlan) (s : State) (tally : List Counts) (n : ℕ)
     → t ≡ record { plan = plan; state = s } → n ≡ length plan.jobs → tally ≡ replicate n no_counts

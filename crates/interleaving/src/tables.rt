@@ -61,7 +61,7 @@ impl<'a, A: Allocator + Copy> Tables<'a, A> {
         choices: &[EndChoice],
     ) -> Result<Tables<'a, A>, AllocError>
         requires { AreChoices plan choices.now }
-        ensures { IfOk result (λ tables. tables ≡ record { plan = plan; state = opening_of plan choices.now }) }
+        ensures { IfOk result (λ tables. tables ≡ record { plan = plan.entry; state = opening_of plan.entry choices.now }) }
     {
         let seen = plan.get();
         let edges = chosen_edges(alloc, seen, choices)?;
@@ -77,7 +77,7 @@ impl<'a, A: Allocator + Copy> Tables<'a, A> {
 
     /// The tables of the initial state.
     pub(crate) fn opening(alloc: A, plan: KeptPlan<'a, A>) -> Result<Tables<'a, A>, AllocError>
-        ensures { IfOk result (λ tables. tables ≡ record { plan = plan; state = the_opening plan }) }
+        ensures { IfOk result (λ tables. tables ≡ record { plan = plan.entry; state = the_opening plan.entry }) }
     {
         let choices = lower_choices(alloc, plan.get().edges() as usize)?;
         Tables::opened(alloc, plan, &choices)

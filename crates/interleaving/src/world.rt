@@ -27,9 +27,9 @@ use std::marker::Model;
 
 /// A state of a plan's bench, with what each job has done so far.
 ///
-/// It begins with [`start`](Self::start) or [`opening`](Self::opening) and goes on by one legal event at a
-/// time. So each of its states is reached from an opening without a cycle of precedence, and all that
-/// the laws of such states say is true of it. After its start it takes no memory.
+/// It begins with [`start`](Self::start), [`opening`](Self::opening) or [`of_plan`](Self::of_plan), and goes
+/// on by one legal event at a time. So each of its states is reached from an opening without a cycle of
+/// precedence, and all that the laws of such states say is true of it. After its start it takes no memory.
 #[derive(Drop)]
 pub struct World<'a, A: Allocator = Global> {
     tables: Tables<'a, A>,
@@ -77,22 +77,21 @@ impl<'a, A: Allocator + Copy> World<'a, A> {
         World::at_opening(alloc, KeptPlan::lent(plan))
     }
 
-    fn at_opening(alloc: A, plan: KeptPlan<'a, A>) -> Result<World<'a, A>, NoMemory>
+    /// The same world, but it owns its plan, so it may have any lifetime. Dropping it gives back all memory of both.
+    pub fn of_plan(alloc: A, plan: Plan<A>) -> Result<World<'a, A>, NoMemory>
         ensures { IfOk result (λ world. world ≡ at_start plan (the_opening plan)) }
+    {
+        World::at_opening(alloc, KeptPlan::own(plan))
+    }
+
+    /// The world in the initial state, whoever owns the plan.
+    fn at_opening(alloc: A, plan: KeptPlan<'a, A>) -> Result<World<'a, A>, NoMemory>
+        ensures { IfOk result (λ world. world ≡ at_start plan.entry (the_opening plan.entry)) }
     {
         let jobs = plan.get().jobs();
         let tables = Tables::opening(alloc, plan)?;
         let tally = JobCounts::new(alloc, jobs)?;
         Ok(World { tables, tally })
-    }
-}
-
-impl<A: Allocator + Copy> World<'static, A> {
-    /// A world as by [`opening`](Self::opening) that owns its plan. When it is dropped it gives back all memory of both.
-    pub fn of_plan(alloc: A, plan: Plan<A>) -> Result<World<'static, A>, NoMemory>
-        ensures { IfOk result (λ world. world ≡ at_start plan (the_opening plan)) }
-    {
-        World::at_opening(alloc, KeptPlan::own(plan))
     }
 }
 
@@ -128,7 +127,7 @@ impl<'a, A: Allocator> World<'a, A> {
         Ok(done)
     }
 
-    /// The plan, as long as the world isn't stepped: it may be the world's own.
+    /// The plan, which the world borrows or owns.
     pub fn plan(&self) -> &Plan<A>
         ensures plan { result.now ≡ self.now.plan }
         ensures reached { IsReachedWith self.now.plan self.now.state self.now.counts }

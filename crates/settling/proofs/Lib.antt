@@ -1,0 +1,4 @@
+pub mod Worlds
+pub mod DueThere
+pub mod Visits
+pub mod Few

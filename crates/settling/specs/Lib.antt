@@ -1,0 +1,4 @@
+pub mod Doing
+pub mod Left
+pub mod Resting
+pub mod Attending

@@ -1,0 +1,135 @@
+//! Doing all that is left to do of itself.
+ghost use Rattle.std.specs.Prelude.{◌≡◌, ◌↔◌, ◌≤◌, true, false, IfSome, IsTrue};
+ghost use Rattle.legal_steps.specs.State.{IsOwn};
+ghost use Rattle.legal_steps.specs.Legal.{IsJob, May};
+ghost use Rattle.settling.specs.Doing.{IsOwnAct, ActsAlone, act_of};
+ghost use Rattle.settling.specs.Left.{AreMarked, NobodyIsDue, is_due};
+ghost use Rattle.settling.specs.Resting.{Rests};
+ghost use Rattle.settling.specs.Attending.{AttendsEdge, Attends};
+
+use crate::due::{Due, is_noted, note, wake_at, wake_self};
+use crate::visiting::visit;
+use interleaving::World;
+use lab_plan::{EdgeNo, JobNo};
+use legal_steps::{End, Event};
+use std::alloc::Allocator;
+
+/// The job's first act that needs no word from its owner and is legal.
+fn own_act<A: Allocator>(world: &World<A>, job: JobNo) -> Option<Event>
+    ensures first { IsOwnAct world.now.plan world.now.state job (act_of result) }
+    ensures may { IfSome result (λ event. May world.now.plan world.now.state event) }
+{
+    if world.enabled(Event::Drink(job)) {
+        return Some(Event::Drink(job));
+    }
+    if world.enabled(Event::Leave(job)) {
+        return Some(Event::Leave(job));
+    }
+    if world.enabled(Event::Sit(job)) {
+        return Some(Event::Sit(job));
+    }
+    if world.enabled(Event::Hunger(job)) {
+        return Some(Event::Hunger(job));
+    }
+    None
+}
+
+/// Does it. Answers whether there was one.
+fn act_alone<A: Allocator>(world: &mut World<A>, job: JobNo) -> bool
+    ensures { ActsAlone world.old job result world.new }
+{
+    let Some(event) = own_act(world, job) else {
+        return false;
+    };
+    if world.step(event).is_err() {
+        unreachable!()
+    }
+    true
+}
+
+/// Visits the edge, if it isn't noted that the job has nothing to do there. Answers how many moves were done.
+fn attend_edge<A: Allocator>(
+    world: &mut World<A>,
+    due: &mut Due<A>,
+    job: JobNo,
+    edge: EdgeNo,
+) -> u32
+    requires own { IsOwn world.old.plan job edge }
+    requires marked { AreMarked world.old.plan world.old.state due.old }
+    requires due { is_due due.old job ≡ true }
+    ensures attends { AttendsEdge world.old due.old job edge result world.new due.new }
+    ensures few { result ≤ 5 }
+{
+    let here = End::of(world.plan(), job, edge);
+    if is_noted(due, here, edge) {
+        return 0;
+    }
+    let moved = visit(world, job, edge);
+    if moved == 0 {
+        note(due, here, edge);
+    } else {
+        wake_at(world.plan(), due, edge);
+    }
+    moved
+}
+
+/// Attends to each edge of the job, and does its own act. If nothing was done, the job isn't due any more. Answers how many moves and
+/// acts there were.
+fn attend<A: Allocator>(world: &mut World<A>, due: &mut Due<A>, job: JobNo) -> u32
+    requires job { IsJob world.old.plan job }
+    requires marked { AreMarked world.old.plan world.old.state due.old }
+    requires due { is_due due.old job ≡ true }
+    ensures attends { Attends (λ k. k ≡ job) world.old due.old result world.new due.new }
+    ensures few { result ≤ 2481 }
+{
+    let _ = world.plan().edges();
+    let mut done = 0u32;
+    for index in 0..world.plan().edges_of(job).len() {
+        let edge = world.plan().edges_of(job)[index];
+        done += attend_edge(world, due, job, edge);
+    }
+    if act_alone(world, job) {
+        wake_self(world.plan(), due, job);
+        return done + 1;
+    }
+    if done == 0 {
+        due.jobs[job.0 as usize] = false;
+    }
+    done
+}
+
+/// Attends to each job that is due, the lowest first. Answers how many moves and acts there were.
+fn round<A: Allocator>(world: &mut World<A>, due: &mut Due<A>) -> u32
+    requires { AreMarked world.old.plan world.old.state due.old }
+    ensures attends { Attends (IsJob world.old.plan) world.old due.old result world.new due.new }
+    ensures few { result ≤ 79392 }
+{
+    let mut done = 0u32;
+    for job in 0..world.plan().jobs() {
+        if due.jobs[job] {
+            done += attend(world, due, JobNo(job as u8));
+        }
+    }
+    done
+}
+
+/// Does all that can be done without a word from an owner, until no job has anything to do of itself. Answers how many moves and acts
+/// there were.
+pub fn rest<A: Allocator>(world: &mut World<A>, due: &mut Due<A>) -> u32
+    requires { AreMarked world.old.plan world.old.state due.old }
+    ensures rests { Rests world.old result world.new }
+    ensures marked { AreMarked world.new.plan world.new.state due.new }
+    ensures nobody { NobodyIsDue world.new.plan due.new }
+{
+    let _ = world.plan().edges();
+    let mut done = 0u32;
+    // Without a word from an owner no more than 129584 things can be done, and each of these rounds but the last does one.
+    for _number in 0..129585u32 {
+        let more = round(world, due);
+        if more == 0 {
+            return done;
+        }
+        done += more;
+    }
+    unreachable!()
+}

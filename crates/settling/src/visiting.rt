@@ -1,0 +1,102 @@
+//! Visits of edges: a look, and then what is due there.
+ghost use Rattle.std.specs.Prelude.{◌≡◌, ◌≤◌, ◌∷◌, [], true, length};
+ghost use Rattle.lab_plan.specs.LabPlan.{edges_of};
+ghost use Rattle.legal_steps.specs.declared.event.Event.TheVariants.{Look};
+ghost use Rattle.legal_steps.specs.State.{IsOwn, edge as edge_at};
+ghost use Rattle.legal_steps.specs.Legal.{IsJob, May};
+ghost use Rattle.legal_steps.specs.Run.{IsLegalFrom};
+ghost use Rattle.interleaving.specs.World.{LeadsTo};
+ghost use Rattle.edge_word.specs.Moves.{events_of, on};
+ghost use Rattle.settling.specs.Doing.{VisitsEdge, VisitsEdges};
+
+use crate::moves::due_moves;
+use edge_word::EdgeMoves;
+use interleaving::World;
+use lab_plan::{EdgeNo, JobNo};
+use legal_steps::{End, Event};
+use std::alloc::Allocator;
+
+/// Looks at the edge. A look that would change no mark leads to the same world, so it isn't done then.
+fn look<A: Allocator>(world: &mut World<A>, job: JobNo, edge: EdgeNo)
+    requires { IsOwn world.old.plan job edge }
+    ensures { LeadsTo world.old (Look job edge (edge_at world.old.state edge) ∷ []) world.new }
+{
+    let seen = world.edge(edge);
+    let here = End::of(world.plan(), job, edge);
+    let mark = seen.fork_mark(here, world.job(job).dining);
+    let marks = seen.bottles_at(world.plan(), edge, here);
+    if mark == world.fork_mark(job, edge) && marks == world.bottle_marks(job, edge) {
+        return;
+    }
+    // What is there is seen: so the look is legal.
+    if world.step(Event::Look(job, edge, seen)).is_err() {
+        unreachable!()
+    }
+}
+
+/// Does the event if it is to be done.
+fn step_if<A: Allocator>(world: &mut World<A>, wanted: bool, event: Event)
+    requires { wanted ≡ true → May world.old.plan world.old.state event }
+    ensures { LeadsTo world.old (on wanted event []) world.new }
+{
+    if wanted && world.step(event).is_err() {
+        unreachable!()
+    }
+}
+
+/// Does the moves, which are legal one after another. Answers how many there are.
+fn move_at<A: Allocator>(world: &mut World<A>, job: JobNo, edge: EdgeNo, moves: EdgeMoves) -> u32
+    requires { IsLegalFrom world.old.plan world.old.state (events_of moves job edge) }
+    ensures leads { LeadsTo world.old (events_of moves job edge) world.new }
+    ensures many { result ≡ length (events_of moves job edge) }
+    ensures few { result ≤ 5 }
+{
+    let gives = moves.give_bottles != 0;
+    let asks = moves.ask_bottles != 0;
+    step_if(world, moves.give_fork, Event::GiveFork(job, edge));
+    step_if(
+        world,
+        gives,
+        Event::GiveBottles(job, edge, moves.give_bottles),
+    );
+    step_if(world, moves.ask_fork, Event::AskFork(job, edge));
+    step_if(world, asks, Event::AskBottles(job, edge, moves.ask_bottles));
+    step_if(world, moves.soil, Event::Soil(job, edge));
+    u32::from(moves.give_fork)
+        + u32::from(gives)
+        + u32::from(moves.ask_fork)
+        + u32::from(asks)
+        + u32::from(moves.soil)
+}
+
+/// Looks at the edge, and does all moves that are due there. Answers how many there were.
+pub fn visit<A: Allocator>(world: &mut World<A>, job: JobNo, edge: EdgeNo) -> u32
+    requires { IsOwn world.old.plan job edge }
+    ensures visits { VisitsEdge world.old job edge result world.new }
+    ensures few { result ≤ 5 }
+{
+    look(world, job, edge);
+    let moves = due_moves(world, job, edge);
+    if moves.is_empty() {
+        return 0;
+    }
+    move_at(world, job, edge, moves)
+}
+
+/// Visits each edge of the job, in the order of the plan. Answers at how many something was done.
+pub fn visit_all<A: Allocator>(world: &mut World<A>, job: JobNo) -> u32
+    requires { IsJob world.old.plan job }
+    ensures visits { VisitsEdges world.old job (edges_of world.old.plan job) result world.new }
+    ensures few { result ≤ 496 }
+{
+    // A plan has 496 edges at most, as this call ensures: so the count can't overflow.
+    let _ = world.plan().edges();
+    let mut done = 0u32;
+    for index in 0..world.plan().edges_of(job).len() {
+        let edge = world.plan().edges_of(job)[index];
+        if visit(world, job, edge) > 0 {
+            done += 1;
+        }
+    }
+    done
+}
