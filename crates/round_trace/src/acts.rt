@@ -19,9 +19,9 @@ fn withdraws<A: Allocator>(world: &World<A>, job: JobNo, waited: u32) -> bool
     world.job(job).gives_up(world.plan(), job, waited)
 }
 
-/// The first phase act that is legal; a session is given up only when its patience is used up by this count; of a
-/// command, its Reach.
-fn first_act<A: Allocator>(world: &World<A>, job: JobNo, waited: u32) -> Option<Event>
+/// The phase act of a turn that is due: the first that is legal, where a session is given up only when its patience is
+/// used up by this count. Of a command it is the Reach, with which its Act is to be done; `None` if no act is due.
+pub fn first_act<A: Allocator>(world: &World<A>, job: JobNo, waited: u32) -> Option<Event>
     requires { IsJob world.now.plan job }
     ensures first { AreActs world.now.plan world.now.state job waited (first_events result) }
     ensures may { IfSome result (λ event. May world.now.plan world.now.state event) }

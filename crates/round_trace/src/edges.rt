@@ -40,9 +40,9 @@ pub(crate) fn visit_all<A: Allocator>(
     requires { job < length world.old.plan.jobs }
     ensures { IfOk result (λ _. VisitsEdges world.old events.old.items job (edges_of world.old.plan job) world.new events.new.items) }
 {
-    let plan = world.plan();
-    for edge in plan.edges_of(job) {
-        visit(world, events, job, *edge)?;
+    for place in 0..world.plan().edges_of(job).len() {
+        let edge = world.plan().edges_of(job)[place];
+        visit(world, events, job, edge)?;
     }
     Ok(())
 }

@@ -13,5 +13,6 @@ mod steps;
 mod trying;
 mod turning;
 
+pub use acts::first_act;
 pub use running::trace;
 pub use steps::step_of;

@@ -1,6 +1,5 @@
 -- For readers: what is left to do of itself, what is noted of that, and what has to be marked anew after an event.
 use Rattle.std.specs.Prelude.{◌≡◌, ℕ, Bool, true, false, List, length, slice_index_or}
-use Rattle.std.specs.List.{All}
 use Rattle.lab_plan.specs.LabPlan.{LabPlan, edges}
 use Rattle.legal_steps.specs.declared.end.End.{End}
 use Rattle.legal_steps.specs.declared.end.End.TheVariants.{Lower, Higher}
@@ -10,6 +9,7 @@ use Rattle.legal_steps.specs.State.{State, IsOwn, edge, end_of, bottle_marks, bo
 use Rattle.legal_steps.specs.Legal.{May, IsJob}
 use Rattle.legal_steps.specs.Run.{IsLegalFrom, after_all, actor}
 use Rattle.turns.specs.Due.{IsCalm}
+use Rattle.turns.specs.Lists.{Each}
 
 -- the job has nothing to do at its edge: no move is legal there, and it knows which bottles it has there
 pub record HasNothingAt (plan : LabPlan) (s : State) (j e : ℕ) : Type 0 where
@@ -59,7 +59,7 @@ NobodyIsDue plan due = (j : ℕ) → IsJob plan j → is_due due j ≡ false
 -- whatever legal events of this kind there are: if all is marked before them, all is after them
 abbrev pub KeepsMarks : LabPlan → (Event → Type 0) → DueView → DueView → Type 0
 KeepsMarks plan Kind due due' =
-    (s : State) (events : List Event) → AreMarked plan s due → IsLegalFrom plan s events → All Kind events → AreMarked plan (after_all plan s events) due'
+    (s : State) (events : List Event) → AreMarked plan s due → IsLegalFrom plan s events → Each Kind events → AreMarked plan (after_all plan s events) due'
 
 -- an event of the job
 abbrev pub IsBy : ℕ → Event → Type 0

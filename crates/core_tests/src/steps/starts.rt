@@ -1,5 +1,6 @@
 //! Starts, and memory that runs out.
-use crate::benches::{A, AB, THREE, TWO, plan_of};
+use super::{Told, Way, tell, told};
+use crate::benches::{A, AB, STALE_MARK, THREE, TWICE, TWO, plan_of};
 use interleaving::{EdgeState, End, EndChoice, Event, NoMemory, StartRefusal, World};
 use lab_plan::Plan;
 use linked_list_allocator::LocalHeap;
@@ -138,12 +139,24 @@ fn opens<T: Allocator + Copy>(heap: T, plan: &Plan<T>) -> bool {
     }
 }
 
+/// The same with a world that owns the plan.
+fn opens_its_own<T: Allocator + Copy>(heap: T, plan: Plan<T>) -> bool {
+    match World::of_plan(heap, plan) {
+        Ok(world) => world.enabled(Event::Thirst(A)),
+        Err(NoMemory) => false,
+    }
+}
+
 /// Whether a heap that holds the plan has memory for a start, and for the initial state; none if it has none even for the plan.
+/// A world that owns the plan takes no more, and gives all of it back.
 fn begins<T: Allocator + Copy>(rt: &impl Abort, heap: T) -> Option<(bool, bool)> {
     let Ok(plan) = read_plan(heap, TWO.as_bytes()) else {
         return None;
     };
-    Some((starts(rt, heap, &plan), opens(heap, &plan)))
+    let (started, opened) = (starts(rt, heap, &plan), opens(heap, &plan));
+    assert!(rt; opens_its_own(heap, plan) == opened);
+    assert!(rt; read_plan(heap, TWO.as_bytes()).is_ok());
+    Some((started, opened))
 }
 
 /// A heap that is a little larger in each run: from the first that does on, each does.
@@ -163,4 +176,19 @@ fn allocations_are_refused(rt: HostRuntime) -> Result<(), Fail> {
     }
     assert!(rt; started && opened && starts_refused && openings_refused);
     Ok(())
+}
+
+/// What a world tells that owns its plan.
+fn told_by_owner<T: Allocator + Copy>(rt: &impl Abort, alloc: T, script: &str, way: Way) -> Told {
+    match World::of_plan(alloc, plan_of(rt, alloc, script)) {
+        Ok(mut world) => tell(rt, &mut world, way),
+        Err(_) => panic!(rt; "no memory"),
+    }
+}
+
+#[test]
+fn a_world_owns_its_plan(rt: HostRuntime) {
+    let alloc = rt.alloc();
+    let way = Way::Steps(&STALE_MARK);
+    assert!(rt; told_by_owner(&rt, alloc, TWICE, way) == told(&rt, alloc, TWICE, way));
 }

@@ -3,5 +3,5 @@ use Rattle.lab_plan.specs.LabPlan.{edges_of}
 use Rattle.round_trace.specs.Doing.{VisitsEdges}
 use Rattle.round_trace.proofs.edges.visit_all.Given as goal
 
-abbrev pub invariant-loop-edge : goal.invariant-loop-edge
-invariant-loop-edge g l = VisitsEdges l.fn.world l.fn.events.items l.job (take l.edge-index (edges_of l.fn.world.plan l.job)) l.world l.events.items
+abbrev pub invariant-loop-place : goal.invariant-loop-place
+invariant-loop-place g l = VisitsEdges l.fn.world l.fn.events.items l.job (take l.place (edges_of l.fn.world.plan l.job)) l.world l.events.items
