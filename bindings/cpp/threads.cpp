@@ -137,7 +137,8 @@ int main(int count, char **words) {
         }
         expect("who is before it", told == "still waits, supply is kept by board");
         radio.reset();
-        expect("board and drive", bench.desks()[1].begin(300s) && bench.desks()[2].begin(300s) && bench.close().text.size());
+        expect("board", bench.desks()[1].begin(300s).has_value());
+        expect("drive", bench.desks()[2].begin(300s).has_value());
     }
     {
         // a thread that waits is woken by the other's end, and by nothing else
