@@ -135,8 +135,3 @@ TellsBegun a told told' status = (status ≡ stage_status Hold a.0) × (told' �
 
 abbrev pub TellsRetired : Stage × Turned → LabTurned → LabTurned → ℕ → Type 0
 TellsRetired a told told' status = (status ≡ retire_status a.0) × (told' ≡ turned_of a.1)
-
--- the name stands in the room (0), or there is no room for it (6), and its length is told; or there is none, and nothing is told (2)
-abbrev pub IsNameTold : Option (Now (List ℕ)) → List ℕ × ℕ → List ℕ × ℕ → ℕ → Type 0
-IsNameTold (Some name) told told' status = (told'.1 ≡ length name.now) × Gives 0 name.now told.0 told'.0 status
-IsNameTold None told told' status = (status ≡ 2) × (told' ≡ told)

@@ -4,14 +4,14 @@ ghost use Rattle.bench_calls.specs.Calls.{InLab, TellsSize, TellsSession, TellsP
 use crate::ending::Held;
 use crate::handle::Handle;
 use crate::statuses::{
-    NOT_OPEN, tell_keepers, tell_name, tell_planned, tell_session, tell_standing,
+    NO_JOB, NOT_OPEN, tell_keepers, tell_name, tell_planned, tell_session, tell_standing,
 };
 use crate::told::{LabKeepers, LabPlanned, LabSession, LabSize, LabState};
 use std::alloc::Global;
 
 /// Tells how many jobs and instruments there are.
 pub fn size(alloc: Global, bench: &mut Handle, size: &mut LabSize) -> u32
-    ensures { InLab (TellsSize) bench.old.slot.held bench.new.slot.held size.old size.new result }
+    ensures { InLab TellsSize bench.old.slot.held bench.new.slot.held size.old size.new result }
 {
     let Some(held) = bench.take(alloc) else {
         return NOT_OPEN;
@@ -44,7 +44,10 @@ pub fn job_name(
         return NOT_OPEN;
     };
     let status = match &*held {
-        Held::Open(lab) => tell_name(lab.job_name(job), name, written),
+        Held::Open(lab) => match lab.job_name(job) {
+            Some(text) => tell_name(text, name, written),
+            None => NO_JOB,
+        },
         Held::Reported(_) => NOT_OPEN,
     };
     bench.put(held);
@@ -65,7 +68,10 @@ pub fn instrument_name(
         return NOT_OPEN;
     };
     let status = match &*held {
-        Held::Open(lab) => tell_name(lab.instrument_name(instrument), name, written),
+        Held::Open(lab) => match lab.instrument_name(instrument) {
+            Some(text) => tell_name(text, name, written),
+            None => NO_JOB,
+        },
         Held::Reported(_) => NOT_OPEN,
     };
     bench.put(held);

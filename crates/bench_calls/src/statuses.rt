@@ -1,6 +1,7 @@
 //! The statuses, and what is told with them of what a lab answered.
-ghost use Rattle.std.specs.Prelude.{◌≡◌, if◌then◌else◌};
-ghost use Rattle.bench_calls.specs.Telling.{stage_status, retire_status, TellsEntry, TellsDid, TellsBegun, TellsRetired, TellsEnded, TellsAs, IfTold, IsNameTold};
+ghost use Rattle.std.specs.Prelude.{◌≡◌, if◌then◌else◌, length};
+ghost use Rattle.c_tells.specs.Telling.{Gives};
+ghost use Rattle.bench_calls.specs.Telling.{stage_status, retire_status, TellsEntry, TellsDid, TellsBegun, TellsRetired, TellsEnded, TellsAs, IfTold};
 ghost use Rattle.bench_calls.specs.Telling.{turned_of, came_of, session_of, state_of, planned_of, keepers_of};
 
 use crate::told::{
@@ -166,10 +167,10 @@ pub(crate) fn tell_keepers(answer: Option<Keepers>, told: &mut LabKeepers) -> u3
 }
 
 /// Tells the length of a name, and puts it into the room, if it has room for it.
-pub(crate) fn tell_name(answer: Option<&[u8]>, room: &mut [u8], written: &mut usize) -> u32
-    ensures { IsNameTold answer (room.old, written.old) (room.new, written.new) result }
+pub(crate) fn tell_name(name: &[u8], room: &mut [u8], written: &mut usize) -> u32
+    ensures length { written.new ≡ length name.now }
+    ensures gives { Gives 0 name.now room.old room.new result }
 {
-    let Some(name) = answer else { return NO_JOB };
     *written = name.len();
     put(0, name, room)
 }
