@@ -1,11 +1,15 @@
-//! What a handle has of a bench, and its end: from a lab to its end, and from there to its report.
-ghost use Rattle.bench_calls.specs.Closing.{ClosesHeld, Reports};
+//! What a handle of C has of a bench whose desks are all back: from a lab to its end, and from there to its report.
+ghost use Rattle.bench_door.specs.Closing.{ClosesHeld, Reports};
 
-use crate::statuses::NOT_OPEN;
-use bench_door::{Lab, LabEnd, Printed, print};
+use crate::closing::{LabEnd, print};
+use crate::lab::Lab;
 use c_tells::{Told, deliver, fail};
 use lab_program::{RunFault, status_of};
+use live_lab::Printed;
 use std::alloc::Global;
+
+/// The status if there is nothing to close.
+const NOT_OPEN: u32 = 7;
 
 /// What a handle has.
 #[derive(Drop)]

@@ -1,11 +1,12 @@
 use Rattle.std.proofs.Common.{inl, inr, refl, sym, subst}
 use Rattle.std.proofs.Math.Logic.{∥∥₁_map}
 use Rattle.bench_door.specs.declared.closing.LabEnd.{LabEnd}
-use Rattle.bench_door.specs.declared.closing.Printed.{Printed}
-use Rattle.bench_door.specs.Ends.{IsPrint, HasReport, EndsHaveReports}
-use Rattle.bench_calls.specs.Closing.{ClosesHeld}
-use Rattle.bench_calls.specs.declared.ending.Held.TheVariants.{Open, Ended, Reported}
-use Rattle.bench_calls.proofs.ending.ended.Goals as goal
+use Rattle.live_lab.specs.declared.printing.Printed.{Printed}
+use Rattle.live_lab.specs.Prints.{HasReport}
+use Rattle.bench_door.specs.Ends.{IsPrint, EndsHaveReports}
+use Rattle.bench_door.specs.Closing.{ClosesHeld}
+use Rattle.bench_door.specs.declared.ending.Held.TheVariants.{Open, Ended, Reported}
+use Rattle.bench_door.proofs.ending.ended.Goals as goal
 
 -- what is printed of a lab that has ended is a report of its plan
 its_report : EndsHaveReports → (e : LabEnd) (p : Printed) → IsPrint e.closed p.text.items p.outcome → ∥ HasReport e.closed.plan p.text.items p.outcome ∥₁
