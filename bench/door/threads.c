@@ -109,8 +109,8 @@ static void *go_freely(void *given) {
     waiting |= mine;
     settle(me);
     while (mine && !shop.stop) {
+        waiting &= ~(mine & came.none_left);
         mine &= ~came.none_left;
-        waiting &= ~came.none_left;
         uint32_t holding = mine & came.holds;
         if (holding) {
             uint32_t job = (uint32_t)__builtin_ctz(holding);
