@@ -20,6 +20,8 @@ static void life(struct text script) {
     struct lab_state state;
     struct lab_session session;
     struct lab_entry entry;
+    struct lab_came came;
+    struct lab_keepers keepers;
     uint32_t status;
     size_t written;
     uint8_t word[16];
@@ -41,6 +43,8 @@ static void life(struct text script) {
                     CALL(status, lab_serve_others(&bench, job, &turned));
                     CALL(status, lab_withdraw(&bench, job));
                     CALL(status, lab_turn(&bench, job, &turned));
+                    CALL(status, lab_settle(&bench, 0xffffffffu, &came));
+                    CALL(status, lab_keepers(&bench, job, 0, &keepers));
                 }
                 CALL(status, lab_command(&bench, job, &entry));
                 CALL(status, lab_end(&bench, job, &turned));
@@ -51,6 +55,8 @@ static void life(struct text script) {
             }
         }
     }
+    if (at_call == 0)
+        for (int call = 2; call <= calls && call < MOST_CALLS; call++) expect(allocations[call] == 0, "%s: call %d asks for memory", name, call);
     memcpy(report, untouched, sizeof report);
     CALL(status, lab_bench_close(&bench, report, 0, &told));
     expect(status == LAB_NO_ROOM && memcmp(report, untouched, sizeof report) == 0, "%s: a close without room: status %u", name, status);
@@ -75,5 +81,7 @@ static void closed_at_once(struct text script) {
 
 int main(int count, char **words) {
     static void (*const lives[])(struct text) = {life, closed_at_once};
-    return live_through(count, words, lives, 2);
+    int failing = live_through(count, words, lives, 2);
+    if (kept) printf("FAILED a free gives everything back\n");
+    return failing || kept;
 }

@@ -290,14 +290,11 @@ class Session:
             if job._in != self.number or self.state == "held":
                 return
             bench._torn = True
-            if bench._call("lab_withdraw", job.index) == 0:
-                bench._went(job, self, "withdrawn")
-            else:
-                self.state = "left"
-                bench._left |= job._bit
-                bench._waiting &= ~job._bit
             job._session = self
-            bench._rouse(job, False)
+            if bench._call("lab_withdraw", job.index) == 0:
+                bench._comes_to(job, False, "withdrawn")
+            else:
+                bench._comes_to(job, False, "left")
             bench._settle()
 
     def command(self) -> Optional[Entry]:
@@ -327,8 +324,8 @@ class Session:
             if not bench._torn or bench._call("lab_withdraw", job.index) == NOT_NOW:
                 bench._torn = False
                 raise NotHeld(f"session {self.number} of {job.name} is {self.state}: it can't be withdrawn")
-            bench._went(job, self, "withdrawn")
-            bench._rouse(job, False)
+            job._session = self
+            bench._comes_to(job, False, "withdrawn")
             bench._settle()
 
     def waits_for(self) -> tuple[Keeper, ...]:
@@ -622,7 +619,7 @@ class Bench:
             self._stands = _STOPPED
             self._torn = True
             for job in self._members(self._waiting):
-                self._rouse(job, None)
+                self._rouse(job)
             self._torn = False
 
     def close(self) -> Report:
@@ -636,7 +633,7 @@ class Bench:
                 self._stands = _CLOSED
                 self._finalizer()
             for job in self._members(self._waiting):
-                self._rouse(job, None)
+                self._rouse(job)
             return self._report
 
     def __enter__(self) -> Bench:
@@ -747,36 +744,35 @@ class Bench:
             holds = self._came.holds
             if self._has_patience:
                 for job in self._members(self._came.given_up):
-                    self._went(job, job._session, "withdrawn")
-                    self._rouse(job, False)
-            came = holds & self._waiting
-            if came:
-                self._waiting ^= came
-                for job in self._members(came):
-                    self._rouse(job, True)
+                    self._comes_to(job, False, "withdrawn")
+            for job in self._members(holds & self._waiting):
+                self._comes_to(job, True)
             if not (holds & self._left and self._waiting):
                 break
             for job in self._members(holds & self._left):
                 self._call("lab_end", job.index, self._turned_at)
-                self._went(job, job._session, "lapsed")
+                self._comes_to(job, False, "lapsed")
             if self._lab_settle(self._at, self._waiting, self._came_at):
                 raise LabrunError("lab_settle: a status that it doesn't have")
         self._torn = False
 
-    def _went(self, job: Job, session: Optional[Session], how: str) -> None:
-        """A session is over though nobody released it."""
-        if how == "lapsed":
-            self._lapsed.append((job.name, job._in))
-        job._in = 0
+    def _comes_to(self, job: Job, holds: bool, how: str = "") -> None:
+        """A session that somebody may wait for holds, or has the end that `how` says. Whoever waits for it is woken."""
+        job._outcome = holds
         self._waiting &= ~job._bit
-        self._left &= ~job._bit
-        if session is not None:
-            session.state = how
+        if how == "left":
+            self._left |= job._bit
+        elif how:
+            if how == "lapsed":
+                self._lapsed.append((job.name, job._in))
+            self._left &= ~job._bit
+            job._in = 0
+        if how and job._session is not None:
+            job._session.state = how
+        self._rouse(job)
 
-    def _rouse(self, job: Job, outcome: Optional[bool]) -> None:
-        """Wakes who waits for a session of this job, if anybody does."""
-        if outcome is not None:
-            job._outcome = outcome
+    def _rouse(self, job: Job) -> None:
+        """Wakes who waits for a session of this job, if anybody does. (Whoever is woken for nothing sleeps again.)"""
         if job._wake is not None:
             try:
                 job._wake()
@@ -794,17 +790,17 @@ class Bench:
             if session is None:
                 continue
             is_over = job._in != session.number and job._last >= session.number
-            if self._waiting & job._bit:
-                if is_over or holds:
-                    self._waiting &= ~job._bit
+            if session.state == "waiting":
+                if job._outcome is None and (is_over or holds):
                     job._outcome = holds
+                if job._outcome is not None:
+                    self._waiting &= ~job._bit
             elif is_over and session.state in ("held", "asked", "left"):
-                if session.state == "left":
+                if session.state == "left" and (job.name, session.number) not in self._lapsed:
                     self._lapsed.append((job.name, session.number))
                 session.state = {"held": "finished", "asked": "withdrawn", "left": "lapsed"}[session.state]
                 self._left &= ~job._bit
-            # (whoever wakes for nothing sleeps again)
-            self._rouse(job, None)
+            self._rouse(job)
         self._settle()
 
     def _keepers(self, job: Job) -> tuple[Keeper, ...]:
