@@ -8,9 +8,17 @@ use Rattle.reasons.specs.Reasons.{Lacks, Keeps as KeepsBottle}
 use Rattle.live_lab.specs.declared.keeping.Keepers.{Keepers}
 use Rattle.live_lab.specs.Sets.{AreJobs}
 
+-- bottle b of edge e is the instrument's, job j lacks it, and job k keeps it
+abbrev pub IsKept : LabPlan → State → ℕ → ℕ → ℕ → ℕ → ℕ → Type 0
+IsKept plan s j i k e b = (instrument_of plan e b ≡ i) × Lacks plan s j e b × KeepsBottle plan s k e b
+
+-- one bottle of the edge is so
+abbrev pub IsKeptAt : LabPlan → State → ℕ → ℕ → ℕ → ℕ → Type 0
+IsKeptAt plan s j i k e = (b : ℕ) × IsKept plan s j i k e b
+
 -- job k keeps a bottle of the instrument that job j lacks
 abbrev pub IsKeeper : LabPlan → State → ℕ → ℕ → ℕ → Type 0
-IsKeeper plan s j i k = (e : ℕ) × (b : ℕ) × (instrument_of plan e b ≡ i) × Lacks plan s j e b × KeepsBottle plan s k e b
+IsKeeper plan s j i k = (e : ℕ) × IsKeptAt plan s j i k e
 
 -- the jobs that do, and those of them that hold
 pub record AreKeepers (w : WorldView) (j i : ℕ) (r : Keepers) : Type 0 where

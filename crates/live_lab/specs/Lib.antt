@@ -2,6 +2,9 @@ pub mod Clocks
 pub mod Labs
 pub mod Calls
 pub mod Sets
+pub mod Doing
+pub mod Kinds
+pub mod Counting
 pub mod Settles
 pub mod Stages
 pub mod Ends

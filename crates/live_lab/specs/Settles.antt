@@ -1,5 +1,5 @@
 -- For readers: what a settle does, and what holds after it.
-use Rattle.std.specs.Prelude.{◌≡◌, ℕ, ◌≤◌, ◌||◌, ◌+◌, Bool, List, [], ◌∷◌, ◌++◌, length, if◌then◌else◌}
+use Rattle.std.specs.Prelude.{◌≡◌, ℕ, ◌≤◌, ◌||◌, ◌+◌, Bool, List, [], ◌∷◌, ◌++◌, length, slice_index_or, if◌then◌else◌}
 use Rattle.std.specs.List.{count_by}
 use Rattle.lab_plan.specs.LabPlan.{LabPlan, sessions}
 use Rattle.lab_plan.specs.InstrumentSets.{holds}
@@ -16,7 +16,8 @@ use Rattle.reasons.specs.Reasons.{LeadsToHolder}
 use Rattle.reasons.specs.Deeds.{AreBetween, is_deed}
 use Rattle.settling.specs.Left.{HasNothingToDo}
 use Rattle.live_lab.specs.declared.settle.Came.{Came}
-use Rattle.live_lab.specs.Clocks.{waits, after_turn}
+use Rattle.live_lab.specs.declared.clock.Clock.{Clock}
+use Rattle.live_lab.specs.Clocks.{no_clock, waits, after_turn}
 use Rattle.live_lab.specs.Labs.{LabView, clock_at}
 use Rattle.live_lab.specs.Sets.{AreJobs, events_of_jobs}
 
@@ -50,9 +51,9 @@ abbrev pub IsThrough : LabPlan → State → ℕ → Type 0
 IsThrough plan s j = (IsInSession (drinking s j) → ⊥) × (length (sessions plan j) ≤ session s j)
 
 -- the job is thirsty, and the patience of its session is used up by the turns that were counted before the call
-abbrev pub IsOutOfPatience : LabView → WorldView → ℕ → Type 0
-IsOutOfPatience old w j =
-    (drinking w.state j ≡ Thirsty) × May w.plan w.state (Withdraw j) × IsUsedUp w.plan w.state j (waited_in (waits (clock_at old j)) (session w.state j))
+abbrev pub IsOutOfPatience : List Clock → WorldView → ℕ → Type 0
+IsOutOfPatience clocks w j =
+    May w.plan w.state (Withdraw j) × IsUsedUp w.plan w.state j (waited_in (waits (slice_index_or clocks j no_clock)) (session w.state j))
 
 -- a turn was counted of each job that is waited for, or that was thirsty at the start; of no other
 pub record AreCounted (waiting : ℕ) (old new : LabView) : Type 0 where
@@ -74,7 +75,7 @@ pub record Settles (waiting : ℕ) (old : LabView) (came : Came) (new : LabView)
   pub second : List Event
   pub joins : DoAndRest (λ j. Thirst j) begun rested second joined
   -- each job that is still thirsty and out of patience gave its session up, and no other; and all was done that this made due
-  pub gives_up : AreJobs joined.plan came.given_up (IsOutOfPatience old joined)
+  pub gives_up : AreJobs joined.plan came.given_up (IsOutOfPatience old.clocks joined)
   pub third : List Event
   pub leaves : DoAndRest (λ j. Withdraw j) came.given_up joined third new.world
   -- all these are legal events one after another, and it is told how many they are, looks aside

@@ -48,7 +48,8 @@ Begins most job old a new =
 -- ---- retire
 
 -- all was done that was due of itself, and then the job retired, if that was legal
-pub record RestsAndRetires (job : ℕ) (old : LabView) (did : Bool) (r : Turned) (new : LabView) : Type 0 where
+pub record RestsAndRetires (job : ℕ) (old : LabView) (r : Turned) (new : LabView) : Type 0 where
+  pub did : Bool
   pub mid : WorldView
   pub events : List Event
   pub rests : ComesToRest old.world events mid
@@ -61,5 +62,5 @@ pub record RestsAndRetires (job : ℕ) (old : LabView) (did : Bool) (r : Turned)
 abbrev pub GoesToRetire : ℕ → ℕ → LabView → Stage × Turned → LabView → Type 0
 GoesToRetire most job old a new =
     IsStage Retire new.world job a.0
-    × ((IsStage Retire old.world job OnTheWay × (did : Bool) × RestsAndRetires job old did a.1 new)
+    × ((IsStage Retire old.world job OnTheWay × RestsAndRetires job old a.1 new)
     ⊎ ((a.0 ≡ OnTheWay → most ≡ 0) × (a.1 ≡ Idle) × (new ≡ old)))

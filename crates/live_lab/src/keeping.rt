@@ -1,7 +1,17 @@
 //! Who keeps a job waiting.
-ghost use Rattle.live_lab.specs.Keepers.{AreKeepersAt};
+ghost use Rattle.std.specs.Prelude.{◌≡◌, ℕ, ◌≤◌, ◌<◌, ◌↔◌, IsTrue, length};
+ghost use Rattle.lab_plan.specs.LabPlan.{edges, bottles, sessions, session_names};
+ghost use Rattle.lab_plan.specs.InstrumentSets.{holds};
+ghost use Rattle.legal_steps.specs.State.{IsOwn, edge as edge_at, bottle_end as end_of_bottle};
+ghost use Rattle.legal_steps.specs.Legal.{IsJob, Here, Needs, instrument_of};
+ghost use Rattle.reasons.specs.Reasons.{Lacks, Keeps};
+ghost use Rattle.live_lab.specs.Keepers.{IsKept, IsKeptAt, IsKeeper, AreKeepers, AreKeepersAt};
 
 use crate::lab::Lab;
+use interleaving::World;
+use lab_plan::{EdgeNo, InstrumentNo, JobNo, Plan};
+use legal_steps::{End, bottle_end};
+use std::alloc::Allocator;
 
 /// Jobs that keep a job waiting for an instrument. Sets of jobs have bit k for job k.
 #[derive(Clone, Copy, PartialEq, Eq, Debug)]
@@ -12,11 +22,216 @@ pub struct Keepers {
     pub holding: u32,
 }
 
+/// Whether the set has the instrument.
+#[tactic(auto, using(lab_plan::proofs::Bits::holds_is))]
+fn names(set: u64, instrument: InstrumentNo) -> bool
+    requires { instrument < 64 }
+    ensures { result ≡ holds set instrument }
+{
+    set >> instrument.0 & 1 == 1
+}
+
+/// The instruments that a session of the job names.
+fn named<A: Allocator>(plan: &Plan<A>, job: JobNo, session: u32) -> u64
+    requires is_job { IsJob plan.now job }
+    requires begun { 1 ≤ session }
+    requires is_session { session ≤ length (sessions plan.now job) }
+    ensures { (i : ℕ) → holds result i ≡ session_names plan.now job session i }
+{
+    plan.needs(job, session)
+}
+
+/// Whether the job is in a session that names the instrument.
+fn needs<A: Allocator>(world: &World<A>, job: JobNo, instrument: InstrumentNo) -> bool
+    requires job { IsJob world.now.plan job }
+    requires few { instrument < 64 }
+    ensures { IsTrue result ↔ Needs world.now.plan world.now.state job instrument }
+{
+    let phase = world.job(job);
+    if !phase.is_in_session() {
+        return false;
+    }
+    names(named(world.plan(), job, phase.session), instrument)
+}
+
+/// Whether the job has the bottle.
+fn is_here<A: Allocator>(world: &World<A>, job: JobNo, edge: EdgeNo, bottle: u32) -> bool
+    requires own { IsOwn world.now.plan job edge }
+    requires bottle { bottle < length (bottles world.now.plan edge) }
+    ensures { IsTrue result ↔ Here world.now.plan job edge (end_of_bottle (edge_at world.now.state edge).bottles bottle) }
+{
+    let _ = world.plan().bottles(edge);
+    bottle_end(world.edge(edge).bottles, bottle) == End::of(world.plan(), job, edge)
+}
+
+/// Whether the job lacks the bottle, which is the instrument's.
+fn lacks<A: Allocator>(
+    world: &World<A>,
+    job: JobNo,
+    edge: EdgeNo,
+    bottle: u32,
+    instrument: InstrumentNo,
+) -> bool
+    requires job { IsJob world.now.plan job }
+    requires own { IsOwn world.now.plan job edge }
+    requires bottle { bottle < length (bottles world.now.plan edge) }
+    requires is { instrument_of world.now.plan edge bottle ≡ instrument }
+    requires few { instrument < 64 }
+    ensures { IsTrue result ↔ Lacks world.now.plan world.now.state job edge bottle }
+{
+    if is_here(world, job, edge, bottle) {
+        return false;
+    }
+    needs(world, job, instrument)
+}
+
+/// Whether the job keeps the bottle, which is the instrument's.
+fn keeps<A: Allocator>(
+    world: &World<A>,
+    job: JobNo,
+    edge: EdgeNo,
+    bottle: u32,
+    instrument: InstrumentNo,
+) -> bool
+    requires job { IsJob world.now.plan job }
+    requires own { IsOwn world.now.plan job edge }
+    requires bottle { bottle < length (bottles world.now.plan edge) }
+    requires is { instrument_of world.now.plan edge bottle ≡ instrument }
+    requires few { instrument < 64 }
+    ensures { IsTrue result ↔ Keeps world.now.plan world.now.state job edge bottle }
+{
+    if !is_here(world, job, edge, bottle) {
+        return false;
+    }
+    if !needs(world, job, instrument) {
+        return false;
+    }
+    if world.job(job).is_drinking() {
+        return true;
+    }
+    world.edge(edge).fork == End::of(world.plan(), job, edge)
+}
+
+/// Whether the bottle is the instrument's.
+fn is_of<A: Allocator>(
+    world: &World<A>,
+    edge: EdgeNo,
+    bottle: u32,
+    instrument: InstrumentNo,
+) -> bool
+    requires edge { edge < length (edges world.now.plan) }
+    requires bottle { bottle < length (bottles world.now.plan edge) }
+    ensures { IsTrue result ↔ (instrument_of world.now.plan edge bottle ≡ instrument) }
+{
+    world.plan().instrument_of(edge, bottle) == instrument
+}
+
+/// Whether the bottle is the instrument's, the first job lacks it and the second keeps it.
+fn is_kept<A: Allocator>(
+    world: &World<A>,
+    job: JobNo,
+    other: JobNo,
+    instrument: InstrumentNo,
+    edge: EdgeNo,
+    bottle: u32,
+) -> bool
+    requires job { IsJob world.now.plan job }
+    requires other { IsJob world.now.plan other }
+    requires own { IsOwn world.now.plan job edge }
+    requires across { IsOwn world.now.plan other edge }
+    requires few { instrument < 64 }
+    requires bottle { bottle < length (bottles world.now.plan edge) }
+    ensures { IsTrue result ↔ IsKept world.now.plan world.now.state job instrument other edge bottle }
+{
+    if !is_of(world, edge, bottle, instrument) {
+        return false;
+    }
+    if !lacks(world, job, edge, bottle, instrument) {
+        return false;
+    }
+    keeps(world, other, edge, bottle, instrument)
+}
+
+/// Whether the second job keeps a bottle of the instrument on the edge that the first lacks. The edge is the first job's.
+fn is_kept_at<A: Allocator>(
+    world: &World<A>,
+    job: JobNo,
+    other: JobNo,
+    instrument: InstrumentNo,
+    edge: EdgeNo,
+) -> bool
+    requires job { IsJob world.now.plan job }
+    requires other { IsJob world.now.plan other }
+    requires own { IsOwn world.now.plan job edge }
+    requires few { instrument < 64 }
+    ensures { IsTrue result ↔ IsKeptAt world.now.plan world.now.state job instrument other edge }
+{
+    let (lower, higher) = world.plan().ends(edge);
+    if lower != other && higher != other {
+        return false;
+    }
+    for bottle in 0..world.plan().bottles(edge) {
+        if is_kept(world, job, other, instrument, edge, bottle) {
+            return true;
+        }
+    }
+    false
+}
+
+/// Whether the second job keeps a bottle of the instrument that the first lacks.
+fn is_keeper<A: Allocator>(
+    world: &World<A>,
+    job: JobNo,
+    other: JobNo,
+    instrument: InstrumentNo,
+) -> bool
+    requires job { IsJob world.now.plan job }
+    requires other { IsJob world.now.plan other }
+    requires few { instrument < 64 }
+    ensures { IsTrue result ↔ IsKeeper world.now.plan world.now.state job instrument other }
+{
+    let own = world.plan().edges_of(job);
+    for edge in own {
+        if is_kept_at(world, job, other, instrument, *edge) {
+            return true;
+        }
+    }
+    false
+}
+
+/// The jobs that keep the job waiting for the instrument.
+fn keepers_of<A: Allocator>(world: &World<A>, job: JobNo, instrument: InstrumentNo) -> Keepers
+    requires job { IsJob world.now.plan job }
+    requires few { instrument < 64 }
+    ensures { AreKeepers world.now job instrument result }
+{
+    let mut jobs = 0u32;
+    let mut holding = 0u32;
+    for number in 0..world.plan().jobs() {
+        let other = JobNo(number as u8);
+        if is_keeper(world, job, other, instrument) {
+            jobs |= 1 << number;
+            if world.job(other).is_drinking() {
+                holding |= 1 << number;
+            }
+        }
+    }
+    Keepers { jobs, holding }
+}
+
 impl Lab {
     /// The jobs that keep a job waiting for an instrument, if there is such a job and such an instrument.
     pub fn keepers(&self, job: u32, instrument: u32) -> Option<Keepers>
         ensures { AreKeepersAt self.now.world job instrument result }
     {
-        unreachable!()
+        let plan = self.world.plan();
+        if plan.jobs() <= job as usize || plan.instruments() <= instrument as usize {
+            return None;
+        }
+        Some(keepers_of(
+            &self.world,
+            JobNo(job as u8),
+            InstrumentNo(instrument as u8),
+        ))
     }
 }

@@ -35,7 +35,8 @@ pub struct Standing {
 impl Lab {
     /// How many jobs there are; their numbers are the ones below it.
     pub fn jobs(&self) -> usize
-        ensures { result ≡ length self.now.world.plan.jobs }
+        ensures jobs { result ≡ length self.now.world.plan.jobs }
+        ensures few { result ≤ 32 }
     {
         self.world.plan().jobs()
     }

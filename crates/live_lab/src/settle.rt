@@ -1,7 +1,16 @@
 //! A settle: sessions begin that are waited for, and all is done that can be done without a word from an owner.
+ghost use Rattle.std.specs.Prelude.{◌≡◌, length};
+ghost use Rattle.live_lab.specs.Counting.{AreTurnsCounted};
 ghost use Rattle.live_lab.specs.Settles.{Settles};
 
+use crate::clock::{Clock, after_turn};
+use crate::kinds::{Kind, has, jobs_of};
 use crate::lab::Lab;
+use crate::resting::come_to_rest;
+use crate::words::{Word, say_each};
+use interleaving::World;
+use lab_plan::JobNo;
+use std::alloc::Allocator;
 
 /// What came of a settle. Sets of jobs have bit k for job k.
 #[derive(Clone, Copy, PartialEq, Eq, Debug)]
@@ -16,12 +25,40 @@ pub struct Came {
     pub deeds: u32,
 }
 
+/// Counts a turn of each job that is waited for or was thirsty at the start.
+fn count_turns<A: Allocator>(clocks: &mut [Clock], world: &World<A>, waiting: u32, thirsty: u32)
+    requires { length clocks.old ≡ length world.now.plan.jobs }
+    ensures { AreTurnsCounted world.now waiting thirsty clocks.old clocks.new }
+{
+    for job in 0..world.plan().jobs() {
+        let number = JobNo(job as u8);
+        let was_thirsty = has(thirsty, number);
+        if has(waiting, number) || was_thirsty {
+            clocks[job] = after_turn(clocks[job], was_thirsty, world.job(number));
+        }
+    }
+}
+
 impl Lab {
     /// Begins the next session of each job of `waiting` that may begin one, and does all that can be done without a word from an owner, until nothing is
     /// left to do anywhere. Sessions are given up whose patience was used up before. Bits beyond the plan's jobs say nothing.
     pub fn settle(&mut self, waiting: u32) -> Came
         ensures { Settles waiting self.old result self.new }
     {
-        unreachable!()
+        let thirsty = jobs_of(&self.world, &self.clocks, waiting, Kind::Waits);
+        let first = come_to_rest(&mut self.world, &mut self.due);
+        let begun = jobs_of(&self.world, &self.clocks, waiting, Kind::Begins);
+        let began = say_each(&mut self.world, &mut self.due, begun, Word::Begins);
+        let second = come_to_rest(&mut self.world, &mut self.due);
+        let given_up = jobs_of(&self.world, &self.clocks, waiting, Kind::IsImpatient);
+        let gave_up = say_each(&mut self.world, &mut self.due, given_up, Word::GivesUp);
+        let third = come_to_rest(&mut self.world, &mut self.due);
+        count_turns(&mut self.clocks, &self.world, waiting, thirsty);
+        Came {
+            holds: jobs_of(&self.world, &self.clocks, waiting, Kind::Holds),
+            given_up,
+            none_left: jobs_of(&self.world, &self.clocks, waiting, Kind::NoneLeft),
+            deeds: first + (began + second) + (gave_up + third),
+        }
     }
 }

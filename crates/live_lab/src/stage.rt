@@ -1,5 +1,12 @@
 //! How far a job is on its way.
+ghost use Rattle.legal_steps.specs.Legal.{IsJob};
 ghost use Rattle.live_lab.specs.Stages.{IsStage};
+
+use crate::kinds::is_through;
+use interleaving::World;
+use lab_plan::JobNo;
+use legal_steps::Drinking;
+use std::alloc::Allocator;
 
 /// What a job is to come to.
 #[derive(Clone, Copy, PartialEq, Eq, Debug)]
@@ -19,4 +26,32 @@ pub enum Stage {
     OnTheWay,
     /// It doesn't come there so: it has no session left to hold, or sessions are left before it may retire.
     Barred,
+}
+
+/// How far the job is on its way.
+pub(crate) fn stage_of<A: Allocator>(world: &World<A>, aim: Aim, job: JobNo) -> Stage
+    requires { IsJob world.now.plan job }
+    ensures { IsStage aim world.now job result }
+{
+    let phase = world.job(job);
+    match aim {
+        Aim::Hold => {
+            if phase.is_drinking() {
+                Stage::There
+            } else if is_through(world, job) {
+                Stage::Barred
+            } else {
+                Stage::OnTheWay
+            }
+        }
+        Aim::Retire => {
+            if phase.drinking == Drinking::Retired {
+                Stage::There
+            } else if is_through(world, job) {
+                Stage::OnTheWay
+            } else {
+                Stage::Barred
+            }
+        }
+    }
 }

@@ -6,3 +6,6 @@ pub mod Local
 pub mod Still
 pub mod Marks
 pub mod Waking
+pub mod Deeds
+pub mod Attended
+pub mod Rested

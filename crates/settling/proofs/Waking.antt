@@ -8,6 +8,8 @@ use Rattle.legal_steps.specs.declared.event.Event.{Event}
 use Rattle.legal_steps.specs.State.{State, IsOwn, edge, no_edge, end_of}
 use Rattle.legal_steps.specs.Run.{after_all}
 use Rattle.legal_steps.proofs.OwnEdges.{at_own_edges}
+use Rattle.interleaving.specs.World.{WorldView, LeadsTo}
+use Rattle.turns.specs.Lists.{Each}
 use Rattle.settling.specs.Left.{DueView, IsDueOf, AreMarked, KeepsMarks, IsBy, IsBySelf, is_due, is_noted}
 use Rattle.settling.specs.Attending.{with_note, with_due, woken_at}
 use Rattle.settling.proofs.Local.{IsLocal, IsAlone, local_all, alone_all}
@@ -109,3 +111,10 @@ module _ (plan : LabPlan) (j : ℕ) (due : DueView) where
             let other : k ≢ j = λ is. far (subst (λ m. IsOwn plan m e) is own) in
             seat_still_at plan s t k (local.seats k other) e (local.edges e far) (marked.noted k e own o.0);
       }
+
+-- the same of a world that went on
+pub marked_on : (old new : WorldView) (events : List Event) (Kind : Event → Type 0) (due due' : DueView) → LeadsTo old events new → Each Kind events →
+    KeepsMarks new.plan Kind due due' → AreMarked old.plan old.state due → AreMarked new.plan new.state due'
+marked_on old new events Kind due due' leads kind keeps marked =
+    subst (λ (z : LabPlan × State). AreMarked z.0 z.1 due') (λ i. (sym leads.same_plan i, sym leads.run.leads i))
+    (subst (λ (p : LabPlan). KeepsMarks p Kind due due') leads.same_plan keeps old.state events marked leads.run.legal kind)

@@ -13,9 +13,12 @@ abbrev pub with_note : DueView → End → ℕ → Bool → DueView
 with_note due Lower e note = record due { lower = slice_set due.lower e note }
 with_note due Higher e note = record due { higher = slice_set due.higher e note }
 
--- job j is due
+-- job j is due, or isn't
 abbrev pub with_due : DueView → ℕ → DueView
 with_due due j = record due { jobs = slice_set due.jobs j true }
+
+abbrev pub not_due : DueView → ℕ → DueView
+not_due due j = record due { jobs = slice_set due.jobs j false }
 
 -- both its jobs are due, and nothing is noted of the edge
 abbrev pub woken_at : LabPlan → DueView → ℕ → DueView

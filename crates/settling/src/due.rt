@@ -4,7 +4,7 @@ ghost use Rattle.lab_plan.specs.LabPlan.{edges};
 ghost use Rattle.legal_steps.specs.State.{State, IsOwn, end_of};
 ghost use Rattle.legal_steps.specs.Legal.{IsJob};
 ghost use Rattle.settling.specs.Left.{DueView, IsDueOf, AreMarked, KeepsMarks, IsBy, IsBySelf, is_due, is_noted as is_noted_of};
-ghost use Rattle.settling.specs.Attending.{with_note, woken_at};
+ghost use Rattle.settling.specs.Attending.{not_due, with_note, woken_at};
 
 use lab_plan::{EdgeNo, JobNo, Plan};
 use legal_steps::End;
@@ -40,6 +40,22 @@ impl<A: Allocator + Copy> Due<A> {
             higher: Vec::from_elem(alloc, false, edges)?,
         })
     }
+}
+
+/// Whether the job is due.
+pub(crate) fn is_due<A: Allocator>(due: &Due<A>, job: JobNo) -> bool
+    requires { job < length due.now.jobs }
+    ensures { result ≡ is_due due.now job }
+{
+    due.jobs[job.0 as usize]
+}
+
+/// The job isn't due any more.
+pub(crate) fn clear<A: Allocator>(due: &mut Due<A>, job: JobNo)
+    requires { job < length due.old.jobs }
+    ensures { due.new ≡ not_due due.old job }
+{
+    due.jobs[job.0 as usize] = false;
 }
 
 /// Whether it is noted of this end of the edge.

@@ -3,11 +3,11 @@ ghost use Rattle.std.specs.Prelude.{◌≡◌, ◌↔◌, ◌≤◌, true, false
 ghost use Rattle.legal_steps.specs.State.{IsOwn};
 ghost use Rattle.legal_steps.specs.Legal.{IsJob, May};
 ghost use Rattle.settling.specs.Doing.{IsOwnAct, ActsAlone, act_of};
-ghost use Rattle.settling.specs.Left.{AreMarked, NobodyIsDue, is_due};
+ghost use Rattle.settling.specs.Left.{AreMarked, NobodyIsDue, is_due as is_due_now};
 ghost use Rattle.settling.specs.Resting.{Rests};
 ghost use Rattle.settling.specs.Attending.{AttendsEdge, Attends};
 
-use crate::due::{Due, is_noted, note, wake_at, wake_self};
+use crate::due::{Due, clear, is_due, is_noted, note, wake_at, wake_self};
 use crate::visiting::visit;
 use interleaving::World;
 use lab_plan::{EdgeNo, JobNo};
@@ -56,7 +56,7 @@ fn attend_edge<A: Allocator>(
 ) -> u32
     requires own { IsOwn world.old.plan job edge }
     requires marked { AreMarked world.old.plan world.old.state due.old }
-    requires due { is_due due.old job ≡ true }
+    requires due { is_due_now due.old job ≡ true }
     ensures attends { AttendsEdge world.old due.old job edge result world.new due.new }
     ensures few { result ≤ 5 }
 {
@@ -78,7 +78,7 @@ fn attend_edge<A: Allocator>(
 fn attend<A: Allocator>(world: &mut World<A>, due: &mut Due<A>, job: JobNo) -> u32
     requires job { IsJob world.old.plan job }
     requires marked { AreMarked world.old.plan world.old.state due.old }
-    requires due { is_due due.old job ≡ true }
+    requires due { is_due_now due.old job ≡ true }
     ensures attends { Attends (λ k. k ≡ job) world.old due.old result world.new due.new }
     ensures few { result ≤ 2481 }
 {
@@ -93,7 +93,7 @@ fn attend<A: Allocator>(world: &mut World<A>, due: &mut Due<A>, job: JobNo) -> u
         return done + 1;
     }
     if done == 0 {
-        due.jobs[job.0 as usize] = false;
+        clear(due, job);
     }
     done
 }
@@ -106,8 +106,9 @@ fn round<A: Allocator>(world: &mut World<A>, due: &mut Due<A>) -> u32
 {
     let mut done = 0u32;
     for job in 0..world.plan().jobs() {
-        if due.jobs[job] {
-            done += attend(world, due, JobNo(job as u8));
+        let job = JobNo(job as u8);
+        if is_due(due, job) {
+            done += attend(world, due, job);
         }
     }
     done

@@ -1,0 +1,9 @@
+mod Phases
+mod Lists
+mod InLab
+mod Turns
+mod Bits
+mod Sayings
+mod Clocks
+mod Tests
+mod Sessions

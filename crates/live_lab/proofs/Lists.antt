@@ -1,0 +1,99 @@
+-- Lists of events of one job.
+use Rattle.std.proofs.Common.{◌≡◌, ◌⊎◌, ℕ, zero, suc, Bool, true, false, not, ◌==◌, if◌then◌else◌, List, [], ◌∷◌, ◌++◌, refl, sym, subst, inl, inr}
+use Rattle.lab_plan.specs.LabPlan.{LabPlan}
+use Rattle.legal_steps.specs.declared.event.Event.{Event}
+use Rattle.legal_steps.specs.declared.event.Event.TheVariants.{AskFork, GiveFork, Soil, AskBottles, GiveBottles, Reach, Act, Quit}
+use Rattle.legal_steps.specs.declared.phase.Drinking.{Drinking}
+use Rattle.legal_steps.specs.declared.phase.Drinking.TheVariants.{Tranquil, Thirsty, Drinking as Drinks, Reaching, Retired}
+use Rattle.legal_steps.specs.State.{State}
+use Rattle.legal_steps.specs.Run.{actor}
+use Rattle.edge_word.specs.declared.moves.EdgeMoves.{EdgeMoves}
+use Rattle.edge_word.specs.Moves.{on, events_of}
+use Rattle.turns.specs.Lists.{Each}
+use Rattle.turns.specs.Acts.{AreActs}
+use Rattle.turns.specs.Turn.{Visit, visit_events, visits_events}
+use Rattle.settling.specs.Left.{IsBy}
+use Rattle.live_lab.specs.Calls.{IsMealDue}
+use Rattle.live_lab.specs.Ends.{in_hand, commands_by, rest_of_session}
+
+abbrev pub AreBy : ℕ → List Event → Type 0
+AreBy j events = Each (IsBy j) events
+
+pub by_both : (j : ℕ) (xs ys : List Event) → AreBy j xs → AreBy j ys → AreBy j (xs ++ ys)
+by_both j [] ys a b = b
+by_both j (x ∷ xs) ys a b = (a.0, by_both j xs ys a.1 b)
+
+by_on : (j : ℕ) (b : Bool) (x : Event) (rest : List Event) → actor x ≡ j → AreBy j rest → AreBy j (on b x rest)
+by_on j false x rest is a = a
+by_on j true x rest is a = (is, a)
+
+moves_by : (m : EdgeMoves) (j e : ℕ) → AreBy j (events_of m j e)
+moves_by m j e =
+    by_on j m.give_fork (GiveFork j e) _ refl (by_on j (not (m.give_bottles == 0)) (GiveBottles j e m.give_bottles) _ refl
+    (by_on j m.ask_fork (AskFork j e) _ refl (by_on j (not (m.ask_bottles == 0)) (AskBottles j e m.ask_bottles) _ refl
+    (by_on j m.soil (Soil j e) [] refl tt))))
+
+by_if : (j : ℕ) (b : Bool) (xs : List Event) → AreBy j xs → AreBy j (if b then [] else xs)
+by_if j true xs a = tt
+by_if j false xs a = a
+
+pub visits_by : (j : ℕ) (vs : List Visit) → AreBy j (visits_events j vs)
+visits_by j [] = tt
+visits_by j (v ∷ vs) = by_both j (visit_events j v) (visits_events j vs) (refl, by_if j v.lost (events_of v.moves j v.edge) (moves_by v.moves j v.edge))
+    (visits_by j vs)
+
+pub acts_by : (plan : LabPlan) (s : State) (j waited : ℕ) (events : List Event) → AreActs plan s j waited events → AreBy j events
+acts_by plan s j waited events due = elim due [
+  | inl a ↦ subst (AreBy j) (sym a.1) (refl, tt)
+  | inr b ↦ elim b.1 [
+    | inl a ↦ subst (AreBy j) (sym a.1) (refl, refl, tt)
+    | inr b ↦ elim b.1 [
+      | inl a ↦ subst (AreBy j) (sym a.1) (refl, tt)
+      | inr b ↦ elim b.1 [
+        | inl a ↦ subst (AreBy j) (sym a.1) (refl, tt)
+        | inr b ↦ elim b.1 [
+          | inl a ↦ subst (AreBy j) (sym a.1) (refl, tt)
+          | inr b ↦ elim b.1 [
+            | inl a ↦ subst (AreBy j) (sym a.1) (refl, tt)
+            | inr b ↦ elim b.1 [
+              | inl a ↦ subst (AreBy j) (sym a.1) (refl, tt)
+              | inr b ↦ elim b.1 [
+                | inl a ↦ subst (AreBy j) (sym a.1) (refl, tt)
+                | inr b ↦ elim b.1 [
+                  | inl a ↦ subst (AreBy j) (sym a.1) (refl, tt)
+                  | inr b ↦ subst (AreBy j) (sym b.1) tt
+                ]
+              ]
+            ]
+          ]
+        ]
+      ]
+    ]
+  ]
+]
+
+pub meal_by : (plan : LabPlan) (s : State) (j : ℕ) (events : List Event) → IsMealDue plan s j events → AreBy j events
+meal_by plan s j events due = elim due [
+  | inl a ↦ subst (AreBy j) (sym a.1) (refl, tt)
+  | inr b ↦ elim b [
+    | inl a ↦ subst (AreBy j) (sym a.2) (refl, tt)
+    | inr c ↦ subst (AreBy j) (sym c.2) tt
+  ]
+]
+
+hand_by : (d : Drinking) (j : ℕ) → AreBy j (in_hand d j)
+hand_by Reaching j = (refl, tt)
+hand_by Tranquil j = tt
+hand_by Thirsty j = tt
+hand_by Drinks j = tt
+hand_by Retired j = tt
+
+commands_are_by : (j n : ℕ) → AreBy j (commands_by j n)
+commands_are_by j zero = tt
+commands_are_by j (suc n) = by_both j (commands_by j n) (Reach j ∷ Act j ∷ []) (commands_are_by j n) (refl, refl, tt)
+
+pub session_by : (d : Drinking) (j n : ℕ) → AreBy j (rest_of_session d j n)
+session_by d j n = by_both j (in_hand d j ++ commands_by j n) (Quit j ∷ []) (by_both j (in_hand d j) (commands_by j n) (hand_by d j) (commands_are_by j n)) (refl, tt)
+
+pub on_by : (j : ℕ) (b : Bool) (x : Event) → actor x ≡ j → AreBy j (on b x [])
+on_by j b x is = by_on j b x [] is tt

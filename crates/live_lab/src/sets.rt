@@ -1,1 +1,0 @@
-//! Sets of jobs, a bit for each.

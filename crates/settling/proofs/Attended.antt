@@ -1,0 +1,146 @@
+-- One edge of a job that is due.
+use Rattle.std.proofs.Common.{◌≡◌, ◌≢◌, ℕ, ◌+◌, ◌<◌, ◌≤◌, zero, suc, Bool, true, false, not, ◌&&◌, ◌==◌, List, [], ◌∷◌, length, slice_index_or, refl, sym, ap, ◌∙◌, subst, inl, inr, arith}
+use Rattle.std.proofs.lemmas.Bool.{false≢true, cases_eq}
+use Rattle.lab_plan.specs.LabPlan.{LabPlan}
+use Rattle.legal_steps.specs.declared.end.End.{End}
+use Rattle.legal_steps.specs.declared.edge_state.EdgeState.{EdgeState}
+use Rattle.legal_steps.specs.declared.event.Event.{Event}
+use Rattle.legal_steps.specs.declared.event.Event.TheVariants.{Look, AskFork, GiveFork, Soil, AskBottles, GiveBottles}
+use Rattle.legal_steps.specs.State.{State, IsOwn, edge, phase, bottle_marks, end_of, bottles_at}
+use Rattle.legal_steps.specs.Legal.{after}
+use Rattle.legal_steps.specs.Run.{after_all}
+use Rattle.legal_steps.specs.Fitting.{Fits}
+use Rattle.legal_steps.proofs.FitsLaw.{own_is_job}
+use Rattle.interleaving.specs.World.{WorldView, LeadsTo}
+use Rattle.edge_word.specs.declared.moves.EdgeMoves.{EdgeMoves}
+use Rattle.edge_word.specs.Moves.{on, events_of, is_nothing}
+use Rattle.turns.proofs.Calm.{nothing_due_is_calm}
+use Rattle.settling.specs.Doing.{VisitsEdge}
+use Rattle.settling.specs.Left.{DueView, AreMarked, HasNothingAt, is_due, is_noted}
+use Rattle.settling.specs.Attending.{AttendsEdge, IsNoMore, with_note, woken_at}
+use Rattle.settling.proofs.Deeds.{alone_none, alone_visit}
+use Rattle.settling.proofs.DueThere.{seat_there}
+use Rattle.settling.proofs.Local.{IsNear, near_all, visit_at, marked_by_look}
+use Rattle.settling.proofs.Still.{still_at, seat_still_at, still_nothing}
+use Rattle.settling.proofs.Marks.{added, noted_still, noted_now, note_fits, note_jobs, woken_fits, woken_out, woken_due, woken_notes, same_job}
+
+-- where there are no events, nothing was due
+none_on : (a b c d f : Bool) (u v w x y : Event) → length (on a u (on (not b) v (on c w (on (not d) x (on f y []))))) ≡ 0 →
+    (not a && b && not c && d && not f) ≡ true
+none_on true b c d f u v w x y h = absurd (omega (arith, h))
+none_on false false c d f u v w x y h = absurd (omega (arith, h))
+none_on false true true d f u v w x y h = absurd (omega (arith, h))
+none_on false true false false f u v w x y h = absurd (omega (arith, h))
+none_on false true false true true u v w x y h = absurd (omega (arith, h))
+none_on false true false true false u v w x y h = refl
+
+nothing_of : (m : EdgeMoves) (j e : ℕ) → length (events_of m j e) ≡ 0 → is_nothing m ≡ true
+nothing_of m j e h = none_on m.give_fork (m.give_bottles == 0) m.ask_fork (m.ask_bottles == 0) m.soil (GiveFork j e) (GiveBottles j e m.give_bottles)
+    (AskFork j e) (AskBottles j e m.ask_bottles) (Soil j e) h
+
+nil_of : (l : List Event) → length l ≡ 0 → l ≡ []
+nil_of [] h = refl
+nil_of (x ∷ l) h = absurd (omega (arith, h))
+
+module _ (old new : WorldView) (due : DueView) (j e n : ℕ) (fit : Fits old.plan old.state) (own : IsOwn old.plan j e)
+    (marked : AreMarked old.plan old.state due) (is : is_due due j ≡ true) (v : VisitsEdge old j e n new) where
+  abbrev plan : LabPlan
+  plan = old.plan
+
+  abbrev s : State
+  s = old.state
+
+  abbrev here : End
+  here = end_of plan j e
+
+  abbrev saw : EdgeState
+  saw = edge s e
+
+  abbrev t : State
+  t = after_all plan s (Look j e saw ∷ events_of v.moves j e)
+
+  inside : j < length s.seats
+  inside = seat_there plan s j e fit own
+
+  near : IsNear j e s t
+  near = near_all plan j e s (Look j e saw ∷ events_of v.moves j e) (visit_at v.moves j e saw) inside
+
+  marked_new : (due' : DueView) → AreMarked plan t due' → AreMarked new.plan new.state due'
+  marked_new due' m = subst (λ (z : LabPlan × State). AreMarked z.0 z.1 due') (λ i. (sym v.leads.same_plan i, sym v.leads.run.leads i)) m
+
+  -- at another edge, or another job's end of this one, if the edge stays
+  elsewhere : (k f : ℕ) → f ≢ e → HasNothingAt plan s k f → HasNothingAt plan t k f
+  elsewhere k f other h = elim (cases_eq k j) [
+    | inl same ↦ subst (λ m. HasNothingAt plan t m f) (sym same)
+        (still_at plan s t j f (near.edges f other) near.phase (near.marks f other) (subst (λ m. HasNothingAt plan s m f) same h))
+    | inr apart ↦ seat_still_at plan s t k (near.seats k apart) f (near.edges f other) h
+  ]
+
+  -- ---- something was moved
+
+  pub edge_moved : 1 ≤ n → AttendsEdge old due j e n new (woken_at plan due e)
+  edge_moved some = record {
+    alone = alone_visit old new j e n v;
+    marked = marked_new (woken_at plan due e) (record {
+      of_plan = woken_fits plan due e marked.of_plan;
+      others = λ k job out. let o = woken_out plan due e k out in
+          let apart : k ≢ j = λ z. o.1 (subst (λ m. IsOwn plan m e) (sym z) own) in
+          still_nothing plan s t k (near.seats k apart) (λ f mine. near.edges f (λ z. o.1 (subst (IsOwn plan k) z mine))) (marked.others k job o.0);
+      noted = λ k f mine noted. let o = woken_notes plan due e (end_of plan k f) f noted in elsewhere k f o.1 (marked.noted k f mine o.0);
+    });
+    still_due = woken_due plan due e j is;
+    noted = λ none. absurd (omega (arith, some, none));
+    no_more = λ none. absurd (omega (arith, some, none));
+  }
+
+  -- ---- nothing was
+
+  module _ (none : n ≡ 0) where
+    abbrev u : State
+    u = after plan s (Look j e saw)
+
+    no_events : events_of v.moves j e ≡ []
+    no_events = nil_of (events_of v.moves j e) (sym v.many ∙ none)
+
+    only_looked : t ≡ u
+    only_looked = ap (after_all plan u) no_events
+
+    nothing : HasNothingAt plan u j e
+    nothing = record {
+      calm = nothing_due_is_calm plan u j e v.moves v.due (nothing_of v.moves j e (sym v.many ∙ none));
+      knows = marked_by_look plan s j e saw inside (let a = (fit.seats_fit j (own_is_job plan j e own)).bottle_marks_there in omega (arith, a, own.is_edge));
+    }
+
+    nothing_here : HasNothingAt plan t j e
+    nothing_here = subst (λ (z : State). HasNothingAt plan z j e) (sym only_looked) nothing
+
+    edge_stays : (f : ℕ) → edge t f ≡ edge s f
+    edge_stays f = ap (λ (z : State). edge z f) only_looked
+
+    pub edge_calm : AttendsEdge old due j e n new (with_note due here e true)
+    edge_calm = record {
+      alone = alone_visit old new j e n v;
+      marked = marked_new (with_note due here e true) (record {
+        of_plan = note_fits plan due here e true marked.of_plan;
+        others = λ k job out.
+            let before : is_due due k ≡ false = sym (ap (λ (l : List Bool). slice_index_or l k true) (note_jobs due here e true)) ∙ out in
+            let apart : k ≢ j = λ z. false≢true (sym before ∙ (ap (is_due due) z ∙ is)) in
+            still_nothing plan s t k (near.seats k apart) (λ f mine. edge_stays f) (marked.others k job before);
+        noted = λ k f mine noted. elim (cases_eq f e) [
+          | inr other ↦ elim (added due here (end_of plan k f) e f noted) [ inl z ↦ absurd (other z.1) | inr before ↦ elsewhere k f other (marked.noted k f mine before) ]
+          | inl same ↦ elim (cases_eq k j) [
+            | inl me ↦ subst (λ (z : ℕ × ℕ). HasNothingAt plan t z.0 z.1) (λ i. (sym me i, sym same i)) nothing_here
+            | inr apart ↦ elim (added due here (end_of plan k f) e f noted) [
+              | inl z ↦ absurd (apart (same_job plan j k e own (subst (IsOwn plan k) same mine) (ap (end_of plan k) (sym same) ∙ z.0)))
+              | inr before ↦ seat_still_at plan s t k (near.seats k apart) f (edge_stays f) (marked.noted k f mine before)
+            ]
+          ]
+        ];
+      });
+      still_due = ap (λ (l : List Bool). slice_index_or l j true) (note_jobs due here e true) ∙ is;
+      noted = λ h. noted_now due here e (let a = marked.of_plan.lower_there in omega (arith, a, own.is_edge)) (let a = marked.of_plan.higher_there in omega (arith, a, own.is_edge));
+      no_more = λ h. record {
+        jobs = λ k out. ap (λ (l : List Bool). slice_index_or l k true) (note_jobs due here e true) ∙ out;
+        notes = λ end f before. noted_still due here end e f before;
+      };
+    }
