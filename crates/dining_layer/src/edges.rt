@@ -27,7 +27,12 @@ pub struct AtEdge {
 
 /// The edge as it is seen from this end: turned round if that is the lower one.
 #[tactic(auto, unfolding(legal_steps::specs::State::bottles_at))]
-pub fn seen_from<A: Allocator>(plan: &Plan<A>, edge: EdgeNo, here: End, seen: EdgeState) -> EdgeState
+pub fn seen_from<A: Allocator>(
+    plan: &Plan<A>,
+    edge: EdgeNo,
+    here: End,
+    seen: EdgeState,
+) -> EdgeState
     requires { edge < length (edges plan.now) }
     ensures { result ≡ turned plan.now edge here seen }
 {

@@ -1,24 +1,24 @@
 -- One edge of a job that is due.
-use Rattle.std.proofs.Common.{◌≡◌, ◌≢◌, ℕ, ◌+◌, ◌<◌, ◌≤◌, zero, suc, Bool, true, false, not, ◌&&◌, ◌==◌, List, [], ◌∷◌, length, slice_index_or, refl, sym, ap, ◌∙◌, subst, inl, inr, arith}
+use Rattle.std.proofs.Common.{◌≡◌, ◌≢◌, ℕ, ◌<◌, ◌≤◌, Bool, true, false, not, ◌&&◌, ◌==◌, List, [], ◌∷◌, length, slice_index_or, refl, sym, ap, ◌∙◌, subst, inl, inr, arith}
 use Rattle.std.proofs.lemmas.Bool.{false≢true, cases_eq}
 use Rattle.lab_plan.specs.LabPlan.{LabPlan}
 use Rattle.legal_steps.specs.declared.end.End.{End}
 use Rattle.legal_steps.specs.declared.edge_state.EdgeState.{EdgeState}
 use Rattle.legal_steps.specs.declared.event.Event.{Event}
 use Rattle.legal_steps.specs.declared.event.Event.TheVariants.{Look, AskFork, GiveFork, Soil, AskBottles, GiveBottles}
-use Rattle.legal_steps.specs.State.{State, IsOwn, edge, phase, bottle_marks, end_of, bottles_at}
+use Rattle.legal_steps.specs.State.{State, IsOwn, edge, end_of}
 use Rattle.legal_steps.specs.Legal.{after}
 use Rattle.legal_steps.specs.Run.{after_all}
 use Rattle.legal_steps.specs.Fitting.{Fits}
 use Rattle.legal_steps.proofs.FitsLaw.{own_is_job}
-use Rattle.interleaving.specs.World.{WorldView, LeadsTo}
+use Rattle.interleaving.specs.World.{WorldView}
 use Rattle.edge_word.specs.declared.moves.EdgeMoves.{EdgeMoves}
 use Rattle.edge_word.specs.Moves.{on, events_of, is_nothing}
 use Rattle.turns.proofs.Calm.{nothing_due_is_calm}
 use Rattle.settling.specs.Doing.{VisitsEdge}
-use Rattle.settling.specs.Left.{DueView, AreMarked, HasNothingAt, is_due, is_noted}
-use Rattle.settling.specs.Attending.{AttendsEdge, IsNoMore, with_note, woken_at}
-use Rattle.settling.proofs.Deeds.{alone_none, alone_visit}
+use Rattle.settling.specs.Left.{DueView, AreMarked, HasNothingAt, is_due}
+use Rattle.settling.specs.Attending.{AttendsEdge, with_note, woken_at}
+use Rattle.settling.proofs.Deeds.{alone_visit}
 use Rattle.settling.proofs.DueThere.{seat_there}
 use Rattle.settling.proofs.Local.{IsNear, near_all, visit_at, marked_by_look}
 use Rattle.settling.proofs.Still.{still_at, seat_still_at, still_nothing}

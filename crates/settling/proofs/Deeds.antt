@@ -1,24 +1,24 @@
 -- What is done alone, and how many deeds it has.
-use Rattle.std.proofs.Common.{◌≡◌, ℕ, ◌+◌, ◌*◌, ◌<◌, ◌≤◌, Bool, true, false, not, ◌==◌, cond, zero, suc, List, [], ◌∷◌, ◌++◌, take, length, slice_index_or, refl, sym, ap, ◌∙◌, subst, inl, inr, arith}
+use Rattle.std.proofs.Common.{◌≡◌, ℕ, ◌+◌, ◌*◌, ◌<◌, ◌≤◌, Bool, true, cond, zero, suc, List, [], ◌∷◌, ◌++◌, length, slice_index_or, refl, sym, ap, ◌∙◌, subst, inl, inr, arith}
 use Rattle.std.specs.List.{count_by}
 use Rattle.std.proofs.lemmas.List.Sums.{sum_by-cons, sum_by-append}
 use Rattle.lab_plan.specs.LabPlan.{LabPlan, edges, bottles}
 use Rattle.legal_steps.specs.declared.edge_state.EdgeState.{EdgeState}
 use Rattle.legal_steps.specs.declared.event.Event.{Event}
-use Rattle.legal_steps.specs.declared.event.Event.TheVariants.{Look, AskFork, GiveFork, Soil, AskBottles, GiveBottles, Hunger, Sit, Leave, Drink}
+use Rattle.legal_steps.specs.declared.event.Event.TheVariants.{Look, Hunger, Sit, Leave, Drink}
 use Rattle.legal_steps.specs.State.{State, edge}
 use Rattle.legal_steps.specs.Legal.{May}
 use Rattle.legal_steps.specs.Run.{IsLegalFrom, after_all}
 use Rattle.interleaving.specs.World.{WorldView, LeadsTo, IsReachedWith}
 use Rattle.edge_word.specs.declared.moves.EdgeMoves.{EdgeMoves}
-use Rattle.edge_word.specs.Moves.{on, events_of}
+use Rattle.edge_word.specs.Moves.{events_of}
 use Rattle.turns.specs.Lists.{Each}
 use Rattle.reasons.specs.Deeds.{IsBetween, AreBetween, is_deed, sum_below}
 use Rattle.reasons.proofs.LawProofs.{few_deeds}
-use Rattle.settling.specs.Doing.{VisitsEdge, IsOwnAct, ActsAlone}
+use Rattle.settling.specs.Doing.{VisitsEdge, IsOwnAct}
 use Rattle.settling.specs.Left.{IsBySelf}
 use Rattle.settling.specs.Resting.{DoesAlone}
-use Rattle.settling.proofs.Worlds.{leads_none, leads_both}
+use Rattle.settling.proofs.Worlds.{leads_both}
 use Rattle.settling.proofs.Local.{each_move}
 
 -- ---- counts
@@ -62,9 +62,6 @@ between_both [] ys a b = b
 between_both (x ∷ xs) ys a b = (a.0, between_both xs ys a.1 b)
 
 -- ---- what is done alone
-
-pub alone_none : (w : WorldView) → DoesAlone w 0 w
-alone_none w = record { events = []; leads = leads_none w; between = tt; deeds = refl }
 
 pub alone_both : (old mid new : WorldView) (m n : ℕ) → DoesAlone old m mid → DoesAlone mid n new → DoesAlone old (m + n) new
 alone_both old mid new m n a b = record {

@@ -3,7 +3,6 @@ use Rattle.std.proofs.Common.{◌≡◌, ◌<◌, ℕ, length, refl, sym, subst,
 use Rattle.lab_plan.specs.LabPlan.{LabPlan}
 use Rattle.legal_steps.specs.declared.end.End.TheVariants.{Higher}
 use Rattle.legal_steps.specs.State.{State, IsOwn, phase, dining, edge, end_of}
-use Rattle.legal_steps.specs.Legal.{IsJob}
 use Rattle.legal_steps.specs.Run.{IsLegalFrom}
 use Rattle.legal_steps.specs.Fitting.{Fits}
 use Rattle.legal_steps.proofs.FitsLaw.{own_is_job}

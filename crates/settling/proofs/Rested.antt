@@ -1,13 +1,13 @@
 -- Job after job, and round after round, until nobody has anything to do of itself.
-use Rattle.std.proofs.Common.{◌≡◌, ◌≢◌, ℕ, zero, suc, ◌+◌, ◌*◌, ◌<◌, ◌≤◌, Bool, true, false, List, [], ◌∷◌, ◌++◌, map, take, length, set, slice_index_or, get_or-set_same, get_or-set_other, length-set, refl, sym, ap, ◌∙◌, subst, inl, inr, arith}
-use Rattle.std.proofs.lemmas.Bool.{false≢true, cases_eq}
+use Rattle.std.proofs.Common.{◌≡◌, ℕ, ◌+◌, ◌*◌, ◌<◌, ◌≤◌, true, false, List, [], ◌∷◌, ◌++◌, take, length, set, slice_index_or, get_or-set_same, get_or-set_other, length-set, refl, sym, ap, ◌∙◌, subst, inl, inr, arith}
+use Rattle.std.proofs.lemmas.Bool.{cases_eq}
 use Rattle.lab_plan.specs.LabPlan.{LabPlan, edges, edges_of, session_names}
 use Rattle.lab_plan.specs.IsPlan.{IsPlan}
 use Rattle.legal_steps.specs.declared.phase.Drinking.TheVariants.{Thirsty}
 use Rattle.legal_steps.specs.declared.phase.JobState.{JobState}
 use Rattle.legal_steps.specs.declared.event.Event.{Event}
 use Rattle.legal_steps.specs.declared.event.Event.TheVariants.{Look, AskFork, GiveFork, Soil, AskBottles, GiveBottles, Thirst, Hunger, Sit, Leave, Drink, Reach, Act, Quit, Retire, Glance, Withdraw}
-use Rattle.legal_steps.specs.State.{State, Has, IsOwn, IsInSession, edge, drinking, end_of}
+use Rattle.legal_steps.specs.State.{State, Has, IsOwn, IsInSession, drinking, end_of}
 use Rattle.legal_steps.specs.Legal.{May, IsJob, instrument_of}
 use Rattle.legal_steps.specs.Run.{Runs, IsLegalFrom, after_all}
 use Rattle.legal_steps.specs.Reached.{IsReached}
@@ -28,7 +28,7 @@ use Rattle.settling.specs.Left.{DueView, AreMarked, HasNothingToDo, KeepsMarks, 
 use Rattle.settling.specs.Resting.{DoesAlone, Rests}
 use Rattle.settling.specs.Attending.{AttendsEdge, Attends, not_due}
 use Rattle.settling.proofs.Worlds.{reached_sound}
-use Rattle.settling.proofs.Deeds.{alone_none, alone_both, alone_act, act_is, none_legal, few_alone}
+use Rattle.settling.proofs.Deeds.{alone_both, alone_act, act_is, none_legal, few_alone}
 use Rattle.settling.proofs.Waking.{marked_on}
 
 -- ---- edge after edge
@@ -41,16 +41,6 @@ pub record EdgesSoFar (old : WorldView) (due : DueView) (j : ℕ) (k n : ℕ) (n
   pub noted : n ≡ 0 → (i : ℕ) → i < k → is_noted due' (end_of old.plan j (slice_index_or (edges_of old.plan j) i 0)) (slice_index_or (edges_of old.plan j) i 0) ≡ true
   pub stays : n ≡ 0 → (i : ℕ) → is_due due i ≡ false → is_due due' i ≡ false
   pub few : n ≤ 5 * k
-
-pub edges_first : (w : WorldView) (due : DueView) (j : ℕ) → AreMarked w.plan w.state due → is_due due j ≡ true → EdgesSoFar w due j 0 0 w due
-edges_first w due j marked is = record {
-  alone = alone_none w;
-  marked = marked;
-  still_due = is;
-  noted = λ h i below. absurd (omega (arith, below));
-  stays = λ h i out. out;
-  few = omega arith;
-}
 
 pub edges_more : (old mid new : WorldView) (d0 d1 d2 : DueView) (j k e m n : ℕ) → e ≡ slice_index_or (edges_of old.plan j) k 0 → EdgesSoFar old d0 j k m mid d1 →
     AttendsEdge mid d1 j e n new d2 → n ≤ 5 → EdgesSoFar old d0 j (k + 1) (m + n) new d2
@@ -77,15 +67,6 @@ module _ (old mid : WorldView) (d0 d1 : DueView) (j k n : ℕ) (job : IsJob old.
     marked = marked_on mid new (acts.0 ∷ []) (IsBySelf j) d1 d2 acts.2 ((act_is mid.plan mid.state j acts.0 acts.1).self, tt) keeps a.marked;
     unmarked = λ h. absurd (omega (arith, h));
     stays = λ h. absurd (omega (arith, h));
-  }
-
-  -- something was moved
-  pub job_moved : 1 ≤ n → Attends (λ i. i ≡ j) old d0 n mid d1
-  job_moved some = record {
-    alone = a.alone;
-    marked = a.marked;
-    unmarked = λ h. absurd (omega (arith, h, some));
-    stays = λ h. absurd (omega (arith, h, some));
   }
 
   -- nothing was done at all
@@ -133,14 +114,6 @@ module _ (old mid : WorldView) (d0 d1 : DueView) (j k n : ℕ) (job : IsJob old.
 
 -- ---- job after job
 
-pub jobs_first : (w : WorldView) (due : DueView) → AreMarked w.plan w.state due → Attends (λ k. k < 0) w due 0 w due
-jobs_first w due marked = record {
-  alone = alone_none w;
-  marked = marked;
-  unmarked = λ h k none. absurd (omega (arith, none));
-  stays = λ h k out. out;
-}
-
 -- one that isn't due
 pub jobs_same : (old new : WorldView) (d0 d1 : DueView) (i n : ℕ) → Attends (λ k. k < i) old d0 n new d1 → is_due d1 i ≡ false → Attends (λ k. k < i + 1) old d0 n new d1
 jobs_same old new d0 d1 i n a out = record {
@@ -164,14 +137,6 @@ jobs_more old mid new d0 d1 d2 i m n a b = record {
     | inr other ↦ b.stays (omega (arith, none)) k (a.unmarked (omega (arith, none)) k (omega (arith, below, other)))
   ];
   stays = λ none k out. b.stays (omega (arith, none)) k (a.stays (omega (arith, none)) k out);
-}
-
-pub jobs_all : (old new : WorldView) (d0 d1 : DueView) (i n : ℕ) → length old.plan.jobs ≤ i → Attends (λ k. k < i) old d0 n new d1 → Attends (IsJob old.plan) old d0 n new d1
-jobs_all old new d0 d1 i n past a = record {
-  alone = a.alone;
-  marked = a.marked;
-  unmarked = λ none k job. a.unmarked none k (omega (arith, job, past));
-  stays = a.stays;
 }
 
 -- ---- where nobody has anything to do all is quiet
@@ -220,9 +185,6 @@ pub record SoFar (old : WorldView) (rounds n : ℕ) (new : WorldView) (due : Due
   pub alone : DoesAlone old n new
   pub many : rounds ≤ n
   pub marked : AreMarked new.plan new.state due
-
-pub so_far : (w : WorldView) (due : DueView) → AreMarked w.plan w.state due → SoFar w 0 0 w due
-so_far w due marked = record { alone = alone_none w; many = omega arith; marked = marked }
 
 pub so_far_more : (old mid new : WorldView) (d1 d2 : DueView) (rounds m n : ℕ) (Asked : ℕ → Type 0) → SoFar old rounds m mid d1 → Attends Asked mid d1 n new d2 →
     1 ≤ n → SoFar old (rounds + 1) (m + n) new d2

@@ -20,9 +20,8 @@ use Rattle.turns.specs.History.{learned, learned_all}
 use Rattle.turns.specs.Due.{AreDue}
 use Rattle.turns.specs.Turn.{Visit, count, is_done, is_lost, visit_events, visits_events, AreVisits}
 use Rattle.turns.proofs.Runs.{learned_all-append}
-use Rattle.turns.proofs.Idle.{no_events}
 use Rattle.settling.specs.Doing.{VisitsEdge, VisitsEdges}
-use Rattle.settling.proofs.Worlds.{leads_none, leads_both}
+use Rattle.settling.proofs.Worlds.{leads_both}
 
 -- ---- a look that would change nothing
 
@@ -62,24 +61,6 @@ calm_look w j e own f b = record {
   counted = none_of_looks w.counts j e (edge w.state e);
   same_plan = refl;
 }
-
--- ---- one edge
-
-module _ (j e n : ℕ) (old mid new : WorldView) (m : EdgeMoves) (look : LeadsTo old (Look j e (edge old.state e) ∷ []) mid)
-    (due : AreDue mid.plan mid.state j e m) where
-  pub visited : n ≡ length (events_of m j e) → LeadsTo mid (events_of m j e) new → VisitsEdge old j e n new
-  visited many leads = record {
-    moves = m;
-    due = subst (λ (z : LabPlan × State). AreDue z.0 z.1 j e m) (λ i. (look.same_plan i, look.run.leads i)) due;
-    many = many;
-    leads = leads_both old mid new (Look j e (edge old.state e) ∷ []) (events_of m j e) look leads;
-  }
-
-  pub visited_idle : n ≡ 0 → is_nothing m ≡ true → new ≡ mid → VisitsEdge old j e n new
-  visited_idle none nothing is =
-      let no : events_of m j e ≡ [] = no_events m j e nothing in
-      visited (none ∙ ap (λ (l : List Event). length l) (sym no))
-      (subst (λ (z : List Event × WorldView). LeadsTo mid z.0 z.1) (λ i. (sym no i, sym is i)) (leads_none mid))
 
 -- ---- who knows the state itself learns nothing else by legal events
 
@@ -158,9 +139,6 @@ visits_both j old mid new es fs m n a b =
           (visits_events j a.visits) (visits_events j b.visits) a.leads b.leads);
     }
 
-pub visits_none : (j : ℕ) (w : WorldView) → VisitsEdges w j [] 0 w
-visits_none j w = record { visits = []; edges = refl; due = tt; none_lost = refl; done = refl; leads = leads_none w }
-
 none_of : (b : Bool) → (if b && false then 1 else 0) + 0 ≡ 0
 none_of true = refl
 none_of false = refl
@@ -185,7 +163,7 @@ one_visit j e n m old new a some none =
     let q : EdgeMoves = a.moves in
     let saw : EdgeState = edge old.state e in
     let all = some_on q.give_fork (q.give_bottles == 0) q.ask_fork (q.ask_bottles == 0) q.soil (GiveFork j e) (GiveBottles j e q.give_bottles)
-        (AskFork j e) (AskBottles j e q.ask_bottles) (Soil j e) n a.many in
+    (AskFork j e) (AskBottles j e q.ask_bottles) (Soil j e) n a.many in
     record {
       visits = record { edge = e; saw = saw; moves = q; lost = false } ∷ [];
       edges = refl;

@@ -1,6 +1,6 @@
 -- What has to be marked anew after events of a job.
 use Rattle.std.proofs.Common.{◌≡◌, ◌≢◌, ℕ, ◌+◌, ◌<◌, ◌≤◌, Bool, true, false, List, length, slice_index_or, refl, sym, ap, ◌∙◌, subst, inl, inr, arith}
-use Rattle.std.proofs.lemmas.Bool.{false≢true, cases_eq}
+use Rattle.std.proofs.lemmas.Bool.{cases_eq}
 use Rattle.lab_plan.specs.LabPlan.{LabPlan, edges_of}
 use Rattle.legal_steps.specs.declared.end.End.{End}
 use Rattle.legal_steps.specs.declared.edge_state.EdgeState.{EdgeState}
@@ -11,10 +11,10 @@ use Rattle.legal_steps.proofs.OwnEdges.{at_own_edges}
 use Rattle.interleaving.specs.World.{WorldView, LeadsTo}
 use Rattle.turns.specs.Lists.{Each}
 use Rattle.settling.specs.Left.{DueView, IsDueOf, AreMarked, KeepsMarks, IsBy, IsBySelf, is_due, is_noted}
-use Rattle.settling.specs.Attending.{with_note, with_due, woken_at}
+use Rattle.settling.specs.Attending.{with_note, woken_at}
 use Rattle.settling.proofs.Local.{IsLocal, IsAlone, local_all, alone_all}
 use Rattle.settling.proofs.Still.{seat_still_at, still_nothing}
-use Rattle.settling.proofs.Marks.{out_before, note_jobs, forgotten, note_fits, due_fits, woken_fits, woken_out, woken_notes}
+use Rattle.settling.proofs.Marks.{note_jobs, forgotten, note_fits, woken_fits, woken_out, woken_notes}
 
 module _ (plan : LabPlan) (j : ℕ) (due : DueView) where
   -- ---- after events that moved nothing
@@ -25,13 +25,6 @@ module _ (plan : LabPlan) (j : ℕ) (due : DueView) where
     pub jobs : (k : ℕ) → is_due due' k ≡ false → (k ≢ j) × (is_due due k ≡ false)
     pub notes : (end : End) (f : ℕ) → is_noted due' end f ≡ true
         → (is_noted due end f ≡ true) × ((i : ℕ) → i < n → ¬ ((end ≡ end_of plan j (slice_index_or es i 0)) × (f ≡ slice_index_or es i 0)))
-
-  pub self_first : (es : List ℕ) → IsDueOf plan due → SelfWoken es 0 (with_due due j)
-  self_first es fits = record {
-    fits = due_fits plan due j fits;
-    jobs = λ k h. out_before due.jobs j k h;
-    notes = λ end f h. (h, λ i below. absurd (omega (arith, below)));
-  }
 
   pub self_more : (es : List ℕ) (n e : ℕ) (due' : DueView) → e ≡ slice_index_or es n 0 → SelfWoken es n due' →
       SelfWoken es (n + 1) (with_note due' (end_of plan j e) e false)
@@ -69,13 +62,6 @@ module _ (plan : LabPlan) (j : ℕ) (due : DueView) where
     pub fits : IsDueOf plan due'
     pub jobs : (k : ℕ) → is_due due' k ≡ false → (k ≢ j) × (is_due due k ≡ false) × ((i : ℕ) → i < n → ¬ IsOwn plan k (slice_index_or es i 0))
     pub notes : (end : End) (f : ℕ) → is_noted due' end f ≡ true → (is_noted due end f ≡ true) × ((i : ℕ) → i < n → f ≢ slice_index_or es i 0)
-
-  pub near_first : (es : List ℕ) → IsDueOf plan due → NearWoken es 0 (with_due due j)
-  near_first es fits = record {
-    fits = due_fits plan due j fits;
-    jobs = λ k h. let o = out_before due.jobs j k h in (o.0, o.1, λ i below. absurd (omega (arith, below)));
-    notes = λ end f h. (h, λ i below. absurd (omega (arith, below)));
-  }
 
   pub near_more : (es : List ℕ) (n e : ℕ) (due' : DueView) → e ≡ slice_index_or es n 0 → NearWoken es n due' → NearWoken es (n + 1) (woken_at plan due' e)
   near_more es n e due' is w = record {

@@ -1,12 +1,9 @@
 -- Lists of legal events, one after another.
-use Rattle.std.proofs.Common.{◌≡◌, ℕ, ◌+◌, Bool, true, false, cond, List, [], ◌∷◌, ◌++◌, refl, sym, ap, ◌∙◌, subst, arith}
-use Rattle.std.specs.Prelude.{Result, Ok, Err, is_err}
+use Rattle.std.proofs.Common.{◌≡◌, ℕ, ◌+◌, Bool, cond, List, ◌++◌, sym, ap, ◌∙◌, subst, arith}
 use Rattle.std.specs.List.{count_by}
-use Rattle.std.proofs.lemmas.Bool.{false≢true}
 use Rattle.std.proofs.lemmas.List.Sums.{sum_by-append}
 use Rattle.lab_plan.specs.LabPlan.{LabPlan}
 use Rattle.legal_steps.specs.declared.event.Event.{Event}
-use Rattle.legal_steps.specs.declared.event.NotLegal.{NotLegal}
 use Rattle.legal_steps.specs.State.{State}
 use Rattle.legal_steps.specs.Run.{IsLegalFrom, after_all, is_sit, is_quit, is_withdraw}
 use Rattle.legal_steps.specs.declared.counts.Counts.{Counts}
@@ -14,23 +11,13 @@ use Rattle.legal_steps.specs.Counting.{counts_of}
 use Rattle.legal_steps.specs.Fitting.{Fits}
 use Rattle.legal_steps.proofs.ReachedInvariant.{IsSound, sound_opening, sound_after_all}
 use Rattle.interleaving.specs.Counting.{both_counts, count_at, GoOnBy}
-use Rattle.interleaving.specs.World.{WorldView, LeadsTo, Steps, IsReachedWith}
+use Rattle.interleaving.specs.World.{WorldView, LeadsTo, IsReachedWith}
 use Rattle.turns.proofs.Runs.{after_all-append, legal-append}
 
 -- ---- counts
 
 same_counts : (a b : Counts) → a.meals ≡ b.meals → a.sessions_done ≡ b.sessions_done → a.withdrawn ≡ b.withdrawn → a ≡ b
 same_counts a b meals done withdrawn = λ i. record { meals = meals i; sessions_done = done i; withdrawn = withdrawn i }
-
-none_more : (p : Event → Bool) (n : ℕ) → n ≡ n + count_by p []
-none_more p n = let z : count_by p [] ≡ 0 = refl in omega (arith, z)
-
-none_counted : (counts : List Counts) → GoOnBy counts [] counts
-none_counted counts = record {
-  one_each = refl;
-  counted = λ k below. let x = count_at counts k in same_counts x (both_counts x (counts_of k [])) (none_more (is_sit k) x.meals)
-      (none_more (is_quit k) x.sessions_done) (none_more (is_withdraw k) x.withdrawn);
-}
 
 count_joined : (p : Event → Bool) (n : ℕ) (xs ys : List Event) → (n + count_by p xs) + count_by p ys ≡ n + count_by p (xs ++ ys)
 count_joined p n xs ys = let z : count_by p (xs ++ ys) ≡ count_by p xs + count_by p ys = sum_by-append (λ e. cond (p e) 1 0) xs ys in omega (arith, z)
@@ -47,9 +34,6 @@ both_counted old mid new xs ys first then = record {
 }
 
 -- ---- worlds
-
-pub leads_none : (w : WorldView) → LeadsTo w [] w
-leads_none w = record { run = record { legal = tt; leads = refl }; counted = none_counted w.counts; same_plan = refl }
 
 pub leads_both : (old mid new : WorldView) (xs ys : List Event) → LeadsTo old xs mid → LeadsTo mid ys new → LeadsTo old (xs ++ ys) new
 leads_both old mid new xs ys a b =

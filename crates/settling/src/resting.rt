@@ -121,6 +121,7 @@ pub fn rest<A: Allocator>(world: &mut World<A>, due: &mut Due<A>) -> u32
     ensures rests { Rests world.old result world.new }
     ensures marked { AreMarked world.new.plan world.new.state due.new }
     ensures nobody { NobodyIsDue world.new.plan due.new }
+    ensures few { result ≤ 129584 }
 {
     let _ = world.plan().edges();
     let mut done = 0u32;

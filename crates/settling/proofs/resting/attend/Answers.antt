@@ -1,12 +1,12 @@
-use Rattle.std.proofs.Common.{◌≡◌, ℕ, ◌+◌, ◌*◌, ◌<◌, ◌≤◌, Bool, true, false, List, [], length, slice_index_or, refl, sym, ap, ◌∙◌, subst, arith}
+use Rattle.std.proofs.Common.{◌≡◌, ℕ, ◌*◌, ◌<◌, ◌≤◌, Bool, true, false, List, length, slice_index_or, sym, ap, ◌∙◌, subst, arith}
 use Rattle.lab_plan.specs.LabPlan.{LabPlan, edges, edges_of}
 use Rattle.legal_steps.proofs.OwnEdges.{own_at, get_default}
 use Rattle.interleaving.specs.World.{WorldView}
-use Rattle.settling.specs.Doing.{IsOwnAct, ActsAlone}
+use Rattle.settling.specs.Doing.{ActsAlone}
 use Rattle.settling.specs.Left.{DueView, KeepsMarks, IsBySelf}
-use Rattle.settling.specs.Attending.{Attends, not_due}
+use Rattle.settling.specs.Attending.{Attends}
 use Rattle.settling.proofs.Few.{few_own}
-use Rattle.settling.proofs.Rested.{edges_more, job_acted, job_moved, job_done}
+use Rattle.settling.proofs.Rested.{edges_more, job_acted, job_done}
 use Rattle.settling.proofs.resting.attend.Goals as goal
 
 pub attend_edge-done-requires-clause-own : goal.attend_edge-done-requires-clause-own

@@ -1,4 +1,4 @@
-use Rattle.std.proofs.Common.{◌≡◌, ◌≤◌, length, subst, arith}
+use Rattle.std.proofs.Common.{◌≤◌, length, subst, arith}
 use Rattle.lab_plan.specs.LabPlan.{LabPlan, edges}
 use Rattle.legal_steps.specs.Legal.{IsJob}
 use Rattle.settling.proofs.Deeds.{few_alone, some_if}
@@ -28,3 +28,9 @@ unreachable-requires g c =
     subst (λ (p : LabPlan). length (edges p) ≤ 496) c.plan.ensures.plan (subst (λ n. n ≤ 496) c.edges.ensures.edges c.edges.ensures.few) in
     too_many c.args.world.now c.loop-number.world c.loop-number.due c.loop-number._number c.loop-number.done c.loop-number-test.false
     c.plan.ensures.reached few c.loop-number.invariant
+
+pub returns-then-more-eq0-clause-few : goal.returns-then-more-eq0-clause-few
+returns-then-more-eq0-clause-few g c =
+    let few : length (edges c.args.world.now.plan) ≤ 496 =
+    subst (λ (p : LabPlan). length (edges p) ≤ 496) c.plan.ensures.plan (subst (λ n. n ≤ 496) c.edges.ensures.edges c.edges.ensures.few) in
+    few_alone c.args.world.now c.loop-number.world c.loop-number.done c.plan.ensures.reached few c.loop-number.invariant.alone

@@ -2,7 +2,7 @@ use Rattle.std.proofs.Common.{◌≡◌, Bool, true, false, refl, sym, ap, ◌�
 use mathlib.Core.Bool.{beq}
 use Rattle.std.proofs.lemmas.Bool.{false≢true}
 use Rattle.lab_plan.specs.LabPlan.{LabPlan}
-use Rattle.legal_steps.specs.State.{dining, fork_mark, bottle_marks, edge, end_of, bottles_at}
+use Rattle.legal_steps.specs.State.{dining, edge, end_of, bottles_at}
 use Rattle.legal_steps.specs.Legal.{fork_mark_seen}
 use Rattle.interleaving.specs.World.{WorldView}
 use Rattle.settling.proofs.Visits.{calm_look}

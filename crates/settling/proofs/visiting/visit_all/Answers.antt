@@ -1,7 +1,6 @@
 use Rattle.std.proofs.Common.{◌≡◌, ◌+◌, ◌<◌, ◌≤◌, ◌∷◌, [], ◌++◌, ℕ, List, take, length, slice_index_or, refl, sym, ap, ◌∙◌, subst, arith}
 use Rattle.std.proofs.lemmas.List.{take_more}
 use Rattle.lab_plan.specs.LabPlan.{LabPlan, edges, edges_of}
-use Rattle.legal_steps.specs.State.{IsOwn}
 use Rattle.legal_steps.proofs.OwnEdges.{own_at}
 use Rattle.interleaving.specs.World.{WorldView}
 use Rattle.settling.specs.Doing.{VisitsEdge, VisitsEdges}
@@ -29,7 +28,7 @@ overflow_add-done g c =
     let i = c.loop-index.invariant.1 in let f = few_own c.plan-2.result.now c.args.job in
     let l = ap (λ (z : List ℕ). length z) c.edges_of-index-end.ensures in let t = c.loop-index-test.true in
     let n : length (edges c.plan-2.result.now) ≤ 496 = subst (λ (p : LabPlan). length (edges p) ≤ 496) (c.plan.ensures.plan ∙ sym c.plan-2.ensures.plan)
-        (subst (λ m. m ≤ 496) c.edges.ensures.edges c.edges.ensures.few) in
+    (subst (λ m. m ≤ 496) c.edges.ensures.edges c.edges.ensures.few) in
     omega (arith, i, f, l, t, n)
 
 pub loop-index-preserved : goal.loop-index-preserved
@@ -49,17 +48,17 @@ loop-index-preserved g c =
     let at : e ≡ slice_index_or es k e = c.index-edges_of-index.is ∙ ap (λ (l : List ℕ). slice_index_or l k e) is in
     let more : take k es ++ e ∷ [] ≡ take (k + 1) es = ap (λ n. take k es ++ n ∷ []) at ∙ sym (take_more es k e inside) in
     let all : (m : ℕ) → (0 < c.visit.result → m ≡ 1) → (¬ (0 < c.visit.result) → m ≡ 0) → VisitsEdges w j (take (k + 1) es) (c.loop-index.done + m) new =
-        λ m some none. subst (λ (l : List ℕ). VisitsEdges w j l (c.loop-index.done + m) new) more
-        (visits_both j w mid new (take k es) (e ∷ []) c.loop-index.done m inv.0 (one_visit j e c.visit.result m mid new v some none)) in
+    λ m some none. subst (λ (l : List ℕ). VisitsEdges w j l (c.loop-index.done + m) new) more
+    (visits_both j w mid new (take k es) (e ∷ []) c.loop-index.done m inv.0 (one_visit j e c.visit.result m mid new v some none)) in
     elim c.if-visit-gt0.branch [
       | then-visit-gt0 b ↦ let yes = b.if-visit-gt0.true in (
-          subst (λ n. VisitsEdges w j (take (k + 1) es) n new) (sym b.done-is) (all 1 (λ h. refl) (λ h. absurd (h yes))),
-          omega (arith, inv.1, b.done-is),
-        )
+        subst (λ n. VisitsEdges w j (take (k + 1) es) n new) (sym b.done-is) (all 1 (λ h. refl) (λ h. absurd (h yes))),
+        omega (arith, inv.1, b.done-is),
+      )
       | else-visit-gt0 b ↦ let no_more = b.if-visit-gt0.false in (
-          subst (λ n. VisitsEdges w j (take (k + 1) es) n new) (zero_added c.loop-index.done ∙ sym b.done-is) (all 0 (λ h. absurd (omega (arith, h, no_more))) (λ h. refl)),
-          omega (arith, inv.1, b.done-is),
-        )
+        subst (λ n. VisitsEdges w j (take (k + 1) es) n new) (zero_added c.loop-index.done ∙ sym b.done-is) (all 0 (λ h. absurd (omega (arith, h, no_more))) (λ h. refl)),
+        omega (arith, inv.1, b.done-is),
+      )
     ]
 
 pub returns-clause-few : goal.returns-clause-few
@@ -67,5 +66,5 @@ returns-clause-few g c =
     let i = c.loop-index.invariant.1 in let f = few_own c.plan-2.result.now c.args.job in
     let l = ap (λ (z : List ℕ). length z) c.edges_of-index-end.ensures in let t = c.loop-index.auto.index-end in
     let n : length (edges c.plan-2.result.now) ≤ 496 = subst (λ (p : LabPlan). length (edges p) ≤ 496) (c.plan.ensures.plan ∙ sym c.plan-2.ensures.plan)
-        (subst (λ m. m ≤ 496) c.edges.ensures.edges c.edges.ensures.few) in
+    (subst (λ m. m ≤ 496) c.edges.ensures.edges c.edges.ensures.few) in
     omega (arith, i, f, l, t, n)

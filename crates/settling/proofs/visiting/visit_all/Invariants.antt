@@ -1,5 +1,5 @@
 -- the job's edges so far
-use Rattle.std.proofs.Common.{◌≡◌, ◌≤◌, take, length}
+use Rattle.std.proofs.Common.{◌≤◌, take}
 use Rattle.lab_plan.specs.LabPlan.{edges_of}
 use Rattle.settling.specs.Doing.{VisitsEdges}
 use Rattle.settling.proofs.visiting.visit_all.Given as goal
