@@ -22,6 +22,16 @@ pub struct Handle {
 }
 
 impl Handle {
+    /// A handle that has nothing, as C makes it of zeros.
+    pub fn vacant() -> Handle
+        ensures { result.slot.held ≡ None }
+    {
+        Handle {
+            slot: Slot::vacant(),
+            live: 0,
+        }
+    }
+
     pub(crate) fn is_live(&self) -> bool
         ensures { IsTrue result ↔ (holds self.now.slot.held ≡ 1) }
     {
