@@ -1,6 +1,7 @@
 -- The two ways of saying that a job is in a set.
-use Rattle.std.proofs.Common.{◌≡◌, ◌↔◌, ℕ, Bool, true, false, ◌==◌, arith, sym, ◌∙◌, subst}
+use Rattle.std.proofs.Common.{◌≡◌, ℕ, ◌*◌, ◌^◌, ◌%◌, ◌<◌, Bool, true, false, ◌==◌, arith, sym, ◌∙◌, subst}
 use Rattle.std.specs.Int.{bit_at}
+use Rattle.std.proofs.Math.Pow.{pow-lt}
 use Rattle.std.proofs.lemmas.Bool.{eq-eqb, false≢true}
 use Rattle.std.proofs.lemmas.Bool.Decides.{nat_tests}
 use Rattle.lab_plan.specs.InstrumentSets.{holds}
@@ -26,3 +27,6 @@ same_test true true f g = λ i. true
 same_test false false f g = λ i. false
 same_test true false f g = sym (f (λ i. true))
 same_test false true f g = g (λ i. true)
+
+pub shifted : (k : ℕ) → k < 32 → 1 * 2 ^ k % 2 ^ 32 ≡ 2 ^ k
+shifted k small = let below : 2 ^ k < 2 ^ 32 = pow-lt small in omega (arith, below)

@@ -1,12 +1,19 @@
 -- Turns that are counted job by job.
 use Rattle.std.proofs.Common.{◌≡◌, ◌≢◌, ◌⊎◌, ℕ, ◌+◌, ◌≤◌, ◌<◌, Bool, true, false, ◌||◌, if◌then◌else◌, List, length, set, slice_index_or, get_or-set_same, get_or-set_other, length-set, refl, sym, ap, ◌∙◌, subst, inl, inr, arith}
 use Rattle.std.proofs.lemmas.Bool.{cases_eq, false≢true}
+use Rattle.lab_plan.specs.LabPlan.{LabPlan}
 use Rattle.lab_plan.specs.InstrumentSets.{holds}
 use Rattle.legal_steps.specs.declared.phase.JobState.{JobState}
-use Rattle.legal_steps.specs.State.{phase}
+use Rattle.legal_steps.specs.State.{phase, drinking}
+use Rattle.legal_steps.specs.Legal.{IsJob}
 use Rattle.interleaving.specs.World.{WorldView}
+use Rattle.turns.specs.Patience.{is_waiting}
 use Rattle.live_lab.specs.declared.clock.Clock.{Clock}
 use Rattle.live_lab.specs.Clocks.{no_clock, after_turn}
+use Rattle.live_lab.specs.Sets.{AreJobs}
+use Rattle.live_lab.specs.Counting.{AreTurnsCounted}
+use Rattle.live_lab.specs.Settles.{AreCounted}
+use Rattle.live_lab.proofs.Bits.{same_test, holds_has, has_holds}
 
 abbrev pub at : List Clock → ℕ → Clock
 at clocks j = slice_index_or clocks j no_clock
@@ -68,3 +75,17 @@ pub stays : (w : WorldView) (waiting thirsty : ℕ) (old : List Clock) (n : ℕ)
 stays w waiting thirsty old n f g =
     let go : Clock = after_turn (holds thirsty n) (phase w.state n) (at old n) in
     sym (ap (λ (b : Bool). if b then go else at old n) (neither (holds waiting n) (holds thirsty n) f g))
+
+-- who was thirsty is told by the set of those who were
+pub are_counted : (w new : WorldView) (waiting thirsty : ℕ) (old after : List Clock) → new.plan ≡ w.plan
+    → AreJobs w.plan thirsty (λ j. is_waiting (drinking w.state j) ≡ true) → AreTurnsCounted new waiting thirsty old after
+    → AreCounted waiting (record { world = w; clocks = old }) (record { world = new; clocks = after })
+are_counted w new waiting thirsty old after same set c = record {
+  as_many = c.as_many;
+  each = λ j job.
+      let was = set.just j job in
+      let b : holds thirsty j ≡ is_waiting (drinking w.state j) = same_test (holds thirsty j) (is_waiting (drinking w.state j))
+      (λ h. was.0 (holds_has thirsty j h)) (λ h. has_holds thirsty j (was.1 h)) in
+      c.each j (subst (λ (p : LabPlan). IsJob p j) (sym same) job)
+      ∙ (λ i. if holds waiting j || b i then after_turn (b i) (phase new.state j) (at old j) else at old j);
+}

@@ -1,9 +1,15 @@
 -- A lab goes on: legal events lead from the plan's initial state to where it is, and it is marked who may have something to do.
-use Rattle.std.proofs.Common.{◌≡◌, List, [], ◌++◌, length, sym, ap, ◌∙◌, subst}
+use Rattle.std.proofs.Common.{◌≡◌, Bool, false, List, [], ◌++◌, length, sym, ap, ◌∙◌, subst}
 use Rattle.lab_plan.specs.LabPlan.{LabPlan}
 use Rattle.legal_steps.specs.declared.event.Event.{Event}
+use Rattle.legal_steps.specs.State.{State}
+use Rattle.legal_steps.specs.Run.{after_all}
 use Rattle.interleaving.specs.World.{WorldView, LeadsTo}
+use Rattle.edge_word.specs.Moves.{on}
+use Rattle.turns.specs.Lists.{Each}
+use Rattle.settling.specs.Left.{DueView, AreMarked, KeepsMarks}
 use Rattle.settling.proofs.Worlds.{leads_both}
+use Rattle.settling.proofs.Waking.{marked_on}
 use Rattle.live_lab.specs.declared.clock.Clock.{Clock}
 use Rattle.live_lab.specs.Labs.{LabView, IsLab, opened}
 
@@ -24,3 +30,20 @@ lab_on old clocks clocks' new go as_many is =
 
 pub both_on : (old mid new : WorldView) → GoesOn old mid → GoesOn mid new → GoesOn old new
 both_on old mid new a b = (a.0 ++ b.0, leads_both old mid new a.0 b.0 a.1 b.1)
+
+-- whatever legal events of a kind were done, if the notes are kept over events of that kind
+pub in_lab : (old new : WorldView) (clocks clocks' : List Clock) (events : List Event) (Kind : Event → Type 0) (p : LabPlan) (due due' : DueView)
+    → LeadsTo old events new → Each Kind events → KeepsMarks p Kind due due' → p ≡ new.plan → length clocks' ≡ length clocks
+    → IsLab (record { world = old; clocks = clocks }) × AreMarked old.plan old.state due
+    → IsLab (record { world = new; clocks = clocks' }) × AreMarked new.plan new.state due'
+in_lab old new clocks clocks' events Kind p due due' leads kind keeps same as_many is = (
+  lab_on old clocks clocks' new (events, leads) as_many is.0,
+  marked_on old new events Kind due due' leads kind (subst (λ (q : LabPlan). KeepsMarks q Kind due due') same keeps) is.1,
+)
+
+-- an event that isn't done leaves the notes as they are
+pub not_done : (old new : WorldView) (did : Bool) (event : Event) (due : DueView) → did ≡ false → LeadsTo old (on did event []) new → AreMarked old.plan old.state due
+    → AreMarked new.plan new.state due
+not_done old new did event due out l marked =
+    let same : new.state ≡ old.state = l.run.leads ∙ ap (λ (b : Bool). after_all old.plan old.state (on b event [])) out in
+    subst (λ (z : LabPlan × State). AreMarked z.0 z.1 due) (λ i. (sym l.same_plan i, sym same i)) marked

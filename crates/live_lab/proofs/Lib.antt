@@ -7,3 +7,5 @@ mod Sayings
 mod Clocks
 mod Tests
 mod Sessions
+mod Calls
+mod Reported

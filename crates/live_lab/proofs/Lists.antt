@@ -46,7 +46,7 @@ pub acts_by : (plan : LabPlan) (s : State) (j waited : ℕ) (events : List Event
 acts_by plan s j waited events due = elim due [
   | inl a ↦ subst (AreBy j) (sym a.1) (refl, tt)
   | inr b ↦ elim b.1 [
-    | inl a ↦ subst (AreBy j) (sym a.1) (refl, refl, tt)
+    | inl a ↦ subst (AreBy j) (sym a.1) (refl, (refl, tt))
     | inr b ↦ elim b.1 [
       | inl a ↦ subst (AreBy j) (sym a.1) (refl, tt)
       | inr b ↦ elim b.1 [
@@ -90,7 +90,7 @@ hand_by Retired j = tt
 
 commands_are_by : (j n : ℕ) → AreBy j (commands_by j n)
 commands_are_by j zero = tt
-commands_are_by j (suc n) = by_both j (commands_by j n) (Reach j ∷ Act j ∷ []) (commands_are_by j n) (refl, refl, tt)
+commands_are_by j (suc n) = by_both j (commands_by j n) (Reach j ∷ Act j ∷ []) (commands_are_by j n) (refl, (refl, tt))
 
 pub session_by : (d : Drinking) (j n : ℕ) → AreBy j (rest_of_session d j n)
 session_by d j n = by_both j (in_hand d j ++ commands_by j n) (Quit j ∷ []) (by_both j (in_hand d j) (commands_by j n) (hand_by d j) (commands_are_by j n)) (refl, tt)

@@ -1,8 +1,9 @@
 //! What is counted of a job: its turns, and in how many of them its session waited.
-ghost use Rattle.std.specs.Prelude.{◌≡◌};
+ghost use Rattle.std.specs.Prelude.{◌≡◌, ◌<◌, length, slice_index_or};
 ghost use Rattle.turns.specs.Patience.{is_waiting, waited_in};
 ghost use Rattle.live_lab.specs.Clocks.{no_clock, waits, after_turn};
 
+use lab_plan::JobNo;
 use legal_steps::{Drinking, JobState};
 
 /// How many turns are counted of a job, and in how many of them the session with this number was thirsty at the start and at the end.
@@ -55,4 +56,12 @@ pub(crate) fn after_turn(clock: Clock, thirsty: bool, phase: JobState) -> Clock
         },
         session: phase.session,
     }
+}
+
+/// The clock of a job.
+pub(crate) fn clock_of(clocks: &[Clock], job: JobNo) -> Clock
+    requires { job < length clocks.now }
+    ensures { result ≡ slice_index_or clocks.now job no_clock }
+{
+    clocks[job.0 as usize]
 }

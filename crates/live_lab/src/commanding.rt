@@ -3,7 +3,7 @@ ghost use Rattle.legal_steps.specs.Legal.{IsJob};
 ghost use Rattle.live_lab.specs.Calls.{AtJob, Withdraws, Commands};
 
 use crate::lab::Lab;
-use crate::stepping::{attempt, do_act};
+use crate::stepping::{do_act, step};
 use instrument_log::Entry;
 use lab_plan::JobNo;
 use legal_steps::Event;
@@ -15,9 +15,10 @@ impl Lab {
         requires { IsJob self.old.world.plan job }
         ensures { Withdraws job self.old result self.new }
     {
-        if !attempt(&mut self.world, Event::Withdraw(job)) {
+        if !self.world.enabled(Event::Withdraw(job)) {
             return false;
         }
+        step(&mut self.world, Event::Withdraw(job));
         wake_near(self.world.plan(), &mut self.due, job);
         true
     }

@@ -3,7 +3,7 @@ ghost use Rattle.std.specs.Prelude.{◌≡◌, ◌≤◌, ◌<◌, IfSome, IfNon
 ghost use Rattle.lab_plan.specs.LabPlan.{job_at};
 ghost use Rattle.live_lab.specs.Readers.{IsInstrumentName, IsSession, IsStandingAt};
 
-use crate::clock::waited_in;
+use crate::clock::{clock_of, waited_in};
 use crate::lab::Lab;
 use lab_plan::{InstrumentNo, JobNo};
 use legal_steps::{Counts, JobState};
@@ -102,7 +102,7 @@ impl Lab {
         }
         let number = JobNo(job as u8);
         let phase = self.world.job(number);
-        let clock = self.clocks[job];
+        let clock = clock_of(&self.clocks, number);
         Some(Standing {
             phase,
             sessions: self.world.plan().sessions(number),

@@ -5,7 +5,7 @@ ghost use Rattle.live_lab.specs.Stages.{GoesToRetire, RestsAndRetires};
 
 use crate::lab::Lab;
 use crate::resting::come_to_rest;
-use crate::stage::{Aim, Stage, stage_of};
+use crate::stage::{Aim, Stage};
 use crate::stepping::attempt;
 use lab_plan::JobNo;
 use legal_steps::Event;
@@ -29,12 +29,12 @@ impl Lab {
         requires { IsJob self.old.world.plan job }
         ensures { GoesToRetire most job self.old result self.new }
     {
-        let stage = stage_of(&self.world, Aim::Retire, job);
+        let stage = self.stage(Aim::Retire, job);
         if stage != Stage::OnTheWay || most == 0 {
             return (stage, Turned::Idle);
         }
         let done = self.retire_of(job);
-        (stage_of(&self.world, Aim::Retire, job), done)
+        (self.stage(Aim::Retire, job), done)
     }
 
     /// Does all that can be done without a word from an owner, and then retires a job, if there is such a job, it has no session left and may retire.

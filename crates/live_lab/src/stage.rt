@@ -3,6 +3,7 @@ ghost use Rattle.legal_steps.specs.Legal.{IsJob};
 ghost use Rattle.live_lab.specs.Stages.{IsStage};
 
 use crate::kinds::is_through;
+use crate::lab::Lab;
 use interleaving::World;
 use lab_plan::JobNo;
 use legal_steps::Drinking;
@@ -53,5 +54,14 @@ pub(crate) fn stage_of<A: Allocator>(world: &World<A>, aim: Aim, job: JobNo) -> 
                 Stage::Barred
             }
         }
+    }
+}
+
+impl Lab {
+    pub(crate) fn stage(&self, aim: Aim, job: JobNo) -> Stage
+        requires { IsJob self.now.world.plan job }
+        ensures { IsStage aim self.now.world job result }
+    {
+        stage_of(&self.world, aim, job)
     }
 }

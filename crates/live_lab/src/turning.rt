@@ -4,7 +4,7 @@ ghost use Rattle.legal_steps.specs.Legal.{IsJob};
 ghost use Rattle.live_lab.specs.Calls.{AtJob, TakesTurn};
 ghost use Rattle.live_lab.specs.Doing.{ActsIn, TurnsIn};
 
-use crate::clock::{after_turn, is_waiting, waited_in};
+use crate::clock::{after_turn, clock_of, is_waiting, waited_in};
 use crate::lab::Lab;
 use crate::stepping::do_act;
 use interleaving::World;
@@ -44,14 +44,12 @@ impl Lab {
         ensures { TakesTurn job self.old result self.new }
     {
         let before = self.world.job(job);
-        let clock = self.clocks[job.0 as usize];
-        let done = turn(
-            &mut self.world,
-            job,
-            waited_in(clock, before.session),
-        );
+        let clock = clock_of(&self.clocks, job);
+        let waited = waited_in(clock, before.session);
+        let done = turn(&mut self.world, job, waited);
         let thirsty = is_waiting(before.drinking);
-        self.clocks[job.0 as usize] = after_turn(clock, thirsty, self.world.job(job));
+        let next = after_turn(clock, thirsty, self.world.job(job));
+        self.clocks[job.0 as usize] = next;
         wake_near(self.world.plan(), &mut self.due, job);
         Turned::of(done, 0)
     }

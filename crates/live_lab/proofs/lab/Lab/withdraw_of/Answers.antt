@@ -1,12 +1,11 @@
-use Rattle.std.proofs.Common.{rules, ◌≡◌, ℕ, ◌+◌, ◌-◌, ◌*◌, ◌<◌, ◌≤◌, length, ◌/◌, ◌%◌, Bool, true, false, nat_eq, nat_lt, List, [], ◌∷◌, ◌++◌, slice_index_or, slice_set, bit_and, bit_or, Fits, w8, w32, w64, Bor, MutBor}
-use Rattle.legal_steps.specs.Legal.{IsJob}
-use Rattle.live_lab.specs.Calls.{AtJob, Withdraws, Commands}
+use Rattle.std.proofs.Common.{[], ◌∷◌, refl}
+use Rattle.legal_steps.specs.declared.event.Event.TheVariants.{Withdraw}
+use Rattle.settling.specs.Left.{IsBy}
+use Rattle.live_lab.proofs.InLab.{in_lab}
 use Rattle.live_lab.proofs.lab.Lab.withdraw_of.Goals as goal
 
--- src/commanding.rt:19:13
-pub returns-then-not-attempt : goal.returns-then-not-attempt
-returns-then-not-attempt c = ?
-
--- src/commanding.rt:14:5
-pub invariant_of-self-2 : goal.invariant_of-self-2
-invariant_of-self-2 c = ?
+pub invariant_of-self : goal.invariant_of-self
+invariant_of-self c =
+    let x = c.self.inside in let j = c.args.job in
+    in_lab x.world c.step.new.world x.clocks.items x.clocks.items (Withdraw j ∷ []) (IsBy j) c.plan.result.now x.due c.wake_near.new.due
+    c.step.ensures (refl, tt) c.wake_near.ensures.keeps c.plan.ensures.plan refl c.self.invariant
