@@ -11,7 +11,7 @@ use Rattle.settling.specs.Left.{DueView, AreMarked, KeepsMarks}
 use Rattle.settling.proofs.Worlds.{leads_both}
 use Rattle.settling.proofs.Waking.{marked_on}
 use Rattle.live_lab.specs.declared.clock.Clock.{Clock}
-use Rattle.live_lab.specs.Labs.{LabView, IsLab, opened}
+use Rattle.live_lab.specs.Labs.{IsLab, opened}
 
 -- some legal events lead from one world to the other
 abbrev pub GoesOn : WorldView → WorldView → Type 0

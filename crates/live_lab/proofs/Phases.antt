@@ -1,13 +1,12 @@
 -- How far a job is after a command and after words of owners.
-use Rattle.std.proofs.Common.{◌≡◌, ◌≢◌, ℕ, ◌+◌, ◌<◌, List, [], ◌∷◌, length, refl, sym, ap, ◌∙◌, subst, arith}
+use Rattle.std.proofs.Common.{◌≡◌, ℕ, ◌+◌, ◌<◌, [], ◌∷◌, length, sym, ap, ◌∙◌, subst, arith}
 use Rattle.lab_plan.specs.LabPlan.{LabPlan, commands}
 use Rattle.legal_steps.specs.declared.event.Event.{Event}
-use Rattle.legal_steps.specs.declared.event.Event.TheVariants.{Reach, Act, Quit}
+use Rattle.legal_steps.specs.declared.event.Event.TheVariants.{Reach, Act}
 use Rattle.legal_steps.specs.declared.phase.JobState.{JobState}
 use Rattle.legal_steps.specs.declared.phase.Drinking.TheVariants.{Drinking as Drinks, Reaching}
-use Rattle.legal_steps.specs.State.{State, Seat, seat, phase, drinking, position, session}
+use Rattle.legal_steps.specs.State.{State, Seat, seat, phase, drinking, position}
 use Rattle.legal_steps.specs.Legal.{May, after, IsJob, with_phase, with_entry, next_command, next_entry, session_commands}
-use Rattle.legal_steps.specs.Fitting.{Fits}
 use Rattle.legal_steps.proofs.FitsWrites.{seat_same}
 use Rattle.turns.proofs.Frame.{as_many_seats}
 use Rattle.interleaving.specs.World.{WorldView, LeadsTo, IsReachedWith}
@@ -35,9 +34,10 @@ job_after old new x j l job = subst (λ (p : LabPlan). IsJob p j) (sym l.same_pl
 -- a job that reached may act
 pub may_act : (old mid : WorldView) (j : ℕ) → IsReachedWith old.plan old.state old.counts → LeadsTo old (Reach j ∷ []) mid → May mid.plan mid.state (Act j)
 may_act old mid j r l =
-    let job : IsJob old.plan j = l.run.legal.0.0 in
-    (job_after old mid (Reach j) j l job,
-    ap (λ (p : JobState). p.drinking) (phase_after old mid (Reach j) j l ∙ phase_set old.state j (record (phase old.state j) { drinking = Reaching }) (has_seat old j r job)))
+    let job : IsJob old.plan j = l.run.legal.0.0 in (
+      job_after old mid (Reach j) j l job,
+      ap (λ (p : JobState). p.drinking) (phase_after old mid (Reach j) j l ∙ phase_set old.state j (record (phase old.state j) { drinking = Reaching }) (has_seat old j r job)),
+    )
 
 -- a command leaves the job where it was, but for one command more
 pub commanded : (old a b : WorldView) (j : ℕ) → HasSeat old.state j → LeadsTo old (Reach j ∷ []) a → LeadsTo a (Act j ∷ []) b

@@ -1,6 +1,5 @@
 -- The headline holds of the report of a lab.
-use Rattle.std.proofs.Common.{◌≡◌, List, ℕ, Bool, ap, ◌∙◌}
-use Rattle.lab_plan.specs.LabPlan.{LabPlan}
+use Rattle.std.proofs.Common.{List, ℕ, ap, ◌∙◌}
 use Rattle.lab_plan.specs.IsPlan.{IsPlan}
 use Rattle.legal_steps.specs.Opening.{the_opening}
 use Rattle.interleaving.specs.World.{WorldView}

@@ -1,5 +1,5 @@
 -- What an owner says is as legal after another owner said something.
-use Rattle.std.proofs.Common.{◌≡◌, ◌≢◌, ℕ, ◌+◌, ◌≤◌, ◌<◌, Bool, true, false, if◌then◌else◌, IsSome, List, [], ◌∷◌, ◌++◌, append-nil, length, refl, sym, ap, ◌∙◌, subst, arith, add-one}
+use Rattle.std.proofs.Common.{◌≡◌, ◌≢◌, ℕ, ◌+◌, ◌<◌, Bool, true, false, if◌then◌else◌, IsSome, List, [], ◌∷◌, ◌++◌, append-nil, length, refl, sym, ap, ◌∙◌, subst, arith, add-one}
 use Rattle.std.specs.List.{count_by}
 use Rattle.lab_plan.specs.LabPlan.{LabPlan, sessions, patience}
 use Rattle.lab_plan.specs.InstrumentSets.{holds}
@@ -7,7 +7,7 @@ use Rattle.legal_steps.specs.declared.event.Event.{Event}
 use Rattle.legal_steps.specs.declared.phase.Dining.TheVariants.{Eating}
 use Rattle.legal_steps.specs.declared.phase.Drinking.TheVariants.{Tranquil, Thirsty}
 use Rattle.legal_steps.specs.State.{State, Seat, seat}
-use Rattle.legal_steps.specs.Legal.{May, IsJob, after}
+use Rattle.legal_steps.specs.Legal.{May, IsJob}
 use Rattle.legal_steps.specs.Run.{actor}
 use Rattle.interleaving.specs.World.{WorldView, LeadsTo}
 use Rattle.reasons.specs.Deeds.{is_deed}

@@ -7,7 +7,7 @@ use Rattle.legal_steps.specs.declared.event.Event.TheVariants.{Leave, Sit, Reach
 use Rattle.legal_steps.specs.State.{State, phase, drinking}
 use Rattle.legal_steps.specs.Legal.{May, IsJob, next_entry}
 use Rattle.legal_steps.specs.Run.{after_all}
-use Rattle.interleaving.specs.World.{WorldView, LeadsTo}
+use Rattle.interleaving.specs.World.{LeadsTo}
 use Rattle.turns.specs.Patience.{is_waiting}
 use Rattle.turns.specs.Turn.{Visit, is_done, is_lost, count, once, AreVisits, visits_events, IsTurnBy}
 use Rattle.session_layer.specs.declared.turning.Turned.{Turned}

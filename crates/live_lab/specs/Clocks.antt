@@ -1,5 +1,5 @@
 -- For readers: how the turns of a job are counted, and those of them in which its session waits.
-use Rattle.std.specs.Prelude.{ℕ, Bool, ◌&&◌, if◌then◌else◌}
+use Rattle.std.specs.Prelude.{Bool, ◌&&◌, if◌then◌else◌}
 use Rattle.legal_steps.specs.declared.phase.JobState.{JobState}
 use Rattle.turns.specs.Patience.{Waited, one_more, is_waiting, waited_in}
 use Rattle.live_lab.specs.declared.clock.Clock.{Clock}

@@ -1,5 +1,5 @@
 -- What is done in a world: acts, turns and service of one job, and words of owners.
-use Rattle.std.specs.Prelude.{◌≡◌, ℕ, ◌+◌, ◌≤◌, Bool, true, ◌↔◌, List, [], ◌∷◌, ◌++◌, map}
+use Rattle.std.specs.Prelude.{◌≡◌, ℕ, ◌+◌, ◌≤◌, Bool, true, ◌↔◌, List, [], ◌++◌, map}
 use Rattle.std.specs.List.{count_by}
 use Rattle.lab_plan.specs.LabPlan.{edges_of}
 use Rattle.legal_steps.specs.declared.event.Event.{Event}

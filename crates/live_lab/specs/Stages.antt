@@ -1,5 +1,5 @@
 -- For readers: how far a job is on its way, and the calls that take it there.
-use Rattle.std.specs.Prelude.{◌≡◌, ◌⊎◌, ℕ, zero, suc, ◌+◌, ◌^◌, min, ◌≤◌, not, ◌==◌, Bool, true, false, List, [], ◌∷◌, ◌↔◌}
+use Rattle.std.specs.Prelude.{◌≡◌, ◌≢◌, ◌⊎◌, ℕ, zero, suc, ◌+◌, ◌^◌, min, ◌≤◌, not, ◌==◌, Bool, true, false, List, [], ◌↔◌}
 use Rattle.std.specs.List.{count_by}
 use Rattle.legal_steps.specs.declared.event.Event.{Event}
 use Rattle.legal_steps.specs.declared.event.Event.TheVariants.{Retire as Retires}
@@ -62,5 +62,5 @@ pub record RestsAndRetires (job : ℕ) (old : LabView) (r : Turned) (new : LabVi
 abbrev pub GoesToRetire : ℕ → ℕ → LabView → Stage × Turned → LabView → Type 0
 GoesToRetire most job old a new =
     IsStage Retire new.world job a.0
-    × ((IsStage Retire old.world job OnTheWay × RestsAndRetires job old a.1 new)
+    × ((IsStage Retire old.world job OnTheWay × (most ≢ 0) × RestsAndRetires job old a.1 new)
     ⊎ ((a.0 ≡ OnTheWay → most ≡ 0) × (a.1 ≡ Idle) × (new ≡ old)))

@@ -32,12 +32,7 @@ impl Lab {
         }
         let phase = self.world.job(job);
         let (instrument, _) = next_command(self.world.plan(), job, phase);
-        let entry = next_entry(
-            self.world.plan(),
-            job,
-            phase,
-            self.world.log(instrument),
-        );
+        let entry = next_entry(self.world.plan(), job, phase, self.world.log(instrument));
         do_act(&mut self.world, &Event::Reach(job));
         wake_near(self.world.plan(), &mut self.due, job);
         Some(entry)

@@ -25,7 +25,6 @@ pub struct Lab {
 
 impl Model for Lab {
     ghost use Rattle.live_lab.specs.Labs.{LabView, IsLab};
-
     ghost use Rattle.settling.specs.Left.{AreMarked};
 
     ghost Value = { LabView };

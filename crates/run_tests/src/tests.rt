@@ -12,7 +12,6 @@ use std::sync::Wait;
 use std::thread::Threads;
 
 mod ends;
-mod examples;
 mod gates;
 mod in_rounds;
 mod memory;

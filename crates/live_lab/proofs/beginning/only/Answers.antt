@@ -1,4 +1,4 @@
-use Rattle.std.proofs.Common.{◌≡◌, ◌<◌, ◌^◌, ℕ, arith, ◌∙◌, ap, sym, subst}
+use Rattle.std.proofs.Common.{◌^◌, ℕ, arith, ◌∙◌, ap}
 use Rattle.live_lab.proofs.Bits.{shifted}
 use Rattle.live_lab.proofs.beginning.only.Goals as goal
 

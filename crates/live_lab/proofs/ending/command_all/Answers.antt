@@ -1,14 +1,15 @@
-use Rattle.std.proofs.Common.{◌≡◌, ◌≤◌, ◌<◌, ◌+◌, ◌-◌, ℕ, List, [], ◌∷◌, length, refl, sym, ap, ◌∙◌, subst, arith, add-one}
+use Rattle.std.proofs.Common.{◌≡◌, ◌-◌, ℕ, List, [], ◌∷◌, length, sym, ap, ◌∙◌, subst, arith, add-one}
 use Rattle.lab_plan.specs.LabPlan.{LabPlan, commands}
 use Rattle.lab_plan.specs.declared.verb.Verb.{Verb}
 use Rattle.legal_steps.specs.declared.event.Event.TheVariants.{Reach, Act}
 use Rattle.legal_steps.specs.declared.phase.JobState.{JobState}
 use Rattle.legal_steps.specs.State.{phase, position}
-use Rattle.legal_steps.specs.Legal.{IsJob, session_commands}
+use Rattle.legal_steps.specs.Legal.{IsJob}
 use Rattle.lab_plan.specs.IsPlan.{IsPlan}
 use Rattle.legal_steps.proofs.FewCommands.{few_commands}
 use Rattle.interleaving.specs.World.{LeadsTo}
-use Rattle.settling.proofs.Worlds.{leads_none, leads_both}
+use Rattle.settling.proofs.Worlds.{leads_both}
+use Rattle.live_lab.proofs.Nothing.{leads_none}
 use Rattle.live_lab.specs.Ends.{commands_by}
 use Rattle.live_lab.proofs.Phases.{has_seat, seat_after, commanded, plus_none, left_same, further}
 use Rattle.live_lab.proofs.ending.command_all.Goals as goal

@@ -1,8 +1,6 @@
-use Rattle.std.proofs.Common.{◌≡◌, ◌+◌, ◌*◌, ℕ, List, [], ◌∷◌, ◌++◌, arith, subst}
-use Rattle.std.specs.List.{count_by}
+use Rattle.std.proofs.Common.{[], ◌∷◌, ◌++◌}
 use Rattle.legal_steps.specs.declared.event.Event.TheVariants.{Quit}
 use Rattle.legal_steps.specs.State.{drinking}
-use Rattle.reasons.specs.Deeds.{is_deed}
 use Rattle.settling.proofs.Worlds.{leads_both}
 use Rattle.live_lab.specs.Ends.{in_hand, commands_by}
 use Rattle.live_lab.proofs.Sessions.{session_deeds}

@@ -1,4 +1,4 @@
-use Rattle.std.proofs.Common.{ℕ, ◌≡◌, ◌+◌, ◌<◌, length, slice_index_or, ◌∙◌, sym, ap, subst, arith}
+use Rattle.std.proofs.Common.{◌≡◌, slice_index_or, ◌∙◌, sym, ap, subst}
 use Rattle.std.proofs.lemmas.Bool.{false≢true}
 use Rattle.lab_plan.specs.LabPlan.{LabPlan, edges_of}
 use Rattle.legal_steps.proofs.OwnEdges.{own_at, get_default, at_own_edges}

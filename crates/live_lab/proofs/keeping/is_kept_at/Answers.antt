@@ -1,6 +1,5 @@
-use Rattle.std.proofs.Common.{ℕ, ◌≡◌, ◌+◌, ◌<◌, length, ◌∙◌, sym, ap, subst, inl, inr, arith}
+use Rattle.std.proofs.Common.{◌∙◌, sym}
 use Rattle.std.proofs.lemmas.Bool.{false≢true}
-use Rattle.lab_plan.specs.LabPlan.{LabPlan, bottles}
 use Rattle.live_lab.specs.Keepers.{IsKept}
 use Rattle.live_lab.proofs.Tests.{none_more}
 use Rattle.live_lab.proofs.keeping.is_kept_at.Goals as goal

@@ -21,23 +21,23 @@ loop-number-preserved g c =
     let few : n < 32 = omega (arith, most, c.jobs-number-end.ensures.jobs, c.loop-number-test.true) in
     elim c.if-is_keeper.branch [
       | then-is_keeper+then-is_drinking b ↦
-        let p = c.is_keeper.ensures.0 b.if-is_keeper.true in
-        let d = subst (λ (x : JobState). IsDrinking x) b.job.ensures.phase (b.is_drinking.ensures.0 b.if-is_drinking.true) in flat (
-          subst (λ z. Gathered z (n + 1) P) (sym b.jobs-is) (gathered_in l.jobs n P few l.invariant.0 p),
-          subst (λ z. Gathered z (n + 1) Q) (sym b.holding-is) (gathered_in l.holding n Q few (l.invariant.1, l.invariant.2) (p, d)),
-        )
+          let p = c.is_keeper.ensures.0 b.if-is_keeper.true in
+          let d = subst (λ (x : JobState). IsDrinking x) b.job.ensures.phase (b.is_drinking.ensures.0 b.if-is_drinking.true) in flat (
+            subst (λ z. Gathered z (n + 1) P) (sym b.jobs-is) (gathered_in l.jobs n P few l.invariant.0 p),
+            subst (λ z. Gathered z (n + 1) Q) (sym b.holding-is) (gathered_in l.holding n Q few (l.invariant.1, l.invariant.2) (p, d)),
+          )
       | then-is_keeper+else-is_drinking b ↦
-        let p = c.is_keeper.ensures.0 b.if-is_keeper.true in
-        let d : ¬ IsDrinking (phase w.state n) = λ x. false≢true (sym b.if-is_drinking.false
-        ∙ b.is_drinking.ensures.1 (subst (λ (y : JobState). IsDrinking y) (sym b.job.ensures.phase) x)) in flat (
-          subst (λ z. Gathered z (n + 1) P) (sym b.jobs-is) (gathered_in l.jobs n P few l.invariant.0 p),
-          subst (λ z. Gathered z (n + 1) Q) (sym b.holding-is) (gathered_out l.holding n Q (l.invariant.1, l.invariant.2) (λ q. d q.1)),
-        )
+          let p = c.is_keeper.ensures.0 b.if-is_keeper.true in
+          let d : ¬ IsDrinking (phase w.state n) = λ x. false≢true (sym b.if-is_drinking.false
+          ∙ b.is_drinking.ensures.1 (subst (λ (y : JobState). IsDrinking y) (sym b.job.ensures.phase) x)) in flat (
+            subst (λ z. Gathered z (n + 1) P) (sym b.jobs-is) (gathered_in l.jobs n P few l.invariant.0 p),
+            subst (λ z. Gathered z (n + 1) Q) (sym b.holding-is) (gathered_out l.holding n Q (l.invariant.1, l.invariant.2) (λ q. d q.1)),
+          )
       | else-is_keeper b ↦
-        let p : ¬ P n = λ x. false≢true (sym b.if-is_keeper.false ∙ c.is_keeper.ensures.1 x) in flat (
-          subst (λ z. Gathered z (n + 1) P) (sym b.jobs-is) (gathered_out l.jobs n P l.invariant.0 p),
-          subst (λ z. Gathered z (n + 1) Q) (sym b.holding-is) (gathered_out l.holding n Q (l.invariant.1, l.invariant.2) (λ q. p q.0)),
-        )
+          let p : ¬ P n = λ x. false≢true (sym b.if-is_keeper.false ∙ c.is_keeper.ensures.1 x) in flat (
+            subst (λ z. Gathered z (n + 1) P) (sym b.jobs-is) (gathered_out l.jobs n P l.invariant.0 p),
+            subst (λ z. Gathered z (n + 1) Q) (sym b.holding-is) (gathered_out l.holding n Q (l.invariant.1, l.invariant.2) (λ q. p q.0)),
+          )
     ]
 
 pub returns : goal.returns

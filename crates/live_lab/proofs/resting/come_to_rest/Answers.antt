@@ -1,4 +1,4 @@
-use Rattle.std.proofs.Common.{◌≤◌, length, ap, subst, ◌∙◌}
+use Rattle.std.proofs.Common.{◌≤◌, length, subst}
 use Rattle.lab_plan.specs.LabPlan.{LabPlan, edges}
 use Rattle.settling.proofs.Deeds.{few_alone}
 use Rattle.live_lab.proofs.resting.come_to_rest.Goals as goal

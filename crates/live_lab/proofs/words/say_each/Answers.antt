@@ -1,4 +1,4 @@
-use Rattle.std.proofs.Common.{◌≡◌, ◌≢◌, ℕ, ◌+◌, ◌≤◌, ◌<◌, List, [], ◌∷◌, length, sym, ap, ◌∙◌, subst, arith}
+use Rattle.std.proofs.Common.{◌≡◌, ℕ, ◌+◌, ◌≤◌, [], ◌∷◌, length, sym, ap, ◌∙◌, subst, arith}
 use Rattle.std.specs.List.{count_by}
 use Rattle.lab_plan.specs.LabPlan.{LabPlan}
 use Rattle.legal_steps.specs.declared.event.Event.{Event}
@@ -27,31 +27,31 @@ loop-job-preserved g c =
     let l = c.loop-job in let n = l.job in let old = c.args.world.now in let word = c.args.word in let set = c.args.set in
     elim c.if-has.branch [
       | then-has b ↦
-        let new = b.step.new.world in let has = sym c.has.ensures ∙ b.if-has.true in
-        let one : LeadsTo l.world (said word n ∷ []) new = subst (λ (x : Event). LeadsTo l.world (x ∷ []) new) b.said.ensures b.step.ensures in
-        let keeps = b.wake_near.ensures.keeps in
-        let marked : AreMarked new.plan new.state b.wake_near.new.due = marked_on l.world new (said word n ∷ []) (IsBy n) l.due b.wake_near.new.due one (said_by word n, tt)
-        (subst (λ (p : LabPlan). KeepsMarks p (IsBy n) l.due b.wake_near.new.due) b.plan-then-has.ensures.plan keeps) l.invariant.2 in
-        let done : (LeadsTo old (events_below (said word) set (n + 1)) new)
-        × ((k : ℕ) → n + 1 ≤ k → IsJob old.plan k → Has set k → May new.plan new.state (said word k))
-        × (l.many + 1 ≡ count_by is_deed (events_below (said word) set (n + 1))) = (
-          one_said old l.world new word set n has l.invariant.0 one,
-          λ k above job mem. still_may l.world new word n k (λ is. omega (arith, above, is)) one (l.invariant.1 k (omega (arith, above)) job mem),
-          one_deed word set n l.many has l.invariant.3,
-        ) in (
-          subst (λ (w : WorldView). LeadsTo old (events_below (said word) set (n + 1)) w) (sym b.world-is) done.0,
-          subst (λ (w : WorldView). (k : ℕ) → n + 1 ≤ k → IsJob old.plan k → Has set k → May w.plan w.state (said word k)) (sym b.world-is) done.1,
-          subst (λ (z : WorldView × DueView). AreMarked z.0.plan z.0.state z.1) (λ i. (sym b.world-is i, sym b.due-is i)) marked,
-          b.many-is ∙ done.2,
-          omega (arith, b.many-is, l.invariant.4),
-        )
+          let new = b.step.new.world in let has = sym c.has.ensures ∙ b.if-has.true in
+          let one : LeadsTo l.world (said word n ∷ []) new = subst (λ (x : Event). LeadsTo l.world (x ∷ []) new) b.said.ensures b.step.ensures in
+          let keeps = b.wake_near.ensures.keeps in
+          let marked : AreMarked new.plan new.state b.wake_near.new.due = marked_on l.world new (said word n ∷ []) (IsBy n) l.due b.wake_near.new.due one (said_by word n, tt)
+          (subst (λ (p : LabPlan). KeepsMarks p (IsBy n) l.due b.wake_near.new.due) b.plan-then-has.ensures.plan keeps) l.invariant.2 in
+          let done : (LeadsTo old (events_below (said word) set (n + 1)) new)
+          × ((k : ℕ) → n + 1 ≤ k → IsJob old.plan k → Has set k → May new.plan new.state (said word k))
+          × (l.many + 1 ≡ count_by is_deed (events_below (said word) set (n + 1))) = (
+            one_said old l.world new word set n has l.invariant.0 one,
+            λ k above job mem. still_may l.world new word n k (λ is. omega (arith, above, is)) one (l.invariant.1 k (omega (arith, above)) job mem),
+            one_deed word set n l.many has l.invariant.3,
+          ) in (
+            subst (λ (w : WorldView). LeadsTo old (events_below (said word) set (n + 1)) w) (sym b.world-is) done.0,
+            subst (λ (w : WorldView). (k : ℕ) → n + 1 ≤ k → IsJob old.plan k → Has set k → May w.plan w.state (said word k)) (sym b.world-is) done.1,
+            subst (λ (z : WorldView × DueView). AreMarked z.0.plan z.0.state z.1) (λ i. (sym b.world-is i, sym b.due-is i)) marked,
+            b.many-is ∙ done.2,
+            omega (arith, b.many-is, l.invariant.4),
+          )
       | else-has b ↦
-        let out = sym c.has.ensures ∙ b.if-has.false in (
-          subst (λ (w : WorldView). LeadsTo old (events_below (said word) set (n + 1)) w) (sym b.world-is) (one_passed old l.world word set n out l.invariant.0),
-          subst (λ (w : WorldView). (k : ℕ) → n + 1 ≤ k → IsJob old.plan k → Has set k → May w.plan w.state (said word k)) (sym b.world-is)
-              (λ k above job mem. l.invariant.1 k (omega (arith, above)) job mem),
-          subst (λ (z : WorldView × DueView). AreMarked z.0.plan z.0.state z.1) (λ i. (sym b.world-is i, sym b.due-is i)) l.invariant.2,
-          b.many-is ∙ no_deed word set n l.many out l.invariant.3,
-          omega (arith, b.many-is, l.invariant.4),
-        )
+          let out = sym c.has.ensures ∙ b.if-has.false in (
+            subst (λ (w : WorldView). LeadsTo old (events_below (said word) set (n + 1)) w) (sym b.world-is) (one_passed old l.world word set n out l.invariant.0),
+            subst (λ (w : WorldView). (k : ℕ) → n + 1 ≤ k → IsJob old.plan k → Has set k → May w.plan w.state (said word k)) (sym b.world-is)
+                (λ k above job mem. l.invariant.1 k (omega (arith, above)) job mem),
+            subst (λ (z : WorldView × DueView). AreMarked z.0.plan z.0.state z.1) (λ i. (sym b.world-is i, sym b.due-is i)) l.invariant.2,
+            b.many-is ∙ no_deed word set n l.many out l.invariant.3,
+            omega (arith, b.many-is, l.invariant.4),
+          )
     ]

@@ -1,4 +1,4 @@
-use Rattle.std.proofs.Common.{◌≡◌, ◌+◌, ◌^◌, min, Bool, true, false, not, ◌==◌, inl, inr, refl, sym, ap, ◌∙◌, subst, arith}
+use Rattle.std.proofs.Common.{◌≡◌, ◌+◌, true, false, not, inr, refl, sym, ap, ◌∙◌, subst, arith}
 use Rattle.std.proofs.lemmas.Bool.{eq-eqb, ne_eqb}
 use denote.Enum.Bare.{differs_true, differs_false}
 use Rattle.lab_plan.specs.LabPlan.{LabPlan}
@@ -8,7 +8,7 @@ use Rattle.live_lab.specs.declared.stage.Aim.TheVariants.{Hold}
 use Rattle.live_lab.specs.declared.stage.Stage.{Stage}
 use Rattle.live_lab.specs.declared.stage.Stage.TheVariants.{OnTheWay}
 use Rattle.live_lab.specs.Settles.{Settles}
-use Rattle.live_lab.specs.Stages.{IsStage, SettlesFor}
+use Rattle.live_lab.specs.Stages.{IsStage}
 use Rattle.live_lab.proofs.Calls.{one_more_settled}
 use Rattle.live_lab.proofs.lab.Lab.begin_of.Goals as goal
 

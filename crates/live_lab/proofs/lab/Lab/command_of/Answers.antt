@@ -1,7 +1,6 @@
-use Rattle.std.proofs.Common.{◌≡◌, ℕ, List, [], ◌∷◌, Some, refl, sym, ap, ◌∙◌, subst}
-use Rattle.lab_plan.specs.LabPlan.{LabPlan, command_at}
+use Rattle.std.proofs.Common.{◌≡◌, ℕ, [], ◌∷◌, Some, refl, ap, ◌∙◌, subst}
+use Rattle.lab_plan.specs.LabPlan.{command_at}
 use Rattle.lab_plan.specs.declared.verb.Verb.{Verb}
-use Rattle.instrument_log.specs.declared.entry.Entry.{Entry}
 use Rattle.instrument_log.specs.InstrumentLog.{LogView}
 use Rattle.legal_steps.specs.declared.event.Event.TheVariants.{Reach, Act}
 use Rattle.legal_steps.specs.State.{log}

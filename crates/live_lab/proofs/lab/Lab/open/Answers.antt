@@ -3,7 +3,7 @@ use Rattle.std.proofs.lemmas.List.{length-replicate}
 use Rattle.lab_plan.specs.LabPlan.{LabPlan}
 use Rattle.interleaving.specs.World.{WorldView, LeadsTo}
 use Rattle.settling.specs.Left.{AreMarked}
-use Rattle.settling.proofs.Worlds.{leads_none}
+use Rattle.live_lab.proofs.Nothing.{leads_none}
 use Rattle.live_lab.specs.declared.clock.Clock.{Clock}
 use Rattle.live_lab.specs.Clocks.{no_clock}
 use Rattle.live_lab.specs.Labs.{opened}
@@ -18,7 +18,7 @@ invariant_of-result c =
         history = [];
         leads = subst (λ (v : WorldView). LeadsTo v [] w) (is ∙ ap opened (sym plan)) (leads_none w);
         one_each = ap (λ (l : List Clock). length l) c.in-Ok-fresh_clocks.ensures ∙ (length-replicate c.jobs.result no_clock
-        ∙ (c.jobs.ensures.jobs ∙ ap (λ (p : LabPlan). length p.jobs) (sym plan)));
+            ∙ (c.jobs.ensures.jobs ∙ ap (λ (p : LabPlan). length p.jobs) (sym plan)));
       },
       subst (λ (p : LabPlan). AreMarked p w.state c.in-Ok.due) (sym plan) (c.in-Ok.ensures.marked w.state),
     )

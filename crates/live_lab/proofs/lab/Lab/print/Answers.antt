@@ -1,5 +1,4 @@
-use Rattle.std.proofs.Common.{List, ℕ, subst, sym}
-use Rattle.lab_plan.specs.LabPlan.{LabPlan}
+use Rattle.std.proofs.Common.{subst}
 use Rattle.lab_plan.specs.IsPlan.{IsPlan}
 use Rattle.live_lab.specs.Labs.{LabView}
 use Rattle.live_lab.specs.Prints.{HasReport}
@@ -10,8 +9,11 @@ pub invariant_of-result : goal.invariant_of-result
 invariant_of-result c =
     let x = c.self.inside in
     record {
-      reported = ∣ (x.world.plan, has_report c.report_of_events.ensures c.holds_of_every_run.ensures x.world x.clocks.items (subst IsPlan c.plan.ensures.plan c.jobs.ensures.plan)
-          c.self.invariant.0 c.in-Some.text.items c.in-Some.outcome c.in-Some.ensures) ∣₁;
+      reported = ∣ (
+        x.world.plan,
+        has_report c.report_of_events.ensures c.holds_of_every_run.ensures x.world x.clocks.items (subst IsPlan c.plan.ensures.plan c.jobs.ensures.plan)
+            c.self.invariant.0 c.in-Some.text.items c.in-Some.outcome c.in-Some.ensures,
+      ) ∣₁;
     }
 
 pub returns-in-Some-clause-holds : goal.returns-in-Some-clause-holds

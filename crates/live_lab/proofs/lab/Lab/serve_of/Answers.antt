@@ -1,4 +1,4 @@
-use Rattle.std.proofs.Common.{List, ◌++◌, refl, subst}
+use Rattle.std.proofs.Common.{◌++◌, refl}
 use Rattle.legal_steps.specs.Run.{after_all}
 use Rattle.turns.specs.Turn.{visits_events}
 use Rattle.settling.specs.Left.{IsBy}

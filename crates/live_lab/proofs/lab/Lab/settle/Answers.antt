@@ -3,7 +3,6 @@ use Rattle.std.proofs.lemmas.List.{with_items_is}
 use Rattle.std.specs.List.{count_by}
 use Rattle.std.specs.Vec.{with_items}
 use Rattle.legal_steps.specs.declared.event.Event.{Event}
-use Rattle.interleaving.specs.World.{WorldView, LeadsTo}
 use Rattle.reasons.specs.Deeds.{is_deed}
 use Rattle.settling.proofs.Worlds.{leads_both}
 use Rattle.settling.proofs.Deeds.{deeds_both}

@@ -1,6 +1,5 @@
-use Rattle.std.proofs.Common.{◌≡◌, ℕ, List, ◌++◌, length, length-set, slice_index_or, slice_set, refl, sym, ap, ◌∙◌, subst}
+use Rattle.std.proofs.Common.{ℕ, List, ◌++◌, length-set, slice_index_or, slice_set, ap, ◌∙◌, subst}
 use Rattle.legal_steps.specs.declared.phase.JobState.{JobState}
-use Rattle.legal_steps.specs.State.{phase}
 use Rattle.turns.specs.Patience.{is_waiting, waited_in}
 use Rattle.turns.specs.History.{learned_all}
 use Rattle.turns.specs.Turn.{visits_events, IsTurnBy}
