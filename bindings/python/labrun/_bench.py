@@ -915,7 +915,8 @@ def _plans(script: bytes, instruments: tuple[str, ...]) -> list[list[_Planned]]:
     jobs: list[list[_Planned]] = []
     commands: list[Command] = []
     patience: Optional[int] = None
-    numbers, sets = {name: at for at, name in enumerate(instruments)}, {}
+    numbers = {name: at for at, name in enumerate(instruments)}
+    sets: dict[frozenset[str], tuple[str, ...]] = {}
     for line in script.split(b"\n"):
         words = line[: -1 if line.endswith(b"\r") else None].replace(b"\t", b" ").split(b" ")
         first, *more = [word.decode("ascii", "replace") for word in words if word] or ["#"]
