@@ -28,8 +28,8 @@ VERBS = ("set", "add", "read")
 _TRANQUIL, _THIRSTY, _DRINKING, _REACHING, _RETIRED = range(5)
 _HOLDS = (_DRINKING, _REACHING)
 
-# A session with a patience settles the bench at least so often while it waits, so that it does run out. Its patience is in these, and no
-# measure of time.
+# While sessions with a patience wait, one of them settles the bench after so many seconds, so that it does run out. Patience is in these,
+# and those of all who begin or let go: it is no measure of time.
 _TICK = 0.1
 
 # how a bench stands: no further session; no call at all
@@ -213,9 +213,12 @@ class Session:
             return True
         bench._may_go_on()
         if self.patience is not None:
-            bench._settle()
-            if self._came(job):
-                return True
+            now = time.monotonic()
+            if now - bench._ticked >= _TICK / 2:
+                bench._ticked = now
+                bench._settle()
+                if self._came(job):
+                    return True
         if until is not None and time.monotonic() >= until:
             self._asked(job)
             raise TimeoutError(self, bench._keepers(job))
@@ -487,6 +490,7 @@ class Bench:
         # the jobs whose owners wait, and those whose sessions were given up and can't be withdrawn, as sets of bits
         self._waiting = 0
         self._left = 0
+        self._ticked = 0.0
         self._lapsed: list[tuple[str, int]] = []
         # the sessions whose body raised while they held
         self._raised: list[tuple[str, int]] = []

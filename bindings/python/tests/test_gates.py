@@ -100,7 +100,7 @@ class WakeUps(Gated):
             if patience:
                 before, after = script.split("job b\n")
                 script = before.replace("lab 1", "lab 2") + "job b\n" + after.replace("session\n", "session patience 3\n", 2)
-            with self.subTest(seed):
+            with self.subTest(seed), mock.patch.object(_bench, "_TICK", 1e-9):
                 report = self.gated(Gates(sometimes(seed, 0.2)), script, station).close()
                 self.assertEqual((report.job("a").done, report.job("c").done), (2, 2))
 
