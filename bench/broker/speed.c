@@ -1,6 +1,6 @@
 /* Sessions a second: one handle of the library under a mutex, beside what one writes by hand, in one run.
 
-     cc -O2 -pthread -I include bench/broker/speed.c FOLDER/liblabrun.a -o speed
+     cc -O2 -pthread -I include bench/broker/speed.c FOLDER/liblabrun.a -lm -o speed
      ./speed [--best N] [--work MICROSECONDS] [--sessions N] [--benches N] [--only THREADS]
 
    Stations on 2, 8 and 32 threads do sessions without a pause (or with so many microseconds of work, asleep): each on an instrument of its
