@@ -629,12 +629,14 @@ class Bench:
     def close(self) -> Report:
         """Closes the bench, and gives its report. A session that is held then stays unfinished in it. A second call gives it again."""
         with self._mutex:
-            if self._report is None:
+            if self._stands != _CLOSED:
                 self._look_over()
+                # (one may be in a meal, which lasts until another has left its own)
                 while any([self._retire(job) for job in self.jobs]):
                     pass
-                self._report = Report.from_text(told_text(self._calls["lab_bench_close"], self._at))
                 self._stands = _CLOSED
+            if self._report is None:
+                self._report = Report.from_text(told_text(self._calls["lab_bench_close"], self._at))
                 self._finalizer()
             for job in self._members(self._waiting):
                 self._rouse(job)
@@ -698,7 +700,7 @@ class Bench:
         if self._lab_settle(self._at, self._waiting | job._bit, self._came_at):
             raise LabrunError("lab_settle: a status that it doesn't have")
         holds = self._came.holds
-        if holds & job._bit and not self._has_patience and not holds & (self._waiting | self._left):
+        if holds & job._bit and not (holds & (self._waiting | self._left) or self._has_patience and self._came.given_up):
             session.state = "held"
             self._torn = False
             return True
