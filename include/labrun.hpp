@@ -148,6 +148,7 @@ struct core {
     const long process = static_cast<long>(getpid());
     std::vector<std::string> jobs, instruments;
     std::deque<seat> seats;
+    std::chrono::steady_clock::time_point ticked;
     std::uint32_t waiting = 0, left = 0; // the jobs whose threads wait, and those whose sessions were given up and can't be withdrawn
     std::vector<std::pair<std::string, std::uint32_t>> lapsed;
 
@@ -301,11 +302,14 @@ class desk {
                 me.woken.wait(guard);
                 continue;
             }
-            // (a patience runs out by the calls of `lab_settle`, so somebody has to make one now and then)
+            // (a patience runs out by the calls of `lab_settle`, so one of those that wait makes one now and then)
             const clock::time_point tick = clock::now() + std::chrono::milliseconds(100);
             const bool is_tick = what.has_patience && (!limit || tick < until);
             if (me.woken.wait_until(guard, is_tick ? tick : until) == std::cv_status::no_timeout || core_->is_closed) continue;
-            if (what.has_patience) core_->settle();
+            if (what.has_patience && clock::now() - core_->ticked >= std::chrono::milliseconds(50)) {
+                core_->ticked = clock::now();
+                core_->settle();
+            }
             if (limit && me.how == detail::asked::waits && clock::now() >= until) {
                 core_->waiting &= ~bit;
                 throw timed_out(core_->keepers(job_));

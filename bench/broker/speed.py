@@ -1,7 +1,7 @@
 #!/usr/bin/env python3
 """Sessions a second: labrun's package for Python beside what one writes by hand, in one run.
 
-usage: bench/broker/speed.py [--best N] [--work MICROSECONDS] [--sessions N] [--only THREADS,..]
+usage: bench/broker/speed.py [--best N] [--work MICROSECONDS] [--sessions N] [--benches N] [--only THREADS,..]
 
 Stations on 2, 8 and 32 threads do sessions without a pause (or with so many microseconds of work, asleep): each on an instrument of its own
 (`disjoint`); each on its own and the next one's (`ring`); all on the same one (`all one`). They do them by
@@ -10,7 +10,8 @@ Stations on 2, 8 and 32 threads do sessions without a pause (or with so many mic
   Condition    one `threading.Condition` over a set of the instruments that are taken: who waits is woken by each that lets go
   locks        a `threading.Lock` for each instrument, all taken in one order
 
-Each number is the best of N runs (5), which are taken in turn; the last column is labrun beside Condition, and below stand the geometric mean
+Each number is the best of N runs (5), which are taken in turn; a run is so many benches (4), one after another, as a script has a thousand
+sessions of a job at most; what is timed are the sessions alone. The last column is labrun beside Condition, and below stand the geometric mean
 and the worst of these. The package is found by PYTHONPATH, the library by LABRUN_LIBRARY. Nothing else should run on the machine: a session
 that is handed over waits until the next thread gets a processor."""
 
@@ -83,22 +84,22 @@ def by_locks(shape, threads, sessions, work):
 
 def timed(way, shape, threads, sessions, work):
     station, close = {"labrun": by_labrun, "Condition": by_condition, "locks": by_locks}[way](shape, threads, sessions, work)
-    start = threading.Barrier(threads + 1)
+    start = threading.Barrier(threads)
+    begun, ended = [0.0] * threads, [0.0] * threads
 
     def go(at):
         start.wait()
+        begun[at] = time.perf_counter()
         station(at)
+        ended[at] = time.perf_counter()
 
     each = [threading.Thread(target=go, args=(at,)) for at in range(threads)]
     for thread in each:
         thread.start()
-    start.wait()
-    begun = time.perf_counter()
     for thread in each:
         thread.join()
-    took = time.perf_counter() - begun
     close()
-    return threads * sessions / took
+    return max(ended) - min(begun)
 
 
 def main():
@@ -106,6 +107,7 @@ def main():
     words.add_argument("--best", type=int, default=5)
     words.add_argument("--work", type=float, default=0)
     words.add_argument("--sessions", type=int, default=1000)
+    words.add_argument("--benches", type=int, default=4)
     words.add_argument("--only", default="2,8,32")
     given = words.parse_args()
     print(f"sessions a second, best of {given.best}" + (f", {given.work:g} us of work each" if given.work else ", empty sessions"))
@@ -116,7 +118,8 @@ def main():
             best = {way: 0.0 for way in WAYS}
             for _ in range(given.best):
                 for way in WAYS:
-                    best[way] = max(best[way], timed(way, shape, threads, given.sessions, given.work / 1e6))
+                    took = sum(timed(way, shape, threads, given.sessions, given.work / 1e6) for _ in range(given.benches))
+                    best[way] = max(best[way], given.benches * threads * given.sessions / took)
             beside.append(best["labrun"] / best["Condition"])
             print(f"| {shape} | {threads} | " + " | ".join(f"{best[way]:.0f}" for way in WAYS) + f" | {beside[-1]:.3f} |", flush=True)
     mean = math.exp(sum(map(math.log, beside)) / len(beside))

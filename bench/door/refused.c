@@ -65,6 +65,7 @@ static void life(struct text script) {
     compare_report(told.written);
     lab_bench_free(&bench);
     end_life("a life");
+    if (at_call == 0) expect(kept == 0, "%s: a life: %ld blocks are left", name, kept);
 }
 
 /* The same of a close that is the first to be asked for the report, with room for it. */
@@ -77,11 +78,10 @@ static void closed_at_once(struct text script) {
     expect(status == LAB_UNFINISHED || status == LAB_DONE, "%s: a close at once: status %u", name, status);
     lab_bench_free(&bench);
     end_life("a close at once");
+    if (at_call == 0) expect(kept == 0, "%s: a close at once: %ld blocks are left", name, kept);
 }
 
 int main(int count, char **words) {
     static void (*const lives[])(struct text) = {life, closed_at_once};
-    int failing = live_through(count, words, lives, 2);
-    if (kept) printf("FAILED a free gives everything back\n");
-    return failing || kept;
+    return live_through(count, words, lives, 2);
 }

@@ -28,8 +28,8 @@ VERBS = ("set", "add", "read")
 _TRANQUIL, _THIRSTY, _DRINKING, _REACHING, _RETIRED = range(5)
 _HOLDS = (_DRINKING, _REACHING)
 
-# A session with a patience settles the bench at least so often while it waits, so that it does run out. Its patience is in these, and no
-# measure of time.
+# While sessions with a patience wait, one of them settles the bench after so many seconds, so that it does run out. Patience is in these,
+# and those of all who begin or let go: it is no measure of time.
 _TICK = 0.1
 
 # how a bench stands: no further session; no call at all
@@ -213,9 +213,12 @@ class Session:
             return True
         bench._may_go_on()
         if self.patience is not None:
-            bench._settle()
-            if self._came(job):
-                return True
+            now = time.monotonic()
+            if now - bench._ticked >= _TICK / 2:
+                bench._ticked = now
+                bench._settle()
+                if self._came(job):
+                    return True
         if until is not None and time.monotonic() >= until:
             self._asked(job)
             raise TimeoutError(self, bench._keepers(job))
@@ -487,6 +490,7 @@ class Bench:
         # the jobs whose owners wait, and those whose sessions were given up and can't be withdrawn, as sets of bits
         self._waiting = 0
         self._left = 0
+        self._ticked = 0.0
         self._lapsed: list[tuple[str, int]] = []
         # the sessions whose body raised while they held
         self._raised: list[tuple[str, int]] = []
@@ -625,12 +629,14 @@ class Bench:
     def close(self) -> Report:
         """Closes the bench, and gives its report. A session that is held then stays unfinished in it. A second call gives it again."""
         with self._mutex:
-            if self._report is None:
+            if self._stands != _CLOSED:
                 self._look_over()
+                # (one may be in a meal, which lasts until another has left its own)
                 while any([self._retire(job) for job in self.jobs]):
                     pass
-                self._report = Report.from_text(told_text(self._calls["lab_bench_close"], self._at))
                 self._stands = _CLOSED
+            if self._report is None:
+                self._report = Report.from_text(told_text(self._calls["lab_bench_close"], self._at))
                 self._finalizer()
             for job in self._members(self._waiting):
                 self._rouse(job)
@@ -694,7 +700,7 @@ class Bench:
         if self._lab_settle(self._at, self._waiting | job._bit, self._came_at):
             raise LabrunError("lab_settle: a status that it doesn't have")
         holds = self._came.holds
-        if holds & job._bit and not self._has_patience and not holds & (self._waiting | self._left):
+        if holds & job._bit and not (holds & (self._waiting | self._left) or self._has_patience and self._came.given_up):
             session.state = "held"
             self._torn = False
             return True
@@ -915,7 +921,8 @@ def _plans(script: bytes, instruments: tuple[str, ...]) -> list[list[_Planned]]:
     jobs: list[list[_Planned]] = []
     commands: list[Command] = []
     patience: Optional[int] = None
-    numbers, sets = {name: at for at, name in enumerate(instruments)}, {}
+    numbers = {name: at for at, name in enumerate(instruments)}
+    sets: dict[frozenset[str], tuple[str, ...]] = {}
     for line in script.split(b"\n"):
         words = line[: -1 if line.endswith(b"\r") else None].replace(b"\t", b" ").split(b" ")
         first, *more = [word.decode("ascii", "replace") for word in words if word] or ["#"]

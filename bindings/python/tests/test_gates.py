@@ -53,12 +53,12 @@ class WakeUps(Gated):
             gates = Gates(once(-1))
             self.assertTrue(self.gated(gates, script).close().finished)
             self.assertGreater(gates.gates, 300)
-            for at in range(gates.gates):
+            for at in range(gates.gates + 1):
                 with self.subTest(at):
                     self.assertTrue(self.gated(Gates(once(at)), script).close().finished)
 
     def test_many_gates(self) -> None:
-        for seed in range(300):
+        for seed in range(200):
             script = (ALL_ONE, RING, load_script(4, 2, 3, seed))[seed % 3]
             with self.subTest(seed):
                 self.assertTrue(self.gated(Gates(sometimes(seed, (0.02, 0.2, 0.7)[seed // 3 % 3])), script).close().finished)
@@ -77,7 +77,7 @@ class WakeUps(Gated):
 
     def test_given_up(self) -> None:
         """One station gives up at a time limit, with a patience and without, and comes back or not."""
-        for seed in range(200):
+        for seed in range(100):
             chance, patience = random.Random(seed), seed % 2
 
             def station(job: labrun.Job, counting: Counting) -> None:
@@ -100,7 +100,7 @@ class WakeUps(Gated):
             if patience:
                 before, after = script.split("job b\n")
                 script = before.replace("lab 1", "lab 2") + "job b\n" + after.replace("session\n", "session patience 3\n", 2)
-            with self.subTest(seed):
+            with self.subTest(seed), mock.patch.object(_bench, "_TICK", 1e-9):
                 report = self.gated(Gates(sometimes(seed, 0.2)), script, station).close()
                 self.assertEqual((report.job("a").done, report.job("c").done), (2, 2))
 
@@ -133,12 +133,11 @@ class Interrupts(Gated):
 
     def test_each_gate(self) -> None:
         for script in (ALL_ONE, RING):
-            for seed in range(3):
-                most = self.interrupted(script, -1, sometimes(seed, 0.05)).mine
-                self.assertGreater(most, 100)
-                for at in range(0, most, 1 if seed == 0 else 3):
-                    with self.subTest(seed=seed, at=at):
-                        self.interrupted(script, at, sometimes(seed, 0.05))
+            most = max(self.interrupted(script, -1, sometimes(seed, 0.05)).mine for seed in range(7))
+            self.assertGreater(most, 100)
+            for at in range(most):
+                with self.subTest(at=at):
+                    self.interrupted(script, at, sometimes(at % 7, 0.05))
 
 
 if __name__ == "__main__":

@@ -42,7 +42,7 @@ const NO_ROOM: u32 = 6;
 const NOT_NOW: u32 = 8;
 const RETIRED: u32 = 4;
 
-/// A session with a patience settles the bench at least so often while it waits, so that it does run out.
+/// While sessions with a patience wait, one of them settles the bench after so long, so that it does run out.
 const TICK: Duration = Duration::from_millis(100);
 
 /// How many forks lie between the first process and this one: a bench that was opened before the last of them is another's.
@@ -93,9 +93,9 @@ impl fmt::Display for Error {
             Error::Unread(why) => write!(out, "{why}"),
             Error::TimedOut(keepers) => {
                 write!(out, "still waits")?;
-                keepers.iter().try_for_each(|it| {
-                    write!(out, ", {} is {} {}", it.instrument, if it.holds { "held by" } else { "kept by" }, it.job)
-                })
+                keepers
+                    .iter()
+                    .try_for_each(|it| write!(out, ", {} is {} {}", it.instrument, if it.holds { "held by" } else { "kept by" }, it.job))
             }
             Error::Withdrawn => write!(out, "the session was withdrawn"),
             Error::Closed => write!(out, "the bench is closed"),
@@ -238,6 +238,7 @@ struct Core {
     seats: Vec<Seat>,
     /// The jobs whose threads wait, as a set of bits.
     waiting: u32,
+    ticked: Option<Instant>,
     /// The jobs whose sessions were given up and can't be withdrawn, and those sessions that lapsed.
     left: u32,
     lapsed: Vec<(String, u32)>,
@@ -386,7 +387,7 @@ impl Bench {
         AT_FORKS.call_once(|| assert_eq!(unsafe { ffi::pthread_atfork(None, None, Some(after_fork)) }, 0));
         let handle = ffi::Handle { at: ptr::null_mut(), live: 0 };
         let born = FORKS.load(Relaxed);
-        let mut core = Core { handle, closed: false, seats: Vec::new(), waiting: 0, left: 0, lapsed: Vec::new(), born };
+        let mut core = Core { handle, closed: false, seats: Vec::new(), waiting: 0, ticked: None, left: 0, lapsed: Vec::new(), born };
         let (mut told, mut size) = (ffi::Told::default(), ffi::Size::default());
         // SAFETY: the slice's pointer and length, an empty handle, and all apart.
         let status = unsafe { ffi::lab_bench_open(script.as_ptr(), script.len(), &mut core.handle, &mut told) };
@@ -494,7 +495,7 @@ impl Desk {
         core.left &= !bit;
         core.waiting |= bit;
         inner.settle(&mut core);
-        // (a patience runs out by the calls of `lab_settle`, so somebody has to make one now and then)
+        // (a patience runs out by the calls of `lab_settle`, so one of those that wait makes one now and then)
         let tick = (what.has_patience == 1).then_some(TICK);
         let ended = loop {
             match core.seats[job as usize].came {
@@ -515,7 +516,8 @@ impl Desk {
             if !over.timed_out() || core.closed {
                 continue;
             }
-            if tick.is_some() {
+            if tick.is_some() && core.ticked.map_or(true, |it| it.elapsed() >= TICK / 2) {
+                core.ticked = Some(Instant::now());
                 inner.settle(&mut core);
             }
             if core.seats[job as usize].came == Came::Waits && until.is_some_and(|until| Instant::now() >= until) {

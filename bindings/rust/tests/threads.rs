@@ -140,7 +140,8 @@ fn patience_runs_out() {
 #[test]
 fn who_is_before_it() {
     // radio holds the scope, board keeps the supply and waits for the scope, drive wants the supply, which nobody holds
-    let script = b"lab 1\njob radio\nsession\nscope read\nend\njob board\nsession\nscope read\nsupply read\nend\njob drive\nsession\nsupply read\nend\n";
+    let script = b"lab 1\njob radio\nsession\nscope read\nend\n\
+        job board\nsession\nscope read\nsupply read\nend\njob drive\nsession\nsupply read\nend\n";
     let (_bench, desks) = Bench::from_text(script).unwrap();
     let [mut radio, mut board, mut drive]: [Desk; 3] = desks.try_into().ok().unwrap();
     let held = radio.begin().unwrap();
