@@ -1,5 +1,5 @@
 -- Turns, one after another.
-use Rattle.std.proofs.Common.{◌≡◌, ℕ, ◌+◌, refl, sym, subst, add-one}
+use Rattle.std.proofs.Common.{ℕ, ◌+◌, refl, sym, subst, add-one}
 use Rattle.edge_rule.specs.DeskView.{DeskView}
 use Rattle.session_layer.specs.declared.turning.Turned.{Turned}
 use Rattle.session_layer.specs.Turn.{Took}

@@ -1,5 +1,5 @@
 -- For readers: how far a job is on its way, and how its session ends.
-use Rattle.std.specs.Prelude.{◌≡◌, ◌≢◌, ◌⊎◌, ℕ, zero, suc, ◌+◌, min, ◌≤◌, Bool, true, false, IsTrue, ◌↔◌, List, length, Option, Some, None, slice_get}
+use Rattle.std.specs.Prelude.{◌≡◌, ◌⊎◌, ℕ, zero, suc, ◌+◌, min, Bool, true, false, IsTrue, ◌↔◌, length}
 use Rattle.lab_plan.specs.LabPlan.{sessions}
 use Rattle.legal_steps.specs.declared.phase.Drinking.TheVariants.{Tranquil}
 use Rattle.legal_steps.specs.State.{phase}
