@@ -11,9 +11,12 @@
      4  LAB_TOO_LONG    the script has more than 16777216 bytes
      5  LAB_NO_MEMORY   no memory
      6  LAB_NO_ROOM     what was to be written has more than `room` bytes; `written` says how many
-     7  LAB_NOT_OPEN    the handle isn't open, or a handle that is to be filled is in use
+     7  LAB_NOT_OPEN    the handle isn't open, or another call on it runs; of a `struct lab_shared` or a `struct lab_desk` that is to be
+                        filled: it is in use
      8  LAB_NOT_YET     not yet, or not now: what was asked for isn't so
      9  LAB_NO_SESSION  the job has no session left to begin
+    10  LAB_SESSIONS_LEFT  the job can't retire, because it has sessions left
+    11  LAB_IN_USE      the `struct lab_bench` that is to be opened is in use: open, or closed and not freed
 
    At 1, 4, 5 and 6 the room for a report or a name stays as it was. No call starts a thread, waits or sleeps, and none asks
    for anything but malloc, realloc and free.
@@ -46,6 +49,8 @@ extern "C" {
 #define LAB_NOT_OPEN 7u
 #define LAB_NOT_YET 8u
 #define LAB_NO_SESSION 9u
+#define LAB_SESSIONS_LEFT 10u
+#define LAB_IN_USE 11u
 
 struct lab_told {
     size_t written; /* how many bytes the report has; 0 where there is none */
@@ -75,32 +80,44 @@ uint32_t lab_upgrade(const uint8_t *script, size_t length, uint8_t *report, size
 
    A bench is opened for a script. From then on each job has a session to begin, and whoever acts for the job
 
-     begins   lab_begin, until the job holds all instruments of its session (0) or has no session left (9);
+     asks     lab_settle, with the job in `waiting`: `came` tells whether the job holds all instruments of its session, or has none left;
      works    at the real instruments, for as long as it likes: nobody else holds one of them;
      lets go  lab_end, which enters the session's commands in the logs; or lab_command, one by one, and then lab_end;
+     wakes    lab_settle again, if others wait: `came` tells which of them hold now;
 
    and after its last session retires (lab_retire). `lab_bench_close` gives the report. Whatever the calls, in whatever order and
    from whatever threads, that report is one of a legal run: each instrument's log is whole sessions, of which only the last may
    be unfinished, and no two jobs held an instrument at once.
 
+   Nobody sleeps for nothing. A job *keeps* an instrument from another that needs it and lacks it, if it has what the other lacks of it,
+   needs it too, and holds or comes first. After `lab_settle` answered 0 each job that waits and doesn't hold has a chain of jobs: the first
+   keeps an instrument from it, the next keeps one from the first, and so on; all but the last wait, and the last holds. So who waits then,
+   waits because somebody works, and comes nearer to its instruments only by a call that lets go or gives up.
+
    The rules, beside those above:
 
-     - `struct lab_bench` is all zero before `lab_bench_open`, and the calls alone write it. Don't copy it, don't move it.
+     - `struct lab_bench` is all zero before `lab_bench_open`, and the calls alone write it. It may be moved while no call on it runs, but
+       a copy must not be used beside the first.
      - One call at a time on one bench: threads that share it hold one mutex of yours during each call, and don't while they work.
        Threads with a bench each need no mutex.
      - Any thread may act for any job. If two threads act for one job, each sees what the other did: say among yourselves who does.
-     - A job gives up what a neighbour asks for in its own calls, and where another job's call serves it: `lab_serve_others`, and
-       `lab_begin` and `lab_retire` after each turn. So a thread that works, sleeps or has stopped keeps nobody waiting, as long as
-       its job doesn't hold an instrument that the other needs.
-     - A thread that stops while its job holds keeps those instruments: others' `lab_begin` answers 8, `lab_keepers` shows which jobs
-       keep one waiting, and `lab_state` which of these hold. Any thread may finish the session by `lab_end` for it. Nothing is lost
-       if nobody does: the close then answers 3.
-     - A call that takes turns tells in `turned` whether something was done. A thread that gets 8 waits on a condition variable
-       of yours, and each thread whose call told `what` 2 wakes the others. If `what` is 0 a further call finds nothing to do
-       until another job's call did something (but a session with patience counts its own turns).
+     - A thread that waits sleeps on a condition variable of yours. Whoever called `lab_end` or `lab_withdraw`, or took single turns
+       (`lab_turn`, `lab_serve`, `lab_serve_others`), calls `lab_settle`, and wakes the threads of the jobs that `came` names. There is
+       nothing else to wake anybody for, and nothing to look at from time to time.
+     - But a session with patience counts the calls of `lab_settle` and `lab_begin` in which it waits, whoever makes them: let somebody
+       call now and then, so that it does run out.
+     - A job gives up what a neighbour asks for in `lab_settle`, `lab_begin`, `lab_end` and `lab_retire` of whatever job. So a thread that
+       works, sleeps or has stopped keeps nobody waiting, as long as its job doesn't hold, or keep while it waits, an instrument that
+       the other needs.
+     - A thread that stops while its job holds keeps those instruments: others wait, and `lab_keepers` tells which jobs keep an
+       instrument from one, and which of these hold it. Any thread may finish the session by `lab_end` for it. Nothing is lost if
+       nobody does: the close then answers 3.
+     - Who comes to hold though nobody waits for it any more is told in `came`, too. End such a session, or it keeps its instruments.
+     - No call between the open and the close asks for memory.
      - A job or an instrument is a number from 0, in the order of the script; sessions are counted from 1.
-     - At each status but 0 nothing has changed and nothing is written, but for: `turned` and the turns taken, at 8 and 9 of
-       `lab_begin` and 8 of `lab_retire`; `written` at 6; `told` at 1 of the open and at the close. */
+     - At each status but 0 nothing has changed and nothing is written, but for: `turned` and what was done, at 8 and 9 of `lab_begin`
+       and at 8 and 10 of `lab_retire`; `written` at 6; `told` at 1, 4 and 5 of the open (at 4 all three are 0; at 5 `line` may be how
+       far the script was read, with `cause` 12) and at the close. */
 
 /* What C keeps of a bench. */
 struct lab_bench {
@@ -116,17 +133,29 @@ struct lab_size {
 struct lab_session {
     uint64_t needs;        /* its instruments: bit k for instrument k */
     size_t commands;       /* how many commands it has */
-    uint32_t patience;     /* after how many turns of waiting it is given up; 0 if it has none */
+    uint32_t patience;     /* after how many turns, or calls of `lab_settle`, in which it waited it is given up; 0 if it has none */
     uint32_t has_patience; /* 1 if it has patience, else 0 */
 };
 
 struct lab_turned {
-    uint32_t what;  /* 0 nothing was due; 1 an exchange found its edge changed, and is tried again in the next turn; 2 acts were done */
+    uint32_t what;  /* 0 nothing was due; 2 acts were done; 1, at desks alone: an exchange found its edge changed, and the next turn tries it again */
     uint32_t count; /* how many */
 };
 
+struct lab_came {
+    uint32_t holds;     /* the jobs that hold all instruments of their session now: bit k for job k */
+    uint32_t given_up;  /* the jobs whose session was given up in this call, because its patience was used up */
+    uint32_t none_left; /* the jobs of `waiting` that are in no session and have none left to begin */
+    uint32_t deeds;     /* how many steps were done, looks aside; 0: nothing was due */
+};
+
+struct lab_keepers {
+    uint32_t jobs;    /* the jobs that keep the instrument from this one: bit k for job k */
+    uint32_t holding; /* those of them that hold it; there is one at most */
+};
+
 struct lab_state {
-    uint64_t turns;         /* how many turns the job took */
+    uint64_t turns;         /* how many turns the job took, and calls of `lab_settle` it waited in */
     uint32_t dining;        /* 0 thinking, 1 hungry, 2 eating */
     uint32_t drinking;      /* 0 tranquil, 1 thirsty, 2 drinking, 3 reaching, 4 retired; at 2 and 3 it holds its instruments */
     uint32_t session;       /* the session that it is in, or was in last; 0 before the first */
@@ -135,7 +164,7 @@ struct lab_state {
     uint32_t sessions_done; /* how many sessions were ended, those given up aside */
     uint32_t withdrawn;     /* how many were given up */
     uint32_t meals;         /* how many meals were begun */
-    uint32_t waited;        /* for how many turns this session has waited */
+    uint32_t waited;        /* for how many turns, and calls of `lab_settle`, this session has waited */
 };
 
 /* A command as it stands in its instrument's log. */
@@ -155,7 +184,7 @@ struct lab_planned {
     uint32_t number;
 };
 
-/* Opens a bench for a script. 0; 1 with `told->line` and `told->cause`; 4; 5; 7 if the handle is in use. */
+/* Opens a bench for a script. 0; 1 with `told->line` and `told->cause`; 4; 5; 11 if the handle is in use. */
 uint32_t lab_bench_open(const uint8_t *script, size_t length, struct lab_bench *bench, struct lab_told *told);
 
 /* How many jobs and instruments there are. 0, 7. */
@@ -175,11 +204,17 @@ uint32_t lab_planned(struct lab_bench *bench, uint32_t job, uint32_t session, ui
 /* How far a job is. 0, 2, 7. */
 uint32_t lab_state(struct lab_bench *bench, uint32_t job, struct lab_state *state);
 
-/* Who keeps a job waiting for an instrument: the jobs that have what it needs of it, as a set, bit k for job k. It is empty if the job
-   isn't thirsty, doesn't need the instrument, or has all that it needs of it. It is by what the job saw or did last at each of its
-   edges, so another may have given it up since. At most one of these jobs holds the instrument (`lab_state`); the others wait for it,
-   too, or have no use for it, and let it go when they are served, unless they come first. 0, 2 (no such job or instrument), 7. */
-uint32_t lab_keepers(struct lab_bench *bench, uint32_t job, uint32_t instrument, uint32_t *jobs);
+/* Which jobs keep an instrument from a job: those that have what it needs and lacks of the instrument, need it too, and hold or come
+   first. There is none if the job isn't thirsty, doesn't need the instrument, or lacks nothing of it. After `lab_settle` there is one
+   for each instrument that it lacks; if that one doesn't hold, it waits, and has keepers of its own. 0, 2 (no such job or
+   instrument), 7. */
+uint32_t lab_keepers(struct lab_bench *bench, uint32_t job, uint32_t instrument, struct lab_keepers *keepers);
+
+/* Begins the next session of each job of `waiting` that is in none, and then does all that can be done without a word from an owner, until
+   nothing is due anywhere: each job that may hold does. Sessions whose patience is used up by then are given up, and none is begun in their
+   place: `came` tells. Bits of `waiting` beyond the jobs are passed over. So a job that waits still, waits for one that holds: see
+   above. 0, 7. */
+uint32_t lab_settle(struct lab_bench *bench, uint32_t waiting, struct lab_came *came);
 
 /* One turn of a job: it gives and asks at each of its edges, and does the first act that is due, also a command of a session
    that it holds, or its end. 0, 2, 7. */
@@ -191,32 +226,33 @@ uint32_t lab_serve(struct lab_bench *bench, uint32_t job, struct lab_turned *tur
 /* `lab_serve` for each job but this one, in ascending order; `count` is of all. 0, 2, 7. */
 uint32_t lab_serve_others(struct lab_bench *bench, uint32_t job, struct lab_turned *turned);
 
-/* Takes turns of a job, at most `turns`, and serves the others after each, until the job holds; ends before that if nothing was
-   due at any job. If it holds already, it takes none. A session whose patience is used up is given up on the way, and the next
-   one begun: `lab_state` says which session it holds. 0 it holds; 8 not yet; 9 no session is left; 2, 7. */
+/* `lab_settle` for one job alone, at most `turns` times, until it holds; ends before that if nothing was due. If it holds already, nothing
+   is done. A session whose patience is used up is given up on the way, and the next one begun: `lab_state` says which session it
+   holds. Others may come to hold by it: the next `lab_settle` tells. 0 it holds; 8 not yet; 9 no session is left; 2, 7. */
 uint32_t lab_begin(struct lab_bench *bench, uint32_t job, uint32_t turns, struct lab_turned *turned);
 
 /* Does the next command of the session that a job holds, and tells its entry. 0; 8 if it doesn't hold, or no command is left;
    2, 7. */
 uint32_t lab_command(struct lab_bench *bench, uint32_t job, struct lab_entry *entry);
 
-/* Does the commands that are left, ends the session and lets go. 0; 8 if it doesn't hold (or still does after 4294967295 turns, which
-   `turned` then tells); 2, 7. */
+/* Does the commands that are left, ends the session and lets go; then does all that can be done without a word from an owner, so that
+   others may hold: the next `lab_settle` tells which. 0; 8 if it doesn't hold; 2, 7. */
 uint32_t lab_end(struct lab_bench *bench, uint32_t job, struct lab_turned *turned);
 
-/* Gives up the session that a job waits for, if it has patience. 0; 8 if it isn't thirsty or has no patience; 2, 7. */
+/* Gives up the session that a job waits for, if it has patience. Others may come to hold by that: `lab_settle` sees to it, and tells
+   which. 0; 8 if it isn't thirsty or has no patience; 2, 7. */
 uint32_t lab_withdraw(struct lab_bench *bench, uint32_t job);
 
-/* Takes turns of a job whose sessions are all done, at most `turns`, as `lab_begin`, until it is retired. It begins no session.
-   0 it is retired; 8 not yet, or sessions are left; 2, 7. */
+/* Retires a job whose sessions are all done. It begins no session, but does all that can be done without a word from an owner, as `lab_end`;
+   `turns` is how often, at most. 0 it is retired; 8 not yet: it is in a meal, which lasts until others let go; 10 sessions are left: it
+   would never; 2, 7. */
 uint32_t lab_retire(struct lab_bench *bench, uint32_t job, uint32_t turns, struct lab_turned *turned);
 
 /* Closes the bench, whatever its jobs are at, and writes the report. 0 or 3 as a run; 5 and 6: nothing is lost, call again; 7.
    A closed handle keeps its report, for a further call; every other call on it but the free answers 7. */
 uint32_t lab_bench_close(struct lab_bench *bench, uint8_t *report, size_t room, struct lab_told *told);
 
-/* Gives back what the handle has, at any time; it is empty then, and may be opened again. What an open kept of its script (names,
-   sessions and commands) stays until the process ends, so don't open benches without end. */
+/* Gives back all that the handle has, at any time; it is empty then, and may be opened again. */
 void lab_bench_free(struct lab_bench *bench);
 
 /* ---- A bench with a desk for each thread.
@@ -337,6 +373,14 @@ LAB_AT(lab_session, has_patience, 20);
 LAB_IS(sizeof(struct lab_turned) == 8);
 LAB_AT(lab_turned, what, 0);
 LAB_AT(lab_turned, count, 4);
+LAB_IS(sizeof(struct lab_came) == 16);
+LAB_AT(lab_came, holds, 0);
+LAB_AT(lab_came, given_up, 4);
+LAB_AT(lab_came, none_left, 8);
+LAB_AT(lab_came, deeds, 12);
+LAB_IS(sizeof(struct lab_keepers) == 8);
+LAB_AT(lab_keepers, jobs, 0);
+LAB_AT(lab_keepers, holding, 4);
 LAB_IS(sizeof(struct lab_state) == 48);
 LAB_AT(lab_state, turns, 0);
 LAB_AT(lab_state, dining, 8);

@@ -1,4 +1,4 @@
-// labrun's bench for threads, in C++17, over labrun.h:
+// labrun's bench for threads, in C++17, over labrun.h, behind one short mutex:
 //
 //     labrun::bench bench = labrun::bench::open("bay.lab");
 //     std::vector<std::thread> threads;
@@ -10,11 +10,13 @@
 //     for (std::thread &thread : threads) thread.join();
 //     std::cout << bench.close().text;
 //
-// What is proved ends at the calls of the library: that no two sessions hold an instrument at once, that each log is whole sessions. This
-// file is tested. A bench and its desks stay where they are while threads use them; one thread at a time acts for a desk.
+// What is proved ends at the calls of the library: that no two sessions hold an instrument at once, that each log is whole sessions, and that
+// who waits, waits in the end for somebody who holds: so nobody looks from time to time, and nobody sleeps for nothing. This file is
+// tested. A bench and its desks stay where they are while threads use them; one thread at a time acts for a desk.
 #ifndef LABRUN_HPP
 #define LABRUN_HPP
 #include "labrun.h"
+#include <atomic>
 #include <chrono>
 #include <condition_variable>
 #include <cstdint>
@@ -25,9 +27,11 @@
 #include <mutex>
 #include <new>
 #include <optional>
+#include <pthread.h>
 #include <stdexcept>
 #include <string>
 #include <string_view>
+#include <unistd.h>
 #include <utility>
 #include <vector>
 
@@ -56,7 +60,13 @@ struct closed : error {
     closed() : error("the bench is closed") {}
 };
 
-// Who is before a waiting session at an instrument that it needs: who holds it, or, if nobody does, waits for it too and may go first.
+// This is the child of a fork, and what it has is a copy of its parent's bench: what it would hold, the parent may hold, too.
+struct other_process : error {
+    explicit other_process(long number) : error("this bench belongs to process " + std::to_string(number)), process(number) {}
+    long process;
+};
+
+// A job that keeps an instrument from a waiting session: it holds it, or, where nobody does, it waits itself and comes first.
 struct keeper {
     std::string instrument, job;
     bool holds;
@@ -70,7 +80,7 @@ struct timed_out : error {
   private:
     static std::string named(const std::vector<keeper> &by) {
         std::string text;
-        for (const keeper &it : by) text += ", " + it.instrument + (it.holds ? " is held by " : " is asked for, too, by ") + it.job;
+        for (const keeper &it : by) text += ", " + it.instrument + (it.holds ? " is held by " : " is kept by ") + it.job;
         return text;
     }
 };
@@ -113,26 +123,48 @@ inline const std::uint8_t *bytes(std::string_view script) {
     return reinterpret_cast<const std::uint8_t *>(script.empty() ? "" : script.data());
 }
 
-enum class came { nobody_waits, waits, holds, withdrawn };
+// How many forks lie between the first process and this one: a bench that was opened before the last of them is another's.
+inline std::atomic<unsigned> forks{0};
+inline const int at_forks = pthread_atfork(nullptr, nullptr, [] { forks.fetch_add(1, std::memory_order_relaxed); });
 
-// One mutex guards the handle, because the library takes one call at a time. Whoever did something sees to those that it may concern
-// before it lets the mutex go: it takes the turns of those that wait, serves the others, and wakes exactly those that came to hold.
+// What became of who asked.
+enum class asked { waits, holds, withdrawn };
+
+// What is kept of a job.
+struct seat {
+    std::vector<lab_session> sessions;
+    std::uint32_t in = 0, last = 0; // the session that it is in, which waits or holds, or 0; and the one that it is in or was in last
+    asked how = asked::waits;
+    std::condition_variable woken;
+};
+
+// One mutex guards the handle, because the library takes one call at a time. It is held for a call or two: a session that nobody waits for
+// begins by `lab_settle` and ends by `lab_end`; if others wait, a further `lab_settle` tells which of them hold now, and those are woken.
 struct core {
     std::mutex mutex;
     lab_bench handle{};
     bool is_closed = false;
+    const unsigned born = forks.load(std::memory_order_relaxed);
+    const long process = static_cast<long>(getpid());
     std::vector<std::string> jobs, instruments;
-    std::vector<std::uint32_t> near; // each job with its neighbours and itself, as a set of bits
-    std::uint32_t due = 0;           // the jobs to be seen to
-    std::vector<std::pair<std::uint32_t, came>> waits;
-    std::deque<std::condition_variable> woken;
-    std::uint32_t active = 0, left = 0; // the jobs whose threads wait, and those whose sessions were given up and can't be withdrawn
+    std::deque<seat> seats;
+    std::chrono::steady_clock::time_point ticked;
+    std::uint32_t waiting = 0, left = 0; // the jobs whose threads wait, and those whose sessions were given up and can't be withdrawn
     std::vector<std::pair<std::string, std::uint32_t>> lapsed;
 
     core() = default;
     core(const core &) = delete;
     core &operator=(const core &) = delete;
-    ~core() { lab_bench_free(&handle); }
+    ~core() {
+        if (is_here()) lab_bench_free(&handle);
+    }
+
+    bool is_here() const noexcept { return born == forks.load(std::memory_order_relaxed); }
+
+    // (before the mutex is taken: in a child nobody may be there to let it go)
+    void belongs_here() const {
+        if (!is_here()) throw other_process(process);
+    }
 
     // (`struct` and `::`, because a call and a structure have this name)
     struct lab_state state(std::uint32_t job) {
@@ -141,81 +173,47 @@ struct core {
         return found;
     }
 
-    lab_session session_of(std::uint32_t job, std::uint32_t number) {
-        lab_session what{};
-        lab_session_of(&handle, job, number, &what);
-        return what;
+    static std::uint32_t bit(std::uint32_t job) { return std::uint32_t(1) << job; }
+
+    template <class Act> void each(std::uint32_t set, Act act) {
+        for (std::uint32_t job = 0; set; job++, set >>= 1)
+            if (set & 1) act(job);
     }
 
-    // A job that found nothing to do has nothing until it, or a neighbour, does something: so only those are asked again.
+    // The session of a job has come to something; whoever waits for it is woken.
+    void comes_to(std::uint32_t job, asked how) {
+        seat &it = seats[job];
+        it.how = how;
+        if (how == asked::withdrawn) it.in = 0;
+        waiting &= ~bit(job);
+        it.woken.notify_one();
+    }
+
+    // All that can be done is done, and those are woken whom that concerns. If somebody waits, those that were left and hold let go.
     void settle() {
-        for (int round = 0; round < 1000 && due; round++) {
-            std::uint32_t now = std::exchange(due, 0);
-            for (std::uint32_t job = 0; job < jobs.size(); job++) {
-                if (!(now >> job & 1)) continue;
+        for (;;) {
+            lab_came came{};
+            lab_settle(&handle, waiting, &came);
+            each(came.given_up, [this](std::uint32_t job) { comes_to(job, asked::withdrawn); });
+            each(came.holds & waiting, [this](std::uint32_t job) { comes_to(job, asked::holds); });
+            const std::uint32_t letting_go = waiting ? came.holds & left : 0;
+            if (!letting_go) return;
+            each(letting_go, [this](std::uint32_t job) {
                 lab_turned turned{};
-                auto &[number, how] = waits[job];
-                // a turn would do a command of a session that holds: only those that wait take one
-                const bool is_waiting = how == came::waits;
-                if (is_waiting)
-                    lab_turn(&handle, job, &turned);
-                else
-                    lab_serve(&handle, job, &turned);
-                if (!turned.what) continue;
-                due |= near[job];
-                if (!is_waiting) continue;
-                const struct lab_state at = state(job);
-                if (at.drinking == 2 || at.drinking == 3)
-                    how = came::holds;
-                else if (at.drinking != 1 && at.session >= number)
-                    how = came::withdrawn;
-                else
-                    continue;
-                woken[job].notify_one();
-                pass_by();
-            }
+                lab_end(&handle, job, &turned);
+                left &= ~bit(job);
+                lapsed.emplace_back(jobs[job], std::exchange(seats[job].in, 0));
+            });
         }
-    }
-
-    // If somebody waits, those that were left and hold let go.
-    void pass_by() {
-        for (std::uint32_t job = 0; active && job < jobs.size(); job++) {
-            if (!(left >> job & 1)) continue;
-            const struct lab_state at = state(job);
-            if (at.drinking != 2 && at.drinking != 3) continue;
-            lab_turned turned{};
-            lab_end(&handle, job, &turned);
-            waits[job].second = came::nobody_waits;
-            left &= ~(std::uint32_t(1) << job);
-            lapsed.emplace_back(jobs[job], at.session);
-            due |= near[job];
-        }
-    }
-
-    void see_to(std::uint32_t job) {
-        due |= near[job];
-        settle();
-    }
-
-    // The instruments that a job holds or waits for, as a set, and whether it holds them.
-    std::pair<std::uint64_t, bool> needs(std::uint32_t job) {
-        const struct lab_state at = state(job);
-        if (at.drinking < 1 || at.drinking > 3) return {0, false};
-        return {session_of(job, at.session).needs, at.drinking != 1};
     }
 
     std::vector<keeper> keepers(std::uint32_t job) {
-        const std::uint64_t mine = needs(job).first;
         std::vector<keeper> found;
         for (std::uint32_t at = 0; at < instruments.size(); at++) {
-            if (!(mine >> at & 1)) continue;
-            std::vector<keeper> holding, waiting;
-            for (std::uint32_t other = 0; other < jobs.size(); other++) {
-                const auto [theirs, holds] = needs(other);
-                if (other != job && theirs >> at & 1) (holds ? holding : waiting).push_back({instruments[at], jobs[other], holds});
-            }
-            const std::vector<keeper> &before = holding.empty() ? waiting : holding;
-            found.insert(found.end(), before.begin(), before.end());
+            struct lab_keepers kept {};
+            ::lab_keepers(&handle, job, at, &kept);
+            each(kept.holding ? kept.holding : kept.jobs,
+                 [&](std::uint32_t other) { found.push_back({instruments[at], jobs[other], kept.holding != 0}); });
         }
         return found;
     }
@@ -246,24 +244,24 @@ class session {
     // Does its next command, and gives its entry in the log; nothing if no command is left.
     std::optional<lab_entry> command() {
         if (!core_) return std::nullopt;
+        core_->belongs_here();
         std::lock_guard<std::mutex> guard(core_->mutex);
         if (core_->is_closed) throw closed();
         lab_entry entry{};
-        const std::uint32_t status = lab_command(&core_->handle, job_, &entry);
-        core_->see_to(job_);
-        if (status) return std::nullopt;
+        if (lab_command(&core_->handle, job_, &entry)) return std::nullopt;
         return entry;
     }
 
     // Lets go now.
     void finish() noexcept {
         detail::core *core = std::exchange(core_, nullptr);
-        if (!core) return;
+        if (!core || !core->is_here()) return;
         std::lock_guard<std::mutex> guard(core->mutex);
         if (core->is_closed) return;
         lab_turned turned{};
         lab_end(&core->handle, job_, &turned);
-        core->see_to(job_);
+        core->seats[job_].in = 0;
+        if (core->waiting) core->settle();
     }
 
   private:
@@ -287,38 +285,39 @@ class desk {
     std::optional<session> begin(std::optional<std::chrono::milliseconds> limit = std::nullopt) {
         using clock = std::chrono::steady_clock;
         const clock::time_point until = clock::now() + limit.value_or(std::chrono::milliseconds(0));
+        core_->belongs_here();
         std::unique_lock<std::mutex> guard(core_->mutex);
         if (core_->is_closed) throw closed();
-        const auto state = core_->state(job_);
-        const bool in_one = state.drinking >= 1 && state.drinking <= 3;
-        const std::uint32_t number = in_one ? state.session : state.session + 1, bit = std::uint32_t(1) << job_;
-        if (number > state.sessions) return std::nullopt;
-        const lab_session what = core_->session_of(job_, number);
-        // A wake-up that got lost would be a fault of this file; with a patience, a turn is taken so often that it runs out.
-        const std::chrono::milliseconds tick(what.has_patience ? 100 : 1000);
-        auto &[waited, how] = core_->waits[job_];
-        waited = number;
-        // (a session that timed out may have come to its instruments meanwhile)
-        how = in_one && state.drinking != 1 ? detail::came::holds : detail::came::waits;
+        detail::seat &me = core_->seats[job_];
+        const std::uint32_t number = me.in ? me.in : me.last + 1, bit = detail::core::bit(job_);
+        if (number > me.sessions.size()) return std::nullopt;
+        const lab_session what = me.sessions[number - 1];
+        me.in = me.last = number;
+        me.how = detail::asked::waits;
         core_->left &= ~bit;
-        core_->active |= bit;
-        core_->pass_by();
-        core_->due |= bit;
+        core_->waiting |= bit;
         core_->settle();
-        bool late = false;
-        while (how == detail::came::waits && !core_->is_closed && !late) {
-            const clock::time_point now = clock::now(), next = limit && until < now + tick ? until : now + tick;
-            if (core_->woken[job_].wait_until(guard, next) == std::cv_status::timeout && !core_->is_closed) {
-                core_->due |= bit;
+        while (me.how == detail::asked::waits && !core_->is_closed) {
+            if (!limit && !what.has_patience) {
+                me.woken.wait(guard);
+                continue;
+            }
+            // (a patience runs out by the calls of `lab_settle`, so one of those that wait makes one now and then)
+            const clock::time_point tick = clock::now() + std::chrono::milliseconds(100);
+            const bool is_tick = what.has_patience && (!limit || tick < until);
+            if (me.woken.wait_until(guard, is_tick ? tick : until) == std::cv_status::no_timeout || core_->is_closed) continue;
+            if (what.has_patience && clock::now() - core_->ticked >= std::chrono::milliseconds(50)) {
+                core_->ticked = clock::now();
                 core_->settle();
-                late = how == detail::came::waits && limit && clock::now() >= until;
+            }
+            if (limit && me.how == detail::asked::waits && clock::now() >= until) {
+                core_->waiting &= ~bit;
+                throw timed_out(core_->keepers(job_));
             }
         }
-        core_->active &= ~bit;
-        if (late) throw timed_out(core_->keepers(job_));
-        const detail::came end = std::exchange(how, detail::came::nobody_waits);
-        if (end == detail::came::withdrawn) throw withdrawn();
-        if (end != detail::came::holds) throw closed();
+        core_->waiting &= ~bit;
+        if (me.how == detail::asked::withdrawn) throw withdrawn();
+        if (me.how != detail::asked::holds) throw closed();
         return session(core_, job_, number, what.needs);
     }
 
@@ -326,18 +325,15 @@ class desk {
     // patience can't leave the line. Nobody comes for it, but its turn may come; if somebody waits then, its commands are logged, though
     // nobody did its work, and it lets go: `lapsed` of the report names it. Begun again before, it is as any other.
     bool give_up() {
+        core_->belongs_here();
         std::lock_guard<std::mutex> guard(core_->mutex);
-        if (core_->is_closed) return false;
-        const auto state = core_->state(job_);
-        if (state.drinking < 1 || state.drinking > 3) return false;
+        if (core_->is_closed || !core_->seats[job_].in) return false;
         const bool gone = lab_withdraw(&core_->handle, job_) == 0;
-        if (gone) {
-            core_->waits[job_].second = detail::came::nobody_waits;
-        } else {
-            core_->left |= std::uint32_t(1) << job_;
-            core_->pass_by();
-        }
-        core_->see_to(job_);
+        if (gone)
+            core_->comes_to(job_, detail::asked::withdrawn);
+        else
+            core_->left |= detail::core::bit(job_);
+        core_->settle();
         return gone;
     }
 
@@ -365,16 +361,13 @@ class bench {
         lab_bench_size(&core_->handle, &size);
         for (std::uint32_t job = 0; job < size.jobs; job++) core_->jobs.push_back(name(lab_job_name, job));
         for (std::uint32_t at = 0; at < size.instruments; at++) core_->instruments.push_back(name(lab_instrument_name, at));
-        std::vector<std::uint64_t> uses(size.jobs);
-        for (std::uint32_t job = 0; job < size.jobs; job++)
-            for (std::uint32_t number = core_->state(job).sessions; number; number--) uses[job] |= core_->session_of(job, number).needs;
-        core_->near.resize(size.jobs);
-        for (std::uint32_t job = 0; job < size.jobs; job++)
-            for (std::uint32_t to = 0; to < size.jobs; to++)
-                if (to == job || uses[job] & uses[to]) core_->near[job] |= std::uint32_t(1) << to;
-        core_->waits.assign(size.jobs, {0, detail::came::nobody_waits});
-        for (std::uint32_t job = 0; job < size.jobs; job++) core_->woken.emplace_back();
-        for (std::uint32_t job = 0; job < size.jobs; job++) desks_.emplace_back(core_.get(), job);
+        for (std::uint32_t job = 0; job < size.jobs; job++) {
+            detail::seat &seat = core_->seats.emplace_back();
+            seat.sessions.resize(core_->state(job).sessions);
+            for (std::uint32_t number = 1; number <= seat.sessions.size(); number++)
+                lab_session_of(&core_->handle, job, number, &seat.sessions[number - 1]);
+            desks_.emplace_back(core_.get(), job);
+        }
     }
 
     // A desk for each job, in the order of the script.
@@ -385,10 +378,11 @@ class bench {
     // Closes the bench, and gives its report; a second call gives it again. Who calls a desk afterwards gets closed; a session that is held
     // stays unfinished in the report.
     report close() {
+        core_->belongs_here();
         std::lock_guard<std::mutex> guard(core_->mutex);
-        if (!core_->is_closed) retire();
+        while (!core_->is_closed && retires_some()) continue;
         core_->is_closed = true;
-        for (std::condition_variable &it : core_->woken) it.notify_all();
+        for (detail::seat &it : core_->seats) it.woken.notify_all();
         report told = detail::told_text([this](auto... given) { return lab_bench_close(&core_->handle, given...); });
         told.lapsed = core_->lapsed;
         return told;
@@ -402,20 +396,14 @@ class bench {
         return std::string(bytes, bytes + written);
     }
 
-    void retire() {
-        for (int round = 0; round < 1000; round++) {
-            bool acted = false;
-            for (std::uint32_t job = 0; job < core_->jobs.size(); job++) {
-                const auto state = core_->state(job);
-                if (state.drinking != 0 || state.session != state.sessions) continue;
-                lab_turned turned{};
-                lab_retire(&core_->handle, job, 64, &turned);
-                acted |= turned.what == 2;
-            }
-            if (!acted) return;
-            for (std::uint32_t near : core_->near) core_->due |= near;
-            core_->settle();
+    // One may be in a meal, which lasts until another has left its own.
+    bool retires_some() {
+        bool did = false;
+        for (std::uint32_t job = 0; job < core_->jobs.size(); job++) {
+            lab_turned turned{};
+            if (core_->state(job).drinking != 4 && lab_retire(&core_->handle, job, 1, &turned) == LAB_DONE) did = true;
         }
+        return did;
     }
 
     std::unique_ptr<detail::core> core_;

@@ -46,14 +46,14 @@ static void faults(void) {
 }
 
 static void taking(void) {
-    IS(open_two(&shared) == LAB_DONE && shared.live == 1);
+    IS(open_two(&shared) == LAB_DONE && shared.live != 0);
     REFUSED(LAB_NOT_OPEN, open_two(&shared));
     IS(lab_shared_size(&shared, &out.size) == LAB_DONE && out.size.jobs == 3 && out.size.instruments == 2);
     no_desk(none);
     REFUSED(LAB_NOT_THERE, lab_take_desk(&shared, 3, none));
     REFUSED(LAB_NOT_THERE, lab_take_desk(&shared, 0xffffffffu, none));
     for (uint32_t job = 0; job < 3; job++) {
-        IS(lab_take_desk(&shared, job, &desks[job]) == LAB_DONE && desks[job].live == 1);
+        IS(lab_take_desk(&shared, job, &desks[job]) == LAB_DONE && desks[job].live != 0);
         REFUSED(LAB_NOT_YET, lab_take_desk(&shared, job, none));
         REFUSED(LAB_NOT_OPEN, lab_take_desk(&shared, job, &desks[0]));
         REFUSED(LAB_NOT_YET, lab_shared_close(&shared, report, sizeof report, &out.told));
@@ -103,6 +103,21 @@ static void driving(void) {
     IS(lab_desk_begin(&desks[2], 10, &turned) == LAB_NO_SESSION);
     IS(lab_desk_retire(&desks[2], 10, &turned) == LAB_DONE);
     IS(lab_desk_begin(&desks[2], 10, &turned) == LAB_NO_SESSION && turned.what == 0);
+}
+
+/* A handle of another kind isn't open. */
+static void wrong_kind(void) {
+    struct lab_bench bench = {0};
+    struct lab_told told;
+    IS(lab_bench_open((const uint8_t *)two, sizeof two - 1, &bench, &told) == LAB_DONE);
+    REFUSED(LAB_NOT_OPEN, lab_turn((struct lab_bench *)(void *)&shared, 0, &out.turned));
+    REFUSED(LAB_NOT_OPEN, lab_settle((struct lab_bench *)(void *)&desks[0], 7, &out.came));
+    REFUSED(LAB_NOT_OPEN, lab_desk_turn((struct lab_desk *)(void *)&shared, &out.turned));
+    REFUSED(LAB_NOT_OPEN, lab_desk_turn((struct lab_desk *)(void *)&bench, &out.turned));
+    REFUSED(LAB_NOT_OPEN, lab_shared_size((struct lab_shared *)(void *)&desks[0], &out.size));
+    REFUSED(LAB_NOT_OPEN, lab_shared_size((struct lab_shared *)(void *)&bench, &out.size));
+    IS(lab_bench_size(&bench, &out.size) == LAB_DONE && out.size.jobs == 3);
+    lab_bench_free(&bench);
 }
 
 static void closing(void) {
@@ -172,6 +187,7 @@ int main(void) {
     no_bench(0);
     taking();
     driving();
+    wrong_kind();
     closing();
     freed_with_desks_out();
     two_benches();

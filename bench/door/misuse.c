@@ -22,8 +22,10 @@ static void not_open(int is_closed) {
     REFUSED(LAB_NOT_OPEN, lab_session_of(&bench, 0, 1, &out.session));
     REFUSED(LAB_NOT_OPEN, lab_planned(&bench, 0, 1, 0, &out.planned));
     REFUSED(LAB_NOT_OPEN, lab_state(&bench, 0, &out.state));
-    REFUSED(LAB_NOT_OPEN, lab_keepers(&bench, 0, 0, &out.jobs));
-    REFUSED(LAB_NOT_OPEN, lab_keepers(&bench, 0xffffffffu, 0xffffffffu, &out.jobs));
+    REFUSED(LAB_NOT_OPEN, lab_keepers(&bench, 0, 0, &out.keepers));
+    REFUSED(LAB_NOT_OPEN, lab_keepers(&bench, 0xffffffffu, 0xffffffffu, &out.keepers));
+    REFUSED(LAB_NOT_OPEN, lab_settle(&bench, 0, &out.came));
+    REFUSED(LAB_NOT_OPEN, lab_settle(&bench, 0xffffffffu, &out.came));
     REFUSED(LAB_NOT_OPEN, lab_turn(&bench, 0, &out.turned));
     REFUSED(LAB_NOT_OPEN, lab_turn(&bench, 0xffffffffu, &out.turned));
     REFUSED(LAB_NOT_OPEN, lab_serve(&bench, 0, &out.turned));
@@ -69,8 +71,9 @@ static void faults(void) {
     uint8_t *large = malloc(MOST_BYTES);
     if (!large) exit(70);
     memset(large, '#', MOST_BYTES);
-    struct lab_told told = {0, 0, 0};
-    expect(lab_bench_open(large, MOST_BYTES, &bench, &told) == LAB_TOO_LONG && bench.live == 0, "a script that is too long");
+    struct lab_told told = {77, 77, 77};
+    expect(lab_bench_open(large, MOST_BYTES, &bench, &told) == LAB_TOO_LONG && bench.live == 0 && told.written == 0 && told.line == 0 && told.cause == 0,
+           "a script that is too long");
     free(large);
 }
 
@@ -131,8 +134,8 @@ static void no_such_job(void) {
     for (size_t which = 0; which < sizeof absent / sizeof *absent; which++) {
         uint32_t job = absent[which];
         REFUSED(LAB_NOT_THERE, lab_state(&bench, job, &out.state));
-        REFUSED(LAB_NOT_THERE, lab_keepers(&bench, job, 0, &out.jobs));
-        REFUSED(LAB_NOT_THERE, lab_keepers(&bench, 0, job, &out.jobs));
+        REFUSED(LAB_NOT_THERE, lab_keepers(&bench, job, 0, &out.keepers));
+        REFUSED(LAB_NOT_THERE, lab_keepers(&bench, 0, job, &out.keepers));
         REFUSED(LAB_NOT_THERE, lab_turn(&bench, job, &out.turned));
         REFUSED(LAB_NOT_THERE, lab_serve(&bench, job, &out.turned));
         REFUSED(LAB_NOT_THERE, lab_serve_others(&bench, job, &out.turned));
@@ -150,10 +153,23 @@ static void holds_not(uint32_t job) {
     TELLS(LAB_NOT_YET, lab_end(&bench, job, &out.turned));
 }
 
-/* These jobs, and no others, keep the job waiting for the instrument. */
-static void kept_by(uint32_t job, uint32_t instrument, uint32_t jobs) {
-    TELLS(LAB_DONE, lab_keepers(&bench, job, instrument, &out.jobs));
-    expect(out.jobs == jobs && untouched(sizeof out.jobs), "job %u waits for instrument %u, kept by %x, wanted %x", job, instrument, out.jobs, jobs);
+/* These jobs, and no others, keep the instrument from the job; and these of them hold it. */
+static void kept_by(uint32_t job, uint32_t instrument, uint32_t jobs, uint32_t holding) {
+    TELLS(LAB_DONE, lab_keepers(&bench, job, instrument, &out.keepers));
+    expect(out.keepers.jobs == jobs && out.keepers.holding == holding && untouched(sizeof out.keepers),
+           "job %u waits for instrument %u, kept by %x and held by %x, wanted %x and %x", job, instrument, out.keepers.jobs, out.keepers.holding, jobs,
+           holding);
+}
+
+/* All that can be done is done; then these jobs hold, these were given up, and these of the waiting ones have no session left. A second call
+   finds nothing to do. */
+static void settles(uint32_t waiting, uint32_t holds, uint32_t given_up, uint32_t none_left) {
+    poison();
+    uint32_t status = lab_settle(&bench, waiting, &out.came);
+    expect(status == LAB_DONE && out.came.holds == holds && out.came.given_up == given_up && out.came.none_left == none_left && untouched(sizeof out.came),
+           "settled for %x: status %u, %x hold, %x given up, %x with none left, wanted %x, %x, %x", waiting, status, out.came.holds, out.came.given_up,
+           out.came.none_left, holds, given_up, none_left);
+    IS(lab_settle(&bench, 0, &out.came) == LAB_DONE && out.came.holds == holds && out.came.given_up == 0 && out.came.none_left == 0 && out.came.deeds == 0);
 }
 
 /* Turns of a job until it holds, with no other job's turn between. */
@@ -172,8 +188,8 @@ static void until_it_holds(uint32_t job) {
 static void a_whole_run(void) {
     struct lab_state state;
     poison();
-    IS(open_two() == LAB_DONE && bench.live == 1);
-    REFUSED(LAB_NOT_OPEN, open_two());
+    IS(open_two() == LAB_DONE && bench.live != 0);
+    REFUSED(LAB_IN_USE, open_two());
     TELLS(LAB_DONE, lab_bench_size(&bench, &out.size));
     IS(out.size.jobs == 3 && out.size.instruments == 2);
     names();
@@ -187,17 +203,20 @@ static void a_whole_run(void) {
     IS(out.state.sessions_done == 0 && out.state.withdrawn == 0 && out.state.meals == 0 && out.state.waited == 0 && out.state.turns == 0);
 
     /* nobody holds, and nobody waits */
-    REFUSED(LAB_NOT_THERE, lab_keepers(&bench, 0, 2, &out.jobs));
-    REFUSED(LAB_NOT_THERE, lab_keepers(&bench, 3, 2, &out.jobs));
+    REFUSED(LAB_NOT_THERE, lab_keepers(&bench, 0, 2, &out.keepers));
+    REFUSED(LAB_NOT_THERE, lab_keepers(&bench, 3, 2, &out.keepers));
     for (uint32_t job = 0; job < 3; job++) {
-        kept_by(job, 0, 0);
-        kept_by(job, 1, 0);
+        kept_by(job, 0, 0, 0);
+        kept_by(job, 1, 0, 0);
         holds_not(job);
         REFUSED(LAB_NOT_YET, lab_withdraw(&bench, job));
     }
     TELLS(LAB_NOT_YET, lab_begin(&bench, 0, 0, &out.turned));
-    TELLS(LAB_NOT_YET, lab_retire(&bench, 0, 0, &out.turned));
-    TELLS(LAB_NOT_YET, lab_retire(&bench, 0, 10, &out.turned));
+    TELLS(LAB_SESSIONS_LEFT, lab_retire(&bench, 0, 0, &out.turned));
+    TELLS(LAB_SESSIONS_LEFT, lab_retire(&bench, 0, 10, &out.turned));
+    settles(0, 0, 0, 0);
+    settles(0xfffffff8u, 0, 0, 0); /* (there are no such jobs) */
+    settles(4, 0, 0, 4);           /* (c has no session at all) */
 
     /* a holds; b waits for the scale, which a keeps */
     until_it_holds(0);
@@ -205,12 +224,13 @@ static void a_whole_run(void) {
     lab_state(&bench, 1, &state);
     IS(state.drinking == 1 && state.session == 1 && state.turns == 3);
     holds_not(1);
-    kept_by(1, 0, 1);
-    kept_by(1, 1, 0);
-    kept_by(0, 0, 0);
-    kept_by(0, 1, 0);
-    kept_by(2, 0, 0);
-    IS(lab_retire(&bench, 0, 10, &out.turned) == LAB_NOT_YET);
+    kept_by(1, 0, 1, 1);
+    kept_by(1, 1, 0, 0);
+    kept_by(0, 0, 0, 0);
+    kept_by(0, 1, 0, 0);
+    kept_by(2, 0, 0, 0);
+    IS(lab_retire(&bench, 0, 10, &out.turned) == LAB_SESSIONS_LEFT);
+    IS(lab_retire(&bench, 1, 10, &out.turned) == LAB_SESSIONS_LEFT); /* (its last session isn't over) */
     lab_state(&bench, 0, &state);
     IS(state.drinking == 2 && state.position == 0);
     REFUSED(LAB_NOT_YET, lab_withdraw(&bench, 0));
@@ -226,22 +246,21 @@ static void a_whole_run(void) {
     IS(lab_command(&bench, 0, &out.entry) == LAB_DONE);
     IS(out.entry.place == 2 && out.entry.length == 2 && out.entry.verb == 2 && out.entry.number == 0 && out.entry.value == 1);
     REFUSED(LAB_NOT_YET, lab_command(&bench, 0, &out.entry));
+
+    /* b waits no longer, by its own will */
+    kept_by(1, 0, 1, 1);
+    IS(lab_withdraw(&bench, 1) == LAB_DONE);
+    kept_by(1, 0, 0, 0);
+    lab_state(&bench, 1, &state);
+    IS(state.drinking == 0 && state.withdrawn == 1 && state.sessions_done == 0);
+    REFUSED(LAB_NOT_YET, lab_withdraw(&bench, 1));
+    settles(2, 1, 0, 2);
+
     IS(lab_end(&bench, 0, &out.turned) == LAB_DONE && out.turned.what == 2 && out.turned.count >= 1);
     lab_state(&bench, 0, &state);
     IS(state.drinking == 0 && state.sessions_done == 1 && state.session == 1);
     holds_not(0);
-
-    /* b waits no longer, by its own will */
-    lab_state(&bench, 1, &state);
-    if (state.drinking == 1) {
-        /* (it hasn't looked since a let go) */
-        kept_by(1, 0, 1);
-        IS(lab_withdraw(&bench, 1) == LAB_DONE);
-        kept_by(1, 0, 0);
-        lab_state(&bench, 1, &state);
-        IS(state.drinking == 0 && state.withdrawn == 1 && state.sessions_done == 0);
-    }
-    REFUSED(LAB_NOT_YET, lab_withdraw(&bench, 1));
+    settles(0, 0, 0, 0);
     IS(lab_begin(&bench, 1, 10, &out.turned) == LAB_NO_SESSION);
 
     /* a's second session, ended without a command of ours */
@@ -250,14 +269,13 @@ static void a_whole_run(void) {
     IS(lab_begin(&bench, 0, 10, &out.turned) == LAB_NO_SESSION);
     IS(lab_begin(&bench, 2, 10, &out.turned) == LAB_NO_SESSION);
     for (uint32_t job = 0; job < 3; job++) {
-        uint32_t status = LAB_NOT_YET;
-        for (int tries = 0; tries < 20 && status == LAB_NOT_YET; tries++) status = lab_retire(&bench, job, 10, &out.turned);
-        IS(status == LAB_DONE);
+        IS(lab_retire(&bench, job, 1, &out.turned) == LAB_DONE); /* (nobody waits or holds, so nobody is in a meal) */
         TELLS(LAB_DONE, lab_retire(&bench, job, 10, &out.turned));
         holds_not(job);
         REFUSED(LAB_NOT_YET, lab_withdraw(&bench, job));
         IS(lab_begin(&bench, job, 10, &out.turned) == LAB_NO_SESSION);
     }
+    settles(7, 0, 0, 7);
 }
 
 static const char wanted[] = "lab 2\ninstrument scale 2\na 1 1/2 add 1 = 1\na 1 2/2 read = 1\ninstrument lamp 2\na 1 1/1 set 7 = 7\n"
@@ -282,7 +300,7 @@ static void closed(void) {
         IS(memcmp(report + length, before + length, sizeof report - length) == 0);
     }
     not_open(1);
-    REFUSED(LAB_NOT_OPEN, open_two());
+    REFUSED(LAB_IN_USE, open_two());
     lab_bench_free(&bench);
     IS(bench.live == 0);
     not_open(0);
@@ -295,25 +313,59 @@ static void keepers(void) {
     struct lab_told told;
     IS(lab_bench_open((const uint8_t *)three, sizeof three - 1, &bench, &told) == LAB_DONE);
     for (uint32_t job = 2; job < 3; job--) {
-        kept_by(job, 0, 0);
+        kept_by(job, 0, 0, 0);
         IS(lab_turn(&bench, job, &out.turned) == LAB_DONE);
     }
-    kept_by(0, 0, 0);
-    kept_by(0, 1, 0);
-    kept_by(1, 0, 1);
-    kept_by(1, 1, 0);
-    kept_by(2, 0, 3);
-    kept_by(2, 1, 2);
-    REFUSED(LAB_NOT_THERE, lab_keepers(&bench, 2, 2, &out.jobs));
-    REFUSED(LAB_NOT_THERE, lab_keepers(&bench, 3, 0, &out.jobs));
+    kept_by(0, 0, 0, 0);
+    kept_by(0, 1, 0, 0);
+    kept_by(1, 0, 1, 0);
+    kept_by(1, 1, 0, 0);
+    kept_by(2, 0, 3, 0);
+    kept_by(2, 1, 2, 0);
+    REFUSED(LAB_NOT_THERE, lab_keepers(&bench, 2, 2, &out.keepers));
+    REFUSED(LAB_NOT_THERE, lab_keepers(&bench, 3, 0, &out.keepers));
 
     /* x holds, and so keeps the others waiting */
     until_it_holds(0);
-    for (uint32_t job = 1; job < 3; job++) {
-        TELLS(LAB_DONE, lab_keepers(&bench, job, 0, &out.jobs));
-        IS((out.jobs & 1) == 1 && (out.jobs >> job) == 0);
-    }
-    kept_by(0, 0, 0);
+    kept_by(0, 0, 0, 0);
+    kept_by(1, 0, 5, 1);
+    kept_by(2, 0, 1, 1);
+    lab_bench_free(&bench);
+}
+
+/* Who holds, who waits, and who comes next, as lab_settle tells it. */
+static void settled(void) {
+    static const char patient[] = "lab 2\njob x\nsession\ndial add 1\nend\njob y\nsession patience 1\ndial add 2\nend\nsession\ndial add 3\nend\n";
+    struct lab_told told;
+    struct lab_state state;
+    IS(lab_bench_open((const uint8_t *)three, sizeof three - 1, &bench, &told) == LAB_DONE);
+    settles(7, 1, 0, 0);
+    kept_by(1, 0, 5, 1);
+    kept_by(1, 1, 4, 0); /* (y lacks the lamp, which nobody holds: z comes first, and waits for the dial, which x holds) */
+    kept_by(2, 0, 1, 1);
+    kept_by(2, 1, 0, 0);
+    IS(lab_end(&bench, 0, &out.turned) == LAB_DONE);
+    settles(6, 4, 0, 0);
+    settles(7, 4, 0, 1);
+    kept_by(1, 1, 4, 4);
+    IS(lab_end(&bench, 2, &out.turned) == LAB_DONE);
+    settles(2, 2, 0, 0);
+    IS(lab_end(&bench, 1, &out.turned) == LAB_DONE);
+    settles(7, 0, 0, 7);
+    lab_bench_free(&bench);
+
+    /* y waits in two calls before its patience is used up; no session is begun in that call */
+    IS(lab_bench_open((const uint8_t *)patient, sizeof patient - 1, &bench, &told) == LAB_DONE);
+    IS(lab_settle(&bench, 1, &out.came) == LAB_DONE && out.came.holds == 1);
+    IS(lab_settle(&bench, 2, &out.came) == LAB_DONE && out.came.holds == 1 && out.came.given_up == 0);
+    IS(lab_settle(&bench, 2, &out.came) == LAB_DONE && out.came.holds == 1 && out.came.given_up == 0);
+    IS(lab_state(&bench, 1, &state) == LAB_DONE && state.drinking == 1 && state.waited == 1);
+    IS(lab_settle(&bench, 2, &out.came) == LAB_DONE && out.came.holds == 1 && out.came.given_up == 2 && out.came.none_left == 0);
+    IS(lab_state(&bench, 1, &state) == LAB_DONE && state.drinking == 0 && state.session == 1 && state.withdrawn == 1);
+    IS(lab_settle(&bench, 2, &out.came) == LAB_DONE && out.came.holds == 1 && out.came.given_up == 0);
+    IS(lab_state(&bench, 1, &state) == LAB_DONE && state.drinking == 1 && state.session == 2);
+    IS(lab_end(&bench, 0, &out.turned) == LAB_DONE);
+    settles(2, 2, 0, 0);
     lab_bench_free(&bench);
 }
 
@@ -358,6 +410,7 @@ int main(void) {
     a_whole_run();
     closed();
     keepers();
+    settled();
     unfinished();
     return summary();
 }

@@ -18,7 +18,8 @@ static union {
     struct lab_state state;
     struct lab_entry entry;
     struct lab_planned planned;
-    uint32_t jobs;
+    struct lab_keepers keepers;
+    struct lab_came came;
     struct {
         size_t written;
         uint8_t name[64];

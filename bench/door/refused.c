@@ -20,6 +20,8 @@ static void life(struct text script) {
     struct lab_state state;
     struct lab_session session;
     struct lab_entry entry;
+    struct lab_came came;
+    struct lab_keepers keepers;
     uint32_t status;
     size_t written;
     uint8_t word[16];
@@ -41,6 +43,8 @@ static void life(struct text script) {
                     CALL(status, lab_serve_others(&bench, job, &turned));
                     CALL(status, lab_withdraw(&bench, job));
                     CALL(status, lab_turn(&bench, job, &turned));
+                    CALL(status, lab_settle(&bench, 0xffffffffu, &came));
+                    CALL(status, lab_keepers(&bench, job, 0, &keepers));
                 }
                 CALL(status, lab_command(&bench, job, &entry));
                 CALL(status, lab_end(&bench, job, &turned));
@@ -51,6 +55,8 @@ static void life(struct text script) {
             }
         }
     }
+    if (at_call == 0)
+        for (int call = 2; call <= calls && call < MOST_CALLS; call++) expect(allocations[call] == 0, "%s: call %d asks for memory", name, call);
     memcpy(report, untouched, sizeof report);
     CALL(status, lab_bench_close(&bench, report, 0, &told));
     expect(status == LAB_NO_ROOM && memcmp(report, untouched, sizeof report) == 0, "%s: a close without room: status %u", name, status);
@@ -59,6 +65,7 @@ static void life(struct text script) {
     compare_report(told.written);
     lab_bench_free(&bench);
     end_life("a life");
+    if (at_call == 0) expect(kept == 0, "%s: a life: %ld blocks are left", name, kept);
 }
 
 /* The same of a close that is the first to be asked for the report, with room for it. */
@@ -71,6 +78,7 @@ static void closed_at_once(struct text script) {
     expect(status == LAB_UNFINISHED || status == LAB_DONE, "%s: a close at once: status %u", name, status);
     lab_bench_free(&bench);
     end_life("a close at once");
+    if (at_call == 0) expect(kept == 0, "%s: a close at once: %ld blocks are left", name, kept);
 }
 
 int main(int count, char **words) {

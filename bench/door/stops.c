@@ -27,25 +27,26 @@ static int lock(void) {
     return died;
 }
 
-/* Waits until the job holds, at most for this many milliseconds without a change. */
+/* Waits until the job holds, at most for this many milliseconds. */
 static uint32_t begin(uint32_t job, long milliseconds) {
-    struct lab_turned turned;
-    uint32_t status;
+    struct lab_came came;
+    struct timespec until;
+    clock_gettime(CLOCK_REALTIME, &until);
+    until.tv_nsec += milliseconds * 1000000;
+    until.tv_sec += until.tv_nsec / 1000000000;
+    until.tv_nsec %= 1000000000;
     lock();
-    while ((status = lab_begin(&bench, job, 100, &turned)) == LAB_NOT_YET) {
-        if (turned.what == 2) {
-            pthread_cond_broadcast(&changed);
-            continue;
-        }
-        struct timespec until;
-        clock_gettime(CLOCK_REALTIME, &until);
-        until.tv_nsec += milliseconds * 1000000;
-        until.tv_sec += until.tv_nsec / 1000000000;
-        until.tv_nsec %= 1000000000;
-        if (pthread_cond_timedwait(&changed, &mutex, &until) == ETIMEDOUT) break;
-    }
+    uint32_t status = lab_settle(&bench, 1u << job, &came);
+    while (status == LAB_DONE && !((came.holds | came.none_left) >> job & 1) && pthread_cond_timedwait(&changed, &mutex, &until) != ETIMEDOUT)
+        status = lab_settle(&bench, 1u << job, &came);
     pthread_mutex_unlock(&mutex);
-    return status;
+    return status != LAB_DONE ? status : came.holds >> job & 1 ? LAB_DONE : came.none_left >> job & 1 ? LAB_NO_SESSION : LAB_NOT_YET;
+}
+
+/* The jobs that keep the scale from the one that waits, and those of them that hold it. */
+static void is_kept(uint32_t jobs, uint32_t holding) {
+    struct lab_keepers keepers;
+    expect(lab_keepers(&bench, WAITS, 0, &keepers) == LAB_DONE && keepers.jobs == jobs && keepers.holding == holding, "who keeps the scale");
 }
 
 /* Holds, does one command of two, and is never seen again. */
@@ -86,8 +87,7 @@ static void whole(uint32_t job, uint32_t milliseconds) {
 static void retire_all(void) {
     struct lab_turned turned;
     for (uint32_t job = 0; job < 3; job++) {
-        uint32_t status = LAB_NOT_YET;
-        for (int tries = 0; tries < 20 && status == LAB_NOT_YET; tries++) status = lab_retire(&bench, job, 100, &turned);
+        uint32_t status = lab_retire(&bench, job, 1, &turned);
         expect(status == LAB_DONE, "job %u doesn't retire: status %u", job, status);
     }
 }
@@ -112,6 +112,7 @@ int main(void) {
         expect(begin(WAITS, 50) == LAB_NOT_YET, "two hold the scale");
         expect(lab_state(&bench, WAITS, &state) == LAB_DONE && state.drinking == 1, "the one that waits is thirsty");
         expect(lab_state(&bench, GONE, &state) == LAB_DONE && state.drinking == 2, "the other holds");
+        is_kept(1u << GONE, 1u << GONE);
         whole(APART, 50);
         expect(lab_state(&bench, GONE, &state) == LAB_DONE && state.position == 1, "how far the other came");
         expect(lab_end(&bench, GONE, &turned) == LAB_DONE, "the other's session is ended");

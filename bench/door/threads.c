@@ -1,9 +1,10 @@
 /* threads.c FOLDER SCRIPT ..            each script by threads that share one handle (drive.h)
    threads.c -s SECONDS FOLDER SCRIPT .. the same 32 threads again and again, for so long
 
-   Freely, a thread works without the mutex, and sleeps on a condition variable if there is nothing to do; no thread may need more than a
-   wake by another. Anyhow, any thread makes any call for any job, and the bench is closed in the midst of it. After each call no two jobs
-   hold one instrument.
+   Freely, a thread works without the mutex, and sleeps on a condition variable until lab_settle told that a job of its own holds; whoever
+   then looks without being woken finds nothing. Anyhow, any thread makes any call for any job, and the bench is closed in the midst of
+   it. After each call no two jobs hold one instrument, and after each lab_settle nothing is left to do, and who waits, waits in the end
+   for one that holds.
    cc -pthread -I include bench/door/threads.c FOLDER/liblabrun.a */
 #define _POSIX_C_SOURCE 200809L
 #include "drive.h"
@@ -11,7 +12,8 @@
 
 static struct lab_bench bench;
 static pthread_cond_t changed = PTHREAD_COND_INITIALIZER;
-static unsigned long changes; /* how many calls did something */
+static uint32_t waiting;     /* freely: the jobs whose threads wait */
+static struct lab_came came; /* what lab_settle told last */
 
 static uint32_t one_turn(uint32_t job, struct lab_turned *turned) { return lab_turn(&bench, job, turned); }
 
@@ -19,12 +21,45 @@ static uint32_t state_of(uint32_t job, struct lab_state *state) { return lab_sta
 
 /* ---- freely */
 
-/* Tells the others that a call did something. */
-static void note(struct lab_turned turned) {
-    if (turned.what == 2) {
-        changes++;
-        pthread_cond_broadcast(&changed);
+/* All jobs from which a chain of keepers leads to one that holds. */
+static uint32_t with_reason(uint32_t holds) {
+    uint32_t found = holds;
+    for (uint32_t before = 0; before != found;) {
+        before = found;
+        for (uint32_t job = 0; job < shop.size.jobs; job++)
+            for (uint32_t instrument = 0; !(found >> job & 1) && instrument < shop.size.instruments; instrument++) {
+                struct lab_keepers keepers = {0, 0};
+                lab_keepers(&bench, job, instrument, &keepers);
+                if (keepers.holding & ~keepers.jobs || keepers.holding & (keepers.holding - 1)) expect(0, "%s: keepers of job %u", shop.name, job);
+                if (keepers.jobs & found) found |= 1u << job;
+            }
     }
+    return found;
+}
+
+/* Nobody sleeps for nothing: this is so after each lab_settle. */
+static void look_at_reasons(void) {
+    uint32_t thirsty = 0, holds = 0;
+    struct lab_state state;
+    struct lab_came again = {9, 9, 9, 9};
+    for (uint32_t job = 0; job < shop.size.jobs; job++)
+        if (lab_state(&bench, job, &state) == LAB_DONE) {
+            if (state.drinking == 1) thirsty |= 1u << job;
+            if (state.drinking == 2 || state.drinking == 3) holds |= 1u << job;
+        }
+    expect((thirsty & ~with_reason(holds)) == 0, "%s: jobs %x wait, %x hold, and %x have no reason to wait", shop.name, thirsty, holds,
+           thirsty & ~with_reason(holds));
+    if (shop.has_patience) return; /* (the call counts) */
+    expect(lab_settle(&bench, 0, &again) == LAB_DONE && again.deeds == 0 && again.holds == holds && again.given_up == 0, "%s: %u deeds were left", shop.name,
+           again.deeds);
+}
+
+/* All that can be done is done, and whom that concerns is woken. */
+static void settle(struct worker *me) {
+    uint32_t status = lab_settle(&bench, waiting, &came);
+    expect(status == LAB_DONE && (waiting & came.none_left) == came.none_left, "%s: lab_settle: status %u", shop.name, status);
+    if (chance(me, 8) == 0) look_at_reasons();
+    if (waiting & (came.holds | came.none_left)) pthread_cond_broadcast(&changed);
 }
 
 /* What a job's session is; all zero if it is in none. */
@@ -52,8 +87,6 @@ static void work(struct worker *me, uint32_t job) {
         expect(status == LAB_DONE && entry.session == state.session && 1 <= entry.place && entry.place <= entry.length && entry.verb <= 2
                    && entry.value <= 999999 && (entry.verb != 0 || entry.value == entry.number) && (entry.verb != 2 || entry.number == 0),
                "%s: command %u of job %u: status %u", shop.name, command, job, status);
-        pthread_cond_broadcast(&changed);
-        changes++;
         if (chance(me, 2) == 0) {
             pthread_mutex_unlock(&shop.mutex);
             sched_yield();
@@ -63,69 +96,51 @@ static void work(struct worker *me, uint32_t job) {
     lower_counts(session.needs);
     uint32_t status = lab_end(&bench, job, &turned);
     expect(status == LAB_DONE && turned.what == 2, "%s: the end of a session of job %u: status %u", shop.name, job, status);
-    note(turned);
     atomic_fetch_add(&shop.sessions, 1);
-}
-
-/* Whether the job has to be looked after further. The mutex is held. */
-static int look_after(struct worker *me, uint32_t job, int *did) {
-    struct lab_turned turned = {9, 9};
-    uint32_t status = lab_begin(&bench, job, 1 + chance(me, 20), &turned);
-    note(turned);
-    if (turned.what) *did = 1;
-    if (status == LAB_DONE) {
-        work(me, job);
-        *did = 1;
-        return 1;
-    }
-    if (status == LAB_NOT_YET) {
-        if (shop.has_patience && chance(me, 16) == 0 && lab_withdraw(&bench, job) == LAB_DONE) {
-            changes++;
-            pthread_cond_broadcast(&changed);
-            *did = 1;
-        }
-        return 1;
-    }
-    expect(status == LAB_NO_SESSION, "%s: lab_begin of job %u: status %u", shop.name, job, status);
-    status = lab_retire(&bench, job, 5, &turned);
-    note(turned);
-    if (turned.what) *did = 1;
-    expect(status == LAB_DONE || status == LAB_NOT_YET, "%s: lab_retire of job %u: status %u", shop.name, job, status);
-    return status == LAB_NOT_YET;
 }
 
 static void *go_freely(void *given) {
     struct worker *me = given;
-    int open[MOST_JOBS] = {0}, left = 0, by_time = 0;
+    struct lab_turned turned;
+    uint32_t mine = 0;
     double last = now();
-    for (uint32_t job = me->number; job < shop.size.jobs; job += shop.threads) open[job] = 1, left++;
+    for (uint32_t job = me->number; job < shop.size.jobs; job += shop.threads) mine |= 1u << job;
     pthread_mutex_lock(&shop.mutex);
-    while (left && !shop.stop) {
-        unsigned long seen = changes;
-        int did = 0;
-        for (uint32_t job = me->number; job < shop.size.jobs; job += shop.threads)
-            if (open[job] && !look_after(me, job, &did)) open[job] = 0, left--;
-        if (did) {
-            expect(!by_time || shop.has_patience, "%s: something was left to do, and nobody was woken for it", shop.name);
-            by_time = 0;
+    waiting |= mine;
+    settle(me);
+    while (mine && !shop.stop) {
+        waiting &= ~(mine & came.none_left);
+        mine &= ~came.none_left;
+        uint32_t holding = mine & came.holds;
+        if (holding) {
+            uint32_t job = (uint32_t)__builtin_ctz(holding);
+            waiting &= ~(1u << job);
+            work(me, job);
+            waiting |= 1u << job;
+            settle(me);
             last = now();
             continue;
         }
-        by_time = 0;
-        while (left && seen == changes && !by_time && !shop.stop) {
-            struct timespec until;
-            clock_gettime(CLOCK_REALTIME, &until);
-            until.tv_nsec += shop.has_patience ? 1000000 : 500000000;
-            if (until.tv_nsec >= 1000000000) until.tv_sec++, until.tv_nsec -= 1000000000;
-            by_time = pthread_cond_timedwait(&changed, &shop.mutex, &until) == ETIMEDOUT && seen == changes;
+        if (!mine) break;
+        if (shop.has_patience && chance(me, 16) == 0 && lab_withdraw(&bench, (uint32_t)__builtin_ctz(mine)) == LAB_DONE) {
+            settle(me);
+            continue;
         }
-        if (seen != changes) {
-            last = now();
-        } else if (now() - last > PATIENCE_SECONDS) {
-            expect(0, "%s: thread %u of %u waited for %d seconds", shop.name, me->number, shop.threads, PATIENCE_SECONDS);
-            shop.stop = 1;
+        struct timespec until;
+        clock_gettime(CLOCK_REALTIME, &until);
+        until.tv_nsec += shop.has_patience ? 1000000 : 500000000;
+        if (until.tv_nsec >= 1000000000) until.tv_sec++, until.tv_nsec -= 1000000000;
+        if (pthread_cond_timedwait(&changed, &shop.mutex, &until) == ETIMEDOUT && !(mine & (came.holds | came.none_left))) {
+            settle(me);
+            expect(shop.has_patience || came.deeds == 0, "%s: something was left to do, and nobody was woken for it", shop.name);
+            if (now() - last > PATIENCE_SECONDS) {
+                expect(0, "%s: thread %u of %u waited for %d seconds", shop.name, me->number, shop.threads, PATIENCE_SECONDS);
+                shop.stop = 1;
+            }
         }
     }
+    /* (the last thread to come here finds nobody in a meal) */
+    for (uint32_t job = 0; job < shop.size.jobs; job++) lab_retire(&bench, job, 1, &turned);
     pthread_cond_broadcast(&changed);
     pthread_mutex_unlock(&shop.mutex);
     return NULL;
@@ -153,12 +168,13 @@ static void *go_anyhow(void *given) {
         struct lab_session session;
         struct lab_entry entry;
         struct lab_told told;
+        struct lab_keepers keepers;
         uint32_t status;
         size_t written;
         uint8_t name[16];
         uint32_t job = chance(me, 20) == 0 ? (uint32_t)shop.size.jobs + chance(me, 3) : chance(me, (uint32_t)shop.size.jobs);
         pthread_mutex_lock(&shop.mutex);
-        switch (chance(me, 14)) {
+        switch (chance(me, 16)) {
         case 0: status = lab_serve(&bench, job, &turned); break;
         case 1: status = lab_serve_others(&bench, job, &turned); break;
         case 2: status = lab_begin(&bench, job, chance(me, 5), &turned); break;
@@ -170,10 +186,15 @@ static void *go_anyhow(void *given) {
         case 8: status = lab_instrument_name(&bench, chance(me, 57), name, chance(me, 17), &written); break;
         case 9: status = lab_job_name(&bench, job, name, chance(me, 17), &written); break;
         case 10: status = lab_session_of(&bench, job, chance(me, 4), &session); break;
-        case 11: status = lab_bench_open((const uint8_t *)"lab 1\n", 6, &bench, &told); status = status == LAB_NOT_OPEN ? 0 : 99; break;
+        case 11: status = lab_bench_open((const uint8_t *)"lab 1\n", 6, &bench, &told); status = status == LAB_IN_USE ? 0 : 99; break;
+        case 12: status = lab_keepers(&bench, job, chance(me, 57), &keepers); break;
+        case 13:
+            status = lab_settle(&bench, chance(me, 0xffffff), &came);
+            if (chance(me, 4) == 0) look_at_reasons();
+            break;
         default: status = lab_turn(&bench, job, &turned); break;
         }
-        expect(status == LAB_DONE || status == LAB_NOT_THERE || status == LAB_NO_ROOM || status == LAB_NOT_YET || status == LAB_NO_SESSION,
+        expect(status == LAB_DONE || status == LAB_NOT_THERE || status == LAB_NO_ROOM || status == LAB_NOT_YET || status == LAB_NO_SESSION || status == LAB_SESSIONS_LEFT,
                "%s: status %u of a call made anyhow", shop.name, status);
         expect(job < shop.size.jobs || status != LAB_NOT_YET, "%s: a job that isn't there", shop.name);
         look_at_all();
@@ -193,6 +214,8 @@ static uint32_t try_open(struct text script, struct lab_told *told) {
 
 static uint32_t open_bench(struct text script, struct lab_told *told) {
     struct lab_session session;
+    waiting = 0;
+    came = (struct lab_came){0, 0, 0, 0};
     uint32_t status = lab_bench_open(script.bytes, script.length, &bench, told);
     lab_bench_size(&bench, &shop.size);
     for (uint32_t job = 0; job < shop.size.jobs; job++)

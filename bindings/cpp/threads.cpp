@@ -3,6 +3,7 @@
 #include <atomic>
 #include <iostream>
 #include <random>
+#include <sys/wait.h>
 #include <thread>
 
 using namespace std::chrono_literals;
@@ -121,6 +122,60 @@ int main(int count, char **words) {
         expect("patient", throws<labrun::timed_out>([&] { bench.desks()[1].begin(20ms); }));
         expect("withdrawn", bench.desks()[1].give_up());
         expect("ran out", throws<labrun::withdrawn>([&] { bench.desks()[1].begin(300s); }));
+    }
+    {
+        // radio holds the scope, board keeps the supply and waits for the scope, drive wants the supply, which nobody holds
+        labrun::bench bench("lab 1\njob radio\nsession\nscope read\nend\njob board\nsession\nscope read\nsupply read\nend\n"
+                            "job drive\nsession\nsupply read\nend\n");
+        std::string told;
+        auto radio = bench.desks()[0].begin();
+        expect("board waits", throws<labrun::timed_out>([&] { bench.desks()[1].begin(0ms); }));
+        try {
+            bench.desks()[2].begin(0ms);
+        } catch (const labrun::timed_out &late) {
+            told = late.what();
+        }
+        expect("who is before it", told == "still waits, supply is kept by board");
+        radio.reset();
+        expect("board", bench.desks()[1].begin(300s).has_value());
+        expect("drive", bench.desks()[2].begin(300s).has_value());
+    }
+    {
+        // a thread that waits is woken by the other's end, and by nothing else
+        labrun::bench bench(two);
+        auto held = bench.desks()[0].begin();
+        std::atomic<bool> came{false};
+        std::thread thread([&] {
+            auto session = bench.desks()[1].begin();
+            came = session.has_value();
+        });
+        std::this_thread::sleep_for(50ms);
+        expect("it waits", !came);
+        held.reset();
+        thread.join();
+        expect("it is woken", came);
+    }
+    {
+        labrun::bench bench(two);
+        auto held = bench.desks()[0].begin();
+        const pid_t parent = getpid(), child = fork();
+        if (!child) {
+            int refused = throws<labrun::other_process>([&] { held->command(); });
+            held->finish();
+            refused += throws<labrun::other_process>([&] { bench.desks()[1].begin(); });
+            refused += throws<labrun::other_process>([&] { bench.desks()[1].give_up(); });
+            try {
+                bench.close();
+            } catch (const labrun::other_process &fault) {
+                refused += fault.what() == "this bench belongs to process " + std::to_string(parent);
+            }
+            _exit(refused);
+        }
+        int status = 0;
+        waitpid(child, &status, 0);
+        expect("a child is refused", WIFEXITED(status) && WEXITSTATUS(status) == 4);
+        held.reset();
+        expect("the parent goes on", bench.desks()[1].begin(300s).has_value());
     }
     expect("run", labrun::run(two).finished && !labrun::run(two, 0).finished);
     expect("check", labrun::check(two) == "ok jobs 2 instruments 1 edges 1 sessions 3 commands 3\n");

@@ -283,78 +283,58 @@ static void read_sessions(const char *script) {
 
 /* ---- a session by the bench
 
-   A station that waits sleeps on a condition variable of its own. Whoever did something at the bench takes the turns of all that
-   wait, as any thread may act for any job, and wakes those that came to what they wait for and no others. */
+   A station that waits sleeps on a condition variable of its own. Whoever asks or lets go calls `lab_settle`, which tells who holds then, and
+   wakes those that waited for it. Nobody looks from time to time: whoever still waits, waits in the end for a station that works. */
 
-static enum { FOR_NOTHING, TO_HOLD, TO_RETIRE } waits[MOST_JOBS];
-static uint32_t came_to[MOST_JOBS]; /* the status that ends the wait */
+static uint32_t waiting; /* the stations that wait, as a set of bits; under the mutex, as the bench is */
 static pthread_cond_t came[MOST_JOBS];
 
-/* The status that ends a job's wait, or LAB_NOT_YET. */
-static uint32_t comes_to(uint32_t job) {
-    struct lab_state state;
-    lab_state(&bench, job, &state);
-    int is_out = state.drinking == 0 && state.session == state.sessions;
-    if (state.drinking == 4) return waits[job] == TO_RETIRE ? LAB_DONE : LAB_NO_SESSION;
-    if (waits[job] == TO_HOLD) return state.drinking == 2 ? LAB_DONE : is_out ? LAB_NO_SESSION : LAB_NOT_YET;
-    return LAB_NOT_YET;
+/* All that can be done is done, and those are woken whom that concerns. The mutex is held. */
+static void settle(struct lab_came *told) {
+    lab_settle(&bench, waiting, told);
+    uint32_t woken = waiting & (told->holds | told->given_up | told->none_left);
+    waiting &= ~woken;
+    for (uint32_t job = 0; woken >> job; job++)
+        if (woken >> job & 1) pthread_cond_signal(&came[job]);
 }
 
-/* A turn of each job that waits, and service of each that works, until nothing is due. (lab_begin in a loop would do the same, but
-   it serves all others after each turn; with 32 stations that is felt.) The mutex is held. */
-static void settle(void) {
-    for (int did = 1; did;) {
-        did = 0;
-        for (uint32_t job = 0; job < station_count; job++) {
-            struct lab_turned turned = {0, 0};
-            if (waits[job] == FOR_NOTHING) {
-                lab_serve(&bench, job, &turned);
-            } else if ((came_to[job] = comes_to(job)) == LAB_NOT_YET) {
-                lab_turn(&bench, job, &turned);
-                came_to[job] = comes_to(job);
-            }
-            if (turned.what) did = 1;
-            if (waits[job] != FOR_NOTHING && came_to[job] != LAB_NOT_YET) {
-                waits[job] = FOR_NOTHING;
-                pthread_cond_signal(&came[job]);
-            }
-        }
+/* Says who holds an instrument that this station waits for, or is before it. The mutex is held. */
+static void say_who_keeps(struct station *me) {
+    struct lab_keepers keepers;
+    for (uint32_t at = 0; at < instrument_count; at++) {
+        if (lab_keepers(&bench, me->job, at, &keepers) != LAB_DONE) return;
+        uint32_t those = keepers.holding ? keepers.holding : keepers.jobs;
+        for (uint32_t job = 0; those >> job; job++)
+            if (those >> job & 1)
+                printf("%s waits for %s, %s by %s\n", me->name, instruments[at].name, keepers.holding ? "held" : "kept", stations[job].name);
     }
 }
 
-/* Says which stations hold an instrument that this one waits for. The mutex is held. */
-static void say_who_holds(struct station *me) {
-    struct lab_state state;
-    struct lab_session mine, theirs;
-    if (lab_state(&bench, me->job, &state) != LAB_DONE || lab_session_of(&bench, me->job, state.session, &mine) != LAB_DONE) return;
-    for (uint32_t job = 0; job < station_count; job++) {
-        if (lab_state(&bench, job, &state) != LAB_DONE || (state.drinking != 2 && state.drinking != 3)
-            || lab_session_of(&bench, job, state.session, &theirs) != LAB_DONE)
-            continue;
-        for (uint32_t at = 0; at < instrument_count; at++)
-            if (mine.needs & theirs.needs & (uint64_t)1 << at) printf("%s waits for %s, which %s holds\n", me->name, instruments[at].name, stations[job].name);
-    }
-}
-
-/* Waits until the station holds its instruments, or is retired. No if it has no session left, or the time of a load test is up. */
-static int wait_until(struct station *me, int what) {
+/* Waits until the station holds its instruments. No if it has no session left, or the time of a load test is up. (A session that its patience
+   gave up is passed over: the next one is asked for.) */
+static int wait_to_hold(struct station *me) {
     double start = now(), told = start;
+    uint32_t bit = (uint32_t)1 << me->job;
+    struct lab_came all;
+    struct lab_state state;
     pthread_mutex_lock(&mutex);
-    waits[me->job] = what;
-    came_to[me->job] = LAB_NOT_YET;
-    settle();
-    while (came_to[me->job] == LAB_NOT_YET && (!is_load || now() < ends_at)) {
-        struct timespec until = after(is_load && ends_at - now() < TIME_OUT ? ends_at - now() + 0.001 : TIME_OUT);
-        if (pthread_cond_timedwait(&came[me->job], &mutex, &until) == ETIMEDOUT && now() - told >= TIME_OUT) {
-            told = now();
-            say_who_holds(me);
+    do {
+        waiting |= bit;
+        settle(&all);
+        while (waiting & bit && (!is_load || now() < ends_at)) {
+            struct timespec until = after(is_load && ends_at - now() < TIME_OUT ? ends_at - now() + 0.001 : TIME_OUT);
+            if (pthread_cond_timedwait(&came[me->job], &mutex, &until) == ETIMEDOUT && waiting & bit && now() - told >= TIME_OUT) {
+                told = now();
+                say_who_keeps(me);
+                settle(&all); /* (a session with patience counts this) */
+            }
         }
-    }
-    waits[me->job] = FOR_NOTHING;
-    uint32_t status = came_to[me->job];
+        lab_state(&bench, me->job, &state);
+    } while (state.drinking == 0 && state.session < state.sessions && (!is_load || now() < ends_at));
+    waiting &= ~bit;
     pthread_mutex_unlock(&mutex);
     me->waited += now() - start;
-    return status == LAB_DONE;
+    return state.drinking == 2;
 }
 
 /* The session's commands, each at the real instrument and then in the log; then it lets go. */
@@ -363,6 +343,7 @@ static void work_by_bench(struct station *me) {
     struct lab_session session;
     struct lab_entry entry;
     struct lab_turned turned;
+    struct lab_came all;
     struct lines lines[MOST_INSTRUMENTS];
     pthread_mutex_lock(&mutex);
     lab_state(&bench, me->job, &state);
@@ -398,7 +379,7 @@ static void work_by_bench(struct station *me) {
     me->worked += now() - start;
     pthread_mutex_lock(&mutex);
     if (lab_end(&bench, me->job, &turned) != LAB_DONE) me->wrong++;
-    settle();
+    if (waiting) settle(&all);
     pthread_mutex_unlock(&mutex);
     me->done++;
     if (!is_load) printf("%-8s session %u of %u: %3.0f ms at %s\n", me->name, state.session, state.sessions, (now() - start) * 1e3, held);
@@ -406,8 +387,7 @@ static void work_by_bench(struct station *me) {
 
 static void *by_bench(void *given) {
     struct station *me = given;
-    while ((!is_load || now() < ends_at) && wait_until(me, TO_HOLD)) work_by_bench(me);
-    wait_until(me, TO_RETIRE);
+    while ((!is_load || now() < ends_at) && wait_to_hold(me)) work_by_bench(me);
     return NULL;
 }
 
@@ -532,9 +512,11 @@ static void open_bench(const char *script) {
     }
 }
 
-/* Closes the bench; the last line of its report says whether all stations came to an end. */
+/* Retires the stations that have no session left, and closes the bench; the last line of its report says whether all of them are. */
 static uint32_t close_bench(int prints) {
     struct lab_told told = {0, 0, 0};
+    struct lab_turned turned;
+    for (uint32_t job = 0; job < station_count; job++) lab_retire(&bench, job, 1, &turned);
     uint8_t none[1];
     uint32_t status = lab_bench_close(&bench, none, 0, &told);
     uint8_t *report = malloc(told.written);

@@ -12,21 +12,26 @@ static const char script[] = "lab 1\n"
 static struct lab_bench bench; /* all zero, as it has to be */
 static pthread_mutex_t mutex = PTHREAD_MUTEX_INITIALIZER;
 static pthread_cond_t changed = PTHREAD_COND_INITIALIZER;
+static uint32_t waiting;     /* the jobs whose threads wait: bit k for job k. This and the next are under the mutex, as the bench is */
+static struct lab_came came; /* what lab_settle told last */
+
+/* All that can be done is done, and those who wait look whether they hold by now. */
+static void settle(void) {
+    lab_settle(&bench, waiting, &came);
+    if (waiting) pthread_cond_broadcast(&changed);
+}
 
 /* Waits until the job holds its instruments. No if it has no session left. */
 static int begin(uint32_t job) {
-    struct lab_turned turned;
-    uint32_t status;
+    uint32_t bit = (uint32_t)1 << job;
     pthread_mutex_lock(&mutex);
-    while ((status = lab_begin(&bench, job, 100, &turned)) == LAB_NOT_YET) {
-        if (turned.what == 2)
-            pthread_cond_broadcast(&changed); /* something was done: look again, and let the others look */
-        else
-            pthread_cond_wait(&changed, &mutex);
-    }
-    pthread_cond_broadcast(&changed);
+    waiting |= bit;
+    settle();
+    while (!((came.holds | came.none_left) & bit)) pthread_cond_wait(&changed, &mutex);
+    waiting &= ~bit;
+    int holds = (came.holds & bit) != 0;
     pthread_mutex_unlock(&mutex);
-    return status == LAB_DONE;
+    return holds;
 }
 
 /* Enters the session's commands in the logs, and lets go. */
@@ -34,20 +39,7 @@ static void end(uint32_t job) {
     struct lab_turned turned;
     pthread_mutex_lock(&mutex);
     lab_end(&bench, job, &turned);
-    pthread_cond_broadcast(&changed);
-    pthread_mutex_unlock(&mutex);
-}
-
-static void retire(uint32_t job) {
-    struct lab_turned turned;
-    pthread_mutex_lock(&mutex);
-    while (lab_retire(&bench, job, 100, &turned) == LAB_NOT_YET) {
-        if (turned.what == 2)
-            pthread_cond_broadcast(&changed);
-        else
-            pthread_cond_wait(&changed, &mutex);
-    }
-    pthread_cond_broadcast(&changed);
+    settle();
     pthread_mutex_unlock(&mutex);
 }
 
@@ -57,7 +49,6 @@ static void *station(void *given) {
         /* here nobody else holds the scale, and no mutex is held: talk to the real one */
         end(job);
     }
-    retire(job);
     return NULL;
 }
 
@@ -72,6 +63,8 @@ int main(void) {
         if (pthread_create(&threads[at], NULL, station, &jobs[at])) return 1;
     for (int at = 0; at < 2; at++) pthread_join(threads[at], NULL);
 
+    struct lab_turned turned;
+    for (int at = 0; at < 2; at++) lab_retire(&bench, jobs[at], 1, &turned);
     static uint8_t report[10000];
     status = lab_bench_close(&bench, report, sizeof report, &told);
     if (status == LAB_DONE || status == LAB_UNFINISHED) fwrite(report, 1, told.written, stdout);

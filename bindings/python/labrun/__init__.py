@@ -1,4 +1,4 @@
-"""Jobs that share instruments, without a lock, and proved: labrun's bench for threads.
+"""Jobs that share instruments: labrun's bench for threads, proved, behind one short mutex.
 
     with labrun.Bench.open("bay.lab") as bench:
         def station(job):
@@ -8,11 +8,11 @@
         bench.run(station)                        # a thread for each job
     print(bench.report.finished, bench.report.log("scope-1"))
 
-What is proved ends at the calls of the C library: that no two sessions hold an instrument at once, that each log is whole sessions. This
-package, which calls it, is tested."""
+What is proved ends at the calls of the C library: that no two sessions hold an instrument at once, that each log is whole sessions, and
+that nobody waits for nothing: who waits, waits in the end for somebody who holds. This package, which calls it, is tested."""
 
 from ._bench import Bench, Command, Job, JobState, Keeper, NotBack, Session
-from ._faults import Closed, LabrunError, NotHeld, Refused, Stopped, TimeoutError, TooLong, Withdrawn
+from ._faults import Closed, LabrunError, NotHeld, OtherProcess, Refused, StillHeld, Stopped, TimeoutError, TooLong, Withdrawn, WouldBlock
 from ._library import library_path
 from ._report import Counts, Entry, JobReport, Report, check, replay, run, upgrade
 
@@ -29,13 +29,16 @@ __all__ = [
     "LabrunError",
     "NotBack",
     "NotHeld",
+    "OtherProcess",
     "Refused",
     "Report",
     "Session",
+    "StillHeld",
     "Stopped",
     "TimeoutError",
     "TooLong",
     "Withdrawn",
+    "WouldBlock",
     "check",
     "library_path",
     "replay",

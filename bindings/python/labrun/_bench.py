@@ -1,9 +1,9 @@
-"""The bench for threads: jobs, sessions, and who waits for whom.
+"""The bench for threads: jobs, sessions, and who is woken.
 
 One mutex guards the handle, because the library takes one call at a time. It is held for the microseconds of the calls, never while
-somebody works. Whoever did something that may concern others (a session begun, a command, a session's end) sees to them before it
-lets the mutex go: it takes the turns of those that wait, and serves the others in their name, also those that hold and work. It wakes
-exactly those whose session came to hold its instruments. So a thread that waits sleeps until its instruments are its own."""
+somebody works. A session costs two of them if nobody waits: `lab_settle` begins it, and tells that it holds; `lab_end` ends it. If others
+wait, another `lab_settle` tells which of them hold now, and those are woken. So a thread that waits sleeps until its instruments are its
+own: after `lab_settle` whoever waits, waits in the end for somebody who holds. That is proved, so nobody looks from time to time."""
 
 from __future__ import annotations
 
@@ -14,25 +14,12 @@ import os
 import threading
 import time
 import weakref
-from dataclasses import dataclass
+from dataclasses import dataclass, field
 from types import TracebackType
 from typing import Any, Awaitable, Callable, Iterator, Optional, Union
 
-from ._faults import Closed, LabrunError, NotHeld, Stopped, TimeoutError, Withdrawn
-from ._library import (
-    ACTED,
-    NO_SUCH,
-    NOT_NOW,
-    Entered,
-    Handle,
-    Library,
-    SessionOf,
-    Size,
-    State,
-    Told,
-    Turned,
-    library,
-)
+from ._faults import Closed, LabrunError, NotHeld, OtherProcess, StillHeld, Stopped, TimeoutError, Withdrawn, WouldBlock
+from ._library import NO_SUCH, NOT_NOW, SESSIONS_LEFT, Came, Entered, Handle, Keepers, Library, Size, State, Told, Turned, library
 from ._report import Entry, Report, Text, as_bytes, told_fault, told_text
 
 VERBS = ("set", "add", "read")
@@ -41,25 +28,35 @@ VERBS = ("set", "add", "read")
 _TRANQUIL, _THIRSTY, _DRINKING, _REACHING, _RETIRED = range(5)
 _HOLDS = (_DRINKING, _REACHING)
 
-# A wake-up that got lost would be a fault of this file. If it happens nevertheless, a session waits this many seconds longer.
-_NET = 1.0
-# A session with a patience takes a turn at least so often, so that it does run out. Its patience is in turns, and no measure of time.
+# While sessions with a patience wait, one of them settles the bench after so many seconds, so that it does run out. Patience is in these,
+# and those of all who begin or let go: it is no measure of time.
 _TICK = 0.1
-# rounds of turns before the mutex is let go; what is left is done by the next call
-_ROUNDS = 1000
+
+# how a bench stands: no further session; no call at all
+_OPEN, _STOPPED, _CLOSED, _ELSEWHERE = range(4)
+
+# (a name of its own, so that a test can put gates there)
+_new_lock = threading.Lock
 
 
 @dataclass(frozen=True)
 class Keeper:
-    """Who is before a waiting session at an instrument that it needs: `job` holds it (`holds`), or, where nobody holds it, waits for it too
-    and may go first."""
+    """A job that keeps an instrument from a waiting session: it has it and needs it, too, and holds it (`holds`), or comes first and waits
+    itself. Then `behind` is why: the keeper that it waits for, whose own is the next, and the last of them holds."""
 
     instrument: str
     job: str
     holds: bool
+    behind: Optional[Keeper] = field(default=None, compare=False)
 
     def __str__(self) -> str:
-        return f"{self.instrument} is {'held by' if self.holds else 'asked for, too, by'} {self.job}"
+        if self.holds:
+            return f"{self.instrument} is held by {self.job}"
+        text, why = f"{self.instrument} is kept by {self.job}", self.behind
+        while why is not None:
+            text += f", which waits for {why.instrument}, {'held' if why.holds else 'kept'} by {why.job}"
+            why = why.behind
+        return text
 
 
 @dataclass(frozen=True)
@@ -88,22 +85,11 @@ class JobState:
 
 
 class NotBack(LabrunError, builtins.TimeoutError):
-    """The time limit of `Bench.run` passed, and the threads of these jobs aren't back."""
+    """The time limit of `Bench.run` passed, and the threads of these jobs aren't back. The text says what each of them is at."""
 
-    def __init__(self, jobs: tuple[str, ...]) -> None:
-        super().__init__("not back: " + ", ".join(jobs))
+    def __init__(self, jobs: tuple[str, ...], at: tuple[str, ...] = ()) -> None:
+        super().__init__("not back: " + ", ".join(f"{job} ({what})" if what else job for job, what in zip(jobs, at or ("",) * len(jobs))))
         self.jobs = jobs
-
-
-class _Wait:
-    """A session that somebody waits for, and how to wake them. `outcome` is True once it holds, False once it is withdrawn."""
-
-    __slots__ = ("number", "wake", "outcome")
-
-    def __init__(self, number: int, wake: Callable[[], None]) -> None:
-        self.number = number
-        self.wake = wake
-        self.outcome: Optional[bool] = None
 
 
 class Session:
@@ -111,23 +97,26 @@ class Session:
     that are left and lets go, also when the body raised. Acquired, it holds them; nobody else does meanwhile.
 
     `number` counts the job's sessions from 1, `instruments` are the names of those that it needs, in the order in which the script first
-    names them, `commands` what it does with them, `patience` is in turns, None if it has none."""
+    names them, `commands` what it does with them, `patience` is in turns, None if it has none. `state` is `new`; `waiting`, for its
+    instruments; `held`; `finished`, with its commands logged; `withdrawn`, with none; `asked`: a time limit passed, and it keeps its place in
+    the line; `left`: it was given up but may not be withdrawn; `lapsed`: it was left, its turn came while somebody waited, and so its
+    commands were logged though nobody did its work."""
+
+    __slots__ = ("job", "number", "timeout", "instruments", "commands", "patience", "state")
+    job: Job
+    number: int
+    timeout: Optional[float]
+    instruments: tuple[str, ...]
+    commands: tuple[Command, ...]
+    patience: Optional[int]
+    state: str
 
     def __init__(self, job: Job, number: int, timeout: Optional[float]) -> None:
-        bench = job.bench
-        what = SessionOf()
-        with bench._mutex:
-            bench._call("lab_session_of", job.index, number, ctypes.byref(what))
-        self.job: Job = job
-        self.number: int = number
+        self.job = job
+        self.number = number
         self.timeout = timeout
-        self.instruments: tuple[str, ...] = tuple(bench.instruments[at] for at in _members(what.needs))
-        self.commands: tuple[Command, ...] = bench._commands[job.index][number - 1]
-        self.patience: Optional[int] = what.patience if what.has_patience else None
+        self.instruments, self.commands, self.patience = job._plan[number - 1]
         self.state = "new"
-        """`new`; `waiting`, for its instruments; `held`; `finished`, with its commands logged; `withdrawn`, with none; `asked`: a time limit
-        passed, and it keeps its place in the line; `left`: it was given up but may not be withdrawn; `lapsed`: it was left, its turn came
-        while somebody waited, and so its commands were logged though nobody did its work."""
 
     def __repr__(self) -> str:
         return f"<Session {self.number} of {self.job.name}: {self.state}>"
@@ -141,28 +130,43 @@ class Session:
         """Blocks until the session holds all its instruments; at once if it does.
 
         After `timeout` seconds it raises TimeoutError, which says who keeps it waiting. The session keeps its place in the line, and may
-        come to its instruments meanwhile: acquire it again, or `give_up`. Withdrawn: its patience ran out. Any other exception that comes
-        while it waits, KeyboardInterrupt among them, gives it up."""
-        bench, job = self.job.bench, self.job
-        until = None if timeout is None else time.monotonic() + timeout
-        woken = job._woken
+        come to its instruments meanwhile: acquire it again, or `give_up`. Withdrawn: its patience ran out. WouldBlock: it would have to
+        wait, and a loop of asyncio runs on this thread. Any other exception that comes while it waits, KeyboardInterrupt among them,
+        gives it up."""
+        job = self.job
+        bench = job.bench
         try:
+            until = None if timeout is None else time.monotonic() + timeout
             with bench._mutex:
-                wait = bench._ask(self, woken.notify)
-                while wait.outcome is None:
-                    bench._may_go_on()
-                    if not woken.wait(self._span(until)):
-                        bench._look_again(job.index)
-                        self._check_time(wait, until)
-                self._came(wait)
+                if bench._ask(job, self, job._sleep.release):
+                    return
+            self._sleep(job, bench, until, timeout)
         except BaseException as fault:
             self._left_by(fault)
             raise
 
+    def _sleep(self, job: Job, bench: Bench, until: Optional[float], timeout: Optional[float]) -> None:
+        """Sleeps until the session holds, or has an end in another way."""
+        if asyncio._get_running_loop() is not None and timeout != 0:
+            with bench._mutex:
+                if not self._came(job):
+                    self._asked(job)
+                    raise WouldBlock(self)
+                return
+        while True:
+            job._sleep.acquire(True, self._span(until))
+            if job._outcome:
+                self.state = "held"
+                return
+            with bench._mutex:
+                if self._is_over(job, until):
+                    return
+
     async def acquire_async(self, timeout: Optional[float] = None) -> None:
         """As `acquire`, for a task of asyncio: other tasks go on meanwhile. A task that is cancelled while it waits leaves the session as
         KeyboardInterrupt does."""
-        bench, job = self.job.bench, self.job
+        job = self.job
+        bench = job.bench
         until = None if timeout is None else time.monotonic() + timeout
         loop, event = asyncio.get_running_loop(), asyncio.Event()
 
@@ -174,43 +178,67 @@ class Session:
 
         try:
             with bench._mutex:
-                wait = bench._ask(self, wake)
-            while wait.outcome is None:
+                if bench._ask(job, self, wake):
+                    return
+            while True:
                 # (not wait_for: before Python 3.12 it loses a cancellation that comes together with the event)
-                timer = loop.call_later(self._span(until), event.set)
+                span = self._span(until)
+                timer = None if span < 0 else loop.call_later(span, event.set)
                 try:
                     await event.wait()
                 finally:
-                    timer.cancel()
+                    if timer is not None:
+                        timer.cancel()
                 event.clear()
                 with bench._mutex:
-                    if wait.outcome is None:
-                        bench._may_go_on()
-                        bench._look_again(job.index)
-                    self._check_time(wait, until)
-            self._came(wait)
+                    if self._is_over(job, until):
+                        return
         except BaseException as fault:
             self._left_by(fault)
             raise
 
     def _span(self, until: Optional[float]) -> float:
-        span = _NET if self.patience is None else _TICK
-        return span if until is None else max(0.0, min(span, until - time.monotonic()))
+        """For how long it may sleep; -1 for without limit. Only who has a time limit or a patience looks again without being woken."""
+        if until is None:
+            return -1 if self.patience is None else _TICK
+        span = max(0.0, min(until - time.monotonic(), threading.TIMEOUT_MAX))
+        return span if self.patience is None else min(span, _TICK)
 
-    def _came(self, wait: _Wait) -> None:
-        if not wait.outcome:
-            self.state = "withdrawn"
-            raise Withdrawn(self)
-        self.state = "held"
+    def _is_over(self, job: Job, until: Optional[float]) -> bool:
+        """Whether it holds now. It raises what keeps it from waiting on."""
+        bench = job.bench
+        if bench._torn:
+            bench._mend()
+        if self._came(job):
+            return True
+        bench._may_go_on()
+        if self.patience is not None:
+            now = time.monotonic()
+            if now - bench._ticked >= _TICK / 2:
+                bench._ticked = now
+                bench._settle()
+                if self._came(job):
+                    return True
+        if until is not None and time.monotonic() >= until:
+            self._asked(job)
+            raise TimeoutError(self, bench._keepers(job))
+        return False
 
-    def _check_time(self, wait: _Wait, until: Optional[float]) -> None:
-        """Raises TimeoutError if the session still waits and its time is over."""
-        bench, job = self.job.bench, self.job
-        if wait.outcome is not None or until is None or time.monotonic() < until:
-            return
-        bench._waiting[job.index].wake = _nobody
-        self.state, job._asked = "asked", self
-        raise TimeoutError(self, bench._keepers(job.index))
+    def _came(self, job: Job) -> bool:
+        if job._outcome is None:
+            return False
+        if job._outcome:
+            self.state = "held"
+            return True
+        if self.state == "left":
+            raise NotHeld(f"session {self.number} of {job.name} was given up")
+        self.state = "withdrawn"
+        raise Withdrawn(self)
+
+    def _asked(self, job: Job) -> None:
+        """It waits no longer, and keeps its place in the line."""
+        self.state = "asked"
+        job.bench._waiting &= ~job._bit
 
     def _left_by(self, fault: BaseException) -> None:
         """Gives the session up, but for a fault that says itself what became of it."""
@@ -219,20 +247,36 @@ class Session:
 
     def release(self) -> None:
         """Logs the session's commands that are left, and lets its instruments go. NotHeld if it doesn't hold them."""
+        job = self.job
+        bench = job.bench
         try:
-            self._end()
+            with bench._mutex:
+                try:
+                    if bench._stands > _STOPPED or bench._torn:
+                        bench._look_over()
+                    if job._in != self.number:
+                        raise self._not_held()
+                    bench._torn = True
+                    if bench._lab_end(bench._at, job.index, bench._turned_at):
+                        bench._torn = False
+                        raise self._not_held()
+                    job._in = 0
+                    self.state = "finished"
+                    if bench._waiting:
+                        bench._settle()
+                    else:
+                        bench._torn = False
+                except BaseException:
+                    if bench._torn:
+                        bench._mend()
+                    raise
         except KeyboardInterrupt:
-            if self.held:
-                self._end()
+            if self.state == "held":
+                self.release()
             raise
 
-    def _end(self) -> None:
-        bench, job = self.job.bench, self.job.index
-        with bench._mutex:
-            bench._holding(self)
-            bench._call("lab_end", job, bench._turned_at)
-            self.state = "finished"
-            bench._see_to(job)
+    def _not_held(self) -> NotHeld:
+        return NotHeld(f"session {self.number} of {self.job.name} is {self.state}: it doesn't hold its instruments")
 
     def give_up(self) -> None:
         """Gives the session up, if it asked and isn't held or over. It is withdrawn if it has a patience: it logs nothing.
@@ -240,62 +284,60 @@ class Session:
         A session without patience can't leave the line. It is `left`: nobody comes for it, but its turn may come; if somebody waits then, its
         commands are logged, though nobody did its work, and it lets go (`lapsed`, and `Bench.lapsed` names it). Acquired before, it is as
         any other."""
-        bench, job = self.job.bench, self.job
-        with bench._mutex:
-            if bench._report is not None:
+        job = self.job
+        bench = job.bench
+        with bench._mutex, bench._mending:
+            if bench._stands > _STOPPED:
                 return
-            job._asked = None
-            state = bench._state_of(job.index)
-            if state.session != self.number or self.held or state.drinking not in (_THIRSTY, *_HOLDS):
+            bench._look_over()
+            if job._in != self.number or self.state == "held":
                 return
+            bench._torn = True
+            job._session = self
             if bench._call("lab_withdraw", job.index) == 0:
-                self.state = "withdrawn"
-                bench._waiting.pop(job.index, None)
-                bench._see_to(job.index)
-                return
-            self.state = "left"
-            bench._left[job.index] = self
-            if job.index in bench._waiting:
-                bench._waiting[job.index].wake = _nobody
-            bench._pass_by()
+                bench._comes_to(job, False, "withdrawn")
+            else:
+                bench._comes_to(job, False, "left")
             bench._settle()
 
     def command(self) -> Optional[Entry]:
         """Does the session's next command and gives its line of the log; None if none is left. NotHeld if it doesn't hold."""
-        bench, job, entry = self.job.bench, self.job.index, Entered()
+        job, entry = self.job, Entered()
+        bench = job.bench
         with bench._mutex:
-            bench._holding(self)
-            status = bench._call("lab_command", job, ctypes.byref(entry))
-            bench._see_to(job)
-        if status == NOT_NOW:
-            return None
+            bench._look_over()
+            if job._in != self.number:
+                raise self._not_held()
+            if bench._call("lab_command", job.index, ctypes.byref(entry)) == NOT_NOW:
+                if bench._state_of(job.index).drinking not in _HOLDS:
+                    raise self._not_held()
+                return None
         verb = VERBS[entry.verb]
         number = None if verb == "read" else entry.number
-        return Entry(self.job.name, entry.session, entry.place, entry.length, verb, number, entry.value)
+        return Entry(job.name, entry.session, entry.place, entry.length, verb, number, entry.value)
 
     def withdraw(self) -> None:
         """Gives the session up while it waits, and wakes who waits for it; only if it has a patience. NotHeld says that it may not be: it
         holds, it never asked, or it has no patience (`give_up` is for that)."""
-        bench, job = self.job.bench, self.job.index
-        with bench._mutex:
-            state = bench._state_of(job)
-            if state.session != self.number or bench._call("lab_withdraw", job) == NOT_NOW:
-                raise NotHeld(f"session {self.number} of {self.job.name} is {self.state}: it can't be withdrawn")
-            self.state, self.job._asked = "withdrawn", None
-            wait = bench._waiting.pop(job, None)
-            if wait is not None:
-                wait.outcome = False
-                wait.wake()
-            bench._see_to(job)
+        job = self.job
+        bench = job.bench
+        with bench._mutex, bench._mending:
+            bench._look_over()
+            bench._torn = job._in == self.number
+            if not bench._torn or bench._call("lab_withdraw", job.index) == NOT_NOW:
+                bench._torn = False
+                raise NotHeld(f"session {self.number} of {job.name} is {self.state}: it can't be withdrawn")
+            job._session = self
+            bench._comes_to(job, False, "withdrawn")
+            bench._settle()
 
     def waits_for(self) -> tuple[Keeper, ...]:
-        """Who keeps the session waiting now: for each instrument that it needs, who holds it, or, where nobody does, who else waits for it.
-        Empty if it doesn't wait. Any thread may ask."""
+        """Who keeps the session waiting now: for each instrument that it lacks, who holds it, or, where nobody does, who is before it in the
+        line, and why that one waits. Empty if it doesn't wait. Any thread may ask."""
         bench = self.job.bench
         with bench._mutex:
-            if bench._state_of(self.job.index).session != self.number:
-                return ()
-            return bench._keepers(self.job.index)
+            bench._look_over()
+            return bench._keepers(self.job) if self.job._in == self.number else ()
 
     def __enter__(self) -> Session:
         try:
@@ -307,34 +349,59 @@ class Session:
             raise
 
     def __exit__(self, kind: Optional[type[BaseException]], fault: Optional[BaseException], at: Optional[TracebackType]) -> None:
-        self._leave(kind is not None)
+        if kind is not None:
+            self._raised()
+        elif self.state == "held":
+            self.release()
 
     async def __aenter__(self) -> Session:
         await self.acquire_async(self.timeout)
         return self
 
     async def __aexit__(self, kind: Optional[type[BaseException]], fault: Optional[BaseException], at: Optional[TracebackType]) -> None:
-        self._leave(kind is not None)
+        self.__exit__(kind, fault, at)
 
-    def _leave(self, raised: bool) -> None:
-        """The body is over, by an exception or not."""
-        if not self.held:
+    def _raised(self) -> None:
+        """The body is over by an exception, which is told rather than that the bench is closed, or another process's."""
+        bench = self.job.bench
+        if self.state != "held" or bench._stands == _ELSEWHERE:
             return
-        if raised:
-            with self.job.bench._mutex:
-                self.job.bench._raised.append((self.job.name, self.number))
+        with bench._mutex:
+            bench._raised.append((self.job.name, self.number))
         self.release()
+
+    def _dropped(self) -> None:
+        """The loop over the sessions was left. If the bench is closed by then, or another process's, there is nobody to tell that to."""
+        try:
+            if self.state == "asked":
+                self.give_up()
+            elif self.state == "held":
+                self.release()
+        except (Closed, OtherProcess):
+            pass
 
 
 class Job:
     """A job of the script. One thread, or task, acts for it at a time; which one doesn't matter."""
 
-    def __init__(self, bench: Bench, index: int, name: str) -> None:
+    def __init__(self, bench: Bench, index: int, name: str, plan: list[_Planned]) -> None:
         self.bench: Bench = bench
         self.index: int = index
         self.name: str = name
-        self._asked: Optional[Session] = None
-        self._woken: threading.Condition = threading.Condition(bench._mutex)
+        self._bit: int = 1 << index
+        # its sessions: the instruments, the commands, and the patience of each
+        self._plan: list[_Planned] = plan
+        # the session that it is in, which waits or holds; 0 if it is in none; and the one that it is in or was in last
+        self._in: int = 0
+        self._last: int = 0
+        self._is_retired: bool = False
+        # who asked last; what came of that: None as long as it waits, then whether it holds; and what wakes who waits
+        self._session: Optional[Session] = None
+        self._outcome: Optional[bool] = None
+        self._wake: Optional[Callable[[], None]] = None
+        # it is locked but for the moment between a wake-up and the thread that is woken
+        self._sleep: threading.Lock = _new_lock()
+        self._sleep.acquire()
 
     def __repr__(self) -> str:
         return f"<Job {self.name}>"
@@ -343,6 +410,7 @@ class Job:
     def state(self) -> JobState:
         """How far the job is now."""
         with self.bench._mutex:
+            self.bench._look_over()
             it = self.bench._state_of(self.index)
             return JobState(
                 it.session,
@@ -360,12 +428,22 @@ class Job:
     def next_session(self, timeout: Optional[float] = None) -> Optional[Session]:
         """The session that comes next, not yet acquired; the same one again if it isn't over. None if none is left. `timeout` is the limit
         of `with session:`."""
-        with self.bench._mutex:
-            self.bench._may_go_on()
-            state = self.bench._state_of(self.index)
-            number = state.session if state.drinking in (_THIRSTY, *_HOLDS) else state.session + 1
-            if state.drinking == _RETIRED or number > state.sessions:
-                self.bench._retire(self.index)
+        bench = self.bench
+        if bench._stands or bench._torn:
+            with bench._mutex:
+                bench._look_over()
+                bench._may_go_on()
+        number = self._in
+        if number:
+            session = self._session
+            if session is not None and session.number == number:
+                session.timeout = timeout
+                return session
+        else:
+            number = self._last + 1
+            if number > len(self._plan):
+                with bench._mutex:
+                    bench._retire(self)
                 return None
         return Session(self, number, timeout)
 
@@ -379,19 +457,18 @@ class Job:
                 return
             try:
                 yield session
-            except GeneratorExit:
-                if session.state == "asked":
-                    session.give_up()
+            except BaseException:
+                session._dropped()
                 raise
-            finally:
-                if session.held:
-                    session.release()
+            if session.state == "held":
+                session.release()
 
 
 class Bench:
     """The bench of a script: `jobs` in its order, `instruments` by their names in the order in which they are first named.
 
-    As a context manager it is closed at the end, and `report` is there then. Join your threads before: who comes later gets Closed."""
+    As a context manager it is closed at the end, and `report` is there then. Join your threads before: who comes later gets Closed. It
+    belongs to the process that opened it: in a child of a fork each call raises OtherProcess."""
 
     def __init__(self, script: Text) -> None:
         calls: Library = library()
@@ -400,36 +477,33 @@ class Bench:
         if status:
             raise told_fault(status, told)
         self._finalizer = weakref.finalize(self, _freed, calls, handle)
+        self._process = os.getpid()
         self._calls = calls
-        self._handle = ctypes.pointer(handle)
-        self._mutex = threading.Lock()
-        self._turned = Turned()
-        self._turned_at = ctypes.pointer(self._turned)
-        self._state = State()
-        self._state_at = ctypes.pointer(self._state)
-        self._turn, self._serve, self._look_at = calls["lab_turn"], calls["lab_serve"], calls["lab_state"]
+        self._at = ctypes.byref(handle)
+        self._mutex = _new_lock()
+        self._mending = _Mending(self)
+        self._turned, self._came, self._state = Turned(), Came(), State()
+        self._turned_at, self._came_at, self._state_at = ctypes.byref(self._turned), ctypes.byref(self._came), ctypes.byref(self._state)
+        self._lab_settle, self._lab_end = calls.quick("lab_settle"), calls.quick("lab_end")
         self._report: Optional[Report] = None
-        self._stopped = False
-        # the sessions that somebody waits for, by job
-        self._waiting: dict[int, _Wait] = {}
-        # the jobs to be seen to, as a set of bits: something at one of their edges may have changed since their last turn
-        self._due = 0
-        # the sessions that were given up and can't be withdrawn, by job, and those of them that lapsed
-        self._left: dict[int, Session] = {}
+        self._stands = _OPEN
+        # the jobs whose owners wait, and those whose sessions were given up and can't be withdrawn, as sets of bits
+        self._waiting = 0
+        self._left = 0
+        self._ticked = 0.0
         self._lapsed: list[tuple[str, int]] = []
         # the sessions whose body raised while they held
         self._raised: list[tuple[str, int]] = []
-        # whether a round of turns was cut short by an exception: then nobody knows who came to hold
+        # from a call that changes something until what it told is noted: an exception there leaves it, and then all is looked at anew
         self._torn = False
         size = Size()
         self._call("lab_bench_size", ctypes.byref(size))
         self.instruments: tuple[str, ...] = tuple(self._name("lab_instrument_name", at) for at in range(size.instruments))
-        self.jobs: tuple[Job, ...] = tuple(Job(self, at, self._name("lab_job_name", at)) for at in range(size.jobs))
-        self._all = (1 << size.jobs) - 1
-        self._commands = _commands(given)
-        uses = [self._uses(at) for at in range(size.jobs)]
-        # each job with its neighbours and itself: those that share an instrument
-        self._near = [sum(1 << to for to, theirs in enumerate(uses) if theirs & mine) | 1 << at for at, mine in enumerate(uses)]
+        self._number = {name: at for at, name in enumerate(self.instruments)}
+        plans = _plans(given, self.instruments)
+        self._has_patience = any(patience is not None for plan in plans for _, _, patience in plan)
+        self.jobs: tuple[Job, ...] = tuple(Job(self, at, self._name("lab_job_name", at), plans[at]) for at in range(size.jobs))
+        _benches.add(self)
 
     @classmethod
     def open(cls, path: Union[str, os.PathLike[str]]) -> Bench:
@@ -473,10 +547,13 @@ class Bench:
         """Calls `station(job)` on a thread for each job, and returns when all are back.
 
         If stations raise, the others still go on to their end, and then the first of these exceptions is raised, with the others as notes.
+        A station that is over while a session that it acquired still holds stops the bench, and StillHeld names that session.
         KeyboardInterrupt stops the bench: sessions that are held go on to their end, those that wait are given up, and once the threads
         are back it is raised. After `timeout` seconds NotBack names the jobs whose threads aren't back, and the bench is
         stopped. The threads are daemons: one that never comes back doesn't keep the program from ending."""
-        failures: list[tuple[Job, BaseException]] = []
+        with self._mutex:
+            self._look_over()
+        ends = _Ends(self)
         # (not Thread.join: before Python 3.13 a join that is interrupted may take a thread for ended that isn't)
         back = [threading.Event() for _ in self.jobs]
         # stations begin once all threads are there: so an interrupt before leaves none behind that has begun
@@ -490,9 +567,9 @@ class Bench:
             except Stopped:
                 pass
             except BaseException as fault:
-                failures.append((job, fault))
+                ends.failures.append((job, fault))
             finally:
-                _gone(job)
+                ends.gone(job)
                 back[job.index].set()
 
         until = None if timeout is None else time.monotonic() + timeout
@@ -512,15 +589,18 @@ class Bench:
             for event in begun:
                 event.wait(None if until is None else max(0.0, until - time.monotonic()))
             raise
-        late = tuple(job.name for job, event in zip(self.jobs, back) if not event.is_set())
+        late = tuple(job for job, event in zip(self.jobs, back) if not event.is_set())
         if late:
+            at = self._what_they_are_at(late)
             self.stop()
-            raise NotBack(late)
-        if failures:
-            raise _first(failures)
+            raise NotBack(tuple(job.name for job in late), at)
+        ends.tell()
 
     async def run_async(self, station: Callable[[Job], Awaitable[object]]) -> None:
         """As `run`, with a task of asyncio for each job: `async with session:` in place of `with session:`."""
+        with self._mutex:
+            self._look_over()
+        ends = _Ends(self)
 
         async def work(job: Job) -> None:
             try:
@@ -528,45 +608,53 @@ class Bench:
             except Stopped:
                 pass
             finally:
-                _gone(job)
+                ends.gone(job)
 
-        ends = await asyncio.gather(*(work(job) for job in self.jobs), return_exceptions=True)
-        failures = [(job, end) for job, end in zip(self.jobs, ends) if isinstance(end, BaseException)]
-        if failures:
-            raise _first(failures)
+        given = await asyncio.gather(*(work(job) for job in self.jobs), return_exceptions=True)
+        ends.failures += [(job, end) for job, end in zip(self.jobs, given) if isinstance(end, BaseException)]
+        ends.tell()
 
     def stop(self) -> None:
         """No further session is begun: who waits for one, or asks for one, gets Stopped. Sessions that are held go on."""
-        with self._mutex:
-            self._stopped = True
-            for job, wait in self._waiting.items():
-                wait.wake()
+        with self._mutex, self._mending:
+            if self._stands == _CLOSED:
+                return
+            self._look_over()
+            self._stands = _STOPPED
+            self._torn = True
+            for job in self._members(self._waiting):
+                self._rouse(job)
+            self._torn = False
 
     def close(self) -> Report:
         """Closes the bench, and gives its report. A session that is held then stays unfinished in it. A second call gives it again."""
         with self._mutex:
+            if self._stands != _CLOSED:
+                self._look_over()
+                # (one may be in a meal, which lasts until another has left its own)
+                while any([self._retire(job) for job in self.jobs]):
+                    pass
+                self._stands = _CLOSED
             if self._report is None:
-                self._retire_all()
-                close = self._calls["lab_bench_close"]
-                self._report = Report.from_text(told_text(close, self._handle))
+                self._report = Report.from_text(told_text(self._calls["lab_bench_close"], self._at))
                 self._finalizer()
-                for wait in self._waiting.values():
-                    wait.wake()
+            for job in self._members(self._waiting):
+                self._rouse(job)
             return self._report
 
     def __enter__(self) -> Bench:
         return self
 
     def __exit__(self, kind: Optional[type[BaseException]], fault: Optional[BaseException], at: Optional[TracebackType]) -> None:
-        self.close()
+        # (a child of a fork that leaves by its own copy of the block has nothing to close)
+        if self._stands != _ELSEWHERE:
+            self.close()
 
     # what follows is called with the mutex held
 
     def _call(self, name: str, *given: Any) -> int:
         """A call that answers 0 or 8; another status is an exception."""
-        if self._report is not None:
-            raise Closed("the bench is closed")
-        status = self._calls[name](self._handle, *given)
+        status = self._calls[name](self._at, *given)
         if status in (0, NOT_NOW):
             return status
         if status == NO_SUCH:
@@ -578,170 +666,275 @@ class Bench:
         self._call(call, index, name, 16, ctypes.byref(written))
         return name.raw[: written.value].decode("ascii")
 
-    def _uses(self, job: int) -> int:
-        """All instruments of all sessions of a job, as a set."""
-        what, uses = SessionOf(), 0
-        for number in range(1, self._state_of(job).sessions + 1):
-            self._call("lab_session_of", job, number, ctypes.byref(what))
-            uses |= what.needs
-        return uses
-
     def _state_of(self, job: int) -> State:
         self._call("lab_state", job, self._state_at)
         return self._state
 
-    def _may_go_on(self) -> None:
-        if self._report is not None:
+    def _members(self, jobs: int) -> list[Job]:
+        return [self.jobs[at] for at in _members(jobs)]
+
+    def _look_over(self) -> None:
+        """The bench may be called, and all that its calls told is noted."""
+        if self._stands == _ELSEWHERE:
+            raise OtherProcess(self._process)
+        if self._stands == _CLOSED:
             raise Closed("the bench is closed")
-        if self._stopped:
+        if self._torn:
+            self._mend()
+
+    def _may_go_on(self) -> None:
+        """A further session may be begun."""
+        if self._stands:
+            self._look_over()
             raise Stopped("the bench is stopped")
 
-    def _holding(self, session: Session) -> None:
-        state = self._state_of(session.job.index)
-        if state.session != session.number or state.drinking not in _HOLDS:
-            raise NotHeld(f"session {session.number} of {session.job.name} is {session.state}: it doesn't hold its instruments")
+    def _ask(self, job: Job, session: Session, wake: Callable[[], None]) -> bool:
+        """Begins a session, unless it is in the line already. Whether it holds; if not, it waits, and `wake` will be called."""
+        if self._stands or self._torn or job._in or session.number != job._last + 1:
+            if self._is_there_already(job, session):
+                return True
+        else:
+            job._in = job._last = session.number
+        job._session = session
+        self._torn = True
+        if self._lab_settle(self._at, self._waiting | job._bit, self._came_at):
+            raise LabrunError("lab_settle: a status that it doesn't have")
+        holds = self._came.holds
+        if holds & job._bit and not (holds & (self._waiting | self._left) or self._has_patience and self._came.given_up):
+            session.state = "held"
+            self._torn = False
+            return True
+        # it waits, or others are to be told something as well
+        job._outcome, job._wake = None, None
+        job._sleep.acquire(False)
+        session.state = "waiting"
+        self._waiting |= job._bit
+        self._tell()
+        job._wake = wake
+        return session._came(job)
 
-    def _ask(self, session: Session, wake: Callable[[], None]) -> _Wait:
-        """Begins to wait for a session, unless it holds already."""
-        job, number = session.job.index, session.number
-        wait = _Wait(number, wake)
-        state = self._state_of(job)
-        if state.drinking in _HOLDS and state.session == number:
-            self._left.pop(job, None)
-            session.job._asked = None
-            wait.outcome = True
-            return wait
+    def _is_there_already(self, job: Job, session: Session) -> bool:
+        """Whether a session that isn't plainly the next one holds. If not, it may be asked for, or this raises."""
+        self._look_over()
+        number = session.number
+        if job._in == number:
+            if job._session is not None and job._session.state == "held" or self._state_of(job.index).drinking in _HOLDS:
+                self._left &= ~job._bit
+                job._session, session.state = session, "held"
+                return True
+            self._may_go_on()
+            if self._waiting & job._bit:
+                raise LabrunError(f"another thread waits for a session of {job.name}")
+            self._left &= ~job._bit
+            return False
         self._may_go_on()
-        if job in self._waiting and self._waiting[job].wake is not _nobody:
-            raise LabrunError(f"another thread waits for a session of {session.job.name}")
-        if state.drinking in _HOLDS or state.session < number - 1:
-            raise LabrunError(f"session {state.session} of {session.job.name} comes before its session {number}")
-        if state.session > number or (state.session == number and state.drinking != _THIRSTY):
+        if number <= job._last:
             if session.state == "withdrawn":
                 raise Withdrawn(session)
-            raise NotHeld(f"session {number} of {session.job.name} is over")
-        self._left.pop(job, None)
-        session.state, session.job._asked = "waiting", None
-        self._waiting[job] = wait
-        self._pass_by()
-        self._look_again(job)
-        return wait
-
-    def _pass_by(self) -> None:
-        """If somebody waits, those that were left and hold let go."""
-        if not any(wait.wake is not _nobody for wait in self._waiting.values()):
-            return
-        for job, session in list(self._left.items()):
-            if self._state_of(job).drinking in _HOLDS:
-                self._call("lab_end", job, self._turned_at)
-                del self._left[job]
-                session.state = "lapsed"
-                self._lapsed.append((session.job.name, session.number))
-                self._due |= self._near[job]
-
-    def _look_again(self, job: int) -> None:
-        self._due |= 1 << job
-        self._settle()
-
-    def _see_to(self, job: int) -> None:
-        """This job did something: it and its neighbours have something to look at."""
-        self._due |= self._near[job]
-        self._settle()
+            raise NotHeld(f"session {number} of {job.name} is over")
+        if job._in or number != job._last + 1:
+            raise LabrunError(f"session {job._in or job._last + 1} of {job.name} comes before its session {number}")
+        job._in = job._last = number
+        return False
 
     def _settle(self) -> None:
-        """Takes turns of those that wait, and serves the others, until nobody has anything to do. A job that found nothing to do has
-        nothing until it, or a neighbour of it, does something: so only those are asked again."""
-        if self._torn:
-            for job in list(self._waiting):
-                self._look(job)
-            self._due = self._all
+        """All that can be done is done, and those are woken whose sessions came to hold by it."""
         self._torn = True
-        handle, turned, turned_at, waiting = self._handle, self._turned, self._turned_at, self._waiting
-        for _ in range(_ROUNDS):
-            due, self._due = self._due, 0
-            if not due:
+        if self._lab_settle(self._at, self._waiting, self._came_at):
+            raise LabrunError("lab_settle: a status that it doesn't have")
+        self._tell()
+
+    def _tell(self) -> None:
+        """Notes what the last `lab_settle` told, and wakes whom that concerns. Sessions that were left and hold end, if somebody waits."""
+        while True:
+            holds = self._came.holds
+            if self._has_patience:
+                for job in self._members(self._came.given_up):
+                    self._comes_to(job, False, "withdrawn")
+            for job in self._members(holds & self._waiting):
+                self._comes_to(job, True)
+            if not (holds & self._left and self._waiting):
                 break
-            while due:
-                bit = due & -due
-                due ^= bit
-                job = bit.bit_length() - 1
-                is_waiting = job in waiting
-                # a turn would do a command of a session that holds: only those that wait take one
-                status = (self._turn if is_waiting else self._serve)(handle, job, turned_at)
-                if status:
-                    raise LabrunError(f"lab_turn: status {status}")
-                if turned.what:
-                    self._due |= self._near[job]
-                    if is_waiting:
-                        self._look(job)
+            for job in self._members(holds & self._left):
+                self._call("lab_end", job.index, self._turned_at)
+                self._comes_to(job, False, "lapsed")
+            if self._lab_settle(self._at, self._waiting, self._came_at):
+                raise LabrunError("lab_settle: a status that it doesn't have")
         self._torn = False
 
-    def _look(self, job: int) -> None:
-        """Wakes who waits for a session of this job, if it came to hold or was given up."""
-        wait, state = self._waiting[job], self._state_of(job)
-        if state.drinking in _HOLDS:
-            wait.outcome = True
-        elif state.session >= wait.number and state.drinking != _THIRSTY:
-            wait.outcome = False
-        else:
-            return
-        del self._waiting[job]
-        wait.wake()
-        if job in self._left:
-            self._pass_by()
+    def _comes_to(self, job: Job, holds: bool, how: str = "") -> None:
+        """A session that somebody may wait for holds, or has the end that `how` says. Whoever waits for it is woken."""
+        job._outcome = holds
+        self._waiting &= ~job._bit
+        if how == "left":
+            self._left |= job._bit
+        elif how:
+            if how == "lapsed":
+                self._lapsed.append((job.name, job._in))
+            self._left &= ~job._bit
+            job._in = 0
+        if how and job._session is not None:
+            job._session.state = how
+        self._rouse(job)
 
-    def _needs(self, job: int) -> tuple[int, bool]:
-        """The instruments that a job holds or waits for, as a set, and whether it holds them."""
-        state, what = self._state_of(job), SessionOf()
-        if state.drinking not in (_THIRSTY, *_HOLDS):
-            return 0, False
-        is_held = state.drinking in _HOLDS
-        self._call("lab_session_of", job, state.session, ctypes.byref(what))
-        return what.needs, is_held
+    def _rouse(self, job: Job) -> None:
+        """Wakes who waits for a session of this job, if anybody does. (Whoever is woken for nothing sleeps again.)"""
+        if job._wake is not None:
+            try:
+                job._wake()
+            except RuntimeError:  # it is awake already
+                pass
 
-    def _keepers(self, job: int) -> tuple[Keeper, ...]:
-        """Who is before this job, by instrument: who holds it, and where nobody does, who else waits for it."""
-        mine, is_held = self._needs(job)
-        if is_held:
-            return ()
-        others = [(other.name, *self._needs(other.index)) for other in self.jobs if other.index != job]
+    def _mend(self) -> None:
+        """An exception came between a call and the note of what it told: so the library is asked how each job is."""
+        self._torn = True
+        for job in self.jobs:
+            state, session = self._state_of(job.index), job._session
+            holds = state.drinking in _HOLDS
+            job._last, job._in = state.session, state.session if holds or state.drinking == _THIRSTY else 0
+            job._is_retired = state.drinking == _RETIRED
+            if session is None:
+                continue
+            is_over = job._in != session.number and job._last >= session.number
+            if session.state == "waiting":
+                if job._outcome is None and (is_over or holds):
+                    job._outcome = holds
+                if job._outcome is not None:
+                    self._waiting &= ~job._bit
+            elif is_over and session.state in ("held", "asked", "left"):
+                if session.state == "left" and (job.name, session.number) not in self._lapsed:
+                    self._lapsed.append((job.name, session.number))
+                session.state = {"held": "finished", "asked": "withdrawn", "left": "lapsed"}[session.state]
+                self._left &= ~job._bit
+            self._rouse(job)
+        self._settle()
+
+    def _keepers(self, job: Job) -> tuple[Keeper, ...]:
+        """Who keeps an instrument from this job: who holds it, and where nobody does, who is before it."""
         found = []
-        for instrument in _members(mine):
-            wanting = [(name, holds) for name, needs, holds in others if needs >> instrument & 1]
-            holding = [it for it in wanting if it[1]]
-            found += [Keeper(self.instruments[instrument], name, holds) for name, holds in holding or wanting]
+        for instrument, keepers in self._kept(job):
+            for other in self._members(keepers.holding or keepers.jobs):
+                behind = None if keepers.holding else self._behind(other, keepers.jobs | job._bit)
+                found.append(Keeper(instrument, other.name, bool(keepers.holding), behind))
         return tuple(found)
 
-    def _retire(self, job: int) -> bool:
-        """Retires a job that has no session left, if it is in no meal; whether something was done."""
-        state = self._state_of(job)
-        if state.drinking != _TRANQUIL or state.session < state.sessions:
+    def _behind(self, job: Job, seen: int) -> Optional[Keeper]:
+        """The keeper that this job waits for, with those behind it: one chain of perhaps several, to a holder."""
+        seen |= job._bit
+        for instrument, keepers in self._kept(job):
+            if keepers.holding:
+                return Keeper(instrument, self._members(keepers.holding)[0].name, True)
+        for instrument, keepers in self._kept(job):
+            for other in self._members(keepers.jobs & ~seen):
+                return Keeper(instrument, other.name, False, self._behind(other, seen))
+        return None
+
+    def _kept(self, job: Job) -> Iterator[tuple[str, Keepers]]:
+        """The instruments that a job lacks, each with those that keep it."""
+        for instrument in job._plan[job._in - 1][0] if job._in else ():
+            keepers = Keepers()
+            self._call("lab_keepers", job.index, self._number[instrument], ctypes.byref(keepers))
+            if keepers.jobs:
+                yield instrument, keepers
+
+    def _what_they_are_at(self, jobs: tuple[Job, ...]) -> tuple[str, ...]:
+        with self._mutex:
+            if self._stands > _STOPPED:
+                return ()
+            self._look_over()
+            return tuple(self._what_it_is_at(job) for job in jobs)
+
+    def _what_it_is_at(self, job: Job) -> str:
+        if not job._in:
+            return ""
+        if self._state_of(job.index).drinking in _HOLDS:
+            return "holds " + ", ".join(job._plan[job._in - 1][0])
+        return "waits: " + ", ".join(str(keeper) for keeper in self._keepers(job))
+
+    def _retire(self, job: Job) -> bool:
+        """Retires a job that has no session left, if it is in no meal; whether it did."""
+        if self._stands > _STOPPED or job._is_retired or job._in or job._last < len(job._plan):
             return False
-        self._call("lab_retire", job, 64, self._turned_at)
-        if self._turned.what != ACTED:
-            return False
-        self._see_to(job)
-        return True
-
-    def _retire_all(self) -> None:
-        for _ in range(_ROUNDS):
-            if not any([self._retire(job.index) for job in self.jobs]):
-                return
+        status = self._calls["lab_retire"](self._at, job.index, 1, self._turned_at)
+        if status not in (0, NOT_NOW, SESSIONS_LEFT):
+            raise LabrunError(f"lab_retire: status {status}")
+        job._is_retired = status == 0
+        return job._is_retired
 
 
-def _commands(script: bytes) -> list[list[tuple[Command, ...]]]:
-    """The commands of each job's sessions, of a script that the library took: so each line is one of a script."""
-    jobs: list[list[tuple[Command, ...]]] = []
+class _Mending:
+    """What a call told is noted, whatever exception comes between. (The mutex is not taken here: what it guards is entered by its own `with`,
+    in which no interrupt comes between.)"""
+
+    def __init__(self, bench: Bench) -> None:
+        self.bench = weakref.proxy(bench)
+
+    def __enter__(self) -> None:
+        pass
+
+    def __exit__(self, kind: Optional[type[BaseException]], fault: Optional[BaseException], at: Optional[TracebackType]) -> None:
+        if kind is not None and self.bench._torn:
+            self.bench._mend()
+
+
+class _Ends:
+    """How the stations of a run came to their ends."""
+
+    def __init__(self, bench: Bench) -> None:
+        self.bench = bench
+        self.failures: list[tuple[Job, BaseException]] = []
+        self.held: list[Session] = []
+
+    def gone(self, job: Job) -> None:
+        """The owner of a job is gone: what it asked for is given up. What it holds stays its own, and nobody waits for that for ever."""
+        session = job._session
+        if session is None or session.number != job._in or self.bench._stands > _STOPPED:
+            return
+        if session.state == "asked":
+            session.give_up()
+        elif session.state == "held":
+            self.held.append(session)
+            self.bench.stop()
+
+    def tell(self) -> None:
+        """Raises the first of what went wrong, with the others as notes."""
+        faults = [(job.name, fault) for job, fault in self.failures]
+        # (one may have let go since)
+        held = tuple(session for session in self.held if session.state == "held")
+        if held:
+            faults.append((held[0].job.name, StillHeld(held)))
+        if not faults:
+            return
+        _, first = faults[0]
+        for name, fault in faults[1:]:
+            if hasattr(first, "add_note"):
+                first.add_note(f"also {name}: {fault!r}")
+        raise first
+
+
+# what is known of a session before it begins: its instruments, commands and patience
+_Planned = tuple[tuple[str, ...], tuple[Command, ...], Optional[int]]
+
+
+def _plans(script: bytes, instruments: tuple[str, ...]) -> list[list[_Planned]]:
+    """The sessions of each job, of a script that the library took: so each line is one of a script."""
+    jobs: list[list[_Planned]] = []
     commands: list[Command] = []
+    patience: Optional[int] = None
+    numbers = {name: at for at, name in enumerate(instruments)}
+    sets: dict[frozenset[str], tuple[str, ...]] = {}
     for line in script.split(b"\n"):
         words = line[: -1 if line.endswith(b"\r") else None].replace(b"\t", b" ").split(b" ")
         first, *more = [word.decode("ascii", "replace") for word in words if word] or ["#"]
         if first == "job":
             jobs.append([])
         elif first == "end":
-            jobs[-1].append(tuple(commands))
+            names = frozenset(command.instrument for command in commands)
+            if names not in sets:
+                sets[names] = tuple(sorted(names, key=numbers.__getitem__))
+            jobs[-1].append((sets[names], tuple(commands), patience))
         elif first == "session":
-            commands = []
+            commands, patience = [], int(more[1]) if more else None
         elif first != "lab" and not first.startswith("#"):
             commands.append(Command(first, more[0], int(more[1]) if len(more) > 1 else None))
     return jobs
@@ -749,27 +942,29 @@ def _commands(script: bytes) -> list[list[tuple[Command, ...]]]:
 
 def _members(numbers: int) -> list[int]:
     """The members of a set of bits, lowest first."""
-    return [at for at in range(numbers.bit_length()) if numbers >> at & 1]
-
-
-def _nobody() -> None:
-    """Wakes nobody: a session that keeps its place in the line, and whose owner doesn't wait."""
-
-
-def _gone(job: Job) -> None:
-    """The owner of a job is gone: what it asked for is given up."""
-    if job._asked is not None:
-        job._asked.give_up()
+    found = []
+    while numbers:
+        bit = numbers & -numbers
+        numbers ^= bit
+        found.append(bit.bit_length() - 1)
+    return found
 
 
 def _freed(calls: Library, handle: Handle) -> None:
     calls["lab_bench_free"](ctypes.byref(handle))
 
 
-def _first(failures: list[tuple[Job, BaseException]]) -> BaseException:
-    """The first of some exceptions, with the others as notes."""
-    _, first = failures[0]
-    for job, fault in failures[1:]:
-        if hasattr(first, "add_note"):
-            first.add_note(f"also {job.name}: {fault!r}")
-    return first
+# the benches of this process
+_benches: weakref.WeakSet[Bench] = weakref.WeakSet()
+
+
+def _after_fork() -> None:
+    """In the child: its copies of benches are none of its own. A thread that held a mutex may not be here to let it go."""
+    for bench in list(_benches):
+        bench._finalizer.detach()
+        bench._mutex = _new_lock()
+        if bench._stands != _CLOSED:
+            bench._stands = _ELSEWHERE
+
+
+os.register_at_fork(after_in_child=_after_fork)

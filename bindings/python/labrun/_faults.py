@@ -51,7 +51,7 @@ class TimeoutError(LabrunError, builtins.TimeoutError):  # noqa: A001 (a kind of
     kept it waiting."""
 
     def __init__(self, session: Session, keepers: tuple[Keeper, ...]) -> None:
-        by = ", ".join(str(keeper) for keeper in keepers) or "nobody: look again"
+        by = ", ".join(str(keeper) for keeper in keepers) or "it holds by now, or is over"
         super().__init__(f"session {session.number} of {session.job.name} still waits: {by}")
         self.session = session
         self.keepers = keepers
@@ -67,6 +67,35 @@ class Withdrawn(LabrunError):
 
 class NotHeld(LabrunError):
     """What was asked for needs the session to hold its instruments, and it doesn't."""
+
+
+class WouldBlock(LabrunError, RuntimeError):
+    """`with session:` on a thread whose asyncio loop runs, where it would have to wait and keep every task from going on: use
+    `async with`. The session keeps its place in the line: acquire it again, or `give_up`."""
+
+    def __init__(self, session: Session) -> None:
+        super().__init__(f"session {session.number} of {session.job.name} has to wait, and a loop runs on this thread: use `async with`")
+        self.session = session
+
+
+class StillHeld(LabrunError):
+    """A station of `Bench.run` came to its end while a session of its job, that it acquired, still holds its instruments. The bench is
+    stopped then, because nobody can tell whether somebody still works there. `sessions` are those sessions."""
+
+    def __init__(self, sessions: tuple[Session, ...]) -> None:
+        super().__init__("; ".join(f"the station of {it.job.name} is over, and session {it.number} still holds {', '.join(it.instruments)}" for it in sessions))
+        self.sessions = sessions
+
+
+class OtherProcess(LabrunError):
+    """This is the child of a fork, and what it has is a copy of its parent's bench: what it would hold, the parent may hold, too."""
+
+    def __init__(self, process: int) -> None:
+        super().__init__(f"this bench belongs to process {process}")
+        self.process = process
+
+    def __reduce__(self) -> tuple[type[OtherProcess], tuple[int]]:
+        return OtherProcess, (self.process,)
 
 
 class Closed(LabrunError):

@@ -5,8 +5,9 @@ from __future__ import annotations
 
 import ctypes
 import os
+import re
 import sys
-from typing import Any, Callable
+from typing import Any, Callable, Iterable
 
 from tests.test_runs import TOP
 
@@ -23,8 +24,12 @@ def at(pointer: Any) -> Any:
     return pointer._obj if hasattr(pointer, "_obj") else pointer.contents
 
 
+def bits(jobs: Iterable[Any]) -> int:
+    return sum(1 << one.number for one in jobs)
+
+
 class Simulated:
-    """In place of `labrun._library.Library`. It counts the calls that take turns or serve."""
+    """In place of `labrun._library.Library`. It counts how often a job is attended to."""
 
     path = "bench/simulate.py"
 
@@ -36,11 +41,19 @@ class Simulated:
         call: Callable[..., Any] = getattr(self, name)
         return call
 
+    def quick(self, name: str) -> Callable[..., Any]:
+        return self[name]
+
     def run(self, handle: Any) -> Any:
         return self.runs[at(handle).at]
 
     def lab_bench_open(self, script: bytes, length: int, handle: Any, told: Any) -> int:
-        self.runs.append(simulate.Run(simulate.read_script(script)))
+        try:
+            self.runs.append(simulate.Run(simulate.read_script(script)))
+        except simulate.Fault as fault:
+            line, cause = re.findall(r"\d+", str(fault))[:2]
+            at(told).line, at(told).cause = int(line), int(cause)
+            return 1
         at(handle).at, at(handle).live = len(self.runs) - 1, 1
         return 0
 
@@ -81,13 +94,10 @@ class Simulated:
         at(turned).what, at(turned).count = 2 if done else 0, len(done)
         return 0
 
-    def turn(self, run: Any, one: Any) -> list[Any]:
-        self.calls += 1
-        done: list[Any] = run.whole_turn(one)[0]
-        return done
+    # what is done without a word from an owner, by the definitions
 
-    def served(self, run: Any, one: Any) -> list[Any]:
-        """Each edge is visited, and then the meal ended or started, if that is due."""
+    def attended(self, run: Any, one: Any) -> list[Any]:
+        """Each edge is looked at, and what is due there is done; then the first of drink, leave, sit and hunger that is legal."""
         self.calls += 1
         done: list[Any] = []
         for edge in one.edges:
@@ -96,20 +106,80 @@ class Simulated:
             if events:
                 run.exchange(one, edge, events, after)
                 done += events
-        if len(one.fork_marks) == len(one.edges):
-            meal = {simulate.EATING: "leave", simulate.HUNGRY: "sit"}.get(one.dining)
-            if meal and not (meal == "leave" and one.drinking == simulate.THIRSTY):
-                run.store(one, meal)
-                done.append(meal)
+        has_forks = len(one.fork_marks) == len(one.edges)
+        is_thirsty = one.drinking == simulate.THIRSTY
+        acts = [
+            ("drink", is_thirsty and run.may_drink(one)),
+            ("leave", not is_thirsty and one.dining == simulate.EATING and has_forks),
+            ("sit", one.dining == simulate.HUNGRY and has_forks),
+            ("hunger", is_thirsty and one.dining == simulate.THINKING),
+        ]
+        for act, is_legal in acts:
+            if is_legal:
+                run.store(one, act)
+                done.append(act)
+                break
         return done
 
-    def lab_turn(self, handle: Any, job: int, turned: Any) -> int:
-        run = self.run(handle)
-        return self.told(turned, self.turn(run, run.jobs[job]))
+    def rest(self, run: Any) -> list[Any]:
+        """Until nobody has anything to do."""
+        done: list[Any] = []
+        while True:
+            more = [it for one in run.jobs for it in self.attended(run, one)]
+            if not more:
+                return done
+            done += more
 
-    def lab_serve(self, handle: Any, job: int, turned: Any) -> int:
-        run = self.run(handle)
-        return self.told(turned, self.served(run, run.jobs[job]))
+    def patience(self, run: Any, one: Any) -> Any:
+        return run.plan.sessions[one.number][one.session - 1].patience
+
+    def lab_settle(self, handle: Any, waiting: int, came: Any) -> int:
+        run, told = self.run(handle), at(came)
+        begun = [one.session if one.drinking == simulate.THIRSTY else 0 for one in run.jobs]
+        done = self.rest(run)
+        for one in run.jobs:
+            is_free = one.drinking == simulate.TRANQUIL and one.dining != simulate.EATING
+            if waiting >> one.number & 1 and is_free and one.session < one.total:
+                run.store(one, "thirst")
+                done.append("thirst")
+        done += self.rest(run)
+        thirsty = [one for one in run.jobs if one.drinking == simulate.THIRSTY]
+        given_up = [one for one in thirsty if self.patience(run, one) is not None and one.waited >= self.patience(run, one)]
+        for one in given_up:
+            run.store(one, "withdraw")
+            done.append("withdraw")
+        done += self.rest(run)
+        for one, session in zip(run.jobs, begun):
+            one.turns += bool(waiting >> one.number & 1 or session)
+            if session and one.session == session and one.drinking == simulate.THIRSTY:
+                one.waited += 1
+        told.holds = bits(one for one in run.jobs if one.drinking == simulate.DRINKING)
+        told.given_up = bits(given_up)
+        told.none_left = bits(
+            one
+            for one in run.jobs
+            if waiting >> one.number & 1 and one.drinking in (simulate.TRANQUIL, simulate.RETIRED) and one.session == one.total
+        )
+        told.deeds = len(done)
+        return 0
+
+    def lab_keepers(self, handle: Any, job: int, instrument: int, keepers: Any) -> int:
+        run, told = self.run(handle), at(keepers)
+        told.jobs = told.holding = 0
+        one = run.jobs[job]
+        if one.drinking != simulate.THIRSTY or not run.needed(one) >> instrument & 1:
+            return 0
+        for edge in one.edges:
+            low, high, common = run.plan.edges[edge]
+            end, other = (0, high) if low == job else (1, low)
+            its, seen = run.jobs[other], run.edges[edge]
+            if not common >> instrument & 1 or (seen.bottles >> instrument & 1) == end:
+                continue
+            holds = its.drinking in (simulate.DRINKING, simulate.REACHING)
+            if run.needed(its) >> instrument & 1 and (holds or seen.fork != end):
+                told.jobs |= 1 << other
+                told.holding |= holds << other
+        return 0
 
     def lab_command(self, handle: Any, job: int, entry: Any) -> int:
         run, it = self.run(handle), at(entry)
@@ -128,9 +198,12 @@ class Simulated:
         one, done = run.jobs[job], []
         if one.drinking != simulate.DRINKING:
             return 8
-        while one.drinking != simulate.TRANQUIL:
-            done += self.turn(run, one)
-        return self.told(turned, done)
+        while one.drinking == simulate.DRINKING:
+            act = run.phase_act(one, 0)
+            for store in ("reach", "act") if act == "command" else (act,):
+                run.store(one, store)
+            done.append(act)
+        return self.told(turned, done + self.rest(run))
 
     def lab_withdraw(self, handle: Any, job: int) -> int:
         run = self.run(handle)
@@ -142,17 +215,15 @@ class Simulated:
 
     def lab_retire(self, handle: Any, job: int, turns: int, turned: Any) -> int:
         run = self.run(handle)
-        one, done = run.jobs[job], []
-        for _ in range(turns):
-            if one.is_retired():
-                break
-            did = self.turn(run, one)
-            for other in run.jobs:
-                if other is not one:
-                    did += self.served(run, other)
-            done += did
-            if not did:
-                break
+        one = run.jobs[job]
+        if one.is_retired():
+            return self.told(turned, [])
+        if one.session < one.total or one.drinking != simulate.TRANQUIL:
+            return 10
+        done = self.rest(run) if turns else []
+        if turns and one.dining == simulate.THINKING:
+            run.store(one, "retire")
+            done.append("retire")
         self.told(turned, done)
         return 0 if one.is_retired() else 8
 

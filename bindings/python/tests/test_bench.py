@@ -10,10 +10,8 @@ import threading
 import time
 import unittest
 from typing import Any, Callable, Optional
-from unittest import mock
 
 import labrun
-from labrun import _bench
 from tests.load import Counting, load_script
 
 # Seconds that anything may take which has to happen. No test says how soon it does: the machine may be busy.
@@ -296,7 +294,7 @@ class Waiting(unittest.TestCase):
         second.give_up()
 
     def test_woken(self) -> None:
-        """By the other's release, and not because it looks again from time to time."""
+        """By the other's release: it doesn't look again from time to time."""
         bench, first, second = self.holding(TWO)
         came: list[bool] = []
 
@@ -304,23 +302,22 @@ class Waiting(unittest.TestCase):
             with second:
                 came.append(second.held)
 
-        with mock.patch.object(_bench, "_NET", 10.0 * LIMIT):
-            thread = in_thread(wait)
-            until(lambda: bench.jobs[1].state.waits)
-            self.assertEqual(came, [])
-            first.release()
-            back(thread)
+        thread = in_thread(wait)
+        until(lambda: bench.jobs[1].state.waits)
+        self.assertEqual(came, [])
+        first.release()
+        back(thread)
         self.assertEqual(came, [True])
 
     def test_waiting_burns_nothing(self) -> None:
-        """A thread that waits takes a turn a second: of the processor's time it has no share that is worth the name."""
+        """A thread that waits makes no call: of the processor's time it has no share that is worth the name."""
         bench, first, second = self.holding(TWO)
         thread = in_thread(second.acquire)
         until(lambda: bench.jobs[1].state.waits)
         begun, turns, work = time.monotonic(), bench.jobs[1].state.turns, time.process_time()
         time.sleep(2)
         took, turns, work = time.monotonic() - begun, bench.jobs[1].state.turns - turns, time.process_time() - work
-        self.assertLessEqual(turns, took + 2)
+        self.assertEqual(turns, 0)
         self.assertLess(work, took / 4)
         first.release()
         back(thread)
@@ -600,6 +597,182 @@ class Running(unittest.TestCase):
         self.assertTrue(bench.close().finished)
 
 
+class Ends(unittest.TestCase):
+    """How sessions, stations and processes may end."""
+
+    def test_station_that_holds(self) -> None:
+        def station(job: labrun.Job) -> None:
+            session = job.next_session()
+            assert session
+            session.acquire()
+            if job.name == "b":
+                session.release()
+
+        bench = labrun.Bench.from_text(TWO)
+        with self.assertRaises(labrun.StillHeld) as caught:
+            bench.run(station, timeout=LIMIT)
+        self.assertEqual(str(caught.exception), "the station of a is over, and session 1 still holds scale")
+        (held,) = caught.exception.sessions
+        self.assertTrue(held.held)
+        held.release()  # whose it was may still let go
+        self.assertEqual(bench.close().job("a").done, 1)
+
+    def test_station_that_holds_and_raises(self) -> None:
+        def station(job: labrun.Job) -> None:
+            session = job.next_session()
+            assert session
+            session.acquire()
+            if job.name == "b":
+                session.release()
+            else:
+                raise RuntimeError("the scope caught fire")
+
+        bench = labrun.Bench.from_text(TWO)
+        with self.assertRaisesRegex(RuntimeError, "caught fire"):
+            bench.run(station, timeout=LIMIT)
+        self.assertTrue(bench.jobs[0].state.holds)
+        bench.close()
+
+    def test_task_that_holds(self) -> None:
+        async def station(job: labrun.Job) -> None:
+            session = job.next_session()
+            assert session
+            await session.acquire_async()
+
+        bench = labrun.Bench.from_text(TWO)
+        with self.assertRaises(labrun.StillHeld):
+            asyncio.run(bench.run_async(station))
+        bench.close()
+
+    def test_with_in_a_coroutine(self) -> None:
+        async def main() -> tuple[str, str]:
+            with labrun.Bench.from_text(TWO) as bench:
+                first, second = bench.jobs[0].next_session(), bench.jobs[1].next_session()
+                assert first and second
+                with first:  # (it needn't wait)
+                    with self.assertRaises(labrun.WouldBlock) as caught:
+                        with second:
+                            pass
+                    self.assertIn("async with", str(caught.exception))
+                    self.assertIsInstance(caught.exception, RuntimeError)
+                    with self.assertRaises(labrun.TimeoutError):
+                        second.acquire(timeout=0)
+                    with self.assertRaises(labrun.WouldBlock):
+                        second.acquire(timeout=LIMIT)
+                    state = second.state
+                async with second:
+                    return state, second.state
+
+        self.assertEqual(asyncio.run(main()), ("asked", "held"))
+
+    def test_generator_closed_late(self) -> None:
+        """A loop over sessions that is left after the bench was closed says nothing of it."""
+        told: list[Any] = []
+        hook, sys.unraisablehook = sys.unraisablehook, told.append
+        try:
+            bench = labrun.Bench.from_text(TWO)
+            for states in ("held", "asked"):
+                sessions = bench.jobs[states == "asked"].sessions(timeout=0)
+                session = next(sessions)
+                try:
+                    session.acquire(timeout=0)
+                except labrun.TimeoutError:
+                    pass
+                self.assertEqual(session.state, states)
+                if states == "held":
+                    first = sessions
+            bench.close()
+            del sessions, first, session
+        finally:
+            sys.unraisablehook = hook
+        self.assertEqual(told, [])
+
+    def test_fork(self) -> None:
+        """The child's copy of a bench refuses each call, also if another thread was in the midst of one; the parent's goes on."""
+        bench = labrun.Bench.from_text(TWO)
+        first, second = bench.jobs[0].next_session(), bench.jobs[1].next_session()
+        assert first and second
+        first.acquire()
+        bench._mutex.acquire()
+        child = os.fork()
+        if child == 0:
+            refused = 0
+            calls: list[Callable[[], object]] = [first.release, second.acquire, second.waits_for, bench.jobs[1].next_session, bench.close, bench.stop]
+            calls += [lambda: bench.jobs[0].state, first.command, first.withdraw, lambda: bench.run(lambda job: None)]
+            try:
+                for call in calls:
+                    try:
+                        call()
+                    except labrun.OtherProcess as fault:
+                        refused += str(fault) == f"this bench belongs to process {os.getppid()}"
+                second.give_up()
+                with bench:
+                    pass
+                try:
+                    with first:
+                        pass
+                except labrun.OtherProcess:
+                    refused += 1
+                with labrun.Bench.from_text(TWO) as own:
+                    own.jobs[0].next_session().acquire()  # type: ignore[union-attr]
+            finally:
+                os._exit(refused)
+        bench._mutex.release()
+        self.assertEqual(os.waitstatus_to_exitcode(os.waitpid(child, 0)[1]), 11)
+        first.release()
+        second.acquire(timeout=LIMIT)
+        second.release()
+        self.assertEqual(bench.close().job("b").done, 1)
+
+    def test_keepers(self) -> None:
+        """radio holds the scope, board has the supply and waits for the scope, drive wants the supply, which nobody holds."""
+        bench = labrun.Bench.from_text(
+            "lab 1\njob radio\nsession\nscope read\nend\njob board\nsession\nscope read\nsupply read\nend\njob drive\nsession\nsupply read\nend\n"
+        )
+        sessions = [job.next_session() for job in bench.jobs]
+        for session in sessions:
+            assert session
+            try:
+                session.acquire(timeout=0)
+            except labrun.TimeoutError as late:
+                text = str(late)
+        radio, board, drive = sessions
+        assert radio and board and drive
+        self.assertEqual(radio.waits_for(), ())
+        self.assertEqual(board.waits_for(), (labrun.Keeper("scope", "radio", True),))
+        self.assertEqual(drive.waits_for(), (labrun.Keeper("supply", "board", False),))
+        self.assertEqual(text, "session 1 of drive still waits: supply is kept by board, which waits for scope, held by radio")
+        radio.release()
+        board.acquire(timeout=LIMIT)
+        self.assertEqual(drive.waits_for(), (labrun.Keeper("supply", "board", True),))
+        board.release()
+        drive.acquire(timeout=LIMIT)
+        drive.release()
+        self.assertEqual([job.done for job in bench.close().jobs], [1, 1, 1])
+
+    def test_give_up_of_another_thread(self) -> None:
+        """Who waits for a session that another thread gives up doesn't sleep on."""
+        for script, kind in ((TWO, labrun.NotHeld), (PATIENT, labrun.Withdrawn)):
+            bench = labrun.Bench.from_text(script)
+            first, second = bench.jobs[0].next_session(), bench.jobs[1].next_session()
+            assert first and second
+            first.acquire()
+            faults: list[BaseException] = []
+
+            def wait() -> None:
+                try:
+                    second.acquire()
+                except labrun.LabrunError as fault:
+                    faults.append(fault)
+
+            thread = in_thread(wait)
+            until(lambda: bench.jobs[1].state.waits)
+            second.give_up()
+            back(thread)
+            self.assertEqual([type(fault) for fault in faults], [kind])
+            bench.close()
+
+
 INTERRUPTED = """
 import signal, sys, time, threading, labrun
 # (what a shell runs in the background ignores the signal, and so do its children)
@@ -630,7 +803,7 @@ try:
                         states[job.name] = session
                         if job.name == "a" and session.number == 1:
                             print("ready", flush=True)
-                            while not bench._stopped:
+                            while not bench._stands:
                                 time.sleep(0.01)
             bench.run(station)
 except KeyboardInterrupt:

@@ -14,6 +14,8 @@ STRUCTURES = {
     "size": (_library.Size, "Size"),
     "session": (_library.SessionOf, "SessionOf"),
     "turned": (_library.Turned, "Turned"),
+    "came": (_library.Came, "Came"),
+    "keepers": (_library.Keepers, "Keepers"),
     "state": (_library.State, "State"),
     "entry": (_library.Entered, "Entered"),
 }

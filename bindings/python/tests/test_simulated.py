@@ -1,12 +1,11 @@
-"""The bench's threads over the definitions: no wake-up is lost, and a thread that waits takes no turn for nothing."""
+"""The bench's threads over the definitions: each test of waiting, and how often a job is attended to for nothing."""
 
-import sys
 import unittest
 from typing import Optional
 from unittest import mock
 
 import labrun
-from labrun import _bench, _library
+from labrun import _library
 from tests import test_bench
 from tests.load import Counting, load_script
 from tests.simulated import Simulated
@@ -20,24 +19,13 @@ class OnDefinitions(unittest.TestCase):
         self.addCleanup(patch.stop)
 
 
-class WakeUps(OnDefinitions):
+class Loads(OnDefinitions):
     def loaded(self, jobs: int, sessions: int, instruments: int, pause: Optional[float]) -> None:
-        """A load, in which no wait ends by the net that is spread for lost wake-ups."""
-        found: list[int] = []
-        look_again = _bench.Bench._look_again
-
-        def looking(bench: labrun.Bench, job: int) -> None:
-            wait = bench._waiting.get(job)
-            look_again(bench, job)
-            if sys._getframe(1).f_code.co_name == "acquire" and wait is not None and wait.outcome is not None:
-                found.append(job)
-
         for seed in range(3):
             with labrun.Bench.from_text(load_script(jobs, sessions, instruments, seed)) as bench:
                 counting = Counting(bench, pause)
-                with mock.patch.object(_bench.Bench, "_look_again", looking):
-                    bench.run(counting.station)
-            self.assertEqual((counting.clashes, counting.done, found), (0, jobs * sessions, []))
+                bench.run(counting.station, timeout=test_bench.LIMIT)
+            self.assertEqual((counting.clashes, counting.done), (0, jobs * sessions))
             self.assertTrue(bench.report.finished)
 
     def test_crowded(self) -> None:
@@ -47,27 +35,35 @@ class WakeUps(OnDefinitions):
     def test_with_work(self) -> None:
         self.loaded(8, 8, 12, 0.001)
 
-    def test_who_waits_takes_no_turn(self) -> None:
-        """While one holds and nothing happens, a second look of all finds nothing to do."""
-        script = "lab 1\n" + "".join(f"job j-{at}\nsession\nscale add 1\nend\n" for at in range(6))
-        with labrun.Bench.from_text(script) as bench:
-            sessions = [job.next_session() for job in bench.jobs]
-            for at, session in enumerate(sessions):
-                assert session
-                if at == 0:
-                    session.acquire()
-                else:
-                    with self.assertRaises(labrun.TimeoutError):
-                        session.acquire(timeout=0)
-            before = self.library.calls
-            with bench._mutex:
-                bench._due = bench._all
-                bench._settle()
-            self.assertEqual(self.library.calls - before, 6)
+    def test_calls_of_a_session(self) -> None:
+        """Where nobody waits a session makes two calls, and no other than those."""
+        made: list[str] = []
+        with labrun.Bench.from_text(load_script(3, 4, 3, 1)) as bench:
+            for name in ("lab_settle", "lab_end"):
+                call = getattr(bench, f"_{name}")
+                setattr(bench, f"_{name}", lambda *given, name=name, call=call: made.append(name) or call(*given))
+            with mock.patch.object(Simulated, "__getitem__", lambda library, name: made.append(name)):
+                for job in bench.jobs:
+                    for _ in range(4):
+                        session = job.next_session()
+                        assert session
+                        with session:
+                            self.assertTrue(session.instruments and session.commands and session.held)
+        self.assertEqual(made, ["lab_settle", "lab_end"] * 12)
+
+
+class Alone(OnDefinitions, test_bench.Alone):
+    """What one thread sees."""
+
+    test_ten_lines = test_no_library = None  # type: ignore[assignment]  # (these start a program on the built library)
 
 
 class Waiting(OnDefinitions, test_bench.Waiting):
     """All that the bench's tests say of waiting."""
+
+
+class Ends(OnDefinitions, test_bench.Ends):
+    """Stations that end while they hold, forks, loops of asyncio, and generators that are closed late."""
 
 
 if __name__ == "__main__":

@@ -40,6 +40,22 @@ pub struct Turned {
 
 #[repr(C)]
 #[derive(Clone, Copy, Default)]
+pub struct Came {
+    pub holds: u32,
+    pub given_up: u32,
+    pub none_left: u32,
+    pub deeds: u32,
+}
+
+#[repr(C)]
+#[derive(Clone, Copy, Default)]
+pub struct Keepers {
+    pub jobs: u32,
+    pub holding: u32,
+}
+
+#[repr(C)]
+#[derive(Clone, Copy, Default)]
 pub struct State {
     pub turns: u64,
     pub dining: u32,
@@ -75,12 +91,17 @@ extern "C" {
     pub fn lab_instrument_name(bench: *mut Handle, instrument: u32, name: *mut u8, room: usize, written: *mut usize) -> u32;
     pub fn lab_session_of(bench: *mut Handle, job: u32, session: u32, what: *mut SessionOf) -> u32;
     pub fn lab_state(bench: *mut Handle, job: u32, state: *mut State) -> u32;
-    pub fn lab_turn(bench: *mut Handle, job: u32, turned: *mut Turned) -> u32;
-    pub fn lab_serve(bench: *mut Handle, job: u32, turned: *mut Turned) -> u32;
+    pub fn lab_keepers(bench: *mut Handle, job: u32, instrument: u32, keepers: *mut Keepers) -> u32;
+    pub fn lab_settle(bench: *mut Handle, waiting: u32, came: *mut Came) -> u32;
     pub fn lab_command(bench: *mut Handle, job: u32, entry: *mut Entered) -> u32;
     pub fn lab_end(bench: *mut Handle, job: u32, turned: *mut Turned) -> u32;
     pub fn lab_withdraw(bench: *mut Handle, job: u32) -> u32;
     pub fn lab_retire(bench: *mut Handle, job: u32, turns: u32, turned: *mut Turned) -> u32;
     pub fn lab_bench_close(bench: *mut Handle, report: *mut u8, room: usize, told: *mut Told) -> u32;
     pub fn lab_bench_free(bench: *mut Handle);
+}
+
+extern "C" {
+    /// Of the system: `child` is called in the child of each fork.
+    pub fn pthread_atfork(prepare: Option<extern "C" fn()>, parent: Option<extern "C" fn()>, child: Option<extern "C" fn()>) -> i32;
 }

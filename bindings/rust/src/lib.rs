@@ -1,8 +1,8 @@
-//! Jobs that share instruments, without a lock, and proved: labrun's bench for threads.
+//! Jobs that share instruments: labrun's bench for threads, proved, behind one short mutex.
 //!
 //! A script names jobs, their sessions, and what each session does with which instruments. A session holds all its instruments from its
-//! beginning to its end, and no two hold one at once. What is proved of that ends at the calls of the C library; this crate, which calls
-//! them, is tested.
+//! beginning to its end, and no two hold one at once; and nobody waits for nothing: who waits, waits in the end for somebody who holds. What
+//! is proved of that ends at the calls of the C library; this crate, which calls them, is tested.
 //!
 //! ```
 //! let script = b"lab 1\njob a\nsession\nscale add 1\nend\njob b\nsession\nscale add 1\nend\n";
@@ -30,7 +30,8 @@ mod ffi;
 use std::fmt;
 use std::path::Path;
 use std::ptr;
-use std::sync::{Arc, Condvar, Mutex, MutexGuard};
+use std::sync::atomic::{AtomicU32, Ordering::Relaxed};
+use std::sync::{Arc, Condvar, Mutex, MutexGuard, Once};
 use std::time::{Duration, Instant};
 
 const REFUSED: u32 = 1;
@@ -39,15 +40,17 @@ const TOO_LONG: u32 = 4;
 const NO_MEMORY: u32 = 5;
 const NO_ROOM: u32 = 6;
 const NOT_NOW: u32 = 8;
-const ACTED: u32 = 2;
-const THIRSTY: u32 = 1;
+const RETIRED: u32 = 4;
 
-/// A wake-up that got lost would be a fault of this file; if it happens nevertheless, a session waits so much longer.
-const NET: Duration = Duration::from_secs(1);
-/// A session with a patience takes a turn at least so often, so that it does run out.
+/// While sessions with a patience wait, one of them settles the bench after so long, so that it does run out.
 const TICK: Duration = Duration::from_millis(100);
-/// Rounds of turns before the mutex is let go.
-const ROUNDS: usize = 1000;
+
+/// How many forks lie between the first process and this one: a bench that was opened before the last of them is another's.
+static FORKS: AtomicU32 = AtomicU32::new(0);
+
+extern "C" fn after_fork() {
+    FORKS.fetch_add(1, Relaxed);
+}
 
 /// What may go wrong.
 #[derive(Clone, Debug, PartialEq, Eq)]
@@ -73,6 +76,9 @@ pub enum Error {
     Withdrawn,
     /// The bench is closed.
     Closed,
+    /// This is the child of a fork, and what it has is a copy of the bench of the process with this number: what it would hold, that one
+    /// may hold, too.
+    OtherProcess(u32),
     /// The library answered a status that it doesn't have for this call.
     Status(u32),
 }
@@ -87,12 +93,13 @@ impl fmt::Display for Error {
             Error::Unread(why) => write!(out, "{why}"),
             Error::TimedOut(keepers) => {
                 write!(out, "still waits")?;
-                keepers.iter().try_for_each(|it| {
-                    write!(out, ", {} is {} {}", it.instrument, if it.holds { "held by" } else { "asked for, too, by" }, it.job)
-                })
+                keepers
+                    .iter()
+                    .try_for_each(|it| write!(out, ", {} is {} {}", it.instrument, if it.holds { "held by" } else { "kept by" }, it.job))
             }
             Error::Withdrawn => write!(out, "the session was withdrawn"),
             Error::Closed => write!(out, "the bench is closed"),
+            Error::OtherProcess(number) => write!(out, "this bench belongs to process {number}"),
             Error::Status(status) => write!(out, "status {status}"),
         }
     }
@@ -100,14 +107,14 @@ impl fmt::Display for Error {
 
 impl std::error::Error for Error {}
 
-/// Who is before a waiting session at an instrument that it needs.
+/// A job that keeps an instrument from a waiting session: it has it and needs it, too, and holds it or comes first.
 #[derive(Clone, Debug, PartialEq, Eq)]
 pub struct Keeper {
     /// The instrument.
     pub instrument: String,
     /// The other job.
     pub job: String,
-    /// Whether it holds the instrument; if nobody does, it waits for it too, and may go first.
+    /// Whether it holds the instrument; if nobody does, it waits itself, and comes first.
     pub holds: bool,
 }
 
@@ -207,7 +214,7 @@ pub fn upgrade(script: &[u8]) -> Result<String, Error> {
     told_text(|text, room, told| unsafe { ffi::lab_upgrade(script.as_ptr(), script.len(), text, room, told) }).map(|(_, text)| text)
 }
 
-/// How a wait came out.
+/// What became of who asked.
 #[derive(Clone, Copy, PartialEq)]
 enum Came {
     Waits,
@@ -215,21 +222,28 @@ enum Came {
     Withdrawn,
 }
 
+/// What is kept of a job.
+struct Seat {
+    sessions: Vec<ffi::SessionOf>,
+    /// The session that it is in, which waits or holds, or 0; and the one that it is in or was in last.
+    now: u32,
+    last: u32,
+    came: Came,
+}
+
 /// What the mutex guards: the handle, and who waits.
 struct Core {
     handle: ffi::Handle,
     closed: bool,
-    /// For each job the session that its thread waits for, and how that came out.
-    waits: Vec<Option<(u32, Came)>>,
-    /// The jobs to be seen to, as a set of bits.
-    due: u32,
-    /// Each job with its neighbours and itself.
-    near: Vec<u32>,
+    seats: Vec<Seat>,
     /// The jobs whose threads wait, as a set of bits.
-    active: u32,
+    waiting: u32,
+    ticked: Option<Instant>,
     /// The jobs whose sessions were given up and can't be withdrawn, and those sessions that lapsed.
     left: u32,
     lapsed: Vec<(String, u32)>,
+    /// The forks before it was opened.
+    born: u32,
 }
 
 // SAFETY: the handle may be used by any thread, one call at a time; it is reached by the mutex alone.
@@ -240,98 +254,82 @@ struct Inner {
     woken: Vec<Condvar>,
     jobs: Vec<String>,
     instruments: Vec<String>,
+    born: u32,
+    process: u32,
+}
+
+/// The members of a set of bits, lowest first.
+fn members(mut set: u32) -> impl Iterator<Item = u32> {
+    std::iter::from_fn(move || {
+        let lowest = set.trailing_zeros();
+        (set != 0).then(|| {
+            set &= set - 1;
+            lowest
+        })
+    })
 }
 
 impl Inner {
-    fn core(&self) -> MutexGuard<'_, Core> {
-        // no call under the mutex leaves it half done by a panic
-        self.core.lock().unwrap_or_else(|poisoned| poisoned.into_inner())
+    fn is_here(&self) -> bool {
+        self.born == FORKS.load(Relaxed)
     }
 
-    /// Takes turns of those that wait, and serves the others, until nobody has anything to do. A job that found nothing to do has nothing
-    /// until it, or a neighbour, does something: so only those are asked again. Wakes those whose sessions came to hold.
+    /// The mutex, in the process that opened the bench, as long as it is open. (In a child nobody may be there to let the mutex go.)
+    fn open(&self) -> Result<MutexGuard<'_, Core>, Error> {
+        if !self.is_here() {
+            return Err(Error::OtherProcess(self.process));
+        }
+        // (no call under the mutex leaves it half done by a panic)
+        let core = self.core.lock().unwrap_or_else(|poisoned| poisoned.into_inner());
+        if core.closed {
+            Err(Error::Closed)
+        } else {
+            Ok(core)
+        }
+    }
+
+    /// The session of a job has come to something; whoever waits for it is woken.
+    fn comes_to(&self, core: &mut Core, job: u32, came: Came) {
+        let seat = &mut core.seats[job as usize];
+        seat.came = came;
+        if came == Came::Withdrawn {
+            seat.now = 0;
+        }
+        core.waiting &= !(1 << job);
+        self.woken[job as usize].notify_one();
+    }
+
+    /// All that can be done is done, and those are woken whom that concerns. If somebody waits, those that were left and hold let go.
     fn settle(&self, core: &mut Core) {
-        for _ in 0..ROUNDS {
-            let mut due = std::mem::take(&mut core.due);
-            if due == 0 {
+        loop {
+            let mut told = ffi::Came::default();
+            // SAFETY: the handle is open, and the mutex is held; so below.
+            unsafe { ffi::lab_settle(&mut core.handle, core.waiting, &mut told) };
+            members(told.given_up).for_each(|job| self.comes_to(core, job, Came::Withdrawn));
+            members(told.holds & core.waiting).for_each(|job| self.comes_to(core, job, Came::Holds));
+            let letting_go = told.holds & core.left;
+            if core.waiting == 0 || letting_go == 0 {
                 return;
             }
-            while due != 0 {
-                let job = due.trailing_zeros();
-                due &= due - 1;
+            for job in members(letting_go) {
                 let mut turned = ffi::Turned::default();
-                let waited = match core.waits[job as usize] {
-                    Some((number, Came::Waits)) => Some(number),
-                    _ => None,
-                };
-                // a turn would do a command of a session that holds: only those that wait take one
-                // SAFETY: the handle is open, and the mutex is held.
-                unsafe {
-                    if waited.is_some() {
-                        ffi::lab_turn(&mut core.handle, job, &mut turned);
-                    } else {
-                        ffi::lab_serve(&mut core.handle, job, &mut turned);
-                    }
-                }
-                if turned.what == 0 {
-                    continue;
-                }
-                core.due |= core.near[job as usize];
-                if let Some(number) = waited {
-                    let state = core.state(job);
-                    let came = match state.drinking {
-                        2 | 3 => Came::Holds,
-                        THIRSTY => Came::Waits,
-                        _ if state.session >= number => Came::Withdrawn,
-                        _ => Came::Waits,
-                    };
-                    if came != Came::Waits {
-                        core.waits[job as usize] = Some((number, came));
-                        self.woken[job as usize].notify_one();
-                        self.pass_by(core);
-                    }
-                }
-            }
-        }
-    }
-
-    /// If somebody waits, those that were left and hold let go.
-    fn pass_by(&self, core: &mut Core) {
-        for job in 0..self.jobs.len() as u32 {
-            if core.active == 0 || core.left >> job & 1 == 0 {
-                continue;
-            }
-            let state = core.state(job);
-            if matches!(state.drinking, 2 | 3) {
-                let mut turned = ffi::Turned::default();
-                // SAFETY: the handle is open, and the mutex is held.
                 unsafe { ffi::lab_end(&mut core.handle, job, &mut turned) };
-                core.waits[job as usize] = None;
                 core.left &= !(1 << job);
-                core.lapsed.push((self.jobs[job as usize].clone(), state.session));
-                core.due |= core.near[job as usize];
+                let session = std::mem::take(&mut core.seats[job as usize].now);
+                core.lapsed.push((self.jobs[job as usize].clone(), session));
             }
         }
     }
 
-    fn see_to(&self, core: &mut Core, job: u32) {
-        core.due |= core.near[job as usize];
-        self.settle(core);
-    }
-
+    /// Who keeps an instrument from a job: who holds it, or, where nobody does, who comes first.
     fn keepers(&self, core: &mut Core, job: u32) -> Vec<Keeper> {
-        let (mine, _) = core.needs(job);
-        let others: Vec<u32> = (0..self.jobs.len() as u32).filter(|&other| other != job).collect();
         let mut found = Vec::new();
-        for (at, instrument) in self.instruments.iter().enumerate().filter(|(at, _)| mine >> at & 1 == 1) {
-            let wanting: Vec<(u32, bool)> = others
-                .iter()
-                .map(|&other| (other, core.needs(other)))
-                .filter(|(_, (needs, _))| needs >> at & 1 == 1)
-                .map(|(other, (_, holds))| (other, holds))
-                .collect();
-            let is_held = wanting.iter().any(|(_, holds)| *holds);
-            for (other, holds) in wanting.into_iter().filter(|(_, holds)| *holds || !is_held) {
+        for (at, instrument) in self.instruments.iter().enumerate() {
+            let mut kept = ffi::Keepers::default();
+            // SAFETY: the handle is open, and the mutex is held.
+            unsafe { ffi::lab_keepers(&mut core.handle, job, at as u32, &mut kept) };
+            let holds = kept.holding != 0;
+            for other in members(if holds { kept.holding } else { kept.jobs }) {
                 found.push(Keeper { instrument: instrument.clone(), job: self.jobs[other as usize].clone(), holds });
             }
         }
@@ -355,21 +353,12 @@ impl Core {
     }
 }
 
-impl Core {
-    /// The instruments that a job holds or waits for, as a set, and whether it holds them.
-    fn needs(&mut self, job: u32) -> (u64, bool) {
-        let state = self.state(job);
-        match state.drinking {
-            1..=3 => (self.session_of(job, state.session).needs, state.drinking != THIRSTY),
-            _ => (0, false),
-        }
-    }
-}
-
 impl Drop for Core {
     fn drop(&mut self) {
-        // SAFETY: nobody else has the handle; an empty one may be freed.
-        unsafe { ffi::lab_bench_free(&mut self.handle) };
+        if self.born == FORKS.load(Relaxed) {
+            // SAFETY: nobody else has the handle; an empty one may be freed.
+            unsafe { ffi::lab_bench_free(&mut self.handle) };
+        }
     }
 }
 
@@ -393,8 +382,12 @@ impl Bench {
 
     /// The bench of a script in memory, and a desk for each job, in the order of the script.
     pub fn from_text(script: &[u8]) -> Result<(Bench, Vec<Desk>), Error> {
+        static AT_FORKS: Once = Once::new();
+        // SAFETY: the function does nothing but count.
+        AT_FORKS.call_once(|| assert_eq!(unsafe { ffi::pthread_atfork(None, None, Some(after_fork)) }, 0));
         let handle = ffi::Handle { at: ptr::null_mut(), live: 0 };
-        let mut core = Core { handle, closed: false, waits: Vec::new(), due: 0, near: Vec::new(), active: 0, left: 0, lapsed: Vec::new() };
+        let born = FORKS.load(Relaxed);
+        let mut core = Core { handle, closed: false, seats: Vec::new(), waiting: 0, ticked: None, left: 0, lapsed: Vec::new(), born };
         let (mut told, mut size) = (ffi::Told::default(), ffi::Size::default());
         // SAFETY: the slice's pointer and length, an empty handle, and all apart.
         let status = unsafe { ffi::lab_bench_open(script.as_ptr(), script.len(), &mut core.handle, &mut told) };
@@ -409,15 +402,12 @@ impl Bench {
         let instruments = (0..size.instruments as u32)
             .map(|at| name(|to, room, written| unsafe { ffi::lab_instrument_name(handle, at, to, room, written) }))
             .collect();
-        let uses: Vec<u64> = (0..size.jobs as u32)
-            .map(|job| (1..=core.state(job).sessions).fold(0, |all, number| all | core.session_of(job, number).needs))
-            .collect();
-        core.near = (0..uses.len())
-            .map(|at| (0..uses.len()).filter(|&to| to == at || uses[to] & uses[at] != 0).fold(0, |all, to| all | 1 << to))
-            .collect();
-        core.waits = vec![None; jobs.len()];
+        for job in 0..size.jobs as u32 {
+            let sessions = (1..=core.state(job).sessions).map(|number| core.session_of(job, number)).collect();
+            core.seats.push(Seat { sessions, now: 0, last: 0, came: Came::Waits });
+        }
         let woken = jobs.iter().map(|_| Condvar::new()).collect();
-        let inner = Arc::new(Inner { core: Mutex::new(core), woken, jobs, instruments });
+        let inner = Arc::new(Inner { core: Mutex::new(core), woken, jobs, instruments, born, process: std::process::id() });
         let desks = (0..size.jobs as u32).map(|job| Desk { inner: Arc::clone(&inner), job }).collect();
         Ok((Bench { inner }, desks))
     }
@@ -435,24 +425,19 @@ impl Bench {
     /// Closes the bench, and gives its report. A desk that is still there gets [`Error::Closed`]; a session that is held then stays
     /// unfinished in the report.
     pub fn close(self) -> Result<Report, Error> {
-        let mut core = self.inner.core();
+        let mut core = self.inner.open()?;
         let core = &mut *core;
-        for _ in 0..ROUNDS {
-            let mut acted = false;
+        // (one may be in a meal, which lasts until another has left its own)
+        loop {
+            let mut retired = false;
             for job in 0..self.inner.jobs.len() as u32 {
-                let state = core.state(job);
-                if state.drinking == 0 && state.session == state.sessions {
-                    let mut turned = ffi::Turned::default();
-                    // SAFETY: the handle is open, and the mutex is held.
-                    unsafe { ffi::lab_retire(&mut core.handle, job, 64, &mut turned) };
-                    acted |= turned.what == ACTED;
-                }
+                let mut turned = ffi::Turned::default();
+                // SAFETY: the handle is open, and the mutex is held.
+                retired |= core.state(job).drinking != RETIRED && unsafe { ffi::lab_retire(&mut core.handle, job, 1, &mut turned) } == 0;
             }
-            if !acted {
+            if !retired {
                 break;
             }
-            core.due = core.near.iter().fold(0, |all, near| all | near);
-            self.inner.settle(core);
         }
         core.closed = true;
         self.inner.woken.iter().for_each(Condvar::notify_all);
@@ -501,48 +486,45 @@ impl Desk {
     }
 
     fn begin_until(&mut self, until: Option<Instant>) -> Result<Option<Session<'_>>, Error> {
-        let (inner, job) = (&*self.inner, self.job);
-        let mut core = inner.core();
-        if core.closed {
-            return Err(Error::Closed);
-        }
-        let state = core.state(job);
-        let number = if matches!(state.drinking, 1..=3) { state.session } else { state.session + 1 };
-        if number > state.sessions {
-            return Ok(None);
-        }
-        let what = core.session_of(job, number);
-        let tick = if what.has_patience == 1 { TICK } else { NET };
-        core.left &= !(1 << job);
-        // (a session that timed out may have come to its instruments meanwhile)
-        let came = if matches!(state.drinking, 2 | 3) { Came::Holds } else { Came::Waits };
-        core.waits[job as usize] = Some((number, came));
-        core.active |= 1 << job;
-        inner.pass_by(&mut core);
-        core.due |= 1 << job;
+        let (inner, job, bit) = (&*self.inner, self.job, 1 << self.job);
+        let mut core = inner.open()?;
+        let seat = &mut core.seats[job as usize];
+        let number = if seat.now == 0 { seat.last + 1 } else { seat.now };
+        let Some(&what) = seat.sessions.get(number as usize - 1) else { return Ok(None) };
+        (seat.now, seat.last, seat.came) = (number, number, Came::Waits);
+        core.left &= !bit;
+        core.waiting |= bit;
         inner.settle(&mut core);
+        // (a patience runs out by the calls of `lab_settle`, so one of those that wait makes one now and then)
+        let tick = (what.has_patience == 1).then_some(TICK);
         let ended = loop {
-            match core.waits[job as usize] {
-                Some((_, Came::Holds)) => break Ok(()),
-                Some((_, Came::Withdrawn)) => break Err(Error::Withdrawn),
-                _ if core.closed => break Err(Error::Closed),
-                _ => {}
+            match core.seats[job as usize].came {
+                Came::Holds => break Ok(()),
+                Came::Withdrawn => break Err(Error::Withdrawn),
+                Came::Waits if core.closed => break Err(Error::Closed),
+                Came::Waits => {}
             }
-            let left = until.map_or(tick, |until| until.saturating_duration_since(Instant::now()).min(tick));
-            if left.is_zero() {
-                break Err(Error::TimedOut(inner.keepers(&mut core, job)));
+            let left = until.map(|until| until.saturating_duration_since(Instant::now()));
+            let span = left.into_iter().chain(tick).min();
+            let woken = &inner.woken[job as usize];
+            let Some(span) = span else {
+                core = woken.wait(core).unwrap_or_else(|poisoned| poisoned.into_inner());
+                continue;
+            };
+            let over;
+            (core, over) = woken.wait_timeout(core, span).unwrap_or_else(|poisoned| poisoned.into_inner());
+            if !over.timed_out() || core.closed {
+                continue;
             }
-            let (again, over) = inner.woken[job as usize].wait_timeout(core, left).unwrap_or_else(|poisoned| poisoned.into_inner());
-            core = again;
-            if over.timed_out() && !core.closed {
-                core.due |= 1 << job;
+            if tick.is_some() && core.ticked.map_or(true, |it| it.elapsed() >= TICK / 2) {
+                core.ticked = Some(Instant::now());
                 inner.settle(&mut core);
             }
+            if core.seats[job as usize].came == Came::Waits && until.is_some_and(|until| Instant::now() >= until) {
+                break Err(Error::TimedOut(inner.keepers(&mut core, job)));
+            }
         };
-        core.active &= !(1 << job);
-        if !matches!(ended, Err(Error::TimedOut(_))) {
-            core.waits[job as usize] = None;
-        }
+        core.waiting &= !bit;
         drop(core);
         ended.map(|()| Some(Session { desk: self, number, needs: what.needs }))
     }
@@ -554,19 +536,18 @@ impl Desk {
     /// that is dropped gives up, too.
     pub fn give_up(&mut self) -> bool {
         let (inner, job) = (&*self.inner, self.job);
-        let mut core = inner.core();
-        if core.closed || !matches!(core.state(job).drinking, 1..=3) {
+        let Ok(mut core) = inner.open() else { return false };
+        if core.seats[job as usize].now == 0 {
             return false;
         }
         // SAFETY: the handle is open, and the mutex is held.
         let gone = unsafe { ffi::lab_withdraw(&mut core.handle, job) } == 0;
         if gone {
-            core.waits[job as usize] = None;
+            inner.comes_to(&mut core, job, Came::Withdrawn);
         } else {
             core.left |= 1 << job;
-            inner.pass_by(&mut core);
         }
-        inner.see_to(&mut core, job);
+        inner.settle(&mut core);
         gone
     }
 }
@@ -613,15 +594,10 @@ impl Session<'_> {
     /// ```
     pub fn command(&mut self) -> Result<Option<Entry>, Error> {
         let (inner, job) = (&*self.desk.inner, self.desk.job);
-        let mut core = inner.core();
-        if core.closed {
-            return Err(Error::Closed);
-        }
+        let mut core = inner.open()?;
         let mut entry = ffi::Entered::default();
         // SAFETY: the handle is open, and the mutex is held.
-        let status = unsafe { ffi::lab_command(&mut core.handle, job, &mut entry) };
-        inner.see_to(&mut core, job);
-        match status {
+        match unsafe { ffi::lab_command(&mut core.handle, job, &mut entry) } {
             0 => Ok(Some(Entry { session: entry.session, place: (entry.place, entry.length), value: entry.value })),
             NOT_NOW => Ok(None),
             other => Err(Error::Status(other)),
@@ -632,12 +608,14 @@ impl Session<'_> {
 impl Drop for Session<'_> {
     fn drop(&mut self) {
         let (inner, job) = (&*self.desk.inner, self.desk.job);
-        let mut core = inner.core();
-        if !core.closed {
+        if let Ok(mut core) = inner.open() {
             let mut turned = ffi::Turned::default();
             // SAFETY: the handle is open, and the mutex is held.
             unsafe { ffi::lab_end(&mut core.handle, job, &mut turned) };
-            inner.see_to(&mut core, job);
+            core.seats[job as usize].now = 0;
+            if core.waiting != 0 {
+                inner.settle(&mut core);
+            }
         }
     }
 }

@@ -138,6 +138,68 @@ fn patience_runs_out() {
 }
 
 #[test]
+fn who_is_before_it() {
+    // radio holds the scope, board keeps the supply and waits for the scope, drive wants the supply, which nobody holds
+    let script = b"lab 1\njob radio\nsession\nscope read\nend\n\
+        job board\nsession\nscope read\nsupply read\nend\njob drive\nsession\nsupply read\nend\n";
+    let (_bench, desks) = Bench::from_text(script).unwrap();
+    let [mut radio, mut board, mut drive]: [Desk; 3] = desks.try_into().ok().unwrap();
+    let held = radio.begin().unwrap();
+    assert!(board.begin_within(Duration::ZERO).is_err());
+    assert_eq!(drive.begin_within(Duration::ZERO).err().unwrap().to_string(), "still waits, supply is kept by board");
+    drop(held);
+    drop(board.begin_within(Duration::from_secs(300)).unwrap().unwrap());
+    drop(drive.begin_within(Duration::from_secs(300)).unwrap().unwrap());
+}
+
+/// A thread that waits is woken by the other's end, and by nothing else.
+#[test]
+fn who_waits_is_woken() {
+    let (_bench, mut a, mut b) = two(TWO);
+    let came = AtomicU32::new(0);
+    let held = a.begin().unwrap();
+    std::thread::scope(|threads| {
+        threads.spawn(|| {
+            let session = b.begin().unwrap();
+            came.store(session.is_some() as u32, SeqCst);
+        });
+        std::thread::sleep(Duration::from_millis(50));
+        assert_eq!(came.load(SeqCst), 0);
+        drop(held);
+    });
+    assert_eq!(came.load(SeqCst), 1);
+}
+
+extern "C" {
+    fn fork() -> i32;
+    fn waitpid(process: i32, status: *mut i32, options: i32) -> i32;
+    fn _exit(status: i32) -> !;
+}
+
+#[test]
+fn a_child_is_refused() {
+    let (bench, mut a, mut b) = two(TWO);
+    let mut held = a.begin().unwrap().unwrap();
+    let parent = std::process::id();
+    // SAFETY: the child does nothing but calls that are refused, and ends.
+    let child = unsafe { fork() };
+    if child == 0 {
+        let mut refused = i32::from(held.command() == Err(Error::OtherProcess(parent)));
+        drop(held);
+        refused += i32::from(b.begin().err() == Some(Error::OtherProcess(parent)));
+        refused += i32::from(!b.give_up());
+        refused += i32::from(bench.close() == Err(Error::OtherProcess(parent)));
+        unsafe { _exit(refused) };
+    }
+    let mut status = 0;
+    // SAFETY: the child's number, and a place for its status.
+    assert_eq!(unsafe { waitpid(child, &mut status, 0) }, child);
+    assert_eq!(status, 4 << 8);
+    drop(held);
+    assert!(b.begin_within(Duration::from_secs(300)).unwrap().is_some());
+}
+
+#[test]
 fn closed() {
     let (bench, mut a, mut b) = two(TWO);
     let held = a.begin().unwrap().unwrap();

@@ -1,30 +1,15 @@
-//! What C calls: the bench itself. A handle has a lab, or its end, or its report, or nothing, and one call at a time is made on it.
+//! What C calls on the lab of one handle: each export is the call of `bench_calls`, with its contract.
 #![tactic(auto)]
 
 ghost use Rattle.std.specs.Prelude.{◌≡◌, None};
-ghost use Rattle.session_layer.specs.Turn.{Took};
-ghost use Rattle.desk_user.specs.Serving.{Served};
-ghost use Rattle.bench_door.specs.declared.going.Aim.TheVariants.{Hold, Retire};
-ghost use Rattle.bench_c.specs.Calls.{Opens, InLab, Drives, ServesRest, GoesOn, LetsGo, GivesUp, DoesNext, TellsSize};
-ghost use Rattle.bench_c.specs.Calls.{TellsSession, TellsPlanned, TellsState, TellsKeepers, TellsJobName, TellsInstrumentName, Closes};
-
-mod going;
-mod handle;
-mod inside;
-mod slot;
+ghost use Rattle.bench_calls.specs.Closing.{Closes};
+ghost use Rattle.bench_calls.specs.Calls.{Opens, InLab, Turns, Serves, ServesRest, SettlesAll, GoesToHold, DoesNext, LetsGo, GivesUp, GoesToEnd};
+ghost use Rattle.bench_calls.specs.Calls.{TellsSize, TellsSession, TellsPlanned, TellsState, TellsKeepers, TellsJobName, TellsInstrumentName};
 
 use bench_calls::{
-    Held, LabEntry, LabPlanned, LabSession, LabSize, LabState, LabTurned, NOT_OPEN, ended,
+    Handle, LabCame, LabEntry, LabKeepers, LabPlanned, LabSession, LabSize, LabState, LabTurned,
 };
-use bench_door::{Aim, Lab};
-use c_tells::{Told, fail};
-use going::{end_in, go_in, serve_others_in};
-pub use handle::Handle;
-use inside::{
-    command_in, instrument_name_in, job_name_in, keepers_in, planned_in, serve_in, session_in,
-    size_in, state_in, turn_in, withdraw_in,
-};
-use lab_program::RunFault;
+use c_tells::Told;
 use std::alloc::Global;
 
 /// Opens a lab for a script. A handle that is in use stays as it is.
@@ -37,19 +22,7 @@ pub extern "C" fn lab_bench_open(
 ) -> u32
     ensures { Opens script.now bench.old.slot.held bench.new.slot.held told.old told.new result }
 {
-    if bench.is_live() {
-        return NOT_OPEN;
-    }
-    match Lab::open(alloc, script) {
-        Ok(lab) => match Box::new(alloc, Held::Open(lab)) {
-            Ok(held) => {
-                bench.put(held);
-                0
-            }
-            Err(_) => fail(RunFault::NoMemory, told),
-        },
-        Err(fault) => fail(fault, told),
-    }
+    bench_calls::open(alloc, script, bench, told)
 }
 
 /// Tells how many jobs and instruments there are.
@@ -57,14 +30,7 @@ pub extern "C" fn lab_bench_open(
 pub extern "C" fn lab_bench_size(alloc: Global, bench: &mut Handle, size: &mut LabSize) -> u32
     ensures { InLab TellsSize bench.old.slot.held bench.new.slot.held size.old size.new result }
 {
-    match bench.take(alloc) {
-        Some(held) => {
-            let status = size_in(&held, size);
-            bench.put(held);
-            status
-        }
-        None => NOT_OPEN,
-    }
+    bench_calls::size(alloc, bench, size)
 }
 
 /// Puts the name of a job into the room, and tells its length.
@@ -78,14 +44,7 @@ pub extern "C" fn lab_job_name(
 ) -> u32
     ensures { InLab (TellsJobName job) bench.old.slot.held bench.new.slot.held (name.old, written.old) (name.new, written.new) result }
 {
-    match bench.take(alloc) {
-        Some(held) => {
-            let status = job_name_in(&held, job, name, written);
-            bench.put(held);
-            status
-        }
-        None => NOT_OPEN,
-    }
+    bench_calls::job_name(alloc, bench, job, name, written)
 }
 
 /// Puts the name of an instrument into the room, and tells its length.
@@ -99,14 +58,7 @@ pub extern "C" fn lab_instrument_name(
 ) -> u32
     ensures { InLab (TellsInstrumentName instrument) bench.old.slot.held bench.new.slot.held (name.old, written.old) (name.new, written.new) result }
 {
-    match bench.take(alloc) {
-        Some(held) => {
-            let status = instrument_name_in(&held, instrument, name, written);
-            bench.put(held);
-            status
-        }
-        None => NOT_OPEN,
-    }
+    bench_calls::instrument_name(alloc, bench, instrument, name, written)
 }
 
 /// Tells what a job's session needs; sessions are counted from 1.
@@ -120,14 +72,7 @@ pub extern "C" fn lab_session_of(
 ) -> u32
     ensures { InLab (TellsSession job session) bench.old.slot.held bench.new.slot.held what.old what.new result }
 {
-    match bench.take(alloc) {
-        Some(held) => {
-            let status = session_in(&held, job, session, what);
-            bench.put(held);
-            status
-        }
-        None => NOT_OPEN,
-    }
+    bench_calls::session(alloc, bench, job, session, what)
 }
 
 /// Tells a command of a job's session, as the script has it; commands are counted from 0.
@@ -142,14 +87,7 @@ pub extern "C" fn lab_planned(
 ) -> u32
     ensures { InLab (TellsPlanned job session place) bench.old.slot.held bench.new.slot.held command.old command.new result }
 {
-    match bench.take(alloc) {
-        Some(held) => {
-            let status = planned_in(&held, job, session, place, command);
-            bench.put(held);
-            status
-        }
-        None => NOT_OPEN,
-    }
+    bench_calls::planned(alloc, bench, job, session, place, command)
 }
 
 /// Tells how far a job is.
@@ -162,35 +100,34 @@ pub extern "C" fn lab_state(
 ) -> u32
     ensures { InLab (TellsState job) bench.old.slot.held bench.new.slot.held state.old state.new result }
 {
-    match bench.take(alloc) {
-        Some(held) => {
-            let status = state_in(&held, job, state);
-            bench.put(held);
-            status
-        }
-        None => NOT_OPEN,
-    }
+    bench_calls::state(alloc, bench, job, state)
 }
 
-/// Tells which jobs keep a job waiting for an instrument, as a set: bit k stands for job k.
+/// Tells which jobs keep a job waiting for an instrument, and which of these hold it.
 #[unsafe(no_mangle)]
 pub extern "C" fn lab_keepers(
     alloc: Global,
     bench: &mut Handle,
     job: u32,
     instrument: u32,
-    jobs: &mut u32,
+    keepers: &mut LabKeepers,
 ) -> u32
-    ensures { InLab (TellsKeepers job instrument) bench.old.slot.held bench.new.slot.held jobs.old jobs.new result }
+    ensures { InLab (TellsKeepers job instrument) bench.old.slot.held bench.new.slot.held keepers.old keepers.new result }
 {
-    match bench.take(alloc) {
-        Some(held) => {
-            let status = keepers_in(&held, job, instrument, jobs);
-            bench.put(held);
-            status
-        }
-        None => NOT_OPEN,
-    }
+    bench_calls::keepers(alloc, bench, job, instrument, keepers)
+}
+
+/// Begins the next session of each job of `waiting`, and does all that can be done without a word from an owner.
+#[unsafe(no_mangle)]
+pub extern "C" fn lab_settle(
+    alloc: Global,
+    bench: &mut Handle,
+    waiting: u32,
+    came: &mut LabCame,
+) -> u32
+    ensures { InLab (SettlesAll waiting) bench.old.slot.held bench.new.slot.held came.old came.new result }
+{
+    bench_calls::settle(alloc, bench, waiting, came)
 }
 
 /// One turn of a job.
@@ -201,19 +138,12 @@ pub extern "C" fn lab_turn(
     job: u32,
     turned: &mut LabTurned,
 ) -> u32
-    ensures { InLab (Drives Took job) bench.old.slot.held bench.new.slot.held turned.old turned.new result }
+    ensures { InLab (Turns job) bench.old.slot.held bench.new.slot.held turned.old turned.new result }
 {
-    match bench.take(alloc) {
-        Some(mut held) => {
-            let status = turn_in(&mut held, job, turned);
-            bench.put(held);
-            status
-        }
-        None => NOT_OPEN,
-    }
+    bench_calls::turn(alloc, bench, job, turned)
 }
 
-/// Serves a job's neighbours: gives and asks, and meals, and nothing of its session.
+/// Gives and asks for a job, and ends or starts a meal that it owes: nothing of its sessions.
 #[unsafe(no_mangle)]
 pub extern "C" fn lab_serve(
     alloc: Global,
@@ -221,19 +151,12 @@ pub extern "C" fn lab_serve(
     job: u32,
     turned: &mut LabTurned,
 ) -> u32
-    ensures { InLab (Drives Served job) bench.old.slot.held bench.new.slot.held turned.old turned.new result }
+    ensures { InLab (Serves job) bench.old.slot.held bench.new.slot.held turned.old turned.new result }
 {
-    match bench.take(alloc) {
-        Some(mut held) => {
-            let status = serve_in(&mut held, job, turned);
-            bench.put(held);
-            status
-        }
-        None => NOT_OPEN,
-    }
+    bench_calls::serve(alloc, bench, job, turned)
 }
 
-/// Serves the neighbours of each job but this one.
+/// Serves each job but this one.
 #[unsafe(no_mangle)]
 pub extern "C" fn lab_serve_others(
     alloc: Global,
@@ -243,17 +166,10 @@ pub extern "C" fn lab_serve_others(
 ) -> u32
     ensures { InLab (ServesRest job) bench.old.slot.held bench.new.slot.held turned.old turned.new result }
 {
-    match bench.take(alloc) {
-        Some(mut held) => {
-            let status = serve_others_in(&mut held, job, turned);
-            bench.put(held);
-            status
-        }
-        None => NOT_OPEN,
-    }
+    bench_calls::serve_others(alloc, bench, job, turned)
 }
 
-/// Takes turns of a job, at most this many, and serves the others after each, until it holds.
+/// Settles for one job alone, at most this many times, until it holds.
 #[unsafe(no_mangle)]
 pub extern "C" fn lab_begin(
     alloc: Global,
@@ -262,57 +178,9 @@ pub extern "C" fn lab_begin(
     turns: u32,
     turned: &mut LabTurned,
 ) -> u32
-    ensures { InLab (GoesOn Hold turns job) bench.old.slot.held bench.new.slot.held turned.old turned.new result }
+    ensures { InLab (GoesToHold turns job) bench.old.slot.held bench.new.slot.held turned.old turned.new result }
 {
-    match bench.take(alloc) {
-        Some(mut held) => {
-            let status = go_in(&mut held, job, Aim::Hold, turns, turned);
-            bench.put(held);
-            status
-        }
-        None => NOT_OPEN,
-    }
-}
-
-/// Does the commands that are left of the session that a job holds, and ends it.
-#[unsafe(no_mangle)]
-pub extern "C" fn lab_end(
-    alloc: Global,
-    bench: &mut Handle,
-    job: u32,
-    turned: &mut LabTurned,
-) -> u32
-    ensures { InLab (LetsGo job) bench.old.slot.held bench.new.slot.held turned.old turned.new result }
-{
-    match bench.take(alloc) {
-        Some(mut held) => {
-            let status = end_in(&mut held, job, turned);
-            bench.put(held);
-            status
-        }
-        None => NOT_OPEN,
-    }
-}
-
-/// Takes turns of a job whose sessions are all done, at most this many, and serves the others after each, until it is retired.
-#[unsafe(no_mangle)]
-pub extern "C" fn lab_retire(
-    alloc: Global,
-    bench: &mut Handle,
-    job: u32,
-    turns: u32,
-    turned: &mut LabTurned,
-) -> u32
-    ensures { InLab (GoesOn Retire turns job) bench.old.slot.held bench.new.slot.held turned.old turned.new result }
-{
-    match bench.take(alloc) {
-        Some(mut held) => {
-            let status = go_in(&mut held, job, Aim::Retire, turns, turned);
-            bench.put(held);
-            status
-        }
-        None => NOT_OPEN,
-    }
+    bench_calls::begin(alloc, bench, job, turns, turned)
 }
 
 /// Does the next command of the session that a job holds, and tells its entry.
@@ -325,14 +193,20 @@ pub extern "C" fn lab_command(
 ) -> u32
     ensures { InLab (DoesNext job) bench.old.slot.held bench.new.slot.held entry.old entry.new result }
 {
-    match bench.take(alloc) {
-        Some(mut held) => {
-            let status = command_in(&mut held, job, entry);
-            bench.put(held);
-            status
-        }
-        None => NOT_OPEN,
-    }
+    bench_calls::command(alloc, bench, job, entry)
+}
+
+/// Does the commands that are left of the session that a job holds, ends it, and does all that this makes due.
+#[unsafe(no_mangle)]
+pub extern "C" fn lab_end(
+    alloc: Global,
+    bench: &mut Handle,
+    job: u32,
+    turned: &mut LabTurned,
+) -> u32
+    ensures { InLab (LetsGo job) bench.old.slot.held bench.new.slot.held turned.old turned.new result }
+{
+    bench_calls::end(alloc, bench, job, turned)
 }
 
 /// Gives up the session that a job is thirsty in, if it has a patience.
@@ -340,18 +214,25 @@ pub extern "C" fn lab_command(
 pub extern "C" fn lab_withdraw(alloc: Global, bench: &mut Handle, job: u32) -> u32
     ensures { InLab (GivesUp job) bench.old.slot.held bench.new.slot.held tt tt result }
 {
-    match bench.take(alloc) {
-        Some(mut held) => {
-            let status = withdraw_in(&mut held, job);
-            bench.put(held);
-            status
-        }
-        None => NOT_OPEN,
-    }
+    bench_calls::withdraw(alloc, bench, job)
 }
 
-/// Closes the lab, and puts its report into the room. Without memory the handle keeps the lab, or its end, and without room the report:
-/// the next call goes on from there.
+/// Retires a job whose sessions are all done.
+#[unsafe(no_mangle)]
+pub extern "C" fn lab_retire(
+    alloc: Global,
+    bench: &mut Handle,
+    job: u32,
+    turns: u32,
+    turned: &mut LabTurned,
+) -> u32
+    ensures { InLab (GoesToEnd turns job) bench.old.slot.held bench.new.slot.held turned.old turned.new result }
+{
+    bench_calls::retire(alloc, bench, job, turns, turned)
+}
+
+/// Closes the lab, and puts its report into the room. Without memory the handle keeps the lab, and without room the report: the next call goes on
+/// from there.
 #[unsafe(no_mangle)]
 pub extern "C" fn lab_bench_close(
     alloc: Global,
@@ -361,15 +242,7 @@ pub extern "C" fn lab_bench_close(
 ) -> u32
     ensures { Closes bench.old.slot.held bench.new.slot.held report.old report.new told.old told.new result }
 {
-    match bench.take(alloc) {
-        Some(mut held) => {
-            let (after, status) = ended(alloc, Box::replace(&mut held, Held::Moved), report, told);
-            Box::replace(&mut held, after);
-            bench.put(held);
-            status
-        }
-        None => NOT_OPEN,
-    }
+    bench_calls::close(alloc, bench, report, told)
 }
 
 /// Frees what the handle has, which then has nothing.
@@ -377,5 +250,5 @@ pub extern "C" fn lab_bench_close(
 pub extern "C" fn lab_bench_free(alloc: Global, bench: &mut Handle)
     ensures { bench.new.slot.held ≡ None }
 {
-    let _ = bench.take(alloc);
+    bench_calls::free(alloc, bench)
 }

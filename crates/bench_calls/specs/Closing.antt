@@ -1,39 +1,30 @@
--- For readers: how a bench ends, and what is then in the handle and in the caller's memory.
-use Rattle.std.specs.Prelude.{◌≡◌, ◌⊎◌, ℕ, List, Ok}
-use Rattle.edge_rule.specs.Ending.{IsEnd}
+-- For readers: how a lab is closed, and what is then in the handle and in the caller's memory.
+use Rattle.std.specs.Prelude.{◌≡◌, ◌⊎◌, ℕ, List, Option, Some, None, Ok}
 use Rattle.lab_program.specs.declared.faults.RunFault.TheVariants.{NoMemory}
 use Rattle.lab_program.specs.Faults.{status_of}
-use Rattle.bench_door.specs.declared.lab.Lab.{Lab}
-use Rattle.bench_door.specs.declared.closing.LabEnd.{LabEnd}
-use Rattle.bench_door.specs.declared.closing.Printed.{Printed}
-use Rattle.bench_door.specs.Ends.{IsPrint, HasReport, HasSomeReport}
+use Rattle.live_lab.specs.declared.printing.Printed.{Printed}
+use Rattle.live_lab.specs.Prints.{IsPrint, HasReport, HasSomeReport}
 use Rattle.c_tells.specs.declared.telling.Told.{Told}
 use Rattle.c_tells.specs.Telling.{Delivers, Fails}
 use Rattle.bench_calls.specs.declared.ending.Held.{Held}
-use Rattle.bench_calls.specs.declared.ending.Held.TheVariants.{Open, Ended, Reported, Moved as Gone}
+use Rattle.bench_calls.specs.declared.ending.Held.TheVariants.{Open, Reported}
 
 -- the text of the report, and then what is told of it: it stands in the room, or there is no room for it (6)
 abbrev pub Reports : Printed → List ℕ → List ℕ → Told → ℕ → Type 0
 Reports p room room' told' status = Delivers (status_of (Ok p.outcome)) p.text.items room room' told' status
 
--- without memory (5) the room is as it was
-abbrev pub NoRoomYet : List ℕ → List ℕ → Told → ℕ → Type 0
-NoRoomYet room room' told' status = Fails NoMemory room room' told' status
-
--- An open lab was closed, and its report, which is printed of its end, is in the handle and given; or memory was refused, and the handle
--- has the lab, or its end.
--- The end of a lab is printed, or stays without memory. A report is given again. Of every report that is given the headline holds, whatever the calls were:
--- of that of an open lab as a report of its own plan, and of the others it is known that there is such a run
-abbrev pub ClosesHeld : Held → Held → List ℕ → List ℕ → Told → Told → ℕ → Type 0
-ClosesHeld (Open a) new room room' told told' status =
-    ((e : LabEnd) × (p : Printed) × IsEnd a.bench.plan a.desks.items e.closed × IsPrint e.closed p.text.items p.outcome
-    × HasReport a.bench.plan p.text.items p.outcome × (new ≡ Reported p) × Reports p room room' told' status)
-    ⊎ ((b : Lab) × (b.bench ≡ a.bench) × (b.desks.items ≡ a.desks.items) × (new ≡ Open b) × NoRoomYet room room' told' status)
-    ⊎ ((e : LabEnd) × IsEnd a.bench.plan a.desks.items e.closed × (new ≡ Ended e) × NoRoomYet room room' told' status)
-ClosesHeld (Ended e) new room room' told told' status =
-    ((p : Printed) × IsPrint e.closed p.text.items p.outcome × ∥ HasReport e.closed.plan p.text.items p.outcome ∥₁ × (new ≡ Reported p)
+-- The report of an open lab is in the handle now, and is given; or memory was refused (5), and the handle has the lab as it was.
+-- A report is given again. Of every report that is given the headline holds, whatever the calls were: of that of an open lab as a report of its own plan,
+-- and of one that is given again it is known that there is such a run
+abbrev pub ClosesHeld : Held → Held → List ℕ → List ℕ → Told → ℕ → Type 0
+ClosesHeld (Open a) new room room' told' status =
+    ((p : Printed) × IsPrint a.world p.text.items p.outcome × HasReport a.world.plan p.text.items p.outcome × (new ≡ Reported p)
     × Reports p room room' told' status)
-    ⊎ ((new ≡ Ended e) × NoRoomYet room room' told' status)
-ClosesHeld (Reported p) new room room' told told' status =
+    ⊎ ((new ≡ Open a) × Fails NoMemory room room' told' status)
+ClosesHeld (Reported p) new room room' told' status =
     ∥ HasSomeReport p.text.items p.outcome ∥₁ × (new ≡ Reported p) × Reports p room room' told' status
-ClosesHeld Gone new room room' told told' status = (status ≡ 7) × (new ≡ Gone) × (room' ≡ room) × (told' ≡ told)
+
+-- so what the handle has was closed; or it has nothing, and nothing changed (7)
+abbrev pub Closes : Option Held → Option Held → List ℕ → List ℕ → Told → Told → ℕ → Type 0
+Closes (Some old) new room room' told told' status = (h : Held) × (new ≡ Some h) × ClosesHeld old h room room' told' status
+Closes None new room room' told told' status = (status ≡ 7) × (new ≡ None) × (room' ≡ room) × (told' ≡ told)

@@ -1,5 +1,5 @@
--- For readers: what is told of a turn, a session, a job and an entry, number by number.
-use Rattle.std.specs.Prelude.{◌≡◌, ℕ, Option, Some, None}
+-- For readers: what is told of what a lab answers, number by number.
+use Rattle.std.specs.Prelude.{◌≡◌, ℕ, Bool, if◌then◌else◌, Option, Some, None}
 use Rattle.instrument_log.specs.declared.entry.Entry.{Entry}
 use Rattle.lab_plan.specs.declared.verb.Verb.{Verb}
 use Rattle.lab_plan.specs.declared.verb.Verb.TheVariants.{Set, Add, Read as Reads}
@@ -9,16 +9,20 @@ use Rattle.legal_steps.specs.declared.phase.Drinking.{Drinking}
 use Rattle.legal_steps.specs.declared.phase.Drinking.TheVariants as drinks
 use Rattle.session_layer.specs.declared.turning.Turned.{Turned}
 use Rattle.session_layer.specs.declared.turning.Turned.TheVariants.{Acted, Moved, Idle}
-use Rattle.bench_door.specs.declared.going.Aim.{Aim}
-use Rattle.bench_door.specs.declared.going.Aim.TheVariants.{Hold, Retire}
-use Rattle.bench_door.specs.declared.going.Stage.{Stage}
-use Rattle.bench_door.specs.declared.going.Stage.TheVariants.{There, OnTheWay, Barred}
-use Rattle.bench_door.specs.declared.going.Ended.{Ended}
-use Rattle.bench_door.specs.declared.going.Ended.TheVariants.{NotHeld, LetGo, StillHeld}
-use Rattle.bench_door.specs.declared.readers.SessionFacts.{SessionFacts}
-use Rattle.bench_door.specs.declared.readers.Standing.{Standing}
-use Rattle.bench_door.specs.declared.planned.Planned.{Planned}
+use Rattle.live_lab.specs.declared.stage.Aim.{Aim}
+use Rattle.live_lab.specs.declared.stage.Aim.TheVariants.{Hold, Retire}
+use Rattle.live_lab.specs.declared.stage.Stage.{Stage}
+use Rattle.live_lab.specs.declared.stage.Stage.TheVariants.{There, OnTheWay, Barred}
+use Rattle.live_lab.specs.declared.ending.Ended.{Ended}
+use Rattle.live_lab.specs.declared.ending.Ended.TheVariants.{NotHeld, LetGo}
+use Rattle.live_lab.specs.declared.settle.Came.{Came}
+use Rattle.live_lab.specs.declared.keeping.Keepers.{Keepers}
+use Rattle.live_lab.specs.declared.readers.SessionFacts.{SessionFacts}
+use Rattle.live_lab.specs.declared.readers.Standing.{Standing}
+use Rattle.live_lab.specs.declared.planned.Planned.{Planned}
 use Rattle.bench_calls.specs.declared.told.LabTurned.{LabTurned}
+use Rattle.bench_calls.specs.declared.told.LabCame.{LabCame}
+use Rattle.bench_calls.specs.declared.told.LabKeepers.{LabKeepers}
 use Rattle.bench_calls.specs.declared.told.LabSession.{LabSession}
 use Rattle.bench_calls.specs.declared.told.LabState.{LabState}
 use Rattle.bench_calls.specs.declared.told.LabEntry.{LabEntry}
@@ -36,11 +40,23 @@ stage_status aim OnTheWay = 8
 stage_status Hold Barred = 9
 stage_status Retire Barred = 8
 
--- it let go (0); or it still holds, or it never held and nothing is told (8)
+-- a job that can't retire, because it has sessions left, is told apart (10)
+abbrev pub retire_status : Stage → ℕ
+retire_status There = 0
+retire_status OnTheWay = 8
+retire_status Barred = 10
+
+-- it let go (0); or it never held, and nothing is told (8)
 abbrev pub TellsEnded : Ended → LabTurned → LabTurned → ℕ → Type 0
 TellsEnded (LetGo r) told told' status = (status ≡ 0) × (told' ≡ turned_of r)
-TellsEnded (StillHeld r) told told' status = (status ≡ 8) × (told' ≡ turned_of r)
 TellsEnded NotHeld told told' status = (status ≡ 8) × (told' ≡ told)
+
+-- the sets and the number of deeds as they are
+abbrev pub came_of : Came → LabCame
+came_of c = record { holds = c.holds; given_up = c.given_up; none_left = c.none_left; deeds = c.deeds }
+
+abbrev pub keepers_of : Keepers → LabKeepers
+keepers_of k = record { jobs = k.jobs; holding = k.holding }
 
 abbrev pub turns_of : Option ℕ → ℕ × ℕ
 turns_of (Some turns) = (turns, 1)
@@ -97,3 +113,25 @@ TellsEntry None told told' status = (status ≡ 8) × (told' ≡ told)
 
 abbrev pub planned_of : Planned → LabPlanned
 planned_of c = record { instrument = c.instrument; verb = (verb_numbers c.verb).0; number = (verb_numbers c.verb).1 }
+
+-- ---- the answers of a lab
+
+-- so is told what it answered; or it didn't, because there is no such job, session or instrument, and nothing is told (2)
+abbrev pub IfTold : {R T : Type 0} → (R → T → T → ℕ → Type 0) → Option R → T → T → ℕ → Type 0
+IfTold Tells (Some r) told told' status = Tells r told told' status
+IfTold Tells None told told' status = (status ≡ 2) × (told' ≡ told)
+
+-- the answer as it is
+abbrev pub TellsAs : {R T : Type 0} → (R → T) → R → T → T → ℕ → Type 0
+TellsAs how r told told' status = (status ≡ 0) × (told' ≡ how r)
+
+-- a session was given up (0), or it could not be (8)
+abbrev pub TellsDid : Bool → Unit {0} → Unit {0} → ℕ → Type 0
+TellsDid did told told' status = status ≡ (if did then 0 else 8)
+
+-- what was done, and how far the job is on its way to hold, or to be retired
+abbrev pub TellsBegun : Stage × Turned → LabTurned → LabTurned → ℕ → Type 0
+TellsBegun a told told' status = (status ≡ stage_status Hold a.0) × (told' ≡ turned_of a.1)
+
+abbrev pub TellsRetired : Stage × Turned → LabTurned → LabTurned → ℕ → Type 0
+TellsRetired a told told' status = (status ≡ retire_status a.0) × (told' ≡ turned_of a.1)

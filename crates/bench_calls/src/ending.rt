@@ -1,10 +1,12 @@
-//! What a handle has of a bench, and its end: from a lab to its end, and from there to its report.
-ghost use Rattle.bench_calls.specs.Closing.{ClosesHeld, Reports};
+//! What a handle has, and how it ends: from a lab to its report.
+ghost use Rattle.std.specs.Prelude.{◌≡◌, None};
+ghost use Rattle.bench_calls.specs.Closing.{Closes, ClosesHeld, Reports};
 
+use crate::handle::Handle;
 use crate::statuses::NOT_OPEN;
-use bench_door::{Lab, LabEnd, Printed, print};
 use c_tells::{Told, deliver, fail};
 use lab_program::{RunFault, status_of};
+use live_lab::{Lab, Printed};
 use std::alloc::Global;
 
 /// What a handle has.
@@ -12,12 +14,8 @@ use std::alloc::Global;
 pub enum Held {
     /// A lab that goes on.
     Open(Lab),
-    /// The end of a lab whose report found no memory yet.
-    Ended(LabEnd),
-    /// The report of a lab that has ended.
+    /// The report of a lab that was closed.
     Reported(Printed),
-    /// Nothing, within a call that puts something else there before it returns.
-    Moved,
 }
 
 fn give(printed: &Printed, room: &mut [u8], told: &mut Told) -> u32
@@ -27,32 +25,38 @@ fn give(printed: &Printed, room: &mut [u8], told: &mut Told) -> u32
     deliver(full, printed.text.as_slice(), room, told)
 }
 
-/// One step of the end, and the next as far as memory goes.
-pub fn ended(alloc: Global, held: Held, room: &mut [u8], told: &mut Told) -> (Held, u32)
-    ensures { ClosesHeld held result.0 room.old room.new told.old told.new result.1 }
+/// The lab's report takes its place, as far as memory goes, and is given.
+fn close_in(alloc: Global, held: &mut Held, room: &mut [u8], told: &mut Told) -> u32
+    ensures { ClosesHeld held.old held.new room.old room.new told.new result }
 {
     match held {
-        Held::Open(lab) => match lab.close(alloc) {
-            Ok(end) => match print(alloc, &end) {
-                Some(printed) => {
-                    let status = give(&printed, room, told);
-                    (Held::Reported(printed), status)
-                }
-                None => (Held::Ended(end), fail(RunFault::NoMemory, told)),
-            },
-            Err(lab) => (Held::Open(lab), fail(RunFault::NoMemory, told)),
-        },
-        Held::Ended(end) => match print(alloc, &end) {
+        Held::Open(lab) => match lab.print(alloc) {
             Some(printed) => {
                 let status = give(&printed, room, told);
-                (Held::Reported(printed), status)
+                *held = Held::Reported(printed);
+                status
             }
-            None => (Held::Ended(end), fail(RunFault::NoMemory, told)),
+            None => fail(RunFault::NoMemory, told),
         },
-        Held::Reported(printed) => {
-            let status = give(&printed, room, told);
-            (Held::Reported(printed), status)
-        }
-        Held::Moved => (Held::Moved, NOT_OPEN),
+        Held::Reported(printed) => give(printed, room, told),
     }
+}
+
+/// Closes the lab, and puts its report into the room. Without memory the handle keeps the lab, and without room the report: the next call goes on from there.
+pub fn close(alloc: Global, bench: &mut Handle, room: &mut [u8], told: &mut Told) -> u32
+    ensures { Closes bench.old.slot.held bench.new.slot.held room.old room.new told.old told.new result }
+{
+    let Some(mut held) = bench.take(alloc) else {
+        return NOT_OPEN;
+    };
+    let status = close_in(alloc, &mut held, room, told);
+    bench.put(held);
+    status
+}
+
+/// Frees what the handle has, which then has nothing.
+pub fn free(alloc: Global, bench: &mut Handle)
+    ensures { bench.new.slot.held ≡ None }
+{
+    let _ = bench.take(alloc);
 }

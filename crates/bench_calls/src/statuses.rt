@@ -1,10 +1,17 @@
-//! The statuses that say how far a job is, and what is told with them.
-ghost use Rattle.std.specs.Prelude.{◌≡◌, if◌then◌else◌};
-ghost use Rattle.bench_calls.specs.Telling.{stage_status, TellsEnded, TellsEntry};
+//! The statuses, and what is told with them of what a lab answered.
+ghost use Rattle.std.specs.Prelude.{◌≡◌, if◌then◌else◌, length};
+ghost use Rattle.c_tells.specs.Telling.{Gives};
+ghost use Rattle.bench_calls.specs.Telling.{stage_status, retire_status, TellsEntry, TellsDid, TellsBegun, TellsRetired, TellsEnded, TellsAs, IfTold};
+ghost use Rattle.bench_calls.specs.Telling.{turned_of, came_of, session_of, state_of, planned_of, keepers_of};
 
-use crate::told::{LabEntry, LabTurned, entry_of, turned_of};
-use bench_door::{Aim, Ended, Stage};
+use crate::told::{
+    LabCame, LabEntry, LabKeepers, LabPlanned, LabSession, LabState, LabTurned, came_of, entry_of,
+    keepers_of, planned_of, session_of, state_of, turned_of,
+};
+use c_tells::put;
 use instrument_log::Entry;
+use live_lab::{Aim, Came, Ended, Keepers, Planned, SessionFacts, Stage, Standing};
+use session_layer::Turned;
 
 /// The status if there is no such job, session or instrument.
 pub const NO_JOB: u32 = 2;
@@ -17,6 +24,11 @@ pub const NOT_NOW: u32 = 8;
 
 const NO_SESSION: u32 = 9;
 
+const SESSIONS_LEFT: u32 = 10;
+
+/// The status if the handle that is to be opened has something.
+pub(crate) const IN_USE: u32 = 11;
+
 /// Whether a session was given up.
 pub fn withdrew(did: bool) -> u32
     ensures { result ≡ (if did then 0 else 8) }
@@ -24,7 +36,7 @@ pub fn withdrew(did: bool) -> u32
     if did { 0 } else { NOT_NOW }
 }
 
-/// How far a job is on its way.
+/// How far a job is on its way, by turns of its own.
 pub fn stage_status(aim: Aim, stage: Stage) -> u32
     ensures { result ≡ stage_status aim stage }
 {
@@ -35,6 +47,16 @@ pub fn stage_status(aim: Aim, stage: Stage) -> u32
             Aim::Hold => NO_SESSION,
             Aim::Retire => NOT_NOW,
         },
+    }
+}
+
+fn retire_status(stage: Stage) -> u32
+    ensures { result ≡ retire_status stage }
+{
+    match stage {
+        Stage::There => 0,
+        Stage::OnTheWay => NOT_NOW,
+        Stage::Barred => SESSIONS_LEFT,
     }
 }
 
@@ -51,19 +73,112 @@ pub fn tell_entry(entry: Option<Entry>, told: &mut LabEntry) -> u32
     }
 }
 
-/// Tells what was done to end a session.
-pub fn tell_ended(ended: Ended, told: &mut LabTurned) -> u32
-    ensures { TellsEnded ended told.old told.new result }
+// Each of these tells what a lab answered, or that there is no such job.
+
+pub(crate) fn tell_turned(answer: Option<Turned>, told: &mut LabTurned) -> u32
+    ensures { IfTold (TellsAs turned_of) answer told.old told.new result }
 {
-    match ended {
-        Ended::NotHeld => NOT_NOW,
-        Ended::LetGo(answer) => {
-            *told = turned_of(answer);
+    let Some(turned) = answer else { return NO_JOB };
+    *told = turned_of(turned);
+    0
+}
+
+pub(crate) fn tell_command(answer: Option<Option<Entry>>, told: &mut LabEntry) -> u32
+    ensures { IfTold TellsEntry answer told.old told.new result }
+{
+    match answer {
+        Some(entry) => tell_entry(entry, told),
+        None => NO_JOB,
+    }
+}
+
+pub(crate) fn tell_withdrew(answer: Option<bool>) -> u32
+    ensures { IfTold TellsDid answer tt tt result }
+{
+    match answer {
+        Some(did) => withdrew(did),
+        None => NO_JOB,
+    }
+}
+
+pub(crate) fn tell_begun(answer: Option<(Stage, Turned)>, told: &mut LabTurned) -> u32
+    ensures { IfTold TellsBegun answer told.old told.new result }
+{
+    let Some((stage, turned)) = answer else {
+        return NO_JOB
+    };
+    *told = turned_of(turned);
+    stage_status(Aim::Hold, stage)
+}
+
+pub(crate) fn tell_retired(answer: Option<(Stage, Turned)>, told: &mut LabTurned) -> u32
+    ensures { IfTold TellsRetired answer told.old told.new result }
+{
+    let Some((stage, turned)) = answer else {
+        return NO_JOB
+    };
+    *told = turned_of(turned);
+    retire_status(stage)
+}
+
+pub(crate) fn tell_ended(answer: Option<Ended>, told: &mut LabTurned) -> u32
+    ensures { IfTold TellsEnded answer told.old told.new result }
+{
+    match answer {
+        Some(Ended::LetGo(turned)) => {
+            *told = turned_of(turned);
             0
         }
-        Ended::StillHeld(answer) => {
-            *told = turned_of(answer);
-            NOT_NOW
-        }
+        Some(Ended::NotHeld) => NOT_NOW,
+        None => NO_JOB,
     }
+}
+
+pub(crate) fn tell_session(answer: Option<SessionFacts>, told: &mut LabSession) -> u32
+    ensures { IfTold (TellsAs session_of) answer told.old told.new result }
+{
+    let Some(answer) = answer else { return NO_JOB };
+    *told = session_of(answer);
+    0
+}
+
+pub(crate) fn tell_planned(answer: Option<Planned>, told: &mut LabPlanned) -> u32
+    ensures { IfTold (TellsAs planned_of) answer told.old told.new result }
+{
+    let Some(answer) = answer else { return NO_JOB };
+    *told = planned_of(answer);
+    0
+}
+
+pub(crate) fn tell_standing(answer: Option<Standing>, told: &mut LabState) -> u32
+    ensures { IfTold (TellsAs state_of) answer told.old told.new result }
+{
+    let Some(answer) = answer else { return NO_JOB };
+    *told = state_of(answer);
+    0
+}
+
+pub(crate) fn tell_keepers(answer: Option<Keepers>, told: &mut LabKeepers) -> u32
+    ensures { IfTold (TellsAs keepers_of) answer told.old told.new result }
+{
+    let Some(answer) = answer else { return NO_JOB };
+    *told = keepers_of(answer);
+    0
+}
+
+/// Tells the length of a name, and puts it into the room, if it has room for it.
+pub(crate) fn tell_name(name: &[u8], room: &mut [u8], written: &mut usize) -> u32
+    ensures length { written.new ≡ length name.now }
+    ensures gives { Gives 0 name.now room.old room.new result }
+{
+    *written = name.len();
+    put(0, name, room)
+}
+
+/// Tells what came of a settle.
+pub(crate) fn tell_came(came: Came, told: &mut LabCame) -> u32
+    ensures { TellsAs came_of came told.old told.new result }
+{
+    *told = came_of(came);
+    0
 }

@@ -1,11 +1,11 @@
 //! What a call tells of a lab.
 ghost use Rattle.std.specs.Prelude.{◌≡◌};
-ghost use Rattle.bench_calls.specs.Telling.{turned_of, state_of, entry_of, session_of, planned_of, verb_numbers};
+ghost use Rattle.bench_calls.specs.Telling.{turned_of, came_of, state_of, entry_of, session_of, keepers_of, planned_of, verb_numbers};
 
-use bench_door::{Planned, SessionFacts, Standing};
 use instrument_log::Entry;
 use lab_plan::Verb;
 use legal_steps::{Dining, Drinking};
+use live_lab::{Came, Keepers, Planned, SessionFacts, Standing};
 use session_layer::Turned;
 
 /// What became of a turn. In C: `struct lab_turned { uint32_t what, count; };`
@@ -24,6 +24,50 @@ pub fn turned_of(turned: Turned) -> LabTurned
         Turned::Acted(count) => LabTurned { what: 2, count },
         Turned::Moved => LabTurned { what: 1, count: 0 },
         Turned::Idle => LabTurned { what: 0, count: 0 },
+    }
+}
+
+/// What came of a settle. In C: `struct lab_came { uint32_t holds, given_up, none_left, deeds; };`
+#[repr(C)]
+#[derive(Clone, Copy)]
+pub struct LabCame {
+    /// The jobs that hold now: bit k stands for job k.
+    pub holds: u32,
+    /// The jobs whose session was given up.
+    pub given_up: u32,
+    /// Those that were waited for and are in no session and have none left.
+    pub none_left: u32,
+    /// How many steps were done, looks aside.
+    pub deeds: u32,
+}
+
+pub fn came_of(came: Came) -> LabCame
+    ensures { result ≡ came_of came }
+{
+    LabCame {
+        holds: came.holds,
+        given_up: came.given_up,
+        none_left: came.none_left,
+        deeds: came.deeds,
+    }
+}
+
+/// Who keeps a job waiting. In C: `struct lab_keepers { uint32_t jobs, holding; };`
+#[repr(C)]
+#[derive(Clone, Copy)]
+pub struct LabKeepers {
+    /// The jobs that keep the instrument from it: bit k stands for job k.
+    pub jobs: u32,
+    /// Those of them that hold it.
+    pub holding: u32,
+}
+
+pub fn keepers_of(keepers: Keepers) -> LabKeepers
+    ensures { result ≡ keepers_of keepers }
+{
+    LabKeepers {
+        jobs: keepers.jobs,
+        holding: keepers.holding,
     }
 }
 

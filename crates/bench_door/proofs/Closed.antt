@@ -12,7 +12,7 @@ use Rattle.whole_runs.specs.Shown.{shown_in}
 use Rattle.whole_runs.proofs.Ends.{shows}
 use Rattle.lab_program.specs.declared.faults.Outcome.{Outcome}
 use Rattle.lab_program.specs.Reports.{outcome_of}
-use Rattle.bench_door.specs.Ends.{HasReport}
+use Rattle.live_lab.specs.Prints.{HasReport}
 
 pub reported : HasOneReport → HoldsOfEveryRun → (plan : LabPlan) (desks : List DeskView) (c : ClosedView) → IsEnd plan desks c
     → (text : List ℕ) (outcome : Outcome) → text ≡ report_of c.plan (shown_in c) → outcome ≡ outcome_of (all_retired c.plan (shown_in c))

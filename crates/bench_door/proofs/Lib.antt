@@ -1,2 +1,3 @@
+pub mod Crosses
 mod Closed
 mod OneMore

@@ -1,5 +1,5 @@
--- For readers: what the calls do that take turns until something is so.
-use Rattle.std.specs.Prelude.{◌≡◌, ◌≢◌, ◌⊎◌, ℕ, zero, suc, ◌+◌, min, ◌≤◌, Bool, true, false, IsTrue, ◌↔◌, List, length, Option, Some, None, slice_get}
+-- For readers: how far a job is on its way, and how its session ends.
+use Rattle.std.specs.Prelude.{◌≡◌, ◌⊎◌, ℕ, zero, suc, ◌+◌, min, Bool, true, false, IsTrue, ◌↔◌, length}
 use Rattle.lab_plan.specs.LabPlan.{sessions}
 use Rattle.legal_steps.specs.declared.phase.Drinking.TheVariants.{Tranquil}
 use Rattle.legal_steps.specs.State.{phase}
@@ -10,13 +10,12 @@ use Rattle.session_layer.specs.Turn.{Took}
 use Rattle.desk_user.specs.declared.until.Until.TheVariants.{Holds, Retired}
 use Rattle.desk_user.specs.Use.{IsAt}
 use Rattle.desk_user.specs.Serving.{Served}
-use Rattle.bench_door.specs.declared.going.Aim.{Aim}
-use Rattle.bench_door.specs.declared.going.Aim.TheVariants.{Hold, Retire}
-use Rattle.bench_door.specs.declared.going.Stage.{Stage}
-use Rattle.bench_door.specs.declared.going.Stage.TheVariants.{There, OnTheWay, Barred}
+use Rattle.live_lab.specs.declared.stage.Aim.{Aim}
+use Rattle.live_lab.specs.declared.stage.Aim.TheVariants.{Hold, Retire}
+use Rattle.live_lab.specs.declared.stage.Stage.{Stage}
+use Rattle.live_lab.specs.declared.stage.Stage.TheVariants.{There, OnTheWay, Barred}
 use Rattle.bench_door.specs.declared.going.Ended.{Ended}
 use Rattle.bench_door.specs.declared.going.Ended.TheVariants.{NotHeld, LetGo, StillHeld}
-use Rattle.bench_door.specs.Doors.{TurnsAt}
 
 -- what two answers say together: all acts that were done, as far as 32 bits go; or else whether an exchange found another word
 abbrev pub both : Turned → Turned → Turned
@@ -27,21 +26,6 @@ both Moved (Acted n) = Acted n
 both Moved Moved = Moved
 both Moved Idle = Moved
 both Idle second = second
-
--- ---- the others
-
--- each of the first this many jobs but this one was served, in ascending order, and nothing else was done
-abbrev pub ServesOthers : ℕ → ℕ → List DeskView → Turned → List DeskView → Type 0
-ServesOthers job zero old r new = (r ≡ Idle) × (new ≡ old)
-ServesOthers job (suc k) old r new =
-    (s : Turned) × (mid : List DeskView) × ServesOthers job k old s mid
-    × (((k ≡ job) × (r ≡ s) × (new ≡ mid))
-    ⊎ ((k ≢ job) × (t : Turned) × TurnsAt Served k mid (Some t) new × (r ≡ both s t)))
-
--- each job but this one was served; or there is no such job
-abbrev pub OthersServed : ℕ → List DeskView → Option Turned → List DeskView → Type 0
-OthersServed job old (Some r) new = ServesOthers job (length old) old r new
-OthersServed job old None new = (length old ≤ job) × (new ≡ old)
 
 -- ---- on the way
 
@@ -57,30 +41,6 @@ IsStage Hold d Barred = (IsAt Holds d → ⊥) × (IsAt Retired d ⊎ IsThrough 
 IsStage Retire d There = IsAt Retired d
 IsStage Retire d OnTheWay = (IsAt Retired d → ⊥) × IsThrough d
 IsStage Retire d Barred = (IsAt Retired d → ⊥) × (IsThrough d → ⊥)
-
-abbrev pub StageAt : Aim → ℕ → List DeskView → Stage → Type 0
-StageAt aim job desks stage = (d : DeskView) × (slice_get desks job ≡ Some d) × IsStage aim d stage
-
--- the job took a turn, and then each other was served
-abbrev pub IsRound : ℕ → List DeskView → Turned → List DeskView → Type 0
-IsRound job old r new =
-    (s : Turned) × (mid : List DeskView) × (t : Turned) × TurnsAt Took job old (Some s) mid × OthersServed job mid (Some t) new × (r ≡ both s t)
-
--- this many rounds, one after another, and before each of them the job was on its way
-abbrev pub Rounds : Aim → ℕ → ℕ → List DeskView → Turned → List DeskView → Type 0
-Rounds aim job zero old r new = (r ≡ Idle) × (new ≡ old)
-Rounds aim job (suc n) old r new =
-    (s : Turned) × (mid : List DeskView) × (t : Turned) × Rounds aim job n old s mid × StageAt aim job mid OnTheWay × IsRound job mid t new × (r ≡ both s t)
-
--- some rounds, and in the last of them nothing was due at any job
-abbrev pub EndsIdle : Aim → ℕ → List DeskView → List DeskView → Type 0
-EndsIdle aim job old new = (k : ℕ) × (s : Turned) × (mid : List DeskView) × Rounds aim job k old s mid × IsRound job mid Idle new
-
--- The job is so far, after rounds, at most this many; if it is still on its way, it took them all, or the last of them was idle. Or there is no such job
-abbrev pub Goes : Aim → ℕ → ℕ → List DeskView → Option (Stage × Turned) → List DeskView → Type 0
-Goes aim most job old (Some a) new =
-    (n : ℕ) × (n ≤ most) × Rounds aim job n old a.1 new × StageAt aim job new a.0 × (a.0 ≡ OnTheWay → (n ≡ most) ⊎ EndsIdle aim job old new)
-Goes aim most job old None new = (length old ≤ job) × (new ≡ old)
 
 -- ---- the end of a session
 

@@ -2,4 +2,4 @@ pub mod Doors
 pub mod Ends
 pub mod Going
 pub mod Own
-pub mod Planned
+pub mod Closing

@@ -1,13 +1,14 @@
 //! The end of a lab, and its report.
 ghost use Rattle.std.specs.Prelude.{◌≡◌, IfOk, IfErr, IfSome};
 ghost use Rattle.edge_rule.specs.Ending.{IsEnd};
-ghost use Rattle.bench_door.specs.Ends.{IsEndOfDesks, IsPrint, HasSomeReport, EndsHaveReports};
+ghost use Rattle.bench_door.specs.Ends.{IsEndOfDesks, IsPrint, EndsHaveReports};
 
 use crate::lab::Lab;
 use c_tells::Kept;
 use edge_rule::{CloseRefused, Closed};
 use headline::holds_of_every_run;
 use lab_program::Outcome;
+use live_lab::Printed;
 use report::laws::one_report;
 use report::{all_retired, write_report};
 use std::alloc::Global;
@@ -18,14 +19,6 @@ use whole_runs::AtEnd;
 pub struct LabEnd {
     pub closed: Closed<'static, Global>,
     ghost ended: { ∥ IsEndOfDesks closed ∥₁ },
-}
-
-/// A report, and how the run ended.
-#[derive(Drop)]
-pub struct Printed {
-    pub text: Vec<u8, Global>,
-    pub outcome: Outcome,
-    ghost reported: { ∥ HasSomeReport text.items outcome ∥₁ },
 }
 
 impl Lab {

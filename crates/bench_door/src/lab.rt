@@ -5,7 +5,7 @@ ghost use Rattle.turns.specs.Lists.{Each};
 ghost use Rattle.edge_rule.specs.DeskView.{Owns};
 ghost use Rattle.script_reader.specs.Script.{ScriptMeans};
 ghost use Rattle.desk_user.specs.Use.{opened};
-ghost use Rattle.bench_door.specs.Doors.{IsWhyNot};
+ghost use Rattle.live_lab.specs.Labs.{IsWhyNot};
 ghost use Rattle.bench_door.specs.Own.{each_prop};
 
 use desk_user::open;

@@ -1,20 +1,16 @@
-//! A bench with all its desks, for callers that name a job by its number: any job's desk may be driven by any call, one call at a time.
-//!
-//! A call that names a job that isn't there changes nothing and answers `None`.
+//! A bench with all its desks, as threads are to share it: how it is opened and closed, the steps of one desk, and how its report is handed over.
 #![tactic(auto)]
 
 mod closing;
 mod driving;
+mod ending;
 mod going;
-mod keeping;
 mod lab;
-mod planned;
 mod readers;
 
-pub use closing::{LabEnd, Printed, print};
+pub use closing::{LabEnd, print};
 pub use driving::{give_up, next_command};
-pub use going::{Aim, Ended, Stage, both, end_session, is_idle, stage_of};
-pub use keeping::keepers;
+pub use ending::{Held, ended};
+pub use going::{Ended, both, end_session, is_idle, stage_of};
 pub use lab::Lab;
-pub use planned::Planned;
-pub use readers::{SessionFacts, Standing, standing_at};
+pub use readers::standing_at;

@@ -4,8 +4,8 @@ use Rattle.edge_rule.specs.DeskView.{DeskView}
 use Rattle.session_layer.specs.declared.turning.Turned.{Turned}
 use Rattle.session_layer.specs.declared.turning.Turned.TheVariants.{Acted, Moved, Idle}
 use Rattle.session_layer.specs.Turn.{Took}
-use Rattle.bench_door.specs.declared.going.Aim.{Aim}
-use Rattle.bench_door.specs.declared.going.Stage.TheVariants.{OnTheWay}
+use Rattle.live_lab.specs.declared.stage.Aim.{Aim}
+use Rattle.live_lab.specs.declared.stage.Stage.TheVariants.{OnTheWay}
 use Rattle.bench_door.specs.Going.{both, IsStage}
 use Rattle.bench_hall.specs.Seats.{TurnsGoing}
 

@@ -5,7 +5,7 @@ ghost use Rattle.std.proofs.Props.{props};
 ghost use Rattle.turns.specs.Lists.{Each};
 ghost use Rattle.edge_rule.specs.DeskView.{Owns};
 ghost use Rattle.script_reader.specs.Script.{ScriptMeans};
-ghost use Rattle.bench_door.specs.Doors.{IsWhyNot};
+ghost use Rattle.live_lab.specs.Labs.{IsWhyNot};
 ghost use Rattle.bench_door.specs.Own.{each_prop};
 
 use crate::place::{Place, desk_in, is_home, place_with, put_back, take_out};

@@ -5,7 +5,7 @@ use Rattle.std.proofs.Crossing as heap
 use Rattle.bench_hall.specs.contracts.hall.Hall as Hall
 use Rattle.bench_hall.proofs.hall.Hall.TheSendSync as halls
 use Rattle.bench_hall.proofs.seated.Seated.TheSendSync as seats
-use Rattle.bench_calls.proofs.Crosses.{held_send}
+use Rattle.bench_door.proofs.Crosses.{held_send}
 use Rattle.desk_c.specs.contracts.slot.Shared as Shared
 
 pub shared_send : IsSend Shared.the_row

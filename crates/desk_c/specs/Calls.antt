@@ -10,11 +10,13 @@ use Rattle.script_reader.specs.Script.{ScriptMeans}
 use Rattle.lab_program.specs.declared.faults.RunFault.{RunFault}
 use Rattle.lab_program.specs.Faults.{status_of}
 use Rattle.bench_door.specs.declared.lab.Lab.{Lab}
-use Rattle.bench_door.specs.declared.going.Aim.{Aim}
-use Rattle.bench_door.specs.declared.going.Stage.{Stage}
+use Rattle.live_lab.specs.declared.stage.Aim.{Aim}
+use Rattle.live_lab.specs.declared.stage.Stage.{Stage}
 use Rattle.bench_door.specs.declared.going.Ended.{Ended as HowItEnded}
+use Rattle.bench_door.specs.declared.going.Ended.TheVariants.{NotHeld, LetGo, StillHeld}
 use Rattle.bench_door.specs.Going.{EndsSession}
-use Rattle.bench_door.specs.Doors.{IsWhyNot, Withdraws, Reaches, standing_of}
+use Rattle.live_lab.specs.Labs.{IsWhyNot}
+use Rattle.bench_door.specs.Doors.{Withdraws, Reaches, standing_of}
 use Rattle.bench_hall.specs.declared.hall.Hall.{Hall}
 use Rattle.bench_hall.specs.declared.seated.Seated.{Seated}
 use Rattle.bench_hall.specs.declared.seat.NotTaken.{NotTaken}
@@ -22,14 +24,14 @@ use Rattle.bench_hall.specs.declared.seat.NotTaken.TheVariants.{NoJob, Out, NoMe
 use Rattle.bench_hall.specs.Seats.{Stays, GoesAlone}
 use Rattle.c_tells.specs.declared.telling.Told.{Told}
 use Rattle.c_tells.specs.Telling.{told_of}
-use Rattle.bench_calls.specs.declared.ending.Held.{Held}
-use Rattle.bench_calls.specs.declared.ending.Held.TheVariants.{Open as AtWork}
+use Rattle.bench_door.specs.declared.ending.Held.{Held}
+use Rattle.bench_door.specs.declared.ending.Held.TheVariants.{Open as AtWork}
 use Rattle.bench_calls.specs.declared.told.LabTurned.{LabTurned}
 use Rattle.bench_calls.specs.declared.told.LabSize.{LabSize}
 use Rattle.bench_calls.specs.declared.told.LabState.{LabState}
 use Rattle.bench_calls.specs.declared.told.LabEntry.{LabEntry}
-use Rattle.bench_calls.specs.Telling.{turned_of, state_of, stage_status, TellsEnded, TellsEntry}
-use Rattle.bench_calls.specs.Closing.{ClosesHeld, NoRoomYet}
+use Rattle.bench_calls.specs.Telling.{turned_of, state_of, stage_status, TellsEntry}
+use Rattle.bench_door.specs.Closing.{ClosesHeld, NoRoomYet}
 use Rattle.bench_calls.specs.Handles.{InHandle}
 use Rattle.desk_c.specs.declared.slot.Shared.{Shared}
 use Rattle.desk_c.specs.declared.slot.Shared.TheVariants.{Open, Seat, Closing, Moved as Gone}
@@ -129,6 +131,12 @@ Drives Did d e told told' status = (status ≡ 0) × (r : Turned) × Did d r e �
 abbrev pub GoesOn : Aim → ℕ → DeskView → DeskView → LabTurned → LabTurned → ℕ → Type 0
 GoesOn aim most d e told told' status = (stage : Stage) × (r : Turned) × GoesAlone aim most d (stage, r) e × (status ≡ stage_status aim stage)
     × (told' ≡ turned_of r)
+
+-- it let go (0); or it still holds, or it never held and nothing is told (8)
+abbrev pub TellsEnded : HowItEnded → LabTurned → LabTurned → ℕ → Type 0
+TellsEnded (LetGo r) told told' status = (status ≡ 0) × (told' ≡ turned_of r)
+TellsEnded (StillHeld r) told told' status = (status ≡ 8) × (told' ≡ turned_of r)
+TellsEnded NotHeld told told' status = (status ≡ 8) × (told' ≡ told)
 
 -- the job did the commands that were left and let go (0); or it doesn't hold, and nothing changed (8)
 abbrev pub LetsGo : DeskView → DeskView → LabTurned → LabTurned → ℕ → Type 0

@@ -1,14 +1,15 @@
 //! Calls on the desk that a handle has.
 ghost use Rattle.session_layer.specs.Turn.{Took};
 ghost use Rattle.desk_user.specs.Serving.{Served};
-ghost use Rattle.desk_c.specs.Calls.{InDesk, Drives, GoesOn, LetsGo, DoesNext, GivesUp, TellsState};
+ghost use Rattle.desk_c.specs.Calls.{InDesk, Drives, GoesOn, LetsGo, TellsEnded, DoesNext, GivesUp, TellsState};
 
 use crate::slot::Shared;
 use bench_calls::{
-    LabEntry, LabState, LabTurned, NOT_OPEN, stage_status, state_of, tell_ended, tell_entry,
+    LabEntry, LabState, LabTurned, NOT_NOW, NOT_OPEN, stage_status, state_of, tell_entry,
     turned_of, withdrew,
 };
-use bench_door::Aim;
+use bench_door::Ended;
+use live_lab::Aim;
 
 pub(crate) fn turn_in(held: &mut Shared, turned: &mut LabTurned) -> u32
     ensures { InDesk (Drives Took) held.old held.new turned.old turned.new result }
@@ -50,6 +51,23 @@ pub(crate) fn go_in(held: &mut Shared, aim: Aim, most: u32, turned: &mut LabTurn
         Shared::Open(_) => NOT_OPEN,
         Shared::Closing(_) => NOT_OPEN,
         Shared::Moved => NOT_OPEN,
+    }
+}
+
+/// Tells what was done to end a session.
+fn tell_ended(ended: Ended, told: &mut LabTurned) -> u32
+    ensures { TellsEnded ended told.old told.new result }
+{
+    match ended {
+        Ended::NotHeld => NOT_NOW,
+        Ended::LetGo(answer) => {
+            *told = turned_of(answer);
+            0
+        }
+        Ended::StillHeld(answer) => {
+            *told = turned_of(answer);
+            NOT_NOW
+        }
     }
 }
 

@@ -5,7 +5,7 @@
 ghost use Rattle.std.specs.Prelude.{◌≡◌, Some, None};
 ghost use Rattle.session_layer.specs.Turn.{Took};
 ghost use Rattle.desk_user.specs.Serving.{Served};
-ghost use Rattle.bench_door.specs.declared.going.Aim.TheVariants.{Hold, Retire};
+ghost use Rattle.live_lab.specs.declared.stage.Aim.TheVariants.{Hold, Retire};
 ghost use Rattle.desk_c.specs.Calls.{Opens, OfBench, TellsSize, Takes, GivesBack, OnDesk, Drives, GoesOn, LetsGo, DoesNext, GivesUp, TellsState, Closes};
 
 mod driving;
@@ -14,12 +14,12 @@ mod sharing;
 mod slot;
 
 use bench_calls::{LabEntry, LabSize, LabState, LabTurned, NOT_OPEN};
-use bench_door::Aim;
 use bench_hall::Hall;
 use c_tells::{Told, fail};
 use driving::{command_in, end_in, go_in, serve_in, state_in, turn_in, withdraw_in};
 pub use handle::Handle;
 use lab_program::RunFault;
+use live_lab::Aim;
 use sharing::{NO_MEMORY, close_in, given, seat_in, size_in};
 use slot::Shared;
 use std::alloc::Global;

@@ -4,7 +4,8 @@ ghost use Rattle.desk_c.specs.declared.slot.Shared.TheVariants.{Open};
 ghost use Rattle.desk_c.specs.Calls.{InBench, TellsSize, ClosesShared, IsSeatIn, IsWhyNone, GivesBack, why_number};
 
 use crate::slot::Shared;
-use bench_calls::{Held, LabSize, NO_JOB, NOT_NOW, NOT_OPEN, ended};
+use bench_calls::{LabSize, NO_JOB, NOT_NOW, NOT_OPEN};
+use bench_door::{Held, ended};
 use bench_hall::{Hall, NotTaken, Seated, WhyOpen, sit, stand};
 use c_tells::{Told, fail};
 use lab_program::RunFault;

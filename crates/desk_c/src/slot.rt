@@ -5,7 +5,7 @@ ghost use Rattle.desk_c.specs.contracts.slot.Shared.{the_row};
 ghost use Rattle.desk_c.specs.declared.slot.Shared.{Shared};
 ghost use Rattle.box_parts.specs.Owned.{slot_owns, holds};
 
-use bench_calls::Held;
+use bench_door::Held;
 use bench_hall::{Hall, Seated};
 use box_parts::Parts;
 use std::alloc::Global;

@@ -1,9 +1,10 @@
 //! Halls: desks that are taken, driven and given back, and the end with its report.
 use crate::runs::{TWO_BENCHES, TWO_BENCHES_REPORT};
-use bench_door::{Aim, Ended, Printed, Stage, print};
+use bench_door::{Ended, print};
 use bench_hall::{Hall, NotTaken, Seated, WhyOpen, sit, stand};
 use lab_program::{Outcome, RunFault};
 use legal_steps::Drinking;
+use live_lab::{Aim, Printed, Stage};
 use session_layer::Turned;
 use std::alloc::Global;
 use std::process::Abort;

@@ -1,10 +1,10 @@
-//! Tests of the bench with all its desks, and of the hall where they are taken one by one: each call with ample memory, and whole runs to their reports.
+//! Tests of what C calls: of handles, from the open to the report, and of the hall where the desks of a bench are taken one by one.
 #![tactic(auto)]
 
 #[cfg(test)]
-mod hall;
+mod calls;
 #[cfg(test)]
-mod keepers;
+mod hall;
 #[cfg(test)]
 mod live;
 #[cfg(test)]

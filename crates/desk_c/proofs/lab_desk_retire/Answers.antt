@@ -1,5 +1,5 @@
 use Rattle.std.proofs.Common.{sym, subst}
-use Rattle.bench_door.specs.declared.going.Aim.TheVariants.{Retire}
+use Rattle.live_lab.specs.declared.stage.Aim.TheVariants.{Retire}
 use Rattle.desk_c.specs.Calls.{OnDesk, InDesk, GoesOn}
 use Rattle.desk_c.proofs.lab_desk_retire.Goals as goal
 

@@ -2,8 +2,8 @@ use Rattle.std.proofs.Common.{◌≡◌, ◌+◌, inl, inr, sym, ◌∙◌, ap, 
 use denote.Enum.Bare.{differs_false}
 use Rattle.session_layer.specs.Turn.{Took}
 use Rattle.session_layer.specs.declared.turning.Turned.TheVariants.{Idle}
-use Rattle.bench_door.specs.contracts.going.Stage.{the_type}
-use Rattle.bench_door.specs.declared.going.Stage.TheVariants.{OnTheWay}
+use Rattle.live_lab.specs.contracts.stage.Stage.{the_type}
+use Rattle.live_lab.specs.declared.stage.Stage.TheVariants.{OnTheWay}
 use Rattle.bench_door.specs.Going.{both, IsStage}
 use Rattle.bench_hall.specs.Seats.{TurnsGoing}
 use Rattle.bench_hall.proofs.OneMore.{one_more_going, and_idle}

@@ -1,0 +1,229 @@
+/* Sessions a second: one handle of the library under a mutex, beside what one writes by hand, in one run.
+
+     cc -O2 -pthread -I include bench/broker/speed.c FOLDER/liblabrun.a -lm -o speed
+     ./speed [--best N] [--work MICROSECONDS] [--sessions N] [--benches N] [--only THREADS]
+
+   Stations on 2, 8 and 32 threads do sessions without a pause (or with so many microseconds of work, asleep): each on an instrument of its
+   own (`disjoint`); each on its own and the next one's (`ring`); all on the same one (`all one`). They do them by
+
+     handle      one `struct lab_bench`, a mutex, and a condition variable for each station: lab_settle, lab_end, and lab_settle if others wait
+     condition   one mutex and one condition variable over a set of the instruments that are taken
+     mutexes     a mutex for each instrument, all taken in one order
+
+   Each number is the best of N runs (5), which are taken in turn; a run is so many benches (10), one after another, as a script has a
+   thousand sessions of a job at most; what is timed are the sessions alone. The last column is the handle beside the condition variable, and below
+   stand the geometric mean and the worst of these. */
+#define _POSIX_C_SOURCE 200809L
+#include "labrun.h"
+#include <math.h>
+#include <pthread.h>
+#include <stdio.h>
+#include <stdlib.h>
+#include <string.h>
+#include <time.h>
+
+#define MOST 32
+enum way { HANDLE, CONDITION, MUTEXES, WAYS };
+static const char *const shapes[] = {"disjoint", "ring", "all one"};
+static const uint32_t counts[] = {2, 8, 32};
+
+static struct lab_bench bench;
+static pthread_mutex_t mutex = PTHREAD_MUTEX_INITIALIZER, locks[MOST];
+static pthread_cond_t came[MOST], freed = PTHREAD_COND_INITIALIZER;
+static pthread_barrier_t start;
+static uint32_t waiting, threads;
+static uint64_t taken;
+static enum way way;
+static int shape;
+static long sessions = 1000, microseconds;
+
+static void stop(const char *why, uint32_t status) {
+    fprintf(stderr, "%s: status %u\n", why, status);
+    exit(70);
+}
+
+static double now(void) {
+    struct timespec time;
+    clock_gettime(CLOCK_MONOTONIC, &time);
+    return (double)time.tv_sec + (double)time.tv_nsec * 1e-9;
+}
+
+static void work(void) {
+    struct timespec time = {0, microseconds * 1000};
+    if (microseconds) nanosleep(&time, NULL);
+}
+
+static uint64_t needs(uint32_t at) {
+    return shape == 0 ? (uint64_t)1 << at : shape == 1 ? (uint64_t)1 << at | (uint64_t)1 << (at + 1) % threads : 1;
+}
+
+/* Which of those that wait hold now; the mutex is held. They are woken when it isn't any more. */
+static uint32_t settle(uint32_t *holds) {
+    struct lab_came told;
+    uint32_t status = lab_settle(&bench, waiting, &told);
+    if (status != LAB_DONE) stop("lab_settle", status);
+    uint32_t woken = waiting & told.holds;
+    waiting &= ~woken;
+    *holds = told.holds;
+    return woken;
+}
+
+static void wake(uint32_t woken) {
+    for (; woken; woken &= woken - 1) pthread_cond_signal(&came[__builtin_ctz(woken)]);
+}
+
+static void by_handle(uint32_t me) {
+    uint32_t bit = (uint32_t)1 << me, holds;
+    struct lab_turned turned;
+    for (long left = sessions; left; left--) {
+        pthread_mutex_lock(&mutex);
+        waiting |= bit;
+        uint32_t woken = settle(&holds) & ~bit;
+        if (woken) wake(woken);
+        while (waiting & bit) pthread_cond_wait(&came[me], &mutex);
+        pthread_mutex_unlock(&mutex);
+        work();
+        pthread_mutex_lock(&mutex);
+        uint32_t status = lab_end(&bench, me, &turned);
+        if (status != LAB_DONE) stop("lab_end", status);
+        woken = waiting ? settle(&holds) : 0;
+        pthread_mutex_unlock(&mutex);
+        wake(woken);
+    }
+}
+
+static void by_condition(uint32_t me) {
+    uint64_t mine = needs(me);
+    for (long left = sessions; left; left--) {
+        pthread_mutex_lock(&mutex);
+        while (taken & mine) pthread_cond_wait(&freed, &mutex);
+        taken |= mine;
+        pthread_mutex_unlock(&mutex);
+        work();
+        pthread_mutex_lock(&mutex);
+        taken &= ~mine;
+        pthread_cond_broadcast(&freed);
+        pthread_mutex_unlock(&mutex);
+    }
+}
+
+static void by_mutexes(uint32_t me) {
+    uint64_t mine = needs(me);
+    for (long left = sessions; left; left--) {
+        for (uint32_t at = 0; at < threads; at++)
+            if (mine >> at & 1) pthread_mutex_lock(&locks[at]);
+        work();
+        for (uint32_t at = 0; at < threads; at++)
+            if (mine >> at & 1) pthread_mutex_unlock(&locks[at]);
+    }
+}
+
+static double begun[MOST], ended[MOST];
+
+static void *station(void *given) {
+    uint32_t me = *(uint32_t *)given;
+    pthread_barrier_wait(&start);
+    begun[me] = now();
+    (way == HANDLE ? by_handle : way == CONDITION ? by_condition : by_mutexes)(me);
+    ended[me] = now();
+    return NULL;
+}
+
+static void open_bench(void) {
+    size_t room = (size_t)threads * ((size_t)sessions * 60 + 40) + 40, length = 0;
+    char *script = malloc(room);
+    struct lab_told told;
+    if (!script) exit(70);
+    length += (size_t)sprintf(script, "lab 1\n");
+    for (uint32_t job = 0; job < threads; job++) {
+        length += (size_t)sprintf(script + length, "job station-%u\n", job);
+        for (long session = 0; session < sessions; session++) {
+            length += (size_t)sprintf(script + length, "session\n");
+            for (uint32_t at = 0; at < threads; at++)
+                if (needs(job) >> at & 1) length += (size_t)sprintf(script + length, "i-%u add 1\n", at);
+            length += (size_t)sprintf(script + length, "end\n");
+        }
+    }
+    uint32_t status = lab_bench_open((const uint8_t *)script, length, &bench, &told);
+    if (status != LAB_DONE) stop("lab_bench_open", status);
+    free(script);
+}
+
+/* The report has to say that all is done. */
+static void close_bench(void) {
+    struct lab_told told;
+    struct lab_turned turned;
+    uint8_t none[1];
+    for (uint32_t job = 0; job < threads; job++) lab_retire(&bench, job, 1, &turned);
+    uint32_t status = lab_bench_close(&bench, none, 0, &told);
+    uint8_t *report = malloc(told.written + 1);
+    if (status != LAB_NO_ROOM || !report || (status = lab_bench_close(&bench, report, told.written, &told)) != LAB_DONE) stop("lab_bench_close", status);
+    free(report);
+    lab_bench_free(&bench);
+}
+
+/* The seconds from the first station's first session to the last one's last. */
+static double timed(void) {
+    pthread_t each[MOST];
+    uint32_t numbers[MOST];
+    waiting = 0, taken = 0;
+    if (way == HANDLE) open_bench();
+    pthread_barrier_init(&start, NULL, threads);
+    for (uint32_t at = 0; at < threads; at++) {
+        numbers[at] = at;
+        if (pthread_create(&each[at], NULL, station, &numbers[at])) exit(70);
+    }
+    double first = 0, last = 0;
+    for (uint32_t at = 0; at < threads; at++) {
+        pthread_join(each[at], NULL);
+        if (at == 0 || begun[at] < first) first = begun[at];
+        if (at == 0 || ended[at] > last) last = ended[at];
+    }
+    pthread_barrier_destroy(&start);
+    if (way == HANDLE) close_bench();
+    return last - first;
+}
+
+int main(int count, char **words) {
+    long runs = 5, only = 0, benches = 10;
+    for (int at = 1; at + 1 < count; at += 2) {
+        long number = atol(words[at + 1]);
+        if (strcmp(words[at], "--best") == 0) runs = number;
+        else if (strcmp(words[at], "--work") == 0) microseconds = number;
+        else if (strcmp(words[at], "--sessions") == 0) sessions = number;
+        else if (strcmp(words[at], "--only") == 0) only = number;
+        else if (strcmp(words[at], "--benches") == 0) benches = number;
+        else return fputs("speed [--best N] [--work MICROSECONDS] [--sessions N] [--benches N] [--only THREADS]\n", stderr), 2;
+    }
+    if (sessions < 1 || sessions > 1000 || microseconds < 0 || microseconds > 999999) return 2;
+    for (uint32_t at = 0; at < MOST; at++) {
+        pthread_cond_init(&came[at], NULL);
+        pthread_mutex_init(&locks[at], NULL);
+    }
+    printf("sessions a second, best of %ld, %ld us of work each\n| shape | threads | handle | condition | mutexes | handle / condition |\n"
+           "|---|---|---|---|---|---|\n",
+           runs, microseconds);
+    double sum = 0, worst = 1e9;
+    int rows = 0;
+    for (shape = 0; shape < 3; shape++)
+        for (int row = 0; row < 3; row++) {
+            double best[WAYS] = {0};
+            threads = counts[row];
+            if (only && threads != (uint32_t)only) continue;
+            for (long run = 0; run < runs; run++)
+                for (way = HANDLE; way < WAYS; way++) {
+                    double took = 0;
+                    for (long bench_number = 0; bench_number < benches; bench_number++) took += timed();
+                    double speed = (double)benches * (double)threads * (double)sessions / took;
+                    if (speed > best[way]) best[way] = speed;
+                }
+            double beside = best[HANDLE] / best[CONDITION];
+            printf("| %s | %u | %.0f | %.0f | %.0f | %.3f |\n", shapes[shape], threads, best[HANDLE], best[CONDITION], best[MUTEXES], beside);
+            fflush(stdout);
+            sum += log(beside);
+            rows++;
+            if (beside < worst) worst = beside;
+        }
+    if (rows) printf("the handle beside the condition variable: geometric mean %.3f, worst %.3f\n", exp(sum / rows), worst);
+    return 0;
+}

@@ -1,0 +1,144 @@
+"""That no wake-up is lost, and that no interrupt loses one: on the definitions, with a gate at every line of the package (tests/gates.py)."""
+
+import random
+import unittest
+from typing import Callable, Optional
+from unittest import mock
+
+import labrun
+from labrun import _bench
+from tests.gates import Gates, Stuck
+from tests.load import Counting, load_script
+from tests.test_bench import LIMIT
+from tests.test_simulated import OnDefinitions
+
+# all need x; and a ring of three
+ALL_ONE = "lab 1\n" + "".join(f"job {job}\n" + "session\nx add 1\nend\n" * 2 for job in "abc")
+RING = "lab 1\n" + "".join(f"job {job}\n" + f"session\n{one} add 1\n{two} add 1\nend\n" * 2 for job, one, two in ("axy", "byz", "czx"))
+
+
+def sometimes(seed: int, often: float) -> Callable[[int, int, list[int]], int]:
+    chance = random.Random(seed)
+    return lambda gate, me, can: chance.choice(can) if me not in can or chance.random() < often else me
+
+
+def once(at: int) -> Callable[[int, int, list[int]], int]:
+    """Who is there goes on, but at one gate the next one does."""
+    return lambda gate, me, can: me if me in can and gate != at else can[(can.index(me) + 1) % len(can)] if me in can else can[0]
+
+
+class Gated(OnDefinitions):
+    def gated(self, gates: Gates, script: str, station: Optional[Callable[[labrun.Job, Counting], None]] = None) -> labrun.Bench:
+        """The stations of a script, each on a thread; no two hold an instrument at once, and all come to their ends."""
+        with mock.patch.object(_bench, "_new_lock", gates.lock):
+            bench = labrun.Bench.from_text(script)
+        counting = Counting(bench)
+
+        def work(job: labrun.Job) -> None:
+            for session in job.sessions():
+                with session:
+                    counting.came(session.instruments)
+                    counting.went(session.instruments)
+
+        stations = [lambda job=job: station(job, counting) if station else work(job) for job in bench.jobs]
+        gates.run(stations, LIMIT)
+        self.assertEqual(counting.clashes, 0)
+        return bench
+
+
+class WakeUps(Gated):
+    def test_one_gate(self) -> None:
+        """Another thread goes on at each gate in turn."""
+        for script in (ALL_ONE, RING):
+            gates = Gates(once(-1))
+            self.assertTrue(self.gated(gates, script).close().finished)
+            self.assertGreater(gates.gates, 300)
+            for at in range(gates.gates + 1):
+                with self.subTest(at):
+                    self.assertTrue(self.gated(Gates(once(at)), script).close().finished)
+
+    def test_many_gates(self) -> None:
+        for seed in range(200):
+            script = (ALL_ONE, RING, load_script(4, 2, 3, seed))[seed % 3]
+            with self.subTest(seed):
+                self.assertTrue(self.gated(Gates(sometimes(seed, (0.02, 0.2, 0.7)[seed // 3 % 3])), script).close().finished)
+
+    def test_sees_one_that_is_lost(self) -> None:
+        """With one wake-up left out the test doesn't pass."""
+        rouse = _bench.Bench._rouse
+
+        def forgets(bench: labrun.Bench, job: labrun.Job) -> None:
+            if job.name != "b":
+                rouse(bench, job)
+
+        with mock.patch.object(_bench.Bench, "_rouse", forgets), self.assertRaises(Stuck):
+            for at in range(200):
+                self.gated(Gates(once(at)), ALL_ONE)
+
+    def test_given_up(self) -> None:
+        """One station gives up at a time limit, with a patience and without, and comes back or not."""
+        for seed in range(100):
+            chance, patience = random.Random(seed), seed % 2
+
+            def station(job: labrun.Job, counting: Counting) -> None:
+                for session in job.sessions():
+                    try:
+                        session.acquire(timeout=0 if job.name == "b" and chance.random() < 0.8 else None)
+                    except labrun.TimeoutError:
+                        if chance.random() < 0.5:
+                            session.give_up()
+                            if chance.random() < 0.5:
+                                return
+                    except (labrun.Withdrawn, labrun.NotHeld):
+                        pass
+                    if session.held:
+                        counting.came(session.instruments)
+                        counting.went(session.instruments)
+                        session.release()
+
+            script = ALL_ONE if seed % 3 else RING
+            if patience:
+                before, after = script.split("job b\n")
+                script = before.replace("lab 1", "lab 2") + "job b\n" + after.replace("session\n", "session patience 3\n", 2)
+            with self.subTest(seed), mock.patch.object(_bench, "_TICK", 1e-9):
+                report = self.gated(Gates(sometimes(seed, 0.2)), script, station).close()
+                self.assertEqual((report.job("a").done, report.job("c").done), (2, 2))
+
+
+class Interrupts(Gated):
+    def interrupted(self, script: str, at: int, pick: Callable[[int, int, list[int]], int]) -> Gates:
+        """A KeyboardInterrupt comes to the first station: the others do all that is theirs."""
+
+        def station(job: labrun.Job, counting: Counting) -> None:
+            session = None
+            try:
+                for session in job.sessions():
+                    with session:
+                        counting.came(session.instruments)
+                        counting.went(session.instruments)
+            except KeyboardInterrupt:
+                # (it may have come at the very begin of `__exit__`, or of the call that gives up: who caught it does that again)
+                if session is not None:
+                    if session.state == "held":
+                        session.release()
+                    else:
+                        session.give_up()
+
+        gates = Gates(pick, at)
+        bench = self.gated(gates, script, station)
+        self.assertFalse(bench._torn)
+        report = bench.close()
+        self.assertEqual([job.done for job in report.jobs[1:]], [2] * (len(report.jobs) - 1), at)
+        return gates
+
+    def test_each_gate(self) -> None:
+        for script in (ALL_ONE, RING):
+            most = max(self.interrupted(script, -1, sometimes(seed, 0.05)).mine for seed in range(7))
+            self.assertGreater(most, 100)
+            for at in range(most):
+                with self.subTest(at=at):
+                    self.interrupted(script, at, sometimes(at % 7, 0.05))
+
+
+if __name__ == "__main__":
+    unittest.main()

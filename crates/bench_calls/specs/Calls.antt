@@ -1,0 +1,129 @@
+-- For readers: what each call leaves in the handle and in the caller's memory, and its status.
+use Rattle.std.specs.Prelude.{◌≡◌, ◌⊎◌, ℕ, ◌≤◌, ◌<◌, List, length, Option, Some, None, Err}
+use Rattle.lab_plan.specs.LabPlan.{job_at}
+use Rattle.script_reader.specs.Script.{ScriptMeans}
+use Rattle.lab_program.specs.declared.faults.RunFault.{RunFault}
+use Rattle.lab_program.specs.Faults.{status_of}
+use Rattle.live_lab.specs.declared.settle.Came.{Came}
+use Rattle.live_lab.specs.Labs.{LabView, fresh_lab, IsWhyNot}
+use Rattle.live_lab.specs.Calls.{AtJob, TakesTurn, Serves as ServesJob, ServesOthers, Withdraws, Commands}
+use Rattle.live_lab.specs.Stages.{Begins, GoesToRetire}
+use Rattle.live_lab.specs.Ends.{EndsSession}
+use Rattle.live_lab.specs.Settles.{Settles}
+use Rattle.live_lab.specs.Readers.{IsSession, IsPlanned, IsStandingAt, IsInstrumentName}
+use Rattle.live_lab.specs.Keepers.{AreKeepersAt}
+use Rattle.c_tells.specs.declared.telling.Told.{Told}
+use Rattle.c_tells.specs.Telling.{told_of, Gives}
+use Rattle.bench_calls.specs.declared.ending.Held.{Held}
+use Rattle.bench_calls.specs.declared.ending.Held.TheVariants.{Open, Reported}
+use Rattle.bench_calls.specs.declared.told.LabTurned.{LabTurned}
+use Rattle.bench_calls.specs.declared.told.LabCame.{LabCame}
+use Rattle.bench_calls.specs.declared.told.LabSize.{LabSize}
+use Rattle.bench_calls.specs.declared.told.LabSession.{LabSession}
+use Rattle.bench_calls.specs.declared.told.LabState.{LabState}
+use Rattle.bench_calls.specs.declared.told.LabEntry.{LabEntry}
+use Rattle.bench_calls.specs.declared.told.LabPlanned.{LabPlanned}
+use Rattle.bench_calls.specs.declared.told.LabKeepers.{LabKeepers}
+use Rattle.bench_calls.specs.Telling.{turned_of, came_of, session_of, state_of, planned_of, keepers_of}
+use Rattle.bench_calls.specs.Telling.{IfTold, TellsAs, TellsDid, TellsBegun, TellsRetired, TellsEnded, TellsEntry}
+
+-- ---- opening
+
+-- an empty handle has a lab of the plan that the script means, before its first event (0); or no lab was opened, the handle is as it was and the fault is
+-- told; or the handle is in use, and nothing changed (11)
+abbrev pub Opens : List ℕ → Option Held → Option Held → Told → Told → ℕ → Type 0
+Opens script (Some held) new told told' status = (status ≡ 11) × (new ≡ Some held) × (told' ≡ told)
+Opens script None new told told' status =
+    ((status ≡ 0) × (l : LabView) × (new ≡ Some (Open l)) × ScriptMeans script l.world.plan × (l ≡ fresh_lab l.world.plan) × (told' ≡ told))
+    ⊎ ((fault : RunFault) × IsWhyNot script fault × (status ≡ status_of (Err fault)) × (new ≡ None) × (told' ≡ told_of fault))
+
+-- ---- calls on an open lab
+
+-- the open lab of the handle went from one to another; or the handle has none, and nothing changed (7)
+abbrev pub InLab : {T : Type 0} → (LabView → LabView → T → T → ℕ → Type 0) → Option Held → Option Held → T → T → ℕ → Type 0
+InLab Did (Some (Open a)) new told told' status = (b : LabView) × (new ≡ Some (Open b)) × Did a b told told' status
+InLab Did (Some (Reported p)) new told told' status = (status ≡ 7) × (new ≡ Some (Reported p)) × (told' ≡ told)
+InLab Did None new told told' status = (status ≡ 7) × (new ≡ None) × (told' ≡ told)
+
+-- the job did so, and its answer is told; or there is no such job, and nothing changed (2)
+abbrev pub ByJob : {R T : Type 0} → (ℕ → LabView → R → LabView → Type 0) → (R → T → T → ℕ → Type 0) → ℕ → LabView → LabView → T → T → ℕ → Type 0
+ByJob {R} Did Tells job a b told told' status = (r : Option R) × AtJob Did job a r b × IfTold Tells r told told' status
+
+-- one turn of the job (0)
+abbrev pub Turns : ℕ → LabView → LabView → LabTurned → LabTurned → ℕ → Type 0
+Turns job = ByJob TakesTurn (TellsAs turned_of) job
+
+-- the job was served (0)
+abbrev pub Serves : ℕ → LabView → LabView → LabTurned → LabTurned → ℕ → Type 0
+Serves job = ByJob ServesJob (TellsAs turned_of) job
+
+-- each job but this one was served (0)
+abbrev pub ServesRest : ℕ → LabView → LabView → LabTurned → LabTurned → ℕ → Type 0
+ServesRest job = ByJob ServesOthers (TellsAs turned_of) job
+
+-- A settle, and what came of it is told (0). By `Settles` nothing is left to do after it, and from each job that is thirsty then a chain of jobs leads to
+-- one that holds, each of which keeps a bottle that the one before it lacks
+abbrev pub SettlesAll : ℕ → LabView → LabView → LabCame → LabCame → ℕ → Type 0
+SettlesAll waiting a b told told' status = (status ≡ 0) × (came : Came) × Settles waiting a came b × (told' ≡ came_of came)
+
+-- settles for the job alone, and how far it is then: it holds (0), not yet (8), or no session is left (9)
+abbrev pub GoesToHold : ℕ → ℕ → LabView → LabView → LabTurned → LabTurned → ℕ → Type 0
+GoesToHold most job = ByJob (Begins most) TellsBegun job
+
+-- the job's next command was done, and its entry is told (0); or it doesn't hold or no command is left (8)
+abbrev pub DoesNext : ℕ → LabView → LabView → LabEntry → LabEntry → ℕ → Type 0
+DoesNext job = ByJob Commands TellsEntry job
+
+-- the job did the commands that were left and let go, and all was done that this made due (0); or it doesn't hold (8)
+abbrev pub LetsGo : ℕ → LabView → LabView → LabTurned → LabTurned → ℕ → Type 0
+LetsGo job = ByJob EndsSession TellsEnded job
+
+-- the job's session was given up (0); or it isn't thirsty or has no patience (8)
+abbrev pub GivesUp : ℕ → LabView → LabView → Unit {0} → Unit {0} → ℕ → Type 0
+GivesUp job = ByJob Withdraws TellsDid job
+
+-- the job is retired (0), not yet (8), or it has sessions left (10)
+abbrev pub GoesToEnd : ℕ → ℕ → LabView → LabView → LabTurned → LabTurned → ℕ → Type 0
+GoesToEnd most job = ByJob (GoesToRetire most) TellsRetired job
+
+-- ---- calls that change nothing in the lab
+
+-- what is so of the lab is told; or there is no such thing (2)
+abbrev pub Reads : {R T : Type 0} → (LabView → Option R → Type 0) → (R → T) → LabView → LabView → T → T → ℕ → Type 0
+Reads {R} Is how a b told told' status = (b ≡ a) × (r : Option R) × Is a r × IfTold (TellsAs how) r told told' status
+
+abbrev pub TellsSize : LabView → LabView → LabSize → LabSize → ℕ → Type 0
+TellsSize a b told told' status = (b ≡ a) × (status ≡ 0) × (told' ≡ record { jobs = length a.world.plan.jobs; instruments = length a.world.plan.instruments })
+
+-- the session (0), or there is no such job, or it has no such session (2)
+abbrev pub TellsSession : ℕ → ℕ → LabView → LabView → LabSession → LabSession → ℕ → Type 0
+TellsSession job session = Reads (λ a. IsSession a.world.plan job session) session_of
+
+-- the command of the session (0), or there is no such job, session or command (2)
+abbrev pub TellsPlanned : ℕ → ℕ → ℕ → LabView → LabView → LabPlanned → LabPlanned → ℕ → Type 0
+TellsPlanned job session place = Reads (λ a. IsPlanned a.world.plan job session place) planned_of
+
+-- how far the job is (0), or there is no such job (2)
+abbrev pub TellsState : ℕ → LabView → LabView → LabState → LabState → ℕ → Type 0
+TellsState job = Reads (λ a. IsStandingAt a job) state_of
+
+-- the jobs that keep the job waiting for the instrument, and those of them that hold (0), or there is no such job or instrument (2)
+abbrev pub TellsKeepers : ℕ → ℕ → LabView → LabView → LabKeepers → LabKeepers → ℕ → Type 0
+TellsKeepers job instrument = Reads (λ a. AreKeepersAt a.world job instrument) keepers_of
+
+-- a room and how long the text is that was asked for
+abbrev pub Written : Type 0
+Written = List ℕ × ℕ
+
+-- the name stands in the room (0), or there is no room for it (6), and its length is told; or there is none, and nothing changed (2)
+abbrev pub TellsName : (List ℕ → Type 0) → Type 0 → LabView → LabView → Written → Written → ℕ → Type 0
+TellsName Is Missing a b told told' status =
+    (b ≡ a)
+    × (((name : List ℕ) × Is name × (told'.1 ≡ length name) × Gives 0 name told.0 told'.0 status)
+    ⊎ ((status ≡ 2) × Missing × (told' ≡ told)))
+
+abbrev pub TellsJobName : ℕ → LabView → LabView → Written → Written → ℕ → Type 0
+TellsJobName job a = TellsName (λ name. (job < length a.world.plan.jobs) × (name ≡ (job_at a.world.plan job).name)) (length a.world.plan.jobs ≤ job) a
+
+abbrev pub TellsInstrumentName : ℕ → LabView → LabView → Written → Written → ℕ → Type 0
+TellsInstrumentName instrument a = TellsName (IsInstrumentName a.world.plan instrument) (length a.world.plan.instruments ≤ instrument) a

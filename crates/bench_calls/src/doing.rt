@@ -1,0 +1,146 @@
+//! Calls that do something in the lab of a handle.
+ghost use Rattle.bench_calls.specs.Calls.{InLab, Turns, Serves, ServesRest, SettlesAll, GoesToHold, DoesNext, LetsGo, GivesUp, GoesToEnd};
+
+use crate::ending::Held;
+use crate::handle::Handle;
+use crate::statuses::{
+    NOT_OPEN, tell_begun, tell_came, tell_command, tell_ended, tell_retired, tell_turned,
+    tell_withdrew,
+};
+use crate::told::{LabCame, LabEntry, LabTurned};
+use std::alloc::Global;
+
+/// One turn of a job.
+pub fn turn(alloc: Global, bench: &mut Handle, job: u32, turned: &mut LabTurned) -> u32
+    ensures { InLab (Turns job) bench.old.slot.held bench.new.slot.held turned.old turned.new result }
+{
+    let Some(mut held) = bench.take(alloc) else {
+        return NOT_OPEN;
+    };
+    let status = match &mut *held {
+        Held::Open(lab) => tell_turned(lab.turn(job as usize), turned),
+        Held::Reported(_) => NOT_OPEN,
+    };
+    bench.put(held);
+    status
+}
+
+/// Gives and asks for a job, and ends or starts a meal that it owes: nothing of its sessions.
+pub fn serve(alloc: Global, bench: &mut Handle, job: u32, turned: &mut LabTurned) -> u32
+    ensures { InLab (Serves job) bench.old.slot.held bench.new.slot.held turned.old turned.new result }
+{
+    let Some(mut held) = bench.take(alloc) else {
+        return NOT_OPEN;
+    };
+    let status = match &mut *held {
+        Held::Open(lab) => tell_turned(lab.serve(job as usize), turned),
+        Held::Reported(_) => NOT_OPEN,
+    };
+    bench.put(held);
+    status
+}
+
+/// Serves each job but this one.
+pub fn serve_others(alloc: Global, bench: &mut Handle, job: u32, turned: &mut LabTurned) -> u32
+    ensures { InLab (ServesRest job) bench.old.slot.held bench.new.slot.held turned.old turned.new result }
+{
+    let Some(mut held) = bench.take(alloc) else {
+        return NOT_OPEN;
+    };
+    let status = match &mut *held {
+        Held::Open(lab) => tell_turned(lab.serve_others(job as usize), turned),
+        Held::Reported(_) => NOT_OPEN,
+    };
+    bench.put(held);
+    status
+}
+
+/// Begins the next session of each job of `waiting`, and does all that can be done without a word from an owner.
+pub fn settle(alloc: Global, bench: &mut Handle, waiting: u32, came: &mut LabCame) -> u32
+    ensures { InLab (SettlesAll waiting) bench.old.slot.held bench.new.slot.held came.old came.new result }
+{
+    let Some(mut held) = bench.take(alloc) else {
+        return NOT_OPEN;
+    };
+    let status = match &mut *held {
+        Held::Open(lab) => tell_came(lab.settle(waiting), came),
+        Held::Reported(_) => NOT_OPEN,
+    };
+    bench.put(held);
+    status
+}
+
+/// Settles for one job alone, at most this many times, until it holds.
+pub fn begin(alloc: Global, bench: &mut Handle, job: u32, most: u32, turned: &mut LabTurned) -> u32
+    ensures { InLab (GoesToHold most job) bench.old.slot.held bench.new.slot.held turned.old turned.new result }
+{
+    let Some(mut held) = bench.take(alloc) else {
+        return NOT_OPEN;
+    };
+    let status = match &mut *held {
+        Held::Open(lab) => tell_begun(lab.begin(job as usize, most), turned),
+        Held::Reported(_) => NOT_OPEN,
+    };
+    bench.put(held);
+    status
+}
+
+/// Does the next command of the session that a job holds, and tells its entry.
+pub fn command(alloc: Global, bench: &mut Handle, job: u32, entry: &mut LabEntry) -> u32
+    ensures { InLab (DoesNext job) bench.old.slot.held bench.new.slot.held entry.old entry.new result }
+{
+    let Some(mut held) = bench.take(alloc) else {
+        return NOT_OPEN;
+    };
+    let status = match &mut *held {
+        Held::Open(lab) => tell_command(lab.command(job as usize), entry),
+        Held::Reported(_) => NOT_OPEN,
+    };
+    bench.put(held);
+    status
+}
+
+/// Does the commands that are left of the session that a job holds, ends it, and does all that this makes due.
+pub fn end(alloc: Global, bench: &mut Handle, job: u32, turned: &mut LabTurned) -> u32
+    ensures { InLab (LetsGo job) bench.old.slot.held bench.new.slot.held turned.old turned.new result }
+{
+    let Some(mut held) = bench.take(alloc) else {
+        return NOT_OPEN;
+    };
+    let status = match &mut *held {
+        Held::Open(lab) => tell_ended(lab.end(job as usize), turned),
+        Held::Reported(_) => NOT_OPEN,
+    };
+    bench.put(held);
+    status
+}
+
+/// Gives up the session that a job is thirsty in, if it has a patience.
+pub fn withdraw(alloc: Global, bench: &mut Handle, job: u32) -> u32
+    ensures { InLab (GivesUp job) bench.old.slot.held bench.new.slot.held tt tt result }
+{
+    let Some(mut held) = bench.take(alloc) else {
+        return NOT_OPEN;
+    };
+    let status = match &mut *held {
+        Held::Open(lab) => tell_withdrew(lab.withdraw(job as usize)),
+        Held::Reported(_) => NOT_OPEN,
+    };
+    bench.put(held);
+    status
+}
+
+/// Retires a job whose sessions are all done.
+pub fn retire(alloc: Global, bench: &mut Handle, job: u32, most: u32, turned: &mut LabTurned) -> u32
+    ensures { InLab (GoesToEnd most job) bench.old.slot.held bench.new.slot.held turned.old turned.new result }
+{
+    let Some(mut held) = bench.take(alloc) else {
+        return NOT_OPEN;
+    };
+    let status = match &mut *held {
+        Held::Open(lab) => tell_retired(lab.retire(job as usize, most), turned),
+        Held::Reported(_) => NOT_OPEN,
+    };
+    bench.put(held);
+    status
+}

@@ -1,0 +1,158 @@
+//! Calls that tell of the lab of a handle and change nothing in it.
+ghost use Rattle.bench_calls.specs.Calls.{InLab, TellsSize, TellsSession, TellsPlanned, TellsState, TellsKeepers, TellsJobName, TellsInstrumentName};
+
+use crate::ending::Held;
+use crate::handle::Handle;
+use crate::statuses::{
+    NO_JOB, NOT_OPEN, tell_keepers, tell_name, tell_planned, tell_session, tell_standing,
+};
+use crate::told::{LabKeepers, LabPlanned, LabSession, LabSize, LabState};
+use std::alloc::Global;
+
+/// Tells how many jobs and instruments there are.
+pub fn size(alloc: Global, bench: &mut Handle, size: &mut LabSize) -> u32
+    ensures { InLab TellsSize bench.old.slot.held bench.new.slot.held size.old size.new result }
+{
+    let Some(held) = bench.take(alloc) else {
+        return NOT_OPEN;
+    };
+    let status = match &*held {
+        Held::Open(lab) => {
+            *size = LabSize {
+                jobs: lab.jobs(),
+                instruments: lab.instruments(),
+            };
+            0
+        },
+        Held::Reported(_) => NOT_OPEN,
+    };
+    bench.put(held);
+    status
+}
+
+/// Puts the name of a job into the room, and tells its length.
+pub fn job_name(
+    alloc: Global,
+    bench: &mut Handle,
+    job: u32,
+    name: &mut [u8],
+    written: &mut usize,
+) -> u32
+    ensures { InLab (TellsJobName job) bench.old.slot.held bench.new.slot.held (name.old, written.old) (name.new, written.new) result }
+{
+    let Some(held) = bench.take(alloc) else {
+        return NOT_OPEN;
+    };
+    let status = match &*held {
+        Held::Open(lab) => match lab.job_name(job) {
+            Some(text) => tell_name(text, name, written),
+            None => NO_JOB,
+        },
+        Held::Reported(_) => NOT_OPEN,
+    };
+    bench.put(held);
+    status
+}
+
+/// Puts the name of an instrument into the room, and tells its length.
+pub fn instrument_name(
+    alloc: Global,
+    bench: &mut Handle,
+    instrument: u32,
+    name: &mut [u8],
+    written: &mut usize,
+) -> u32
+    ensures { InLab (TellsInstrumentName instrument) bench.old.slot.held bench.new.slot.held (name.old, written.old) (name.new, written.new) result }
+{
+    let Some(held) = bench.take(alloc) else {
+        return NOT_OPEN;
+    };
+    let status = match &*held {
+        Held::Open(lab) => match lab.instrument_name(instrument) {
+            Some(text) => tell_name(text, name, written),
+            None => NO_JOB,
+        },
+        Held::Reported(_) => NOT_OPEN,
+    };
+    bench.put(held);
+    status
+}
+
+/// Tells what a job's session needs; sessions are counted from 1.
+pub fn session(
+    alloc: Global,
+    bench: &mut Handle,
+    job: u32,
+    session: u32,
+    what: &mut LabSession,
+) -> u32
+    ensures { InLab (TellsSession job session) bench.old.slot.held bench.new.slot.held what.old what.new result }
+{
+    let Some(held) = bench.take(alloc) else {
+        return NOT_OPEN;
+    };
+    let status = match &*held {
+        Held::Open(lab) => tell_session(lab.session(job, session), what),
+        Held::Reported(_) => NOT_OPEN,
+    };
+    bench.put(held);
+    status
+}
+
+/// Tells a command of a job's session, as the script has it; commands are counted from 0.
+pub fn planned(
+    alloc: Global,
+    bench: &mut Handle,
+    job: u32,
+    session: u32,
+    place: u32,
+    what: &mut LabPlanned,
+) -> u32
+    ensures { InLab (TellsPlanned job session place) bench.old.slot.held bench.new.slot.held what.old what.new result }
+{
+    let Some(held) = bench.take(alloc) else {
+        return NOT_OPEN;
+    };
+    let status = match &*held {
+        Held::Open(lab) => tell_planned(lab.planned(job, session, place), what),
+        Held::Reported(_) => NOT_OPEN,
+    };
+    bench.put(held);
+    status
+}
+
+/// Tells how far a job is.
+pub fn state(alloc: Global, bench: &mut Handle, job: u32, state: &mut LabState) -> u32
+    ensures { InLab (TellsState job) bench.old.slot.held bench.new.slot.held state.old state.new result }
+{
+    let Some(held) = bench.take(alloc) else {
+        return NOT_OPEN;
+    };
+    let status = match &*held {
+        Held::Open(lab) => tell_standing(lab.standing(job as usize), state),
+        Held::Reported(_) => NOT_OPEN,
+    };
+    bench.put(held);
+    status
+}
+
+/// Tells which jobs keep a job waiting for an instrument, and which of these hold.
+pub fn keepers(
+    alloc: Global,
+    bench: &mut Handle,
+    job: u32,
+    instrument: u32,
+    what: &mut LabKeepers,
+) -> u32
+    ensures { InLab (TellsKeepers job instrument) bench.old.slot.held bench.new.slot.held what.old what.new result }
+{
+    let Some(held) = bench.take(alloc) else {
+        return NOT_OPEN;
+    };
+    let status = match &*held {
+        Held::Open(lab) => tell_keepers(lab.keepers(job, instrument), what),
+        Held::Reported(_) => NOT_OPEN,
+    };
+    bench.put(held);
+    status
+}
