@@ -92,7 +92,7 @@ uint32_t lab_upgrade(const uint8_t *script, size_t length, uint8_t *report, size
    Nobody sleeps for nothing. A job *keeps* an instrument from another that needs it and lacks it, if it has what the other lacks of it,
    needs it too, and holds or comes first. After `lab_settle` answered 0 each job that waits and doesn't hold has a chain of jobs: the first
    keeps an instrument from it, the next keeps one from the first, and so on; all but the last wait, and the last holds. So who waits then,
-   waits because somebody works, and comes nearer to its instruments only by a call that lets go or gives up.
+   waits because somebody works.
 
    The rules, beside those above:
 
@@ -101,9 +101,9 @@ uint32_t lab_upgrade(const uint8_t *script, size_t length, uint8_t *report, size
      - One call at a time on one bench: threads that share it hold one mutex of yours during each call, and don't while they work.
        Threads with a bench each need no mutex.
      - Any thread may act for any job. If two threads act for one job, each sees what the other did: say among yourselves who does.
-     - A thread that waits sleeps on a condition variable of yours. Whoever called `lab_end` or `lab_withdraw`, or took single turns
-       (`lab_turn`, `lab_serve`, `lab_serve_others`), calls `lab_settle`, and wakes the threads of the jobs that `came` names. There is
-       nothing else to wake anybody for, and nothing to look at from time to time.
+     - A thread that waits sleeps on a condition variable of yours. Whoever called `lab_settle` wakes the threads of the jobs that `came`
+       names, and whoever called `lab_end`, `lab_withdraw`, `lab_begin`, or took single turns (`lab_turn`, `lab_serve`,
+       `lab_serve_others`), calls `lab_settle`. There is nothing else to wake anybody for, and nothing to look at from time to time.
      - But a session with patience counts the calls of `lab_settle` and `lab_begin` in which it waits, whoever makes them: let somebody
        call now and then, so that it does run out.
      - A job gives up what a neighbour asks for in `lab_settle`, `lab_begin`, `lab_end` and `lab_retire` of whatever job. So a thread that
@@ -284,11 +284,12 @@ void lab_bench_free(struct lab_bench *bench);
      - A thread that stops between two calls leaves its desk in the handle: let another go on with it, end its session (`lab_desk_end`),
        and give it back. Until then the close answers 8. A thread that is killed within a call leaves the handle empty, and its desk
        is lost: the close answers 8 for ever, and `lab_shared_free` gives back what it can.
-     - No call wakes a thread. If `what` is 0, nothing is due until a neighbour's call did something: sleep a little and call again,
-       or wait on a condition variable of yours that each thread signals after a call that told `what` 2.
+     - No call wakes a thread. If `what` is 0, nothing is due until a neighbour's call did something (but a session with patience counts
+       its own turns): sleep a little and call again, or wait on a condition variable of yours that each thread signals after a call
+       that told `what` 2, and after `lab_desk_withdraw`.
      - What the script has (names, sessions, commands) is told by a `struct lab_bench` that is opened for the same script.
      - At each status but 0 nothing has changed and nothing is written, but for: `turned` and the turns taken, at 8 and 9 of
-       `lab_desk_begin`, 8 of `lab_desk_retire`; `written` at 6; `told` at 1 of the open and at 0, 3, 5 and 6 of the close. */
+       `lab_desk_begin`, 8 of `lab_desk_retire`; `written` at 6; `told` at 1, 4 and 5 of the open and at 0, 3, 5 and 6 of the close. */
 
 /* What C keeps of such a bench, and of a desk. */
 struct lab_shared {

@@ -1,6 +1,7 @@
 """The bench for threads: each method, time-outs, exceptions, threads that never come back, and whether two ever hold one instrument."""
 
 import asyncio
+import ctypes
 import os
 import signal
 import subprocess
@@ -12,6 +13,7 @@ import unittest
 from typing import Any, Callable, Optional
 
 import labrun
+from labrun._library import SessionOf
 from tests.load import Counting, load_script
 
 # Seconds that anything may take which has to happen. No test says how soon it does: the machine may be busy.
@@ -136,6 +138,19 @@ class Alone(unittest.TestCase):
             self.assertEqual(first.commands, (labrun.Command("scale", "set", 3), labrun.Command("lamp", "read", None)))
             self.assertEqual(second.commands, (labrun.Command("lamp", "add", 0),))
             self.assertEqual((first.patience, second.patience), (3, None))
+
+    def test_sessions_are_the_library_s(self) -> None:
+        """What the package reads in a script is what the library reads there."""
+        for script in (load_script(6, 10, 7, 5), PATIENT, SOON, "lab 2\njob b\nsession patience 0\nz read\na read\nz add 1\nend\njob a\n"):
+            with labrun.Bench.from_text(script) as bench:
+                what = SessionOf()
+                for job in bench.jobs:
+                    self.assertEqual(len(job._plan), job.state.sessions)
+                    for number, (instruments, commands, patience) in enumerate(job._plan, 1):
+                        bench._call("lab_session_of", job.index, number, ctypes.byref(what))
+                        names = tuple(name for at, name in enumerate(bench.instruments) if what.needs >> at & 1)
+                        self.assertEqual((instruments, len(commands)), (names, what.commands))
+                        self.assertEqual(patience, what.patience if what.has_patience else None)
 
     def test_some_commands_are_left(self) -> None:
         script = "lab 1\njob a\nsession\nscale set 3\nscale add 2\nend\n"
