@@ -24,9 +24,9 @@ use Rattle.reasons.specs.Reasons.{LeadsToHolder}
 use Rattle.reasons.proofs.LawProofs.{chain_ends_at_a_holder}
 use Rattle.reasons.proofs.Looks.{alike_looked, marked_looked}
 use Rattle.settling.specs.Doing.{IsOwnAct, ActsAlone}
-use Rattle.settling.specs.Left.{DueView, AreMarked, HasNothingToDo, KeepsMarks, IsBySelf, NobodyIsDue, is_due, is_noted}
+use Rattle.settling.specs.Left.{DueView, AreMarked, HasNothingToDo, KeepsMarks, IsBySelf, NobodyIsDue, is_due, is_noted, only_at}
 use Rattle.settling.specs.Resting.{DoesAlone, Rests}
-use Rattle.settling.specs.Attending.{AttendsEdge, Attends, not_due}
+use Rattle.settling.specs.Attending.{AttendsEdge, AttendsEdges, Attends, not_due}
 use Rattle.settling.proofs.Worlds.{reached_sound}
 use Rattle.settling.proofs.Deeds.{alone_both, alone_act, act_is, none_legal, few_alone}
 use Rattle.settling.proofs.Waking.{marked_on}
@@ -57,9 +57,38 @@ edges_more old mid new d0 d1 d2 j k e m n is a b few = record {
   few = let x = a.few in omega (arith, x, few);
 }
 
+-- all of them
+pub edges_all : (old new : WorldView) (d0 d1 : DueView) (j k n : ℕ) → length (edges_of old.plan j) ≤ k → EdgesSoFar old d0 j k n new d1 → AttendsEdges old d0 j n new d1
+edges_all old new d0 d1 j k n past a =
+    let same = a.alone.leads.same_plan in
+    record {
+      alone = a.alone;
+      marked = a.marked;
+      still_due = a.still_due;
+      nothing = λ none e own. a.marked.noted j e own (subst (λ (p : LabPlan). is_noted d1 (end_of p j e) e ≡ true) (sym same)
+          (at_own_edges old.plan j (edges_of old.plan j) k (λ f. is_noted d1 (end_of old.plan j f) f ≡ true) refl past (a.noted none)
+          e (subst (λ (p : LabPlan). IsOwn p j e) same own)));
+      stays = a.stays;
+    }
+
+-- the only one at which it may have something to do
+pub edges_one : (old new : WorldView) (d0 d1 : DueView) (j e n : ℕ) → IsOwn old.plan j e → only_at d0 j ≡ e + 1 → AttendsEdge old d0 j e n new d1 → AttendsEdges old d0 j n new d1
+edges_one old new d0 d1 j e n mine only a =
+    let same = a.alone.leads.same_plan in
+    record {
+      alone = a.alone;
+      marked = a.marked;
+      still_due = a.still_due;
+      nothing = λ none f own. elim (cases_eq f e) [
+        | inl is ↦ a.marked.noted j f own (subst (λ (z : LabPlan × ℕ). is_noted d1 (end_of z.0 j z.1) z.1 ≡ true) (λ i. (sym same i, sym is i)) (a.noted none))
+        | inr other ↦ a.marked.only j f e own ((a.no_more none).only j ∙ only) other
+      ];
+      stays = λ none. (a.no_more none).jobs;
+    }
+
 -- ---- one job
 
-module _ (old mid : WorldView) (d0 d1 : DueView) (j k n : ℕ) (job : IsJob old.plan j) (past : length (edges_of old.plan j) ≤ k) (a : EdgesSoFar old d0 j k n mid d1) where
+module _ (old mid : WorldView) (d0 d1 : DueView) (j n : ℕ) (job : IsJob old.plan j) (a : AttendsEdges old d0 j n mid d1) where
   -- it acted
   pub job_acted : (new : WorldView) (d2 : DueView) → ActsAlone mid j true new → KeepsMarks new.plan (IsBySelf j) d1 d2 → Attends (λ i. i ≡ j) old d0 (n + 1) new d2
   job_acted new d2 acts keeps = record {
@@ -74,13 +103,9 @@ module _ (old mid : WorldView) (d0 d1 : DueView) (j k n : ℕ) (job : IsJob old.
     same : mid.plan ≡ old.plan
     same = a.alone.leads.same_plan
 
-    all_noted : (e : ℕ) → IsOwn old.plan j e → is_noted d1 (end_of old.plan j e) e ≡ true
-    all_noted = at_own_edges old.plan j (edges_of old.plan j) k (λ e. is_noted d1 (end_of old.plan j e) e ≡ true) refl past (a.noted none)
-
     nothing_left : HasNothingToDo mid.plan mid.state j
     nothing_left = let acts = none_legal mid.plan mid.state j no_act in record {
-      edges = λ e own. a.marked.noted j e own (subst (λ (p : LabPlan). is_noted d1 (end_of p j e) e ≡ true) (sym same)
-          (all_noted e (subst (λ (p : LabPlan). IsOwn p j e) same own)));
+      edges = a.nothing none;
       no_drink = acts.0;
       no_leave = acts.1;
       no_sit = acts.2;
@@ -98,11 +123,12 @@ module _ (old mid : WorldView) (d0 d1 : DueView) (j k n : ℕ) (job : IsJob old.
       alone = a.alone;
       marked = record {
         of_plan = let f = a.marked.of_plan in
-            record { jobs_there = length-set d1.jobs j false ∙ f.jobs_there; lower_there = f.lower_there; higher_there = f.higher_there };
+            record { jobs_there = length-set d1.jobs j false ∙ f.jobs_there; only_there = f.only_there; lower_there = f.lower_there; higher_there = f.higher_there };
         others = λ i is_job out. elim (cases_eq i j) [
           | inl is ↦ subst (HasNothingToDo mid.plan mid.state) (sym is) nothing_left
           | inr other ↦ a.marked.others i is_job (sym (get_or-set_other d1.jobs j i false true other) ∙ out)
         ];
+        only = a.marked.only;
         noted = a.marked.noted;
       };
       unmarked = λ h i is. subst (λ m. is_due (not_due d1 j) m ≡ false) (sym is) out_now;

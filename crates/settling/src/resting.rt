@@ -1,13 +1,13 @@
 //! Doing all that is left to do of itself.
-ghost use Rattle.std.specs.Prelude.{◌≡◌, ◌↔◌, ◌≤◌, true, false, IfSome, IsTrue};
+ghost use Rattle.std.specs.Prelude.{◌≡◌, ◌+◌, ◌↔◌, ◌≤◌, true, false, IfSome, IsTrue};
 ghost use Rattle.legal_steps.specs.State.{IsOwn};
 ghost use Rattle.legal_steps.specs.Legal.{IsJob, May};
 ghost use Rattle.settling.specs.Doing.{IsOwnAct, ActsAlone, act_of};
-ghost use Rattle.settling.specs.Left.{AreMarked, NobodyIsDue, is_due as is_due_now};
+ghost use Rattle.settling.specs.Left.{AreMarked, IsDueOf, NobodyIsDue, is_due as is_due_now, only_at as only_at_of};
 ghost use Rattle.settling.specs.Resting.{Rests};
-ghost use Rattle.settling.specs.Attending.{AttendsEdge, Attends};
+ghost use Rattle.settling.specs.Attending.{AttendsEdge, AttendsEdges, Attends};
 
-use crate::due::{Due, clear, is_due, is_noted, note, wake_at, wake_self};
+use crate::due::{Due, clear, is_due, is_noted, note, only_at, wake_at, wake_self};
 use crate::visiting::visit;
 use interleaving::World;
 use lab_plan::{EdgeNo, JobNo};
@@ -73,7 +73,58 @@ fn attend_edge<A: Allocator>(
     moved
 }
 
-/// Attends to each edge of the job, and does its own act. If nothing was done, the job isn't due any more. Answers how many moves and
+/// The edge at which alone the job may have something to do, if it is known.
+fn only_edge<A: Allocator>(world: &World<A>, due: &Due<A>, job: JobNo) -> Option<EdgeNo>
+    requires job { IsJob world.now.plan job }
+    requires fits { IsDueOf world.now.plan due.now }
+    ensures own { IfSome result (λ edge. IsOwn world.now.plan job edge) }
+    ensures only { IfSome result (λ edge. only_at_of due.now job ≡ edge + 1) }
+{
+    let place = only_at(due, job);
+    if place == 0 || place > world.plan().edges() as u32 {
+        return None;
+    }
+    let edge = EdgeNo((place - 1) as u16);
+    let (lower, higher) = world.plan().ends(edge);
+    if lower == job || higher == job {
+        Some(edge)
+    } else {
+        None
+    }
+}
+
+/// Attends to each edge of the job. Answers how many moves there were.
+fn attend_all<A: Allocator>(world: &mut World<A>, due: &mut Due<A>, job: JobNo) -> u32
+    requires job { IsJob world.old.plan job }
+    requires marked { AreMarked world.old.plan world.old.state due.old }
+    requires due { is_due_now due.old job ≡ true }
+    ensures attends { AttendsEdges world.old due.old job result world.new due.new }
+    ensures few { result ≤ 2480 }
+{
+    let _ = world.plan().edges();
+    let mut done = 0u32;
+    for index in 0..world.plan().edges_of(job).len() {
+        let edge = world.plan().edges_of(job)[index];
+        done += attend_edge(world, due, job, edge);
+    }
+    done
+}
+
+/// Attends to the edges at which the job may have something to do. Answers how many moves there were.
+fn attend_edges<A: Allocator>(world: &mut World<A>, due: &mut Due<A>, job: JobNo) -> u32
+    requires job { IsJob world.old.plan job }
+    requires marked { AreMarked world.old.plan world.old.state due.old }
+    requires due { is_due_now due.old job ≡ true }
+    ensures attends { AttendsEdges world.old due.old job result world.new due.new }
+    ensures few { result ≤ 2480 }
+{
+    match only_edge(world, due, job) {
+        Some(edge) => attend_edge(world, due, job, edge),
+        None => attend_all(world, due, job),
+    }
+}
+
+/// Attends to the edges of the job, and does its own act. If nothing was done, the job isn't due any more. Answers how many moves and
 /// acts there were.
 fn attend<A: Allocator>(world: &mut World<A>, due: &mut Due<A>, job: JobNo) -> u32
     requires job { IsJob world.old.plan job }
@@ -82,12 +133,7 @@ fn attend<A: Allocator>(world: &mut World<A>, due: &mut Due<A>, job: JobNo) -> u
     ensures attends { Attends (λ k. k ≡ job) world.old due.old result world.new due.new }
     ensures few { result ≤ 2481 }
 {
-    let _ = world.plan().edges();
-    let mut done = 0u32;
-    for index in 0..world.plan().edges_of(job).len() {
-        let edge = world.plan().edges_of(job)[index];
-        done += attend_edge(world, due, job, edge);
-    }
+    let done = attend_edges(world, due, job);
     if act_alone(world, job) {
         wake_self(world.plan(), due, job);
         return done + 1;
