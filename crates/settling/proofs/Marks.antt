@@ -95,6 +95,24 @@ fresh plan s n p m due fits jobs only lower higher = record {
   at Lower e h = none_noted m e (sym (ap (λ (l : List Bool). slice_index_or l e false) lower) ∙ h)
   at Higher e h = none_noted m e (sym (ap (λ (l : List Bool). slice_index_or l e false) higher) ∙ h)
 
+written_there : (xs : List ℕ) (a v e : ℕ) → slice_index_or xs a 0 ≡ e + 1 → slice_index_or (set xs a v) a 0 ≡ v
+written_there [] a v e h = absurd (omega (arith, h))
+written_there (y ∷ xs) zero v e h = refl
+written_there (y ∷ xs) (suc a) v e h = written_there xs a v e h
+
+place_there : (due : Bool) (e : ℕ) → place due true e ≡ e + 1
+place_there false e = refl
+place_there true e = refl
+
+placed_stays : (due : DueView) (j e k : ℕ) → only_at due k ≡ e + 1 → only_at (placed due j e) k ≡ e + 1
+placed_stays due j e k h = elim (cases_eq k j) [
+  | inr other ↦ get_or-set_other due.only j k (place_of due j e) 0 other ∙ h
+  | inl is ↦
+      let there : only_at due j ≡ e + 1 = ap (only_at due) (sym is) ∙ h in
+      let v : place_of due j e ≡ e + 1 = ap (λ b. place (is_due due j) b e) (eq-eqb (only_at due j) (e + 1) there) ∙ place_there (is_due due j) e in
+      ap (only_at (placed due j e)) is ∙ (written_there due.only j (place_of due j e) e there ∙ v)
+]
+
 -- ---- jobs that are due
 
 pub still_due : (due : DueView) (j k : ℕ) → is_due due k ≡ true → is_due (with_due due j) k ≡ true
@@ -196,6 +214,13 @@ module _ (plan : LabPlan) (due : DueView) (e : ℕ) where
     | inl before ↦ let a = placed_only due lower e k x before in
         (a.0, λ own. elim own.at_end [ inl is ↦ a.1 (sym is) | inr is ↦ b.1 (sym is) ])
   ]
+
+  pub woken_stays : (k : ℕ) → only_at due k ≡ e + 1 → only_at (woken_at plan due e) k ≡ e + 1
+  woken_stays k h = placed_stays (placed due lower e) higher e k (placed_stays due lower e k h)
+
+  pub woken_kept : (end : End) (f : ℕ) → f ≢ e → is_noted due end f ≡ true → is_noted (woken_at plan due e) end f ≡ true
+  woken_kept Lower f other h = get_or-set_other due.lower e f false false other ∙ h
+  woken_kept Higher f other h = get_or-set_other due.higher e f false false other ∙ h
 
   -- what is noted now was before, of another edge
   pub woken_notes : (end : End) (f : ℕ) → is_noted (woken_at plan due e) end f ≡ true → (is_noted due end f ≡ true) × (f ≢ e)

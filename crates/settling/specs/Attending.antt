@@ -1,5 +1,5 @@
 -- What is done for one edge of a job, for one job, and for one job after another.
-use Rattle.std.specs.Prelude.{◌≡◌, ◌+◌, ◌==◌, ℕ, Bool, true, false, slice_set}
+use Rattle.std.specs.Prelude.{◌≡◌, ◌≢◌, ◌+◌, ◌==◌, ℕ, Bool, true, false, slice_set}
 use Rattle.lab_plan.specs.LabPlan.{LabPlan, ends}
 use Rattle.legal_steps.specs.declared.end.End.{End}
 use Rattle.legal_steps.specs.declared.end.End.TheVariants.{Lower, Higher}
@@ -37,26 +37,35 @@ abbrev pub woken_at : LabPlan → DueView → ℕ → DueView
 woken_at plan due e = with_note (with_note (with_due (with_due (placed (placed due (ends plan e).0 e) (ends plan e).1 e) (ends plan e).0) (ends plan e).1)
     Lower e false) Higher e false
 
--- if nothing was done nobody else is due now, and all that was noted still is
-pub record IsNoMore (due due' : DueView) : Type 0 where
-  pub jobs : (k : ℕ) → is_due due k ≡ false → is_due due' k ≡ false
-  pub only : (k : ℕ) → only_at due' k ≡ only_at due k
-  pub notes : (end : End) (e : ℕ) → is_noted due end e ≡ true → is_noted due' end e ≡ true
-
--- one of the job's edges. The job stays due. If nothing was done, it is noted that there is nothing to do for it there
-pub record AttendsEdge (old : WorldView) (due : DueView) (j e n : ℕ) (new : WorldView) (due' : DueView) : Type 0 where
+-- one of the job's edges, once. The job stays due. If nothing was done, it is noted that there is nothing to do for it there, and nobody else is due now.
+-- All that was noted of other edges still is
+pub record TriesEdge (old : WorldView) (due : DueView) (j e n : ℕ) (new : WorldView) (due' : DueView) : Type 0 where
   pub alone : DoesAlone old n new
   pub marked : AreMarked new.plan new.state due'
   pub still_due : is_due due' j ≡ true
   pub noted : n ≡ 0 → is_noted due' (end_of old.plan j e) e ≡ true
-  pub no_more : n ≡ 0 → IsNoMore due due'
+  pub kept : (end : End) (f : ℕ) → f ≢ e → is_noted due end f ≡ true → is_noted due' end f ≡ true
+  pub only : only_at due j ≡ e + 1 → only_at due' j ≡ e + 1
+  pub stays : n ≡ 0 → (k : ℕ) → is_due due k ≡ false → is_due due' k ≡ false
 
--- all edges of the job where it may have something to do. The job stays due. If nothing was done, it has nothing to do at any of its edges
-pub record AttendsEdges (old : WorldView) (due : DueView) (j n : ℕ) (new : WorldView) (due' : DueView) : Type 0 where
+-- the same, until nothing is to be done there, or it is left open
+pub record AttendsEdge (old : WorldView) (due : DueView) (j e n : ℕ) (undone : Bool) (new : WorldView) (due' : DueView) : Type 0 where
   pub alone : DoesAlone old n new
   pub marked : AreMarked new.plan new.state due'
   pub still_due : is_due due' j ≡ true
-  pub nothing : n ≡ 0 → (e : ℕ) → IsOwn new.plan j e → HasNothingAt new.plan new.state j e
+  pub closed : n ≡ 0 → undone ≡ false
+  pub noted : undone ≡ false → is_noted due' (end_of old.plan j e) e ≡ true
+  pub kept : (end : End) (f : ℕ) → f ≢ e → is_noted due end f ≡ true → is_noted due' end f ≡ true
+  pub only : only_at due j ≡ e + 1 → only_at due' j ≡ e + 1
+  pub stays : n ≡ 0 → (k : ℕ) → is_due due k ≡ false → is_due due' k ≡ false
+
+-- all edges of the job where it may have something to do. The job stays due. If none is left open, it has nothing to do at any of its edges
+pub record AttendsEdges (old : WorldView) (due : DueView) (j n : ℕ) (undone : Bool) (new : WorldView) (due' : DueView) : Type 0 where
+  pub alone : DoesAlone old n new
+  pub marked : AreMarked new.plan new.state due'
+  pub still_due : is_due due' j ≡ true
+  pub closed : n ≡ 0 → undone ≡ false
+  pub nothing : undone ≡ false → (e : ℕ) → IsOwn new.plan j e → HasNothingAt new.plan new.state j e
   pub stays : n ≡ 0 → (k : ℕ) → is_due due k ≡ false → is_due due' k ≡ false
 
 -- some jobs. If nothing was done, none of them is due any more, and no other is that wasn't

@@ -5,7 +5,7 @@ ghost use Rattle.legal_steps.specs.Legal.{IsJob, May};
 ghost use Rattle.settling.specs.Doing.{IsOwnAct, ActsAlone, act_of};
 ghost use Rattle.settling.specs.Left.{AreMarked, IsDueOf, NobodyIsDue, is_due as is_due_now, only_at as only_at_of};
 ghost use Rattle.settling.specs.Resting.{Rests};
-ghost use Rattle.settling.specs.Attending.{AttendsEdge, AttendsEdges, Attends};
+ghost use Rattle.settling.specs.Attending.{TriesEdge, AttendsEdge, AttendsEdges, Attends};
 
 use crate::due::{Due, clear, is_due, is_noted, note, only_at, wake_at, wake_self};
 use crate::visiting::visit;
@@ -47,23 +47,15 @@ fn act_alone<A: Allocator>(world: &mut World<A>, job: JobNo) -> bool
     true
 }
 
-/// Visits the edge, if it isn't noted that the job has nothing to do there. Answers how many moves were done.
-fn attend_edge<A: Allocator>(
-    world: &mut World<A>,
-    due: &mut Due<A>,
-    job: JobNo,
-    edge: EdgeNo,
-) -> u32
+/// Visits the edge, and notes it if the job has nothing to do there. Answers how many moves were done.
+fn try_edge<A: Allocator>(world: &mut World<A>, due: &mut Due<A>, job: JobNo, edge: EdgeNo) -> u32
     requires own { IsOwn world.old.plan job edge }
     requires marked { AreMarked world.old.plan world.old.state due.old }
     requires due { is_due_now due.old job ≡ true }
-    ensures attends { AttendsEdge world.old due.old job edge result world.new due.new }
+    ensures tries { TriesEdge world.old due.old job edge result world.new due.new }
     ensures few { result ≤ 5 }
 {
     let here = End::of(world.plan(), job, edge);
-    if is_noted(due, here, edge) {
-        return 0;
-    }
     let moved = visit(world, job, edge);
     if moved == 0 {
         note(due, here, edge);
@@ -71,6 +63,35 @@ fn attend_edge<A: Allocator>(
         wake_at(world.plan(), due, edge);
     }
     moved
+}
+
+/// Visits the edge, if it isn't noted that the job has nothing to do there, and once more if something was done. Answers how many moves
+/// were done, and whether more may be left.
+fn attend_edge<A: Allocator>(
+    world: &mut World<A>,
+    due: &mut Due<A>,
+    job: JobNo,
+    edge: EdgeNo,
+) -> (u32, bool)
+    requires own { IsOwn world.old.plan job edge }
+    requires marked { AreMarked world.old.plan world.old.state due.old }
+    requires due { is_due_now due.old job ≡ true }
+    ensures attends { AttendsEdge world.old due.old job edge result.0 result.1 world.new due.new }
+    ensures few { result.0 ≤ 10 }
+{
+    let here = End::of(world.plan(), job, edge);
+    if is_noted(due, here, edge) {
+        return (0, false);
+    }
+    let moved = try_edge(world, due, job, edge);
+    if moved == 0 {
+        return (0, false);
+    }
+    let more = try_edge(world, due, job, edge);
+    if more == 0 {
+        return (moved, false);
+    }
+    (moved + more, true)
 }
 
 /// The edge at which alone the job may have something to do, if it is known.
@@ -93,30 +114,35 @@ fn only_edge<A: Allocator>(world: &World<A>, due: &Due<A>, job: JobNo) -> Option
     }
 }
 
-/// Attends to each edge of the job. Answers how many moves there were.
-fn attend_all<A: Allocator>(world: &mut World<A>, due: &mut Due<A>, job: JobNo) -> u32
+/// Attends to each edge of the job. Answers how many moves there were, and whether more may be left.
+fn attend_all<A: Allocator>(world: &mut World<A>, due: &mut Due<A>, job: JobNo) -> (u32, bool)
     requires job { IsJob world.old.plan job }
     requires marked { AreMarked world.old.plan world.old.state due.old }
     requires due { is_due_now due.old job ≡ true }
-    ensures attends { AttendsEdges world.old due.old job result world.new due.new }
-    ensures few { result ≤ 2480 }
+    ensures attends { AttendsEdges world.old due.old job result.0 result.1 world.new due.new }
+    ensures few { result.0 ≤ 4960 }
 {
     let _ = world.plan().edges();
     let mut done = 0u32;
+    let mut undone = false;
     for index in 0..world.plan().edges_of(job).len() {
         let edge = world.plan().edges_of(job)[index];
-        done += attend_edge(world, due, job, edge);
+        let (moved, left) = attend_edge(world, due, job, edge);
+        done += moved;
+        if left {
+            undone = true;
+        }
     }
-    done
+    (done, undone)
 }
 
-/// Attends to the edges at which the job may have something to do. Answers how many moves there were.
-fn attend_edges<A: Allocator>(world: &mut World<A>, due: &mut Due<A>, job: JobNo) -> u32
+/// Attends to the edges at which the job may have something to do. Answers how many moves there were, and whether more may be left.
+fn attend_edges<A: Allocator>(world: &mut World<A>, due: &mut Due<A>, job: JobNo) -> (u32, bool)
     requires job { IsJob world.old.plan job }
     requires marked { AreMarked world.old.plan world.old.state due.old }
     requires due { is_due_now due.old job ≡ true }
-    ensures attends { AttendsEdges world.old due.old job result world.new due.new }
-    ensures few { result ≤ 2480 }
+    ensures attends { AttendsEdges world.old due.old job result.0 result.1 world.new due.new }
+    ensures few { result.0 ≤ 4960 }
 {
     match only_edge(world, due, job) {
         Some(edge) => attend_edge(world, due, job, edge),
@@ -124,21 +150,21 @@ fn attend_edges<A: Allocator>(world: &mut World<A>, due: &mut Due<A>, job: JobNo
     }
 }
 
-/// Attends to the edges of the job, and does its own act. If nothing was done, the job isn't due any more. Answers how many moves and
+/// Attends to the edges of the job, and does its own act. If nothing is left then, the job isn't due any more. Answers how many moves and
 /// acts there were.
 fn attend<A: Allocator>(world: &mut World<A>, due: &mut Due<A>, job: JobNo) -> u32
     requires job { IsJob world.old.plan job }
     requires marked { AreMarked world.old.plan world.old.state due.old }
     requires due { is_due_now due.old job ≡ true }
     ensures attends { Attends (λ k. k ≡ job) world.old due.old result world.new due.new }
-    ensures few { result ≤ 2481 }
+    ensures few { result ≤ 4961 }
 {
-    let done = attend_edges(world, due, job);
+    let (done, undone) = attend_edges(world, due, job);
     if act_alone(world, job) {
         wake_self(world.plan(), due, job);
         return done + 1;
     }
-    if done == 0 {
+    if !undone {
         clear(due, job);
     }
     done
@@ -148,7 +174,7 @@ fn attend<A: Allocator>(world: &mut World<A>, due: &mut Due<A>, job: JobNo) -> u
 fn round<A: Allocator>(world: &mut World<A>, due: &mut Due<A>) -> u32
     requires { AreMarked world.old.plan world.old.state due.old }
     ensures attends { Attends (IsJob world.old.plan) world.old due.old result world.new due.new }
-    ensures few { result ≤ 79392 }
+    ensures few { result ≤ 158752 }
 {
     let mut done = 0u32;
     for job in 0..world.plan().jobs() {
