@@ -11,24 +11,26 @@ use crate::due::{Due, clear, is_due, is_noted, note, only_at, wake_at, wake_self
 use crate::visiting::visit;
 use interleaving::World;
 use lab_plan::{EdgeNo, JobNo};
-use legal_steps::{End, Event};
+use legal_steps::{Dining, Drinking, End, Event};
 use std::alloc::Allocator;
 
 /// The job's first act that needs no word from its owner and is legal.
 fn own_act<A: Allocator>(world: &World<A>, job: JobNo) -> Option<Event>
+    requires { IsJob world.now.plan job }
     ensures first { IsOwnAct world.now.plan world.now.state job (act_of result) }
     ensures may { IfSome result (λ event. May world.now.plan world.now.state event) }
 {
-    if world.enabled(Event::Drink(job)) {
+    let phase = world.job(job);
+    if phase.drinking == Drinking::Thirsty && world.enabled(Event::Drink(job)) {
         return Some(Event::Drink(job));
     }
-    if world.enabled(Event::Leave(job)) {
+    if phase.dining == Dining::Eating && world.enabled(Event::Leave(job)) {
         return Some(Event::Leave(job));
     }
-    if world.enabled(Event::Sit(job)) {
+    if phase.dining == Dining::Hungry && world.enabled(Event::Sit(job)) {
         return Some(Event::Sit(job));
     }
-    if world.enabled(Event::Hunger(job)) {
+    if phase.dining == Dining::Thinking && world.enabled(Event::Hunger(job)) {
         return Some(Event::Hunger(job));
     }
     None
@@ -36,6 +38,7 @@ fn own_act<A: Allocator>(world: &World<A>, job: JobNo) -> Option<Event>
 
 /// Does it. Answers whether there was one.
 fn act_alone<A: Allocator>(world: &mut World<A>, job: JobNo) -> bool
+    requires { IsJob world.old.plan job }
     ensures { ActsAlone world.old job result world.new }
 {
     let Some(event) = own_act(world, job) else {

@@ -1,11 +1,15 @@
 use Rattle.std.proofs.Common.{◌≡◌, ℕ, Bool, true, false, sym, subst}
 use Rattle.lab_plan.specs.LabPlan.{LabPlan}
+use Rattle.legal_steps.specs.Legal.{IsJob}
 use Rattle.interleaving.specs.World.{WorldView}
 use Rattle.settling.specs.Doing.{ActsAlone}
 use Rattle.settling.specs.Left.{DueView, KeepsMarks, IsBySelf}
 use Rattle.settling.specs.Attending.{Attends}
 use Rattle.settling.proofs.Rested.{job_acted, job_done, job_left}
 use Rattle.settling.proofs.resting.attend.Goals as goal
+
+pub act_alone-requires : goal.act_alone-requires
+act_alone-requires g c = subst (λ (p : LabPlan). IsJob p c.args.job) (sym c.attend_edges-done.ensures.attends.alone.leads.same_plan) c.requires.job
 
 pub returns-then-act_alone-clause-attends : goal.returns-then-act_alone-clause-attends
 returns-then-act_alone-clause-attends g c =
