@@ -3,7 +3,8 @@ ghost use Rattle.std.specs.Prelude.{◌≡◌, ◌<◌, ℕ, true, false, length
 ghost use Rattle.lab_plan.specs.LabPlan.{edges};
 ghost use Rattle.legal_steps.specs.State.{State, IsOwn, end_of};
 ghost use Rattle.legal_steps.specs.Legal.{IsJob};
-ghost use Rattle.settling.specs.Left.{DueView, IsDueOf, AreMarked, KeepsMarks, IsBy, IsBySelf, is_due, is_noted as is_noted_of, only_at as only_at_of};
+ghost use Rattle.settling.specs.Left.{DueView, IsDueOf, AreMarked, KeepsMarks, IsBy, IsBySelf};
+ghost use Rattle.settling.specs.Left.{is_due, is_noted as is_noted_of, only_at as only_at_of};
 ghost use Rattle.settling.specs.Attending.{not_due, with_note, woken_at, placed, place_of as place_for};
 
 use lab_plan::{EdgeNo, JobNo, Plan};
@@ -11,7 +12,8 @@ use legal_steps::End;
 use std::alloc::{AllocError, Allocator, Global};
 use std::marker::Model;
 
-/// The jobs that may have something to do, for each the edge at which alone it may, if it is known, and a note for each end of each edge that whoever is there has nothing to do there.
+/// The jobs that may have something to do, with the edge at which alone each may, if that is known. And a note for each end of each
+/// edge that whoever is there has nothing to do there.
 #[derive(Drop)]
 pub struct Due<A: Allocator = Global> {
     pub(crate) jobs: Vec<bool, A>,
