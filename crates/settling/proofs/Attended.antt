@@ -17,12 +17,12 @@ use Rattle.edge_word.specs.Moves.{on, events_of, is_nothing}
 use Rattle.turns.proofs.Calm.{nothing_due_is_calm}
 use Rattle.settling.specs.Doing.{VisitsEdge}
 use Rattle.settling.specs.Left.{DueView, AreMarked, HasNothingAt, is_due}
-use Rattle.settling.specs.Attending.{AttendsEdge, with_note, woken_at}
+use Rattle.settling.specs.Attending.{TriesEdge, with_note, woken_at}
 use Rattle.settling.proofs.Deeds.{alone_visit}
 use Rattle.settling.proofs.DueThere.{seat_there}
 use Rattle.settling.proofs.Local.{IsNear, near_all, visit_at, marked_by_look}
 use Rattle.settling.proofs.Still.{still_at, seat_still_at, still_nothing}
-use Rattle.settling.proofs.Marks.{added, noted_still, noted_now, note_fits, note_jobs, woken_fits, woken_out, woken_due, woken_notes, same_job}
+use Rattle.settling.proofs.Marks.{added, noted_still, noted_now, note_fits, note_jobs, note_only, woken_fits, woken_out, woken_due, woken_notes, woken_only, woken_stays, woken_kept, same_job}
 
 -- where there are no events, nothing was due
 none_on : (a b c d f : Bool) (u v w x y : Event) → length (on a u (on (not b) v (on c w (on (not d) x (on f y []))))) ≡ 0 →
@@ -78,7 +78,7 @@ module _ (old new : WorldView) (due : DueView) (j e n : ℕ) (fit : Fits old.pla
 
   -- ---- something was moved
 
-  pub edge_moved : 1 ≤ n → AttendsEdge old due j e n new (woken_at plan due e)
+  pub edge_moved : 1 ≤ n → TriesEdge old due j e n new (woken_at plan due e)
   edge_moved some = record {
     alone = alone_visit old new j e n v;
     marked = marked_new (woken_at plan due e) (record {
@@ -86,11 +86,20 @@ module _ (old new : WorldView) (due : DueView) (j e n : ℕ) (fit : Fits old.pla
       others = λ k job out. let o = woken_out plan due e k out in
           let apart : k ≢ j = λ z. o.1 (subst (λ m. IsOwn plan m e) (sym z) own) in
           still_nothing plan s t k (near.seats k apart) (λ f mine. near.edges f (λ z. o.1 (subst (IsOwn plan k) z mine))) (marked.others k job o.0);
+      only = λ k f x mine is other. let o = woken_only plan due e k x is in elim (cases_eq f e) [
+        | inl same ↦ absurd (other (same ∙ sym (o.1 (subst (IsOwn plan k) same mine))))
+        | inr apart ↦ elsewhere k f apart (elim o.0 [
+          | inl before ↦ marked.only k f x mine before other
+          | inr out ↦ (marked.others k (own_is_job plan k f mine) out.1).edges f mine
+        ])
+      ];
       noted = λ k f mine noted. let o = woken_notes plan due e (end_of plan k f) f noted in elsewhere k f o.1 (marked.noted k f mine o.0);
     });
     still_due = woken_due plan due e j is;
     noted = λ none. absurd (omega (arith, some, none));
-    no_more = λ none. absurd (omega (arith, some, none));
+    kept = woken_kept plan due e;
+    only = woken_stays plan due e j;
+    stays = λ none. absurd (omega (arith, some, none));
   }
 
   -- ---- nothing was
@@ -117,7 +126,7 @@ module _ (old new : WorldView) (due : DueView) (j e n : ℕ) (fit : Fits old.pla
     edge_stays : (f : ℕ) → edge t f ≡ edge s f
     edge_stays f = ap (λ (z : State). edge z f) only_looked
 
-    pub edge_calm : AttendsEdge old due j e n new (with_note due here e true)
+    pub edge_calm : TriesEdge old due j e n new (with_note due here e true)
     edge_calm = record {
       alone = alone_visit old new j e n v;
       marked = marked_new (with_note due here e true) (record {
@@ -126,6 +135,13 @@ module _ (old new : WorldView) (due : DueView) (j e n : ℕ) (fit : Fits old.pla
             let before : is_due due k ≡ false = sym (ap (λ (l : List Bool). slice_index_or l k true) (note_jobs due here e true)) ∙ out in
             let apart : k ≢ j = λ z. false≢true (sym before ∙ (ap (is_due due) z ∙ is)) in
             still_nothing plan s t k (near.seats k apart) (λ f mine. edge_stays f) (marked.others k job before);
+        only = λ k f x mine is other. let before = marked.only k f x mine (sym (note_only due here e true k) ∙ is) other in elim (cases_eq f e) [
+          | inr apart ↦ elsewhere k f apart before
+          | inl same ↦ elim (cases_eq k j) [
+            | inl me ↦ subst (λ (z : ℕ × ℕ). HasNothingAt plan t z.0 z.1) (λ i. (sym me i, sym same i)) nothing_here
+            | inr apart ↦ seat_still_at plan s t k (near.seats k apart) f (edge_stays f) before
+          ]
+        ];
         noted = λ k f mine noted. elim (cases_eq f e) [
           | inr other ↦ elim (added due here (end_of plan k f) e f noted) [ inl z ↦ absurd (other z.1) | inr before ↦ elsewhere k f other (marked.noted k f mine before) ]
           | inl same ↦ elim (cases_eq k j) [
@@ -139,8 +155,7 @@ module _ (old new : WorldView) (due : DueView) (j e n : ℕ) (fit : Fits old.pla
       });
       still_due = ap (λ (l : List Bool). slice_index_or l j true) (note_jobs due here e true) ∙ is;
       noted = λ h. noted_now due here e (let a = marked.of_plan.lower_there in omega (arith, a, own.is_edge)) (let a = marked.of_plan.higher_there in omega (arith, a, own.is_edge));
-      no_more = λ h. record {
-        jobs = λ k out. ap (λ (l : List Bool). slice_index_or l k true) (note_jobs due here e true) ∙ out;
-        notes = λ end f before. noted_still due here end e f before;
-      };
+      kept = λ end f other before. noted_still due here end e f before;
+      only = λ h. note_only due here e true j ∙ h;
+      stays = λ h k out. ap (λ (l : List Bool). slice_index_or l k true) (note_jobs due here e true) ∙ out;
     }

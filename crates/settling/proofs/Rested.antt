@@ -1,6 +1,6 @@
 -- Job after job, and round after round, until nobody has anything to do of itself.
-use Rattle.std.proofs.Common.{◌≡◌, ℕ, ◌+◌, ◌*◌, ◌<◌, ◌≤◌, true, false, List, [], ◌∷◌, ◌++◌, take, length, set, slice_index_or, get_or-set_same, get_or-set_other, length-set, refl, sym, ap, ◌∙◌, subst, inl, inr, arith}
-use Rattle.std.proofs.lemmas.Bool.{cases_eq}
+use Rattle.std.proofs.Common.{◌≡◌, ◌≢◌, ℕ, Bool, ◌+◌, ◌*◌, ◌<◌, ◌≤◌, true, false, List, [], ◌∷◌, ◌++◌, take, length, set, slice_index_or, get_or-set_same, get_or-set_other, length-set, refl, sym, ap, ◌∙◌, subst, inl, inr, arith}
+use Rattle.std.proofs.lemmas.Bool.{false≢true, cases_eq}
 use Rattle.lab_plan.specs.LabPlan.{LabPlan, edges, edges_of, session_names}
 use Rattle.lab_plan.specs.IsPlan.{IsPlan}
 use Rattle.legal_steps.specs.declared.phase.Drinking.TheVariants.{Thirsty}
@@ -24,42 +24,115 @@ use Rattle.reasons.specs.Reasons.{LeadsToHolder}
 use Rattle.reasons.proofs.LawProofs.{chain_ends_at_a_holder}
 use Rattle.reasons.proofs.Looks.{alike_looked, marked_looked}
 use Rattle.settling.specs.Doing.{IsOwnAct, ActsAlone}
-use Rattle.settling.specs.Left.{DueView, AreMarked, HasNothingToDo, KeepsMarks, IsBySelf, NobodyIsDue, is_due, is_noted}
+use Rattle.settling.specs.Left.{DueView, AreMarked, HasNothingToDo, KeepsMarks, IsBySelf, NobodyIsDue, is_due, is_noted, only_at}
 use Rattle.settling.specs.Resting.{DoesAlone, Rests}
-use Rattle.settling.specs.Attending.{AttendsEdge, Attends, not_due}
+use Rattle.settling.specs.Attending.{TriesEdge, AttendsEdge, AttendsEdges, Attends, not_due}
 use Rattle.settling.proofs.Worlds.{reached_sound}
 use Rattle.settling.proofs.Deeds.{alone_both, alone_act, act_is, none_legal, few_alone}
 use Rattle.settling.proofs.Waking.{marked_on}
 
 -- ---- edge after edge
 
--- k of the job's edges. If nothing was done, it is noted of each that there is nothing to do
-pub record EdgesSoFar (old : WorldView) (due : DueView) (j : ℕ) (k n : ℕ) (new : WorldView) (due' : DueView) : Type 0 where
-  pub alone : DoesAlone old n new
-  pub marked : AreMarked new.plan new.state due'
-  pub still_due : is_due due' j ≡ true
-  pub noted : n ≡ 0 → (i : ℕ) → i < k → is_noted due' (end_of old.plan j (slice_index_or (edges_of old.plan j) i 0)) (slice_index_or (edges_of old.plan j) i 0) ≡ true
-  pub stays : n ≡ 0 → (i : ℕ) → is_due due i ≡ false → is_due due' i ≡ false
-  pub few : n ≤ 5 * k
+-- nothing was done at first, and so it is once
+pub edge_once : (old new : WorldView) (d0 d1 : DueView) (j e n : ℕ) → n ≡ 0 → TriesEdge old d0 j e n new d1 → AttendsEdge old d0 j e 0 false new d1
+edge_once old new d0 d1 j e n none a = record {
+  alone = subst (λ z. DoesAlone old z new) none a.alone;
+  marked = a.marked;
+  still_due = a.still_due;
+  closed = λ h. refl;
+  noted = λ h. a.noted none;
+  kept = a.kept;
+  only = a.only;
+  stays = λ h. a.stays none;
+}
 
-pub edges_more : (old mid new : WorldView) (d0 d1 d2 : DueView) (j k e m n : ℕ) → e ≡ slice_index_or (edges_of old.plan j) k 0 → EdgesSoFar old d0 j k m mid d1 →
-    AttendsEdge mid d1 j e n new d2 → n ≤ 5 → EdgesSoFar old d0 j (k + 1) (m + n) new d2
-edges_more old mid new d0 d1 d2 j k e m n is a b few = record {
+-- something was done at first, and so it is twice
+pub edge_twice : (old mid new : WorldView) (d0 d1 d2 : DueView) (j e m n : ℕ) (undone : Bool) → 1 ≤ m → (undone ≡ false → n ≡ 0) → TriesEdge old d0 j e m mid d1 →
+    TriesEdge mid d1 j e n new d2 → AttendsEdge old d0 j e (m + n) undone new d2
+edge_twice old mid new d0 d1 d2 j e m n undone some closed a b = record {
   alone = alone_both old mid new m n a.alone b.alone;
   marked = b.marked;
   still_due = b.still_due;
-  noted = λ none i below. elim (cases_eq i k) [
-    | inl last ↦ subst (λ (z : LabPlan × ℕ). is_noted d2 (end_of z.0 j z.1) z.1 ≡ true)
-        (λ x. (a.alone.leads.same_plan x, (is ∙ ap (λ p. slice_index_or (edges_of old.plan j) p 0) (sym last)) x)) (b.noted (omega (arith, none)))
-    | inr other ↦ (b.no_more (omega (arith, none))).notes _ _ (a.noted (omega (arith, none)) i (omega (arith, below, other)))
+  closed = λ none. absurd (omega (arith, none, some));
+  noted = λ h. subst (λ (p : LabPlan). is_noted d2 (end_of p j e) e ≡ true) a.alone.leads.same_plan (b.noted (closed h));
+  kept = λ end f other before. b.kept end f other (a.kept end f other before);
+  only = λ h. b.only (a.only h);
+  stays = λ none. absurd (omega (arith, none, some));
+}
+
+-- k of the job's edges. If none is left open, it is noted of each that there is nothing to do
+pub record EdgesSoFar (old : WorldView) (due : DueView) (j : ℕ) (k n : ℕ) (undone : Bool) (new : WorldView) (due' : DueView) : Type 0 where
+  pub alone : DoesAlone old n new
+  pub marked : AreMarked new.plan new.state due'
+  pub still_due : is_due due' j ≡ true
+  pub closed : n ≡ 0 → undone ≡ false
+  pub noted : undone ≡ false → (i : ℕ) → i < k → is_noted due' (end_of old.plan j (slice_index_or (edges_of old.plan j) i 0)) (slice_index_or (edges_of old.plan j) i 0) ≡ true
+  pub stays : n ≡ 0 → (i : ℕ) → is_due due i ≡ false → is_due due' i ≡ false
+  pub few : n ≤ 10 * k
+
+pub edges_more : (old mid new : WorldView) (d0 d1 d2 : DueView) (j k e m n : ℕ) (before left undone : Bool) → e ≡ slice_index_or (edges_of old.plan j) k 0 →
+    EdgesSoFar old d0 j k m before mid d1 → AttendsEdge mid d1 j e n left new d2 → n ≤ 10 → (before ≡ false → left ≡ false → undone ≡ false) →
+    (undone ≡ false → (before ≡ false) × (left ≡ false)) → EdgesSoFar old d0 j (k + 1) (m + n) undone new d2
+edges_more old mid new d0 d1 d2 j k e m n before left undone is a b few both each = record {
+  alone = alone_both old mid new m n a.alone b.alone;
+  marked = b.marked;
+  still_due = b.still_due;
+  closed = λ none. both (a.closed (omega (arith, none))) (b.closed (omega (arith, none)));
+  noted = λ h i below. let f = slice_index_or (edges_of old.plan j) i 0 in elim (cases_eq f e) [
+    | inl same ↦ subst (λ (z : LabPlan × ℕ). is_noted d2 (end_of z.0 j z.1) z.1 ≡ true) (λ x. (a.alone.leads.same_plan x, sym same x)) (b.noted (each h).1)
+    | inr apart ↦ b.kept (end_of old.plan j f) f apart
+        (a.noted (each h).0 i (let other : i ≢ k = λ last. apart (ap (λ p. slice_index_or (edges_of old.plan j) p 0) last ∙ sym is) in omega (arith, below, other)))
   ];
-  stays = λ none i out. (b.no_more (omega (arith, none))).jobs i (a.stays (omega (arith, none)) i out);
+  stays = λ none i out. b.stays (omega (arith, none)) i (a.stays (omega (arith, none)) i out);
   few = let x = a.few in omega (arith, x, few);
 }
 
+-- all of them
+pub edges_all : (old new : WorldView) (d0 d1 : DueView) (j k n : ℕ) (undone : Bool) → length (edges_of old.plan j) ≤ k → EdgesSoFar old d0 j k n undone new d1 →
+    AttendsEdges old d0 j n undone new d1
+edges_all old new d0 d1 j k n undone past a =
+    let same = a.alone.leads.same_plan in
+    record {
+      alone = a.alone;
+      marked = a.marked;
+      still_due = a.still_due;
+      closed = a.closed;
+      nothing = λ h e own. a.marked.noted j e own (subst (λ (p : LabPlan). is_noted d1 (end_of p j e) e ≡ true) (sym same)
+          (at_own_edges old.plan j (edges_of old.plan j) k (λ f. is_noted d1 (end_of old.plan j f) f ≡ true) refl past (a.noted h)
+          e (subst (λ (p : LabPlan). IsOwn p j e) same own)));
+      stays = a.stays;
+    }
+
+-- the only one at which it may have something to do
+pub edges_one : (old new : WorldView) (d0 d1 : DueView) (j e n : ℕ) (undone : Bool) → IsOwn old.plan j e → only_at d0 j ≡ e + 1 → AttendsEdge old d0 j e n undone new d1 →
+    AttendsEdges old d0 j n undone new d1
+edges_one old new d0 d1 j e n undone mine only a =
+    let same = a.alone.leads.same_plan in
+    record {
+      alone = a.alone;
+      marked = a.marked;
+      still_due = a.still_due;
+      closed = a.closed;
+      nothing = λ h f own. elim (cases_eq f e) [
+        | inl is ↦ a.marked.noted j f own (subst (λ (z : LabPlan × ℕ). is_noted d1 (end_of z.0 j z.1) z.1 ≡ true) (λ i. (sym same i, sym is i)) (a.noted h))
+        | inr other ↦ a.marked.only j f e own (a.only only) other
+      ];
+      stays = a.stays;
+    }
+
 -- ---- one job
 
-module _ (old mid : WorldView) (d0 d1 : DueView) (j k n : ℕ) (job : IsJob old.plan j) (past : length (edges_of old.plan j) ≤ k) (a : EdgesSoFar old d0 j k n mid d1) where
+-- something is left
+pub job_left : (old new : WorldView) (d0 d1 : DueView) (j n : ℕ) (undone : Bool) → undone ≡ true → AttendsEdges old d0 j n undone new d1 →
+    Attends (λ i. i ≡ j) old d0 n new d1
+job_left old new d0 d1 j n undone is_so a = record {
+  alone = a.alone;
+  marked = a.marked;
+  unmarked = λ h k is. absurd (false≢true (sym (a.closed h) ∙ is_so));
+  stays = λ h k out. absurd (false≢true (sym (a.closed h) ∙ is_so));
+}
+
+module _ (old mid : WorldView) (d0 d1 : DueView) (j n : ℕ) (undone : Bool) (job : IsJob old.plan j) (a : AttendsEdges old d0 j n undone mid d1) where
   -- it acted
   pub job_acted : (new : WorldView) (d2 : DueView) → ActsAlone mid j true new → KeepsMarks new.plan (IsBySelf j) d1 d2 → Attends (λ i. i ≡ j) old d0 (n + 1) new d2
   job_acted new d2 acts keeps = record {
@@ -69,18 +142,14 @@ module _ (old mid : WorldView) (d0 d1 : DueView) (j k n : ℕ) (job : IsJob old.
     stays = λ h. absurd (omega (arith, h));
   }
 
-  -- nothing was done at all
-  module _ (none : n ≡ 0) (no_act : IsOwnAct mid.plan mid.state j []) where
+  -- nothing is left
+  module _ (none : undone ≡ false) (no_act : IsOwnAct mid.plan mid.state j []) where
     same : mid.plan ≡ old.plan
     same = a.alone.leads.same_plan
 
-    all_noted : (e : ℕ) → IsOwn old.plan j e → is_noted d1 (end_of old.plan j e) e ≡ true
-    all_noted = at_own_edges old.plan j (edges_of old.plan j) k (λ e. is_noted d1 (end_of old.plan j e) e ≡ true) refl past (a.noted none)
-
     nothing_left : HasNothingToDo mid.plan mid.state j
     nothing_left = let acts = none_legal mid.plan mid.state j no_act in record {
-      edges = λ e own. a.marked.noted j e own (subst (λ (p : LabPlan). is_noted d1 (end_of p j e) e ≡ true) (sym same)
-          (all_noted e (subst (λ (p : LabPlan). IsOwn p j e) same own)));
+      edges = a.nothing none;
       no_drink = acts.0;
       no_leave = acts.1;
       no_sit = acts.2;
@@ -98,11 +167,12 @@ module _ (old mid : WorldView) (d0 d1 : DueView) (j k n : ℕ) (job : IsJob old.
       alone = a.alone;
       marked = record {
         of_plan = let f = a.marked.of_plan in
-            record { jobs_there = length-set d1.jobs j false ∙ f.jobs_there; lower_there = f.lower_there; higher_there = f.higher_there };
+            record { jobs_there = length-set d1.jobs j false ∙ f.jobs_there; only_there = f.only_there; lower_there = f.lower_there; higher_there = f.higher_there };
         others = λ i is_job out. elim (cases_eq i j) [
           | inl is ↦ subst (HasNothingToDo mid.plan mid.state) (sym is) nothing_left
           | inr other ↦ a.marked.others i is_job (sym (get_or-set_other d1.jobs j i false true other) ∙ out)
         ];
+        only = a.marked.only;
         noted = a.marked.noted;
       };
       unmarked = λ h i is. subst (λ m. is_due (not_due d1 j) m ≡ false) (sym is) out_now;

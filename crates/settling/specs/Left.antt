@@ -1,5 +1,5 @@
 -- For readers: what is left to do of itself, what is noted of that, and what has to be marked anew after an event.
-use Rattle.std.specs.Prelude.{◌≡◌, ℕ, Bool, true, false, List, length, slice_index_or}
+use Rattle.std.specs.Prelude.{◌≡◌, ◌≢◌, ◌+◌, ℕ, Bool, true, false, List, length, slice_index_or}
 use Rattle.lab_plan.specs.LabPlan.{LabPlan, edges}
 use Rattle.legal_steps.specs.declared.end.End.{End}
 use Rattle.legal_steps.specs.declared.end.End.TheVariants.{Lower, Higher}
@@ -26,14 +26,19 @@ pub record HasNothingToDo (plan : LabPlan) (s : State) (j : ℕ) : Type 0 where
 
 -- ---- what is noted
 
--- the jobs that are due: these may have something to do. And a note for each end of each edge, by edge number: whoever is there has nothing to do there
+-- the jobs that are due: these may have something to do. For each job 0, or 1 more than an edge's number: it may have something to do at that edge only.
+-- And a note for each end of each edge, by edge number: whoever is there has nothing to do there
 pub record DueView : Type 0 where
   pub jobs : List Bool
+  pub only : List ℕ
   pub lower : List Bool
   pub higher : List Bool
 
 abbrev pub is_due : DueView → ℕ → Bool
 is_due due j = slice_index_or due.jobs j true
+
+abbrev pub only_at : DueView → ℕ → ℕ
+only_at due j = slice_index_or due.only j 0
 
 abbrev pub is_noted : DueView → End → ℕ → Bool
 is_noted due Lower e = slice_index_or due.lower e false
@@ -42,13 +47,15 @@ is_noted due Higher e = slice_index_or due.higher e false
 -- it is of this plan
 pub record IsDueOf (plan : LabPlan) (due : DueView) : Type 0 where
   pub jobs_there : length due.jobs ≡ length plan.jobs
+  pub only_there : length due.only ≡ length plan.jobs
   pub lower_there : length due.lower ≡ length (edges plan)
   pub higher_there : length due.higher ≡ length (edges plan)
 
--- whoever isn't due has nothing to do, and what is noted of an end is so
+-- whoever isn't due has nothing to do, who may have something to do at one edge only has nothing to do at its others, and what is noted of an end is so
 pub record AreMarked (plan : LabPlan) (s : State) (due : DueView) : Type 0 where
   pub of_plan : IsDueOf plan due
   pub others : (j : ℕ) → IsJob plan j → is_due due j ≡ false → HasNothingToDo plan s j
+  pub only : (j e x : ℕ) → IsOwn plan j e → only_at due j ≡ x + 1 → e ≢ x → HasNothingAt plan s j e
   pub noted : (j e : ℕ) → IsOwn plan j e → is_noted due (end_of plan j e) e ≡ true → HasNothingAt plan s j e
 
 abbrev pub NobodyIsDue : LabPlan → DueView → Type 0

@@ -3,18 +3,21 @@ ghost use Rattle.std.specs.Prelude.{◌≡◌, ◌<◌, ℕ, true, false, length
 ghost use Rattle.lab_plan.specs.LabPlan.{edges};
 ghost use Rattle.legal_steps.specs.State.{State, IsOwn, end_of};
 ghost use Rattle.legal_steps.specs.Legal.{IsJob};
-ghost use Rattle.settling.specs.Left.{DueView, IsDueOf, AreMarked, KeepsMarks, IsBy, IsBySelf, is_due, is_noted as is_noted_of};
-ghost use Rattle.settling.specs.Attending.{not_due, with_note, woken_at};
+ghost use Rattle.settling.specs.Left.{DueView, IsDueOf, AreMarked, KeepsMarks, IsBy, IsBySelf};
+ghost use Rattle.settling.specs.Left.{is_due, is_noted as is_noted_of, only_at as only_at_of};
+ghost use Rattle.settling.specs.Attending.{not_due, with_note, woken_at, placed, place_of as place_for};
 
 use lab_plan::{EdgeNo, JobNo, Plan};
 use legal_steps::End;
 use std::alloc::{AllocError, Allocator, Global};
 use std::marker::Model;
 
-/// The jobs that may have something to do, and a note for each end of each edge that whoever is there has nothing to do there.
+/// The jobs that may have something to do, with the edge at which alone each may, if that is known. And a note for each end of each
+/// edge that whoever is there has nothing to do there.
 #[derive(Drop)]
 pub struct Due<A: Allocator = Global> {
     pub(crate) jobs: Vec<bool, A>,
+    pub(crate) only: Vec<u32, A>,
     pub(crate) lower: Vec<bool, A>,
     pub(crate) higher: Vec<bool, A>,
 }
@@ -24,7 +27,7 @@ impl<A: Allocator> Model for Due<A> {
 
     ghost Value = { DueView };
 
-    ghost view = { λ x. record { jobs = x.jobs.items; lower = x.lower.items; higher = x.higher.items } };
+    ghost view = { λ x. record { jobs = x.jobs.items; only = x.only.items; lower = x.lower.items; higher = x.higher.items } };
 }
 
 impl<A: Allocator + Copy> Due<A> {
@@ -36,6 +39,7 @@ impl<A: Allocator + Copy> Due<A> {
         let edges = plan.edges() as usize;
         Ok(Due {
             jobs: Vec::from_elem(alloc, true, plan.jobs())?,
+            only: Vec::from_elem(alloc, 0u32, plan.jobs())?,
             lower: Vec::from_elem(alloc, false, edges)?,
             higher: Vec::from_elem(alloc, false, edges)?,
         })
@@ -48,6 +52,39 @@ pub(crate) fn is_due<A: Allocator>(due: &Due<A>, job: JobNo) -> bool
     ensures { result ≡ is_due due.now job }
 {
     due.jobs[job.0 as usize]
+}
+
+/// 0, or 1 more than the number of the edge at which alone the job may have something to do.
+pub(crate) fn only_at<A: Allocator>(due: &Due<A>, job: JobNo) -> u32
+    requires { job < length due.now.only }
+    ensures { result ≡ only_at_of due.now job }
+{
+    due.only[job.0 as usize]
+}
+
+/// The same, once the job has something to do at this edge.
+fn place_of<A: Allocator>(due: &Due<A>, job: JobNo, edge: EdgeNo) -> u32
+    requires jobs { job < length due.now.jobs }
+    requires only { job < length due.now.only }
+    ensures { result ≡ place_for due.now job edge }
+{
+    let here = edge.0 as u32 + 1;
+    if !is_due(due, job) {
+        return here;
+    }
+    if only_at(due, job) == here {
+        return here;
+    }
+    0
+}
+
+/// The job may have something to do at this edge.
+fn place<A: Allocator>(due: &mut Due<A>, job: JobNo, edge: EdgeNo)
+    requires jobs { job < length due.old.jobs }
+    requires only { job < length due.old.only }
+    ensures { due.new ≡ placed due.old job edge }
+{
+    due.only[job.0 as usize] = place_of(due, job, edge);
 }
 
 /// The job isn't due any more.
@@ -101,6 +138,8 @@ pub(crate) fn wake_at<A: Allocator>(plan: &Plan<A>, due: &mut Due<A>, edge: Edge
     ensures { due.new ≡ woken_at plan.now due.old edge }
 {
     let (lower, higher) = plan.ends(edge);
+    place(due, lower, edge);
+    place(due, higher, edge);
     due.jobs[lower.0 as usize] = true;
     due.jobs[higher.0 as usize] = true;
     forget(due, End::Lower, edge);
@@ -115,6 +154,7 @@ pub fn wake_self<A: Allocator>(plan: &Plan<A>, due: &mut Due<A>, job: JobNo)
     ensures keeps { KeepsMarks plan.now (IsBySelf job) due.old due.new }
 {
     due.jobs[job.0 as usize] = true;
+    due.only[job.0 as usize] = 0;
     for edge in plan.edges_of(job) {
         forget(due, End::of(plan, job, *edge), *edge);
     }
@@ -128,6 +168,7 @@ pub fn wake_near<A: Allocator>(plan: &Plan<A>, due: &mut Due<A>, job: JobNo)
     ensures keeps { KeepsMarks plan.now (IsBy job) due.old due.new }
 {
     due.jobs[job.0 as usize] = true;
+    due.only[job.0 as usize] = 0;
     for edge in plan.edges_of(job) {
         wake_at(plan, due, *edge);
     }

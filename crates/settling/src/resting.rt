@@ -1,34 +1,36 @@
 //! Doing all that is left to do of itself.
-ghost use Rattle.std.specs.Prelude.{◌≡◌, ◌↔◌, ◌≤◌, true, false, IfSome, IsTrue};
+ghost use Rattle.std.specs.Prelude.{◌≡◌, ◌+◌, ◌↔◌, ◌≤◌, true, false, IfSome, IsTrue};
 ghost use Rattle.legal_steps.specs.State.{IsOwn};
 ghost use Rattle.legal_steps.specs.Legal.{IsJob, May};
 ghost use Rattle.settling.specs.Doing.{IsOwnAct, ActsAlone, act_of};
-ghost use Rattle.settling.specs.Left.{AreMarked, NobodyIsDue, is_due as is_due_now};
+ghost use Rattle.settling.specs.Left.{AreMarked, IsDueOf, NobodyIsDue, is_due as is_due_now, only_at as only_at_of};
 ghost use Rattle.settling.specs.Resting.{Rests};
-ghost use Rattle.settling.specs.Attending.{AttendsEdge, Attends};
+ghost use Rattle.settling.specs.Attending.{TriesEdge, AttendsEdge, AttendsEdges, Attends};
 
-use crate::due::{Due, clear, is_due, is_noted, note, wake_at, wake_self};
+use crate::due::{Due, clear, is_due, is_noted, note, only_at, wake_at, wake_self};
 use crate::visiting::visit;
 use interleaving::World;
 use lab_plan::{EdgeNo, JobNo};
-use legal_steps::{End, Event};
+use legal_steps::{Dining, Drinking, End, Event};
 use std::alloc::Allocator;
 
 /// The job's first act that needs no word from its owner and is legal.
 fn own_act<A: Allocator>(world: &World<A>, job: JobNo) -> Option<Event>
+    requires { IsJob world.now.plan job }
     ensures first { IsOwnAct world.now.plan world.now.state job (act_of result) }
     ensures may { IfSome result (λ event. May world.now.plan world.now.state event) }
 {
-    if world.enabled(Event::Drink(job)) {
+    let phase = world.job(job);
+    if phase.drinking == Drinking::Thirsty && world.enabled(Event::Drink(job)) {
         return Some(Event::Drink(job));
     }
-    if world.enabled(Event::Leave(job)) {
+    if phase.dining == Dining::Eating && world.enabled(Event::Leave(job)) {
         return Some(Event::Leave(job));
     }
-    if world.enabled(Event::Sit(job)) {
+    if phase.dining == Dining::Hungry && world.enabled(Event::Sit(job)) {
         return Some(Event::Sit(job));
     }
-    if world.enabled(Event::Hunger(job)) {
+    if phase.dining == Dining::Thinking && world.enabled(Event::Hunger(job)) {
         return Some(Event::Hunger(job));
     }
     None
@@ -36,6 +38,7 @@ fn own_act<A: Allocator>(world: &World<A>, job: JobNo) -> Option<Event>
 
 /// Does it. Answers whether there was one.
 fn act_alone<A: Allocator>(world: &mut World<A>, job: JobNo) -> bool
+    requires { IsJob world.old.plan job }
     ensures { ActsAlone world.old job result world.new }
 {
     let Some(event) = own_act(world, job) else {
@@ -47,23 +50,15 @@ fn act_alone<A: Allocator>(world: &mut World<A>, job: JobNo) -> bool
     true
 }
 
-/// Visits the edge, if it isn't noted that the job has nothing to do there. Answers how many moves were done.
-fn attend_edge<A: Allocator>(
-    world: &mut World<A>,
-    due: &mut Due<A>,
-    job: JobNo,
-    edge: EdgeNo,
-) -> u32
+/// Visits the edge, and notes it if the job has nothing to do there. Answers how many moves were done.
+fn try_edge<A: Allocator>(world: &mut World<A>, due: &mut Due<A>, job: JobNo, edge: EdgeNo) -> u32
     requires own { IsOwn world.old.plan job edge }
     requires marked { AreMarked world.old.plan world.old.state due.old }
     requires due { is_due_now due.old job ≡ true }
-    ensures attends { AttendsEdge world.old due.old job edge result world.new due.new }
+    ensures tries { TriesEdge world.old due.old job edge result world.new due.new }
     ensures few { result ≤ 5 }
 {
     let here = End::of(world.plan(), job, edge);
-    if is_noted(due, here, edge) {
-        return 0;
-    }
     let moved = visit(world, job, edge);
     if moved == 0 {
         note(due, here, edge);
@@ -73,26 +68,106 @@ fn attend_edge<A: Allocator>(
     moved
 }
 
-/// Attends to each edge of the job, and does its own act. If nothing was done, the job isn't due any more. Answers how many moves and
+/// Visits the edge, if it isn't noted that the job has nothing to do there, and once more if something was done. Answers how many moves
+/// were done, and whether more may be left.
+fn attend_edge<A: Allocator>(
+    world: &mut World<A>,
+    due: &mut Due<A>,
+    job: JobNo,
+    edge: EdgeNo,
+) -> (u32, bool)
+    requires own { IsOwn world.old.plan job edge }
+    requires marked { AreMarked world.old.plan world.old.state due.old }
+    requires due { is_due_now due.old job ≡ true }
+    ensures attends { AttendsEdge world.old due.old job edge result.0 result.1 world.new due.new }
+    ensures few { result.0 ≤ 10 }
+{
+    let here = End::of(world.plan(), job, edge);
+    if is_noted(due, here, edge) {
+        return (0, false);
+    }
+    let moved = try_edge(world, due, job, edge);
+    if moved == 0 {
+        return (0, false);
+    }
+    let more = try_edge(world, due, job, edge);
+    if more == 0 {
+        return (moved, false);
+    }
+    (moved + more, true)
+}
+
+/// The edge at which alone the job may have something to do, if it is known.
+fn only_edge<A: Allocator>(world: &World<A>, due: &Due<A>, job: JobNo) -> Option<EdgeNo>
+    requires job { IsJob world.now.plan job }
+    requires fits { IsDueOf world.now.plan due.now }
+    ensures own { IfSome result (λ edge. IsOwn world.now.plan job edge) }
+    ensures only { IfSome result (λ edge. only_at_of due.now job ≡ edge + 1) }
+{
+    let place = only_at(due, job);
+    if place == 0 || place > world.plan().edges() as u32 {
+        return None;
+    }
+    let edge = EdgeNo((place - 1) as u16);
+    let (lower, higher) = world.plan().ends(edge);
+    if lower == job || higher == job {
+        Some(edge)
+    } else {
+        None
+    }
+}
+
+/// Attends to each edge of the job. Answers how many moves there were, and whether more may be left.
+fn attend_all<A: Allocator>(world: &mut World<A>, due: &mut Due<A>, job: JobNo) -> (u32, bool)
+    requires job { IsJob world.old.plan job }
+    requires marked { AreMarked world.old.plan world.old.state due.old }
+    requires due { is_due_now due.old job ≡ true }
+    ensures attends { AttendsEdges world.old due.old job result.0 result.1 world.new due.new }
+    ensures few { result.0 ≤ 4960 }
+{
+    let _ = world.plan().edges();
+    let mut done = 0u32;
+    let mut undone = false;
+    for index in 0..world.plan().edges_of(job).len() {
+        let edge = world.plan().edges_of(job)[index];
+        let (moved, left) = attend_edge(world, due, job, edge);
+        done += moved;
+        if left {
+            undone = true;
+        }
+    }
+    (done, undone)
+}
+
+/// Attends to the edges at which the job may have something to do. Answers how many moves there were, and whether more may be left.
+fn attend_edges<A: Allocator>(world: &mut World<A>, due: &mut Due<A>, job: JobNo) -> (u32, bool)
+    requires job { IsJob world.old.plan job }
+    requires marked { AreMarked world.old.plan world.old.state due.old }
+    requires due { is_due_now due.old job ≡ true }
+    ensures attends { AttendsEdges world.old due.old job result.0 result.1 world.new due.new }
+    ensures few { result.0 ≤ 4960 }
+{
+    match only_edge(world, due, job) {
+        Some(edge) => attend_edge(world, due, job, edge),
+        None => attend_all(world, due, job),
+    }
+}
+
+/// Attends to the edges of the job, and does its own act. If nothing is left then, the job isn't due any more. Answers how many moves and
 /// acts there were.
 fn attend<A: Allocator>(world: &mut World<A>, due: &mut Due<A>, job: JobNo) -> u32
     requires job { IsJob world.old.plan job }
     requires marked { AreMarked world.old.plan world.old.state due.old }
     requires due { is_due_now due.old job ≡ true }
     ensures attends { Attends (λ k. k ≡ job) world.old due.old result world.new due.new }
-    ensures few { result ≤ 2481 }
+    ensures few { result ≤ 4961 }
 {
-    let _ = world.plan().edges();
-    let mut done = 0u32;
-    for index in 0..world.plan().edges_of(job).len() {
-        let edge = world.plan().edges_of(job)[index];
-        done += attend_edge(world, due, job, edge);
-    }
+    let (done, undone) = attend_edges(world, due, job);
     if act_alone(world, job) {
         wake_self(world.plan(), due, job);
         return done + 1;
     }
-    if done == 0 {
+    if !undone {
         clear(due, job);
     }
     done
@@ -102,7 +177,7 @@ fn attend<A: Allocator>(world: &mut World<A>, due: &mut Due<A>, job: JobNo) -> u
 fn round<A: Allocator>(world: &mut World<A>, due: &mut Due<A>) -> u32
     requires { AreMarked world.old.plan world.old.state due.old }
     ensures attends { Attends (IsJob world.old.plan) world.old due.old result world.new due.new }
-    ensures few { result ≤ 79392 }
+    ensures few { result ≤ 158752 }
 {
     let mut done = 0u32;
     for job in 0..world.plan().jobs() {

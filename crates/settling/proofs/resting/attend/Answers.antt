@@ -1,99 +1,46 @@
-use Rattle.std.proofs.Common.{◌≡◌, ℕ, ◌*◌, ◌<◌, ◌≤◌, Bool, true, false, List, length, slice_index_or, sym, ap, ◌∙◌, subst, arith}
-use Rattle.lab_plan.specs.LabPlan.{LabPlan, edges, edges_of}
-use Rattle.legal_steps.proofs.OwnEdges.{own_at, get_default}
+use Rattle.std.proofs.Common.{◌≡◌, Bool, true, false, sym, subst}
+use Rattle.lab_plan.specs.LabPlan.{LabPlan}
+use Rattle.legal_steps.specs.Legal.{IsJob}
 use Rattle.interleaving.specs.World.{WorldView}
 use Rattle.settling.specs.Doing.{ActsAlone}
 use Rattle.settling.specs.Left.{DueView, KeepsMarks, IsBySelf}
 use Rattle.settling.specs.Attending.{Attends}
-use Rattle.settling.proofs.Few.{few_own}
-use Rattle.settling.proofs.Rested.{edges_more, job_acted, job_done}
+use Rattle.settling.proofs.Rested.{job_acted, job_done, job_left}
 use Rattle.settling.proofs.resting.attend.Goals as goal
 
-pub attend_edge-done-requires-clause-own : goal.attend_edge-done-requires-clause-own
-attend_edge-done-requires-clause-own g c =
-    let j = c.args.job in
-    let p = c.loop-index.invariant.alone.leads.same_plan in
-    let xs = c.edges_of.result.now in
-    let is = c.edges_of.ensures ∙ ap (λ (q : LabPlan). edges_of q j) c.plan-in-loop-index.ensures.plan in
-    let first = c.edges_of-index-end.ensures ∙ ap (λ (q : LabPlan). edges_of q j) c.plan-2.ensures.plan in
-    let long : length xs ≡ length c.edges_of-index-end.result.now = ap (λ (l : List ℕ). length l) (is ∙ (ap (λ (q : LabPlan). edges_of q j) p ∙ sym first)) in
-    let t = c.loop-index-test.true in
-    own_at c.loop-index.world.plan j xs c.loop-index.index c.index-edges_of-index.result is (omega (arith, long, t)) c.index-edges_of-index.is
-
-few_at : (p q : LabPlan) (xs : List ℕ) (j n k m : ℕ) → p ≡ q → xs ≡ edges_of q j → n ≡ length (edges p) → n ≤ 496 → k ≤ length xs → m ≤ 5 * k → m ≤ 2480
-few_at p q xs j n k m same are is few inside most =
-    let a : length (edges q) ≡ n = ap (λ (z : LabPlan). length (edges z)) (sym same) ∙ sym is in
-    let l = ap (λ (z : List ℕ). length z) are in
-    let f = few_own q j in
-    omega (arith, a, l, f, few, inside, most)
-
-pub overflow_add-done : goal.overflow_add-done
-overflow_add-done g c =
-    let few = few_at c.plan.result.now c.plan-2.result.now c.edges_of-index-end.result.now c.args.job c.edges.result c.loop-index.index c.loop-index.done
-    (c.plan.ensures.plan ∙ sym c.plan-2.ensures.plan) c.edges_of-index-end.ensures c.edges.ensures.edges c.edges.ensures.few c.loop-index.auto.index-end
-    c.loop-index.invariant.few in
-    omega (arith, few, c.attend_edge-done.ensures.few)
-
-pub loop-index-preserved : goal.loop-index-preserved
-loop-index-preserved g c =
-    let w : WorldView = c.args.world.now in
-    let mid : WorldView = c.loop-index.world in
-    let j = c.args.job in
-    let k = c.loop-index.index in
-    let e = c.index-edges_of-index.result in
-    let inv = c.loop-index.invariant in
-    let es : List ℕ = edges_of w.plan j in
-    let first : c.edges_of-index-end.result.now ≡ es = c.edges_of-index-end.ensures ∙ ap (λ (q : LabPlan). edges_of q j) c.plan-2.ensures.plan in
-    let is : c.edges_of.result.now ≡ es = c.edges_of.ensures ∙ ap (λ (q : LabPlan). edges_of q j) (c.plan-in-loop-index.ensures.plan ∙ inv.alone.leads.same_plan) in
-    let inside : k < length es = subst (λ n. k < n) (ap (λ (l : List ℕ). length l) first) c.loop-index-test.true in
-    let at : e ≡ slice_index_or es k 0 = c.index-edges_of-index.is ∙ (ap (λ (l : List ℕ). slice_index_or l k e) is ∙ sym (get_default es k e inside)) in
-    edges_more w mid c.attend_edge-done.new.world c.args.due.now c.loop-index.due c.attend_edge-done.new.due j k e c.loop-index.done c.attend_edge-done.result at inv
-    c.attend_edge-done.ensures.attends c.attend_edge-done.ensures.few
-
-pub overflow_add-result : goal.overflow_add-result
-overflow_add-result g c =
-    let few = few_at c.plan.result.now c.plan-2.result.now c.edges_of-index-end.result.now c.args.job c.edges.result c.loop-index.index c.loop-index.done
-    (c.plan.ensures.plan ∙ sym c.plan-2.ensures.plan) c.edges_of-index-end.ensures c.edges.ensures.edges c.edges.ensures.few c.loop-index.auto.index-end
-    c.loop-index.invariant.few in
-    omega (arith, few)
+pub act_alone-requires : goal.act_alone-requires
+act_alone-requires g c = subst (λ (p : LabPlan). IsJob p c.args.job) (sym c.attend_edges-done.ensures.attends.alone.leads.same_plan) c.requires.job
 
 pub returns-then-act_alone-clause-attends : goal.returns-then-act_alone-clause-attends
 returns-then-act_alone-clause-attends g c =
     let w : WorldView = c.args.world.now in
-    let mid : WorldView = c.loop-index.world in
+    let mid : WorldView = c.attend_edges-done.new.world in
     let new : WorldView = c.act_alone.new.world in
     let j = c.args.job in
-    let first = c.edges_of-index-end.ensures ∙ ap (λ (q : LabPlan). edges_of q j) c.plan-2.ensures.plan in
-    let long = ap (λ (z : List ℕ). length z) first in
-    let past : length (edges_of w.plan j) ≤ c.loop-index.index = let t = c.loop-index-test.false in omega (arith, t, long) in
+    let d1 : DueView = c.attend_edges-done.new.due in
     let acts : ActsAlone mid j true new = subst (λ (b : Bool). ActsAlone mid j b new) c.if-act_alone.true c.act_alone.ensures in
-    job_acted w mid c.args.due.now c.loop-index.due j c.loop-index.index c.loop-index.done c.requires.job past c.loop-index.invariant new c.wake_self.new.due acts
-    (subst (λ (p : LabPlan). KeepsMarks p (IsBySelf j) c.loop-index.due c.wake_self.new.due) c.plan-then-act_alone.ensures.plan c.wake_self.ensures.keeps)
+    job_acted w mid c.args.due.now d1 j c.attend_edges-done.result.0 c.attend_edges-done.result.1 c.requires.job c.attend_edges-done.ensures.attends new c.wake_self.new.due acts
+    (subst (λ (p : LabPlan). KeepsMarks p (IsBySelf j) d1 c.wake_self.new.due) c.plan.ensures.plan c.wake_self.ensures.keeps)
 
-pub returns-then-act_alone-clause-few : goal.returns-then-act_alone-clause-few
-returns-then-act_alone-clause-few g c =
-    let few = few_at c.plan.result.now c.plan-2.result.now c.edges_of-index-end.result.now c.args.job c.edges.result c.loop-index.index c.loop-index.done
-    (c.plan.ensures.plan ∙ sym c.plan-2.ensures.plan) c.edges_of-index-end.ensures c.edges.ensures.edges c.edges.ensures.few c.loop-index.auto.index-end
-    c.loop-index.invariant.few in
-    omega (arith, few)
-
-pub returns-then-done-eq0-clause-attends : goal.returns-then-done-eq0-clause-attends
-returns-then-done-eq0-clause-attends g c =
+pub returns-then-not-undone-clause-attends : goal.returns-then-not-undone-clause-attends
+returns-then-not-undone-clause-attends g c =
     let w : WorldView = c.args.world.now in
-    let mid : WorldView = c.loop-index.world in
+    let mid : WorldView = c.attend_edges-done.new.world in
     let new : WorldView = c.act_alone.new.world in
     let j = c.args.job in
-    let n = c.loop-index.done in
-    let first = c.edges_of-index-end.ensures ∙ ap (λ (q : LabPlan). edges_of q j) c.plan-2.ensures.plan in
-    let long = ap (λ (z : List ℕ). length z) first in
-    let past : length (edges_of w.plan j) ≤ c.loop-index.index = let t = c.loop-index-test.false in omega (arith, t, long) in
+    let n = c.attend_edges-done.result.0 in
     let acts : ActsAlone mid j false new = subst (λ (b : Bool). ActsAlone mid j b new) c.if-act_alone.false c.act_alone.ensures in
     subst (λ (z : WorldView × DueView). Attends (λ i. i ≡ j) w c.args.due.now n z.0 z.1) (λ i. (sym acts.1 i, sym c.clear.ensures i))
-    (job_done w mid c.args.due.now c.loop-index.due j c.loop-index.index n c.requires.job past c.loop-index.invariant c.if-done-eq0.true acts.0)
+    (job_done w mid c.args.due.now c.attend_edges-done.new.due j n c.attend_edges-done.result.1 c.requires.job c.attend_edges-done.ensures.attends c.if-not-undone.true acts.0)
 
-pub returns-else-done-eq0-clause-few : goal.returns-else-done-eq0-clause-few
-returns-else-done-eq0-clause-few g c =
-    let few = few_at c.plan.result.now c.plan-2.result.now c.edges_of-index-end.result.now c.args.job c.edges.result c.loop-index.index c.loop-index.done
-    (c.plan.ensures.plan ∙ sym c.plan-2.ensures.plan) c.edges_of-index-end.ensures c.edges.ensures.edges c.edges.ensures.few c.loop-index.auto.index-end
-    c.loop-index.invariant.few in
-    omega (arith, few)
+pub returns-else-not-undone-clause-attends : goal.returns-else-not-undone-clause-attends
+returns-else-not-undone-clause-attends g c =
+    let w : WorldView = c.args.world.now in
+    let mid : WorldView = c.attend_edges-done.new.world in
+    let new : WorldView = c.act_alone.new.world in
+    let j = c.args.job in
+    let d1 : DueView = c.attend_edges-done.new.due in
+    let n = c.attend_edges-done.result.0 in
+    let acts : ActsAlone mid j false new = subst (λ (b : Bool). ActsAlone mid j b new) c.if-act_alone.false c.act_alone.ensures in
+    subst (λ (z : WorldView). Attends (λ i. i ≡ j) w c.args.due.now n z d1) (sym acts.1)
+    (job_left w mid c.args.due.now d1 j n c.attend_edges-done.result.1 c.if-not-undone.false c.attend_edges-done.ensures.attends)
