@@ -1,10 +1,12 @@
 //! The bell: how often it was rung, and how many may sleep.
+ghost use Rattle.std.specs.Prelude.{◌≡◌};
+
 use std::sync::Wait;
 use std::sync::atomic::{AtomicU64, Ordering};
 use std::time::Duration;
 
-/// The longest sleep. A ring is never missed, see `Bell`; this is for what changes without one.
-const LONGEST_MS: u64 = 5;
+/// The longest sleep of a bell, in milliseconds. A ring is never missed, see `Bell`; this is for what changes without one.
+const LONGEST: u64 = 5;
 
 /// A bell that threads share.
 ///
@@ -28,14 +30,26 @@ const LONGEST_MS: u64 = 5;
 pub struct Bell {
     rings: AtomicU64,
     listeners: AtomicU64,
+    /// The longest sleep, in milliseconds.
+    longest: u64,
 }
 
 impl Bell {
-    /// A bell to which nobody listens yet.
-    pub fn new() -> Bell {
+    /// A bell to which nobody listens yet. No sleep by it is longer than 5 milliseconds.
+    pub fn new() -> Bell
+        ensures { result.longest ≡ LONGEST }
+    {
+        Bell::with_longest(LONGEST)
+    }
+
+    /// The same with another longest sleep, in milliseconds. With a long one a thread that isn't woken is seen to sleep on.
+    pub fn with_longest(millis: u64) -> Bell
+        ensures { result.longest ≡ millis }
+    {
         Bell {
             rings: AtomicU64::new(0),
             listeners: AtomicU64::new(0),
+            longest: millis,
         }
     }
 
@@ -59,12 +73,12 @@ impl Bell {
         self.listeners.fetch_sub(1, Ordering::SeqCst);
     }
 
-    /// Sleeps while the bell is as it was heard, and not for long. Answers whether it was rung.
+    /// Sleeps while the bell is as it was heard, and no longer than its longest sleep. Answers whether it was rung.
     pub(crate) fn sleep<R: Wait>(&self, rt: &R, heard: u64) -> bool {
         // The system compares 32 bits. Should the bell be rung 2^32 times between the two looks, the sleep ends by its limit.
         let low = (heard & 0xffff_ffff) as u32;
         self.rings
-            .park_timeout(rt, low, Duration::from_millis(LONGEST_MS));
+            .park_timeout(rt, low, Duration::from_millis(self.longest));
         self.rings.load(Ordering::SeqCst) != heard
     }
 }

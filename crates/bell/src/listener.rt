@@ -1,5 +1,6 @@
 //! How one thread waits: it looks again for a while, and then sleeps by a bell.
-ghost use Rattle.std.specs.Prelude.{◌≡◌, ◌⊎◌, ◌+◌, ◌<◌, ◌≤◌, IsNone, IsSome, false, true};
+ghost use Rattle.std.specs.Prelude.{◌≡◌, IsNone, IsSome, false, true};
+ghost use Rattle.bell.specs.Listening.{Acted, Idled, Left};
 
 use crate::bell::Bell;
 use std::sync::Wait;
@@ -33,8 +34,7 @@ impl<'b> Listener<'b> {
 
     /// Something was done: whoever may wait for it is woken.
     pub fn acted(&mut self)
-        ensures idle { self.new.idle ≡ 0 }
-        ensures heard { IsNone self.new.heard }
+        ensures { Acted self.old self.new }
     {
         self.idle = 0;
         self.leave();
@@ -44,9 +44,7 @@ impl<'b> Listener<'b> {
     /// A round was idle: yields; or says that the thread may sleep, after which it has to look once more; or sleeps, if that
     /// look was idle too.
     pub fn idled<R: Wait>(&mut self, rt: &R)
-        ensures yields { self.old.idle < YIELDS → (self.new.idle ≡ self.old.idle + 1) × (self.new.heard ≡ self.old.heard) }
-        ensures listens { YIELDS ≤ self.old.idle → IsNone self.old.heard → (self.new.idle ≡ self.old.idle) × IsSome self.new.heard }
-        ensures sleeps { YIELDS ≤ self.old.idle → IsSome self.old.heard → ((self.new.idle ≡ 0) ⊎ (self.new.idle ≡ self.old.idle)) × IsNone self.new.heard }
+        ensures { Idled self.old self.new }
     {
         if self.idle < YIELDS {
             self.idle += 1;
@@ -90,8 +88,7 @@ impl<'b> Listener<'b> {
 
     /// The thread doesn't sleep now. A listener that is dropped has left before, or others ring for nobody.
     pub fn leave(&mut self)
-        ensures idle { self.new.idle ≡ self.old.idle }
-        ensures heard { IsNone self.new.heard }
+        ensures { Left self.old self.new }
     {
         if self.heard.is_some() {
             self.heard = None;

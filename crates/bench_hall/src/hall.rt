@@ -8,7 +8,7 @@ ghost use Rattle.script_reader.specs.Script.{ScriptMeans};
 ghost use Rattle.live_lab.specs.Labs.{IsWhyNot};
 ghost use Rattle.bench_door.specs.Own.{each_prop};
 
-use crate::place::{Place, desk_in, place_with, put_back, take_out};
+use crate::place::{Place, desk_in, is_home, place_with, put_back, take_out};
 use bench_door::Lab;
 use edge_rule::{Bench, Desk};
 use lab_program::RunFault;
@@ -145,8 +145,18 @@ impl Hall {
         }
     }
 
-    /// The lab of a hall that nobody else has, with those desks that are at their places: all, if each that was taken was given back. Otherwise, and if
-    /// memory is refused, the hall comes back.
+    /// Whether each desk is at its place, at the moment of the look.
+    fn is_whole(&self) -> bool {
+        for spot in &self.spots {
+            if !is_home(&spot.place) {
+                return false;
+            }
+        }
+        true
+    }
+
+    /// The lab of a hall that nobody else has, with the desks at their places: all, because otherwise the hall comes back. So it does while somebody has a
+    /// desk, once somebody dropped one instead of giving it back, and if memory is refused.
     pub fn into_lab(hall: Arc<Hall, Global>, alloc: Global) -> Result<Lab, Stays>
         ensures lab { IfOk result (λ lab. lab.bench ≡ (arc_value hall).bench) }
         ensures stays { IfErr result (λ s. s.hall ≡ hall) }
@@ -157,6 +167,13 @@ impl Hall {
                 hall,
             });
         };
+        // Nobody else has the hall, so no desk leaves it any more.
+        if Arc::strong_count(&hall) > 1 || !hall.is_whole() {
+            return Err(Stays {
+                why: WhyOpen::DesksOut,
+                hall,
+            });
+        }
         match Arc::try_unwrap(hall) {
             Ok(whole) => {
                 let Hall { bench, spots } = whole;
@@ -174,7 +191,7 @@ impl Hall {
 /// Why a hall isn't taken apart.
 #[derive(Clone, Copy, PartialEq, Eq, Debug)]
 pub enum WhyOpen {
-    /// A desk is out.
+    /// A desk isn't at its place.
     DesksOut,
     /// There is no memory.
     NoMemory,

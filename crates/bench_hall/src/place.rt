@@ -94,6 +94,11 @@ pub(crate) fn put_back(
     Ok(())
 }
 
+/// Whether the desk is there, at the moment of the look.
+pub(crate) fn is_home(place: &Place) -> bool {
+    place.load() == HOME
+}
+
 /// The desk of a place that nobody shares any more, if it is there.
 pub(crate) fn desk_in(place: Place) -> Option<Desk<Global>>
     ensures { IfSome result (λ d. IsLike place.value d) }

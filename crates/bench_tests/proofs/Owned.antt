@@ -1,5 +1,5 @@
 -- The desks of a bench stay its desks.
-use Rattle.std.proofs.Common.{◌≡◌, ℕ, zero, suc, List, [], ◌∷◌, ◌++◌, length, refl, sym, ap, ◌∙◌, subst}
+use Rattle.std.proofs.Common.{◌≡◌, ℕ, zero, suc, List, [], ◌∷◌, ◌++◌, length, slice_index_or, refl, sym, ap, ◌∙◌, subst}
 use Rattle.lab_plan.specs.LabPlan.{LabPlan}
 use Rattle.turns.specs.Lists.{Each}
 use Rattle.edge_rule.specs.DeskView.{DeskView, BenchView, Owns, fresh_desk, fresh_desks}
@@ -7,8 +7,10 @@ use Rattle.session_layer.specs.declared.turning.Turned.{Turned}
 use Rattle.session_layer.specs.Turn.{Took}
 use Rattle.session_layer.proofs.Grows as grows
 use Rattle.workers.proofs.Pairs.{pairs_each}
-use Rattle.workers.specs.Team.{TookUpTo}
-use Rattle.workers.proofs.TeamTurns.{took_owns}
+use Rattle.desk_user.specs.Use.{Keeps}
+use Rattle.workers.specs.declared.halt.Halt.{Halt}
+use Rattle.workers.specs.Team.{TookUpTo, Worked}
+use Rattle.workers.proofs.TeamTurns.{took_owns, took_up_to}
 use Rattle.workers.specs.Driven.{TookRest}
 
 -- a turn leaves the bench and the plan
@@ -41,3 +43,10 @@ rest_owned b n old new rest own = pairs_each (TookUpTo n) (Owns b) (Owns b) (λ 
 -- and the desks of both parts are all of them
 pub both_owned : (b : BenchView) (front back : List DeskView) → Each (Owns b) front → Each (Owns b) back → Each (Owns b) (front ++ back)
 both_owned b front back p q = each-append (Owns b) front back p q
+
+-- a desk that is a team of its own stays its bench's, and its job's
+pub one_kept : (b : BenchView) (turns : ℕ) (d : DeskView) (r : Halt) (new : List DeskView) → Worked turns (d ∷ []) r new → Owns b d
+    → Keeps b d (slice_index_or new 0 d)
+one_kept b turns d r [] w own = absurd (took_up_to turns (d ∷ []) [] r w)
+one_kept b turns d r (e ∷ new) w own =
+    let t = (took_up_to turns (d ∷ []) (e ∷ new) r w).0 in (took_owns b t.0 d e t.2 own, t.2.grew.job)

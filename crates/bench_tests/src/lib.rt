@@ -33,6 +33,8 @@ mod seats;
 #[cfg(test)]
 mod sleepers;
 #[cfg(test)]
+mod sleeping_teams;
+#[cfg(test)]
 mod tables;
 #[cfg(test)]
 mod teams;

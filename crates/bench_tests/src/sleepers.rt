@@ -1,5 +1,6 @@
-//! Runs in which all sleep while one holds what they need. Each thread is held up now and then after a turn: after what it did, before it
-//! wakes the others, and after its last idle look, before it sleeps.
+//! Runs in which all sleep while one holds what they need. A sleep may take a minute, as long as a test has: so it doesn't end if one that
+//! sleeps isn't woken. Each thread is held up now and then after a turn: after what it did, before it wakes the others, and after its last
+//! idle look, before it sleeps.
 ghost use Rattle.edge_rule.specs.DeskView.{Owns};
 ghost use Rattle.desk_user.specs.Use.{Keeps};
 
@@ -33,6 +34,8 @@ struct Sleepers<'w, R> {
     rt: &'w R,
     bell: &'w Bell,
     seed: u64,
+    /// How long each holds its instruments, in milliseconds.
+    holds: u64,
 }
 
 impl<R> Sleepers<'_, R> {
@@ -75,7 +78,7 @@ impl<R: Wait + Clock + Sync> Owner for Sleepers<'_, R> {
         let mut waiting = Waiting::new(How::Sleep, self.rt, self.bell);
         if turns_held(self, bench, desk, Until::Holds, &mut waiting) {
             // All others fall asleep.
-            sleep(self.rt, Duration::from_millis(1));
+            sleep(self.rt, Duration::from_millis(self.holds));
         }
         if turns_held(self, bench, desk, Until::Retired, &mut waiting) {
             let _ = turns_until_all_retired(bench, desk, TURNS, &mut waiting);
@@ -83,24 +86,40 @@ impl<R: Wait + Clock + Sync> Owner for Sleepers<'_, R> {
     }
 }
 
+/// The longest sleep, in milliseconds.
+pub(crate) const MINUTE: u64 = 60_000;
+
+/// A run to its end. Answers the most turns that a job took.
 fn sleeps_to_the_end<R: Threads + Wait + Clock + Abort + Sync>(
     rt: &R,
     alloc: Global,
     plan: &Plan,
     seed: u64,
-) {
+    holds: u64,
+) -> u64 {
     let (bench, mut desks) = opened(rt, alloc, plan);
-    let bell = Bell::new();
+    let bell = Bell::with_longest(MINUTE);
     let sleepers = Sleepers {
         rt,
         bell: &bell,
         seed,
+        holds,
     };
     on_threads(rt, &bench, desks.as_mut_slice(), &sleepers);
+    let most = most_turns(desks.as_slice());
     let left = closed(rt, alloc, bench, desks);
     ended_all(rt, &left);
     are_full(rt, &left);
     all_count_up(rt, &left);
+    most
+}
+
+pub(crate) fn most_turns(desks: &[Desk]) -> u64 {
+    let mut most = 0u64;
+    for desk in desks {
+        most = most.max(desk.turns());
+    }
+    most
 }
 
 const RUNS: u64 = 500;
@@ -111,7 +130,22 @@ fn all_sleep_and_none_hangs(rt: HostRuntime) {
     for script in [PAIR, FIVE] {
         let plan = plan_of(&rt, rt.alloc(), script);
         for seed in 0..RUNS {
-            sleeps_to_the_end(&rt, rt.alloc(), &plan, seed);
+            sleeps_to_the_end(&rt, rt.alloc(), &plan, seed, 1);
         }
+    }
+}
+
+/// How long one holds while turns are counted: a thread that doesn't sleep takes more than ten thousand meanwhile.
+pub(crate) const HOLDS: u64 = 200;
+
+/// Whoever waits for one that holds takes few turns: some two hundred after each that does something, and then it sleeps.
+const FEW: u64 = 4000;
+
+#[test]
+fn who_waits_takes_few_turns(rt: HostRuntime) {
+    for script in [PAIR, FIVE] {
+        let plan = plan_of(&rt, rt.alloc(), script);
+        let most = sleeps_to_the_end(&rt, rt.alloc(), &plan, 0, HOLDS);
+        assert!(rt; most < FEW, "{most} turns");
     }
 }

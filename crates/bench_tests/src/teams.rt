@@ -20,7 +20,7 @@ use std::thread::Threads;
 use workers::{Gate, Halt, Muster, NoGate, Through, finish, threads, work};
 
 /// Threads on all desks of the bench, which come back in ascending order.
-fn driven<R: Threads + Wait + Abort + Sync, A: Allocator + Copy + Send + Sync, G: Gate>(
+pub(crate) fn driven<R: Threads + Wait + Abort + Sync, A: Allocator + Copy + Send + Sync, G: Gate>(
     rt: &R,
     alloc: A,
     bench: &Bench<A>,

@@ -6,6 +6,7 @@ ghost use Rattle.command_line.specs.Reading.{IsRefusal};
 
 use lab_program::{RunFault, end, tell};
 use std::alloc::{AllocError, Global};
+use std::env::Env;
 use std::io;
 use std::process::ExitCode;
 
@@ -42,13 +43,13 @@ pub fn refused(alloc: Global, reason: &str) -> NoTask
 }
 
 /// The words that the program was started with, its own name first. Words that aren't text are refused.
-pub fn given_words(rt: &HostRuntime) -> Result<Vec<String>, NoTask> {
-    let given = match std::env::args(rt) {
+pub fn given_words<R: Env>(rt: &R, alloc: Global) -> Result<Vec<String>, NoTask> {
+    let given = match std::env::args(&(rt, alloc)) {
         Ok(given) => given,
         Err(error) if error.kind() == io::ErrorKind::OutOfMemory => return Err(NoTask::NoMemory),
-        Err(_) => return Err(refused(rt.alloc(), "a word isn't text")),
+        Err(_) => return Err(refused(alloc, "a word isn't text")),
     };
-    Ok(given.collect(rt.alloc())?)
+    Ok(given.collect(alloc)?)
 }
 
 /// Prints the text of the help.

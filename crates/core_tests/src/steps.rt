@@ -3,11 +3,11 @@ ghost use Rattle.std.specs.Prelude.{IsTrue};
 ghost use Rattle.std.specs.List.{All};
 ghost use Rattle.legal_steps.specs.Steps.{IsStepOf};
 
-use crate::benches::{A, AB, B, event_of, is_step_of, plan_of};
+use crate::benches::{A, AB, B, Do, event_of, is_step_of, plan_of};
 use every_list::try_list;
 use instrument_log::Entry;
-use interleaving::{Counts, EdgeState, End, Event, JobState, NotLegal, Step, StepLine, World};
-use lab_plan::{InstrumentNo, JobNo, Plan};
+use interleaving::{Counts, EdgeState, End, Event, JobState, NotLegal, StepLine, World};
+use lab_plan::{EdgeNo, InstrumentNo, JobNo, Plan};
 use phases::{Allowed, allows};
 use std::alloc::Allocator;
 use std::process::Abort;
@@ -90,22 +90,25 @@ fn counts_of<T: Allocator>(rt: &impl Abort, world: &World<T>, job: JobNo) -> Cou
 
 fn marks_of<T: Allocator>(rt: &impl Abort, world: &World<T>, job: JobNo) -> Marks {
     assert!(rt; world.plan().edges() > 0);
-    let (lower, higher) = world.plan().ends(AB);
+    let (lower, higher) = world.plan().ends(EdgeNo(AB));
     assert!(rt; lower == job || higher == job);
-    (world.fork_mark(job, AB), world.bottle_marks(job, AB))
+    (
+        world.fork_mark(job, EdgeNo(AB)),
+        world.bottle_marks(job, EdgeNo(AB)),
+    )
 }
 
 fn shows<T: Allocator>(rt: &impl Abort, world: &World<T>) -> Shown {
     let plan = world.plan();
     assert!(rt; plan.jobs() >= 2 && plan.edges() >= 1);
     Shown {
-        edge: world.edge(AB),
-        a: world.job(A),
-        b: world.job(B),
-        counts: counts_of(rt, world, A),
-        counts_of_b: counts_of(rt, world, B),
-        marks: marks_of(rt, world, A),
-        marks_of_b: marks_of(rt, world, B),
+        edge: world.edge(EdgeNo(AB)),
+        a: world.job(JobNo(A)),
+        b: world.job(JobNo(B)),
+        counts: counts_of(rt, world, JobNo(A)),
+        counts_of_b: counts_of(rt, world, JobNo(B)),
+        marks: marks_of(rt, world, JobNo(A)),
+        marks_of_b: marks_of(rt, world, JobNo(B)),
         last: last_entry(rt, world),
     }
 }
@@ -118,8 +121,8 @@ fn does<T: Allocator>(rt: &impl Abort, world: &mut World<T>, event: &Event) -> b
     done
 }
 
-fn takes<T: Allocator>(rt: &impl Abort, world: &mut World<T>, step: &Step) -> bool {
-    let event = event_of(rt, world, *step);
+fn takes<T: Allocator>(rt: &impl Abort, world: &mut World<T>, step: Do) -> bool {
+    let event = event_of(rt, world, step);
     does(rt, world, &event)
 }
 
@@ -134,11 +137,11 @@ enum Way<'a> {
     /// A replay of the steps in these lines.
     Lines(&'a [StepLine]),
     /// These steps, which have to be legal.
-    Steps(&'a [Step]),
+    Steps(&'a [Do]),
     /// The same, and then the event.
-    Then(&'a [Step], &'a Event),
+    Then(&'a [Do], &'a Event),
     /// The same, and then this many of the steps that a number codes.
-    List(&'a [Step], usize, usize),
+    List(&'a [Do], usize, usize),
 }
 
 /// Whether the numbers of all the steps are the plan's.
@@ -158,9 +161,9 @@ fn replay_lines<T: Allocator>(
 }
 
 /// Takes the steps, all of which have to be legal.
-fn walk<T: Allocator>(rt: &impl Abort, world: &mut World<T>, steps: &[Step]) -> Replayed {
+fn walk<T: Allocator>(rt: &impl Abort, world: &mut World<T>, steps: &[Do]) -> Replayed {
     for step in steps {
-        assert!(rt; takes(rt, world, step));
+        assert!(rt; takes(rt, world, *step));
     }
     Ok(steps.len())
 }
@@ -169,7 +172,7 @@ fn walk<T: Allocator>(rt: &impl Abort, world: &mut World<T>, steps: &[Step]) -> 
 fn walk_to<T: Allocator>(
     rt: &impl Abort,
     world: &mut World<T>,
-    steps: &[Step],
+    steps: &[Do],
     event: &Event,
 ) -> Replayed {
     let answer = walk(rt, world, steps);
@@ -199,7 +202,7 @@ type Told = (Replayed, Shown, (Allowed, Allowed));
 
 fn tell<T: Allocator>(rt: &impl Abort, world: &mut World<T>, way: Way) -> Told {
     let answer = goes(rt, world, way);
-    let allowed = (allows(rt, world, A), allows(rt, world, B));
+    let allowed = (allows(rt, world, JobNo(A)), allows(rt, world, JobNo(B)));
     (answer, shows(rt, world), allowed)
 }
 
@@ -226,7 +229,7 @@ fn after<T: Allocator + Copy>(
     rt: &impl Abort,
     alloc: T,
     script: &str,
-    steps: &[Step],
+    steps: &[Do],
     event: &Event,
 ) -> (bool, Shown) {
     let (answer, shown, _) = told(rt, alloc, script, Way::Then(steps, event));

@@ -2,8 +2,8 @@
 ghost use Rattle.std.specs.Prelude.{IsTrue};
 ghost use Rattle.legal_steps.specs.State.{IsOwn};
 
-use crate::benches::{event_of, plan_of};
-use interleaving::{End, EndChoice, Step, World};
+use crate::benches::{Do, event_of, plan_of};
+use interleaving::{End, EndChoice, World};
 use lab_plan::{EdgeNo, JobNo, Plan};
 use linked_list_allocator::LocalHeap;
 use std::alloc::Allocator;
@@ -35,13 +35,13 @@ enum Question<'a> {
     /// The rankings before and after the meal of three.
     Rankings,
     /// Whether just these pairs precede after these steps.
-    Pairs(&'a [Step], &'a [Pair]),
+    Pairs(&'a [Do], &'a [Pair]),
     /// The forks once one of those of the meal of three is soiled.
     Forks,
     /// Whether the heap has memory for a ranking.
     Ranking(&'a LocalHeap),
     /// Whether a way leads on before each of these steps, and after them, or not there.
-    Leads(&'a [Step], bool),
+    Leads(&'a [Do], bool),
     /// Whether the ways on alone lead to the end, with these values in each log.
     Drives(&'a [u32]),
 }
@@ -89,13 +89,13 @@ fn start<'a, T: Allocator + Copy>(
 }
 
 /// Takes a step, which has to be legal.
-fn take<T: Allocator>(rt: &impl Abort, world: &mut World<'_, T>, step: Step) {
+fn take<T: Allocator>(rt: &impl Abort, world: &mut World<'_, T>, step: Do) {
     let event = event_of(rt, world, step);
     assert!(rt; world.step(event).is_ok());
 }
 
 /// Takes all of these steps.
-fn go_on<T: Allocator>(rt: &impl Abort, world: &mut World<'_, T>, steps: &[Step]) {
+fn go_on<T: Allocator>(rt: &impl Abort, world: &mut World<'_, T>, steps: &[Do]) {
     for step in steps {
         take(rt, world, *step);
     }

@@ -86,19 +86,29 @@ IsWhyNone (Seat t) job status = status ≡ 7
 IsWhyNone (Closing h) job status = status ≡ 7
 IsWhyNone Gone job status = status ≡ 7
 
--- The empty handle has the job's desk now (0). Or nothing changed: the bench says why, there was no memory for the handle (5), it isn't
--- empty, or the bench's handle is (7)
+-- why no desk comes into a handle: it isn't empty, or the bench's is (7); or else there was no memory for it (5), or the bench says why
+abbrev pub IsWhyNotTaken : ℕ → Option Shared → Option Shared → ℕ → Type 0
+IsWhyNotTaken job bench (Some held) status = status ≡ 7
+IsWhyNotTaken job None None status = status ≡ 7
+IsWhyNotTaken job (Some a) None status = (status ≡ 5) ⊎ IsWhyNone a job status
+
+-- the empty handle has the job's desk now (0); or nothing changed, and the status says why
 abbrev pub Takes : ℕ → Option Shared → Option Shared → Option Shared → ℕ → Type 0
 Takes job bench old new status =
     ((status ≡ 0) × (a : Shared) × (s : Seated) × (bench ≡ Some a) × IsSeatIn a job s × (old ≡ None) × (new ≡ Some (Seat s)))
-    ⊎ ((new ≡ old) × ((status ≡ 5) ⊎ (status ≡ 7) ⊎ ((a : Shared) × (bench ≡ Some a) × IsWhyNone a job status)))
+    ⊎ ((new ≡ old) × IsWhyNotTaken job bench old status)
 
--- the desk was given back, and the handle has nothing (0); or the place has a desk (8), or the handle has none (7), and nothing changed
+-- a desk was given back, and nothing is left (0); or its place has a desk, and it stays (8). What is no desk stays, too (7)
+abbrev pub GivesIn : Shared → Option Shared → ℕ → Type 0
+GivesIn (Seat s) new status = ((status ≡ 0) × (new ≡ None)) ⊎ ((status ≡ 8) × (new ≡ Some (Seat s)))
+GivesIn (Open a) new status = (status ≡ 7) × (new ≡ Some (Open a))
+GivesIn (Closing h) new status = (status ≡ 7) × (new ≡ Some (Closing h))
+GivesIn Gone new status = (status ≡ 7) × (new ≡ Some Gone)
+
+-- the same of a handle, which may have nothing (7)
 abbrev pub GivesBack : Option Shared → Option Shared → ℕ → Type 0
-GivesBack old new status =
-    ((status ≡ 0) × (s : Seated) × (old ≡ Some (Seat s)) × (new ≡ None))
-    ⊎ ((status ≡ 8) × (s : Seated) × (old ≡ Some (Seat s)) × (new ≡ old))
-    ⊎ ((status ≡ 7) × (new ≡ old))
+GivesBack (Some old) new status = GivesIn old new status
+GivesBack None new status = (status ≡ 7) × (new ≡ None)
 
 -- ---- calls on a desk
 

@@ -1,2 +1,3 @@
 pub mod Use
+pub mod Waits
 pub mod Serving

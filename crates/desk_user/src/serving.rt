@@ -1,7 +1,9 @@
 //! Serving the neighbours, while the job itself doesn't go on.
+ghost use Rattle.std.specs.Prelude.{◌≡◌};
 ghost use Rattle.edge_rule.specs.DeskView.{Owns};
 ghost use Rattle.desk_user.specs.Use.{Keeps};
 ghost use Rattle.desk_user.specs.Serving.{IsMeal, Served};
+ghost use Rattle.desk_user.specs.Waits.{Heeds};
 
 use crate::waiting::Waiting;
 use dining_layer::{may_leave, may_sit};
@@ -48,6 +50,8 @@ pub fn serve_and_wait<R: Wait, A: Allocator>(
     requires own { Owns bench.now desk.old }
     ensures keeps { Keeps bench.now desk.old desk.new }
     ensures served { Served desk.old result desk.new }
+    ensures how { waiting.new.how ≡ waiting.old.how }
+    ensures heeds { Heeds waiting.old.how result waiting.old.listener waiting.new.listener }
 {
     let turned = serve(bench, desk);
     waiting.after(turned);

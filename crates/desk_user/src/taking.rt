@@ -1,5 +1,5 @@
 //! Turns, one or many, which leave the desk at its bench.
-ghost use Rattle.std.specs.Prelude.{◌↔◌, IsTrue};
+ghost use Rattle.std.specs.Prelude.{◌≡◌, ◌↔◌, IsNone, IsTrue};
 ghost use Rattle.edge_rule.specs.DeskView.{Owns};
 ghost use Rattle.turns.specs.AtTheEnd.{AllRetired};
 ghost use Rattle.session_layer.specs.Turn.{Took};
@@ -35,9 +35,12 @@ pub fn turns_until<R: Wait, A: Allocator>(
     ensures took { TookUpTo most desk.old desk.new }
     ensures says { IsTrue result ↔ IsAt until desk.new }
     ensures stops { TookUntil until most desk.old result desk.new }
+    ensures how { waiting.new.how ≡ waiting.old.how }
+    ensures awake { IsNone waiting.new.listener.heard }
 {
     for _number in 0..most {
         if is_at(bench, desk, until) {
+            waiting.leave();
             return true;
         }
         let turned = turn(bench, desk);
@@ -72,6 +75,8 @@ pub fn turns_until_all_retired<R: Wait, A: Allocator>(
     ensures took { TookUpTo most desk.old desk.new }
     ensures done { IsTrue result → AllRetired desk.new.plan desk.new.front }
     ensures stops { TookUntilAll most desk.old result desk.new }
+    ensures how { waiting.new.how ≡ waiting.old.how }
+    ensures awake { IsNone waiting.new.listener.heard }
 {
     for _number in 0..most {
         // The last job to retire rings: this look too comes after the thread has said that it may sleep.

@@ -1,4 +1,8 @@
 //! How an owner's thread waits for what another has to do.
+ghost use Rattle.std.specs.Prelude.{◌≡◌, IsNone};
+ghost use Rattle.bell.specs.Listening.{Acted, Left};
+ghost use Rattle.desk_user.specs.Waits.{Heeds};
+
 use bell::{Bell, Listener};
 use session_layer::Turned;
 use std::hint::spin_loop;
@@ -27,7 +31,11 @@ pub struct Waiting<'w, R: Wait> {
 
 impl<'w, R: Wait> Waiting<'w, R> {
     /// A thread that waits so, by this bell.
-    pub fn new(how: How, rt: &'w R, bell: &'w Bell) -> Waiting<'w, R> {
+    pub fn new(how: How, rt: &'w R, bell: &'w Bell) -> Waiting<'w, R>
+        ensures how { result.how ≡ how }
+        ensures count { result.listener.idle ≡ 0 }
+        ensures awake { IsNone result.listener.heard }
+    {
         Waiting {
             how,
             rt,
@@ -36,7 +44,10 @@ impl<'w, R: Wait> Waiting<'w, R> {
     }
 
     /// Wakes others after a turn that did something, and waits after one that was idle.
-    pub fn after(&mut self, turned: Turned) {
+    pub fn after(&mut self, turned: Turned)
+        ensures how { self.new.how ≡ self.old.how }
+        ensures heeds { Heeds self.old.how turned self.old.listener self.new.listener }
+    {
         match (turned, self.how) {
             (Turned::Acted(_), _) => self.listener.acted(),
             // Another was faster: there may be something to do.
@@ -48,18 +59,27 @@ impl<'w, R: Wait> Waiting<'w, R> {
     }
 
     /// From now on the thread waits so.
-    pub fn change(&mut self, how: How) {
+    pub fn change(&mut self, how: How)
+        ensures how { self.new.how ≡ how }
+        ensures awake { Left self.old.listener self.new.listener }
+    {
         self.leave();
         self.how = how;
     }
 
     /// Wakes others after something for which they may wait, and which no call for the desk did.
-    pub fn ring(&mut self) {
+    pub fn ring(&mut self)
+        ensures how { self.new.how ≡ self.old.how }
+        ensures awake { Acted self.old.listener self.new.listener }
+    {
         self.listener.acted();
     }
 
     /// The thread goes on to something else than waiting.
-    pub fn leave(&mut self) {
+    pub fn leave(&mut self)
+        ensures how { self.new.how ≡ self.old.how }
+        ensures awake { Left self.old.listener self.new.listener }
+    {
         self.listener.leave();
     }
 }

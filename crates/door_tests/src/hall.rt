@@ -84,6 +84,30 @@ fn stays_open_with_a_desk_out(rt: HostRuntime) {
     assert!(rt; report.outcome == Outcome::Unfinished);
 }
 
+/// A desk that is dropped in place of being given back is lost. The bench stays open, as while one is out.
+#[test]
+fn stays_open_with_a_desk_lost(rt: HostRuntime) {
+    let hall = hall_of(&rt, rt.alloc(), TWO_BENCHES);
+    drop(seat_of(&rt, &hall, 0));
+    let Err(stays) = Hall::into_lab(hall, rt.alloc()) else {
+        panic!(rt; "a desk is lost");
+    };
+    assert!(rt; stays.why == WhyOpen::DesksOut);
+    assert!(rt; refusal(&stays.hall, 0) == Some(NotTaken::Out));
+}
+
+/// A job that waits for one that does nothing stops at once, however many turns it may take.
+#[test]
+fn stops_when_nothing_is_due(rt: HostRuntime) {
+    let hall = hall_of(&rt, rt.alloc(), PATIENT);
+    let mut second = seat_of(&rt, &hall, 1);
+    let (stage, turned) = second.go(Aim::Hold, u32::MAX);
+    assert!(rt; stage == Stage::OnTheWay && turned != Turned::Idle);
+    assert!(rt; second.go(Aim::Hold, u32::MAX) == (Stage::OnTheWay, Turned::Idle));
+    assert!(rt; second.standing().turns < 10);
+    back(&rt, second);
+}
+
 /// Each goes back to its own hall, where it was.
 #[test]
 fn goes_back_to_its_own(rt: HostRuntime) {

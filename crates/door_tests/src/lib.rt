@@ -6,4 +6,6 @@ mod calls;
 #[cfg(test)]
 mod hall;
 #[cfg(test)]
+mod live;
+#[cfg(test)]
 mod runs;

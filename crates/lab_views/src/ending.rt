@@ -13,7 +13,7 @@ use std::process::ExitCode;
 fn unfinished(view: View) -> &'static str {
     match view {
         View::Arrange | View::ArrangeMeasured { .. } =>
-            "the script went out as it was: in another order it could not be read back",
+            "the script went out as it was: with an end for its last line it would be one byte too long",
         _ => "the trace is whole, but longer than a replay reads (1000000 steps, 16777216 bytes)",
     }
 }

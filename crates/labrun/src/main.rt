@@ -9,11 +9,11 @@ use std::io::{self, BufWriter};
 use std::process::ExitCode;
 
 fn main(rt: HostRuntime) -> ExitCode {
-    let words = match given_words(&rt) {
+    let alloc = rt.alloc();
+    let words = match given_words(&rt, alloc) {
         Ok(words) => words,
         Err(reason) => return end_without_task(&rt, PROGRAM, reason),
     };
-    let alloc = rt.alloc();
     let Ok(output) = BufWriter::new(alloc, io::writer(&rt)) else {
         return end(&rt, PROGRAM, Err(RunFault::NoMemory));
     };

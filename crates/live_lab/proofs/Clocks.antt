@@ -28,9 +28,6 @@ pub record IsCountedTo (w : WorldView) (waiting thirsty : ℕ) (old : List Clock
   pub done : (j : ℕ) → j < n → at new j ≡ clock_then w waiting thirsty old j
   pub left : (j : ℕ) → n ≤ j → at new j ≡ at old j
 
-pub none_counted : (w : WorldView) (waiting thirsty : ℕ) (old : List Clock) → IsCountedTo w waiting thirsty old 0 old
-none_counted w waiting thirsty old = record { as_many = refl; done = λ j below. absurd (omega (arith, below)); left = λ j above. refl }
-
 pub one_counted : (w : WorldView) (waiting thirsty : ℕ) (old : List Clock) (n : ℕ) (mid : List Clock) (x : Clock) → n < length mid
     → x ≡ clock_then w waiting thirsty old n → IsCountedTo w waiting thirsty old n mid → IsCountedTo w waiting thirsty old (n + 1) (set mid n x)
 one_counted w waiting thirsty old n mid x inside is c = record {

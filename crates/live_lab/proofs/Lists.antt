@@ -12,7 +12,7 @@ use Rattle.edge_word.specs.Moves.{on, events_of}
 use Rattle.turns.specs.Lists.{Each}
 use Rattle.turns.specs.Acts.{AreActs}
 use Rattle.turns.specs.Turn.{Visit, visit_events, visits_events}
-use Rattle.settling.specs.Left.{IsBy}
+use Rattle.settling.specs.Left.{IsBy, IsBySelf}
 use Rattle.live_lab.specs.Calls.{IsMealDue}
 use Rattle.live_lab.specs.Ends.{in_hand, commands_by, rest_of_session}
 
@@ -81,19 +81,28 @@ meal_by plan s j events due = elim due [
   ]
 ]
 
-hand_by : (d : Drinking) (j : ℕ) → AreBy j (in_hand d j)
-hand_by Reaching j = (refl, tt)
-hand_by Tranquil j = tt
-hand_by Thirsty j = tt
-hand_by Drinks j = tt
-hand_by Retired j = tt
+abbrev pub AreBySelf : ℕ → List Event → Type 0
+AreBySelf j events = Each (IsBySelf j) events
 
-commands_are_by : (j n : ℕ) → AreBy j (commands_by j n)
-commands_are_by j zero = tt
-commands_are_by j (suc n) = by_both j (commands_by j n) (Reach j ∷ Act j ∷ []) (commands_are_by j n) (refl, (refl, tt))
+self_both : (j : ℕ) (xs ys : List Event) → AreBySelf j xs → AreBySelf j ys → AreBySelf j (xs ++ ys)
+self_both j [] ys a b = b
+self_both j (x ∷ xs) ys a b = (a.0, self_both j xs ys a.1 b)
 
-pub session_by : (d : Drinking) (j n : ℕ) → AreBy j (rest_of_session d j n)
-session_by d j n = by_both j (in_hand d j ++ commands_by j n) (Quit j ∷ []) (by_both j (in_hand d j) (commands_by j n) (hand_by d j) (commands_are_by j n)) (refl, tt)
+hand_self : (d : Drinking) (j : ℕ) → AreBySelf j (in_hand d j)
+hand_self Reaching j = ((refl, tt), tt)
+hand_self Tranquil j = tt
+hand_self Thirsty j = tt
+hand_self Drinks j = tt
+hand_self Retired j = tt
 
-pub on_by : (j : ℕ) (b : Bool) (x : Event) → actor x ≡ j → AreBy j (on b x [])
-on_by j b x is = by_on j b x [] is tt
+commands_self : (j n : ℕ) → AreBySelf j (commands_by j n)
+commands_self j zero = tt
+commands_self j (suc n) = self_both j (commands_by j n) (Reach j ∷ Act j ∷ []) (commands_self j n) ((refl, tt), ((refl, tt), tt))
+
+pub session_self : (d : Drinking) (j n : ℕ) → AreBySelf j (rest_of_session d j n)
+session_self d j n =
+    self_both j (in_hand d j ++ commands_by j n) (Quit j ∷ []) (self_both j (in_hand d j) (commands_by j n) (hand_self d j) (commands_self j n)) ((refl, tt), tt)
+
+pub self_on : (j : ℕ) (b : Bool) (x : Event) → IsBySelf j x → AreBySelf j (on b x [])
+self_on j false x is = tt
+self_on j true x is = (is, tt)

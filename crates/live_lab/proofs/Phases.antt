@@ -1,12 +1,12 @@
 -- How far a job is after a command and after words of owners.
 use Rattle.std.proofs.Common.{◌≡◌, ℕ, ◌+◌, ◌<◌, [], ◌∷◌, length, sym, ap, ◌∙◌, subst, arith}
-use Rattle.lab_plan.specs.LabPlan.{LabPlan, commands}
+use Rattle.lab_plan.specs.LabPlan.{commands}
 use Rattle.legal_steps.specs.declared.event.Event.{Event}
 use Rattle.legal_steps.specs.declared.event.Event.TheVariants.{Reach, Act}
 use Rattle.legal_steps.specs.declared.phase.JobState.{JobState}
 use Rattle.legal_steps.specs.declared.phase.Drinking.TheVariants.{Drinking as Drinks, Reaching}
 use Rattle.legal_steps.specs.State.{State, Seat, seat, phase, drinking, position}
-use Rattle.legal_steps.specs.Legal.{May, after, IsJob, with_phase, with_entry, next_command, next_entry, session_commands}
+use Rattle.legal_steps.specs.Legal.{after, IsJob, with_phase, with_entry, next_command, next_entry, session_commands}
 use Rattle.legal_steps.proofs.FitsWrites.{seat_same}
 use Rattle.turns.proofs.Frame.{as_many_seats}
 use Rattle.interleaving.specs.World.{WorldView, LeadsTo, IsReachedWith}
@@ -28,17 +28,6 @@ phase_after old new x j l = ap (λ (s : State). phase s j) l.run.leads
 pub seat_after : (old new : WorldView) (x : Event) (j : ℕ) → LeadsTo old (x ∷ []) new → HasSeat old.state j → HasSeat new.state j
 seat_after old new x j l inside = subst (λ n. j < n) (sym (ap (λ (s : State). length s.seats) l.run.leads ∙ as_many_seats old.plan old.state x)) inside
 
-job_after : (old new : WorldView) (x : Event) (j : ℕ) → LeadsTo old (x ∷ []) new → IsJob old.plan j → IsJob new.plan j
-job_after old new x j l job = subst (λ (p : LabPlan). IsJob p j) (sym l.same_plan) job
-
--- a job that reached may act
-pub may_act : (old mid : WorldView) (j : ℕ) → IsReachedWith old.plan old.state old.counts → LeadsTo old (Reach j ∷ []) mid → May mid.plan mid.state (Act j)
-may_act old mid j r l =
-    let job : IsJob old.plan j = l.run.legal.0.0 in (
-      job_after old mid (Reach j) j l job,
-      ap (λ (p : JobState). p.drinking) (phase_after old mid (Reach j) j l ∙ phase_set old.state j (record (phase old.state j) { drinking = Reaching }) (has_seat old j r job)),
-    )
-
 -- a command leaves the job where it was, but for one command more
 pub commanded : (old a b : WorldView) (j : ℕ) → HasSeat old.state j → LeadsTo old (Reach j ∷ []) a → LeadsTo a (Act j ∷ []) b
     → phase b.state j ≡ record (phase old.state j) { drinking = Drinks; position = position old.state j + 1 }
@@ -50,13 +39,6 @@ commanded old a b j inside first then =
     ∙ (phase_set (with_entry s (next_command a.plan s j).0 (next_entry a.plan s j)) j (record (phase s j) { drinking = Drinks; position = position s j + 1 })
     (seat_after old a (Reach j) j first inside)
     ∙ ap (λ (p : JobState). record p { drinking = Drinks; position = p.position + 1 }) mid)
-
--- an Act leaves the job drinking
-pub acted : (old new : WorldView) (j : ℕ) → HasSeat old.state j → LeadsTo old (Act j ∷ []) new → drinking new.state j ≡ Drinks
-acted old new j inside l =
-    let s : State = old.state in
-    ap (λ (p : JobState). p.drinking) (phase_after old new (Act j) j l
-    ∙ phase_set (with_entry s (next_command old.plan s j).0 (next_entry old.plan s j)) j (record (phase s j) { drinking = Drinks; position = position s j + 1 }) inside)
 
 -- ---- commands one after another
 

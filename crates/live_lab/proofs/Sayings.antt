@@ -12,6 +12,7 @@ use Rattle.legal_steps.specs.Run.{actor}
 use Rattle.interleaving.specs.World.{WorldView, LeadsTo}
 use Rattle.reasons.specs.Deeds.{is_deed}
 use Rattle.turns.proofs.Frame.{other_seat}
+use Rattle.settling.specs.Left.{IsBySelf}
 use Rattle.settling.proofs.Worlds.{leads_both}
 use Rattle.settling.proofs.Deeds.{deeds_both}
 use Rattle.live_lab.specs.declared.words.Word.{Word}
@@ -19,9 +20,13 @@ use Rattle.live_lab.specs.declared.words.Word.TheVariants.{Begins, GivesUp}
 use Rattle.live_lab.specs.Sets.{events_below}
 use Rattle.live_lab.specs.Doing.{said}
 
-pub said_by : (word : Word) (j : ℕ) → actor (said word j) ≡ j
+said_by : (word : Word) (j : ℕ) → actor (said word j) ≡ j
 said_by Begins j = refl
 said_by GivesUp j = refl
+
+pub said_self : (word : Word) (j : ℕ) → IsBySelf j (said word j)
+said_self Begins j = (refl, tt)
+said_self GivesUp j = (refl, tt)
 
 abbrev MayBegin : LabPlan → ℕ → Seat → Type 0
 MayBegin plan k x = IsJob plan k × (x.phase.drinking ≡ Tranquil) × (x.phase.dining ≢ Eating) × (x.phase.session < length (sessions plan k))

@@ -8,7 +8,7 @@ use instrument_log::Entry;
 use lab_plan::JobNo;
 use legal_steps::Event;
 use plan_logs::{next_command, next_entry};
-use settling::wake_near;
+use settling::wake_self;
 
 impl Lab {
     fn withdraw_of(&mut self, job: JobNo) -> bool
@@ -19,7 +19,7 @@ impl Lab {
             return false;
         }
         step(&mut self.world, Event::Withdraw(job));
-        wake_near(self.world.plan(), &mut self.due, job);
+        wake_self(self.world.plan(), &mut self.due, job);
         true
     }
 
@@ -34,7 +34,7 @@ impl Lab {
         let (instrument, _) = next_command(self.world.plan(), job, phase);
         let entry = next_entry(self.world.plan(), job, phase, self.world.log(instrument));
         do_act(&mut self.world, &Event::Reach(job));
-        wake_near(self.world.plan(), &mut self.due, job);
+        wake_self(self.world.plan(), &mut self.due, job);
         Some(entry)
     }
 

@@ -16,7 +16,7 @@ use interleaving::World;
 use lab_plan::JobNo;
 use legal_steps::{Drinking, Event};
 use session_layer::Turned;
-use settling::wake_near;
+use settling::wake_self;
 use std::alloc::Allocator;
 
 /// What became of a session that was to be ended.
@@ -80,7 +80,7 @@ impl Lab {
             return Ended::NotHeld;
         }
         let own = let_go(&mut self.world, job);
-        wake_near(self.world.plan(), &mut self.due, job);
+        wake_self(self.world.plan(), &mut self.due, job);
         let more = come_to_rest(&mut self.world, &mut self.due);
         Ended::LetGo(Turned::of(own + more, 0))
     }

@@ -14,7 +14,5 @@ pub(crate) fn come_to_rest<A: Allocator>(world: &mut World<A>, due: &mut Due<A>)
     ensures marked { AreMarked world.new.plan world.new.state due.new }
     ensures few { result ≤ 129584 }
 {
-    // A plan has 496 edges at most, and the world is reached.
-    let _ = world.plan().edges();
     rest(world, due)
 }

@@ -10,7 +10,7 @@ use crate::stepping::attempt;
 use lab_plan::JobNo;
 use legal_steps::Event;
 use session_layer::Turned;
-use settling::wake_near;
+use settling::wake_self;
 
 impl Lab {
     fn retire_of(&mut self, job: JobNo) -> Turned
@@ -20,7 +20,7 @@ impl Lab {
         let done = come_to_rest(&mut self.world, &mut self.due);
         let did = attempt(&mut self.world, Event::Retire(job));
         if did {
-            wake_near(self.world.plan(), &mut self.due, job);
+            wake_self(self.world.plan(), &mut self.due, job);
         }
         Turned::of(done + u32::from(did), 0)
     }

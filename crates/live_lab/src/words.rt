@@ -15,7 +15,7 @@ use crate::stepping::step;
 use interleaving::World;
 use lab_plan::JobNo;
 use legal_steps::Event;
-use settling::{Due, wake_near};
+use settling::{Due, wake_self};
 use std::alloc::Allocator;
 
 /// What an owner says.
@@ -55,7 +55,7 @@ pub(crate) fn say_each<A: Allocator>(
         let number = JobNo(job as u8);
         if has(set, number) {
             step(world, said(word, number));
-            wake_near(world.plan(), due, number);
+            wake_self(world.plan(), due, number);
             many += 1;
         }
     }

@@ -1,10 +1,13 @@
 //! A command line of its own, as clap reads it.
+ghost use Rattle.std.specs.Io.{WritesAtMost};
+
 use crate::rows::check;
 use clap::Command;
 use command_line::{
     NoTask, given_words, number, number_of, program, refused, why_no_task, with_word,
 };
 use std::alloc::{AllocError, Global};
+use std::env::{Env, FillError};
 use std::test::Fail;
 
 /// A program with a word `run N` and a word `stop`.
@@ -82,9 +85,78 @@ fn words_of_a_program(rt: HostRuntime) -> Result<(), Fail> {
 /// The first of them is the program's own name.
 #[test]
 fn words_of_this_test(rt: HostRuntime) {
-    let is_named = match given_words(&rt) {
+    let is_named = match given_words(&rt, rt.alloc()) {
         Ok(words) => !words.is_empty(),
         Err(_) => false,
     };
     assert!(rt; is_named);
+}
+
+/// A program that was started with these words.
+#[derive(Drop)]
+struct Started {
+    words: &'static [&'static [u8]],
+}
+
+fn copied(word: &[u8], room: &mut [u8]) -> Result<usize, FillError>
+    ensures { WritesAtMost result room.new }
+{
+    if room.len() < word.len() {
+        return Err(FillError::TooLong);
+    }
+    room[..word.len()].copy_from_slice(word);
+    Ok(word.len())
+}
+
+impl Env for Started {
+    fn arg(&self, i: usize, buf: &mut [u8]) -> Result<usize, FillError> {
+        match self.words.get(i) {
+            Some(word) => copied(word, buf),
+            None => Err(FillError::NotPresent),
+        }
+    }
+
+    fn var(&self, _name: &str, _buf: &mut [u8]) -> Result<usize, FillError> {
+        Err(FillError::NotPresent)
+    }
+
+    fn var_at(&self, _i: usize, _buf: &mut [u8]) -> Result<usize, FillError> {
+        Err(FillError::NotPresent)
+    }
+}
+
+/// The words that are given of these, each in a line.
+fn given_of(alloc: Global, words: &'static [&'static [u8]]) -> Result<String, AllocError> {
+    match given_words(&Started { words }, alloc) {
+        Ok(given) => {
+            let mut lines = String::new(alloc);
+            for word in given.as_slice() {
+                lines.push_str(word.as_str())?;
+                lines.push_str("\n")?;
+            }
+            Ok(lines)
+        }
+        Err(reason) => reason_told(alloc, reason),
+    }
+}
+
+/// Words, and what is given of them: all, also one that is empty, and none where one isn't text.
+const GIVEN: [(&[&[u8]], &str); 5] = [
+    (&[], ""),
+    (&[b"prog"], "prog\n"),
+    (
+        &[b"prog", b"threads", b"4", b"100000000"],
+        "prog\nthreads\n4\n100000000\n",
+    ),
+    (&[b"prog", b"", b"7"], "prog\n\n7\n"),
+    (&[b"prog", b"rounds", b"\xff"], "refused: a word isn't text"),
+];
+
+#[test]
+fn all_words_are_given(rt: HostRuntime) -> Result<(), Fail> {
+    for (words, wanted) in GIVEN {
+        let came = given_of(rt.alloc(), words)?;
+        check(&rt, "words", came.as_bytes(), wanted.as_bytes());
+    }
+    Ok(())
 }

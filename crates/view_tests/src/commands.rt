@@ -252,7 +252,7 @@ fn ends_without_task(rt: HostRuntime) -> Result<(), Fail> {
 #[test]
 fn ends_of_views(rt: HostRuntime) {
     let as_it_was =
-        "labview: the script went out as it was: in another order it could not be read back\n";
+        "labview: the script went out as it was: with an end for its last line it would be one byte too long\n";
     let too_long =
         "labview: the trace is whole, but longer than a replay reads (1000000 steps, 16777216 bytes)\n";
     for (view, outcome, errors, status) in [

@@ -46,8 +46,8 @@ pub(crate) fn text_at<T: Allocator + Copy>(
     stage: usize,
 ) -> Result<String<T>, AllocError> {
     let mut text = String::from_str(alloc, TOOLS)?;
-    for steps in STEPS.iter().take(stage) {
-        text.push_str(steps)?;
+    for index in 0..stage.min(7) {
+        text.push_str(STEPS[index])?;
     }
     Ok(text)
 }

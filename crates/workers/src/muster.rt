@@ -29,7 +29,17 @@ pub struct Muster {
 impl Muster {
     /// Of this many teams, none of which has begun. A team that is idle waits this many sleeps for those that don't begin.
     pub fn new(teams: u32, patience: u32) -> Muster
-        ensures { result.teams ≡ teams }
+        ensures teams { result.teams ≡ teams }
+        ensures patience { result.patience ≡ patience }
+    {
+        Muster::with_bell(teams, patience, Bell::new())
+    }
+
+    /// The same with this bell, to which nobody listens.
+    pub fn with_bell(teams: u32, patience: u32, bell: Bell) -> Muster
+        ensures teams { result.teams ≡ teams }
+        ensures patience { result.patience ≡ patience }
+        ensures bell { result.bell.longest ≡ bell.longest }
     {
         Muster {
             teams,
@@ -37,7 +47,7 @@ impl Muster {
             begun: AtomicU32::new(0),
             stopped: AtomicBool::new(false),
             over: AtomicBool::new(false),
-            bell: Bell::new(),
+            bell,
         }
     }
 

@@ -5,25 +5,25 @@ use instrument_log::Entry;
 use interleaving::{
     Counts, Dining, Drinking, EdgeState, End, Event, JobState, NotLegal, Step, StepLine,
 };
-use lab_plan::Verb;
+use lab_plan::{EdgeNo, JobNo, Verb};
 
 /// A thirsty job eats before it drinks.
 const TO_MEAL: [StepLine; 4] = [
     StepLine {
         line: 11,
-        step: Step::Thirst(A),
+        step: Step::Thirst(JobNo(A)),
     },
     StepLine {
         line: 12,
-        step: Step::Hunger(A),
+        step: Step::Hunger(JobNo(A)),
     },
     StepLine {
         line: 13,
-        step: Step::Look(A, AB),
+        step: Step::Look(JobNo(A), EdgeNo(AB)),
     },
     StepLine {
         line: 14,
-        step: Step::Sit(A),
+        step: Step::Sit(JobNo(A)),
     },
 ];
 
@@ -59,7 +59,11 @@ fn eats_before_drinking(rt: HostRuntime) {
 }
 
 /// The job sits before it has seen that the fork is here.
-const HASTY: [Event; 3] = [Event::Thirst(A), Event::Hunger(A), Event::Sit(A)];
+const HASTY: [Event; 3] = [
+    Event::Thirst(JobNo(A)),
+    Event::Hunger(JobNo(A)),
+    Event::Sit(JobNo(A)),
+];
 
 const HUNGERS: Shown = Shown {
     a: HUNGRY,
@@ -75,7 +79,7 @@ fn illegal_step(rt: HostRuntime) {
 }
 
 const FIRST_ENTRY: Entry = Entry {
-    job: A,
+    job: JobNo(A),
     session: 1,
     place: 1,
     length: 1,
@@ -135,7 +139,7 @@ const SAT_TWICE: Shown = Shown {
 
 #[test]
 fn stale_mark(rt: HostRuntime) {
-    let sits = Event::Sit(A);
+    let sits = Event::Sit(JobNo(A));
     let stale = &STALE_MARK[..stage::A_HAS_A_STALE_MARK];
     assert!(rt; after(&rt, rt.alloc(), TWICE, stale, &sits) == (false, ASKED));
     let clean = &STALE_MARK[..stage::A_LOOKS_AGAIN];

@@ -1,47 +1,47 @@
 //! Every short list of steps of a small plan: what is said to be enabled is what a step does, and a refused
 //! step changes nothing.
 use super::{Way, shows, takes, told_of};
-use crate::benches::{A, AB, B, STALE_MARK, TWICE, plan_of};
-use interleaving::{Step, World};
+use crate::benches::{A, AB, B, Do, STALE_MARK, TWICE, plan_of};
+use interleaving::World;
 use std::alloc::Allocator;
 use std::process::Abort;
 
 /// Every step with the plan's numbers.
-const EVERY: [Step; 34] = [
-    Step::Look(A, AB),
-    Step::Look(B, AB),
-    Step::AskFork(A, AB),
-    Step::AskFork(B, AB),
-    Step::GiveFork(A, AB),
-    Step::GiveFork(B, AB),
-    Step::Soil(A, AB),
-    Step::Soil(B, AB),
-    Step::AskBottles(A, AB, 1),
-    Step::AskBottles(B, AB, 1),
-    Step::GiveBottles(A, AB, 1),
-    Step::GiveBottles(B, AB, 1),
-    Step::Thirst(A),
-    Step::Thirst(B),
-    Step::Hunger(A),
-    Step::Hunger(B),
-    Step::Sit(A),
-    Step::Sit(B),
-    Step::Leave(A),
-    Step::Leave(B),
-    Step::Drink(A),
-    Step::Drink(B),
-    Step::Reach(A),
-    Step::Reach(B),
-    Step::Act(A),
-    Step::Act(B),
-    Step::Quit(A),
-    Step::Quit(B),
-    Step::Retire(A),
-    Step::Retire(B),
-    Step::Glance(A, B),
-    Step::Glance(B, A),
-    Step::Withdraw(A),
-    Step::Withdraw(B),
+const EVERY: [Do; 34] = [
+    Do::Look(A, AB),
+    Do::Look(B, AB),
+    Do::AskFork(A, AB),
+    Do::AskFork(B, AB),
+    Do::GiveFork(A, AB),
+    Do::GiveFork(B, AB),
+    Do::Soil(A, AB),
+    Do::Soil(B, AB),
+    Do::AskBottles(A, AB, 1),
+    Do::AskBottles(B, AB, 1),
+    Do::GiveBottles(A, AB, 1),
+    Do::GiveBottles(B, AB, 1),
+    Do::Thirst(A),
+    Do::Thirst(B),
+    Do::Hunger(A),
+    Do::Hunger(B),
+    Do::Sit(A),
+    Do::Sit(B),
+    Do::Leave(A),
+    Do::Leave(B),
+    Do::Drink(A),
+    Do::Drink(B),
+    Do::Reach(A),
+    Do::Reach(B),
+    Do::Act(A),
+    Do::Act(B),
+    Do::Quit(A),
+    Do::Quit(B),
+    Do::Retire(A),
+    Do::Retire(B),
+    Do::Glance(A, B),
+    Do::Glance(B, A),
+    Do::Withdraw(A),
+    Do::Withdraw(B),
 ];
 
 /// The list of this many steps that a number codes.
@@ -54,7 +54,7 @@ pub(super) fn try_list<T: Allocator>(
     let mut rest = code;
     for _ in 0..length {
         let before = shows(rt, world);
-        let done = takes(rt, world, &EVERY[rest % 34]);
+        let done = takes(rt, world, EVERY[rest % 34]);
         assert!(rt; done || shows(rt, world) == before, "{code}");
         rest /= 34;
     }
@@ -64,7 +64,7 @@ pub(super) fn try_list<T: Allocator>(
 fn check<T: Allocator + Copy>(
     rt: &impl Abort,
     alloc: T,
-    steps: &[Step],
+    steps: &[Do],
     length: usize,
     lists: usize,
 ) {

@@ -2,7 +2,7 @@
 use super::{Told, Way, tell, told};
 use crate::benches::{A, AB, STALE_MARK, THREE, TWICE, TWO, plan_of};
 use interleaving::{EdgeState, End, EndChoice, Event, NoMemory, StartRefusal, World};
-use lab_plan::Plan;
+use lab_plan::{EdgeNo, JobNo, Plan};
 use linked_list_allocator::LocalHeap;
 use script_reader::read_plan;
 use std::alloc::Allocator;
@@ -19,7 +19,7 @@ const HIGHER: EndChoice = EndChoice {
     bottles: 0,
 };
 
-/// The first edge of a world at its start, or why there is none.
+/// The first edge of a world at its start, where the first job may begin its session, or why there is none.
 fn start_of<T: Allocator + Copy>(
     rt: &impl Abort,
     alloc: T,
@@ -28,7 +28,10 @@ fn start_of<T: Allocator + Copy>(
 ) -> Result<EdgeState, StartRefusal> {
     assert!(rt; plan.edges() > 0);
     match World::start(alloc, plan, choices) {
-        Ok(world) => Ok(world.edge(AB)),
+        Ok(world) => {
+            assert!(rt; world.enabled(Event::Thirst(JobNo(A))));
+            Ok(world.edge(EdgeNo(AB)))
+        }
         Err(refusal) => Err(refusal),
     }
 }
@@ -120,21 +123,16 @@ fn many_in_common(rt: HostRuntime) {
 
 /// Whether there is memory for a start; choices that don't fit come first.
 fn starts<T: Allocator + Copy>(rt: &impl Abort, heap: T, plan: &Plan<T>) -> bool {
-    let unfit = World::start(heap, plan, &[]);
-    assert!(rt; matches!(&unfit, Err(StartRefusal::BadChoices)));
-    match World::start(heap, plan, &[HIGHER]) {
-        Ok(world) => world.enabled(Event::Thirst(A)),
-        Err(refusal) => {
-            assert!(rt; refusal == StartRefusal::NoMemory);
-            false
-        }
-    }
+    assert!(rt; start_of(rt, heap, plan, &[]) == Err(StartRefusal::BadChoices));
+    let answer = start_of(rt, heap, plan, &[HIGHER]);
+    assert!(rt; answer.is_ok() || answer == Err(StartRefusal::NoMemory));
+    answer.is_ok()
 }
 
 /// The same for the initial state.
 fn opens<T: Allocator + Copy>(heap: T, plan: &Plan<T>) -> bool {
     match World::opening(heap, plan) {
-        Ok(world) => world.enabled(Event::Thirst(A)),
+        Ok(world) => world.enabled(Event::Thirst(JobNo(A))),
         Err(NoMemory) => false,
     }
 }

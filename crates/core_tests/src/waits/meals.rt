@@ -1,10 +1,11 @@
 //! Meals and rankings.
 use super::{ALL_LOWER, FORKS_HIGHER, Question, ask, go_on, owns, take};
 use crate::benches::{
-    A, AB, B, BEFORE_THE_MEAL, C, MEAL_OF_THREE, STALE_MARK, THREE, TWICE, event_of, stage,
+    A, AB, B, BEFORE_THE_MEAL, C, Do, MEAL_OF_THREE, STALE_MARK, THREE, TWICE, event_of, stage,
+    step_of,
 };
-use interleaving::{Event, Step, World};
-use lab_plan::JobNo;
+use interleaving::{Event, World};
+use lab_plan::{EdgeNo, JobNo};
 use linked_list_allocator::LocalHeap;
 use overtaking::laws::{never_stuck, no_cycle, overtaken_once, quiet_is_retired};
 use overtaking::{NoMemory, meals_after_ask, ranking};
@@ -17,7 +18,7 @@ fn record<T: Allocator, V: Allocator>(
     rt: &impl Abort,
     world: &mut World<'_, T>,
     events: &mut Vec<Event, V>,
-    steps: &[Step],
+    steps: &[Do],
 ) {
     for step in steps {
         assert!(rt; events.push(event_of(rt, world, *step)).is_ok());
@@ -34,9 +35,9 @@ fn overtaking<T: Allocator>(
     job: JobNo,
 ) -> u64 {
     let plan = world.plan();
-    assert!(rt; owns(plan, job, AB));
-    assert!(rt; events.get(place) == Some(&Event::AskFork(job, AB)));
-    meals_after_ask(plan, events, place, job, AB)
+    assert!(rt; owns(plan, job, EdgeNo(AB)));
+    assert!(rt; events.get(place) == Some(&Event::AskFork(job, EdgeNo(AB))));
+    meals_after_ask(plan, events, place, job, EdgeNo(AB))
 }
 
 /// The places of the two requests among the steps of the stale mark.
@@ -51,11 +52,11 @@ fn check_overtaking<T: Allocator, V: Allocator>(
 ) {
     let steps = STALE_MARK.as_slice();
     record(rt, world, events, &steps[..stage::A_HAS_A_STALE_MARK]);
-    assert!(rt; world.step(Event::Sit(A)).is_err());
-    assert!(rt; overtaking(rt, world, events, B_ASKS, B) == 1);
+    assert!(rt; world.step(Event::Sit(JobNo(A))).is_err());
+    assert!(rt; overtaking(rt, world, events, B_ASKS, JobNo(B)) == 1);
     record(rt, world, events, &steps[stage::A_HAS_A_STALE_MARK..]);
-    assert!(rt; overtaking(rt, world, events, B_ASKS, B) == 1);
-    assert!(rt; overtaking(rt, world, events, A_ASKS, A) == 0);
+    assert!(rt; overtaking(rt, world, events, B_ASKS, JobNo(B)) == 1);
+    assert!(rt; overtaking(rt, world, events, A_ASKS, JobNo(A)) == 0);
 }
 
 /// The overtaking at a request, while the job with the stale mark has to wait, and after it ate once more.
@@ -74,14 +75,19 @@ fn stale_mark(rt: HostRuntime) {
     assert!(rt; ask(&rt, rt.alloc(), TWICE, &ALL_LOWER, Question::Overtaking));
 }
 
+/// Whether these are the jobs with these numbers.
+fn is_order(order: &[JobNo], [first, second, third]: [u8; 3]) -> bool {
+    order == [JobNo(first), JobNo(second), JobNo(third)].as_slice()
+}
+
 fn ranks<T: Allocator, V: Allocator + Copy>(
     rt: &impl Abort,
     alloc: V,
     world: &World<'_, T>,
-    wanted: [JobNo; 3],
+    wanted: [u8; 3],
 ) -> bool {
     match ranking(alloc, world) {
-        Ok(order) => order.as_slice() == wanted.as_slice(),
+        Ok(order) => is_order(&order, wanted),
         Err(_) => panic!(rt; "no memory"),
     }
 }
@@ -91,14 +97,15 @@ fn keeps_ranking<T: Allocator, V: Allocator + Copy>(
     rt: &impl Abort,
     alloc: V,
     world: &mut World<'_, T>,
-    steps: &[Step],
-    wanted: [JobNo; 3],
+    steps: &[Do],
+    wanted: [u8; 3],
 ) {
     for step in steps {
         take(rt, world, *step);
         assert!(rt;
             ranks(rt, alloc, world, wanted),
-            "after {step:?} not {wanted:?}"
+            "after {:?} not {wanted:?}",
+            step_of(*step)
         );
     }
 }
@@ -137,7 +144,7 @@ pub(super) fn has_room<T: Allocator>(
 ) -> bool {
     match ranking(heap, world) {
         Ok(order) => {
-            assert!(rt; order.as_slice() == [A, B, C].as_slice());
+            assert!(rt; is_order(&order, [A, B, C]));
             true
         }
         Err(NoMemory) => false,

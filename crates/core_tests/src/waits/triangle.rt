@@ -1,18 +1,20 @@
 //! Three jobs, each two of which share an edge: who precedes whom, before and after a meal of the first.
 use super::{FORKS_HIGHER, Question, ask, go_on};
-use crate::benches::{A, AB, AC, B, BC, BEFORE_THE_MEAL, C, MEAL_OF_THREE, ONE_FORK_SOILED, THREE};
-use interleaving::{EdgeState, End, Step, World};
+use crate::benches::{
+    A, AB, AC, B, BC, BEFORE_THE_MEAL, C, Do, MEAL_OF_THREE, ONE_FORK_SOILED, THREE,
+};
+use interleaving::{EdgeState, End, World};
 use lab_plan::{EdgeNo, JobNo};
 use std::alloc::Allocator;
 use std::process::Abort;
 
-pub(super) type Pair = (JobNo, JobNo);
+pub(super) type Pair = (u8, u8);
 
 /// Whether these pairs, and no others, are those of which the first job precedes the second.
 fn are_pairs<T: Allocator>(world: &World<T>, pairs: &[Pair]) -> bool {
     for a in [A, B, C] {
         for b in [A, B, C] {
-            if world.precedes(a, b) != pairs.contains(&(a, b)) {
+            if world.precedes(JobNo(a), JobNo(b)) != pairs.contains(&(a, b)) {
                 return false;
             }
         }
@@ -20,10 +22,14 @@ fn are_pairs<T: Allocator>(world: &World<T>, pairs: &[Pair]) -> bool {
     true
 }
 
+fn is_pair(((a, b), pair): (&(JobNo, JobNo), &Pair)) -> bool {
+    (a.0, b.0) == *pair
+}
+
 /// Whether the list of the pairs is this one.
 fn lists<T: Allocator + Copy>(rt: &impl Abort, alloc: T, world: &World<T>, pairs: &[Pair]) -> bool {
     match world.precedence(alloc) {
-        Ok(list) => list.as_slice() == pairs,
+        Ok(list) => list.len() == pairs.len() && list.iter().zip(pairs).all(is_pair),
         Err(_) => panic!(rt; "no memory"),
     }
 }
@@ -32,7 +38,7 @@ pub(super) fn has_pairs<T: Allocator + Copy>(
     rt: &impl Abort,
     alloc: T,
     world: &mut World<'_, T>,
-    steps: &[Step],
+    steps: &[Do],
     pairs: &[Pair],
 ) -> bool {
     go_on(rt, world, steps);
@@ -61,7 +67,7 @@ fn triangle(rt: HostRuntime) {
 }
 
 /// The forks during the meal, by their edges: where each is, and whether it is dirty.
-const DURING_THE_MEAL: [(EdgeNo, End, bool); 3] = [
+const DURING_THE_MEAL: [(u16, End, bool); 3] = [
     (AB, End::Lower, false),
     (AC, End::Lower, true),
     (BC, End::Higher, true),
@@ -77,8 +83,11 @@ fn fork_of<T: Allocator>(rt: &impl Abort, world: &World<'_, T>, edge: EdgeNo) ->
 pub(super) fn goes_round_by_dirt<T: Allocator>(rt: &impl Abort, world: &mut World<'_, T>) -> bool {
     go_on(rt, world, &MEAL_OF_THREE[..ONE_FORK_SOILED]);
     for (edge, fork, dirty) in DURING_THE_MEAL {
-        let state = fork_of(rt, world, edge);
-        assert!(rt; state.fork == fork && state.dirty == dirty, "of {edge:?}");
+        let state = fork_of(rt, world, EdgeNo(edge));
+        assert!(rt;
+            state.fork == fork && state.dirty == dirty,
+            "of edge {edge}"
+        );
     }
     true
 }

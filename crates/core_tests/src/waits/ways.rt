@@ -1,9 +1,10 @@
 //! Ways on.
 use super::{ALL_LOWER, FORKS_HIGHER, Question, ask, take};
 use crate::benches::{
-    A, AB, B, IMPATIENT, MEAL_FIRST, MEAL_OF_THREE, STALE_MARK, THREE, THREE_ADD, TWICE, TWO,
+    A, AB, B, Do, IMPATIENT, MEAL_FIRST, MEAL_OF_THREE, STALE_MARK, THREE, THREE_ADD, TWICE, TWO,
+    step_of,
 };
-use interleaving::{EndChoice, Step, World};
+use interleaving::{EndChoice, World};
 use lab_plan::InstrumentNo;
 use overtaking::way_on;
 use std::alloc::Allocator;
@@ -24,28 +25,28 @@ fn leads_on<T: Allocator>(rt: &impl Abort, world: &World<'_, T>) -> bool {
 pub(super) fn leads_all_along<T: Allocator>(
     rt: &impl Abort,
     world: &mut World<'_, T>,
-    steps: &[Step],
+    steps: &[Do],
     at_end: bool,
 ) -> bool {
     for step in steps {
-        assert!(rt; leads_on(rt, world), "before {step:?}");
+        assert!(rt; leads_on(rt, world), "before {:?}", step_of(*step));
         take(rt, world, *step);
     }
     leads_on(rt, world) == at_end
 }
 
 /// Job b gives its session up, and a drinks: then both retire.
-const GIVEN_UP: [Step; 10] = [
-    Step::Thirst(A),
-    Step::Thirst(B),
-    Step::Look(A, AB),
-    Step::Drink(A),
-    Step::Withdraw(B),
-    Step::Reach(A),
-    Step::Retire(B),
-    Step::Act(A),
-    Step::Quit(A),
-    Step::Retire(A),
+const GIVEN_UP: [Do; 10] = [
+    Do::Thirst(A),
+    Do::Thirst(B),
+    Do::Look(A, AB),
+    Do::Drink(A),
+    Do::Withdraw(B),
+    Do::Reach(A),
+    Do::Retire(B),
+    Do::Act(A),
+    Do::Quit(A),
+    Do::Retire(A),
 ];
 
 fn check<T: Allocator + Copy>(

@@ -1,4 +1,5 @@
 //! What no contract says: the words of command lines, the text of the help, and the texts and statuses of faults.
+use Want::{Check, Refused, Replay, Rounds, Threads, Upgrade};
 use command_line::NoTask;
 use lab_program::{Outcome, RunFault, status_of};
 use lab_runs::{Task, read_words};
@@ -21,129 +22,126 @@ fn is_help(answer: &Result<Task, NoTask>, wanted: &str) -> bool {
     }
 }
 
-fn rounds(limit: u32) -> Option<Task> {
-    Some(Task::Rounds { limit })
+/// What the words of a line ask for.
+#[derive(Clone, Copy)]
+enum Want {
+    Rounds(u32),
+    Threads(u32, u32),
+    Replay,
+    Check,
+    Upgrade,
+    Refused,
 }
 
-fn threads(workers: u32, turns: u32) -> Option<Task> {
-    Some(Task::Threads { workers, turns })
+fn task_of(want: Want) -> Option<Task> {
+    match want {
+        Rounds(limit) => Some(Task::Rounds { limit }),
+        Threads(workers, turns) => Some(Task::Threads { workers, turns }),
+        Replay => Some(Task::Replay),
+        Check => Some(Task::Check),
+        Upgrade => Some(Task::Upgrade),
+        Refused => None,
+    }
 }
+
+const LINES: [(&[&str], Want); 81] = [
+    (&["labrun", "replay"], Replay),
+    (&["./labrun", "check"], Check),
+    (&["", "upgrade"], Upgrade),
+    (&[], Rounds(10_000)),
+    (&["labrun"], Rounds(10_000)),
+    (&["labrun", "--"], Rounds(10_000)),
+    (&["labrun", "rounds", "0"], Rounds(0)),
+    (&["labrun", "rounds", "7"], Rounds(7)),
+    (&["labrun", "rounds", "007"], Rounds(7)),
+    (&["", "rounds", "1000000000"], Rounds(1_000_000_000)),
+    (
+        &["labrun", "rounds", "00000000001000000000"],
+        Rounds(1_000_000_000),
+    ),
+    (&["labrun", "threads", "1", "0"], Threads(1, 0)),
+    (
+        &["labrun", "threads", "32", "1000000000"],
+        Threads(32, 1_000_000_000),
+    ),
+    (
+        &["labrun", "threads", "0000000000000000000032", "010"],
+        Threads(32, 10),
+    ),
+    (&["labrun", "rounds"], Refused),
+    (&["labrun", "rounds", ""], Refused),
+    (&["labrun", "rounds", "+7"], Rounds(7)),
+    (&["labrun", "rounds", "+007"], Rounds(7)),
+    (&["labrun", "rounds", "--", "7"], Rounds(7)),
+    (&["labrun", "rounds", "7", "--"], Rounds(7)),
+    (&["labrun", "threads", "--", "2", "7"], Threads(2, 7)),
+    (&["labrun", "threads", "2", "--", "7"], Threads(2, 7)),
+    (&["labrun", "threads", "2", "7", "--"], Threads(2, 7)),
+    (&["labrun", "threads", "+2", "7"], Threads(2, 7)),
+    (&["labrun", "replay", "--"], Replay),
+    (&["labrun", "check", "--"], Check),
+    (&["labrun", "rounds", "++7"], Refused),
+    (&["labrun", "rounds", "+"], Refused),
+    (&["labrun", "rounds", "+-7"], Refused),
+    (&["labrun", "rounds", "-"], Refused),
+    (&["labrun", "rounds", "--"], Refused),
+    (&["labrun", "rounds", "--", "--", "7"], Refused),
+    (&["labrun", "rounds", "--", "-7"], Refused),
+    (&["labrun", "rounds", "7", "--", "7"], Refused),
+    (&["labrun", "rounds", "--", "7", "--"], Refused),
+    (&["labrun", "threads", "2", "--"], Refused),
+    (&["labrun", "replay", "--", "x"], Refused),
+    (&["labrun", "replay", "--", "--"], Refused),
+    (&["labrun", "--", "rounds", "7"], Refused),
+    (&["labrun", "--", "--"], Refused),
+    (&["labrun", "rounds", "-x"], Refused),
+    (&["labrun", "rounds", "--rounds", "7"], Refused),
+    (&["labrun", "rounds", "-0"], Refused),
+    (&["labrun", "rounds", "7 "], Refused),
+    (&["labrun", "rounds", " 7"], Refused),
+    (&["labrun", "rounds", "1_0"], Refused),
+    (&["labrun", "rounds", "0x7"], Refused),
+    (&["labrun", "rounds", "7.0"], Refused),
+    (&["labrun", "rounds", "seven"], Refused),
+    (&["labrun", "rounds", "1000000001"], Refused),
+    (&["labrun", "rounds", "4294967296"], Refused),
+    (&["labrun", "rounds", "18446744073709551616"], Refused),
+    (&["labrun", "rounds", "99999999999999999999999999"], Refused),
+    (&["labrun", "Rounds", "7"], Refused),
+    (&["labrun", "round", "7"], Refused),
+    (&["labrun", "rounds", "7", "7"], Refused),
+    (&["labrun", "rounds=7"], Refused),
+    (&["labrun", "7"], Refused),
+    (&["labrun", "threads"], Refused),
+    (&["labrun", "threads", "2"], Refused),
+    (&["labrun", "threads", "0", "7"], Refused),
+    (&["labrun", "threads", "33", "7"], Refused),
+    (&["labrun", "threads", "2", "1000000001"], Refused),
+    (&["labrun", "threads", "2", "-7"], Refused),
+    (&["labrun", "threads", "2", "7", "7"], Refused),
+    (&["labrun", "thread", "2", "7"], Refused),
+    (&["labrun", ""], Refused),
+    (&["labrun", "repla"], Refused),
+    (&["labrun", "Replay"], Refused),
+    (&["labrun", "replay", "x"], Refused),
+    (&["labrun", "--", "replay"], Refused),
+    (&["labrun", "check", "upgrade"], Refused),
+    (&["labrun", "--hel"], Refused),
+    (&["labrun", "--help=x"], Refused),
+    (&["labrun", "rounds", "x", "--help"], Refused),
+    (&["labrun", "rounds", "--", "--help"], Refused),
+    (&["labrun", "x", "--help"], Refused),
+    (&["labrun", "replay", "--version"], Refused),
+    (&["labrun", "-V"], Refused),
+    (&["labrun", "--version"], Refused),
+    (&["labrun", "help"], Refused),
+];
 
 #[test]
 fn words(rt: HostRuntime) {
-    let lines = [
-        (["labrun", "replay"].as_slice(), Some(Task::Replay)),
-        (["./labrun", "check"].as_slice(), Some(Task::Check)),
-        (["", "upgrade"].as_slice(), Some(Task::Upgrade)),
-        ([].as_slice(), rounds(10_000)),
-        (["labrun"].as_slice(), rounds(10_000)),
-        (["labrun", "--"].as_slice(), rounds(10_000)),
-        (["labrun", "rounds", "0"].as_slice(), rounds(0)),
-        (["labrun", "rounds", "7"].as_slice(), rounds(7)),
-        (["labrun", "rounds", "007"].as_slice(), rounds(7)),
-        (
-            ["", "rounds", "1000000000"].as_slice(),
-            rounds(1_000_000_000),
-        ),
-        (
-            ["labrun", "rounds", "00000000001000000000"].as_slice(),
-            rounds(1_000_000_000),
-        ),
-        (["labrun", "threads", "1", "0"].as_slice(), threads(1, 0)),
-        (
-            ["labrun", "threads", "32", "1000000000"].as_slice(),
-            threads(32, 1_000_000_000),
-        ),
-        (
-            ["labrun", "threads", "0000000000000000000032", "010"].as_slice(),
-            threads(32, 10),
-        ),
-        (["labrun", "rounds"].as_slice(), None),
-        (["labrun", "rounds", ""].as_slice(), None),
-        (["labrun", "rounds", "+7"].as_slice(), rounds(7)),
-        (["labrun", "rounds", "+007"].as_slice(), rounds(7)),
-        (["labrun", "rounds", "--", "7"].as_slice(), rounds(7)),
-        (["labrun", "rounds", "7", "--"].as_slice(), rounds(7)),
-        (
-            ["labrun", "threads", "--", "2", "7"].as_slice(),
-            threads(2, 7),
-        ),
-        (
-            ["labrun", "threads", "2", "--", "7"].as_slice(),
-            threads(2, 7),
-        ),
-        (
-            ["labrun", "threads", "2", "7", "--"].as_slice(),
-            threads(2, 7),
-        ),
-        (["labrun", "threads", "+2", "7"].as_slice(), threads(2, 7)),
-        (["labrun", "replay", "--"].as_slice(), Some(Task::Replay)),
-        (["labrun", "check", "--"].as_slice(), Some(Task::Check)),
-        (["labrun", "rounds", "++7"].as_slice(), None),
-        (["labrun", "rounds", "+"].as_slice(), None),
-        (["labrun", "rounds", "+-7"].as_slice(), None),
-        (["labrun", "rounds", "-"].as_slice(), None),
-        (["labrun", "rounds", "--"].as_slice(), None),
-        (["labrun", "rounds", "--", "--", "7"].as_slice(), None),
-        (["labrun", "rounds", "--", "-7"].as_slice(), None),
-        (["labrun", "rounds", "7", "--", "7"].as_slice(), None),
-        (["labrun", "rounds", "--", "7", "--"].as_slice(), None),
-        (["labrun", "threads", "2", "--"].as_slice(), None),
-        (["labrun", "replay", "--", "x"].as_slice(), None),
-        (["labrun", "replay", "--", "--"].as_slice(), None),
-        (["labrun", "--", "rounds", "7"].as_slice(), None),
-        (["labrun", "--", "--"].as_slice(), None),
-        (["labrun", "rounds", "-x"].as_slice(), None),
-        (["labrun", "rounds", "--rounds", "7"].as_slice(), None),
-        (["labrun", "rounds", "-0"].as_slice(), None),
-        (["labrun", "rounds", "7 "].as_slice(), None),
-        (["labrun", "rounds", " 7"].as_slice(), None),
-        (["labrun", "rounds", "1_0"].as_slice(), None),
-        (["labrun", "rounds", "0x7"].as_slice(), None),
-        (["labrun", "rounds", "7.0"].as_slice(), None),
-        (["labrun", "rounds", "seven"].as_slice(), None),
-        (["labrun", "rounds", "1000000001"].as_slice(), None),
-        (["labrun", "rounds", "4294967296"].as_slice(), None),
-        (
-            ["labrun", "rounds", "18446744073709551616"].as_slice(),
-            None,
-        ),
-        (
-            ["labrun", "rounds", "99999999999999999999999999"].as_slice(),
-            None,
-        ),
-        (["labrun", "Rounds", "7"].as_slice(), None),
-        (["labrun", "round", "7"].as_slice(), None),
-        (["labrun", "rounds", "7", "7"].as_slice(), None),
-        (["labrun", "rounds=7"].as_slice(), None),
-        (["labrun", "7"].as_slice(), None),
-        (["labrun", "threads"].as_slice(), None),
-        (["labrun", "threads", "2"].as_slice(), None),
-        (["labrun", "threads", "0", "7"].as_slice(), None),
-        (["labrun", "threads", "33", "7"].as_slice(), None),
-        (["labrun", "threads", "2", "1000000001"].as_slice(), None),
-        (["labrun", "threads", "2", "-7"].as_slice(), None),
-        (["labrun", "threads", "2", "7", "7"].as_slice(), None),
-        (["labrun", "thread", "2", "7"].as_slice(), None),
-        (["labrun", ""].as_slice(), None),
-        (["labrun", "repla"].as_slice(), None),
-        (["labrun", "Replay"].as_slice(), None),
-        (["labrun", "replay", "x"].as_slice(), None),
-        (["labrun", "--", "replay"].as_slice(), None),
-        (["labrun", "check", "upgrade"].as_slice(), None),
-        (["labrun", "--hel"].as_slice(), None),
-        (["labrun", "--help=x"].as_slice(), None),
-        (["labrun", "rounds", "x", "--help"].as_slice(), None),
-        (["labrun", "rounds", "--", "--help"].as_slice(), None),
-        (["labrun", "x", "--help"].as_slice(), None),
-        (["labrun", "replay", "--version"].as_slice(), None),
-        (["labrun", "-V"].as_slice(), None),
-        (["labrun", "--version"].as_slice(), None),
-        (["labrun", "help"].as_slice(), None),
-    ];
-    for (i, (words, want)) in lines.into_iter().enumerate() {
+    for (i, (words, want)) in LINES.iter().enumerate() {
         let answer = read_words(rt.alloc(), words);
-        assert!(rt; is_told(&answer, want), "line {i}");
+        assert!(rt; is_told(&answer, task_of(*want)), "line {i}");
     }
 }
 
@@ -199,24 +197,20 @@ Options:
 ";
 
 /// Which lines ask for help, and for which.
+const ASK_FOR_HELP: [(&[&str], &str); 8] = [
+    (&["labrun", "-h"], HELP),
+    (&["labrun", "--help", "replay"], HELP),
+    (&["labrun", "--help", "--help"], HELP),
+    (&["labrun", "-h", "x"], HELP),
+    (&["labrun", "threads", "--help"], THREADS_HELP),
+    (&["labrun", "threads", "-h"], THREADS_HELP),
+    (&["labrun", "threads", "2", "-h", "7"], THREADS_HELP),
+    (&["labrun", "threads", "2", "7", "--help"], THREADS_HELP),
+];
+
 #[test]
 fn lines_that_ask_for_help(rt: HostRuntime) {
-    for (words, wanted) in [
-        (["labrun", "-h"].as_slice(), HELP),
-        (["labrun", "--help", "replay"].as_slice(), HELP),
-        (["labrun", "--help", "--help"].as_slice(), HELP),
-        (["labrun", "-h", "x"].as_slice(), HELP),
-        (["labrun", "threads", "--help"].as_slice(), THREADS_HELP),
-        (["labrun", "threads", "-h"].as_slice(), THREADS_HELP),
-        (
-            ["labrun", "threads", "2", "-h", "7"].as_slice(),
-            THREADS_HELP,
-        ),
-        (
-            ["labrun", "threads", "2", "7", "--help"].as_slice(),
-            THREADS_HELP,
-        ),
-    ] {
+    for (words, wanted) in ASK_FOR_HELP {
         let answer = read_words(rt.alloc(), words);
         assert!(rt; is_help(&answer, wanted));
     }

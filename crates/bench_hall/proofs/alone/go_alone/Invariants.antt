@@ -1,4 +1,4 @@
--- so many turns so far, and before each of them the job was on its way
+-- so many turns so far, each on its way and none of them idle
 use Rattle.desk_user.specs.Use.{Keeps}
 use Rattle.bench_hall.specs.Seats.{TurnsGoing}
 use Rattle.bench_hall.proofs.alone.go_alone.Given as goal

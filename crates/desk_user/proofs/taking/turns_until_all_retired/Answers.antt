@@ -1,4 +1,4 @@
-use Rattle.std.proofs.Common.{refl, subst, arith}
+use Rattle.std.proofs.Common.{refl, subst, arith, ◌∙◌}
 use Rattle.edge_rule.specs.DeskView.{DeskView}
 use Rattle.std.specs.Prelude.{true, false}
 use Rattle.desk_user.specs.Use.{Looked}
@@ -21,7 +21,7 @@ returns-then-saw_all_retired-clause-stops g c =
     (c.loop-number._number, (omega (arith, l)), m, c.loop-number.invariant.1, looked, λ no. cc)
 
 pub loop-number-init : goal.loop-number-init
-loop-number-init g c = (took_none c.args.desk.now, refl)
+loop-number-init g c = (took_none c.args.desk.now, refl, refl)
 
 pub loop-number-preserved : goal.loop-number-preserved
 loop-number-preserved g c =
@@ -33,6 +33,7 @@ loop-number-preserved g c =
       took_more n d e c.turn-turned.new.desk c.turn-turned.result
           (took_then n d m e c.loop-number.invariant.0 (none_taken m e c.saw_all_retired.ensures.took)) c.turn-turned.ensures,
       before_all_more n d m e c.turn-turned.new.desk c.turn-turned.result c.loop-number.invariant.1 looked c.turn-turned.ensures,
+      c.after.ensures.how ∙ c.loop-number.invariant.2,
     )
 
 pub returns-clause-took : goal.returns-clause-took
@@ -44,3 +45,9 @@ returns-clause-took g c =
 pub returns-clause-stops : goal.returns-clause-stops
 returns-clause-stops g c =
     (c.loop-number._number, (omega arith), c.loop-number.desk, c.loop-number.invariant.1, c.saw_all_retired-2.ensures.looked, λ no. omega arith)
+
+pub returns-then-saw_all_retired-clause-how : goal.returns-then-saw_all_retired-clause-how
+returns-then-saw_all_retired-clause-how g c = c.leave.ensures.how ∙ c.loop-number.invariant.2
+
+pub returns-clause-how : goal.returns-clause-how
+returns-clause-how g c = c.leave-2.ensures.how ∙ c.loop-number.invariant.2

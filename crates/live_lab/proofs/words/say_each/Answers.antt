@@ -5,13 +5,13 @@ use Rattle.legal_steps.specs.declared.event.Event.{Event}
 use Rattle.legal_steps.specs.State.{Has}
 use Rattle.legal_steps.specs.Legal.{IsJob, May}
 use Rattle.interleaving.specs.World.{WorldView, LeadsTo}
-use Rattle.settling.specs.Left.{DueView, AreMarked, IsBy, KeepsMarks}
+use Rattle.settling.specs.Left.{DueView, AreMarked, IsBySelf, KeepsMarks}
 use Rattle.settling.proofs.Waking.{marked_on}
 use Rattle.reasons.specs.Deeds.{is_deed}
 use Rattle.live_lab.specs.Sets.{events_below}
 use Rattle.live_lab.specs.Doing.{said}
 use Rattle.live_lab.proofs.Bits.{holds_has}
-use Rattle.live_lab.proofs.Sayings.{said_by, still_may, one_said, one_deed, one_passed, no_deed}
+use Rattle.live_lab.proofs.Sayings.{said_self, still_may, one_said, one_deed, one_passed, no_deed}
 use Rattle.live_lab.proofs.words.say_each.Goals as goal
 use Rattle.live_lab.proofs.words.say_each.Goals.{then-has, else-has}
 
@@ -29,9 +29,9 @@ loop-job-preserved g c =
       | then-has b ↦
           let new = b.step.new.world in let has = sym c.has.ensures ∙ b.if-has.true in
           let one : LeadsTo l.world (said word n ∷ []) new = subst (λ (x : Event). LeadsTo l.world (x ∷ []) new) b.said.ensures b.step.ensures in
-          let keeps = b.wake_near.ensures.keeps in
-          let marked : AreMarked new.plan new.state b.wake_near.new.due = marked_on l.world new (said word n ∷ []) (IsBy n) l.due b.wake_near.new.due one (said_by word n, tt)
-          (subst (λ (p : LabPlan). KeepsMarks p (IsBy n) l.due b.wake_near.new.due) b.plan-then-has.ensures.plan keeps) l.invariant.2 in
+          let keeps = b.wake_self.ensures.keeps in
+          let marked : AreMarked new.plan new.state b.wake_self.new.due = marked_on l.world new (said word n ∷ []) (IsBySelf n) l.due b.wake_self.new.due one (said_self word n, tt)
+          (subst (λ (p : LabPlan). KeepsMarks p (IsBySelf n) l.due b.wake_self.new.due) b.plan-then-has.ensures.plan keeps) l.invariant.2 in
           let done : (LeadsTo old (events_below (said word) set (n + 1)) new)
           × ((k : ℕ) → n + 1 ≤ k → IsJob old.plan k → Has set k → May new.plan new.state (said word k))
           × (l.many + 1 ≡ count_by is_deed (events_below (said word) set (n + 1))) = (

@@ -5,7 +5,7 @@ use Rattle.instrument_log.specs.InstrumentLog.{LogView}
 use Rattle.legal_steps.specs.declared.event.Event.TheVariants.{Reach, Act}
 use Rattle.legal_steps.specs.State.{log}
 use Rattle.legal_steps.specs.Legal.{May, next_command, next_entry, entry_after}
-use Rattle.settling.specs.Left.{IsBy}
+use Rattle.settling.specs.Left.{IsBySelf}
 use Rattle.live_lab.specs.Labs.{LabView}
 use Rattle.live_lab.specs.Calls.{Commands}
 use Rattle.live_lab.proofs.InLab.{in_lab}
@@ -14,8 +14,8 @@ use Rattle.live_lab.proofs.lab.Lab.command_of.Goals as goal
 pub invariant_of-self : goal.invariant_of-self
 invariant_of-self c =
     let x = c.self.inside in let j = c.args.job in
-    in_lab x.world c.do_act.new.world x.clocks.items x.clocks.items (Reach j ∷ Act j ∷ []) (IsBy j) c.plan-3.result.now x.due c.wake_near.new.due
-    c.do_act.ensures (refl, (refl, tt)) c.wake_near.ensures.keeps c.plan-3.ensures.plan refl c.self.invariant
+    in_lab x.world c.do_act.new.world x.clocks.items x.clocks.items (Reach j ∷ Act j ∷ []) (IsBySelf j) c.plan-3.result.now x.due c.wake_self.new.due
+    c.do_act.ensures ((refl, tt), ((refl, tt), tt)) c.wake_self.ensures.keeps c.plan-3.ensures.plan refl c.self.invariant
 
 pub returns : goal.returns
 unfolding next_entry

@@ -4,19 +4,19 @@ use Rattle.legal_steps.specs.declared.phase.JobState.{JobState}
 use Rattle.legal_steps.specs.State.{IsDrinking, drinking}
 use Rattle.reasons.specs.Deeds.{is_deed}
 use Rattle.session_layer.specs.Turn.{Says}
-use Rattle.settling.specs.Left.{IsBy}
+use Rattle.settling.specs.Left.{IsBySelf}
 use Rattle.settling.proofs.Deeds.{deeds_both}
 use Rattle.live_lab.specs.Labs.{LabView}
 use Rattle.live_lab.specs.Ends.{rest_of_session, EndsHeld}
-use Rattle.live_lab.proofs.Lists.{session_by}
+use Rattle.live_lab.proofs.Lists.{session_self}
 use Rattle.live_lab.proofs.InLab.{in_lab, lab_on, both_on}
 use Rattle.live_lab.proofs.lab.Lab.end_of.Goals as goal
 
 pub come_to_rest-more-requires : goal.come_to_rest-more-requires
 come_to_rest-more-requires c =
     let x = c.self.inside in let j = c.args.job in let o = c.let_go-own.ensures.goes in let d = drinking x.world.state j in
-    (in_lab x.world c.let_go-own.new.world x.clocks.items x.clocks.items (rest_of_session d j o.left) (IsBy j) c.plan.result.now x.due c.wake_near.new.due
-    o.leads (session_by d j o.left) c.wake_near.ensures.keeps c.plan.ensures.plan refl c.self.invariant).1
+    (in_lab x.world c.let_go-own.new.world x.clocks.items x.clocks.items (rest_of_session d j o.left) (IsBySelf j) c.plan.result.now x.due c.wake_self.new.due
+    o.leads (session_self d j o.left) c.wake_self.ensures.keeps c.plan.ensures.plan refl c.self.invariant).1
 
 pub invariant_of-self : goal.invariant_of-self
 invariant_of-self c =

@@ -1,8 +1,8 @@
 use Rattle.std.proofs.Common.{[], refl}
 use Rattle.legal_steps.specs.declared.event.Event.TheVariants.{Retire}
 use Rattle.edge_word.specs.Moves.{on}
-use Rattle.settling.specs.Left.{IsBy}
-use Rattle.live_lab.proofs.Lists.{on_by}
+use Rattle.settling.specs.Left.{IsBySelf}
+use Rattle.live_lab.proofs.Lists.{self_on}
 use Rattle.live_lab.proofs.InLab.{in_lab, lab_on, both_on, not_done}
 use Rattle.live_lab.proofs.lab.Lab.retire_of.Goals as goal
 
@@ -10,8 +10,8 @@ pub invariant_of-self : goal.invariant_of-self
 invariant_of-self c =
     let x = c.self.inside in let j = c.args.job in let r = c.come_to_rest-done.ensures.rests in let mid = c.come_to_rest-done.new.world in
     let did = c.attempt-did.result in
-    in_lab mid c.attempt-did.new.world x.clocks.items x.clocks.items (on did (Retire j) []) (IsBy j) c.plan.result.now c.come_to_rest-done.new.due
-    c.wake_near.new.due c.attempt-did.ensures.leads (on_by j did (Retire j) refl) c.wake_near.ensures.keeps c.plan.ensures.plan refl
+    in_lab mid c.attempt-did.new.world x.clocks.items x.clocks.items (on did (Retire j) []) (IsBySelf j) c.plan.result.now c.come_to_rest-done.new.due
+    c.wake_self.new.due c.attempt-did.ensures.leads (self_on j did (Retire j) (refl, tt)) c.wake_self.ensures.keeps c.plan.ensures.plan refl
     (lab_on x.world x.clocks.items x.clocks.items mid (r.events, r.rests.leads) refl c.self.invariant.0, c.come_to_rest-done.ensures.marked)
 
 pub invariant_of-self-else-did : goal.invariant_of-self-else-did

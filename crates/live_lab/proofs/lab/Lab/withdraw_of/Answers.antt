@@ -1,11 +1,11 @@
 use Rattle.std.proofs.Common.{[], ◌∷◌, refl}
 use Rattle.legal_steps.specs.declared.event.Event.TheVariants.{Withdraw}
-use Rattle.settling.specs.Left.{IsBy}
+use Rattle.settling.specs.Left.{IsBySelf}
 use Rattle.live_lab.proofs.InLab.{in_lab}
 use Rattle.live_lab.proofs.lab.Lab.withdraw_of.Goals as goal
 
 pub invariant_of-self : goal.invariant_of-self
 invariant_of-self c =
     let x = c.self.inside in let j = c.args.job in
-    in_lab x.world c.step.new.world x.clocks.items x.clocks.items (Withdraw j ∷ []) (IsBy j) c.plan.result.now x.due c.wake_near.new.due
-    c.step.ensures (refl, tt) c.wake_near.ensures.keeps c.plan.ensures.plan refl c.self.invariant
+    in_lab x.world c.step.new.world x.clocks.items x.clocks.items (Withdraw j ∷ []) (IsBySelf j) c.plan.result.now x.due c.wake_self.new.due
+    c.step.ensures ((refl, tt), tt) c.wake_self.ensures.keeps c.plan.ensures.plan refl c.self.invariant
