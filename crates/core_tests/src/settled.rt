@@ -1,6 +1,7 @@
 //! What is left to do of itself is done, in a world of two jobs: worked out by hand.
 use crate::benches::{A, AB, B, TWO, plan_of};
 use interleaving::{Dining, Drinking, EdgeState, End, Event, JobState, World};
+use lab_plan::{EdgeNo, JobNo};
 use settling::{Due, rest};
 use std::alloc::Allocator;
 use std::process::Abort;
@@ -33,9 +34,9 @@ fn let_rest<T: Allocator + Copy>(
     assert!(rt; world.plan().jobs() >= 2 && world.plan().edges() >= 1);
     Rested {
         deeds,
-        a: world.job(A),
-        b: world.job(B),
-        edge: world.edge(AB),
+        a: world.job(JobNo(A)),
+        b: world.job(JobNo(B)),
+        edge: world.edge(EdgeNo(AB)),
     }
 }
 
@@ -93,8 +94,9 @@ fn all_rests<T: Allocator + Copy>(rt: &impl Abort, alloc: T) -> [Rested; 2] {
     let Ok(mut world) = World::opening(alloc, &plan) else {
         panic!(rt; "no memory")
     };
-    let begun = [Event::Thirst(A), Event::Thirst(B)];
-    let ended = [Event::Reach(A), Event::Act(A), Event::Quit(A)];
+    let (a, b) = (JobNo(A), JobNo(B));
+    let begun = [Event::Thirst(a), Event::Thirst(b)];
+    let ended = [Event::Reach(a), Event::Act(a), Event::Quit(a)];
     let first = let_rest(rt, alloc, &mut world, &begun);
     let second = let_rest(rt, alloc, &mut world, &ended);
     [first, second]

@@ -140,7 +140,7 @@ fn opens<T: Allocator + Copy>(heap: T, plan: &Plan<T>) -> bool {
 /// The same with a world that owns the plan.
 fn opens_its_own<T: Allocator + Copy>(heap: T, plan: Plan<T>) -> bool {
     match World::of_plan(heap, plan) {
-        Ok(world) => world.enabled(Event::Thirst(A)),
+        Ok(world) => world.enabled(Event::Thirst(JobNo(A))),
         Err(NoMemory) => false,
     }
 }
