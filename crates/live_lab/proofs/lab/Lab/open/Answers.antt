@@ -3,7 +3,7 @@ use Rattle.std.proofs.lemmas.List.{length-replicate}
 use Rattle.lab_plan.specs.LabPlan.{LabPlan}
 use Rattle.interleaving.specs.World.{WorldView, LeadsTo}
 use Rattle.settling.specs.Left.{AreMarked}
-use Rattle.live_lab.proofs.Nothing.{leads_none}
+use Rattle.settling.proofs.Nothing.{leads_none}
 use Rattle.live_lab.specs.declared.clock.Clock.{Clock}
 use Rattle.live_lab.specs.Clocks.{no_clock}
 use Rattle.live_lab.specs.Labs.{opened}
