@@ -1,5 +1,5 @@
 //! The events of a world that are kept as they happen.
-ghost use Rattle.std.specs.Prelude.{◌≡◌, [], true, length, IfOk};
+ghost use Rattle.std.specs.Prelude.{◌≡◌, ◌-◌, [], true, false, length, IfOk};
 ghost use Rattle.interleaving.specs.Kept.{no_kept, next_kept};
 
 use legal_steps::Event;
@@ -15,7 +15,7 @@ pub(crate) struct Tape<A: Allocator = Global> {
 }
 
 impl<A: Allocator> Model for Tape<A> {
-    ghost use Rattle.std.specs.Prelude.{◌≤◌};
+    ghost use Rattle.std.specs.Prelude.{◌≤◌, vec_capacity};
     ghost use Rattle.interleaving.specs.Kept.{Kept};
 
     ghost Value = { Kept };

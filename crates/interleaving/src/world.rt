@@ -2,7 +2,8 @@
 ghost use Rattle.std.specs.Prelude.{◌≡◌, ℕ, ◌-◌, ◌<◌, ◌↔◌, [], true, IsTrue, length, IfOk, IfErr};
 ghost use Rattle.cycles.specs.Cycles.{IsAmong, AreBelow};
 ghost use Rattle.lab_plan.specs.LabPlan.{edges};
-ghost use Rattle.legal_steps.specs.State.{IsOwn, edge as edge_at, seat as seat_at, phase as phase_at, fork_mark as fork_mark_at, bottle_marks as bottle_marks_at};
+ghost use Rattle.legal_steps.specs.State.{IsOwn, edge as edge_at, seat as seat_at, phase as phase_at};
+ghost use Rattle.legal_steps.specs.State.{fork_mark as fork_mark_at, bottle_marks as bottle_marks_at};
 ghost use Rattle.legal_steps.specs.Legal.{IsJob, May};
 ghost use Rattle.legal_steps.specs.Fitting.{IsPhaseOf};
 ghost use Rattle.interleaving.specs.Pairs.{IsPrecedenceByEdge};
