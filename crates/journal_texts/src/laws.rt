@@ -1,0 +1,7 @@
+//! What holds of journals' texts. The law is the contract of a function that does nothing.
+ghost use Rattle.journal_texts.specs.Reading.{FilesAreRead};
+
+/// A journal that was written is read as what was written.
+pub fn files_are_read()
+    ensures { FilesAreRead }
+{}
