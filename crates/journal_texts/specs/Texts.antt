@@ -16,9 +16,12 @@ lines_text plan events = step_lines plan (map step_of events)
 unfoldable pub sum_line : List ℕ → List ℕ
 sum_line text = codes "#sum " ++ encode_lower (take 8 (sha256 text))
 
+abbrev pub end_text : LabPlan → List Event → List ℕ
+end_text plan events = sum_line (lines_text plan events) ++ codes "\n"
+
 -- a line `#steps`, the events, and their sum
 abbrev pub batch_text : LabPlan → List Event → List ℕ
-batch_text plan events = codes "#steps\n" ++ lines_text plan events ++ sum_line (lines_text plan events) ++ codes "\n"
+batch_text plan events = codes "#steps\n" ++ lines_text plan events ++ end_text plan events
 
 -- what is told of the events that are kept: of none, nothing
 abbrev pub journal_text : LabPlan → List Event → List ℕ
@@ -33,8 +36,7 @@ pub record Piece : Type 0 where
   pub ended : Bool
 
 abbrev pub piece_text : LabPlan → Piece → List ℕ
-piece_text plan piece =
-    if piece.ended then batch_text plan piece.events else codes "#steps\n" ++ lines_text plan piece.events
+piece_text plan piece = codes "#steps\n" ++ lines_text plan piece.events ++ (if piece.ended then end_text plan piece.events else [])
 
 abbrev pub events_of : List Piece → List Event
 events_of pieces = flat_map (λ (piece : Piece). piece.events) pieces

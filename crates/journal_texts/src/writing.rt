@@ -47,7 +47,7 @@ fn lines_of<A: Allocator, B: Allocator>(
 /// Adds the line with the sum of a text.
 #[tactic(auto, unfolding(crate::specs::Texts::sum_line))]
 fn add_sum<A: Allocator>(out: &mut Vec<u8, A>, text: &[u8]) -> Result<(), AllocError>
-    ensures { OnOk result (out.new.items ≡ out.old.items ++ sum_line text.now ++ codes "\n") }
+    ensures { OnOk result (out.new.items ≡ out.old.items ++ (sum_line text.now ++ codes "\n")) }
 {
     let digits = digits_of(Sha256::digest(text));
     out.extend_from_slice(b"#sum ")?;

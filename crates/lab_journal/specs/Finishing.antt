@@ -1,5 +1,5 @@
 -- What comes of a journal: the world after its steps, and the lab after the commands in hand.
-use Rattle.std.specs.Prelude.{◌≡◌, ◌≢◌, ℕ, true, List, [], ◌++◌, length, replicate, None}
+use Rattle.std.specs.Prelude.{◌≡◌, ◌≢◌, ℕ, ◌≤◌, true, List, ◌++◌, length, replicate, None}
 use Rattle.std.specs.List.{All}
 use Rattle.legal_steps.specs.declared.event.Event.{Event}
 use Rattle.legal_steps.specs.declared.event.StepLine.{StepLine}
@@ -7,7 +7,7 @@ use Rattle.legal_steps.specs.declared.phase.Drinking.TheVariants.{Reaching}
 use Rattle.legal_steps.specs.State.{drinking}
 use Rattle.legal_steps.specs.Legal.{IsJob}
 use Rattle.legal_steps.specs.Opening.{the_opening}
-use Rattle.interleaving.specs.World.{WorldView, LeadsTo, GoesOnBy}
+use Rattle.interleaving.specs.World.{WorldView, GoesOnBy}
 use Rattle.script_reader.specs.Steps.{StepsMean}
 use Rattle.explaining.specs.Explanations.{events_from_opening}
 use Rattle.live_lab.specs.Clocks.{no_clock}
@@ -15,10 +15,11 @@ use Rattle.live_lab.specs.Labs.{LabView}
 use Rattle.journal_texts.specs.Sums.{wrong_sum}
 use Rattle.lab_journal.specs.Resumed.{IsAct}
 
--- commands in hand were done
-pub record Finishes (old new : WorldView) : Type 0 where
+-- at most n commands in hand were done
+pub record Finishes (n : ℕ) (old new : WorldView) : Type 0 where
   pub acts : List Event
   pub are_acts : All IsAct acts
+  pub few : length acts ≤ n
   pub same_plan : new.plan ≡ old.plan
   pub goes_on : GoesOnBy old acts new
 
