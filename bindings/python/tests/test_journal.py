@@ -231,16 +231,18 @@ class Files(Journals):
 
     def test_the_child_of_a_fork(self) -> None:
         """It keeps nobody from the file."""
-        bench, (reading, writing) = self.opened(), os.pipe()
+        bench, (reading, writing), (there, here) = self.opened(), os.pipe(), os.pipe()
         number = os.fork()
         if not number:
+            os.write(here, b".")
             os.close(writing)
             os.read(reading, 1)
             os._exit(0)
-        os.close(reading)
+        os.read(there, 1)
         self.finished(bench)
         self.assertTrue(self.opened().close().finished)
-        os.close(writing)
+        for file in (reading, writing, there, here):
+            os.close(file)
         os.waitpid(number, 0)
 
     def test_notes(self) -> None:
