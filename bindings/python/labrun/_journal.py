@@ -15,7 +15,7 @@ import weakref
 from typing import Any, Callable, Optional, Union
 
 from ._faults import CAUSES, JournalError
-from ._library import NO_ROOM, REFUSED, Handle, Library, Told
+from ._library import NO_MEMORY, NO_ROOM, REFUSED, Handle, Library, Told
 from ._report import told_fault
 
 Path = Union[str, "os.PathLike[str]"]
@@ -55,8 +55,10 @@ class Journal:
         self._given = 0
         self.ticket: Ticket = (0, 0)
         self._is_torn = True  # what is behind may be anything
-        self._room = ctypes.create_string_buffer(1 << 16)
+        self._is_quick: Optional[bool] = None  # whether a sync takes microseconds, once one was timed
         self._written = ctypes.c_size_t()
+        self._written_at = ctypes.byref(self._written)
+        self._room_of(1 << 16)
         self._stamped = self._second = 0
         self._date = b""
 
@@ -116,19 +118,24 @@ class Journal:
         if status:
             raise told_fault(status, told)
 
+    def _room_of(self, size: int) -> None:
+        self._room, self._size = ctypes.create_string_buffer(size), ctypes.c_size_t(size)
+        self._room_at = ctypes.byref(self._room)
+
     # with the bench's mutex held
 
     def _take(self) -> None:
         """What the last call did is added."""
         while True:
-            status = self._takes(self._at, self._room, ctypes.c_size_t(len(self._room)), ctypes.byref(self._written))
+            status = self._takes(self._at, self._room_at, self._size, self._written_at)
             if status != NO_ROOM:
                 break
-            self._room = ctypes.create_string_buffer(2 * self._written.value)
+            self._room_of(2 * self._written.value)
         if status:
-            raise MemoryError() if status == 5 else JournalError(self.path, f"lab_journal: status {status}")
-        if self._written.value:
-            self._add(self._stamp() + ctypes.string_at(self._room, self._written.value))
+            raise MemoryError() if status == NO_MEMORY else JournalError(self.path, f"lab_journal: status {status}")
+        length = self._written.value
+        if length:
+            self._add(self._stamp() + ctypes.string_at(self._room_at, length))
 
     def note(self, text: str) -> None:
         """Adds a comment of one line."""
@@ -176,7 +183,8 @@ class Journal:
 
     def commit(self, ticket: Ticket, goes_back: Callable[[], None]) -> None:
         """Returns once what the ticket is of is on the disk. JournalError: it will never be, and the bench has gone back."""
-        if self._is_kept(ticket):
+        stands = self._stands
+        if stands[0] == ticket[0] and stands[1] >= ticket[1]:
             return
         with self._disk:
             if self._is_kept(ticket):
@@ -206,7 +214,7 @@ class Journal:
         """Writes all that was added by now. (An interrupt leaves it to the next one.)"""
         failures, length = self._stands
         added = self._added[:]
-        text = memoryview(b"".join(text for end, text in added if end > length))
+        text = b"".join([text for end, text in added if end > length])
         if self._is_torn:
             os.ftruncate(self._file, length)
         self._is_torn = True
@@ -215,15 +223,26 @@ class Journal:
                 raise OSError(errno.EFBIG, "it would be longer than 16777216 bytes")
             at = 0
             while at < len(text):
-                at += os.pwrite(self._file, text[at:], length + at)
+                at += _pwrite(self._file, text[at:] if at else text, length + at)
             if self._syncs:
-                os.fdatasync(self._file)
+                self._sync()
         except OSError:
             _try(os.ftruncate, self._file, length)
             raise
         self._stands = failures, length + len(text)
         self._is_torn = False
         del self._added[: len(added)]
+
+    def _sync(self) -> None:
+        """On a disk it takes long, and others go on meanwhile. In memory it takes less than to get the interpreter's lock back."""
+        if self._is_quick:
+            if _system_fdatasync(self._file) < 0:
+                raise OSError(errno.EIO, "the file can't be synced")
+        else:
+            begun = time.perf_counter()
+            os.fdatasync(self._file)
+            if self._is_quick is None:
+                self._is_quick = time.perf_counter() - begun < 30e-6
 
 
 class Kept:
@@ -249,6 +268,19 @@ class Kept:
             return status
 
         return kept
+
+
+# Calls of the system that don't let go of the interpreter's lock: a write goes to the system's memory, which takes a microsecond.
+_system = ctypes.PyDLL(None)
+_system_pwrite: Callable[..., int] = _system["pwrite"]
+_system_fdatasync: Callable[..., int] = _system["fdatasync"]
+setattr(_system_pwrite, "restype", ctypes.c_ssize_t)
+
+
+def _pwrite(file: int, text: bytes, place: int) -> int:
+    """(Numbers go as 32 bits: a journal has fewer bytes. What fails is tried again by the way that says why.)"""
+    wrote = _system_pwrite(file, text, len(text), place)
+    return wrote if wrote >= 0 else os.pwrite(file, text, place)
 
 
 def _sync_folder(path: str) -> None:

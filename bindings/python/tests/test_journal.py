@@ -273,7 +273,7 @@ class Files(Journals):
         with self.assertRaises(ValueError):
             self.opened(sync="full")
         for sync, least in (("data", 6), ("none", 0)):
-            with mock.patch.object(os, "fdatasync", wraps=os.fdatasync) as synced:
+            with mock.patch.object(_journal.Journal, "_sync") as synced:
                 self.finished(self.opened(sync=sync))
             self.assertEqual((synced.call_count >= least, synced.call_count > 0), (True, least > 0))
             os.unlink(self.path)
@@ -283,11 +283,11 @@ class Files(Journals):
         script = "lab 1\n" + "".join(f"job j-{at}\nsession\ni-{at} read\nend\n" for at in range(8))
         bench, syncs, gate = self.opened(script), [0], threading.Event()
 
-        def slow(file: int) -> None:
+        def slow(journal: object) -> None:
             syncs[0] += 1
             gate.wait(LIMIT)
 
-        with mock.patch.object(os, "fdatasync", slow):
+        with mock.patch.object(_journal.Journal, "_sync", slow):
             threads = [in_thread(self.asked(bench, f"j-{at}").acquire) for at in range(8)]
             until(lambda: syncs[0] == 1 and all(job.state.holds for job in bench.jobs))
             gate.set()
@@ -359,23 +359,21 @@ class Broken(Journals):
 class Failing(Journals):
     """Writes that fail."""
 
-    def failing(self, number: int, name: str = "pwrite") -> Any:
-        """The call of this number, from 0, fails, and all behind it."""
-        real, made = getattr(os, name), [0]
+    def failing(self, name: str = "_pwrite") -> Any:
+        """Writes, or syncs, fail."""
+        real, made = _journal._pwrite, [0]
 
         def fails(*given: Any) -> Any:
             made[0] += 1
-            if made[0] > number:
-                if name == "pwrite" and len(given[1]) > 3 and made[0] == number + 1:
-                    return real(given[0], given[1][:3], given[2])  # some of it is written
-                raise OSError(28, "No space left on device")
-            return real(*given)
+            if name == "_pwrite" and made[0] % 2:
+                return real(given[0], given[1][:3], given[2])  # some of it is written
+            raise OSError(28, "No space left on device")
 
-        return mock.patch.object(os, name, fails)
+        return mock.patch.object(_journal if name == "_pwrite" else _journal.Journal, name, fails)
 
     def test_each_place(self) -> None:
         """The bench is as the file has it, and the same call again does what it should."""
-        for name in ("pwrite", "fdatasync"):
+        for name in ("_pwrite", "_sync"):
             for number in range(5):
                 with self.subTest((name, number)):
                     bench = self.opened(BOTH)
@@ -384,7 +382,7 @@ class Failing(Journals):
                     for call in calls[:number]:
                         call()
                     before, state, done, states = self.text(), session.state, session.done, self.states(bench)
-                    with self.failing(0, name):
+                    with self.failing(name):
                         for _ in range(3):
                             with self.assertRaises(labrun.JournalError) as caught:
                                 calls[number]()
@@ -404,7 +402,7 @@ class Failing(Journals):
         session = self.asked(bench, "a")
         session.acquire()
         session.release()
-        with self.failing(0), self.assertRaises(labrun.JournalError):
+        with self.failing(), self.assertRaises(labrun.JournalError):
             self.finished(bench)
         self.assertTrue(self.finished(bench).finished)
 
@@ -422,7 +420,7 @@ class Failing(Journals):
 
         thread = in_thread(wait)
         until(lambda: bench.jobs["b"].state.waits)
-        with self.failing(0), self.assertRaises(labrun.JournalError):
+        with self.failing(), self.assertRaises(labrun.JournalError):
             first.release()
         back(thread)
         self.assertEqual(len(faults), 1)
@@ -433,7 +431,7 @@ class Failing(Journals):
         self.assertTrue(self.finished(bench).finished)
 
     def test_open(self) -> None:
-        with self.failing(0), self.assertRaises(labrun.JournalError) as caught:
+        with self.failing(), self.assertRaises(labrun.JournalError) as caught:
             self.opened()
         self.assertEqual(str(caught.exception), f"{self.path}: a write failed (No space left on device)")
         self.assertTrue(self.finished(self.opened()).finished)
@@ -442,9 +440,9 @@ class Failing(Journals):
         """Threads that try again until there is room."""
         script = load_script(5, 6, 4, 1)
         bench, fails = self.opened(script), [0]
-        real = os.pwrite
+        real = _journal._pwrite
 
-        def sometimes(file: int, text: Any, place: int) -> int:
+        def sometimes(file: int, text: bytes, place: int) -> int:
             fails[0] += 1
             if fails[0] % 5 == 0:
                 raise OSError(28, "No space left on device")
@@ -466,7 +464,7 @@ class Failing(Journals):
                 counting.went(session.instruments)
                 tried(session.release)
 
-        with mock.patch.object(os, "pwrite", sometimes):
+        with mock.patch.object(_journal, "_pwrite", sometimes):
             bench.run(station, timeout=LIMIT)
         self.assertEqual((counting.clashes, counting.done), (0, 30))
         report = bench.close()
@@ -504,13 +502,13 @@ class Failing(Journals):
         """What an interrupt keeps from being written, the next call writes."""
         bench = self.opened()
         session = self.asked(bench, "a")
-        real = os.pwrite
+        real = _journal._pwrite
 
-        def interrupted(file: int, text: Any, place: int) -> int:
+        def interrupted(file: int, text: bytes, place: int) -> int:
             real(file, text[:9], place)
             raise KeyboardInterrupt
 
-        with mock.patch.object(os, "pwrite", interrupted), self.assertRaises(KeyboardInterrupt):
+        with mock.patch.object(_journal, "_pwrite", interrupted), self.assertRaises(KeyboardInterrupt):
             session.acquire()
         self.assertTrue(session.held)
         session.release()
