@@ -212,7 +212,8 @@ class journal {
             if (status) fail(status, told);
             add(head);
         }
-        if (!write(added_) || (syncs_ && !is_there && !sync_folder())) throw journal_error(path_, "a write failed: " + std::string(std::strerror(errno)));
+        if (!write(added_) || (syncs_ && !is_there && !sync_folder()))
+            throw journal_error(path_, "a write failed: " + std::string(std::strerror(errno)));
         stands_.length += added_.size();
         added_.clear();
         return is_there;
@@ -320,7 +321,7 @@ class journal {
         lab_told told{};
         const std::uint32_t status = lab_bench_resume(bytes(text), text.size(), handle, &told);
         if (status == LAB_REFUSED)
-            throw journal_error(path_, "line " + std::to_string(told.line) + (told.cause ? ": S" + std::to_string(told.cause) : ": step is not legal"), told.line);
+            throw journal_error(path_, refused(told.line, told.cause).what(), told.line);
         if (status) fail(status, told);
         return told.written;
     }

@@ -140,7 +140,8 @@ def main():
                             os.unlink(os.path.join(folder, file))
                     best[name] = max(best[name], threads * sessions / timed(*make(), threads))
         times = [f"{best['without'] / best[name]:.2f}" for name in ("memory none", "memory data")]
-        print(f"| {shape} | {threads} | " + " | ".join(f"{best[name]:.0f}" for name in names) + f" | {' | '.join(times)} | {best['disk'] / best['SQLite']:.2f} |")
+        shown = [shape, str(threads), *(f"{best[name]:.0f}" for name in names), *times, f"{best['disk'] / best['SQLite']:.2f}"]
+        print("| " + " | ".join(shown) + " |")
     if given.back:
         with tempfile.TemporaryDirectory(dir="/dev/shm") as memory:
             way_back(memory)
