@@ -9,7 +9,6 @@ import ctypes
 import errno
 import fcntl
 import os
-import threading
 import time
 import weakref
 from typing import Any, Callable, Optional, Union
@@ -32,14 +31,14 @@ _STEPS = ("lab_settle", "lab_command", "lab_end", "lab_withdraw", "lab_retire")
 class Journal:
     """`ticket` is of all that was added. `fault` is a write that failed, until the bench has gone back to what the file has."""
 
-    def __init__(self, path: Path, script: bytes, sync: str) -> None:
+    def __init__(self, path: Path, script: bytes, sync: str, disk: Any) -> None:
         if sync not in ("data", "none"):
             raise ValueError('sync is "data" or "none"')
         self.path = os.fspath(path)
         self.fault: Optional[OSError] = None
         self._script = script
         self._syncs = sync == "data"
-        self._disk = threading.Lock()
+        self._disk = disk  # the lock of who writes
         self._file = os.open(path, os.O_RDWR | os.O_CREAT | os.O_CLOEXEC, 0o666)
         self.close = weakref.finalize(self, os.close, self._file)
         try:

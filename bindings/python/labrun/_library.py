@@ -23,7 +23,7 @@ class Told(ctypes.Structure):
 class Handle(ctypes.Structure):
     """`struct lab_bench`."""
 
-    _fields_ = [("at", ctypes.c_void_p), ("live", ctypes.c_uint32)]
+    _fields_ = [("at", ctypes.c_void_p), ("live", ctypes.c_uint64)]
 
 
 class Size(ctypes.Structure):
@@ -159,7 +159,7 @@ class Library:
             call: Any = getattr(library, name)
         except AttributeError:
             raise OSError(f"{self.path} has no {name}: it is of another version of labrun") from None
-        call.argtypes, call.restype = arguments, None if name == "lab_bench_free" else _WORD
+        call.argtypes, call.restype = arguments, _WORD
         bound: Callable[..., int] = call
         self._calls[name] = bound
         return bound

@@ -488,6 +488,36 @@ class Failing(Journals):
         session.release()
         self.assertTrue(self.finished(bench).finished)
 
+    def test_full_disk(self) -> None:
+        """A file system of a few blocks, if this user may mount one."""
+        folder = os.path.dirname(self.path)
+        if subprocess.run(["mount", "-t", "tmpfs", "-o", "size=16k", "none", folder], capture_output=True).returncode:
+            self.skipTest("nothing may be mounted here")
+        self.addCleanup(subprocess.run, ["umount", "-l", folder])
+        script, filler = "lab 1\njob a\n" + "session\nscale add 1\nend\n" * 300, os.path.join(folder, "filler")
+        with open(filler, "wb") as file:
+            file.write(b"." * 4096)
+        bench, done = self.opened(script), 0
+        with self.assertRaises(labrun.JournalError) as caught:
+            for session in bench.jobs["a"].sessions():
+                with session:
+                    session.note("so that it is full before its sessions are over")
+                done += 1
+        self.assertIn("No space left on device", str(caught.exception))
+        self.assertGreater(done, 2)
+        before, state = self.text(), bench.jobs["a"].state
+        self.assertEqual((state.done, state.session - state.holds), (done, done))
+        self.dropped(bench)
+        # another process comes as far
+        again = self.opened(script)
+        self.assertEqual((self.text()[: len(before)], again.jobs["a"].state), (before, state))
+        os.unlink(filler)
+        session = self.asked(again, "a")
+        session.acquire()
+        session.release()
+        self.assertEqual(again.jobs["a"].state.done, done + 1)
+        again.close()
+
     def test_too_long(self) -> None:
         bench = self.opened()
         session = self.asked(bench, "a")

@@ -12,7 +12,7 @@ pub struct Told {
 #[repr(C)]
 pub struct Handle {
     pub at: *mut c_void,
-    pub live: u32,
+    pub live: u64,
 }
 
 #[repr(C)]
@@ -101,7 +101,7 @@ extern "C" {
     pub fn lab_bench_resume(journal: *const u8, length: usize, bench: *mut Handle, told: *mut Told) -> u32;
     pub fn lab_journal(bench: *mut Handle, text: *mut u8, room: usize, written: *mut usize) -> u32;
     pub fn lab_bench_close(bench: *mut Handle, report: *mut u8, room: usize, told: *mut Told) -> u32;
-    pub fn lab_bench_free(bench: *mut Handle);
+    pub fn lab_bench_free(bench: *mut Handle) -> u32;
 }
 
 extern "C" {
