@@ -211,6 +211,7 @@ class journal {
         const bool is_there = same == head.size();
         if (is_there) {
             stands_.length = given_ = resume(found, handle);
+            steps_ = steps(found.substr(head.size(), given_ - head.size()));
             take(handle);
         } else {
             lab_told told{};
@@ -373,7 +374,8 @@ class journal {
         if (is_torn_ && ftruncate(file_, end)) return false;
         is_torn_ = true;
         std::size_t at = 0;
-        bool is_good = stands_.length + more.size() <= 16777216;
+        const std::size_t all = steps_ + (end ? steps(more) : 0);
+        bool is_good = stands_.length + more.size() <= 16777216 && all <= 1000000; // (more aren't read again)
         if (!is_good) errno = EFBIG;
         while (is_good && at < more.size()) {
             const ssize_t wrote = pwrite(file_, &more[at], more.size() - at, end + static_cast<off_t>(at));
@@ -383,8 +385,16 @@ class journal {
         if (is_good && syncs_) is_good = !fdatasync(file_);
         const int why = errno;
         is_torn_ = !is_good && ftruncate(file_, end);
+        if (is_good) steps_ = all;
         errno = why;
         return is_good;
+    }
+
+    // How many lines are no comments.
+    static std::size_t steps(const std::string &text) {
+        std::size_t count = 0;
+        for (std::size_t at = 0; at < text.size(); at = text.find('\n', at) + 1) count += text[at] != '#';
+        return count;
     }
 
     // So that the file's name is on the disk, too.
@@ -402,6 +412,7 @@ class journal {
     std::vector<std::uint8_t> room_;
     long long stamped_ = 0;
     bool is_torn_ = true; // what is behind may be anything
+    std::size_t steps_ = 0;
     // what follows is used with the lock held, but for the length by the one who writes
     std::mutex lock_;
     std::condition_variable written_;

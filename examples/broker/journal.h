@@ -23,6 +23,7 @@ struct journal {
     char *added; /* what isn't written */
     size_t length, room;
     uint64_t given, written; /* how many bytes of the file were added, and how many are on the disk */
+    long steps; /* how many lines of these are no comments: with more than a million of them it isn't read again */
     int is_writing;
     pthread_mutex_t lock; /* of what stands above */
     pthread_cond_t changed;
@@ -35,13 +36,14 @@ static void journal_fails(const char *why) {
 
 static void journal_add(struct journal *it, const char *text, size_t length) {
     pthread_mutex_lock(&it->lock);
-    if (it->length + length > it->room) {
-        it->room = 2 * (it->length + length);
+    if (it->length + length >= it->room) {
+        it->room = 2 * (it->length + length) + 1;
         it->added = realloc(it->added, it->room);
         if (!it->added) journal_fails("memory");
     }
     memcpy(it->added + it->length, text, length);
     it->length += length;
+    it->added[it->length] = 0;
     it->given += length;
     pthread_mutex_unlock(&it->lock);
 }
@@ -82,6 +84,11 @@ static void journal_commit(struct journal *it, uint64_t number) {
         it->added = NULL;
         it->length = it->room = 0;
         pthread_mutex_unlock(&it->lock);
+        for (size_t line = 0; end && line < length; line += strcspn(text + line, "\n") + 1) it->steps += text[line] != '#';
+        if (it->steps > 1000000 || end + length > 16777216) {
+            errno = EFBIG;
+            journal_fails("it is full");
+        }
         while (at < length) {
             ssize_t wrote = pwrite(it->file, text + at, length - at, (off_t)(end + at));
             if (wrote < 0 && errno != EINTR) journal_fails("a write failed");
@@ -130,6 +137,7 @@ static int journal_open(struct journal *it, const char *path, int syncs, const c
         exit(1);
     }
     it->given = it->written = is_there ? told.written : 0;
+    for (size_t at = head; at < it->written; at++) it->steps += text[at] != '#' && text[at - 1] == '\n';
     if (ftruncate(it->file, (off_t)it->written)) journal_fails(path); /* what hangs over */
     if (!is_there) journal_add(it, begins, head);
     journal_commit(it, journal_took(it, bench));

@@ -22,8 +22,8 @@ Path = Union[str, "os.PathLike[str]"]
 # how far the journal was when a call had told it: the number of failed writes before, and the length of the file
 Ticket = tuple[int, int]
 
-# no journal that is longer is read again
-MOST = 16777216
+# no journal that has more bytes, or more steps, is read again
+MOST, MOST_STEPS = 16777216, 1000000
 
 _STEPS = ("lab_settle", "lab_command", "lab_end", "lab_withdraw", "lab_retire")
 
@@ -51,7 +51,7 @@ class Journal:
         self._ends: list[int] = []
         # what was added and isn't written, each with the length of the file behind it; some in front may be written already
         self._added: list[tuple[int, bytes]] = []
-        self._given = 0
+        self._given = self._steps = 0
         self.ticket: Ticket = (0, 0)
         self._is_torn = True  # what is behind may be anything
         self._is_quick: Optional[bool] = None  # whether a sync takes microseconds, once one was timed
@@ -81,6 +81,7 @@ class Journal:
             raise JournalError(self.path, f"it is the journal of another script, which differs in line {line}", line)
         if is_there:
             self._resume(found, handle, told)
+            self._steps = _steps(found[len(head) : told.written])
             self._stands = self.ticket = (0, told.written)
             self._given = told.written
             self._take()
@@ -218,8 +219,9 @@ class Journal:
             os.ftruncate(self._file, length)
         self._is_torn = True
         try:
-            if length + len(text) > MOST:
-                raise OSError(errno.EFBIG, "it would be longer than 16777216 bytes")
+            steps = self._steps + (_steps(text) if length else 0)
+            if length + len(text) > MOST or steps > MOST_STEPS:
+                raise OSError(errno.EFBIG, "it would have more than 16777216 bytes, or than 1000000 steps")
             at = 0
             while at < len(text):
                 at += _pwrite(self._file, text[at:] if at else text, length + at)
@@ -228,7 +230,7 @@ class Journal:
         except OSError:
             _try(os.ftruncate, self._file, length)
             raise
-        self._stands = failures, length + len(text)
+        self._stands, self._steps = (failures, length + len(text)), steps
         self._is_torn = False
         del self._added[: len(added)]
 
@@ -280,6 +282,11 @@ def _pwrite(file: int, text: bytes, place: int) -> int:
     """(Numbers go as 32 bits: a journal has fewer bytes. What fails is tried again by the way that says why.)"""
     wrote = _system_pwrite(file, text, len(text), place)
     return wrote if wrote >= 0 else os.pwrite(file, text, place)
+
+
+def _steps(text: bytes) -> int:
+    """How many lines are no comments."""
+    return text.count(b"\n") - text.count(b"\n#") - text.startswith(b"#")
 
 
 def _sync_folder(path: str) -> None:

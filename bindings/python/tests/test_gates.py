@@ -135,7 +135,7 @@ class Journals(Gated):
     def test_writes_that_fail(self) -> None:
         """Stations that try again until there is room."""
         real = _journal._pwrite
-        for seed in range(150):
+        for seed in range(75):
             chance, script = random.Random(seed), (ALL_ONE, RING, load_script(4, 2, 3, seed))[seed % 3]
 
             def sometimes_fails(file: int, text: bytes, place: int) -> int:

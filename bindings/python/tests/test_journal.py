@@ -522,9 +522,17 @@ class Failing(Journals):
         bench = self.opened()
         session = self.asked(bench, "a")
         session.acquire()
-        with mock.patch.object(_journal, "MOST", len(self.text()) + 9), self.assertRaises(labrun.JournalError) as caught:
+        steps = [line for line in self.text()[len(TWO) + len("steps\n") :].splitlines() if not line.startswith(b"#")]
+        self.assertTrue(steps)
+        for name, most in (("MOST", len(self.text()) + 9), ("MOST_STEPS", len(steps))):
+            with mock.patch.object(_journal, name, most), self.assertRaises(labrun.JournalError) as caught:
+                session.release()
+            self.assertIn("more than 16777216 bytes, or than 1000000 steps", str(caught.exception))
+        self.dropped(bench)
+        bench = self.opened()
+        session = self.asked(bench, "a")
+        with mock.patch.object(_journal, "MOST_STEPS", len(steps)), self.assertRaises(labrun.JournalError):
             session.release()
-        self.assertIn("longer than 16777216 bytes", str(caught.exception))
         session.release()
         self.assertTrue(self.finished(bench).finished)
 

@@ -13,8 +13,9 @@ use std::sync::atomic::{AtomicI32, Ordering::Relaxed};
 use std::sync::{Condvar, Mutex, MutexGuard};
 use std::time::{SystemTime, UNIX_EPOCH};
 
-/// No journal that is longer is read again.
+/// No journal that has more bytes, or more steps, is read again.
 const MOST: u64 = 16777216;
+const MOST_STEPS: usize = 1000000;
 
 /// The files of journals, each plus 1; a child of a fork closes its copies, so that it keeps nobody from them.
 static FILES: [AtomicI32; 64] = {
@@ -68,6 +69,7 @@ struct Written {
     lost: bool,
     why: String,
     stamped: u64,
+    steps: usize,
 }
 
 impl Written {
@@ -124,7 +126,7 @@ impl Journal {
         if is_there {
             let length = self.resume(&found, handle)?;
             let mut written = self.lock();
-            (written.stands.1, written.given) = (length, length);
+            (written.stands.1, written.given, written.steps) = (length, length, steps(&found[head.len()..length as usize]));
             drop(written);
             self.take(handle)?;
         } else {
@@ -273,13 +275,14 @@ impl Journal {
             }
             written.writes = true;
             let (text, length, torn) = (std::mem::take(&mut written.added), written.stands.1, written.torn);
+            let all = written.steps + steps(&text);
             drop(written);
-            let done = self.write(length, &text, torn);
+            let done = if all > MOST_STEPS { Err(io::Error::new(io::ErrorKind::Other, TOO_LONG)) } else { self.write(length, &text, torn) };
             let lost = done.is_err() && !back();
             written = self.lock();
             (written.torn, written.lost, written.writes) = (done.is_err(), lost, false);
             match done {
-                Ok(()) => written.stands.1 += text.len() as u64,
+                Ok(()) => (written.stands.1, written.steps) = (length + text.len() as u64, all),
                 Err(why) => written.why = why.to_string(),
             }
             self.changed.notify_all();
@@ -293,7 +296,7 @@ impl Journal {
             self.file.set_len(end)?;
         }
         if end + text.len() as u64 > MOST {
-            return Err(io::Error::new(io::ErrorKind::Other, "it would be longer than 16777216 bytes"));
+            return Err(io::Error::new(io::ErrorKind::Other, TOO_LONG));
         }
         let written = self.file.write_all_at(text, end);
         let done = if self.syncs { written.and_then(|()| self.file.sync_data()) } else { written };
@@ -325,6 +328,13 @@ impl Drop for Journal {
             unsafe { ManuallyDrop::drop(&mut self.file) };
         }
     }
+}
+
+const TOO_LONG: &str = "it would have more than 16777216 bytes, or than 1000000 steps";
+
+/// How many lines are no comments.
+fn steps(text: &[u8]) -> usize {
+    text.split(|&it| it == b'\n').filter(|line| !line.is_empty() && line[0] != b'#').count()
 }
 
 /// The year, month and day of a day counted from 1970.
