@@ -10,6 +10,9 @@
 //     for (std::thread &thread : threads) thread.join();
 //     std::cout << bench.close().text;
 //
+// With a journal, `bench::open("bay.lab", "bay.journal")`, all that is done is on the disk before a call returns, and a process that is killed
+// goes on where it was: a session that held is offered first, with resumed().
+//
 // What is proved ends at the calls of the library: that no two sessions hold an instrument at once, that each log is whole sessions, and that
 // who waits, waits in the end for somebody who holds: so nobody looks from time to time, and nobody sleeps for nothing. This file is
 // tested. A bench and its desks stay where they are while threads use them; one thread at a time acts for a desk.

@@ -145,7 +145,7 @@ class Session:
             until = None if timeout is None else time.monotonic() + timeout
             with bench._mutex:
                 holds = bench._ask(job, self, job._sleep.release)
-                ticket = bench._ticket()
+                ticket = None if bench._journal is None else bench._journal.ticket
             if not holds:
                 ticket = self._sleep(job, bench, until, timeout)
             if ticket is not None:
@@ -283,7 +283,7 @@ class Session:
                     if bench._torn:
                         bench._mend()
                     raise
-                ticket = bench._ticket()
+                ticket = None if bench._journal is None else bench._journal.ticket
             if ticket is not None:
                 bench._commit(ticket)
         except KeyboardInterrupt:

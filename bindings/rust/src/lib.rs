@@ -512,6 +512,22 @@ impl Bench {
 
     /// The same with a journal: all that is done is in that file before a call returns. If the file is there, the bench goes on where it
     /// ends: what was held is held still, and offered first ([`Session::resumed`]).
+    ///
+    /// ```no_run
+    /// # fn bring_to_rest(_: &labrun::Session) {}
+    /// # fn measure(_: &labrun::Session) -> String { String::new() }
+    /// let (bench, mut desks) = labrun::Bench::open_with_journal("bay.lab", "bay.journal", labrun::SyncTo::Disk)?;
+    /// while let Some(mut session) = desks[0].begin()? {
+    ///     if session.resumed() {
+    ///         bring_to_rest(&session); // it held when the process died
+    ///     }
+    ///     let reading = measure(&session);
+    ///     session.note(&reading)?;
+    ///     session.finish()?; // a drop lets go, too, but can't say that the disk is full
+    /// }
+    /// println!("{}", bench.close()?.text);
+    /// # Ok::<(), labrun::Error>(())
+    /// ```
     pub fn open_with_journal(path: impl AsRef<Path>, journal: impl AsRef<Path>, to: SyncTo) -> Result<(Bench, Vec<Desk>), Error> {
         Bench::of(&read(path)?, Some((journal.as_ref(), to)))
     }
