@@ -30,7 +30,7 @@ class Broker(unittest.TestCase):
         """Killed while a station holds, it goes on with that session."""
         with tempfile.TemporaryDirectory() as folder:
             words = ["examples/broker/broker.py", "--journal", os.path.join(folder, "bay.journal")]
-            first = subprocess.Popen([sys.executable, "-u", *words], cwd=TOP, env=child(), stdout=subprocess.PIPE, text=True)
+            first = subprocess.Popen([sys.executable, "-u", *words], cwd=TOP, env=child(), stdout=subprocess.PIPE, stderr=subprocess.DEVNULL, text=True)
             assert first.stdout
             held = re.search(r"(\S+) +session (\d) holds", first.stdout.readline())
             first.kill()
