@@ -236,14 +236,13 @@ class Journal:
 
     def _sync(self) -> None:
         """On a disk it takes long, and others go on meanwhile. In memory it takes less than to get the interpreter's lock back."""
-        if self._is_quick:
-            if _system_fdatasync(self._file) < 0:
-                raise OSError(errno.EIO, "the file can't be synced")
-        else:
-            begun = time.perf_counter()
+        begun = time.perf_counter()
+        if not self._is_quick:
             os.fdatasync(self._file)
-            if self._is_quick is None:
-                self._is_quick = time.perf_counter() - begun < 30e-6
+        elif _system_fdatasync(self._file) < 0:
+            raise OSError(errno.EIO, "the file can't be synced")
+        took = time.perf_counter() - begun
+        self._is_quick = took < 30e-6 if self._is_quick is None else self._is_quick and took < 1e-3
 
 
 class Kept:
