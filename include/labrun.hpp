@@ -66,10 +66,12 @@ struct other_process : error {
     long process;
 };
 
-// A job that keeps an instrument from a waiting session: it holds it, or, where nobody does, it waits itself and comes first.
+// A job that keeps an instrument from a waiting session: it holds it, or, where nobody does, it waits itself and comes first. Then `behind` is
+// why: the keeper that it waits for, whose own is the next, and the last of them holds.
 struct keeper {
     std::string instrument, job;
     bool holds;
+    std::shared_ptr<const keeper> behind;
 };
 
 // The time limit passed. The session keeps its place in the line, and may come to its instruments meanwhile: begin again, or give_up().
@@ -80,7 +82,11 @@ struct timed_out : error {
   private:
     static std::string named(const std::vector<keeper> &by) {
         std::string text;
-        for (const keeper &it : by) text += ", " + it.instrument + (it.holds ? " is held by " : " is kept by ") + it.job;
+        for (const keeper &it : by) {
+            text += ", " + it.instrument + (it.holds ? " is held by " : " is kept by ") + it.job;
+            for (const keeper *why = it.behind.get(); why; why = why->behind.get())
+                text += ", which waits for " + why->instrument + (why->holds ? ", held by " : ", kept by ") + why->job;
+        }
         return text;
     }
 };
@@ -175,6 +181,12 @@ struct core {
 
     static std::uint32_t bit(std::uint32_t job) { return std::uint32_t(1) << job; }
 
+    static std::uint32_t lowest(std::uint32_t set) {
+        std::uint32_t job = 0;
+        for (; !(set & 1); set >>= 1) job++;
+        return job;
+    }
+
     template <class Act> void each(std::uint32_t set, Act act) {
         for (std::uint32_t job = 0; set; job++, set >>= 1)
             if (set & 1) act(job);
@@ -207,15 +219,34 @@ struct core {
         }
     }
 
+    // What keeps an instrument from a job.
+    struct lab_keepers kept(std::uint32_t job, std::uint32_t at) {
+        struct lab_keepers kept {};
+        ::lab_keepers(&handle, job, at, &kept);
+        return kept;
+    }
+
     std::vector<keeper> keepers(std::uint32_t job) {
         std::vector<keeper> found;
         for (std::uint32_t at = 0; at < instruments.size(); at++) {
-            struct lab_keepers kept {};
-            ::lab_keepers(&handle, job, at, &kept);
-            each(kept.holding ? kept.holding : kept.jobs,
-                 [&](std::uint32_t other) { found.push_back({instruments[at], jobs[other], kept.holding != 0}); });
+            const struct lab_keepers it = kept(job, at);
+            each(it.holding ? it.holding : it.jobs, [&](std::uint32_t other) {
+                found.push_back({instruments[at], jobs[other], it.holding != 0, it.holding ? nullptr : behind(other, it.jobs | bit(job))});
+            });
         }
         return found;
+    }
+
+    // The keeper that a job waits for, with those behind it: one chain of perhaps several, to a holder.
+    std::shared_ptr<const keeper> behind(std::uint32_t job, std::uint32_t seen) {
+        seen |= bit(job);
+        for (std::uint32_t at = 0; at < instruments.size(); at++)
+            if (const std::uint32_t holding = kept(job, at).holding)
+                return std::make_shared<const keeper>(keeper{instruments[at], jobs[lowest(holding)], true, nullptr});
+        for (std::uint32_t at = 0; at < instruments.size(); at++)
+            if (const std::uint32_t others = kept(job, at).jobs & ~seen)
+                return std::make_shared<const keeper>(keeper{instruments[at], jobs[lowest(others)], false, behind(lowest(others), seen)});
+        return nullptr;
     }
 };
 

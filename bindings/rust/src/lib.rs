@@ -93,9 +93,7 @@ impl fmt::Display for Error {
             Error::Unread(why) => write!(out, "{why}"),
             Error::TimedOut(keepers) => {
                 write!(out, "still waits")?;
-                keepers
-                    .iter()
-                    .try_for_each(|it| write!(out, ", {} is {} {}", it.instrument, if it.holds { "held by" } else { "kept by" }, it.job))
+                keepers.iter().try_for_each(|it| write!(out, ", {it}"))
             }
             Error::Withdrawn => write!(out, "the session was withdrawn"),
             Error::Closed => write!(out, "the bench is closed"),
@@ -116,6 +114,21 @@ pub struct Keeper {
     pub job: String,
     /// Whether it holds the instrument; if nobody does, it waits itself, and comes first.
     pub holds: bool,
+    /// If it waits itself, why: the keeper that it waits for, whose own is the next, and the last of them holds.
+    pub behind: Option<Box<Keeper>>,
+}
+
+impl fmt::Display for Keeper {
+    fn fmt(&self, out: &mut fmt::Formatter<'_>) -> fmt::Result {
+        let how = |it: &Keeper| if it.holds { "held" } else { "kept" };
+        write!(out, "{} is {} by {}", self.instrument, how(self), self.job)?;
+        let mut next = &self.behind;
+        while let Some(it) = next {
+            write!(out, ", which waits for {}, {} by {}", it.instrument, how(it), it.job)?;
+            next = &it.behind;
+        }
+        Ok(())
+    }
 }
 
 /// A command that was done.
@@ -321,19 +334,47 @@ impl Inner {
         }
     }
 
-    /// Who keeps an instrument from a job: who holds it, or, where nobody does, who comes first.
-    fn keepers(&self, core: &mut Core, job: u32) -> Vec<Keeper> {
+    /// What keeps each instrument that a job lacks: its number, the jobs that keep it, and those of them that hold it.
+    fn kept(&self, core: &mut Core, job: u32) -> Vec<(usize, ffi::Keepers)> {
         let mut found = Vec::new();
-        for (at, instrument) in self.instruments.iter().enumerate() {
+        for at in 0..self.instruments.len() {
             let mut kept = ffi::Keepers::default();
             // SAFETY: the handle is open, and the mutex is held.
             unsafe { ffi::lab_keepers(&mut core.handle, job, at as u32, &mut kept) };
-            let holds = kept.holding != 0;
-            for other in members(if holds { kept.holding } else { kept.jobs }) {
-                found.push(Keeper { instrument: instrument.clone(), job: self.jobs[other as usize].clone(), holds });
+            if kept.jobs != 0 {
+                found.push((at, kept));
             }
         }
         found
+    }
+
+    fn keeper(&self, at: usize, job: u32, holds: bool, behind: Option<Keeper>) -> Keeper {
+        let (instrument, job) = (self.instruments[at].clone(), self.jobs[job as usize].clone());
+        Keeper { instrument, job, holds, behind: behind.map(Box::new) }
+    }
+
+    /// Who keeps an instrument from a job: who holds it, or, where nobody does, who comes first, and why that one waits.
+    fn keepers(&self, core: &mut Core, job: u32) -> Vec<Keeper> {
+        let mut found = Vec::new();
+        for (at, kept) in self.kept(core, job) {
+            let holds = kept.holding != 0;
+            for other in members(if holds { kept.holding } else { kept.jobs }) {
+                let behind = if holds { None } else { self.behind(core, other, kept.jobs | 1 << job) };
+                found.push(self.keeper(at, other, holds, behind));
+            }
+        }
+        found
+    }
+
+    /// The keeper that a job waits for, with those behind it: one chain of perhaps several, to a holder.
+    fn behind(&self, core: &mut Core, job: u32, seen: u32) -> Option<Keeper> {
+        let (seen, kept) = (seen | 1 << job, self.kept(core, job));
+        if let Some((at, it)) = kept.iter().find(|(_, it)| it.holding != 0) {
+            return Some(self.keeper(*at, it.holding.trailing_zeros(), true, None));
+        }
+        let (at, other) = kept.iter().find_map(|(at, it)| members(it.jobs & !seen).next().map(|other| (*at, other)))?;
+        let behind = self.behind(core, other, seen);
+        Some(self.keeper(at, other, false, behind))
     }
 }
 
