@@ -4,8 +4,8 @@ use Rattle.std.proofs.lemmas.List.{append-nil, append_assoc, length-map, length_
 use Rattle.edge_rule.specs.DeskView.{DeskView}
 use Rattle.edge_rule.specs.Company.{jobs_of}
 use Rattle.bench_door.specs.Own.{rising}
-use Rattle.bench_hall.specs.declared.hall.Spot.{Spot}
-use Rattle.bench_hall.specs.Places.{falling, jobs_at}
+use Rattle.bench_hall.specs.declared.spot.Spot.{Spot}
+use Rattle.bench_hall.specs.Rows.{falling, jobs_at}
 
 length_rising : (n : ℕ) → length (rising n) ≡ n
 length_rising zero = refl

@@ -1,21 +1,7 @@
--- What a place asks of a desk, and that each job has a place.
-use Rattle.std.specs.Prelude.{◌≡◌, ℕ, zero, suc, List, [], ◌∷◌, length, map}
-use Rattle.lab_plan.specs.LabPlan.{LabPlan}
+-- What a place asks of a desk.
+use Rattle.std.specs.Prelude.{◌≡◌}
 use Rattle.edge_rule.specs.DeskView.{DeskView}
-use Rattle.bench_hall.specs.declared.hall.Spot.{Spot}
 
 -- of the same bench and of the same job
 abbrev pub IsLike : DeskView → DeskView → Type 0
 IsLike first d = (d.table ≡ first.table) × (d.plan ≡ first.plan) × (d.job ≡ first.job)
-
--- the numbers below this one, in descending order
-abbrev pub falling : ℕ → List ℕ
-falling zero = []
-falling (suc n) = n ∷ falling n
-
-abbrev pub jobs_at : List Spot → List ℕ
-jobs_at spots = map (λ (s : Spot). s.job) spots
-
--- each job of the plan has one place, the last job's first
-abbrev pub HasEachPlace : LabPlan → List Spot → Type 0
-HasEachPlace plan spots = jobs_at spots ≡ falling (length plan.jobs)

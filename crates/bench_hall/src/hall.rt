@@ -8,22 +8,15 @@ ghost use Rattle.edge_rule.specs.Company.{jobs_of};
 ghost use Rattle.script_reader.specs.Script.{ScriptMeans};
 ghost use Rattle.live_lab.specs.Labs.{IsWhyNot};
 ghost use Rattle.bench_door.specs.Own.{each_prop, rising};
-ghost use Rattle.bench_hall.specs.Places.{HasEachPlace};
+ghost use Rattle.bench_hall.specs.Rows.{HasEachPlace};
 
-use crate::place::{Place, is_home, place_with, put_back, take_out};
+use crate::place::{is_home, put_back, take_out};
+use crate::spot::{Spot, spot_with};
 use bench_door::Lab;
 use edge_rule::{Bench, Desk};
 use lab_program::RunFault;
 use std::alloc::Global;
 use std::sync::Arc;
-
-/// A job's place.
-#[derive(Drop)]
-pub struct Spot {
-    job: u32,
-    place: Place,
-    ghost tied: { place.value.job ≡ job },
-}
 
 /// A bench and its places, one for each job, which threads share.
 #[derive(Drop)]
@@ -33,15 +26,6 @@ pub struct Hall {
     spots: Vec<Spot, Global>,
     ghost own: { Each (λ s. Owns bench s.place.value) spots.items } by { each_prop (λ s. Owns bench s.place.value) (λ s. Prim.hlevel props) spots.items },
     ghost each: { HasEachPlace bench.plan spots.items },
-}
-
-fn spot_with(desk: Box<Desk<Global>, Global>) -> Spot
-    ensures { result.place.value ≡ desk.value }
-{
-    Spot {
-        job: u32::from(desk.job().0),
-        place: place_with(desk),
-    }
 }
 
 /// A place for each desk, the last desk's first.

@@ -4,7 +4,7 @@ use Rattle.turns.specs.Lists.{Each}
 use Rattle.edge_rule.specs.DeskView.{Owns}
 use Rattle.edge_rule.specs.Company.{jobs_of}
 use Rattle.bench_door.specs.Own.{rising}
-use Rattle.bench_hall.specs.Places.{falling, jobs_at}
+use Rattle.bench_hall.specs.Rows.{falling, jobs_at}
 use Rattle.bench_hall.proofs.hall.spots_with.Given as goal
 
 abbrev pub invariant-loop-desk : goal.invariant-loop-desk
