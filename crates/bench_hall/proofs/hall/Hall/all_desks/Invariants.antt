@@ -1,5 +1,5 @@
 -- the desks of the jobs so far
-use Rattle.std.proofs.Common.{◌≡◌, ◌+◌, ◌≤◌, length, vec_len, vec_capacity}
+use Rattle.std.proofs.Common.{◌≡◌, ◌≤◌, length, vec_len, vec_capacity}
 use Rattle.turns.specs.Lists.{Each}
 use Rattle.edge_rule.specs.DeskView.{Owns}
 use Rattle.edge_rule.specs.Company.{jobs_of}
