@@ -165,7 +165,16 @@ static void no_room() {
     expect("finished", finished(bench).finished);
 }
 
-static void load() {
+// Does this until it doesn't fail.
+static void until_done(const std::function<void()> &call) {
+    for (;;) try {
+            return call();
+        } catch (const journal_error &) {
+            std::this_thread::yield();
+        }
+}
+
+static void load(bool has_room) {
     put("");
     std::string script = "lab 1\n";
     for (int job = 0; job < 8; job++) {
@@ -176,19 +185,35 @@ static void load() {
     labrun::report told;
     {
         bench bench(script, path);
+        std::atomic<bool> is_over{false};
+        std::thread limits([&] {
+            for (; !is_over && !has_room; std::this_thread::sleep_for(200us)) {
+                limit(text().size() + 200);
+                std::this_thread::sleep_for(200us);
+                limit(RLIM_INFINITY);
+            }
+        });
         std::vector<std::atomic<int>> holders(5);
         std::atomic<int> clashes{0}, sessions{0};
         std::vector<std::thread> threads;
         for (labrun::desk &desk : bench.desks())
             threads.emplace_back([&] {
-                while (auto session = desk.begin()) {
+                for (;;) {
+                    std::optional<labrun::session> session;
+                    until_done([&] {
+                        if (auto begun = desk.begin()) session.emplace(std::move(*begun));
+                    });
+                    if (!session) break;
                     for (const std::string &name : session->instruments()) clashes += holders[static_cast<std::size_t>(name[2] - '0')]++ != 0;
                     std::this_thread::yield();
                     for (const std::string &name : session->instruments()) holders[static_cast<std::size_t>(name[2] - '0')]--;
                     sessions++;
+                    until_done([&] { session->finish(); });
                 }
             });
         for (std::thread &thread : threads) thread.join();
+        is_over = true;
+        limits.join();
         told = bench.close();
         expect("a load", clashes == 0 && sessions == 400 && told.finished);
     }
@@ -201,7 +226,8 @@ int main(int, char **words) {
     comes_back();
     cuts_and_changes();
     no_room();
-    load();
+    load(true);
+    load(false);
     std::cout << passed << " passed, " << failed << " failed\n";
     return failed != 0;
 }
