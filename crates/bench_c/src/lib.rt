@@ -1,14 +1,17 @@
-//! What C calls on the lab of one handle: each export is the call of `bench_calls`, with its contract.
+//! What C calls on a handle: each export is the call of `bench_calls` or of `hall_calls`, with its contract.
 #![tactic(auto)]
 
-ghost use Rattle.std.specs.Prelude.{◌≡◌, None};
-ghost use Rattle.bench_calls.specs.Closing.{Closes};
+ghost use Rattle.std.specs.Prelude.{◌≡◌};
+ghost use Rattle.bench_calls.specs.Closing.{Closes, Frees, is_of_a_lab};
 ghost use Rattle.bench_calls.specs.Calls.{Opens, InLab, Turns, Serves, ServesRest, SettlesAll, GoesToHold, DoesNext, LetsGo, GivesUp, GoesToEnd};
 ghost use Rattle.bench_calls.specs.Calls.{TellsSize, TellsSession, TellsPlanned, TellsState, TellsKeepers, TellsJobName, TellsInstrumentName};
 
+mod desks;
+
 use bench_calls::{
-    Handle, LabCame, LabEntry, LabKeepers, LabPlanned, LabSession, LabSize, LabState, LabTurned,
+    LabCame, LabEntry, LabKeepers, LabPlanned, LabSession, LabSize, LabState, LabTurned,
 };
+use c_handles::Handle;
 use c_tells::Told;
 use std::alloc::Global;
 
@@ -245,10 +248,10 @@ pub extern "C" fn lab_bench_close(
     bench_calls::close(alloc, bench, report, told)
 }
 
-/// Frees what the handle has, which then has nothing.
+/// Frees the lab of the handle, or its report. The handle has nothing then.
 #[unsafe(no_mangle)]
-pub extern "C" fn lab_bench_free(alloc: Global, bench: &mut Handle)
-    ensures { bench.new.slot.held ≡ None }
+pub extern "C" fn lab_bench_free(alloc: Global, bench: &mut Handle) -> u32
+    ensures { Frees is_of_a_lab bench.old.slot.held bench.new.slot.held result }
 {
     bench_calls::free(alloc, bench)
 }

@@ -14,8 +14,8 @@ use Rattle.live_lab.specs.Readers.{IsSession, IsPlanned, IsStandingAt, IsInstrum
 use Rattle.live_lab.specs.Keepers.{AreKeepersAt}
 use Rattle.c_tells.specs.declared.telling.Told.{Told}
 use Rattle.c_tells.specs.Telling.{told_of, Gives}
-use Rattle.bench_calls.specs.declared.ending.Held.{Held}
-use Rattle.bench_calls.specs.declared.ending.Held.TheVariants.{Open, Reported}
+use Rattle.c_handles.specs.declared.inside.Inside.{Inside}
+use Rattle.c_handles.specs.declared.inside.Inside.TheVariants.{Open}
 use Rattle.bench_calls.specs.declared.told.LabTurned.{LabTurned}
 use Rattle.bench_calls.specs.declared.told.LabCame.{LabCame}
 use Rattle.bench_calls.specs.declared.told.LabSize.{LabSize}
@@ -29,20 +29,28 @@ use Rattle.bench_calls.specs.Telling.{IfTold, TellsAs, TellsDid, TellsBegun, Tel
 
 -- ---- opening
 
+-- a lab of the plan that the script means, before its first event, and nothing is told
+abbrev pub IsOpened : List ℕ → Inside → Told → Told → Type 0
+IsOpened script new told told' = (l : LabView) × (new ≡ Open l) × ScriptMeans script l.world.plan × (l ≡ fresh_lab l.world.plan) × (told' ≡ told)
+
+-- there is none because of this fault, which is told
+abbrev pub IsNotOpened : List ℕ → Told → ℕ → Type 0
+IsNotOpened script told' status = (fault : RunFault) × IsWhyNot script fault × (status ≡ status_of (Err fault)) × (told' ≡ told_of fault)
+
 -- an empty handle has a lab of the plan that the script means, before its first event (0); or no lab was opened, the handle is as it was and the fault is
 -- told; or the handle is in use, and nothing changed (11)
-abbrev pub Opens : List ℕ → Option Held → Option Held → Told → Told → ℕ → Type 0
+abbrev pub Opens : List ℕ → Option Inside → Option Inside → Told → Told → ℕ → Type 0
 Opens script (Some held) new told told' status = (status ≡ 11) × (new ≡ Some held) × (told' ≡ told)
 Opens script None new told told' status =
-    ((status ≡ 0) × (l : LabView) × (new ≡ Some (Open l)) × ScriptMeans script l.world.plan × (l ≡ fresh_lab l.world.plan) × (told' ≡ told))
-    ⊎ ((fault : RunFault) × IsWhyNot script fault × (status ≡ status_of (Err fault)) × (new ≡ None) × (told' ≡ told_of fault))
+    ((status ≡ 0) × (h : Inside) × (new ≡ Some h) × IsOpened script h told told')
+    ⊎ ((new ≡ None) × IsNotOpened script told' status)
 
 -- ---- calls on an open lab
 
 -- the open lab of the handle went from one to another; or the handle has none, and nothing changed (7)
-abbrev pub InLab : {T : Type 0} → (LabView → LabView → T → T → ℕ → Type 0) → Option Held → Option Held → T → T → ℕ → Type 0
+abbrev pub InLab : {T : Type 0} → (LabView → LabView → T → T → ℕ → Type 0) → Option Inside → Option Inside → T → T → ℕ → Type 0
 InLab Did (Some (Open a)) new told told' status = (b : LabView) × (new ≡ Some (Open b)) × Did a b told told' status
-InLab Did (Some (Reported p)) new told told' status = (status ≡ 7) × (new ≡ Some (Reported p)) × (told' ≡ told)
+InLab Did (Some other) new told told' status = (status ≡ 7) × (new ≡ Some other) × (told' ≡ told)
 InLab Did None new told told' status = (status ≡ 7) × (new ≡ None) × (told' ≡ told)
 
 -- the job did so, and its answer is told; or there is no such job, and nothing changed (2)

@@ -1,4 +1,3 @@
 pub mod Telling
-pub mod Handles
 pub mod Closing
 pub mod Calls

@@ -1,27 +1,26 @@
 //! Calls that do something in the lab of a handle.
 ghost use Rattle.bench_calls.specs.Calls.{InLab, Turns, Serves, ServesRest, SettlesAll, GoesToHold, DoesNext, LetsGo, GivesUp, GoesToEnd};
 
-use crate::ending::Held;
-use crate::handle::Handle;
 use crate::statuses::{
-    NOT_OPEN, tell_begun, tell_came, tell_command, tell_ended, tell_retired, tell_turned,
-    tell_withdrew,
+    tell_begun, tell_came, tell_command, tell_ended, tell_retired, tell_turned, tell_withdrew,
 };
 use crate::told::{LabCame, LabEntry, LabTurned};
+use c_handles::{Handle, Inside, NOT_OPEN, put, take};
 use std::alloc::Global;
 
 /// One turn of a job.
 pub fn turn(alloc: Global, bench: &mut Handle, job: u32, turned: &mut LabTurned) -> u32
     ensures { InLab (Turns job) bench.old.slot.held bench.new.slot.held turned.old turned.new result }
 {
-    let Some(mut held) = bench.take(alloc) else {
-        return NOT_OPEN;
+    let mut inside = match take(&mut bench.slot, &mut bench.live, alloc) {
+        Ok(inside) => inside,
+        Err(status) => return status,
     };
-    let status = match &mut *held {
-        Held::Open(lab) => tell_turned(lab.turn(job as usize), turned),
-        Held::Reported(_) => NOT_OPEN,
+    let status = match &mut *inside {
+        Inside::Open(lab) => tell_turned(lab.turn(job as usize), turned),
+        _ => NOT_OPEN,
     };
-    bench.put(held);
+    put(&mut bench.slot, &mut bench.live, inside);
     status
 }
 
@@ -29,14 +28,15 @@ pub fn turn(alloc: Global, bench: &mut Handle, job: u32, turned: &mut LabTurned)
 pub fn serve(alloc: Global, bench: &mut Handle, job: u32, turned: &mut LabTurned) -> u32
     ensures { InLab (Serves job) bench.old.slot.held bench.new.slot.held turned.old turned.new result }
 {
-    let Some(mut held) = bench.take(alloc) else {
-        return NOT_OPEN;
+    let mut inside = match take(&mut bench.slot, &mut bench.live, alloc) {
+        Ok(inside) => inside,
+        Err(status) => return status,
     };
-    let status = match &mut *held {
-        Held::Open(lab) => tell_turned(lab.serve(job as usize), turned),
-        Held::Reported(_) => NOT_OPEN,
+    let status = match &mut *inside {
+        Inside::Open(lab) => tell_turned(lab.serve(job as usize), turned),
+        _ => NOT_OPEN,
     };
-    bench.put(held);
+    put(&mut bench.slot, &mut bench.live, inside);
     status
 }
 
@@ -44,14 +44,15 @@ pub fn serve(alloc: Global, bench: &mut Handle, job: u32, turned: &mut LabTurned
 pub fn serve_others(alloc: Global, bench: &mut Handle, job: u32, turned: &mut LabTurned) -> u32
     ensures { InLab (ServesRest job) bench.old.slot.held bench.new.slot.held turned.old turned.new result }
 {
-    let Some(mut held) = bench.take(alloc) else {
-        return NOT_OPEN;
+    let mut inside = match take(&mut bench.slot, &mut bench.live, alloc) {
+        Ok(inside) => inside,
+        Err(status) => return status,
     };
-    let status = match &mut *held {
-        Held::Open(lab) => tell_turned(lab.serve_others(job as usize), turned),
-        Held::Reported(_) => NOT_OPEN,
+    let status = match &mut *inside {
+        Inside::Open(lab) => tell_turned(lab.serve_others(job as usize), turned),
+        _ => NOT_OPEN,
     };
-    bench.put(held);
+    put(&mut bench.slot, &mut bench.live, inside);
     status
 }
 
@@ -59,14 +60,15 @@ pub fn serve_others(alloc: Global, bench: &mut Handle, job: u32, turned: &mut La
 pub fn settle(alloc: Global, bench: &mut Handle, waiting: u32, came: &mut LabCame) -> u32
     ensures { InLab (SettlesAll waiting) bench.old.slot.held bench.new.slot.held came.old came.new result }
 {
-    let Some(mut held) = bench.take(alloc) else {
-        return NOT_OPEN;
+    let mut inside = match take(&mut bench.slot, &mut bench.live, alloc) {
+        Ok(inside) => inside,
+        Err(status) => return status,
     };
-    let status = match &mut *held {
-        Held::Open(lab) => tell_came(lab.settle(waiting), came),
-        Held::Reported(_) => NOT_OPEN,
+    let status = match &mut *inside {
+        Inside::Open(lab) => tell_came(lab.settle(waiting), came),
+        _ => NOT_OPEN,
     };
-    bench.put(held);
+    put(&mut bench.slot, &mut bench.live, inside);
     status
 }
 
@@ -74,14 +76,15 @@ pub fn settle(alloc: Global, bench: &mut Handle, waiting: u32, came: &mut LabCam
 pub fn begin(alloc: Global, bench: &mut Handle, job: u32, most: u32, turned: &mut LabTurned) -> u32
     ensures { InLab (GoesToHold most job) bench.old.slot.held bench.new.slot.held turned.old turned.new result }
 {
-    let Some(mut held) = bench.take(alloc) else {
-        return NOT_OPEN;
+    let mut inside = match take(&mut bench.slot, &mut bench.live, alloc) {
+        Ok(inside) => inside,
+        Err(status) => return status,
     };
-    let status = match &mut *held {
-        Held::Open(lab) => tell_begun(lab.begin(job as usize, most), turned),
-        Held::Reported(_) => NOT_OPEN,
+    let status = match &mut *inside {
+        Inside::Open(lab) => tell_begun(lab.begin(job as usize, most), turned),
+        _ => NOT_OPEN,
     };
-    bench.put(held);
+    put(&mut bench.slot, &mut bench.live, inside);
     status
 }
 
@@ -89,14 +92,15 @@ pub fn begin(alloc: Global, bench: &mut Handle, job: u32, most: u32, turned: &mu
 pub fn command(alloc: Global, bench: &mut Handle, job: u32, entry: &mut LabEntry) -> u32
     ensures { InLab (DoesNext job) bench.old.slot.held bench.new.slot.held entry.old entry.new result }
 {
-    let Some(mut held) = bench.take(alloc) else {
-        return NOT_OPEN;
+    let mut inside = match take(&mut bench.slot, &mut bench.live, alloc) {
+        Ok(inside) => inside,
+        Err(status) => return status,
     };
-    let status = match &mut *held {
-        Held::Open(lab) => tell_command(lab.command(job as usize), entry),
-        Held::Reported(_) => NOT_OPEN,
+    let status = match &mut *inside {
+        Inside::Open(lab) => tell_command(lab.command(job as usize), entry),
+        _ => NOT_OPEN,
     };
-    bench.put(held);
+    put(&mut bench.slot, &mut bench.live, inside);
     status
 }
 
@@ -104,14 +108,15 @@ pub fn command(alloc: Global, bench: &mut Handle, job: u32, entry: &mut LabEntry
 pub fn end(alloc: Global, bench: &mut Handle, job: u32, turned: &mut LabTurned) -> u32
     ensures { InLab (LetsGo job) bench.old.slot.held bench.new.slot.held turned.old turned.new result }
 {
-    let Some(mut held) = bench.take(alloc) else {
-        return NOT_OPEN;
+    let mut inside = match take(&mut bench.slot, &mut bench.live, alloc) {
+        Ok(inside) => inside,
+        Err(status) => return status,
     };
-    let status = match &mut *held {
-        Held::Open(lab) => tell_ended(lab.end(job as usize), turned),
-        Held::Reported(_) => NOT_OPEN,
+    let status = match &mut *inside {
+        Inside::Open(lab) => tell_ended(lab.end(job as usize), turned),
+        _ => NOT_OPEN,
     };
-    bench.put(held);
+    put(&mut bench.slot, &mut bench.live, inside);
     status
 }
 
@@ -119,14 +124,15 @@ pub fn end(alloc: Global, bench: &mut Handle, job: u32, turned: &mut LabTurned) 
 pub fn withdraw(alloc: Global, bench: &mut Handle, job: u32) -> u32
     ensures { InLab (GivesUp job) bench.old.slot.held bench.new.slot.held tt tt result }
 {
-    let Some(mut held) = bench.take(alloc) else {
-        return NOT_OPEN;
+    let mut inside = match take(&mut bench.slot, &mut bench.live, alloc) {
+        Ok(inside) => inside,
+        Err(status) => return status,
     };
-    let status = match &mut *held {
-        Held::Open(lab) => tell_withdrew(lab.withdraw(job as usize)),
-        Held::Reported(_) => NOT_OPEN,
+    let status = match &mut *inside {
+        Inside::Open(lab) => tell_withdrew(lab.withdraw(job as usize)),
+        _ => NOT_OPEN,
     };
-    bench.put(held);
+    put(&mut bench.slot, &mut bench.live, inside);
     status
 }
 
@@ -134,13 +140,14 @@ pub fn withdraw(alloc: Global, bench: &mut Handle, job: u32) -> u32
 pub fn retire(alloc: Global, bench: &mut Handle, job: u32, most: u32, turned: &mut LabTurned) -> u32
     ensures { InLab (GoesToEnd most job) bench.old.slot.held bench.new.slot.held turned.old turned.new result }
 {
-    let Some(mut held) = bench.take(alloc) else {
-        return NOT_OPEN;
+    let mut inside = match take(&mut bench.slot, &mut bench.live, alloc) {
+        Ok(inside) => inside,
+        Err(status) => return status,
     };
-    let status = match &mut *held {
-        Held::Open(lab) => tell_retired(lab.retire(job as usize, most), turned),
-        Held::Reported(_) => NOT_OPEN,
+    let status = match &mut *inside {
+        Inside::Open(lab) => tell_retired(lab.retire(job as usize, most), turned),
+        _ => NOT_OPEN,
     };
-    bench.put(held);
+    put(&mut bench.slot, &mut bench.live, inside);
     status
 }

@@ -1,5 +1,5 @@
 //! The calls on a handle that has a lab.
-use bench_calls::{Handle, LabCame, LabEntry, LabKeepers, LabTurned};
+use bench_calls::{LabCame, LabEntry, LabKeepers, LabTurned};
 use c_tells::Told;
 use std::alloc::Global;
 use std::process::Abort;
