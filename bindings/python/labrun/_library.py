@@ -23,7 +23,7 @@ class Told(ctypes.Structure):
 class Handle(ctypes.Structure):
     """`struct lab_bench`."""
 
-    _fields_ = [("at", ctypes.c_void_p), ("live", ctypes.c_uint32)]
+    _fields_ = [("at", ctypes.c_void_p), ("live", ctypes.c_uint64)]
 
 
 class Size(ctypes.Structure):

@@ -12,7 +12,7 @@ pub struct Told {
 #[repr(C)]
 pub struct Handle {
     pub at: *mut c_void,
-    pub live: u32,
+    pub live: u64,
 }
 
 #[repr(C)]
