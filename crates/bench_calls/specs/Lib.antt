@@ -1,3 +1,4 @@
 pub mod Telling
 pub mod Closing
 pub mod Calls
+pub mod Journals

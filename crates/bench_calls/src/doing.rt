@@ -1,23 +1,33 @@
 //! Calls that do something in the lab of a handle.
-ghost use Rattle.bench_calls.specs.Calls.{InLab, Turns, Serves, ServesRest, SettlesAll, GoesToHold, DoesNext, LetsGo, GivesUp, GoesToEnd};
+ghost use Rattle.std.specs.Prelude.{◌≡◌};
+ghost use Rattle.bench_calls.specs.Calls.{InLab, InRoom, settles_of, Turns, Serves, ServesRest, SettlesAll, GoesToHold, DoesNext, LetsGo, GivesUp, GoesToEnd};
 
 use crate::statuses::{
-    tell_begun, tell_came, tell_command, tell_ended, tell_retired, tell_turned, tell_withdrew,
+    JOURNAL_FULL, tell_begun, tell_came, tell_command, tell_ended, tell_retired, tell_turned,
+    tell_withdrew,
 };
 use crate::told::{LabCame, LabEntry, LabTurned};
 use c_handles::{Handle, Inside, NOT_OPEN, put, take};
+use lab_journal::has_room;
+use live_lab::Lab;
 use std::alloc::Global;
 
 /// One turn of a job.
 pub fn turn(alloc: Global, bench: &mut Handle, job: u32, turned: &mut LabTurned) -> u32
-    ensures { InLab (Turns job) bench.old.slot.held bench.new.slot.held turned.old turned.new result }
+    ensures { InLab (InRoom (Turns job)) bench.old.slot.held bench.new.slot.held turned.old turned.new result }
 {
     let mut inside = match take(&mut bench.slot, &mut bench.live, alloc) {
         Ok(inside) => inside,
         Err(status) => return status,
     };
     let status = match &mut *inside {
-        Inside::Open(lab) => tell_turned(lab.turn(job as usize), turned),
+        Inside::Open(lab) => {
+            if has_room(lab) {
+                tell_turned(lab.turn(job as usize), turned)
+            } else {
+                JOURNAL_FULL
+            }
+        }
         _ => NOT_OPEN,
     };
     put(&mut bench.slot, &mut bench.live, inside);
@@ -26,14 +36,20 @@ pub fn turn(alloc: Global, bench: &mut Handle, job: u32, turned: &mut LabTurned)
 
 /// Gives and asks for a job, and ends or starts a meal that it owes: nothing of its sessions.
 pub fn serve(alloc: Global, bench: &mut Handle, job: u32, turned: &mut LabTurned) -> u32
-    ensures { InLab (Serves job) bench.old.slot.held bench.new.slot.held turned.old turned.new result }
+    ensures { InLab (InRoom (Serves job)) bench.old.slot.held bench.new.slot.held turned.old turned.new result }
 {
     let mut inside = match take(&mut bench.slot, &mut bench.live, alloc) {
         Ok(inside) => inside,
         Err(status) => return status,
     };
     let status = match &mut *inside {
-        Inside::Open(lab) => tell_turned(lab.serve(job as usize), turned),
+        Inside::Open(lab) => {
+            if has_room(lab) {
+                tell_turned(lab.serve(job as usize), turned)
+            } else {
+                JOURNAL_FULL
+            }
+        }
         _ => NOT_OPEN,
     };
     put(&mut bench.slot, &mut bench.live, inside);
@@ -42,14 +58,20 @@ pub fn serve(alloc: Global, bench: &mut Handle, job: u32, turned: &mut LabTurned
 
 /// Serves each job but this one.
 pub fn serve_others(alloc: Global, bench: &mut Handle, job: u32, turned: &mut LabTurned) -> u32
-    ensures { InLab (ServesRest job) bench.old.slot.held bench.new.slot.held turned.old turned.new result }
+    ensures { InLab (InRoom (ServesRest job)) bench.old.slot.held bench.new.slot.held turned.old turned.new result }
 {
     let mut inside = match take(&mut bench.slot, &mut bench.live, alloc) {
         Ok(inside) => inside,
         Err(status) => return status,
     };
     let status = match &mut *inside {
-        Inside::Open(lab) => tell_turned(lab.serve_others(job as usize), turned),
+        Inside::Open(lab) => {
+            if has_room(lab) {
+                tell_turned(lab.serve_others(job as usize), turned)
+            } else {
+                JOURNAL_FULL
+            }
+        }
         _ => NOT_OPEN,
     };
     put(&mut bench.slot, &mut bench.live, inside);
@@ -58,30 +80,54 @@ pub fn serve_others(alloc: Global, bench: &mut Handle, job: u32, turned: &mut La
 
 /// Begins the next session of each job of `waiting`, and does all that can be done without a word from an owner.
 pub fn settle(alloc: Global, bench: &mut Handle, waiting: u32, came: &mut LabCame) -> u32
-    ensures { InLab (SettlesAll waiting) bench.old.slot.held bench.new.slot.held came.old came.new result }
+    ensures { InLab (InRoom (SettlesAll waiting)) bench.old.slot.held bench.new.slot.held came.old came.new result }
 {
     let mut inside = match take(&mut bench.slot, &mut bench.live, alloc) {
         Ok(inside) => inside,
         Err(status) => return status,
     };
     let status = match &mut *inside {
-        Inside::Open(lab) => tell_came(lab.settle(waiting), came),
+        Inside::Open(lab) => {
+            if has_room(lab) {
+                tell_came(lab.settle(waiting), came)
+            } else {
+                JOURNAL_FULL
+            }
+        }
         _ => NOT_OPEN,
     };
     put(&mut bench.slot, &mut bench.live, inside);
     status
 }
 
+/// How many settles a call may do: one, if the lab keeps its steps, so that there is room for them.
+fn settles_of(lab: &Lab, most: u32) -> u32
+    ensures { result ≡ settles_of lab.now most }
+{
+    if lab.world().kept_room() == 0 {
+        most
+    } else {
+        most.min(1)
+    }
+}
+
 /// Settles for one job alone, at most this many times, until it holds.
 pub fn begin(alloc: Global, bench: &mut Handle, job: u32, most: u32, turned: &mut LabTurned) -> u32
-    ensures { InLab (GoesToHold most job) bench.old.slot.held bench.new.slot.held turned.old turned.new result }
+    ensures { InLab (InRoom (GoesToHold most job)) bench.old.slot.held bench.new.slot.held turned.old turned.new result }
 {
     let mut inside = match take(&mut bench.slot, &mut bench.live, alloc) {
         Ok(inside) => inside,
         Err(status) => return status,
     };
     let status = match &mut *inside {
-        Inside::Open(lab) => tell_begun(lab.begin(job as usize, most), turned),
+        Inside::Open(lab) => {
+            if has_room(lab) {
+                let few = settles_of(lab, most);
+                tell_begun(lab.begin(job as usize, few), turned)
+            } else {
+                JOURNAL_FULL
+            }
+        }
         _ => NOT_OPEN,
     };
     put(&mut bench.slot, &mut bench.live, inside);
@@ -90,14 +136,20 @@ pub fn begin(alloc: Global, bench: &mut Handle, job: u32, most: u32, turned: &mu
 
 /// Does the next command of the session that a job holds, and tells its entry.
 pub fn command(alloc: Global, bench: &mut Handle, job: u32, entry: &mut LabEntry) -> u32
-    ensures { InLab (DoesNext job) bench.old.slot.held bench.new.slot.held entry.old entry.new result }
+    ensures { InLab (InRoom (DoesNext job)) bench.old.slot.held bench.new.slot.held entry.old entry.new result }
 {
     let mut inside = match take(&mut bench.slot, &mut bench.live, alloc) {
         Ok(inside) => inside,
         Err(status) => return status,
     };
     let status = match &mut *inside {
-        Inside::Open(lab) => tell_command(lab.command(job as usize), entry),
+        Inside::Open(lab) => {
+            if has_room(lab) {
+                tell_command(lab.command(job as usize), entry)
+            } else {
+                JOURNAL_FULL
+            }
+        }
         _ => NOT_OPEN,
     };
     put(&mut bench.slot, &mut bench.live, inside);
@@ -106,14 +158,20 @@ pub fn command(alloc: Global, bench: &mut Handle, job: u32, entry: &mut LabEntry
 
 /// Does the commands that are left of the session that a job holds, ends it, and does all that this makes due.
 pub fn end(alloc: Global, bench: &mut Handle, job: u32, turned: &mut LabTurned) -> u32
-    ensures { InLab (LetsGo job) bench.old.slot.held bench.new.slot.held turned.old turned.new result }
+    ensures { InLab (InRoom (LetsGo job)) bench.old.slot.held bench.new.slot.held turned.old turned.new result }
 {
     let mut inside = match take(&mut bench.slot, &mut bench.live, alloc) {
         Ok(inside) => inside,
         Err(status) => return status,
     };
     let status = match &mut *inside {
-        Inside::Open(lab) => tell_ended(lab.end(job as usize), turned),
+        Inside::Open(lab) => {
+            if has_room(lab) {
+                tell_ended(lab.end(job as usize), turned)
+            } else {
+                JOURNAL_FULL
+            }
+        }
         _ => NOT_OPEN,
     };
     put(&mut bench.slot, &mut bench.live, inside);
@@ -122,14 +180,20 @@ pub fn end(alloc: Global, bench: &mut Handle, job: u32, turned: &mut LabTurned) 
 
 /// Gives up the session that a job is thirsty in, if it has a patience.
 pub fn withdraw(alloc: Global, bench: &mut Handle, job: u32) -> u32
-    ensures { InLab (GivesUp job) bench.old.slot.held bench.new.slot.held tt tt result }
+    ensures { InLab (InRoom (GivesUp job)) bench.old.slot.held bench.new.slot.held tt tt result }
 {
     let mut inside = match take(&mut bench.slot, &mut bench.live, alloc) {
         Ok(inside) => inside,
         Err(status) => return status,
     };
     let status = match &mut *inside {
-        Inside::Open(lab) => tell_withdrew(lab.withdraw(job as usize)),
+        Inside::Open(lab) => {
+            if has_room(lab) {
+                tell_withdrew(lab.withdraw(job as usize))
+            } else {
+                JOURNAL_FULL
+            }
+        }
         _ => NOT_OPEN,
     };
     put(&mut bench.slot, &mut bench.live, inside);
@@ -138,14 +202,20 @@ pub fn withdraw(alloc: Global, bench: &mut Handle, job: u32) -> u32
 
 /// Retires a job whose sessions are all done.
 pub fn retire(alloc: Global, bench: &mut Handle, job: u32, most: u32, turned: &mut LabTurned) -> u32
-    ensures { InLab (GoesToEnd most job) bench.old.slot.held bench.new.slot.held turned.old turned.new result }
+    ensures { InLab (InRoom (GoesToEnd most job)) bench.old.slot.held bench.new.slot.held turned.old turned.new result }
 {
     let mut inside = match take(&mut bench.slot, &mut bench.live, alloc) {
         Ok(inside) => inside,
         Err(status) => return status,
     };
     let status = match &mut *inside {
-        Inside::Open(lab) => tell_retired(lab.retire(job as usize, most), turned),
+        Inside::Open(lab) => {
+            if has_room(lab) {
+                tell_retired(lab.retire(job as usize, most), turned)
+            } else {
+                JOURNAL_FULL
+            }
+        }
         _ => NOT_OPEN,
     };
     put(&mut bench.slot, &mut bench.live, inside);

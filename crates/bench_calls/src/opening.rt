@@ -1,6 +1,6 @@
 //! How a handle gets a lab.
 ghost use Rattle.std.specs.Prelude.{IfOk, IfErr};
-ghost use Rattle.bench_calls.specs.Calls.{Opens, IsOpened, IsNotOpened};
+ghost use Rattle.bench_calls.specs.Calls.{Opens, IsFresh, IsOpened, IsNotOpened};
 
 use c_handles::{Handle, Inside, claim, put, release};
 use c_tells::{Told, fail};
@@ -10,7 +10,7 @@ use std::alloc::Global;
 
 /// A lab for a script, in a box; or the status that says why not, with the fault told.
 fn opened(alloc: Global, script: &[u8], told: &mut Told) -> Result<Box<Inside, Global>, u32>
-    ensures opened { IfOk result (λ b. IsOpened script.now b.value told.old told.new) }
+    ensures opened { IfOk result (λ b. IsOpened IsFresh script.now b.value told.old told.new) }
     ensures refused { IfErr result (λ status. IsNotOpened script.now told.new status) }
 {
     match Lab::open(alloc, script) {
@@ -24,7 +24,7 @@ fn opened(alloc: Global, script: &[u8], told: &mut Told) -> Result<Box<Inside, G
 
 /// Opens a lab for a script. A handle that is in use stays as it is.
 pub fn open(alloc: Global, script: &[u8], bench: &mut Handle, told: &mut Told) -> u32
-    ensures { Opens script.now bench.old.slot.held bench.new.slot.held told.old told.new result }
+    ensures { Opens IsFresh script.now bench.old.slot.held bench.new.slot.held told.old told.new result }
 {
     if let Err(status) = claim(&bench.slot, &mut bench.live) {
         return status;

@@ -16,12 +16,17 @@ use session_layer::Turned;
 /// The status if there is no such job, session or instrument.
 pub const NO_JOB: u32 = 2;
 
+pub(crate) const NO_MEMORY: u32 = 5;
+
 /// The status if what was asked for isn't so.
 pub const NOT_NOW: u32 = 8;
 
 const NO_SESSION: u32 = 9;
 
 const SESSIONS_LEFT: u32 = 10;
+
+/// The status if a lab keeps its steps and has no room for those of one more call.
+pub(crate) const JOURNAL_FULL: u32 = 12;
 
 /// Whether a session was given up.
 pub fn withdrew(did: bool) -> u32

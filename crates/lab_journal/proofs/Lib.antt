@@ -1,0 +1,3 @@
+pub mod Taken
+pub mod ComesBack
+pub mod Finished
