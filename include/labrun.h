@@ -261,6 +261,35 @@ uint32_t lab_bench_close(struct lab_bench *bench, uint8_t *report, size_t room, 
    `struct lab_bench`. */
 uint32_t lab_bench_free(struct lab_bench *bench);
 
+/* ---- A bench that comes back when its process has died.
+
+   A bench that is opened by `lab_bench_open_kept` keeps the steps that its calls do, and `lab_journal` takes them as text. Write the
+   script (and a line end, if it has none), the line `steps`, and then each text that was taken, one after another, into a file: that is the
+   journal, and also an input of `labrun replay`. `lab_bench_resume` reads it, does the steps again, and the bench stands where it
+   stood. So whatever was written before the process died stays so: who held, holds, and what was logged, is logged.
+
+     - Take and write the journal before anybody acts on what a call told: before a thread works at its instruments, and before one
+       that let go says so. How often it is brought to the disk (fsync) is up to you.
+     - A file that was cut while it was written comes back to its last whole line; `written` tells how many bytes that is. Cut the file
+       there, take the journal of the bench that came back, and go on writing behind it.
+     - A command that was in hand is done on the way back; the next journal tells it. All patience counts anew.
+     - Room is kept for the steps of two calls. A call that does steps answers 12, and does nothing, if less than half of it is left: take
+       the journal then, or rather after each call. That the room suffices isn't proved: if it ever didn't, `lab_journal` would answer 12
+       for good, and never give a journal that lacks a step. `lab_begin` settles once at most on such a bench.
+     - In the file, comments of your own begin with `# ` and stand between two texts. A journal has 1000000 steps at most: start a new one
+       before. */
+
+/* As `lab_bench_open`, and the bench keeps its steps. 0; 1 with `told->line` and `told->cause`; 4; 5; 11. */
+uint32_t lab_bench_open_kept(const uint8_t *script, size_t length, struct lab_bench *bench, struct lab_told *told);
+
+/* Takes the steps that were done since the journal was last taken, as text, which may be empty; `written` tells its length. 0; 5; 6 with
+   `written`, and nothing is taken; 7; 8 if the bench doesn't keep its steps; 12, see above. */
+uint32_t lab_journal(struct lab_bench *bench, uint8_t *text, size_t room, size_t *written);
+
+/* Opens the bench that a journal tells of; it keeps its steps. 0, with `told->written` as the length of what was read, up to the last line
+   end; 1 with `told->line` and `told->cause`, as `lab_replay`, also (13) for a line `#sum` that doesn't fit the steps above it; 5; 11. */
+uint32_t lab_bench_resume(const uint8_t *journal, size_t length, struct lab_bench *bench, struct lab_told *told);
+
 /* ---- A bench with a desk for each thread.
 
    The same bench, used in another way: each job has a desk, and a thread that takes it (`lab_take_desk`) drives it by calls of its own,
