@@ -6,6 +6,8 @@ mod calls;
 #[cfg(test)]
 mod hall;
 #[cfg(test)]
+mod journals;
+#[cfg(test)]
 mod live;
 #[cfg(test)]
 mod runs;

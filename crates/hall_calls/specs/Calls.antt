@@ -112,10 +112,19 @@ GivesBack None new status = (status ≡ 7) × (new ≡ None)
 
 -- ---- calls on a desk
 
--- the desk did so, and is still of its bench and its job; or the handle has no desk, and nothing changed (7)
+-- the desk did so, and is still of its bench and its job
+pub record AtDesk {T : Type 0} (Did : DeskView → DeskView → T → T → ℕ → Type 0) (a b : Seated) (told told' : T) (status : ℕ) : Type 0 where
+  pub stays : Stays a b
+  pub did : Did a.desk.value b.desk.value told told' status
+
+-- so did the desk that the handle has; what is no desk stays as it is (7)
+abbrev pub InDesk : {T : Type 0} → (DeskView → DeskView → T → T → ℕ → Type 0) → Inside → Inside → T → T → ℕ → Type 0
+InDesk Did (Seat a) new told told' status = (b : Seated) × (new ≡ Seat b) × AtDesk Did a b told told' status
+InDesk Did other new told told' status = (status ≡ 7) × (new ≡ other) × (told' ≡ told)
+
+-- the same of a handle, which may have nothing (7)
 abbrev pub OnDesk : {T : Type 0} → (DeskView → DeskView → T → T → ℕ → Type 0) → Option Inside → Option Inside → T → T → ℕ → Type 0
-OnDesk Did (Some (Seat a)) new told told' status = (b : Seated) × (new ≡ Some (Seat b)) × Stays a b × Did a.desk.value b.desk.value told told' status
-OnDesk Did (Some other) new told told' status = (status ≡ 7) × (new ≡ Some other) × (told' ≡ told)
+OnDesk Did (Some old) new told told' status = (h : Inside) × (new ≡ Some h) × InDesk Did old h told told' status
 OnDesk Did None new told told' status = (status ≡ 7) × (new ≡ None) × (told' ≡ told)
 
 -- the answer is told

@@ -11,8 +11,8 @@ invariant_of-result c =
     let w = c.args.world in (
       record {
         opening = c.requires;
-        one_each = ap (λ (l : List Clock). length l) c.in_default-fresh_clocks.ensures ∙ (length-replicate c.jobs.result no_clock
+        one_each = ap (λ (l : List Clock). length l) c.in_ok-clocks.ensures ∙ (length-replicate c.jobs.result no_clock
             ∙ (c.jobs.ensures.jobs ∙ ap (λ (p : LabPlan). length p.jobs) c.plan-2.ensures.plan));
       },
-      subst (λ (p : LabPlan). AreMarked p w.state c.in_default.due) c.plan.ensures.plan (c.in_default.ensures.marked w.state),
+      subst (λ (p : LabPlan). AreMarked p w.state c.in_ok-due.due) c.plan.ensures.plan (c.in_ok-due.ensures.marked w.state),
     )
