@@ -114,7 +114,12 @@ fn may_be_torn(rt: HostRuntime) {
 fn finish_a_command_in_hand(rt: HostRuntime) {
     let mut lab = resumed(&rt, rt.alloc(), IN_HAND, 128);
     is_so_far(&rt, &lab, 0, Drinking::Drinking);
-    takes(&rt, rt.alloc(), &mut lab, b"#steps\nact a\n#sum 7d71d7b4e5920337\n");
+    takes(
+        &rt,
+        rt.alloc(),
+        &mut lab,
+        b"#steps\nact a\n#sum 7d71d7b4e5920337\n",
+    );
 }
 
 fn fault_of(rt: &impl Abort, alloc: Global, bytes: &[u8]) -> RunFault {

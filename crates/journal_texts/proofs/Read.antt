@@ -70,7 +70,7 @@ pieces_nameable : (plan : LabPlan) (pieces : List Piece) → AllByRecursion (IsN
 pieces_nameable plan [] all = tt
 pieces_nameable plan (piece ∷ pieces) all =
     let both = split_all (IsNameable plan) (map step_of piece.events) (map step_of (events_of pieces))
-        (subst (AllByRecursion (IsNameable plan)) (map_both piece.events (events_of pieces)) all) in
+    (subst (AllByRecursion (IsNameable plan)) (map_both piece.events (events_of pieces)) all) in
     (both.0, pieces_nameable plan pieces both.1)
 
 -- ---- the lines that are steps
@@ -101,7 +101,7 @@ piece_list plan n piece is all =
     skipped plan n (codes "#steps") (inner_lines plan piece) (begin_skipped plan)
     ∙ numbered-append (step_in plan) (n + 1) own (end_lines plan piece)
     ∙ (λ i. list_back plan (n + 1) (map step_of piece.events) is all i
-        ++ end_skipped plan (n + 1 + length own) (lines_text plan piece.events) piece.ended i)
+    ++ end_skipped plan (n + 1 + length own) (lines_text plan piece.events) piece.ended i)
     ∙ append-nil (map placed (lines_from_here (n + 1) (map step_of piece.events)))
 
 pieces_list : (plan : LabPlan) (n : ℕ) (pieces : List Piece) → IsPlan plan → AreNameable plan pieces

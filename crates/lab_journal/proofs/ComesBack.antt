@@ -1,5 +1,5 @@
 -- A lab that is resumed from a journal stands where its events lead.
-use Rattle.std.proofs.Common.{◌≡◌, ◌≢◌, ◌⊎◌, ℕ, ◌+◌, ◌-◌, ◌<◌, ◌≤◌, Bool, true, false, if◌then◌else◌, List, [], ◌∷◌, ◌++◌, length, take, get_or, refl, sym, ap, ◌∙◌, subst, inl, inr, arith, append_assoc, append-nil, length-append}
+use Rattle.std.proofs.Common.{◌≡◌, ◌≢◌, ◌⊎◌, ℕ, ◌+◌, ◌<◌, ◌≤◌, Bool, true, false, if◌then◌else◌, List, [], ◌∷◌, ◌++◌, length, take, get_or, refl, sym, ap, ◌∙◌, subst, inl, inr, arith, append_assoc, append-nil, length-append}
 use Rattle.std.specs.Prelude.{codes, map, slice_index}
 use Rattle.std.specs.List.{All, flat_map}
 use Rattle.std.proofs.lemmas.List.{ext_get_or, get_or-append-add, take_all}
@@ -7,16 +7,15 @@ use Rattle.lab_plan.specs.LabPlan.{LabPlan}
 use Rattle.legal_steps.specs.declared.event.Event.{Event}
 use Rattle.legal_steps.specs.declared.event.Event.TheVariants.{Act}
 use Rattle.legal_steps.specs.declared.event.Step.{Step}
-use Rattle.legal_steps.specs.declared.event.StepLine.{StepLine}
 use Rattle.legal_steps.specs.declared.phase.Drinking.TheVariants.{Reaching}
 use Rattle.legal_steps.specs.declared.counts.Counts.{Counts}
 use Rattle.legal_steps.specs.State.{State, drinking}
 use Rattle.legal_steps.specs.Legal.{IsJob, May}
 use Rattle.legal_steps.specs.Opening.{the_opening}
-use Rattle.legal_steps.specs.Run.{IsLegalFrom, after_all}
+use Rattle.legal_steps.specs.Run.{IsLegalFrom}
 use Rattle.legal_steps.specs.Counting.{no_counts}
 use Rattle.interleaving.specs.Counting.{AreCountsOf}
-use Rattle.interleaving.specs.World.{WorldView, IsReachedBy}
+use Rattle.interleaving.specs.World.{IsReachedBy}
 use Rattle.turns.proofs.Runs.{legal-goes_on}
 use Rattle.script_reader.specs.Laws.{HasOneList}
 use Rattle.script_reader.specs.Steps.{StepsMean}
@@ -26,8 +25,7 @@ use Rattle.written_steps.specs.StepLists.{script_head, step_line, step_lines, la
 use Rattle.journal_texts.specs.Lines.{AreWholeLines}
 use Rattle.journal_texts.specs.Reading.{IsRead, FilesAreRead}
 use Rattle.journal_texts.specs.Texts.{Piece, events_of, lines_text, sum_line, end_text, piece_text, file_text}
-use Rattle.live_lab.specs.Labs.{LabView}
-use Rattle.lab_journal.specs.Resumed.{IsAct, IsResumed}
+use Rattle.lab_journal.specs.Resumed.{IsAct}
 use Rattle.lab_journal.specs.Laws.{ResumesAt, JournalComesBack}
 
 -- ---- a journal ends with a line feed
@@ -85,7 +83,7 @@ all_of_it file n fed lines =
     small n (length fed.0) (length file) size lines.within (λ less. lines.behind (length fed.0) less (omega (arith, size)) last)
   where
     small : (n k m : ℕ) → m ≡ k + 1 → n ≤ m → (n ≤ k → ⊥) → n ≡ m
-    small n k m e h no = omega (arith, e, h, no)
+    small n k m e h less = omega (arith, e, h, less)
 
 -- ---- no command was in hand
 
@@ -119,11 +117,11 @@ stands_there one plan file events s counts fed read by none n x is =
     subst (λ (z : LabPlan × State × List Event). IsReachedBy z.0 z.1 z.2 x.world.state x.world.counts)
     (λ i. (same i, (is.opening ∙ ap the_opening same) i, past i)) is.reached in
     let legal : IsLegalFrom plan s is.acts = subst (λ (z : State). IsLegalFrom plan z is.acts) (sym by.run.leads)
-        (legal-goes_on plan (the_opening plan) events is.acts reached.run.legal) in
-    let no = no_acts plan s is.acts is.are_acts legal none in
+    (legal-goes_on plan (the_opening plan) events is.acts reached.run.legal) in
+    let none_left = no_acts plan s is.acts is.are_acts legal none in
     let there = same_way plan (the_opening plan) events x.world.state s x.world.counts counts
-        (subst (λ (l : List Event). IsReachedBy plan (the_opening plan) l x.world.state x.world.counts)
-            (ap (λ (l : List Event). events ++ l) no ∙ append-nil events) reached) by in
+    (subst (λ (l : List Event). IsReachedBy plan (the_opening plan) l x.world.state x.world.counts)
+    (ap (λ (l : List Event). events ++ l) none_left ∙ append-nil events) reached) by in
     (all, same, there.0, there.1)
 
 pub journal_comes_back : FilesAreRead → HasOneList → JournalComesBack

@@ -1,24 +1,28 @@
 -- Commands in hand are done.
-use Rattle.std.proofs.Common.{◌≡◌, ◌≢◌, ℕ, ◌+◌, ◌<◌, ◌≤◌, List, [], ◌∷◌, ◌++◌, length, refl, sym, ap, ◌∙◌, subst, arith, append-nil, length-append, inl, inr, ⊎_elim}
-use Rattle.std.specs.List.{All}
+use Rattle.std.proofs.Common.{◌≡◌, ◌≢◌, ℕ, ◌+◌, ◌<◌, ◌≤◌, [], ◌∷◌, ◌++◌, length, refl, sym, ap, ◌∙◌, subst, arith, append-nil, length-append, ⊎_elim}
 use Rattle.std.proofs.lemmas.List.Elements.{All-append, All-cons, All-nil}
-use Rattle.std.proofs.lemmas.Nat.{cases_eq}
-use Rattle.lab_plan.specs.LabPlan.{LabPlan}
-use Rattle.legal_steps.specs.declared.event.Event.{Event}
+use Rattle.std.proofs.lemmas.Bool.{cases_eq}
 use Rattle.legal_steps.specs.declared.event.Event.TheVariants.{Act}
 use Rattle.legal_steps.specs.declared.phase.Drinking.{Drinking}
 use Rattle.legal_steps.specs.declared.phase.Drinking.TheVariants.{Drinking as Drinks, Reaching}
 use Rattle.legal_steps.specs.declared.phase.JobState.{JobState}
-use Rattle.legal_steps.specs.State.{State, Seat, phase, drinking, position}
-use Rattle.legal_steps.specs.Legal.{IsJob, after, with_entry, next_command, next_entry}
+use Rattle.legal_steps.specs.State.{State, Seat, seat, phase, drinking, position}
+use Rattle.legal_steps.specs.Legal.{IsJob, after, with_entry, with_phase, next_command, next_entry}
+use Rattle.legal_steps.proofs.FitsWrites.{seat_same}
 use Rattle.interleaving.specs.World.{WorldView, GoesOnBy, IsReachedWith}
 use Rattle.interleaving.proofs.GoingOn.{by_both}
 use Rattle.turns.proofs.Frame.{other_seat}
-use Rattle.live_lab.proofs.Phases.{has_seat, phase_set}
+use Rattle.settling.proofs.Worlds.{reached_fits}
 use Rattle.lab_journal.specs.Resumed.{IsAct}
 use Rattle.lab_journal.specs.Finishing.{Finishes}
 
 -- ---- one job
+
+has_seat : (w : WorldView) (j : ℕ) → IsReachedWith w.plan w.state w.counts → IsJob w.plan j → j < length w.state.seats
+has_seat w j r job = subst (λ n. j < n) (sym (reached_fits w r).seats_there) job
+
+phase_set : (s : State) (j : ℕ) (p : JobState) → j < length s.seats → phase (with_phase s j p) j ≡ p
+phase_set s j p inside = ap (λ (x : Seat). x.phase) (seat_same s j (record (seat s j) { phase = p }) inside)
 
 -- behind the command the job drinks
 pub acted : (w : WorldView) (s' : State) (j : ℕ) → IsReachedWith w.plan w.state w.counts → IsJob w.plan j → s' ≡ after w.plan w.state (Act j)

@@ -1,11 +1,11 @@
 -- What was taken of a lab stays taken.
-use Rattle.std.proofs.Common.{◌≡◌, ℕ, ◌+◌, ◌-◌, ◌≤◌, Bool, true, false, ltb, if◌then◌else◌, List, [], ◌∷◌, ◌++◌, length, take, refl, sym, ap, ◌∙◌, subst, arith, append_assoc, append-nil, length-append}
+use Rattle.std.proofs.Common.{◌≡◌, ℕ, ◌+◌, ◌-◌, ◌≤◌, Bool, true, false, ltb, if◌then◌else◌, List, [], ◌∷◌, ◌++◌, length, take, refl, sym, ap, ◌∙◌, arith, append_assoc, append-nil, length-append}
 use Rattle.std.proofs.lemmas.Bool.{false≢true}
 use Rattle.std.proofs.lemmas.Bool.Decides.{Decides-ltb}
 use Rattle.std.proofs.lemmas.List.{take_at}
 use Rattle.legal_steps.specs.declared.event.Event.{Event}
-use Rattle.interleaving.specs.Kept.{Kept, next_kept, after_kept, IsKept}
-use Rattle.interleaving.specs.World.{WorldView, LeadsTo}
+use Rattle.interleaving.specs.Kept.{Kept, after_kept}
+use Rattle.interleaving.specs.World.{WorldView}
 use Rattle.lab_journal.specs.Taking.{taken}
 use Rattle.lab_journal.specs.Laws.{JournalsFollow}
 
@@ -17,17 +17,20 @@ taken_is w before is =
     (λ i. take (n i) (is i)) ∙ take_at before w.kept.events (length before) refl
 
 -- if none was left out, all are there
-all_kept : (kept : Kept) (events : List Event) → (after_kept kept events).whole ≡ true
-    → (kept.whole ≡ true) × ((after_kept kept events).events ≡ kept.events ++ events)
-all_kept kept [] whole = (whole, sym (append-nil kept.events))
-all_kept kept (event ∷ events) whole = chosen (ltb (length kept.events) kept.room) whole
-  where
-    next : Bool → Kept
-    next b = if b then record kept { events = kept.events ++ event ∷ [] } else record kept { whole = false }
+abbrev AreAllKept : Kept → List Event → Type 0
+AreAllKept kept events = (after_kept kept events).whole ≡ true → (kept.whole ≡ true) × ((after_kept kept events).events ≡ kept.events ++ events)
 
-    chosen : (b : Bool) → (after_kept (next b) events).whole ≡ true → (kept.whole ≡ true) × ((after_kept (next b) events).events ≡ kept.events ++ event ∷ events)
-    chosen true h = let more = all_kept (next true) events h in (more.0, more.1 ∙ append_assoc kept.events (event ∷ []) events)
-    chosen false h = absurd (false≢true (all_kept (next false) events h).0)
+one_kept : (kept : Kept) (event : Event) (events : List Event) (b : Bool) → ((k : Kept) → AreAllKept k events)
+    → (after_kept (if b then record kept { events = kept.events ++ event ∷ [] } else record kept { whole = false }) events).whole ≡ true
+    → (kept.whole ≡ true) × ((after_kept (if b then record kept { events = kept.events ++ event ∷ [] } else record kept { whole = false }) events).events
+    ≡ kept.events ++ event ∷ events)
+one_kept kept event events true more whole =
+    let all = more (record kept { events = kept.events ++ event ∷ [] }) whole in (all.0, all.1 ∙ append_assoc kept.events (event ∷ []) events)
+one_kept kept event events false more whole = absurd (false≢true (more (record kept { whole = false }) whole).0)
+
+all_kept : (kept : Kept) (events : List Event) → AreAllKept kept events
+all_kept kept [] = λ whole. (whole, sym (append-nil kept.events))
+all_kept kept (event ∷ events) = one_kept kept event events (ltb (length kept.events) kept.room) (λ k. all_kept k events)
 
 pub journals_follow : JournalsFollow
 journals_follow x y events led is whole =

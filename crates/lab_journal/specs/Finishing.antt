@@ -1,5 +1,5 @@
 -- What comes of a journal: the world after its steps, and the lab after the commands in hand.
-use Rattle.std.specs.Prelude.{◌≡◌, ◌≢◌, ℕ, ◌≤◌, true, List, ◌++◌, length, replicate, None}
+use Rattle.std.specs.Prelude.{◌≡◌, ◌≢◌, ℕ, ◌≤◌, true, List, ◌++◌, length, map, replicate, slice_get, Result, Ok, Err, None, Some}
 use Rattle.std.specs.List.{All}
 use Rattle.legal_steps.specs.declared.event.Event.{Event}
 use Rattle.legal_steps.specs.declared.event.StepLine.{StepLine}
@@ -7,6 +7,8 @@ use Rattle.legal_steps.specs.declared.phase.Drinking.TheVariants.{Reaching}
 use Rattle.legal_steps.specs.State.{drinking}
 use Rattle.legal_steps.specs.Legal.{IsJob}
 use Rattle.legal_steps.specs.Opening.{the_opening}
+use Rattle.legal_steps.specs.Run.{StopsAt}
+use Rattle.legal_steps.specs.Steps.{step_events}
 use Rattle.interleaving.specs.World.{WorldView, GoesOnBy}
 use Rattle.script_reader.specs.Steps.{StepsMean}
 use Rattle.explaining.specs.Explanations.{events_from_opening}
@@ -22,6 +24,14 @@ pub record Finishes (n : ℕ) (old new : WorldView) : Type 0 where
   pub few : length acts ≤ n
   pub same_plan : new.plan ≡ old.plan
   pub goes_on : GoesOnBy old acts new
+
+-- the steps were done one after another; or this line's is the first that isn't legal
+abbrev pub TakesSteps : WorldView → List StepLine → Result (Unit {0}) ℕ → WorldView → Type 0
+TakesSteps old steps (Ok done) new =
+    (new.plan ≡ old.plan) × GoesOnBy old (step_events old.plan old.state (map (λ (step : StepLine). step.step) steps)) new
+TakesSteps old steps (Err line) new =
+    (place : ℕ) × StopsAt old.plan old.state (step_events old.plan old.state (map (λ (step : StepLine). step.step) steps)) place new.state
+    × (slice_get (map (λ (step : StepLine). step.line) steps) place ≡ Some line)
 
 -- the world after the steps of a text, whose sums are right
 pub record IsReplayed (text : List ℕ) (w : WorldView) : Type 0 where

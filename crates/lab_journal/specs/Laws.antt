@@ -1,8 +1,7 @@
 -- For readers: what holds of journals.
-use Rattle.std.specs.Prelude.{◌≡◌, ◌≢◌, ℕ, ◌≤◌, Bool, true, List, ◌++◌, length, take, None}
+use Rattle.std.specs.Prelude.{◌≡◌, ◌≢◌, ℕ, ◌≤◌, true, List, length}
 use Rattle.lab_plan.specs.LabPlan.{LabPlan}
 use Rattle.legal_steps.specs.declared.event.Event.{Event}
-use Rattle.legal_steps.specs.declared.event.StepLine.{StepLine}
 use Rattle.legal_steps.specs.declared.phase.Drinking.TheVariants.{Reaching}
 use Rattle.legal_steps.specs.declared.counts.Counts.{Counts}
 use Rattle.legal_steps.specs.State.{State, drinking}
@@ -11,8 +10,6 @@ use Rattle.legal_steps.specs.Opening.{the_opening}
 use Rattle.interleaving.specs.Kept.{IsKept}
 use Rattle.interleaving.specs.World.{WorldView, IsReachedBy, LeadsTo}
 use Rattle.script_reader.specs.Script.{ScriptMeans}
-use Rattle.script_reader.specs.Steps.{StepsMean}
-use Rattle.explaining.specs.Explanations.{events_from_opening}
 use Rattle.live_lab.specs.Labs.{LabView}
 use Rattle.journal_texts.specs.Texts.{Piece, events_of, file_text}
 use Rattle.journal_texts.specs.Reading.{IsRead}
@@ -40,4 +37,3 @@ JournalComesBack =
     → IsReachedBy plan (the_opening plan) (events_of pieces) s counts → length (events_of pieces) ≤ 1000000
     → IsRead plan (file_text plan script pieces) (events_of pieces)
     × (((j : ℕ) → IsJob plan j → drinking s j ≢ Reaching) → ResumesAt (file_text plan script pieces) plan s counts)
-

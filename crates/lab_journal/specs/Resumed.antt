@@ -10,8 +10,7 @@ use Rattle.legal_steps.specs.Legal.{IsJob}
 use Rattle.legal_steps.specs.Opening.{the_opening}
 use Rattle.legal_steps.specs.Run.{StopsAt}
 use Rattle.lab_plan.specs.LabPlan.{LabPlan}
-use Rattle.interleaving.specs.World.{WorldView, IsReachedBy}
-use Rattle.script_reader.specs.declared.fault.ScriptFault.{ScriptFault}
+use Rattle.interleaving.specs.World.{IsReachedBy}
 use Rattle.script_reader.specs.declared.fault.ScriptCause.TheVariants.{BadStep}
 use Rattle.script_reader.specs.Steps.{StepsMean, StepsRefuse}
 use Rattle.explaining.specs.Explanations.{events_from_opening}

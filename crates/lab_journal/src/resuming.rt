@@ -1,9 +1,11 @@
 //! A lab that comes back from its journal.
 ghost use Rattle.std.specs.Prelude.{◌≡◌, IfOk, IfErr};
+ghost use Rattle.std.specs.List.{All};
 ghost use Rattle.legal_steps.specs.Opening.{the_opening};
+ghost use Rattle.legal_steps.specs.Steps.{IsStepOf};
 ghost use Rattle.lab_program.specs.declared.faults.RunFault.TheVariants.{NoMemory};
 ghost use Rattle.lab_journal.specs.Resumed.{IsResumed, IsRefused, IsNotResumed};
-ghost use Rattle.lab_journal.specs.Finishing.{IsReplayed, IsKeptIn};
+ghost use Rattle.lab_journal.specs.Finishing.{TakesSteps, IsReplayed, IsKeptIn};
 
 use crate::finishing::finish;
 use crate::room::room_of;
@@ -12,7 +14,18 @@ use journal_texts::{whole_lines, wrong_sum};
 use lab_program::RunFault;
 use live_lab::Lab;
 use script_reader::{ScriptCause, ScriptFault, read_steps};
-use std::alloc::Global;
+use std::alloc::{Allocator, Global};
+
+/// Takes steps one after another while they are legal; otherwise answers the line of the first that isn't.
+fn take_steps<A: Allocator>(world: &mut World<A>, steps: &[StepLine]) -> Result<(), usize>
+    requires { All (λ line. IsStepOf world.old.plan line.step) steps.now }
+    ensures { TakesSteps world.old steps.now result world.new }
+{
+    match world.replay_steps(steps) {
+        Ok(_) => Ok(()),
+        Err((place, _)) => Err(steps[place].line),
+    }
+}
 
 /// The world after the steps of a text.
 fn replayed(alloc: Global, text: &[u8]) -> Result<World<'static, Global>, RunFault>
@@ -21,10 +34,8 @@ fn replayed(alloc: Global, text: &[u8]) -> Result<World<'static, Global>, RunFau
 {
     let (plan, steps) = read_steps(alloc, text)?;
     let mut world = World::of_plan(alloc, plan)?;
-    if let Err((place, _)) = world.replay_steps(&steps) {
-        return Err(RunFault::Step {
-            line: steps[place].line,
-        });
+    if let Err(line) = take_steps(&mut world, &steps) {
+        return Err(RunFault::Step { line });
     }
     match wrong_sum(text) {
         None => Ok(world),
@@ -57,5 +68,7 @@ pub fn resume(alloc: Global, journal: &[u8]) -> Result<(Lab, usize), RunFault>
     let n = whole_lines(journal);
     let world = replayed(alloc, &journal[..n])?;
     let lab = kept_lab(alloc, world)?;
+    // The lab's world is where its past leads.
+    let _ = lab.world().plan();
     Ok((lab, n))
 }

@@ -280,7 +280,7 @@ spaced_head plan lines last one own some means =
       as_many = length-append front (other ∷ []) ∙ sym (length-append front (last ∷ [])) ∙ ap length (sym read);
       cut = λ tail. ap text_lines (append_assoc (bytes ++ codes " \n") (codes "steps\n") tail)
           ∙ (ap (λ l. text_lines (l ++ (codes "steps\n" ++ tail))) cut
-              ∙ ended_lines lines other tail one inside (ends_behind 13 last (codes " ") (omega arith)));
+          ∙ ended_lines lines other tail one inside (ends_behind 13 last (codes " ") (omega arith)));
     }
 
 open_head : (plan : LabPlan) (lines : List (List ℕ)) (last : List ℕ) → AllByRecursion IsOneLine lines → IsOneLine last → 0 < length last
