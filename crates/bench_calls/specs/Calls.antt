@@ -59,7 +59,7 @@ InLab Did (Some other) new told told' status = (status ≡ 7) × (new ≡ Some o
 InLab Did None new told told' status = (status ≡ 7) × (new ≡ None) × (told' ≡ told)
 
 abbrev pub IfSo : {T : Type 0} → Bool → (LabView → LabView → T → T → ℕ → Type 0) → LabView → LabView → T → T → ℕ → Type 0
-IfSo true Did = Did
+IfSo true Did a b told told' status = Did a b told told' status
 IfSo false Did a b told told' status = (status ≡ 12) × (b ≡ a) × (told' ≡ told)
 
 -- so it was, if the lab keeps no steps or has room for those of a call; or else nothing changed (12)

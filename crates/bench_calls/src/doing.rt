@@ -12,6 +12,101 @@ use lab_journal::has_room;
 use live_lab::Lab;
 use std::alloc::Global;
 
+/// How many settles a call may do: one, if the lab keeps its steps, so that there is room for them.
+fn settles_of(lab: &Lab, most: u32) -> u32
+    ensures { result ≡ settles_of lab.now most }
+{
+    if lab.world().kept_room() == 0 {
+        most
+    } else {
+        most.min(1)
+    }
+}
+
+// What is done in the lab, if it has room for the steps.
+
+fn turn_in(lab: &mut Lab, job: u32, turned: &mut LabTurned) -> u32
+    ensures { InRoom (Turns job) lab.old lab.new turned.old turned.new result }
+{
+    if !has_room(lab) {
+        return JOURNAL_FULL;
+    }
+    tell_turned(lab.turn(job as usize), turned)
+}
+
+fn serve_in(lab: &mut Lab, job: u32, turned: &mut LabTurned) -> u32
+    ensures { InRoom (Serves job) lab.old lab.new turned.old turned.new result }
+{
+    if !has_room(lab) {
+        return JOURNAL_FULL;
+    }
+    tell_turned(lab.serve(job as usize), turned)
+}
+
+fn serve_others_in(lab: &mut Lab, job: u32, turned: &mut LabTurned) -> u32
+    ensures { InRoom (ServesRest job) lab.old lab.new turned.old turned.new result }
+{
+    if !has_room(lab) {
+        return JOURNAL_FULL;
+    }
+    tell_turned(lab.serve_others(job as usize), turned)
+}
+
+fn settle_in(lab: &mut Lab, waiting: u32, came: &mut LabCame) -> u32
+    ensures { InRoom (SettlesAll waiting) lab.old lab.new came.old came.new result }
+{
+    if !has_room(lab) {
+        return JOURNAL_FULL;
+    }
+    tell_came(lab.settle(waiting), came)
+}
+
+fn begin_in(lab: &mut Lab, job: u32, most: u32, turned: &mut LabTurned) -> u32
+    ensures { InRoom (GoesToHold most job) lab.old lab.new turned.old turned.new result }
+{
+    if !has_room(lab) {
+        return JOURNAL_FULL;
+    }
+    let few = settles_of(lab, most);
+    tell_begun(lab.begin(job as usize, few), turned)
+}
+
+fn command_in(lab: &mut Lab, job: u32, entry: &mut LabEntry) -> u32
+    ensures { InRoom (DoesNext job) lab.old lab.new entry.old entry.new result }
+{
+    if !has_room(lab) {
+        return JOURNAL_FULL;
+    }
+    tell_command(lab.command(job as usize), entry)
+}
+
+fn end_in(lab: &mut Lab, job: u32, turned: &mut LabTurned) -> u32
+    ensures { InRoom (LetsGo job) lab.old lab.new turned.old turned.new result }
+{
+    if !has_room(lab) {
+        return JOURNAL_FULL;
+    }
+    tell_ended(lab.end(job as usize), turned)
+}
+
+fn withdraw_in(lab: &mut Lab, job: u32) -> u32
+    ensures { InRoom (GivesUp job) lab.old lab.new tt tt result }
+{
+    if !has_room(lab) {
+        return JOURNAL_FULL;
+    }
+    tell_withdrew(lab.withdraw(job as usize))
+}
+
+fn retire_in(lab: &mut Lab, job: u32, most: u32, turned: &mut LabTurned) -> u32
+    ensures { InRoom (GoesToEnd most job) lab.old lab.new turned.old turned.new result }
+{
+    if !has_room(lab) {
+        return JOURNAL_FULL;
+    }
+    tell_retired(lab.retire(job as usize, most), turned)
+}
+
 /// One turn of a job.
 pub fn turn(alloc: Global, bench: &mut Handle, job: u32, turned: &mut LabTurned) -> u32
     ensures { InLab (InRoom (Turns job)) bench.old.slot.held bench.new.slot.held turned.old turned.new result }
@@ -21,13 +116,7 @@ pub fn turn(alloc: Global, bench: &mut Handle, job: u32, turned: &mut LabTurned)
         Err(status) => return status,
     };
     let status = match &mut *inside {
-        Inside::Open(lab) => {
-            if has_room(lab) {
-                tell_turned(lab.turn(job as usize), turned)
-            } else {
-                JOURNAL_FULL
-            }
-        }
+        Inside::Open(lab) => turn_in(lab, job, turned),
         _ => NOT_OPEN,
     };
     put(&mut bench.slot, &mut bench.live, inside);
@@ -43,13 +132,7 @@ pub fn serve(alloc: Global, bench: &mut Handle, job: u32, turned: &mut LabTurned
         Err(status) => return status,
     };
     let status = match &mut *inside {
-        Inside::Open(lab) => {
-            if has_room(lab) {
-                tell_turned(lab.serve(job as usize), turned)
-            } else {
-                JOURNAL_FULL
-            }
-        }
+        Inside::Open(lab) => serve_in(lab, job, turned),
         _ => NOT_OPEN,
     };
     put(&mut bench.slot, &mut bench.live, inside);
@@ -65,13 +148,7 @@ pub fn serve_others(alloc: Global, bench: &mut Handle, job: u32, turned: &mut La
         Err(status) => return status,
     };
     let status = match &mut *inside {
-        Inside::Open(lab) => {
-            if has_room(lab) {
-                tell_turned(lab.serve_others(job as usize), turned)
-            } else {
-                JOURNAL_FULL
-            }
-        }
+        Inside::Open(lab) => serve_others_in(lab, job, turned),
         _ => NOT_OPEN,
     };
     put(&mut bench.slot, &mut bench.live, inside);
@@ -87,28 +164,11 @@ pub fn settle(alloc: Global, bench: &mut Handle, waiting: u32, came: &mut LabCam
         Err(status) => return status,
     };
     let status = match &mut *inside {
-        Inside::Open(lab) => {
-            if has_room(lab) {
-                tell_came(lab.settle(waiting), came)
-            } else {
-                JOURNAL_FULL
-            }
-        }
+        Inside::Open(lab) => settle_in(lab, waiting, came),
         _ => NOT_OPEN,
     };
     put(&mut bench.slot, &mut bench.live, inside);
     status
-}
-
-/// How many settles a call may do: one, if the lab keeps its steps, so that there is room for them.
-fn settles_of(lab: &Lab, most: u32) -> u32
-    ensures { result ≡ settles_of lab.now most }
-{
-    if lab.world().kept_room() == 0 {
-        most
-    } else {
-        most.min(1)
-    }
 }
 
 /// Settles for one job alone, at most this many times, until it holds.
@@ -120,14 +180,7 @@ pub fn begin(alloc: Global, bench: &mut Handle, job: u32, most: u32, turned: &mu
         Err(status) => return status,
     };
     let status = match &mut *inside {
-        Inside::Open(lab) => {
-            if has_room(lab) {
-                let few = settles_of(lab, most);
-                tell_begun(lab.begin(job as usize, few), turned)
-            } else {
-                JOURNAL_FULL
-            }
-        }
+        Inside::Open(lab) => begin_in(lab, job, most, turned),
         _ => NOT_OPEN,
     };
     put(&mut bench.slot, &mut bench.live, inside);
@@ -143,13 +196,7 @@ pub fn command(alloc: Global, bench: &mut Handle, job: u32, entry: &mut LabEntry
         Err(status) => return status,
     };
     let status = match &mut *inside {
-        Inside::Open(lab) => {
-            if has_room(lab) {
-                tell_command(lab.command(job as usize), entry)
-            } else {
-                JOURNAL_FULL
-            }
-        }
+        Inside::Open(lab) => command_in(lab, job, entry),
         _ => NOT_OPEN,
     };
     put(&mut bench.slot, &mut bench.live, inside);
@@ -165,13 +212,7 @@ pub fn end(alloc: Global, bench: &mut Handle, job: u32, turned: &mut LabTurned) 
         Err(status) => return status,
     };
     let status = match &mut *inside {
-        Inside::Open(lab) => {
-            if has_room(lab) {
-                tell_ended(lab.end(job as usize), turned)
-            } else {
-                JOURNAL_FULL
-            }
-        }
+        Inside::Open(lab) => end_in(lab, job, turned),
         _ => NOT_OPEN,
     };
     put(&mut bench.slot, &mut bench.live, inside);
@@ -187,13 +228,7 @@ pub fn withdraw(alloc: Global, bench: &mut Handle, job: u32) -> u32
         Err(status) => return status,
     };
     let status = match &mut *inside {
-        Inside::Open(lab) => {
-            if has_room(lab) {
-                tell_withdrew(lab.withdraw(job as usize))
-            } else {
-                JOURNAL_FULL
-            }
-        }
+        Inside::Open(lab) => withdraw_in(lab, job),
         _ => NOT_OPEN,
     };
     put(&mut bench.slot, &mut bench.live, inside);
@@ -209,13 +244,7 @@ pub fn retire(alloc: Global, bench: &mut Handle, job: u32, most: u32, turned: &m
         Err(status) => return status,
     };
     let status = match &mut *inside {
-        Inside::Open(lab) => {
-            if has_room(lab) {
-                tell_retired(lab.retire(job as usize, most), turned)
-            } else {
-                JOURNAL_FULL
-            }
-        }
+        Inside::Open(lab) => retire_in(lab, job, most, turned),
         _ => NOT_OPEN,
     };
     put(&mut bench.slot, &mut bench.live, inside);

@@ -3,7 +3,7 @@
 
 mod doing;
 mod ending;
-mod journal;
+mod journals;
 mod opening;
 mod reading;
 mod statuses;
@@ -11,7 +11,7 @@ mod told;
 
 pub use doing::{begin, command, end, retire, serve, serve_others, settle, turn, withdraw};
 pub use ending::{close, free};
-pub use journal::{journal, open_kept, resume};
+pub use journals::{journal, open_kept, resume};
 pub use opening::open;
 pub use reading::{instrument_name, job_name, keepers, planned, session, size, state};
 pub use statuses::{NO_JOB, NOT_NOW, stage_status, tell_entry, withdrew};
