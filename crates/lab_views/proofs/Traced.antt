@@ -1,5 +1,6 @@
 -- What is written for an input whose run was traced, and what run that is.
-use Rattle.std.proofs.Common.{◌≡◌, ℕ, ◌+◌, ◌≤◌, List, [], ◌∷◌, ◌++◌, length, map, drop, refl, sym, ap, ◌∙◌, subst, arith}
+use Rattle.std.proofs.Common.{◌≡◌, ℕ, zero, suc, ◌+◌, ◌<◌, ◌≤◌, slice_index_or, List, [], ◌∷◌, ◌++◌, length, map, drop, refl, sym, ap, ◌∙◌, subst, arith}
+use Rattle.std.specs.Prelude.{Some, slice_get}
 use Rattle.std.specs.List.{AllByRecursion}
 use Rattle.std.proofs.lemmas.List.Folds.{flat_map-map}
 use Rattle.std.proofs.lemmas.List.{length-map}
@@ -19,15 +20,15 @@ use Rattle.legal_steps.specs.declared.event.Event.TheVariants.{Look, AskFork, Gi
 use Rattle.legal_steps.specs.declared.event.StepLine.{StepLine}
 use Rattle.legal_steps.specs.State.{State}
 use Rattle.legal_steps.specs.Legal.{May, after}
-use Rattle.legal_steps.specs.Steps.{step_events}
-use Rattle.legal_steps.specs.Run.{IsLegalFrom, after_all}
+use Rattle.legal_steps.specs.Steps.{step_events, event_of}
+use Rattle.legal_steps.specs.Run.{IsLegalFrom, StopsAt, after_all}
 use Rattle.script_reader.specs.Laws.{HasOneList, HasListOrFault}
 use Rattle.script_reader.specs.Steps.{StepsMean}
 use Rattle.round_trace.specs.StepsOf.{step_of}
 use Rattle.report.specs.Events.{retired_after}
 use Rattle.lab_program.specs.declared.faults.Outcome.{Outcome}
 use Rattle.lab_program.specs.Reports.{outcome_of}
-use Rattle.lab_runs.specs.Replays.{run_of}
+use Rattle.lab_runs.specs.Replays.{run_of, HasIllegalStep}
 use Rattle.written_steps.specs.ReadBack.{IsNameable}
 use Rattle.written_steps.specs.StepLists.{script_head, step_line, steps_behind, lines_from_here}
 use Rattle.written_steps.proofs.ListsBack.{list_read_back}
@@ -133,7 +134,32 @@ trace_is_replayed one_list either shows limit input text report outcome ended t 
       no_fault = λ number cause. either text q steps number cause means;
     }
 
--- ---- a script with steps goes on
+-- ---- a step that isn't legal
+
+pub run_length : (plan : LabPlan) (s : State) (lines : List StepLine)
+    → length (step_events plan s (map (λ (line : StepLine). line.step) lines)) ≡ length lines
+run_length plan s [] = refl
+run_length plan s (line ∷ lines) = ap suc (run_length plan (after plan s (event_of s line.step)) lines)
+
+line_at : (lines : List StepLine) (n : ℕ) (x : StepLine) → n < length lines → x ≡ slice_index_or lines n x
+    → slice_get (map (λ (line : StepLine). line.line) lines) n ≡ Some x.line
+line_at [] n x inside is = absurd (omega arith)
+line_at (y ∷ lines) zero x inside is = ap (λ (z : StepLine). Some z.line) (sym is)
+line_at (y ∷ lines) (suc n) x inside is = line_at lines n x (omega arith) is
+
+pub not_legal_at : (input : List ℕ) (plan : LabPlan) (steps : List StepLine) (place : ℕ) (s : State) (x : StepLine) → StepsMean input plan steps
+    → StopsAt plan (the_opening plan) (run_of plan steps) place s → x ≡ slice_index_or steps place x → HasIllegalStep input x.line
+not_legal_at input plan steps place s x means stops is =
+    let inside = stops.inside in
+    let count = run_length plan (the_opening plan) steps in
+    record {
+      plan = plan;
+      steps = steps;
+      means = means;
+      stops = record { place = place; state = s; stops = stops; at_line = line_at steps place x (omega (arith, inside, count)) is };
+    }
+
+-- ---- what is written behind steps
 
 module _ (plan : LabPlan) (limit : ℕ) (steps : List StepLine) (history : List Event)
     (run : GoesOnByRounds plan limit (map (λ (line : StepLine). line.step) steps) history) where
