@@ -1,0 +1,43 @@
+use Rattle.std.proofs.Common.{sym, subst}
+use Rattle.std.specs.List.{All}
+use Rattle.std.proofs.KnownBytes.{Keeps-refl}
+use Rattle.legal_steps.specs.Opening.{the_opening}
+use Rattle.legal_steps.specs.Steps.{IsStepOf}
+use Rattle.round_trace.specs.StepsOf.{step_of}
+use Rattle.lab_program.specs.declared.faults.RunFault.TheVariants.{Script, Write}
+use Rattle.lab_program.specs.Answers.{ScriptRefuses}
+use Rattle.lab_program.proofs.RunAnswers.{ends_with}
+use Rattle.lab_views.specs.Traces.{Traces}
+use Rattle.lab_views.proofs.Traced.{traced_as}
+use Rattle.lab_views.proofs.tracing.trace_input.Goals as goal
+
+pub returns-in_err-plan-clause-answer : goal.returns-in_err-plan-clause-answer
+returns-in_err-plan-clause-answer g c =
+    ends_with (Traces c.args.limit) ScriptRefuses _ _ _ c.from_residual.result (Script c.in_err-plan.field-0.0) c.from_residual.ensures.1
+    (c.in_err-plan.ensures, Keeps-refl _)
+
+pub text_of-requires : goal.text_of-requires
+text_of-requires g c =
+    let plan = c.in_ok-plan.plan in
+    subst (All (λ event. IsStepOf plan (step_of event))) (sym c.deref.ensures.value) (c.steps_are_of_plan.ensures plan
+    (the_opening plan) c.in_ok-events.events.items c.in_ok-events.ensures.rounds.legal)
+
+pub returns-clause-answer : goal.returns-clause-answer
+returns-clause-answer g c = (
+  c.deref-4.result.now,
+  traced_as c.args.limit c.args.input.now c.in_ok-plan.plan c.deref.result.now c.in_ok-events.events.items c.deref-4.result.now c.in_ok-text.text.items
+      c.deref.ensures.value c.deref-4.ensures.value c.jobs.ensures.plan c.in_ok-plan.ensures c.in_ok-events.ensures c.in_ok-text.ensures c.deref-2.result.now c.deref-3.result.now
+      c.outcome_for-outcome.result c.deref-2.ensures.value c.deref-3.ensures.value c.outcome_for-outcome.ensures,
+  c.in_ok-send_text.ensures.0,
+)
+
+pub returns-in_err-send_text-clause-answer : goal.returns-in_err-send_text-clause-answer
+returns-in_err-send_text-clause-answer g c =
+    ends_with (Traces c.args.limit) ScriptRefuses _ _ _ c.from_residual-in_err-send_text.result Write c.from_residual-in_err-send_text.ensures.1 (
+      c.deref-4.result.now,
+      c.outcome_for-outcome.result,
+      traced_as c.args.limit c.args.input.now c.in_ok-plan.plan c.deref.result.now c.in_ok-events.events.items c.deref-4.result.now c.in_ok-text.text.items
+          c.deref.ensures.value c.deref-4.ensures.value c.jobs.ensures.plan c.in_ok-plan.ensures c.in_ok-events.ensures c.in_ok-text.ensures c.deref-2.result.now c.deref-3.result.now
+          c.outcome_for-outcome.result c.deref-2.ensures.value c.deref-3.ensures.value c.outcome_for-outcome.ensures,
+      c.in_err-send_text.ensures.0,
+    )
