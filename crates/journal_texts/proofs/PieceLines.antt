@@ -47,6 +47,10 @@ plain_one (b ∷ line) h =
     let here = (and_parts (not (b == 10)) (not (b == 13)) parts.0).0 in
     λ i. here i && plain_one line parts.1 i
 
+-- so a sum is
+pub sum_one : (text : List ℕ) → IsOneLine (sum_line text)
+sum_one text = plain_one (sum_line text) (sum_plain text)
+
 plain_ended : (line : List ℕ) → list_all is_plain line ≡ true → ends_with_byte 13 line ≡ false
 plain_ended line h =
     let last = no (get_or line (length line - 1) 0 == 13) (and_parts (not (get_or line (length line - 1) 0 == 10)) _ (plain_at line (length line - 1) h)).1 in

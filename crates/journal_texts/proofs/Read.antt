@@ -55,7 +55,7 @@ nameable plan s (Retire j) may = may.0
 nameable plan s (Glance j other seen) may = (may.0, may.1, may.2)
 nameable plan s (Withdraw j) may = may.0
 
-all_nameable : (plan : LabPlan) (s : State) (events : List Event) → IsLegalFrom plan s events → AllByRecursion (IsNameable plan) (map step_of events)
+pub all_nameable : (plan : LabPlan) (s : State) (events : List Event) → IsLegalFrom plan s events → AllByRecursion (IsNameable plan) (map step_of events)
 all_nameable plan s [] legal = tt
 all_nameable plan s (x ∷ events) legal = (nameable plan s x legal.0, all_nameable plan (after plan s x) events legal.1)
 
@@ -66,7 +66,7 @@ split_all P (x ∷ a) b all = let more = split_all P a b all.1 in ((all.0, more.
 map_both : (a b : List Event) → map step_of (a ++ b) ≡ map step_of a ++ map step_of b
 map_both a b = map-append step_of a b
 
-pieces_nameable : (plan : LabPlan) (pieces : List Piece) → AllByRecursion (IsNameable plan) (map step_of (events_of pieces)) → AreNameable plan pieces
+pub pieces_nameable : (plan : LabPlan) (pieces : List Piece) → AllByRecursion (IsNameable plan) (map step_of (events_of pieces)) → AreNameable plan pieces
 pieces_nameable plan [] all = tt
 pieces_nameable plan (piece ∷ pieces) all =
     let both = split_all (IsNameable plan) (map step_of piece.events) (map step_of (events_of pieces))

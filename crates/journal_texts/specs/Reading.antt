@@ -1,5 +1,6 @@
 -- For readers: what a journal is read as.
-use Rattle.std.specs.Prelude.{◌≡◌, ℕ, ◌≤◌, List, length, None}
+use Rattle.std.specs.Prelude.{◌≡◌, ℕ, ◌≤◌, List, ◌++◌, length, take, None}
+use Rattle.std.specs.List.{flat_map}
 use Rattle.lab_plan.specs.LabPlan.{LabPlan}
 use Rattle.lab_plan.specs.IsPlan.{IsPlan}
 use Rattle.legal_steps.specs.declared.event.Event.{Event}
@@ -9,8 +10,10 @@ use Rattle.legal_steps.specs.Run.{IsLegalFrom}
 use Rattle.script_reader.specs.Script.{ScriptMeans}
 use Rattle.script_reader.specs.Steps.{StepsMean}
 use Rattle.explaining.specs.Explanations.{events_from_opening}
+use Rattle.written_steps.specs.StepLists.{script_head}
+use Rattle.journal_texts.specs.Lines.{AreWholeLines}
 use Rattle.journal_texts.specs.Sums.{wrong_sum}
-use Rattle.journal_texts.specs.Texts.{Piece, events_of, file_text}
+use Rattle.journal_texts.specs.Texts.{Piece, events_of, journal_text, piece_text, pieces_of, file_text}
 
 -- the file is read as the plan and as steps of exactly these events, and no sum in it is wrong
 pub record IsRead (plan : LabPlan) (file : List ℕ) (events : List Event) : Type 0 where
@@ -26,3 +29,17 @@ FilesAreRead =
     (plan : LabPlan) (script : List ℕ) (pieces : List Piece) → IsPlan plan → ScriptMeans script plan
     → IsLegalFrom plan (the_opening plan) (events_of pieces) → length (events_of pieces) ≤ 1000000
     → IsRead plan (file_text plan script pieces) (events_of pieces)
+
+-- so is each beginning of it that is whole lines, as a beginning of these events
+abbrev pub BeginningsAreRead : Type 0
+BeginningsAreRead =
+    (plan : LabPlan) (script : List ℕ) (pieces : List Piece) (front back : List ℕ) → IsPlan plan → ScriptMeans script plan
+    → IsLegalFrom plan (the_opening plan) (events_of pieces) → length (events_of pieces) ≤ 1000000
+    → front ++ back ≡ flat_map (piece_text plan) pieces → AreWholeLines front (length front)
+    → (n : ℕ) × IsRead plan (script_head script ++ front) (take n (events_of pieces))
+
+-- texts that were taken one after another are pieces, which have the same events
+abbrev pub TextsArePieces : Type 0
+TextsArePieces =
+    (plan : LabPlan) (lists : List (List Event))
+    → (flat_map (journal_text plan) lists ≡ flat_map (piece_text plan) (pieces_of lists)) × (events_of (pieces_of lists) ≡ flat_map (λ events. events) lists)

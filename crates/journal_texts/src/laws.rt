@@ -1,5 +1,5 @@
-//! What holds of journals' texts. The law is the contract of a function that does nothing.
-ghost use Rattle.journal_texts.specs.Reading.{FilesAreRead};
+//! What holds of journals' texts. Each law is the contract of a function that does nothing.
+ghost use Rattle.journal_texts.specs.Reading.{FilesAreRead, BeginningsAreRead, TextsArePieces};
 
 use round_trace::laws::steps_give_events;
 
@@ -9,3 +9,15 @@ pub fn files_are_read()
 {
     steps_give_events();
 }
+
+/// So is each beginning of it that ends with a whole line, as a beginning of that.
+pub fn beginnings_are_read()
+    ensures { BeginningsAreRead }
+{
+    steps_give_events();
+}
+
+/// Texts that were taken one after another make such a journal.
+pub fn texts_are_pieces()
+    ensures { TextsArePieces }
+{}

@@ -23,10 +23,11 @@ use Rattle.explaining.specs.Explanations.{events_from_opening}
 use Rattle.round_trace.specs.StepsOf.{step_of}
 use Rattle.written_steps.specs.StepLists.{script_head, step_line, step_lines, lacking_end}
 use Rattle.journal_texts.specs.Lines.{AreWholeLines}
-use Rattle.journal_texts.specs.Reading.{IsRead, FilesAreRead}
+use Rattle.journal_texts.specs.Reading.{IsRead, FilesAreRead, BeginningsAreRead}
+use Rattle.journal_texts.proofs.Beginnings.{ends_whole}
 use Rattle.journal_texts.specs.Texts.{Piece, events_of, lines_text, sum_line, end_text, piece_text, file_text}
 use Rattle.lab_journal.specs.Resumed.{IsAct}
-use Rattle.lab_journal.specs.Laws.{ResumesAt, JournalComesBack}
+use Rattle.lab_journal.specs.Laws.{ResumesAt, JournalComesBack, BeginningsComeBack}
 
 -- ---- a journal ends with a line feed
 
@@ -128,3 +129,9 @@ pub journal_comes_back : FilesAreRead → HasOneList → JournalComesBack
 journal_comes_back read one plan script pieces s counts means by few =
     let is = read plan script pieces by.is_plan means by.run.legal few in
     (is, λ none. stands_there one plan (file_text plan script pieces) (events_of pieces) s counts (fed_file plan script pieces) is by none)
+
+pub beginnings_come_back : BeginningsAreRead → HasOneList → BeginningsComeBack
+beginnings_come_back read one plan script pieces front back is means legal few same whole =
+    let found = read plan script pieces front back is means legal few same whole in
+    let fed = fed_kept (script_head script) front (fed_head script) (ends_whole front whole) in
+    (found.0, found.1, λ s counts by none. stands_there one plan (script_head script ++ front) (take found.0 (events_of pieces)) s counts fed found.1 by none)

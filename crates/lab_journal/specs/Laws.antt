@@ -1,17 +1,22 @@
 -- For readers: what holds of journals.
-use Rattle.std.specs.Prelude.{◌≡◌, ◌≢◌, ℕ, ◌≤◌, true, List, length}
+use Rattle.std.specs.Prelude.{◌≡◌, ◌≢◌, ℕ, ◌≤◌, true, List, ◌++◌, length, take}
+use Rattle.std.specs.List.{flat_map}
 use Rattle.lab_plan.specs.LabPlan.{LabPlan}
+use Rattle.lab_plan.specs.IsPlan.{IsPlan}
 use Rattle.legal_steps.specs.declared.event.Event.{Event}
 use Rattle.legal_steps.specs.declared.phase.Drinking.TheVariants.{Reaching}
 use Rattle.legal_steps.specs.declared.counts.Counts.{Counts}
 use Rattle.legal_steps.specs.State.{State, drinking}
 use Rattle.legal_steps.specs.Legal.{IsJob}
 use Rattle.legal_steps.specs.Opening.{the_opening}
+use Rattle.legal_steps.specs.Run.{IsLegalFrom}
 use Rattle.interleaving.specs.Kept.{IsKept}
 use Rattle.interleaving.specs.World.{WorldView, IsReachedBy, LeadsTo}
 use Rattle.script_reader.specs.Script.{ScriptMeans}
 use Rattle.live_lab.specs.Labs.{LabView}
-use Rattle.journal_texts.specs.Texts.{Piece, events_of, file_text}
+use Rattle.written_steps.specs.StepLists.{script_head}
+use Rattle.journal_texts.specs.Lines.{AreWholeLines}
+use Rattle.journal_texts.specs.Texts.{Piece, events_of, piece_text, file_text}
 use Rattle.journal_texts.specs.Reading.{IsRead}
 use Rattle.lab_journal.specs.Taking.{taken}
 use Rattle.lab_journal.specs.Resumed.{IsResumed}
@@ -37,3 +42,14 @@ JournalComesBack =
     → IsReachedBy plan (the_opening plan) (events_of pieces) s counts → length (events_of pieces) ≤ 1000000
     → IsRead plan (file_text plan script pieces) (events_of pieces)
     × (((j : ℕ) → IsJob plan j → drinking s j ≢ Reaching) → ResumesAt (file_text plan script pieces) plan s counts)
+
+-- So does each beginning of it that is whole lines: it is read as a beginning of these events, and the lab that is resumed from it stands where those lead, if
+-- no command is in hand there
+abbrev pub BeginningsComeBack : Type 0
+BeginningsComeBack =
+    (plan : LabPlan) (script : List ℕ) (pieces : List Piece) (front back : List ℕ) → IsPlan plan → ScriptMeans script plan
+    → IsLegalFrom plan (the_opening plan) (events_of pieces) → length (events_of pieces) ≤ 1000000
+    → front ++ back ≡ flat_map (piece_text plan) pieces → AreWholeLines front (length front)
+    → (n : ℕ) × IsRead plan (script_head script ++ front) (take n (events_of pieces))
+    × ((s : State) (counts : List Counts) → IsReachedBy plan (the_opening plan) (take n (events_of pieces)) s counts
+    → ((j : ℕ) → IsJob plan j → drinking s j ≢ Reaching) → ResumesAt (script_head script ++ front) plan s counts)

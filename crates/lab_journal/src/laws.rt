@@ -1,7 +1,7 @@
 //! What holds of journals. Each law is the contract of a function that does nothing.
-ghost use Rattle.lab_journal.specs.Laws.{JournalsFollow, JournalComesBack};
+ghost use Rattle.lab_journal.specs.Laws.{JournalsFollow, JournalComesBack, BeginningsComeBack};
 
-use journal_texts::laws::files_are_read;
+use journal_texts::laws::{beginnings_are_read, files_are_read};
 use script_reader::laws::one_meaning_with_steps;
 
 /// What was taken stays taken, whatever calls do, as long as no event is missed for want of room.
@@ -14,5 +14,13 @@ pub fn journal_comes_back()
     ensures { JournalComesBack }
 {
     files_are_read();
+    one_meaning_with_steps();
+}
+
+/// So does each beginning of it that ends with a whole line: a lab that is resumed from it stands where the events up to there lead.
+pub fn beginnings_come_back()
+    ensures { BeginningsComeBack }
+{
+    beginnings_are_read();
     one_meaning_with_steps();
 }
