@@ -159,9 +159,11 @@ FILLED = (
 CROSS = '<path d="M350 8m-5-5l10 10m0-10l-10 10" fill="none" stroke="#d00000" stroke-width="2"/><text x="362" y="12">given up</text>'
 DOTTED = '<path d="M440 8h30" stroke="#777" stroke-width="2" stroke-dasharray="2 3"/><text x="476" y="12">hungry</text>'
 THICK = '<path d="M540 8h30" stroke="#222" stroke-width="5"/><text x="576" y="12">eats</text>'
+WORDS = "thirsty: waits for its instruments; hungry: waits for its forks, which settle who gives way; eats: has all of them"
 LEGEND = (
     '<title>A run by rounds</title>\n<rect width="100%" height="100%" fill="#fff"/>\n<g transform="translate(10 10)">'
-    + DASHED + FILLED + CROSS + DOTTED + THICK + '</g>\n<text x="10" y="84" fill="#555">round</text>\n'
+    + DASHED + FILLED + CROSS + DOTTED + THICK + '</g>\n<text x="10" y="36" fill="#555">' + WORDS + '</text>\n'
+    + '<text x="10" y="84" fill="#555">round</text>\n'
 )
 
 if __name__ == "__main__":

@@ -10,6 +10,9 @@
 //     for (std::thread &thread : threads) thread.join();
 //     std::cout << bench.close().text;
 //
+// With a journal, `bench::open("bay.lab", "bay.journal")`, all that is done is on the disk before a call returns, and a process that is killed
+// goes on where it was: a session that held is offered first, with resumed().
+//
 // What is proved ends at the calls of the library: that no two sessions hold an instrument at once, that each log is whole sessions, and that
 // who waits, waits in the end for somebody who holds: so nobody looks from time to time, and nobody sleeps for nothing. This file is
 // tested. A bench and its desks stay where they are while threads use them; one thread at a time acts for a desk.
@@ -17,10 +20,16 @@
 #define LABRUN_HPP
 #include "labrun.h"
 #include <atomic>
+#include <cerrno>
 #include <chrono>
 #include <condition_variable>
 #include <cstdint>
+#include <cstdio>
+#include <cstring>
+#include <ctime>
 #include <deque>
+#include <exception>
+#include <fcntl.h>
 #include <fstream>
 #include <iterator>
 #include <memory>
@@ -31,6 +40,8 @@
 #include <stdexcept>
 #include <string>
 #include <string_view>
+#include <sys/file.h>
+#include <sys/stat.h>
 #include <unistd.h>
 #include <utility>
 #include <vector>
@@ -66,10 +77,22 @@ struct other_process : error {
     long process;
 };
 
-// A job that keeps an instrument from a waiting session: it holds it, or, where nobody does, it waits itself and comes first.
+// The journal can't be used: another process has it open; it is of another script, or a line of it is refused (`line`, else 0); or a write
+// failed. After a write that failed the bench is as the file has it: what threw this is not done, and may be tried again.
+struct journal_error : error {
+    journal_error(const std::string &path, const std::string &why, std::size_t at = 0) : error(path + ": " + why), line(at) {}
+    std::size_t line;
+};
+
+// Where a journal is before a call returns: on the disk, or in the system's memory, which outlives the process and not the machine.
+enum class sync { data, none };
+
+// A job that keeps an instrument from a waiting session: it holds it, or, where nobody does, it waits itself and comes first. Then `behind` is
+// why: the keeper that it waits for, whose own is the next, and the last of them holds.
 struct keeper {
     std::string instrument, job;
     bool holds;
+    std::shared_ptr<const keeper> behind;
 };
 
 // The time limit passed. The session keeps its place in the line, and may come to its instruments meanwhile: begin again, or give_up().
@@ -80,7 +103,11 @@ struct timed_out : error {
   private:
     static std::string named(const std::vector<keeper> &by) {
         std::string text;
-        for (const keeper &it : by) text += ", " + it.instrument + (it.holds ? " is held by " : " is kept by ") + it.job;
+        for (const keeper &it : by) {
+            text += ", " + it.instrument + (it.holds ? " is held by " : " is kept by ") + it.job;
+            for (const keeper *why = it.behind.get(); why; why = why->behind.get())
+                text += ", which waits for " + why->instrument + (why->holds ? ", held by " : ", kept by ") + why->job;
+        }
         return text;
     }
 };
@@ -125,17 +152,280 @@ inline const std::uint8_t *bytes(std::string_view script) {
 
 // How many forks lie between the first process and this one: a bench that was opened before the last of them is another's.
 inline std::atomic<unsigned> forks{0};
-inline const int at_forks = pthread_atfork(nullptr, nullptr, [] { forks.fetch_add(1, std::memory_order_relaxed); });
+
+// The files of journals, each plus 1; a child of a fork closes its copies, so that it keeps nobody from them.
+inline std::atomic<int> files[64];
+inline const int at_forks = pthread_atfork(nullptr, nullptr, [] {
+    forks.fetch_add(1, std::memory_order_relaxed);
+    for (std::atomic<int> &it : files)
+        if (const int file = it.exchange(0)) ::close(file - 1);
+});
 
 // What became of who asked.
-enum class asked { waits, holds, withdrawn };
+enum class asked { waits, holds, withdrawn, failed };
 
 // What is kept of a job.
 struct seat {
     std::vector<lab_session> sessions;
     std::uint32_t in = 0, last = 0; // the session that it is in, which waits or holds, or 0; and the one that it is in or was in last
     asked how = asked::waits;
+    std::uint32_t held = 0, done = 0; // a session that held before it was asked for, by a journal, and how many of its commands are done
+    std::exception_ptr fault;         // why a session that went could not let go
     std::condition_variable woken;
+};
+
+// The journal of a bench: its script, a line `steps`, and what each call did. What a call did is added with the bench's mutex held, so in the
+// order of the calls. It is written without that mutex, by whoever comes first, with all that others have added by then; they find it written.
+// A write that fails leaves the bench as the file has it.
+class journal {
+  public:
+    // How far it was when a call had told it: how many writes had failed, and the length of the file.
+    struct ticket {
+        std::size_t failures, length;
+    };
+
+    journal(std::string path, labrun::sync how) : path_(std::move(path)), syncs_(how == labrun::sync::data), room_(1 << 16) {
+        file_ = ::open(path_.c_str(), O_RDWR | O_CREAT | O_CLOEXEC, 0666);
+        if (file_ < 0) throw journal_error(path_, std::strerror(errno));
+        if (flock(file_, LOCK_EX | LOCK_NB)) {
+            const bool is_open = errno == EWOULDBLOCK;
+            ::close(file_);
+            throw journal_error(path_, is_open ? "another process has it open" : std::strerror(errno));
+        }
+        for (std::atomic<int> &it : files)
+            if (int none = 0; it.compare_exchange_strong(none, file_ + 1)) break;
+    }
+    journal(const journal &) = delete;
+    journal &operator=(const journal &) = delete;
+    ~journal() { close(); }
+
+    // Opens the bench: for its script, or as the file has it; whether it has one.
+    bool open(std::string_view script, lab_bench *handle) {
+        std::string head(script);
+        head += head.empty() || head.back() != '\n' ? "\nsteps\n" : "steps\n";
+        struct stat found_size {};
+        if (fstat(file_, &found_size)) throw journal_error(path_, std::strerror(errno));
+        const std::string found = text(static_cast<std::size_t>(found_size.st_size));
+        std::size_t same = 0;
+        std::size_t line = 1;
+        for (; same < found.size() && same < head.size() && found[same] == head[same]; same++) line += head[same] == '\n';
+        if (same < found.size() && same < head.size())
+            throw journal_error(path_, "it is the journal of another script, which differs in line " + std::to_string(line), line);
+        const bool is_there = same == head.size();
+        if (is_there) {
+            stands_.length = given_ = resume(found, handle);
+            steps_ = steps(found.substr(head.size(), given_ - head.size()));
+            take(handle);
+        } else {
+            lab_told told{};
+            const std::uint32_t status = lab_bench_open_kept(bytes(script), script.size(), handle, &told);
+            if (status) fail(status, told);
+            add(head);
+        }
+        if (!write(added_) || (syncs_ && !is_there && !sync_folder()))
+            throw journal_error(path_, "a write failed: " + std::string(std::strerror(errno)));
+        stands_.length += added_.size();
+        added_.clear();
+        return is_there;
+    }
+
+    // with the bench's mutex held
+
+    // What the last call did is added.
+    void take(lab_bench *handle) {
+        std::size_t written = 0;
+        std::uint32_t status;
+        while ((status = lab_journal(handle, room_.data(), room_.size(), &written)) == LAB_NO_ROOM) room_.resize(2 * written);
+        if (status == LAB_NO_MEMORY) throw std::bad_alloc();
+        if (status) throw journal_error(path_, "lab_journal: status " + std::to_string(status));
+        if (written) add(stamp() + std::string(room_.begin(), room_.begin() + static_cast<std::ptrdiff_t>(written)));
+    }
+
+    // A comment of one line.
+    void note(const std::string &job, std::uint32_t session, std::string_view said) {
+        std::string line = stamp() + "# note " + job + " " + std::to_string(session) + ": ";
+        for (const char one : said) {
+            char escaped[5];
+            std::snprintf(escaped, sizeof escaped, "\\x%02x", static_cast<unsigned char>(one));
+            if (static_cast<unsigned char>(one) < 32 || one == 127) line += escaped;
+            else line += one;
+        }
+        add(line + "\n");
+    }
+
+    // Of all that was added.
+    ticket now() {
+        std::lock_guard<std::mutex> guard(lock_);
+        return {stands_.failures, given_};
+    }
+
+    // After a write that failed: the bench is what the file has.
+    void goes_back(lab_bench *handle) {
+        lab_bench back{};
+        resume(text(stands_.length), &back);
+        lab_bench_free(handle);
+        *handle = back;
+        {
+            std::lock_guard<std::mutex> guard(lock_);
+            ends_.push_back(stands_.length);
+            stands_.failures++;
+            given_ = stands_.length;
+            added_.clear();
+        }
+        take(handle);
+    }
+
+    // without it
+
+    // Returns once what the ticket is of is written. journal_error: it will never be, and the bench has gone back, by the given call, which
+    // says whether it could.
+    template <class Back> void commit(ticket wanted, Back back) {
+        std::unique_lock<std::mutex> guard(lock_);
+        while (!is_kept(wanted)) {
+            if (is_writing_) {
+                written_.wait(guard);
+                continue;
+            }
+            is_writing_ = true;
+            const std::string text = std::exchange(added_, std::string());
+            guard.unlock();
+            const bool is_written = write(text);
+            const std::string why = is_written ? "" : std::strerror(errno);
+            const bool is_lost = !is_written && !back();
+            guard.lock();
+            if (is_written) stands_.length += text.size();
+            else why_ = why;
+            is_lost_ = is_lost;
+            is_writing_ = false;
+            written_.notify_all();
+        }
+    }
+
+    // With the bench's mutex held: whether all is written.
+    bool is_written() {
+        std::lock_guard<std::mutex> guard(lock_);
+        return given_ == stands_.length && !is_writing_;
+    }
+
+    void close() {
+        if (file_ < 0) return;
+        for (std::atomic<int> &it : files)
+            if (int mine = file_ + 1; it.compare_exchange_strong(mine, 0)) ::close(std::exchange(file_, -1));
+        if (file_ >= 0) ::close(std::exchange(file_, -1));
+    }
+
+    // (in a child of a fork, where the file is closed already)
+    void leave() { file_ = -1; }
+
+    const std::string &path() const { return path_; }
+
+  private:
+    bool is_kept(ticket wanted) const {
+        const bool is_now = wanted.failures == stands_.failures;
+        if (wanted.length <= (is_now ? stands_.length : ends_[wanted.failures])) return true;
+        if (!is_now || is_lost_) throw journal_error(path_, "a write failed (" + why_ + "), and the bench has gone back to what the file has");
+        return false;
+    }
+
+    std::size_t resume(const std::string &text, lab_bench *handle) {
+        lab_told told{};
+        const std::uint32_t status = lab_bench_resume(bytes(text), text.size(), handle, &told);
+        if (status == LAB_REFUSED)
+            throw journal_error(path_, refused(told.line, told.cause).what(), told.line);
+        if (status) fail(status, told);
+        return told.written;
+    }
+
+    void add(const std::string &text) {
+        std::lock_guard<std::mutex> guard(lock_);
+        added_ += text;
+        given_ += text.size();
+    }
+
+    // A comment that says the time, if that is another than the last one's.
+    std::string stamp() {
+        using namespace std::chrono;
+        const long long now = duration_cast<milliseconds>(system_clock::now().time_since_epoch()).count();
+        if (now == stamped_) return {};
+        stamped_ = now;
+        const std::time_t second = static_cast<std::time_t>(now / 1000);
+        std::tm parts{};
+        gmtime_r(&second, &parts);
+        char date[40], line[50];
+        std::strftime(date, sizeof date, "# %Y-%m-%dT%H:%M:%S", &parts);
+        std::snprintf(line, sizeof line, "%s.%03dZ\n", date, static_cast<int>(now % 1000));
+        return line;
+    }
+
+    std::string text(std::size_t length) {
+        std::string all(length, 0);
+        std::size_t at = 0;
+        while (at < length) {
+            const ssize_t more = pread(file_, &all[at], length - at, static_cast<off_t>(at));
+            if (more < 0 && errno == EINTR) continue;
+            if (more < 0) throw journal_error(path_, std::strerror(errno));
+            if (more == 0) break;
+            at += static_cast<std::size_t>(more);
+        }
+        all.resize(at);
+        return all;
+    }
+
+    // Writes this behind what is written. No leaves the file as it was.
+    bool write(const std::string &more) {
+        const off_t end = static_cast<off_t>(stands_.length);
+        if (is_torn_ && ftruncate(file_, end)) return false;
+        is_torn_ = true;
+        std::size_t at = 0;
+        const std::size_t all = steps_ + (end ? steps(more) : 0);
+        bool is_good = stands_.length + more.size() <= 16777216 && all <= 1000000; // (more aren't read again)
+        if (!is_good) errno = EFBIG;
+        while (is_good && at < more.size()) {
+            const ssize_t wrote = pwrite(file_, &more[at], more.size() - at, end + static_cast<off_t>(at));
+            if (wrote > 0) at += static_cast<std::size_t>(wrote);
+            else if (wrote == 0 || errno != EINTR) is_good = false;
+        }
+        if (is_good && syncs_) is_good = !fdatasync(file_);
+        const int why = errno;
+        is_torn_ = !is_good && ftruncate(file_, end);
+        if (is_good) steps_ = all;
+        errno = why;
+        return is_good;
+    }
+
+    // How many lines are no comments.
+    static std::size_t steps(const std::string &text) {
+        std::size_t count = 0;
+        for (std::size_t at = 0; at < text.size(); at = text.find('\n', at) + 1) count += text[at] != '#';
+        return count;
+    }
+
+    // So that the file's name is on the disk, too.
+    bool sync_folder() {
+        const std::size_t slash = path_.rfind('/');
+        const int folder = ::open(slash == std::string::npos ? "." : path_.substr(0, slash + 1).c_str(), O_RDONLY | O_CLOEXEC);
+        const bool is_good = folder >= 0 && !fsync(folder);
+        if (folder >= 0) ::close(folder);
+        return is_good;
+    }
+
+    const std::string path_;
+    const bool syncs_;
+    int file_ = -1;
+    std::vector<std::uint8_t> room_;
+    long long stamped_ = 0;
+    bool is_torn_ = true; // what is behind may be anything
+    std::size_t steps_ = 0;
+    // what follows is used with the lock held, but for the length by the one who writes
+    std::mutex lock_;
+    std::condition_variable written_;
+    bool is_writing_ = false;
+    bool is_lost_ = false; // a write failed, and so did the way back
+    std::string why_;      // the last one failed
+    ticket stands_{0, 0};            // how many writes failed, and how long the file is
+    std::vector<std::size_t> ends_;  // how long it was at each of those
+    std::string added_;
+    std::size_t given_ = 0; // how long the file is with all that was added
 };
 
 // One mutex guards the handle, because the library takes one call at a time. It is held for a call or two: a session that nobody waits for
@@ -143,6 +433,7 @@ struct seat {
 struct core {
     std::mutex mutex;
     lab_bench handle{};
+    std::unique_ptr<detail::journal> log; // or none
     bool is_closed = false;
     const unsigned born = forks.load(std::memory_order_relaxed);
     const long process = static_cast<long>(getpid());
@@ -157,6 +448,7 @@ struct core {
     core &operator=(const core &) = delete;
     ~core() {
         if (is_here()) lab_bench_free(&handle);
+        else if (log) log->leave();
     }
 
     bool is_here() const noexcept { return born == forks.load(std::memory_order_relaxed); }
@@ -173,7 +465,63 @@ struct core {
         return found;
     }
 
+    // What the last call did goes to the journal.
+    void told() {
+        if (log) log->take(&handle);
+    }
+
+    // With the mutex held: of all that was done. Without it: returns once that is written.
+    journal::ticket ticket() { return log ? log->now() : journal::ticket{0, 0}; }
+    void commit(journal::ticket wanted) {
+        if (log) log->commit(wanted, [this] { return goes_back(); });
+    }
+
+    // The bench is one that a journal had: who holds, and who waits, does still.
+    void comes_back() {
+        for (std::uint32_t job = 0; job < seats.size(); job++) {
+            const struct lab_state found = state(job);
+            const bool holds = found.drinking == 2 || found.drinking == 3;
+            seat &it = seats[job];
+            it.last = found.session;
+            it.in = holds || found.drinking == 1 ? found.session : 0;
+            it.held = holds ? found.session : 0;
+            it.done = found.position;
+        }
+    }
+
+    // A write failed: the bench is as the file has it, and whoever waits is told so. No if that can't be had: it is closed then.
+    bool goes_back() {
+        std::lock_guard<std::mutex> guard(mutex);
+        try {
+            log->goes_back(&handle);
+        } catch (const std::exception &) {
+            is_closed = true;
+            for (seat &it : seats) it.woken.notify_all();
+            return false;
+        }
+        comes_back();
+        for (std::uint32_t job = 0; job < seats.size(); job++) {
+            seat &it = seats[job];
+            for (std::size_t at = lapsed.size(); at-- > 0;)
+                if (lapsed[at].first == jobs[job] && lapsed[at].second == it.in) {
+                    lapsed.erase(lapsed.begin() + static_cast<std::ptrdiff_t>(at));
+                    left |= bit(job);
+                }
+            if (!it.in) left &= ~bit(job);
+            it.how = asked::failed;
+            it.woken.notify_one();
+        }
+        waiting = 0;
+        return true;
+    }
+
     static std::uint32_t bit(std::uint32_t job) { return std::uint32_t(1) << job; }
+
+    static std::uint32_t lowest(std::uint32_t set) {
+        std::uint32_t job = 0;
+        for (; !(set & 1); set >>= 1) job++;
+        return job;
+    }
 
     template <class Act> void each(std::uint32_t set, Act act) {
         for (std::uint32_t job = 0; set; job++, set >>= 1)
@@ -194,6 +542,7 @@ struct core {
         for (;;) {
             lab_came came{};
             lab_settle(&handle, waiting, &came);
+            told();
             each(came.given_up, [this](std::uint32_t job) { comes_to(job, asked::withdrawn); });
             each(came.holds & waiting, [this](std::uint32_t job) { comes_to(job, asked::holds); });
             const std::uint32_t letting_go = waiting ? came.holds & left : 0;
@@ -201,21 +550,41 @@ struct core {
             each(letting_go, [this](std::uint32_t job) {
                 lab_turned turned{};
                 lab_end(&handle, job, &turned);
+                told();
                 left &= ~bit(job);
                 lapsed.emplace_back(jobs[job], std::exchange(seats[job].in, 0));
             });
         }
     }
 
+    // What keeps an instrument from a job.
+    struct lab_keepers kept(std::uint32_t job, std::uint32_t at) {
+        struct lab_keepers kept {};
+        ::lab_keepers(&handle, job, at, &kept);
+        return kept;
+    }
+
     std::vector<keeper> keepers(std::uint32_t job) {
         std::vector<keeper> found;
         for (std::uint32_t at = 0; at < instruments.size(); at++) {
-            struct lab_keepers kept {};
-            ::lab_keepers(&handle, job, at, &kept);
-            each(kept.holding ? kept.holding : kept.jobs,
-                 [&](std::uint32_t other) { found.push_back({instruments[at], jobs[other], kept.holding != 0}); });
+            const struct lab_keepers it = kept(job, at);
+            each(it.holding ? it.holding : it.jobs, [&](std::uint32_t other) {
+                found.push_back({instruments[at], jobs[other], it.holding != 0, it.holding ? nullptr : behind(other, it.jobs | bit(job))});
+            });
         }
         return found;
+    }
+
+    // The keeper that a job waits for, with those behind it: one chain of perhaps several, to a holder.
+    std::shared_ptr<const keeper> behind(std::uint32_t job, std::uint32_t seen) {
+        seen |= bit(job);
+        for (std::uint32_t at = 0; at < instruments.size(); at++)
+            if (const std::uint32_t holding = kept(job, at).holding)
+                return std::make_shared<const keeper>(keeper{instruments[at], jobs[lowest(holding)], true, nullptr});
+        for (std::uint32_t at = 0; at < instruments.size(); at++)
+            if (const std::uint32_t others = kept(job, at).jobs & ~seen)
+                return std::make_shared<const keeper>(keeper{instruments[at], jobs[lowest(others)], false, behind(lowest(others), seen)});
+        return nullptr;
     }
 };
 
@@ -223,15 +592,29 @@ struct core {
 
 class desk;
 
-// A session that holds all its instruments. When it goes, it logs the commands that are left and lets go.
+// A session that holds all its instruments. When it goes, it logs the commands that are left and lets go. (If the journal can't be written
+// then, the next begin() throws that, and the one after it gives the session again; finish() throws it at once.)
 class session {
   public:
     session(session &&other) noexcept
-        : core_(std::exchange(other.core_, nullptr)), job_(other.job_), number_(other.number_), needs_(other.needs_) {}
+        : core_(std::exchange(other.core_, nullptr)), job_(other.job_), number_(other.number_), needs_(other.needs_), done_(other.done_),
+          resumed_(other.resumed_) {}
     session &operator=(session &&) = delete;
-    ~session() { finish(); }
+    ~session() {
+        detail::core *core = core_;
+        try {
+            finish();
+        } catch (...) {
+            std::lock_guard<std::mutex> guard(core->mutex);
+            core->seats[job_].fault = std::current_exception();
+        }
+    }
 
     std::uint32_t number() const { return number_; }
+
+    // Whether it held before this process asked for it, by the journal; and how many of its commands are done.
+    bool resumed() const { return resumed_; }
+    std::uint32_t done() const { return done_; }
 
     // The names of the instruments that it holds.
     std::vector<std::string> instruments() const {
@@ -245,32 +628,56 @@ class session {
     std::optional<lab_entry> command() {
         if (!core_) return std::nullopt;
         core_->belongs_here();
-        std::lock_guard<std::mutex> guard(core_->mutex);
+        std::unique_lock<std::mutex> guard(core_->mutex);
         if (core_->is_closed) throw closed();
         lab_entry entry{};
         if (lab_command(&core_->handle, job_, &entry)) return std::nullopt;
+        core_->told();
+        const detail::journal::ticket ticket = core_->ticket();
+        guard.unlock();
+        core_->commit(ticket);
+        done_++;
         return entry;
     }
 
-    // Lets go now.
-    void finish() noexcept {
-        detail::core *core = std::exchange(core_, nullptr);
-        if (!core || !core->is_here()) return;
-        std::lock_guard<std::mutex> guard(core->mutex);
-        if (core->is_closed) return;
+    // Writes a comment of one line to the journal, as a reading; what isn't printable is escaped.
+    void note(std::string_view said) {
+        if (!core_) throw error("the session has let go");
+        core_->belongs_here();
+        std::unique_lock<std::mutex> guard(core_->mutex);
+        if (core_->is_closed) throw closed();
+        if (!core_->log) throw error("the bench has no journal");
+        core_->log->note(core_->jobs[job_], number_, said);
+        const detail::journal::ticket ticket = core_->ticket();
+        guard.unlock();
+        core_->commit(ticket);
+    }
+
+    // Lets go now. If the journal can't be written, it holds still, and may be finished again.
+    void finish() {
+        if (!core_ || !core_->is_here()) return;
+        std::unique_lock<std::mutex> guard(core_->mutex);
+        if (core_->is_closed) return;
         lab_turned turned{};
-        lab_end(&core->handle, job_, &turned);
-        core->seats[job_].in = 0;
-        if (core->waiting) core->settle();
+        lab_end(&core_->handle, job_, &turned);
+        core_->told();
+        core_->seats[job_].in = core_->seats[job_].held = 0;
+        if (core_->waiting) core_->settle();
+        const detail::journal::ticket ticket = core_->ticket();
+        guard.unlock();
+        core_->commit(ticket);
+        core_ = nullptr;
     }
 
   private:
     friend class desk;
-    session(detail::core *core, std::uint32_t job, std::uint32_t number, std::uint64_t needs)
-        : core_(core), job_(job), number_(number), needs_(needs) {}
+    session(detail::core *core, std::uint32_t job, std::uint32_t number, std::uint64_t needs, std::uint32_t done, bool resumed)
+        : core_(core), job_(job), number_(number), needs_(needs), done_(done), resumed_(resumed) {}
     detail::core *core_;
     std::uint32_t job_, number_;
     std::uint64_t needs_;
+    std::uint32_t done_;
+    bool resumed_;
 };
 
 // What the owner of a job calls, from whatever thread it is on.
@@ -289,6 +696,7 @@ class desk {
         std::unique_lock<std::mutex> guard(core_->mutex);
         if (core_->is_closed) throw closed();
         detail::seat &me = core_->seats[job_];
+        if (me.fault) std::rethrow_exception(std::exchange(me.fault, nullptr));
         const std::uint32_t number = me.in ? me.in : me.last + 1, bit = detail::core::bit(job_);
         if (number > me.sessions.size()) return std::nullopt;
         const lab_session what = me.sessions[number - 1];
@@ -317,8 +725,19 @@ class desk {
         }
         core_->waiting &= ~bit;
         if (me.how == detail::asked::withdrawn) throw withdrawn();
+        if (me.how == detail::asked::failed) throw journal_error(core_->log->path(), "a write failed while it waited");
         if (me.how != detail::asked::holds) throw closed();
-        return session(core_, job_, number, what.needs);
+        const bool is_resumed = me.held == number;
+        session begun(core_, job_, number, what.needs, is_resumed ? me.done : 0, is_resumed);
+        const detail::journal::ticket ticket = core_->ticket();
+        guard.unlock();
+        try {
+            core_->commit(ticket);
+        } catch (...) {
+            begun.core_ = nullptr;
+            throw;
+        }
+        return begun;
     }
 
     // Gives up the session that timed out; whether it was withdrawn, as it is if it has a patience: then it logs nothing. A session without
@@ -326,14 +745,18 @@ class desk {
     // nobody did its work, and it lets go: `lapsed` of the report names it. Begun again before, it is as any other.
     bool give_up() {
         core_->belongs_here();
-        std::lock_guard<std::mutex> guard(core_->mutex);
+        std::unique_lock<std::mutex> guard(core_->mutex);
         if (core_->is_closed || !core_->seats[job_].in) return false;
         const bool gone = lab_withdraw(&core_->handle, job_) == 0;
+        core_->told();
         if (gone)
             core_->comes_to(job_, detail::asked::withdrawn);
         else
             core_->left |= detail::core::bit(job_);
         core_->settle();
+        const detail::journal::ticket ticket = core_->ticket();
+        guard.unlock();
+        core_->commit(ticket);
         return gone;
     }
 
@@ -345,18 +768,25 @@ class desk {
 // The bench of a script.
 class bench {
   public:
-    // The bench of the script in a file.
-    static bench open(const std::string &path) {
+    // The bench of the script in a file. With a journal, the path of a file, all that is done is there before a call returns. If the file is
+    // there, the bench goes on where it ends: what was held is held still, and offered first, with resumed().
+    static bench open(const std::string &path, const std::string &journal = "", labrun::sync how = labrun::sync::data) {
         std::ifstream file(path, std::ios::binary);
         if (!file) throw error("can't read " + path);
-        return bench(std::string(std::istreambuf_iterator<char>(file), std::istreambuf_iterator<char>()));
+        return bench(std::string(std::istreambuf_iterator<char>(file), std::istreambuf_iterator<char>()), journal, how);
     }
 
-    // The bench of a script in memory.
-    explicit bench(std::string_view script) : core_(std::make_unique<detail::core>()) {
-        lab_told told{};
-        const std::uint32_t status = lab_bench_open(detail::bytes(script), script.size(), &core_->handle, &told);
-        if (status) detail::fail(status, told);
+    // The bench of a script in memory, else as open().
+    explicit bench(std::string_view script, const std::string &journal = "", labrun::sync how = labrun::sync::data)
+        : core_(std::make_unique<detail::core>()) {
+        if (journal.empty()) {
+            lab_told told{};
+            const std::uint32_t status = lab_bench_open(detail::bytes(script), script.size(), &core_->handle, &told);
+            if (status) detail::fail(status, told);
+        } else {
+            core_->log = std::make_unique<detail::journal>(journal, how);
+            resumed_ = core_->log->open(script, &core_->handle);
+        }
         lab_size size{};
         lab_bench_size(&core_->handle, &size);
         for (std::uint32_t job = 0; job < size.jobs; job++) core_->jobs.push_back(name(lab_job_name, job));
@@ -368,7 +798,11 @@ class bench {
                 lab_session_of(&core_->handle, job, number, &seat.sessions[number - 1]);
             desks_.emplace_back(core_.get(), job);
         }
+        core_->comes_back();
     }
+
+    // Whether its journal was there.
+    bool resumed() const { return resumed_; }
 
     // A desk for each job, in the order of the script.
     std::vector<desk> &desks() { return desks_; }
@@ -379,9 +813,16 @@ class bench {
     // stays unfinished in the report.
     report close() {
         core_->belongs_here();
-        std::lock_guard<std::mutex> guard(core_->mutex);
+        std::unique_lock<std::mutex> guard(core_->mutex);
         while (!core_->is_closed && retires_some()) continue;
+        while (core_->log && !core_->log->is_written()) {
+            const detail::journal::ticket ticket = core_->ticket();
+            guard.unlock();
+            core_->commit(ticket);
+            guard.lock();
+        }
         core_->is_closed = true;
+        if (core_->log) core_->log->close();
         for (detail::seat &it : core_->seats) it.woken.notify_all();
         report told = detail::told_text([this](auto... given) { return lab_bench_close(&core_->handle, given...); });
         told.lapsed = core_->lapsed;
@@ -401,13 +842,16 @@ class bench {
         bool did = false;
         for (std::uint32_t job = 0; job < core_->jobs.size(); job++) {
             lab_turned turned{};
-            if (core_->state(job).drinking != 4 && lab_retire(&core_->handle, job, 1, &turned) == LAB_DONE) did = true;
+            if (core_->state(job).drinking == 4) continue;
+            if (lab_retire(&core_->handle, job, 1, &turned) == LAB_DONE) did = true;
+            core_->told();
         }
         return did;
     }
 
     std::unique_ptr<detail::core> core_;
     std::vector<desk> desks_;
+    bool resumed_ = false;
 };
 
 // The program's runs on one thread, as labrun.h has them.

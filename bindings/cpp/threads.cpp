@@ -135,7 +135,7 @@ int main(int count, char **words) {
         } catch (const labrun::timed_out &late) {
             told = late.what();
         }
-        expect("who is before it", told == "still waits, supply is kept by board");
+        expect("who is before it", told == "still waits, supply is kept by board, which waits for scope, held by radio");
         radio.reset();
         expect("board", bench.desks()[1].begin(300s).has_value());
         expect("drive", bench.desks()[2].begin(300s).has_value());

@@ -3,6 +3,7 @@
      cc -O2 -pthread -I include examples/broker/broker.c FOLDER/liblabrun.a -o broker
      ./broker [SCRIPT]                             every session of the script once, with 10 to 200 ms of work; SCRIPT is
                                                    examples/broker/bay.lab unless said
+     ./broker --journal FILE [SCRIPT]              the same with a journal (journal.h): killed and called again, it goes on where it was
      ./broker --how locks [SCRIPT]                 a lock for each instrument instead, taken in the order in which the script names them:
                                                    the stations soon wait for each other for ever, which a time-out shows; status 4
      ./broker --how sorted [SCRIPT]                the same locks, all taken in one order
@@ -12,7 +13,8 @@
    Each instrument is a small server on 127.0.0.1 that speaks a line at a time (*IDN?, CONF N, ADD N, MEAS?, BYE). It refuses a second
    client while one talks to it, and counts that: so a broker that lets two stations at one instrument is seen from outside. The
    status is 0 if nothing was refused and each number that an instrument showed is the one in its log. */
-#define _POSIX_C_SOURCE 200809L
+#define _DEFAULT_SOURCE
+#include "journal.h"
 #include "labrun.h"
 #include <arpa/inet.h>
 #include <errno.h>
@@ -107,6 +109,7 @@ struct instrument {
     int listens, quit[2];
     struct sockaddr_in address;
     unsigned dial;
+    int is_new; /* its dial isn't where its log says, because the bench was resumed */
     long clients, refused;
     pthread_t thread;
 };
@@ -246,6 +249,9 @@ static pthread_mutex_t mutex = PTHREAD_MUTEX_INITIALIZER;
 static pthread_mutex_t locks[MOST_INSTRUMENTS];
 static int holder[MOST_INSTRUMENTS]; /* by locks: who holds it, for the message alone; -1 if nobody */
 static enum how how = BY_BENCH;
+static struct journal journal;
+static const char *journal_path;
+static int has_journal, is_resumed;
 static int is_load, gave_up;
 static double ends_at;
 
@@ -289,9 +295,20 @@ static void read_sessions(const char *script) {
 static uint32_t waiting; /* the stations that wait, as a set of bits; under the mutex, as the bench is */
 static pthread_cond_t came[MOST_JOBS];
 
+/* What the last call did is added to the journal, if there is one, and has this number. The mutex is held. */
+static uint64_t took(void) {
+    return has_journal ? journal_took(&journal, &bench) : 0;
+}
+
+/* Nobody acts on what a call told before it is written. The mutex is not held. */
+static void is_written(uint64_t number) {
+    if (has_journal) journal_commit(&journal, number);
+}
+
 /* All that can be done is done, and those are woken whom that concerns. The mutex is held. */
 static void settle(struct lab_came *told) {
     lab_settle(&bench, waiting, told);
+    took();
     uint32_t woken = waiting & (told->holds | told->given_up | told->none_left);
     waiting &= ~woken;
     for (uint32_t job = 0; woken >> job; job++)
@@ -332,7 +349,9 @@ static int wait_to_hold(struct station *me) {
         lab_state(&bench, me->job, &state);
     } while (state.drinking == 0 && state.session < state.sessions && (!is_load || now() < ends_at));
     waiting &= ~bit;
+    uint64_t number = took();
     pthread_mutex_unlock(&mutex);
+    is_written(number);
     me->waited += now() - start;
     return state.drinking == 2;
 }
@@ -359,11 +378,17 @@ static void work_by_bench(struct station *me) {
             length += (size_t)sprintf(held + length, "%s%.16s", length ? ", " : "", instruments[at].name);
         }
     }
-    for (size_t number = 0; number < session.commands; number++) {
+    if (state.position) printf("%s goes on with session %u, of which %u commands are done\n", me->name, state.session, state.position);
+    for (size_t number = state.position; number < session.commands; number++) {
         uint32_t it = me->sessions[state.session - 1].commands[number].instrument;
         pthread_mutex_lock(&mutex);
         uint32_t status = lab_command(&bench, me->job, &entry);
+        uint64_t up_to = took();
         pthread_mutex_unlock(&mutex);
+        is_written(up_to);
+        /* (these instruments are new in each process: after a resume the first command at each turns it to where its log says it was) */
+        if (status == LAB_DONE && instruments[it].is_new && entry.verb != 0) entry.verb = 0, entry.number = entry.value;
+        instruments[it].is_new = 0;
         if (status != LAB_DONE || lines[it].socket < 0) {
             me->wrong++;
             continue;
@@ -379,8 +404,11 @@ static void work_by_bench(struct station *me) {
     me->worked += now() - start;
     pthread_mutex_lock(&mutex);
     if (lab_end(&bench, me->job, &turned) != LAB_DONE) me->wrong++;
+    took();
     if (waiting) settle(&all);
+    uint64_t up_to = took();
     pthread_mutex_unlock(&mutex);
+    is_written(up_to);
     me->done++;
     if (!is_load) printf("%-8s session %u of %u: %3.0f ms at %s\n", me->name, state.session, state.sessions, (now() - start) * 1e3, held);
 }
@@ -493,7 +521,10 @@ static void open_bench(const char *script) {
     struct lab_told told = {0, 0, 0};
     struct lab_size size;
     size_t length;
-    uint32_t status = lab_bench_open((const uint8_t *)script, strlen(script), &bench, &told);
+    uint32_t status = LAB_DONE;
+    if (journal_path) is_resumed = journal_open(&journal, journal_path, 1, script, &bench);
+    else status = lab_bench_open((const uint8_t *)script, strlen(script), &bench, &told);
+    has_journal = journal_path != NULL;
     if (status != LAB_DONE) {
         fprintf(stderr, "the script: status %u, line %zu, cause %u\n", status, told.line, told.cause);
         exit((int)status);
@@ -504,6 +535,7 @@ static void open_bench(const char *script) {
     for (uint32_t at = 0; at < instrument_count; at++) {
         lab_instrument_name(&bench, at, (uint8_t *)instruments[at].name, 16, &length);
         instruments[at].name[length] = 0;
+        instruments[at].is_new = is_resumed;
     }
     for (uint32_t at = 0; at < station_count; at++) {
         lab_job_name(&bench, at, (uint8_t *)stations[at].name, 16, &length);
@@ -516,7 +548,10 @@ static void open_bench(const char *script) {
 static uint32_t close_bench(int prints) {
     struct lab_told told = {0, 0, 0};
     struct lab_turned turned;
-    for (uint32_t job = 0; job < station_count; job++) lab_retire(&bench, job, 1, &turned);
+    for (uint32_t job = 0; job < station_count; job++) {
+        lab_retire(&bench, job, 1, &turned);
+        is_written(took());
+    }
     uint8_t none[1];
     uint32_t status = lab_bench_close(&bench, none, 0, &told);
     uint8_t *report = malloc(told.written);
@@ -550,7 +585,7 @@ static long sessions_done(void) {
 }
 
 static int usage(void) {
-    fputs("broker [--how bench|locks|sorted] [--threads N --seconds S | --threads N --sessions M] [SCRIPT]\n", stderr);
+    fputs("broker [--how bench|locks|sorted] [--journal FILE | --threads N --seconds S | --threads N --sessions M] [SCRIPT]\n", stderr);
     return 2;
 }
 
@@ -562,6 +597,7 @@ int main(int count, char **words) {
         if (strcmp(words[at], "--how") == 0 && strcmp(next, "bench") == 0) how = BY_BENCH, at++;
         else if (strcmp(words[at], "--how") == 0 && strcmp(next, "locks") == 0) how = BY_LOCKS, at++;
         else if (strcmp(words[at], "--how") == 0 && strcmp(next, "sorted") == 0) how = BY_SORTED_LOCKS, at++;
+        else if (strcmp(words[at], "--journal") == 0 && *next) journal_path = next, at++;
         else if (strcmp(words[at], "--threads") == 0) threads = atol(next), at++;
         else if (strcmp(words[at], "--seconds") == 0) seconds = atol(next), at++;
         else if (strcmp(words[at], "--sessions") == 0) wanted = atol(next), at++;
@@ -569,6 +605,7 @@ int main(int count, char **words) {
         else path = words[at];
     }
     is_load = threads || seconds || wanted;
+    if (journal_path && (is_load || how != BY_BENCH)) return usage();
     if (is_load && (threads < 2 || threads > 32 || seconds < 0 || seconds > 3600 || wanted < 0 || !seconds == !wanted)) return usage();
     setvbuf(stdout, NULL, _IOLBF, 0);
     /* (a script has at most 1000 sessions of a job) */

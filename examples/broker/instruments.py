@@ -9,6 +9,7 @@ use one instrument at once are seen from outside."""
 
 from __future__ import annotations
 
+import select
 import selectors
 import socket
 import subprocess
@@ -57,11 +58,14 @@ class Server:
                         return
                 elif key.fileobj is it.listening:
                     self.came(it)
-                elif it.client is key.fileobj:
+                elif it.client is key.fileobj and select.select([it.client], [], [], 0)[0]:
                     self.said(it, it.client)
 
     def came(self, it: Instrument) -> None:
         client, _ = it.listening.accept()
+        # (what the one before has said comes first: it may be gone)
+        while it.client is not None and select.select([it.client], [], [], 0)[0]:
+            self.said(it, it.client)
         if it.client is not None:
             it.refused += 1
             client.sendall(b"BUSY\n")

@@ -11,8 +11,8 @@
 What is proved ends at the calls of the C library: that no two sessions hold an instrument at once, that each log is whole sessions, and
 that nobody waits for nothing: who waits, waits in the end for somebody who holds. This package, which calls it, is tested."""
 
-from ._bench import Bench, Command, Job, JobState, Keeper, NotBack, Session
-from ._faults import Closed, LabrunError, NotHeld, OtherProcess, Refused, StillHeld, Stopped, TimeoutError, TooLong, Withdrawn, WouldBlock
+from ._bench import Bench, Command, Job, Jobs, JobState, Keeper, NotBack, Session
+from ._faults import Closed, JournalError, LabrunError, NotHeld, OtherProcess, Refused, StillHeld, Stopped, TimeoutError, TooLong, Withdrawn, WouldBlock
 from ._library import library_path
 from ._report import Counts, Entry, JobReport, Report, check, replay, run, upgrade
 
@@ -25,6 +25,8 @@ __all__ = [
     "Job",
     "JobReport",
     "JobState",
+    "Jobs",
+    "JournalError",
     "Keeper",
     "LabrunError",
     "NotBack",

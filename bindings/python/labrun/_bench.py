@@ -16,9 +16,10 @@ import time
 import weakref
 from dataclasses import dataclass, field
 from types import TracebackType
-from typing import Any, Awaitable, Callable, Iterator, Optional, Union
+from typing import Any, Awaitable, Callable, Iterator, Optional, SupportsIndex, Union, overload
 
-from ._faults import Closed, LabrunError, NotHeld, OtherProcess, StillHeld, Stopped, TimeoutError, Withdrawn, WouldBlock
+from ._faults import Closed, JournalError, LabrunError, NotHeld, OtherProcess, StillHeld, Stopped, TimeoutError, Withdrawn, WouldBlock
+from ._journal import Journal, Kept, Path, Ticket
 from ._library import NO_SUCH, NOT_NOW, SESSIONS_LEFT, Came, Entered, Handle, Keepers, Library, Size, State, Told, Turned, library
 from ._report import Entry, Report, Text, as_bytes, told_fault, told_text
 
@@ -100,9 +101,10 @@ class Session:
     names them, `commands` what it does with them, `patience` is in turns, None if it has none. `state` is `new`; `waiting`, for its
     instruments; `held`; `finished`, with its commands logged; `withdrawn`, with none; `asked`: a time limit passed, and it keeps its place in
     the line; `left`: it was given up but may not be withdrawn; `lapsed`: it was left, its turn came while somebody waited, and so its
-    commands were logged though nobody did its work."""
+    commands were logged though nobody did its work. `done` is how many of its commands are done; `resumed`, whether it held its instruments
+    when the process died that had the journal before: then it is held as it is offered."""
 
-    __slots__ = ("job", "number", "timeout", "instruments", "commands", "patience", "state")
+    __slots__ = ("job", "number", "timeout", "instruments", "commands", "patience", "state", "done", "resumed")
     job: Job
     number: int
     timeout: Optional[float]
@@ -110,6 +112,8 @@ class Session:
     commands: tuple[Command, ...]
     patience: Optional[int]
     state: str
+    done: int
+    resumed: bool
 
     def __init__(self, job: Job, number: int, timeout: Optional[float]) -> None:
         self.job = job
@@ -117,6 +121,8 @@ class Session:
         self.timeout = timeout
         self.instruments, self.commands, self.patience = job._plan[number - 1]
         self.state = "new"
+        self.done = 0
+        self.resumed = False
 
     def __repr__(self) -> str:
         return f"<Session {self.number} of {self.job.name}: {self.state}>"
@@ -138,29 +144,32 @@ class Session:
         try:
             until = None if timeout is None else time.monotonic() + timeout
             with bench._mutex:
-                if bench._ask(job, self, job._sleep.release):
-                    return
-            self._sleep(job, bench, until, timeout)
+                holds = bench._ask(job, self, job._sleep.release)
+                ticket = None if bench._journal is None else bench._journal.ticket
+            if not holds:
+                ticket = self._sleep(job, bench, until, timeout)
+            if ticket is not None:
+                bench._commit(ticket)
         except BaseException as fault:
             self._left_by(fault)
             raise
 
-    def _sleep(self, job: Job, bench: Bench, until: Optional[float], timeout: Optional[float]) -> None:
+    def _sleep(self, job: Job, bench: Bench, until: Optional[float], timeout: Optional[float]) -> Optional[Ticket]:
         """Sleeps until the session holds, or has an end in another way."""
         if asyncio._get_running_loop() is not None and timeout != 0:
             with bench._mutex:
                 if not self._came(job):
                     self._asked(job)
                     raise WouldBlock(self)
-                return
+                return bench._ticket()
         while True:
             job._sleep.acquire(True, self._span(until))
-            if job._outcome:
+            if job._outcome and bench._journal is None:
                 self.state = "held"
-                return
+                return None
             with bench._mutex:
                 if self._is_over(job, until):
-                    return
+                    return bench._ticket()
 
     async def acquire_async(self, timeout: Optional[float] = None) -> None:
         """As `acquire`, for a task of asyncio: other tasks go on meanwhile. A task that is cancelled while it waits leaves the session as
@@ -178,9 +187,9 @@ class Session:
 
         try:
             with bench._mutex:
-                if bench._ask(job, self, wake):
-                    return
-            while True:
+                holds = bench._ask(job, self, wake)
+                ticket = bench._ticket()
+            while not holds:
                 # (not wait_for: before Python 3.12 it loses a cancellation that comes together with the event)
                 span = self._span(until)
                 timer = None if span < 0 else loop.call_later(span, event.set)
@@ -191,8 +200,10 @@ class Session:
                         timer.cancel()
                 event.clear()
                 with bench._mutex:
-                    if self._is_over(job, until):
-                        return
+                    holds = self._is_over(job, until)
+                    ticket = bench._ticket()
+            if ticket is not None:
+                bench._commit(ticket)
         except BaseException as fault:
             self._left_by(fault)
             raise
@@ -227,6 +238,8 @@ class Session:
     def _came(self, job: Job) -> bool:
         if job._outcome is None:
             return False
+        if job._fault is not None:
+            raise JournalError(job._fault.path, job._fault.why)
         if job._outcome:
             self.state = "held"
             return True
@@ -243,7 +256,7 @@ class Session:
     def _left_by(self, fault: BaseException) -> None:
         """Gives the session up, but for a fault that says itself what became of it."""
         if not isinstance(fault, LabrunError) or isinstance(fault, Stopped):
-            self.give_up()
+            self._give_up()
 
     def release(self) -> None:
         """Logs the session's commands that are left, and lets its instruments go. NotHeld if it doesn't hold them."""
@@ -261,7 +274,7 @@ class Session:
                         bench._torn = False
                         raise self._not_held()
                     job._in = 0
-                    self.state = "finished"
+                    self.state, self.done = "finished", len(self.commands)
                     if bench._waiting:
                         bench._settle()
                     else:
@@ -270,6 +283,9 @@ class Session:
                     if bench._torn:
                         bench._mend()
                     raise
+                ticket = None if bench._journal is None else bench._journal.ticket
+            if ticket is not None:
+                bench._commit(ticket)
         except KeyboardInterrupt:
             if self.state == "held":
                 self.release()
@@ -284,14 +300,19 @@ class Session:
         A session without patience can't leave the line. It is `left`: nobody comes for it, but its turn may come; if somebody waits then, its
         commands are logged, though nobody did its work, and it lets go (`lapsed`, and `Bench.lapsed` names it). Acquired before, it is as
         any other."""
+        ticket = self._give_up()
+        if ticket is not None:
+            self.job.bench._commit(ticket)
+
+    def _give_up(self) -> Optional[Ticket]:
         job = self.job
         bench = job.bench
         with bench._mutex, bench._mending:
             if bench._stands > _STOPPED:
-                return
+                return None
             bench._look_over()
             if job._in != self.number or self.state == "held":
-                return
+                return None
             bench._torn = True
             job._session = self
             if bench._call("lab_withdraw", job.index) == 0:
@@ -299,6 +320,7 @@ class Session:
             else:
                 bench._comes_to(job, False, "left")
             bench._settle()
+            return bench._ticket()
 
     def command(self) -> Optional[Entry]:
         """Does the session's next command and gives its line of the log; None if none is left. NotHeld if it doesn't hold."""
@@ -312,6 +334,10 @@ class Session:
                 if bench._state_of(job.index).drinking not in _HOLDS:
                     raise self._not_held()
                 return None
+            self.done += 1
+            ticket = bench._ticket()
+        if ticket is not None:
+            bench._commit(ticket)
         verb = VERBS[entry.verb]
         number = None if verb == "read" else entry.number
         return Entry(job.name, entry.session, entry.place, entry.length, verb, number, entry.value)
@@ -330,6 +356,21 @@ class Session:
             job._session = self
             bench._comes_to(job, False, "withdrawn")
             bench._settle()
+            ticket = bench._ticket()
+        if ticket is not None:
+            bench._commit(ticket)
+
+    def note(self, text: str) -> None:
+        """Writes a comment of one line to the journal, as a reading, with the job and the session; what isn't printable is escaped. It is on
+        the disk when this returns. JournalError if the bench has no journal."""
+        bench = self.job.bench
+        with bench._mutex:
+            bench._look_over()
+            if bench._journal is None:
+                raise JournalError("", "the bench has no journal")
+            bench._journal.note(f"{self.job.name} {self.number}: {text}")
+            ticket = bench._journal.ticket
+        bench._commit(ticket)
 
     def waits_for(self) -> tuple[Keeper, ...]:
         """Who keeps the session waiting now: for each instrument that it lacks, who holds it, or, where nobody does, who is before it in the
@@ -377,7 +418,7 @@ class Session:
                 self.give_up()
             elif self.state == "held":
                 self.release()
-        except (Closed, OtherProcess):
+        except (Closed, OtherProcess, JournalError):
             pass
 
 
@@ -398,6 +439,7 @@ class Job:
         # who asked last; what came of that: None as long as it waits, then whether it holds; and what wakes who waits
         self._session: Optional[Session] = None
         self._outcome: Optional[bool] = None
+        self._fault: Optional[JournalError] = None
         self._wake: Optional[Callable[[], None]] = None
         # it is locked but for the moment between a wake-up and the thread that is woken
         self._sleep: threading.Lock = _new_lock()
@@ -464,18 +506,58 @@ class Job:
                 session.release()
 
 
+class Jobs(tuple[Job, ...]):
+    """The jobs in the order of the script, each by its number or by its name."""
+
+    @overload
+    def __getitem__(self, which: SupportsIndex) -> Job: ...
+    @overload
+    def __getitem__(self, which: slice) -> tuple[Job, ...]: ...
+    @overload
+    def __getitem__(self, which: str) -> Job: ...
+
+    def __getitem__(self, which: Union[SupportsIndex, slice, str]) -> Union[Job, tuple[Job, ...]]:
+        if not isinstance(which, str):
+            return super().__getitem__(which)
+        for job in self:
+            if job.name == which:
+                return job
+        raise KeyError(which)
+
+    def __contains__(self, which: object) -> bool:
+        return which in self.keys() if isinstance(which, str) else super().__contains__(which)
+
+    def keys(self) -> tuple[str, ...]:
+        """Their names."""
+        return tuple(job.name for job in self)
+
+    def items(self) -> tuple[tuple[str, Job], ...]:
+        """Each with its name."""
+        return tuple((job.name, job) for job in self)
+
+
 class Bench:
     """The bench of a script: `jobs` in its order, `instruments` by their names in the order in which they are first named.
 
     As a context manager it is closed at the end, and `report` is there then. Join your threads before: who comes later gets Closed. It
-    belongs to the process that opened it: in a child of a fork each call raises OtherProcess."""
+    belongs to the process that opened it: in a child of a fork each call raises OtherProcess.
 
-    def __init__(self, script: Text) -> None:
-        calls: Library = library()
+    With a `journal`, the path of a file, all that is done is there before a call returns: who holds, what was done. If the file is there, the
+    bench goes on where it ends (`resumed`): a job that held still holds, and its session is offered first, with `resumed` true. With
+    `sync="data"` it is on the disk, with `sync="none"` in the system's memory, which outlives the process and not the machine."""
+
+    def __init__(self, script: Text, journal: Optional[Path] = None, sync: str = "data") -> None:
+        calls: Union[Library, Kept] = library()
         given, told, handle = as_bytes(script), Told(), Handle()
-        status = calls["lab_bench_open"](given, len(given), ctypes.byref(handle), ctypes.byref(told))
-        if status:
-            raise told_fault(status, told)
+        self._journal: Optional[Journal] = None
+        self.resumed = False
+        if journal is None:
+            status = calls["lab_bench_open"](given, len(given), ctypes.byref(handle), ctypes.byref(told))
+            if status:
+                raise told_fault(status, told)
+        else:
+            self._journal = Journal(journal, given, sync, _new_lock())
+            calls, self.resumed = self._journal.open(library(), handle)
         self._finalizer = weakref.finalize(self, _freed, calls, handle)
         self._process = os.getpid()
         self._calls = calls
@@ -502,26 +584,28 @@ class Bench:
         self._number = {name: at for at, name in enumerate(self.instruments)}
         plans = _plans(given, self.instruments)
         self._has_patience = any(patience is not None for plan in plans for _, _, patience in plan)
-        self.jobs: tuple[Job, ...] = tuple(Job(self, at, self._name("lab_job_name", at), plans[at]) for at in range(size.jobs))
+        self._jobs: tuple[Job, ...] = tuple(Job(self, at, self._name("lab_job_name", at), plans[at]) for at in range(size.jobs))
+        self.jobs = Jobs(self._jobs)
+        if self.resumed:
+            self._comes_back()
         _benches.add(self)
 
     @classmethod
-    def open(cls, path: Union[str, os.PathLike[str]]) -> Bench:
-        """The bench of the script in a file. Refused says which line isn't sound."""
+    def open(cls, path: Path, journal: Optional[Path] = None, sync: str = "data") -> Bench:
+        """The bench of the script in a file. Refused says which line isn't sound; JournalError, what is wrong with the journal."""
+        if isinstance(path, str) and "\n" in path:
+            raise ValueError("Bench.open takes the path of a script; Bench.from_text takes the script itself")
         with open(path, "rb") as file:
-            return cls(file.read())
+            return cls(file.read(), journal, sync)
 
     @classmethod
-    def from_text(cls, text: Text) -> Bench:
-        """The bench of a script in memory. Refused says which line isn't sound."""
-        return cls(text)
+    def from_text(cls, text: Text, journal: Optional[Path] = None, sync: str = "data") -> Bench:
+        """The bench of a script in memory, else as `open`."""
+        return cls(text, journal, sync)
 
     def job(self, name: str) -> Job:
-        """The job of this name; KeyError if there is none."""
-        for job in self.jobs:
-            if job.name == name:
-                return job
-        raise KeyError(name)
+        """The job of this name, as `jobs[name]`; KeyError if there is none."""
+        return self.jobs[name]
 
     @property
     def report(self) -> Report:
@@ -555,7 +639,7 @@ class Bench:
             self._look_over()
         ends = _Ends(self)
         # (not Thread.join: before Python 3.13 a join that is interrupted may take a thread for ended that isn't)
-        back = [threading.Event() for _ in self.jobs]
+        back = [threading.Event() for _ in self._jobs]
         # stations begin once all threads are there: so an interrupt before leaves none behind that has begun
         all_there, called_off = threading.Event(), threading.Event()
 
@@ -627,20 +711,27 @@ class Bench:
             self._torn = False
 
     def close(self) -> Report:
-        """Closes the bench, and gives its report. A session that is held then stays unfinished in it. A second call gives it again."""
-        with self._mutex:
-            if self._stands != _CLOSED:
-                self._look_over()
-                # (one may be in a meal, which lasts until another has left its own)
-                while any([self._retire(job) for job in self.jobs]):
-                    pass
-                self._stands = _CLOSED
-            if self._report is None:
-                self._report = Report.from_text(told_text(self._calls["lab_bench_close"], self._at))
-                self._finalizer()
-            for job in self._members(self._waiting):
-                self._rouse(job)
-            return self._report
+        """Closes the bench, and gives its report. A session that is held then stays unfinished in it, and held in the journal, if there is
+        one. A second call gives the report again."""
+        while True:
+            with self._mutex:
+                if self._stands != _CLOSED:
+                    self._look_over()
+                    # (one may be in a meal, which lasts until another has left its own)
+                    while any([self._retire(job) for job in self._jobs]):
+                        pass
+                ticket = self._ticket()
+                if ticket is None or self._is_written():
+                    self._stands = _CLOSED
+                    if self._report is None:
+                        self._report = Report.from_text(told_text(self._calls["lab_bench_close"], self._at))
+                        self._finalizer()
+                    if self._journal is not None:
+                        self._journal.close()
+                    for job in self._members(self._waiting):
+                        self._rouse(job)
+                    return self._report
+            self._commit(ticket)
 
     def __enter__(self) -> Bench:
         return self
@@ -650,7 +741,25 @@ class Bench:
         if self._stands != _ELSEWHERE:
             self.close()
 
+    def _commit(self, ticket: Ticket) -> None:
+        """Returns once the journal up to there is on the disk. (The mutex is not held.)"""
+        assert self._journal is not None
+        self._journal.commit(ticket, self._goes_back)
+
+    def _goes_back(self) -> None:
+        """A write failed: the bench is as the file has it."""
+        with self._mutex:
+            if self._journal is not None and self._journal.fault is not None:
+                self._mend()
+
     # what follows is called with the mutex held
+
+    def _ticket(self) -> Optional[Ticket]:
+        """Of all that was done; None without a journal."""
+        return None if self._journal is None else self._journal.ticket
+
+    def _is_written(self) -> bool:
+        return self._journal is not None and self._journal.is_written()
 
     def _call(self, name: str, *given: Any) -> int:
         """A call that answers 0 or 8; another status is an exception."""
@@ -671,7 +780,7 @@ class Bench:
         return self._state
 
     def _members(self, jobs: int) -> list[Job]:
-        return [self.jobs[at] for at in _members(jobs)]
+        return [self._jobs[at] for at in _members(jobs)]
 
     def _look_over(self) -> None:
         """The bench may be called, and all that its calls told is noted."""
@@ -705,7 +814,7 @@ class Bench:
             self._torn = False
             return True
         # it waits, or others are to be told something as well
-        job._outcome, job._wake = None, None
+        job._outcome, job._wake, job._fault = None, None, None
         job._sleep.acquire(False)
         session.state = "waiting"
         self._waiting |= job._bit
@@ -788,7 +897,11 @@ class Bench:
     def _mend(self) -> None:
         """An exception came between a call and the note of what it told: so the library is asked how each job is."""
         self._torn = True
-        for job in self.jobs:
+        if self._journal is not None and self._journal.fault is not None:
+            self._journal.goes_back()
+            self._went_back(JournalError(self._journal.path, "a write failed while it waited"))
+            return
+        for job in self._jobs:
             state, session = self._state_of(job.index), job._session
             holds = state.drinking in _HOLDS
             job._last, job._in = state.session, state.session if holds or state.drinking == _THIRSTY else 0
@@ -808,6 +921,38 @@ class Bench:
                 self._left &= ~job._bit
             self._rouse(job)
         self._settle()
+
+    def _comes_back(self) -> None:
+        """The bench is one that a journal had: what was held is offered first, and what was asked for keeps its place in the line."""
+        for job in self._jobs:
+            state = self._state_of(job.index)
+            job._last, job._is_retired = state.session, state.drinking == _RETIRED
+            if state.drinking in _HOLDS or state.drinking == _THIRSTY:
+                job._in, job._session = state.session, Session(job, state.session, None)
+                job._session.resumed = state.drinking != _THIRSTY
+                job._session.state = "held" if job._session.resumed else "asked"
+                job._session.done = state.position
+
+    def _went_back(self, fault: JournalError) -> None:
+        """The bench is an earlier one: each session is what it was, and whoever waits gets this fault."""
+        self._left = 0
+        for job in self._jobs:
+            state, session = self._state_of(job.index), job._session
+            holds = state.drinking in _HOLDS
+            job._last, job._is_retired = state.session, state.drinking == _RETIRED
+            job._in = state.session if holds or state.drinking == _THIRSTY else 0
+            self._lapsed = [it for it in self._lapsed if it != (job.name, job._in)]
+            if session is None or session.number < job._last or session.number == job._last and not job._in:
+                continue
+            if session.state == "waiting" and not holds:
+                job._outcome, job._fault = False, fault
+                self._rouse(job)
+            is_left = session.number == job._in and session.state in ("left", "lapsed")
+            self._left |= job._bit if is_left else 0
+            session.state = "new" if session.number != job._in else "left" if is_left else "held" if holds else "asked"
+            session.done = state.position if session.number == job._in else 0
+        self._waiting = 0
+        self._torn = False
 
     def _keepers(self, job: Job) -> tuple[Keeper, ...]:
         """Who keeps an instrument from this job: who holds it, and where nobody does, who is before it."""
@@ -950,7 +1095,7 @@ def _members(numbers: int) -> list[int]:
     return found
 
 
-def _freed(calls: Library, handle: Handle) -> None:
+def _freed(calls: Union[Library, Kept], handle: Handle) -> None:
     calls["lab_bench_free"](ctypes.byref(handle))
 
 
@@ -962,6 +1107,8 @@ def _after_fork() -> None:
     """In the child: its copies of benches are none of its own. A thread that held a mutex may not be here to let it go."""
     for bench in list(_benches):
         bench._finalizer.detach()
+        if bench._journal is not None:
+            bench._journal.close()
         bench._mutex = _new_lock()
         if bench._stands != _CLOSED:
             bench._stands = _ELSEWHERE

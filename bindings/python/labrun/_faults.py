@@ -3,7 +3,7 @@
 from __future__ import annotations
 
 import builtins
-from typing import TYPE_CHECKING
+from typing import TYPE_CHECKING, Optional
 
 if TYPE_CHECKING:
     from ._bench import Keeper, Session
@@ -96,6 +96,19 @@ class OtherProcess(LabrunError):
 
     def __reduce__(self) -> tuple[type[OtherProcess], tuple[int]]:
         return OtherProcess, (self.process,)
+
+
+class JournalError(LabrunError):
+    """The journal can't be used: another process has it open; it is of another script, or a line of it is refused, as `line` says; or a
+    write failed, of which `__cause__` is the OSError. After a write that failed the bench is as the file has it: what raised this is not
+    done, and may be tried again."""
+
+    def __init__(self, path: str, why: str, line: Optional[int] = None) -> None:
+        super().__init__(f"{path}: {why}")
+        self.path, self.why, self.line = path, why, line
+
+    def __reduce__(self) -> tuple[type[JournalError], tuple[str, str, Optional[int]]]:
+        return JournalError, (self.path, self.why, self.line)
 
 
 class Closed(LabrunError):

@@ -117,6 +117,8 @@ _LONG: dict[str, list[Any]] = {
     "lab_check": [_BYTES, _SIZE, _ROOM, _SIZE, _TOLD],
     "lab_upgrade": [_BYTES, _SIZE, _ROOM, _SIZE, _TOLD],
     "lab_bench_open": [_BYTES, _SIZE, _HANDLE, _TOLD],
+    "lab_bench_open_kept": [_BYTES, _SIZE, _HANDLE, _TOLD],
+    "lab_bench_resume": [_BYTES, _SIZE, _HANDLE, _TOLD],
     "lab_bench_close": [_HANDLE, _ROOM, _SIZE, _TOLD],
 }
 
@@ -133,6 +135,7 @@ _SHORT: dict[str, list[Any]] = {
     "lab_end": [_HANDLE, _WORD, _TURNED],
     "lab_withdraw": [_HANDLE, _WORD],
     "lab_retire": [_HANDLE, _WORD, _WORD, _TURNED],
+    "lab_journal": [_HANDLE, _ROOM, _SIZE, ctypes.POINTER(_SIZE)],
     "lab_bench_free": [_HANDLE],
 }
 
@@ -156,7 +159,7 @@ class Library:
             call: Any = getattr(library, name)
         except AttributeError:
             raise OSError(f"{self.path} has no {name}: it is of another version of labrun") from None
-        call.argtypes, call.restype = arguments, None if name == "lab_bench_free" else _WORD
+        call.argtypes, call.restype = arguments, _WORD
         bound: Callable[..., int] = call
         self._calls[name] = bound
         return bound

@@ -7,12 +7,18 @@ import ctypes
 import os
 import re
 import sys
+import zlib
+from ctypes import pointer
 from typing import Any, Callable, Iterable
 
+from labrun._library import Came, Entered, Turned
 from tests.test_runs import TOP
 
 sys.path.insert(0, os.path.join(TOP, "bench"))
 import simulate  # type: ignore[import]  # noqa: E402
+
+# the calls that take steps
+KEPT = ("lab_settle", "lab_command", "lab_end", "lab_withdraw", "lab_retire")
 
 DINING = (simulate.THINKING, simulate.HUNGRY, simulate.EATING)
 DRINKING = (simulate.TRANQUIL, simulate.THIRSTY, simulate.DRINKING, simulate.REACHING, simulate.RETIRED)
@@ -36,10 +42,74 @@ class Simulated:
     def __init__(self) -> None:
         self.runs: list[Any] = [None]
         self.calls = 0
+        # by the number of a run that is kept: the calls that did something, since they were taken
+        self.kept: dict[int, list[str]] = {}
 
     def __getitem__(self, name: str) -> Callable[..., Any]:
         call: Callable[..., Any] = getattr(self, name)
-        return call
+        return self.keeping(name, call) if self.kept and name in KEPT else call
+
+    def keeping(self, name: str, call: Callable[..., Any]) -> Callable[..., Any]:
+        def keeps(handle: Any, *given: Any) -> Any:
+            status = call(handle, *given)
+            kept = self.kept.get(at(handle).at)
+            did = at(given[-1]).deeds if name == "lab_settle" else status == 0
+            if did and kept is not None:
+                kept.append(" ".join([name, *(str(it) for it in given if isinstance(it, int))]))
+            return status
+
+        return keeps
+
+    # (its steps are the calls themselves, each a line, and a checksum behind each batch)
+
+    def lab_bench_open_kept(self, script: bytes, length: int, handle: Any, told: Any) -> int:
+        status = self.lab_bench_open(script, length, handle, told)
+        if status == 0:
+            self.kept[at(handle).at] = []
+        return status
+
+    def lab_journal(self, handle: Any, room: Any, size: Any, written: Any) -> int:
+        kept = self.kept[at(handle).at]
+        text = "".join(line + "\n" for line in kept).encode()
+        text += b"# sum %08x\n" % zlib.crc32(text) if kept else b""
+        at(written).value = len(text)
+        if len(text) > size.value:
+            return 6
+        ctypes.memmove(room, text, len(text))
+        kept.clear()
+        return 0
+
+    def lab_bench_resume(self, journal: bytes, length: int, handle: Any, told: Any) -> int:
+        whole = journal[: journal.rfind(b"\n") + 1]
+        script, steps = whole.split(b"\nsteps\n", 1)
+        status = self.lab_bench_open_kept(script + b"\n", len(script) + 1, handle, told)
+        since = b""
+        for number, line in enumerate(steps.split(b"\n")[:-1], script.count(b"\n") + 3):
+            words = line.decode("ascii", "replace").split()
+            if words[:2] == ["#", "sum"]:
+                is_good, since = words[2:] == ["%08x" % zlib.crc32(since)], b""
+            elif words and not words[0].startswith("#"):
+                is_good, since = self.is_done_again(handle, words), since + line + b"\n"
+            else:
+                continue
+            if not is_good:
+                self.lab_bench_free(handle)
+                at(handle).at = at(handle).live = 0
+                at(told).line = number
+                return 1
+        self.kept[at(handle).at].clear()
+        at(told).written = len(whole)
+        return status
+
+    def is_done_again(self, handle: Any, words: list[str]) -> bool:
+        name, *given = words
+        if name not in KEPT or not all(it.isdigit() for it in given) or len(given) != 1 + (name == "lab_retire"):
+            return False
+        told = {"lab_settle": [pointer(Came())], "lab_command": [pointer(Entered())], "lab_withdraw": []}.get(name, [pointer(Turned())])
+        try:
+            return getattr(self, name)(handle, *map(int, given), *told) == 0
+        except IndexError:
+            return False
 
     def quick(self, name: str) -> Callable[..., Any]:
         return self[name]
@@ -59,6 +129,7 @@ class Simulated:
 
     def lab_bench_free(self, handle: Any) -> None:
         self.runs[at(handle).at] = None
+        self.kept.pop(at(handle).at, None)
 
     def lab_bench_size(self, handle: Any, size: Any) -> int:
         run = self.run(handle)

@@ -1,12 +1,14 @@
 """That no wake-up is lost, and that no interrupt loses one: on the definitions, with a gate at every line of the package (tests/gates.py)."""
 
+import os
 import random
+import tempfile
 import unittest
 from typing import Callable, Optional
 from unittest import mock
 
 import labrun
-from labrun import _bench
+from labrun import _bench, _journal
 from tests.gates import Gates, Stuck
 from tests.load import Counting, load_script
 from tests.test_bench import LIMIT
@@ -28,10 +30,13 @@ def once(at: int) -> Callable[[int, int, list[int]], int]:
 
 
 class Gated(OnDefinitions):
+    # of a journal, for those that have one
+    path: Optional[str] = None
+
     def gated(self, gates: Gates, script: str, station: Optional[Callable[[labrun.Job, Counting], None]] = None) -> labrun.Bench:
         """The stations of a script, each on a thread; no two hold an instrument at once, and all come to their ends."""
         with mock.patch.object(_bench, "_new_lock", gates.lock):
-            bench = labrun.Bench.from_text(script)
+            bench = labrun.Bench.from_text(script, journal=self.path, sync="none")
         counting = Counting(bench)
 
         def work(job: labrun.Job) -> None:
@@ -103,6 +108,86 @@ class WakeUps(Gated):
             with self.subTest(seed), mock.patch.object(_bench, "_TICK", 1e-9):
                 report = self.gated(Gates(sometimes(seed, 0.2)), script, station).close()
                 self.assertEqual((report.job("a").done, report.job("c").done), (2, 2))
+
+
+class Journals(Gated):
+    """The same with a journal, which has what is done, whatever fails."""
+
+    def setUp(self) -> None:
+        super().setUp()
+        folder = tempfile.TemporaryDirectory(dir="/dev/shm" if os.access("/dev/shm", os.W_OK) else None)
+        self.addCleanup(folder.cleanup)
+        self.path = os.path.join(folder.name, "bay.journal")
+
+    def finished(self, bench: labrun.Bench, script: str) -> None:
+        report = bench.close()
+        self.assertTrue(report.finished)
+        assert self.path
+        self.assertEqual(labrun.Bench.from_text(script, journal=self.path).close().text, report.text)
+        os.unlink(self.path)
+
+    def test_many_gates(self) -> None:
+        for seed in range(100):
+            script = (ALL_ONE, RING, load_script(4, 2, 3, seed))[seed % 3]
+            with self.subTest(seed):
+                self.finished(self.gated(Gates(sometimes(seed, (0.02, 0.2, 0.7)[seed // 3 % 3])), script), script)
+
+    def test_writes_that_fail(self) -> None:
+        """Stations that try again until there is room."""
+        real = _journal._pwrite
+        for seed in range(75):
+            chance, script = random.Random(seed), (ALL_ONE, RING, load_script(4, 2, 3, seed))[seed % 3]
+
+            def sometimes_fails(file: int, text: bytes, place: int) -> int:
+                if chance.random() < 0.3:
+                    raise OSError(28, "No space left on device")
+                return real(file, text, place)
+
+            def tried(call: Callable[[], None]) -> None:
+                while True:
+                    try:
+                        return call()
+                    except labrun.JournalError:
+                        pass
+
+            def station(job: labrun.Job, counting: Counting) -> None:
+                for session in job.sessions():
+                    tried(session.acquire)
+                    counting.came(session.instruments)
+                    counting.went(session.instruments)
+                    tried(session.release)
+
+            gates = Gates(sometimes(seed, (0.02, 0.2, 0.7)[seed // 3 % 3]))
+            with mock.patch.object(_bench, "_new_lock", gates.lock):
+                bench = labrun.Bench.from_text(script, journal=self.path, sync="none")
+            with self.subTest(seed), mock.patch.object(_journal, "_pwrite", sometimes_fails):
+                counting = Counting(bench)
+                gates.run([lambda job=job: station(job, counting) for job in bench.jobs], LIMIT)
+                self.assertEqual(counting.clashes, 0)
+            self.finished(bench, script)
+
+    def test_interrupts(self) -> None:
+        """One comes to the first station, which gives up or lets go; what it had added is written by others, or at the close."""
+        for at in range(0, 160, 3):
+
+            def station(job: labrun.Job, counting: Counting) -> None:
+                session = None
+                try:
+                    for session in job.sessions():
+                        with session:
+                            counting.came(session.instruments)
+                            counting.went(session.instruments)
+                except KeyboardInterrupt:
+                    if session is not None:
+                        session.release() if session.state == "held" else session.give_up()
+
+            with self.subTest(at=at):
+                bench = self.gated(Gates(sometimes(at, 0.05), at), RING, station)
+                report = bench.close()
+                self.assertEqual([job.done for job in report.jobs[1:]], [2, 2])
+                assert self.path
+                self.assertEqual(labrun.Bench.from_text(RING, journal=self.path).close().text, report.text)
+                os.unlink(self.path)
 
 
 class Interrupts(Gated):

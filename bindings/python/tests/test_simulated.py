@@ -6,13 +6,14 @@ from unittest import mock
 
 import labrun
 from labrun import _library
-from tests import test_bench
+from tests import test_bench, test_journal
 from tests.load import Counting, load_script
 from tests.simulated import Simulated
 
 
 class OnDefinitions(unittest.TestCase):
     def setUp(self) -> None:
+        super().setUp()
         self.library = Simulated()
         patch = mock.patch.object(_library, "_loaded", self.library)
         patch.start()
@@ -60,6 +61,20 @@ class Alone(OnDefinitions, test_bench.Alone):
 
 class Waiting(OnDefinitions, test_bench.Waiting):
     """All that the bench's tests say of waiting."""
+
+
+class Files(OnDefinitions, test_journal.Files):
+    """The journal's file."""
+
+    test_killed = None  # type: ignore[assignment]
+
+
+class Broken(OnDefinitions, test_journal.Broken):
+    """Journals that were cut, or changed."""
+
+
+class Failing(OnDefinitions, test_journal.Failing):
+    """Writes that fail."""
 
 
 class Ends(OnDefinitions, test_bench.Ends):

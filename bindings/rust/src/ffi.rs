@@ -97,8 +97,11 @@ extern "C" {
     pub fn lab_end(bench: *mut Handle, job: u32, turned: *mut Turned) -> u32;
     pub fn lab_withdraw(bench: *mut Handle, job: u32) -> u32;
     pub fn lab_retire(bench: *mut Handle, job: u32, turns: u32, turned: *mut Turned) -> u32;
+    pub fn lab_bench_open_kept(script: *const u8, length: usize, bench: *mut Handle, told: *mut Told) -> u32;
+    pub fn lab_bench_resume(journal: *const u8, length: usize, bench: *mut Handle, told: *mut Told) -> u32;
+    pub fn lab_journal(bench: *mut Handle, text: *mut u8, room: usize, written: *mut usize) -> u32;
     pub fn lab_bench_close(bench: *mut Handle, report: *mut u8, room: usize, told: *mut Told) -> u32;
-    pub fn lab_bench_free(bench: *mut Handle);
+    pub fn lab_bench_free(bench: *mut Handle) -> u32;
 }
 
 extern "C" {

@@ -26,7 +26,10 @@
 #![deny(missing_docs)]
 
 mod ffi;
+mod journal;
 
+pub use journal::SyncTo;
+use journal::{Journal, Ticket};
 use std::fmt;
 use std::path::Path;
 use std::ptr;
@@ -40,6 +43,10 @@ const TOO_LONG: u32 = 4;
 const NO_MEMORY: u32 = 5;
 const NO_ROOM: u32 = 6;
 const NOT_NOW: u32 = 8;
+
+/// How drinking stands.
+const THIRSTY: u32 = 1;
+const HOLDS: [u32; 2] = [2, 3];
 const RETIRED: u32 = 4;
 
 /// While sessions with a patience wait, one of them settles the bench after so long, so that it does run out.
@@ -50,6 +57,7 @@ static FORKS: AtomicU32 = AtomicU32::new(0);
 
 extern "C" fn after_fork() {
     FORKS.fetch_add(1, Relaxed);
+    journal::after_fork();
 }
 
 /// What may go wrong.
@@ -79,6 +87,16 @@ pub enum Error {
     /// This is the child of a fork, and what it has is a copy of the bench of the process with this number: what it would hold, that one
     /// may hold, too.
     OtherProcess(u32),
+    /// The journal can't be used: another process has it open; it is of another script, or a line of it is refused; or a write failed. After a
+    /// write that failed the bench is as the file has it: what gave this error is not done, and may be tried again.
+    Journal {
+        /// The file.
+        path: String,
+        /// What is wrong.
+        why: String,
+        /// The line that differs or is refused, or 0.
+        line: usize,
+    },
     /// The library answered a status that it doesn't have for this call.
     Status(u32),
 }
@@ -93,13 +111,12 @@ impl fmt::Display for Error {
             Error::Unread(why) => write!(out, "{why}"),
             Error::TimedOut(keepers) => {
                 write!(out, "still waits")?;
-                keepers
-                    .iter()
-                    .try_for_each(|it| write!(out, ", {} is {} {}", it.instrument, if it.holds { "held by" } else { "kept by" }, it.job))
+                keepers.iter().try_for_each(|it| write!(out, ", {it}"))
             }
             Error::Withdrawn => write!(out, "the session was withdrawn"),
             Error::Closed => write!(out, "the bench is closed"),
             Error::OtherProcess(number) => write!(out, "this bench belongs to process {number}"),
+            Error::Journal { path, why, .. } => write!(out, "{path}: {why}"),
             Error::Status(status) => write!(out, "status {status}"),
         }
     }
@@ -116,6 +133,21 @@ pub struct Keeper {
     pub job: String,
     /// Whether it holds the instrument; if nobody does, it waits itself, and comes first.
     pub holds: bool,
+    /// If it waits itself, why: the keeper that it waits for, whose own is the next, and the last of them holds.
+    pub behind: Option<Box<Keeper>>,
+}
+
+impl fmt::Display for Keeper {
+    fn fmt(&self, out: &mut fmt::Formatter<'_>) -> fmt::Result {
+        let how = |it: &Keeper| if it.holds { "held" } else { "kept" };
+        write!(out, "{} is {} by {}", self.instrument, how(self), self.job)?;
+        let mut next = &self.behind;
+        while let Some(it) = next {
+            write!(out, ", which waits for {}, {} by {}", it.instrument, how(it), it.job)?;
+            next = &it.behind;
+        }
+        Ok(())
+    }
 }
 
 /// A command that was done.
@@ -220,6 +252,7 @@ enum Came {
     Waits,
     Holds,
     Withdrawn,
+    Failed,
 }
 
 /// What is kept of a job.
@@ -229,6 +262,11 @@ struct Seat {
     now: u32,
     last: u32,
     came: Came,
+    /// A session that held before it was asked for, by a journal, and how many of its commands are done.
+    held: u32,
+    done: u32,
+    /// Why a session that was dropped could not let go.
+    fault: Option<Error>,
 }
 
 /// What the mutex guards: the handle, and who waits.
@@ -251,6 +289,8 @@ unsafe impl Send for Core {}
 
 struct Inner {
     core: Mutex<Core>,
+    log: Option<Journal>,
+    resumed: bool,
     woken: Vec<Condvar>,
     jobs: Vec<String>,
     instruments: Vec<String>,
@@ -288,6 +328,46 @@ impl Inner {
         }
     }
 
+    /// What the last call did goes to the journal.
+    fn told(&self, core: &mut Core) -> Result<(), Error> {
+        self.log.as_ref().map_or(Ok(()), |log| log.take(&mut core.handle))
+    }
+
+    /// Of all that was done.
+    fn ticket(&self) -> Ticket {
+        self.log.as_ref().map_or((0, 0), Journal::now)
+    }
+
+    /// Returns once that is written. (The mutex is not held.)
+    fn commit(&self, wanted: Ticket) -> Result<(), Error> {
+        self.log.as_ref().map_or(Ok(()), |log| log.commit(wanted, || self.goes_back(log)))
+    }
+
+    /// A write failed: the bench is as the file has it, and whoever waits is told so. No if that can't be had: it is closed then.
+    fn goes_back(&self, log: &Journal) -> bool {
+        let mut core = self.core.lock().unwrap_or_else(|poisoned| poisoned.into_inner());
+        let core = &mut *core;
+        let is_back = log.goes_back(&mut core.handle).is_ok();
+        if is_back {
+            core.comes_back();
+            for (job, seat) in core.seats.iter_mut().enumerate() {
+                seat.came = Came::Failed;
+                let lapsed = (self.jobs[job].clone(), seat.now);
+                if core.lapsed.contains(&lapsed) {
+                    core.lapsed.retain(|it| *it != lapsed);
+                    core.left |= 1 << job;
+                }
+                if seat.now == 0 {
+                    core.left &= !(1 << job);
+                }
+            }
+            core.waiting = 0;
+        }
+        core.closed |= !is_back;
+        self.woken.iter().for_each(Condvar::notify_all);
+        is_back
+    }
+
     /// The session of a job has come to something; whoever waits for it is woken.
     fn comes_to(&self, core: &mut Core, job: u32, came: Came) {
         let seat = &mut core.seats[job as usize];
@@ -300,20 +380,22 @@ impl Inner {
     }
 
     /// All that can be done is done, and those are woken whom that concerns. If somebody waits, those that were left and hold let go.
-    fn settle(&self, core: &mut Core) {
+    fn settle(&self, core: &mut Core) -> Result<(), Error> {
         loop {
             let mut told = ffi::Came::default();
             // SAFETY: the handle is open, and the mutex is held; so below.
             unsafe { ffi::lab_settle(&mut core.handle, core.waiting, &mut told) };
+            self.told(core)?;
             members(told.given_up).for_each(|job| self.comes_to(core, job, Came::Withdrawn));
             members(told.holds & core.waiting).for_each(|job| self.comes_to(core, job, Came::Holds));
             let letting_go = told.holds & core.left;
             if core.waiting == 0 || letting_go == 0 {
-                return;
+                return Ok(());
             }
             for job in members(letting_go) {
                 let mut turned = ffi::Turned::default();
                 unsafe { ffi::lab_end(&mut core.handle, job, &mut turned) };
+                self.told(core)?;
                 core.left &= !(1 << job);
                 let session = std::mem::take(&mut core.seats[job as usize].now);
                 core.lapsed.push((self.jobs[job as usize].clone(), session));
@@ -321,19 +403,47 @@ impl Inner {
         }
     }
 
-    /// Who keeps an instrument from a job: who holds it, or, where nobody does, who comes first.
-    fn keepers(&self, core: &mut Core, job: u32) -> Vec<Keeper> {
+    /// What keeps each instrument that a job lacks: its number, the jobs that keep it, and those of them that hold it.
+    fn kept(&self, core: &mut Core, job: u32) -> Vec<(usize, ffi::Keepers)> {
         let mut found = Vec::new();
-        for (at, instrument) in self.instruments.iter().enumerate() {
+        for at in 0..self.instruments.len() {
             let mut kept = ffi::Keepers::default();
             // SAFETY: the handle is open, and the mutex is held.
             unsafe { ffi::lab_keepers(&mut core.handle, job, at as u32, &mut kept) };
-            let holds = kept.holding != 0;
-            for other in members(if holds { kept.holding } else { kept.jobs }) {
-                found.push(Keeper { instrument: instrument.clone(), job: self.jobs[other as usize].clone(), holds });
+            if kept.jobs != 0 {
+                found.push((at, kept));
             }
         }
         found
+    }
+
+    fn keeper(&self, at: usize, job: u32, holds: bool, behind: Option<Keeper>) -> Keeper {
+        let (instrument, job) = (self.instruments[at].clone(), self.jobs[job as usize].clone());
+        Keeper { instrument, job, holds, behind: behind.map(Box::new) }
+    }
+
+    /// Who keeps an instrument from a job: who holds it, or, where nobody does, who comes first, and why that one waits.
+    fn keepers(&self, core: &mut Core, job: u32) -> Vec<Keeper> {
+        let mut found = Vec::new();
+        for (at, kept) in self.kept(core, job) {
+            let holds = kept.holding != 0;
+            for other in members(if holds { kept.holding } else { kept.jobs }) {
+                let behind = if holds { None } else { self.behind(core, other, kept.jobs | 1 << job) };
+                found.push(self.keeper(at, other, holds, behind));
+            }
+        }
+        found
+    }
+
+    /// The keeper that a job waits for, with those behind it: one chain of perhaps several, to a holder.
+    fn behind(&self, core: &mut Core, job: u32, seen: u32) -> Option<Keeper> {
+        let (seen, kept) = (seen | 1 << job, self.kept(core, job));
+        if let Some((at, it)) = kept.iter().find(|(_, it)| it.holding != 0) {
+            return Some(self.keeper(*at, it.holding.trailing_zeros(), true, None));
+        }
+        let (at, other) = kept.iter().find_map(|(at, it)| members(it.jobs & !seen).next().map(|other| (*at, other)))?;
+        let behind = self.behind(core, other, seen);
+        Some(self.keeper(at, other, false, behind))
     }
 }
 
@@ -343,6 +453,17 @@ impl Core {
         // SAFETY: the handle is open, and nobody else has it.
         unsafe { ffi::lab_state(&mut self.handle, job, &mut state) };
         state
+    }
+
+    /// The bench is one that a journal had: who holds, and who waits, does still.
+    fn comes_back(&mut self) {
+        for job in 0..self.seats.len() {
+            let state = self.state(job as u32);
+            let (holds, seat) = (HOLDS.contains(&state.drinking), &mut self.seats[job]);
+            seat.last = state.session;
+            seat.now = if holds || state.drinking == THIRSTY { state.session } else { 0 };
+            (seat.held, seat.done) = (if holds { state.session } else { 0 }, state.position);
+        }
     }
 
     fn session_of(&mut self, job: u32, number: u32) -> ffi::SessionOf {
@@ -362,6 +483,10 @@ impl Drop for Core {
     }
 }
 
+fn read(path: impl AsRef<Path>) -> Result<Vec<u8>, Error> {
+    std::fs::read(path).map_err(|why| Error::Unread(why.to_string()))
+}
+
 /// A name by one of the two calls for names: they have 1 to 16 bytes.
 fn name(call: impl FnOnce(*mut u8, usize, *mut usize) -> u32) -> String {
     let (mut bytes, mut written) = ([0; 16], 0);
@@ -377,11 +502,42 @@ pub struct Bench {
 impl Bench {
     /// The bench of the script in a file, and a desk for each job.
     pub fn open(path: impl AsRef<Path>) -> Result<(Bench, Vec<Desk>), Error> {
-        Bench::from_text(&std::fs::read(path).map_err(|why| Error::Unread(why.to_string()))?)
+        Bench::from_text(&read(path)?)
     }
 
     /// The bench of a script in memory, and a desk for each job, in the order of the script.
     pub fn from_text(script: &[u8]) -> Result<(Bench, Vec<Desk>), Error> {
+        Bench::of(script, None)
+    }
+
+    /// The same with a journal: all that is done is in that file before a call returns. If the file is there, the bench goes on where it
+    /// ends: what was held is held still, and offered first ([`Session::resumed`]).
+    ///
+    /// ```no_run
+    /// # fn bring_to_rest(_: &labrun::Session) {}
+    /// # fn measure(_: &labrun::Session) -> String { String::new() }
+    /// let (bench, mut desks) = labrun::Bench::open_with_journal("bay.lab", "bay.journal", labrun::SyncTo::Disk)?;
+    /// while let Some(mut session) = desks[0].begin()? {
+    ///     if session.resumed() {
+    ///         bring_to_rest(&session); // it held when the process died
+    ///     }
+    ///     let reading = measure(&session);
+    ///     session.note(&reading)?;
+    ///     session.finish()?; // a drop lets go, too, but can't say that the disk is full
+    /// }
+    /// println!("{}", bench.close()?.text);
+    /// # Ok::<(), labrun::Error>(())
+    /// ```
+    pub fn open_with_journal(path: impl AsRef<Path>, journal: impl AsRef<Path>, to: SyncTo) -> Result<(Bench, Vec<Desk>), Error> {
+        Bench::of(&read(path)?, Some((journal.as_ref(), to)))
+    }
+
+    /// The same for a script in memory.
+    pub fn from_text_with_journal(script: &[u8], journal: impl AsRef<Path>, to: SyncTo) -> Result<(Bench, Vec<Desk>), Error> {
+        Bench::of(script, Some((journal.as_ref(), to)))
+    }
+
+    fn of(script: &[u8], journal: Option<(&Path, SyncTo)>) -> Result<(Bench, Vec<Desk>), Error> {
         static AT_FORKS: Once = Once::new();
         // SAFETY: the function does nothing but count.
         AT_FORKS.call_once(|| assert_eq!(unsafe { ffi::pthread_atfork(None, None, Some(after_fork)) }, 0));
@@ -389,10 +545,17 @@ impl Bench {
         let born = FORKS.load(Relaxed);
         let mut core = Core { handle, closed: false, seats: Vec::new(), waiting: 0, ticked: None, left: 0, lapsed: Vec::new(), born };
         let (mut told, mut size) = (ffi::Told::default(), ffi::Size::default());
-        // SAFETY: the slice's pointer and length, an empty handle, and all apart.
-        let status = unsafe { ffi::lab_bench_open(script.as_ptr(), script.len(), &mut core.handle, &mut told) };
-        if status != 0 {
-            return Err(fault(status, &told));
+        let (mut log, mut resumed) = (None, false);
+        if let Some((path, to)) = journal {
+            let it = Journal::open(path, to)?;
+            resumed = it.begin(script, &mut core.handle)?;
+            log = Some(it);
+        } else {
+            // SAFETY: the slice's pointer and length, an empty handle, and all apart.
+            let status = unsafe { ffi::lab_bench_open(script.as_ptr(), script.len(), &mut core.handle, &mut told) };
+            if status != 0 {
+                return Err(fault(status, &told));
+            }
         }
         // SAFETY: the handle is open, and nobody else has it; so below.
         unsafe { ffi::lab_bench_size(&mut core.handle, &mut size) };
@@ -404,12 +567,18 @@ impl Bench {
             .collect();
         for job in 0..size.jobs as u32 {
             let sessions = (1..=core.state(job).sessions).map(|number| core.session_of(job, number)).collect();
-            core.seats.push(Seat { sessions, now: 0, last: 0, came: Came::Waits });
+            core.seats.push(Seat { sessions, now: 0, last: 0, came: Came::Waits, held: 0, done: 0, fault: None });
         }
+        core.comes_back();
         let woken = jobs.iter().map(|_| Condvar::new()).collect();
-        let inner = Arc::new(Inner { core: Mutex::new(core), woken, jobs, instruments, born, process: std::process::id() });
+        let inner = Arc::new(Inner { core: Mutex::new(core), log, resumed, woken, jobs, instruments, born, process: std::process::id() });
         let desks = (0..size.jobs as u32).map(|job| Desk { inner: Arc::clone(&inner), job }).collect();
         Ok((Bench { inner }, desks))
+    }
+
+    /// Whether its journal was there.
+    pub fn resumed(&self) -> bool {
+        self.inner.resumed
     }
 
     /// The jobs' names.
@@ -426,7 +595,6 @@ impl Bench {
     /// unfinished in the report.
     pub fn close(self) -> Result<Report, Error> {
         let mut core = self.inner.open()?;
-        let core = &mut *core;
         // (one may be in a meal, which lasts until another has left its own)
         loop {
             let mut retired = false;
@@ -434,12 +602,21 @@ impl Bench {
                 let mut turned = ffi::Turned::default();
                 // SAFETY: the handle is open, and the mutex is held.
                 retired |= core.state(job).drinking != RETIRED && unsafe { ffi::lab_retire(&mut core.handle, job, 1, &mut turned) } == 0;
+                self.inner.told(&mut core)?;
             }
             if !retired {
                 break;
             }
         }
+        while !self.inner.log.as_ref().map_or(true, Journal::is_written) {
+            let ticket = self.inner.ticket();
+            drop(core);
+            self.inner.commit(ticket)?;
+            core = self.inner.open()?;
+        }
+        let core = &mut *core;
         core.closed = true;
+        self.inner.log.iter().for_each(Journal::close);
         self.inner.woken.iter().for_each(Condvar::notify_all);
         let handle = &mut core.handle;
         // SAFETY: the room is that of one slice, and the mutex is held.
@@ -489,18 +666,22 @@ impl Desk {
         let (inner, job, bit) = (&*self.inner, self.job, 1 << self.job);
         let mut core = inner.open()?;
         let seat = &mut core.seats[job as usize];
+        if let Some(fault) = seat.fault.take() {
+            return Err(fault);
+        }
         let number = if seat.now == 0 { seat.last + 1 } else { seat.now };
         let Some(&what) = seat.sessions.get(number as usize - 1) else { return Ok(None) };
         (seat.now, seat.last, seat.came) = (number, number, Came::Waits);
         core.left &= !bit;
         core.waiting |= bit;
-        inner.settle(&mut core);
+        inner.settle(&mut core)?;
         // (a patience runs out by the calls of `lab_settle`, so one of those that wait makes one now and then)
         let tick = (what.has_patience == 1).then_some(TICK);
         let ended = loop {
             match core.seats[job as usize].came {
                 Came::Holds => break Ok(()),
                 Came::Withdrawn => break Err(Error::Withdrawn),
+                Came::Failed => break Err(inner.log.as_ref().map_or(Error::Closed, Journal::failed)),
                 Came::Waits if core.closed => break Err(Error::Closed),
                 Came::Waits => {}
             }
@@ -518,15 +699,20 @@ impl Desk {
             }
             if tick.is_some() && core.ticked.map_or(true, |it| it.elapsed() >= TICK / 2) {
                 core.ticked = Some(Instant::now());
-                inner.settle(&mut core);
+                inner.settle(&mut core)?;
             }
             if core.seats[job as usize].came == Came::Waits && until.is_some_and(|until| Instant::now() >= until) {
                 break Err(Error::TimedOut(inner.keepers(&mut core, job)));
             }
         };
         core.waiting &= !bit;
+        let (seat, ticket) = (&core.seats[job as usize], inner.ticket());
+        let resumed = seat.held == number;
+        let done = if resumed { seat.done } else { 0 };
         drop(core);
-        ended.map(|()| Some(Session { desk: self, number, needs: what.needs }))
+        ended?;
+        inner.commit(ticket)?;
+        Ok(Some(Session { desk: self, number, needs: what.needs, done, resumed }))
     }
 
     /// Gives up the session that timed out; whether it was withdrawn, as it is if it has a patience: then it logs nothing.
@@ -547,8 +733,10 @@ impl Desk {
         } else {
             core.left |= 1 << job;
         }
-        inner.settle(&mut core);
-        gone
+        let settled = inner.told(&mut core).and_then(|()| inner.settle(&mut core));
+        let ticket = inner.ticket();
+        drop(core);
+        gone && settled.and_then(|()| inner.commit(ticket)).is_ok()
     }
 }
 
@@ -559,10 +747,15 @@ impl Drop for Desk {
 }
 
 /// A session that holds all its instruments. Dropped, also by a panic, it logs the commands that are left and lets go.
+///
+/// If the journal can't be written then, the next [`Desk::begin`] gives that error, and the one after it the session again;
+/// [`Session::finish`] gives it at once.
 pub struct Session<'d> {
     desk: &'d mut Desk,
     number: u32,
     needs: u64,
+    done: u32,
+    resumed: bool,
 }
 
 impl Session<'_> {
@@ -574,6 +767,16 @@ impl Session<'_> {
     /// The job's name.
     pub fn job(&self) -> &str {
         self.desk.job()
+    }
+
+    /// Whether it held before it was asked for, by the journal: when the process died that had it before.
+    pub fn resumed(&self) -> bool {
+        self.resumed
+    }
+
+    /// How many of its commands are done.
+    pub fn done(&self) -> u32 {
+        self.done
     }
 
     /// The instruments that it holds.
@@ -598,23 +801,56 @@ impl Session<'_> {
         let mut entry = ffi::Entered::default();
         // SAFETY: the handle is open, and the mutex is held.
         match unsafe { ffi::lab_command(&mut core.handle, job, &mut entry) } {
-            0 => Ok(Some(Entry { session: entry.session, place: (entry.place, entry.length), value: entry.value })),
-            NOT_NOW => Ok(None),
-            other => Err(Error::Status(other)),
+            0 => {}
+            NOT_NOW => return Ok(None),
+            other => return Err(Error::Status(other)),
         }
+        inner.told(&mut core)?;
+        let ticket = inner.ticket();
+        drop(core);
+        inner.commit(ticket)?;
+        self.done += 1;
+        Ok(Some(Entry { session: entry.session, place: (entry.place, entry.length), value: entry.value }))
+    }
+
+    /// Writes a comment of one line to the journal, as a reading; control characters are escaped. Nothing without a journal.
+    pub fn note(&mut self, said: &str) -> Result<(), Error> {
+        let inner = &*self.desk.inner;
+        let Some(log) = &inner.log else { return Ok(()) };
+        let core = inner.open()?;
+        log.note(self.job(), self.number, said);
+        let ticket = inner.ticket();
+        drop(core);
+        inner.commit(ticket)
+    }
+
+    /// Lets go, as a drop does, and says whether the journal has it. If not, the next [`Desk::begin`] gives the session again.
+    pub fn finish(self) -> Result<(), Error> {
+        std::mem::ManuallyDrop::new(self).end()
+    }
+
+    fn end(&mut self) -> Result<(), Error> {
+        let (inner, job) = (&*self.desk.inner, self.desk.job);
+        let Ok(mut core) = inner.open() else { return Ok(()) };
+        let mut turned = ffi::Turned::default();
+        // SAFETY: the handle is open, and the mutex is held.
+        unsafe { ffi::lab_end(&mut core.handle, job, &mut turned) };
+        (core.seats[job as usize].now, core.seats[job as usize].held) = (0, 0);
+        inner.told(&mut core)?;
+        if core.waiting != 0 {
+            inner.settle(&mut core)?;
+        }
+        let ticket = inner.ticket();
+        drop(core);
+        inner.commit(ticket)
     }
 }
 
 impl Drop for Session<'_> {
     fn drop(&mut self) {
-        let (inner, job) = (&*self.desk.inner, self.desk.job);
-        if let Ok(mut core) = inner.open() {
-            let mut turned = ffi::Turned::default();
-            // SAFETY: the handle is open, and the mutex is held.
-            unsafe { ffi::lab_end(&mut core.handle, job, &mut turned) };
-            core.seats[job as usize].now = 0;
-            if core.waiting != 0 {
-                inner.settle(&mut core);
+        if let Err(fault) = self.end() {
+            if let Ok(mut core) = self.desk.inner.open() {
+                core.seats[self.desk.job as usize].fault = Some(fault);
             }
         }
     }

@@ -146,7 +146,10 @@ fn who_is_before_it() {
     let [mut radio, mut board, mut drive]: [Desk; 3] = desks.try_into().ok().unwrap();
     let held = radio.begin().unwrap();
     assert!(board.begin_within(Duration::ZERO).is_err());
-    assert_eq!(drive.begin_within(Duration::ZERO).err().unwrap().to_string(), "still waits, supply is kept by board");
+    let told = drive.begin_within(Duration::ZERO).err().unwrap();
+    assert_eq!(told.to_string(), "still waits, supply is kept by board, which waits for scope, held by radio");
+    let Error::TimedOut(keepers) = told else { panic!() };
+    assert!(keepers.len() == 1 && !keepers[0].holds && keepers[0].behind.as_ref().is_some_and(|it| it.holds && it.behind.is_none()));
     drop(held);
     drop(board.begin_within(Duration::from_secs(300)).unwrap().unwrap());
     drop(drive.begin_within(Duration::from_secs(300)).unwrap().unwrap());

@@ -53,9 +53,14 @@ impl Bell {
         }
     }
 
+    /// How many listen now, and so may sleep. While it is none, a ring costs one load.
+    pub fn listeners(&self) -> u64 {
+        self.listeners.load(Ordering::SeqCst)
+    }
+
     /// Wakes all that sleep by this bell. Whoever did something for which others may wait rings after it.
     pub fn ring(&self) {
-        if self.listeners.load(Ordering::SeqCst) > 0 {
+        if self.listeners() > 0 {
             self.rings.fetch_add(1, Ordering::SeqCst);
             self.rings.wake_all();
         }

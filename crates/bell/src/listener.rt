@@ -9,8 +9,7 @@ use std::thread::yield_now;
 /// How many idle rounds a thread only yields after. What it waits for often comes within microseconds, and a sleep costs more.
 const YIELDS: u32 = 200;
 
-/// A thread that waits by a bell. It is told what came of each round, and sleeps after many idle ones in a row.
-#[derive(Drop)]
+/// A thread that waits by a bell. It is told what came of each round, and sleeps after many idle ones in a row. If it is dropped, it leaves first.
 pub struct Listener<'b> {
     bell: &'b Bell,
     /// Idle rounds in a row, up to the limit.
@@ -86,13 +85,26 @@ impl<'b> Listener<'b> {
         rung
     }
 
-    /// The thread doesn't sleep now. A listener that is dropped has left before, or others ring for nobody.
+    /// The thread doesn't sleep now, so nobody rings for it.
     pub fn leave(&mut self)
         ensures { Left self.old self.new }
     {
         if self.heard.is_some() {
             self.heard = None;
             self.bell.leave();
+        }
+    }
+}
+
+impl Drop for Listener<'_> {
+    fn drop(self) {
+        let Listener {
+            bell,
+            idle: _,
+            heard,
+        } = self;
+        if heard.is_some() {
+            bell.leave();
         }
     }
 }

@@ -1,3 +1,4 @@
 pub mod Crosses
+pub mod Desks
 mod Closed
 mod OneMore

@@ -5,7 +5,7 @@ ghost use Rattle.bench_door.specs.Ends.{IsEndOfDesks, IsPrint, EndsHaveReports};
 
 use crate::lab::Lab;
 use c_tells::Kept;
-use edge_rule::{CloseRefused, Closed};
+use edge_rule::{CloseCause, CloseRefused, Closed};
 use headline::holds_of_every_run;
 use lab_program::Outcome;
 use live_lab::Printed;
@@ -22,7 +22,7 @@ pub struct LabEnd {
 }
 
 impl Lab {
-    /// Closes the bench with all its desks. If memory is refused, the lab comes back as it was.
+    /// Closes the bench with all its desks. Only if memory is refused the lab comes back, as it was: no desk is missing.
     pub fn close(self, alloc: Global) -> Result<LabEnd, Lab>
         ensures ended { IfOk result (λ e. IsEnd self.bench.plan self.desks.items e.closed) }
         ensures back { IfErr result (λ l. (l.bench ≡ self.bench) × (l.desks.items ≡ self.desks.items)) }
@@ -32,11 +32,14 @@ impl Lab {
             Ok(closed) => Ok(LabEnd { closed }),
             Err(refused) => {
                 let CloseRefused {
-                    cause: _,
+                    cause,
                     bench,
                     desks,
                 } = refused;
-                Err(Lab { bench, desks })
+                match cause {
+                    CloseCause::NoMemory => Err(Lab { bench, desks }),
+                    CloseCause::NotEveryDesk => unreachable!(),
+                }
             }
         }
     }

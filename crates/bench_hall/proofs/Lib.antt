@@ -1,2 +1,3 @@
 mod Eaches
 mod OneMore
+mod Rows

@@ -4,52 +4,41 @@ ghost use Rattle.std.specs.Arc.{arc_value};
 ghost use Rattle.std.proofs.Props.{props};
 ghost use Rattle.turns.specs.Lists.{Each};
 ghost use Rattle.edge_rule.specs.DeskView.{Owns};
+ghost use Rattle.edge_rule.specs.Company.{jobs_of};
 ghost use Rattle.script_reader.specs.Script.{ScriptMeans};
 ghost use Rattle.live_lab.specs.Labs.{IsWhyNot};
-ghost use Rattle.bench_door.specs.Own.{each_prop};
+ghost use Rattle.bench_door.specs.Own.{each_prop, rising};
+ghost use Rattle.bench_hall.specs.Rows.{HasEachPlace};
 
-use crate::place::{Place, desk_in, is_home, place_with, put_back, take_out};
+use crate::place::{is_home, put_back, take_out};
+use crate::spot::{Spot, spot_with};
 use bench_door::Lab;
 use edge_rule::{Bench, Desk};
 use lab_program::RunFault;
 use std::alloc::Global;
 use std::sync::Arc;
 
-/// A job's place.
-#[derive(Drop)]
-pub struct Spot {
-    job: u32,
-    place: Place,
-    ghost tied: { place.value.job ≡ job },
-}
-
-/// A bench and its places, which threads share.
+/// A bench and its places, one for each job, which threads share.
 #[derive(Drop)]
 pub struct Hall {
     pub bench: Bench<'static, Global>,
     /// The last job's first.
     spots: Vec<Spot, Global>,
     ghost own: { Each (λ s. Owns bench s.place.value) spots.items } by { each_prop (λ s. Owns bench s.place.value) (λ s. Prim.hlevel props) spots.items },
-}
-
-fn spot_with(desk: Box<Desk<Global>, Global>) -> Spot
-    ensures { result.place.value ≡ desk.value }
-{
-    Spot {
-        job: u32::from(desk.job().0),
-        place: place_with(desk),
-    }
+    ghost each: { HasEachPlace bench.plan spots.items },
 }
 
 /// A place for each desk, the last desk's first.
-#[tactic(auto, using(crate::proofs::Eaches::each_more, crate::proofs::Eaches::each_front, crate::proofs::Eaches::each_last))]
+#[tactic(auto, using(crate::proofs::Eaches::each_more, crate::proofs::Eaches::each_front, crate::proofs::Eaches::each_last, crate::proofs::Rows::places))]
 fn spots_with(
     alloc: Global,
     bench: &Bench<'static, Global>,
     mut desks: Vec<Desk<Global>, Global>,
 ) -> Option<Vec<Spot, Global>>
     requires own { Each (λ d. Owns bench.now d) desks.items }
-    ensures { IfSome result (λ spots. Each (λ s. Owns bench.now s.place.value) spots.items) }
+    requires all { jobs_of desks.items ≡ rising (length bench.now.plan.jobs) }
+    ensures own { IfSome result (λ spots. Each (λ s. Owns bench.now s.place.value) spots.items) }
+    ensures each { IfSome result (λ spots. HasEachPlace bench.now.plan spots.items) }
 {
     let mut spots = Vec::new(alloc);
     while let Some(desk) = desks.pop() {
@@ -61,29 +50,6 @@ fn spots_with(
         }
     }
     Some(spots)
-}
-
-/// Takes the desks out of their places. There is room for all of them.
-#[tactic(auto, using(crate::proofs::Eaches::each_more, crate::proofs::Eaches::each_front, crate::proofs::Eaches::each_last))]
-fn gathered(
-    bench: &Bench<'static, Global>,
-    mut spots: Vec<Spot, Global>,
-    mut desks: Vec<Desk<Global>, Global>,
-) -> Vec<Desk<Global>, Global>
-    requires own { Each (λ s. Owns bench.now s.place.value) spots.items }
-    requires none { desks.items ≡ [] }
-    requires room { length spots.items ≤ vec_capacity desks }
-    ensures { Each (λ d. Owns bench.now d) result.items }
-{
-    while let Some(spot) = spots.pop() {
-        let Spot { job: _, place } = spot;
-        if let Some(desk) = desk_in(place) {
-            let Ok(()) = desks.push(desk) else {
-                unreachable!()
-            };
-        }
-    }
-    desks
 }
 
 impl Hall {
@@ -155,13 +121,30 @@ impl Hall {
         true
     }
 
+    /// The desks of all jobs, in the script's order, each out of its place; nothing, if one isn't there. There is room for all of them.
+    #[tactic(auto, using(crate::proofs::Eaches::each_more, crate::proofs::Rows::one_more))]
+    fn all_desks(&self, mut desks: Vec<Desk<Global>, Global>) -> Option<Vec<Desk<Global>, Global>>
+        requires none { desks.items ≡ [] }
+        requires room { length self.now.bench.plan.jobs ≤ vec_capacity desks }
+        ensures own { IfSome result (λ all. Each (λ d. Owns self.now.bench d) all.items) }
+        ensures all { IfSome result (λ all. jobs_of all.items ≡ rising (length self.now.bench.plan.jobs)) }
+    {
+        for job in 0..self.bench.plan().jobs() {
+            let desk = self.take(job as u32)?;
+            let Ok(()) = desks.push(Box::into_inner(desk)) else {
+                unreachable!()
+            };
+        }
+        Some(desks)
+    }
+
     /// The lab of a hall that nobody else has, with the desks at their places: all, because otherwise the hall comes back. So it does while somebody has a
     /// desk, once somebody dropped one instead of giving it back, and if memory is refused.
     pub fn into_lab(hall: Arc<Hall, Global>, alloc: Global) -> Result<Lab, Stays>
         ensures lab { IfOk result (λ lab. lab.bench ≡ (arc_value hall).bench) }
         ensures stays { IfErr result (λ s. s.hall ≡ hall) }
     {
-        let Ok(desks) = Vec::with_capacity(alloc, hall.spots.len()) else {
+        let Ok(room) = Vec::with_capacity(alloc, hall.bench.plan().jobs()) else {
             return Err(Stays {
                 why: WhyOpen::NoMemory,
                 hall,
@@ -174,10 +157,15 @@ impl Hall {
                 hall,
             });
         }
+        let Some(desks) = hall.all_desks(room) else {
+            return Err(Stays {
+                why: WhyOpen::DesksOut,
+                hall,
+            });
+        };
         match Arc::try_unwrap(hall) {
             Ok(whole) => {
-                let Hall { bench, spots } = whole;
-                let desks = gathered(&bench, spots, desks);
+                let Hall { bench, spots: _ } = whole;
                 Ok(Lab { bench, desks })
             }
             Err(hall) => Err(Stays {

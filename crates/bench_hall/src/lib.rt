@@ -7,8 +7,10 @@ mod hall;
 mod place;
 mod seat;
 mod seated;
+mod spot;
 
-pub use hall::{Hall, Spot, Stays, WhyOpen};
+pub use hall::{Hall, Stays, WhyOpen};
 pub use place::{Place, Resting};
 pub use seat::{NotTaken, sit, stand};
 pub use seated::Seated;
+pub use spot::Spot;

@@ -98,13 +98,3 @@ pub(crate) fn put_back(
 pub(crate) fn is_home(place: &Place) -> bool {
     place.load() == HOME
 }
-
-/// The desk of a place that nobody shares any more, if it is there.
-pub(crate) fn desk_in(place: Place) -> Option<Desk<Global>>
-    ensures { IfSome result (λ d. IsLike place.value d) }
-{
-    match place.into_inner() {
-        Some(resting) => Some(Box::into_inner(resting.into_desk())),
-        None => None,
-    }
-}

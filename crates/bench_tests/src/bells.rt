@@ -82,6 +82,17 @@ fn listeners_by_hand(rt: HostRuntime) {
     }
 }
 
+/// A listener that is dropped while it may sleep listens no more: nobody rings for it.
+#[test]
+fn dropped_while_it_listens(rt: HostRuntime) {
+    let bell = Bell::new();
+    let mut listener = Listener::new(&bell);
+    assert!(rt; listener.outlasts(&rt, 1));
+    assert!(rt; bell.listeners() == 1);
+    drop(listener);
+    assert!(rt; bell.listeners() == 0);
+}
+
 const ROUNDS: u64 = 1000;
 
 /// So many times a listener is rung between saying that it may sleep and its sleep. Answers whether it was told so each time.

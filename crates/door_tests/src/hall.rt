@@ -19,6 +19,10 @@ const PATIENT: &[u8] =
 const ALONE: &[u8] =
     b"lab 2\ninstrument scale 2\na 1 1/2 add 3 = 3\na 1 2/2 read = 3\njob a sessions 1 of 1 withdrawn 0 meals ";
 
+/// As many jobs as there may be.
+const MOST_JOBS: &[u8] =
+    b"lab 1\njob a\njob b\njob c\njob d\njob e\njob f\njob g\njob h\njob i\njob j\njob k\njob l\njob m\njob n\njob o\njob p\njob q\njob r\njob s\njob t\njob u\njob v\njob w\njob x\njob y\njob z\njob aa\njob ab\njob ac\njob ad\njob ae\njob af\n";
+
 fn hall_of(rt: &impl Abort, alloc: Global, script: &[u8]) -> Arc<Hall, Global> {
     match Hall::open(alloc, script) {
         Ok(hall) => hall,
@@ -94,6 +98,18 @@ fn stays_open_with_a_desk_lost(rt: HostRuntime) {
     };
     assert!(rt; stays.why == WhyOpen::DesksOut);
     assert!(rt; refusal(&stays.hall, 0) == Some(NotTaken::Out));
+}
+
+/// Each job has a desk, which is taken and given back, and the lab has them all at its end.
+#[test]
+fn each_of_the_most_jobs_has_a_desk(rt: HostRuntime) {
+    let hall = hall_of(&rt, rt.alloc(), MOST_JOBS);
+    for job in 0..32u32 {
+        back(&rt, seat_of(&rt, &hall, job));
+    }
+    assert!(rt; refusal(&hall, 32) == Some(NotTaken::NoJob));
+    let report = printed(&rt, rt.alloc(), hall);
+    assert!(rt; report.outcome == Outcome::Unfinished);
 }
 
 /// A job that waits for one that does nothing stops at once, however many turns it may take.

@@ -87,7 +87,7 @@ module _ {A : Type 0} (b : bench_fields.Inside A) (d : Inside A) (is_bench : IsB
   slots = b.table.shared.table_id.slots
 
   abbrev key : LabPlan
-  key = b.table.shared.key
+  key = b.table.shared.key.plan.value
 
   at_own : IsAtCommand cp cj d.phase
   at_own =

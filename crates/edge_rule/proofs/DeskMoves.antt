@@ -83,7 +83,7 @@ module _ {A : Type 0} (b : bench_fields.Inside A) (d : Inside A) (is_bench : IsB
 
   abbrev pub Expects : ℕ → ℕ → ℕ → Type 0
   Expects n old new = (d.seat.table_id ≡ b.table.shared.table_id) × (n < b.table.shared.table_id.words)
-      × Allows (Kept b.table.shared.key) b.table.shared.table_id.slots d.seat.id d.seat.me n
+      × Allows (Kept b.table.shared.key.plan.value) b.table.shared.table_id.slots d.seat.id d.seat.me n
       (λ k. either (eqb k old) new k) (tried (step b.table.shared.table_id.slots n old new none) d.seat.me)
 
   pub try_requires : (n old new : ℕ) (x y : EdgeState) → n ≡ edge_place e → x ≡ edge (mine mv) e
@@ -246,12 +246,12 @@ module _ {A : Type 0} (b : bench_fields.Inside A) (d : Inside A) (is_bench : IsB
   desk_session =
       let x = (desk_seat d ok).phase_within.session_there in
       let few = is_bench.is_plan.draft.few_sessions sj in
-      let same : length (sessions sp sj) ≡ length (sessions b.table.shared.key sj) = ap (λ (z : LabPlan). length (sessions z sj)) owns.1 in
+      let same : length (sessions sp sj) ≡ length (sessions b.table.shared.key.plan.value sj) = ap (λ (z : LabPlan). length (sessions z sj)) owns.1 in
       omega arith
 
   pub desk_position : d.phase.position ≤ 100000
-  desk_position = let x = (desk_seat d ok).phase_within.position_there in let few = few_commands b.table.shared.key sj d.phase.session is_bench.is_plan in
-      let same : length (commands sp sj d.phase.session) ≡ length (commands b.table.shared.key sj d.phase.session) =
+  desk_position = let x = (desk_seat d ok).phase_within.position_there in let few = few_commands b.table.shared.key.plan.value sj d.phase.session is_bench.is_plan in
+      let same : length (commands sp sj d.phase.session) ≡ length (commands b.table.shared.key.plan.value sj d.phase.session) =
       ap (λ (z : LabPlan). length (commands z sj d.phase.session)) owns.1 in
       omega arith
 
@@ -267,7 +267,7 @@ module _ {A : Type 0} (b : bench_fields.Inside A) (d : Inside A) (is_bench : IsB
 
   abbrev pub Stored : ℕ → ℕ → Type 0
   Stored i n = (d.seat.table_id ≡ b.table.shared.table_id) × (i < b.table.shared.table_id.words)
-      × Allows (Kept b.table.shared.key) b.table.shared.table_id.slots d.seat.id d.seat.me i
+      × Allows (Kept b.table.shared.key.plan.value) b.table.shared.table_id.slots d.seat.id d.seat.me i
       (λ _. n) (λ _. stored (step b.table.shared.table_id.slots i n 0 none) d.seat.me n)
 
   pub store_requires : (what : PhaseEvent) (i n : ℕ) (y : JobState) → MayStore what (view_of d)

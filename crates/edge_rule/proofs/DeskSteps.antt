@@ -218,7 +218,7 @@ of_seat P d y e h = subst P (sym e) h
 
 module _ {A : Type 0} (b : bench_fields.Inside A) (d : Inside A) (is_bench : IsBench b) (ok : IsDesk d) (owns : Owns (bench_of b) (view_of d)) where
   abbrev key : LabPlan
-  key = b.table.shared.key
+  key = b.table.shared.key.plan.value
 
   abbrev mine_plan : LabPlan
   mine_plan = (hand_in d.seat.me.0).plan

@@ -3,7 +3,7 @@ use Rattle.std.proofs.Common.{◌≡◌, ◌≢◌, ℕ, List, length, get_or, f
 use Rattle.lab_plan.specs.LabPlan.{bottles}
 use Rattle.legal_steps.specs.declared.edge_state.EdgeState.{EdgeState}
 use Rattle.legal_steps.specs.declared.phase.Drinking.TheVariants.{Reaching}
-use Rattle.legal_steps.specs.State.{Seat, edge, phase, fork_mark, bottle_marks, no_edge}
+use Rattle.legal_steps.specs.State.{Seat, edge, fork_mark, bottle_marks, no_edge}
 use Rattle.edge_word.specs.Words.{IsOfBottles}
 use Rattle.edge_rule.specs.declared.desk.Desk.TheInside.{Inside}
 use Rattle.one_history.specs.Grow.{hand_in}

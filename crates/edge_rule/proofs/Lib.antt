@@ -11,6 +11,8 @@ pub mod Endings
 pub mod ClosedWords
 pub mod GlancedDesks
 pub mod Rosters
+pub mod Pasts
 pub mod OpenedDesks
+pub mod StoodWords
 pub mod Knowledge
 pub mod LookedEdges

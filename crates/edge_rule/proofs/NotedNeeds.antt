@@ -1,6 +1,5 @@
 -- The needed bottles that a desk keeps, from one phase to the next.
-use Rattle.std.proofs.Common.{◌≡◌, ◌↔◌, ℕ, ◌+◌, ◌<◌, ◌≤◌, true, false, List, length, get_or, set, replicate, refl, sym, ap, ◌∙◌, subst, inl, inr, arith, get_or-set_same, get_or-set_other}
-use Rattle.std.proofs.lemmas.List.{length-replicate}
+use Rattle.std.proofs.Common.{◌≡◌, ◌↔◌, ℕ, ◌+◌, ◌<◌, ◌≤◌, true, false, List, length, get_or, set, refl, sym, ap, ◌∙◌, subst, inl, inr, arith, get_or-set_same, get_or-set_other}
 use Rattle.std.proofs.lemmas.Bool.{cases_eq, false≢true}
 use Rattle.std.proofs.lemmas.Nat.{pow_pos}
 use Rattle.lab_plan.specs.LabPlan.{LabPlan, edges, bottles, sessions, session_names}
@@ -15,7 +14,6 @@ use Rattle.one_history.specs.declared.phase_event.PhaseEvent.{PhaseEvent}
 use Rattle.one_history.specs.declared.phase_event.PhaseEvent.TheVariants as events
 use Rattle.one_history.specs.PhaseEvents.{event_of, phase_after}
 use Rattle.edge_rule.specs.NeededBottles.{AreNeededIn, AreNeeded, changes_session}
-use Rattle.edge_rule.proofs.StillEdges.{all_same}
 
 -- ---- in a session and out of it
 
@@ -43,15 +41,6 @@ none_at plan j e x out = record {
 }
 
 -- ---- all edges
-
--- a tranquil job needs none
-pub none_needed : (plan : LabPlan) (j n : ℕ) (x : JobState) (sets : List ℕ) → x.drinking ≡ Tranquil
-    → sets ≡ replicate n 0 → n ≡ length (edges plan) → AreNeeded plan j x sets
-none_needed plan j n x sets tranquil is wide = record {
-  wide = ap length is ∙ (length-replicate n 0 ∙ wide);
-  each = λ e own. subst (AreNeededIn plan j x e) (sym (ap (λ (l : List ℕ). get_or l e 0) is ∙ all_same n e 0))
-      (none_at plan j e x (out_tranquil x.drinking tranquil));
-}
 
 -- a phase of the same session has the same needs
 pub needs_stay : (plan : LabPlan) (j : ℕ) (x y : JobState) (sets : List ℕ) → y.session ≡ x.session

@@ -1,31 +1,36 @@
 -- A bench as it opens, and its desks.
-use Rattle.std.proofs.Common.{◌≡◌, ℕ, zero, suc, ◌+◌, ◌^◌, ◌<◌, ◌≤◌, List, [], ◌∷◌, ◌++◌, length, map, get_or, false, replicate, refl, sym, ap, ◌∙◌, subst, inl, inr, arith, length-append}
+use Rattle.std.proofs.Common.{◌≡◌, ◌≢◌, ℕ, zero, suc, ◌+◌, ◌<◌, ◌≤◌, List, [], ◌∷◌, ◌++◌, length, map, get_or, false, replicate, refl, sym, ap, ◌∙◌, subst, inl, inr, arith, length-append}
 use Rattle.std.specs.List.{range_with_len}
 use Rattle.std.proofs.lemmas.Bool.{cases_lt}
 use Rattle.std.proofs.lemmas.List.{ext_get_or, get_or_append_left, get_or-append-add, get_or-replicate}
-use Rattle.std.proofs.lemmas.Nat.{pow_pos}
 use mathlib.Core.Option.{some}
 use lib.ListN.{get_elem?}
 use Rattle.lab_plan.specs.LabPlan.{LabPlan, edges, bottles}
 use Rattle.instrument_log.specs.InstrumentLog.{LogView, empty_log}
 use Rattle.legal_steps.specs.declared.edge_state.EdgeState.{EdgeState}
-use Rattle.legal_steps.specs.declared.phase.Drinking.TheVariants.{Tranquil, Reaching}
-use Rattle.legal_steps.specs.State.{Seat, seat, fork_mark, no_edge, no_seat, idle_phase}
+use Rattle.legal_steps.specs.declared.phase.Drinking.TheVariants.{Reaching}
+use Rattle.legal_steps.specs.State.{Seat, IsOwn, seat, fork_mark, no_edge, no_seat, idle_phase}
 use Rattle.legal_steps.specs.Opening.{the_opening, idle_seat}
 use Rattle.legal_steps.specs.WholeLogs.{room_of}
-use Rattle.edge_word.specs.Words.{word_of, opening_edge, IsOfBottles}
+use Rattle.edge_word.specs.Words.{word_of, opening_edge}
 use Rattle.edge_word.specs.Phases.{phase_word_of}
 use Rattle.edge_word.proofs.OpeningWords.{opens_as_the_opening}
 use Rattle.one_history.specs.declared.board.View.{View}
 use Rattle.edge_rule.specs.declared.desk.Desk.TheInside.{Inside}
-use Rattle.one_history.specs.Rule.{hand, phase_place, Spelled}
+use Rattle.one_history.specs.Rule.{hand_after, phase_place, Spelled}
+use Rattle.one_history.proofs.Groups.{all_one_by_one, one_by_one_stand}
+use Rattle.legal_steps.specs.declared.event.Event.{Event}
+use Rattle.turns.specs.History.{IsHistory, events_by}
+use Rattle.edge_rule.specs.declared.job_knowledge.JobKnowledge.{JobKnowledge}
+use Rattle.edge_rule.specs.NeededBottles.{AreNeeded}
+use Rattle.edge_rule.specs.Standing.{seat_known, IsKnownAfter}
+use Rattle.edge_rule.proofs.Pasts.{known_of_plan, known_unmarked}
 use Rattle.one_history.specs.Grow.{hand_in, mine}
 use Rattle.edge_rule.specs.Openings.{opening_edges, AreWritten}
 use Rattle.legal_steps.specs.Counting.{counts_of}
 use Rattle.edge_rule.specs.CalmEdges.{no_word}
 use Rattle.edge_rule.proofs.StillEdges.{none_still, all_same}
 use Rattle.std.proofs.lemmas.Bool.{false≢true}
-use Rattle.edge_rule.proofs.NotedNeeds.{none_needed}
 use Rattle.edge_rule.specs.DeskInside.{kept, AreOfPlan, AtRest, IsDesk}
 use Rattle.turns.proofs.Runs.{opening_edges as opening_wide}
 
@@ -73,42 +78,47 @@ opening_is plan =
     ext_get_or no_edge (the_opening plan).edges (opening_edges plan n) (wide ∙ sym (edges_count plan n)) (λ e l. opens_as_the_opening plan e (omega arith)
     ∙ sym (edges_at plan n e (omega arith)))
 
-opening_fits : (n : ℕ) → IsOfBottles n (opening_edge n)
-opening_fits n = let some : 0 < 2 ^ n = pow_pos n in record { bottles_fit = some; tokens_fit = omega arith }
-
 -- ---- a desk
 
-abbrev pub fresh_view : LabPlan → ℕ → View
-fresh_view plan j = record { hands = hand plan j ∷ []; front = []; told = [] }
+abbrev pub view_after : LabPlan → List Event → ℕ → View
+view_after plan past j = record { hands = hand_after plan past j ∷ []; front = past; told = [] }
 
-fresh_rests : (plan : LabPlan) (j : ℕ) → j < length plan.jobs → AtRest (fresh_view plan j)
-fresh_rests plan j job = record { mine = refl; inside = job; none_told = refl; legal = tt; whole = refl; groups = (refl, tt) }
+rests_after : (plan : LabPlan) (past : List Event) (j : ℕ) → j < length plan.jobs → IsHistory plan past → AtRest (view_after plan past j)
+rests_after plan past j job legal = record {
+  mine = refl;
+  inside = job;
+  none_told = refl;
+  legal = legal;
+  whole = refl;
+  groups = (all_one_by_one (events_by j past), one_by_one_stand j past);
+}
 
-fresh_unmarked : (plan : LabPlan) (j : ℕ) → j < length plan.jobs → (e : ℕ) → fork_mark (the_opening plan) j e ≡ false
-fresh_unmarked plan j job e = ap (λ (x : Seat). get_or x.fork_marks e false) (opening_seat plan j job) ∙ all_same (length (edges plan)) e false
+opening_unmarked : (plan : LabPlan) (j : ℕ) → j < length plan.jobs → (e : ℕ) → fork_mark (the_opening plan) j e ≡ false
+opening_unmarked plan j job e = ap (λ (x : Seat). get_or x.fork_marks e false) (opening_seat plan j job) ∙ all_same (length (edges plan)) e false
 
-pub fresh_is_desk : {A : Type 0} (d : Inside A) (plan : LabPlan) (j : ℕ) → d.seat.me ≡ (fresh_view plan j, []) → j < length plan.jobs
-    → d.job ≡ j → d.counts ≡ counts_of j [] → kept d ≡ idle_seat plan → d.seen.items ≡ opening_edges plan (length (edges plan))
-    → d.calm.items ≡ replicate (length (edges plan)) no_word → d.settled ≡ false → d.needed.items ≡ replicate (length (edges plan)) 0 → IsDesk d
-fresh_is_desk d plan j me job is_job counts own seen calm unsettled needed =
-    let v : d.seat.me.0 ≡ fresh_view plan j = ap (λ m. m.0) me in
+pub known_is_desk : {A : Type 0} (d : Inside A) (k : JobKnowledge A) (plan : LabPlan) (past : List Event) (j : ℕ) → d.seat.me ≡ (view_after plan past j, [])
+    → j < length plan.jobs → IsHistory plan past → IsKnownAfter plan past j k → d.job ≡ j → d.counts ≡ k.counts → kept d ≡ seat_known k
+    → d.seen.items ≡ k.seen.items → d.calm.items ≡ replicate (length (edges plan)) no_word → d.settled ≡ false
+    → AreNeeded plan j d.phase d.needed.items → IsDesk d
+known_is_desk d k plan past j me job legal known is_job counts own seen calm unsettled needed =
+    let v : d.seat.me.0 ≡ view_after plan past j = ap (λ m. m.0) me in
     record {
-      at_rest = subst AtRest (sym v) (fresh_rests plan j job);
+      at_rest = subst AtRest (sym v) (rests_after plan past j job legal);
       empty = ap (λ m. m.1) me;
       job = ap (λ (z : View). (hand_in z).job) v ∙ sym is_job;
-      counts = ap (λ (z : View). counts_of (hand_in z).job (hand_in z).deeds) v ∙ sym counts;
-      own = ap (λ (z : View). seat (mine z) (hand_in z).job) v ∙ (opening_seat plan j job ∙ sym own);
-      seen = ap (λ (z : View). (mine z).edges) v ∙ (opening_is plan ∙ sym seen);
+      counts = ap (λ (z : View). counts_of (hand_in z).job (hand_in z).deeds) v ∙ (known.counts ∙ sym counts);
+      own = ap (λ (z : View). seat (mine z) (hand_in z).job) v ∙ (known.own ∙ sym own);
+      seen = ap (λ (z : View). (mine z).edges) v ∙ (known.seen ∙ sym seen);
       of_plan = subst (λ (z : View). AreOfPlan (hand_in z).plan d.seen.items) (sym v)
-          (subst (AreOfPlan plan) (sym seen)
-          (λ e l. subst (IsOfBottles (length (bottles plan e))) (sym (edges_at plan (length (edges plan)) e l)) (opening_fits (length (bottles plan e)))));
+          (subst (AreOfPlan plan) (known.seen ∙ sym seen) (known_of_plan plan j past legal));
       calm = none_still (hand_in d.seat.me.0).plan (mine d.seat.me.0) (hand_in d.seat.me.0).job
           (length (edges plan)) d.calm.items calm (ap (λ (z : View). length (edges (hand_in z).plan)) (sym v))
-          (λ e others. ap (λ (z : View). fork_mark (mine z) (hand_in z).job e) v ∙ fresh_unmarked plan j job e);
+          (λ e others. ap (λ (z : View). fork_mark (mine z) (hand_in z).job e) v
+          ∙ known_unmarked plan j past legal job (λ f away. opening_unmarked plan j job f) e
+          (subst (λ (z : View). ¬ IsOwn (hand_in z).plan (hand_in z).job e) v others));
       settled = λ is. absurd (false≢true (sym unsettled ∙ is));
-      needed = none_needed (hand_in d.seat.me.0).plan (hand_in d.seat.me.0).job
-          (length (edges plan)) d.phase d.needed.items (ap (λ (x : Seat). x.phase.drinking) own) needed (ap (λ (z : View). length (edges (hand_in z).plan)) (sym v));
-      rests = let idle : d.phase.drinking ≡ Tranquil = ap (λ (x : Seat). x.phase.drinking) own in λ e. (let both : Tranquil ≡ Reaching = sym idle ∙ e in cc);
+      needed = subst (λ (z : View). AreNeeded (hand_in z).plan (hand_in z).job d.phase d.needed.items) (sym v) needed;
+      rests = subst (λ (x : Seat). x.phase.drinking ≢ Reaching) (sym own) known.rests;
     }
 
 -- ---- the logs

@@ -24,8 +24,11 @@ edge_in c e = state_of (slice_index c.words (edge_place e))
 abbrev pub phase_in : ClosedView → ℕ → JobState
 phase_in c j = phase_of (slice_index c.words (phase_place c.plan j))
 
+abbrev pub log_at : List LogView → ℕ → LogView
+log_at logs i = slice_index_or logs i (empty_log 0)
+
 abbrev pub log_in : ClosedView → ℕ → LogView
-log_in c i = slice_index_or c.logs i (empty_log 0)
+log_in c i = log_at c.logs i
 
 abbrev pub counts_in : ClosedView → ℕ → Counts
 counts_in c j = slice_index_or c.counts j no_counts

@@ -14,7 +14,7 @@ use Rattle.turns.specs.Patience.{Waited, waited_in, waited_after, one_more}
 use Rattle.edge_rule.specs.declared.calls.Stepped.{Stepped}
 use Rattle.edge_rule.specs.declared.calls.Stepped.TheVariants.{Done, Moved}
 use Rattle.turns.specs.History.{IsHistory, state_after, events_by, known_by}
-use Rattle.one_history.specs.Groups.{with_group}
+use Rattle.one_history.specs.Groups.{with_group, one_by_one}
 
 pub record DeskView : Type 0 where
   pub table : TableId
@@ -73,13 +73,30 @@ pub record Commanded (d : DeskView) (entry : Entry) (d' : DeskView) : Type 0 whe
   pub makes : entry ≡ next_entry d.plan (shown middle) d.job
   pub acts : Adds middle (Act d.job ∷ []) d'
 
-abbrev pub fresh_desk : TableId → LabPlan → ℕ → DeskView
-fresh_desk t plan j = record { table = t; plan = plan; job = j; front = []; deeds = []; groups = []; clock = record { turns = 0; waited = 0; session = 0 } }
+-- A desk of a bench that opens in the state after this past. It has seen all of it, and its record is the job's events in it, each by itself.
+-- Its clock starts anew
+abbrev pub desk_after : TableId → LabPlan → List Event → ℕ → DeskView
+desk_after t plan past j = record {
+  table = t;
+  plan = plan;
+  job = j;
+  front = past;
+  deeds = events_by j past;
+  groups = one_by_one (events_by j past);
+  clock = record { turns = 0; waited = 0; session = 0 };
+}
 
--- the desks of the jobs below n, at the start
+-- the desks of the jobs below n
+abbrev pub desks_after : TableId → LabPlan → List Event → ℕ → List DeskView
+desks_after t plan past zero = []
+desks_after t plan past (suc n) = desks_after t plan past n ++ desk_after t plan past n ∷ []
+
+-- the same at the start
+abbrev pub fresh_desk : TableId → LabPlan → ℕ → DeskView
+fresh_desk t plan j = desk_after t plan [] j
+
 abbrev pub fresh_desks : TableId → LabPlan → ℕ → List DeskView
-fresh_desks t plan zero = []
-fresh_desks t plan (suc n) = fresh_desks t plan n ++ fresh_desk t plan n ∷ []
+fresh_desks t plan n = desks_after t plan [] n
 
 -- ---- what a desk counts
 

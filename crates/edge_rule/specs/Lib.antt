@@ -9,6 +9,7 @@ pub mod Ending
 pub mod ClosedView
 pub mod ClosedInside
 pub mod Openings
+pub mod Standing
 pub mod Knowing
 pub mod Telling
 pub mod NewsInside

@@ -28,8 +28,10 @@ fn glance_at<A: Allocator>(
 ) -> u64
     requires table { (me.old.table_id ≡ table.now.shared.table_id) × (other.old.table_id ≡ table.now.shared.table_id)
         × (word < table.now.shared.table_id.words) }
-    requires plan { ((hand_in me.old.me.0).plan ≡ table.now.shared.key) × ((hand_in me.old.me.0).job < length table.now.shared.key.jobs) }
-    requires word { (word ≡ place_of table.now.shared.key (hand_in other.old.me.0).job) × ((hand_in other.old.me.0).job < length table.now.shared.key.jobs) }
+    requires plan { ((hand_in me.old.me.0).plan ≡ table.now.shared.key.plan.value)
+        × ((hand_in me.old.me.0).job < length table.now.shared.key.plan.value.jobs) }
+    requires word { (word ≡ place_of table.now.shared.key.plan.value (hand_in other.old.me.0).job)
+        × ((hand_in other.old.me.0).job < length table.now.shared.key.plan.value.jobs) }
     requires alone { IsMine me.old.me.0 × (me.old.me.0.told ≡ []) × (me.old.me.1 ≡ []) }
     requires other_alone { IsMine other.old.me.0 × (other.old.me.0.told ≡ []) × (other.old.me.1 ≡ []) }
     requires apart { (hand_in other.old.me.0).job ≢ (hand_in me.old.me.0).job }

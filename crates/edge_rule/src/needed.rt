@@ -46,7 +46,12 @@ fn needed_in<A: Allocator>(plan: &Plan<A>, job: JobNo, phase: JobState, edge: Ed
 }
 
 /// Sets for each own edge which bottles a job in this phase needs.
-fn set_needed<A: Allocator>(plan: &Plan<A>, job: JobNo, phase: JobState, needed: &mut Vec<u32, A>)
+pub(crate) fn set_needed<A: Allocator>(
+    plan: &Plan<A>,
+    job: JobNo,
+    phase: JobState,
+    needed: &mut Vec<u32, A>,
+)
     requires is_job { job < length plan.now.jobs }
     requires in_session { IsInSession phase.drinking → (1 ≤ phase.session) × (phase.session ≤ length (sessions plan.now job)) }
     requires wide { length needed.old.items ≡ length (edges plan.now) }

@@ -2,15 +2,19 @@
 ghost use Rattle.std.specs.Prelude.{◌≡◌, ◌<◌, ◌+◌, ◌*◌, ◌∷◌, [], length, replicate, IfOk};
 ghost use Rattle.lab_plan.specs.LabPlan.{edges};
 ghost use Rattle.legal_steps.specs.Opening.{the_opening};
+ghost use Rattle.turns.specs.History.{IsHistory};
 ghost use Rattle.one_history.specs.Rule.{Spelled, first_view, word_count};
 ghost use Rattle.one_history.specs.Seating.{undealt, nothing};
 ghost use Rattle.edge_rule.specs.Openings.{opening_edges};
-ghost use Rattle.edge_rule.specs.DeskView.{fresh_desk, fresh_desks};
+ghost use Rattle.edge_rule.specs.Standing.{IsKnownAfter};
+ghost use Rattle.edge_rule.specs.DeskView.{desk_after, fresh_desks};
 
 use crate::bench::Bench;
 use crate::calm::NO_WORD;
 use crate::clock::Clock;
 use crate::desk::{APART, Desk};
+use crate::job_knowledge::JobKnowledge;
+use crate::needed::set_needed;
 use crate::refusals::OpenError;
 use crate::words::{edge_place, word_count};
 use atomic_table::{Seat, Table};
@@ -18,9 +22,12 @@ use edge_word::EdgeWord;
 use instrument_log::InstrumentLog;
 use lab_plan::{EdgeNo, JobNo, Plan};
 use legal_steps::{JobState, NO_COUNTS};
+use one_history::Start;
 use one_history::board::{Board, Deals, View};
+use past_events::Past;
 use plan_logs::empty_logs;
 use std::alloc::{AllocError, Allocator};
+use std::snapshot::Snapshot;
 
 /// The words of the initial state.
 fn fresh_words<A: Allocator + Copy>(alloc: A, plan: &Plan<A>) -> Result<Vec<u64, A>, AllocError>
@@ -49,30 +56,60 @@ fn fresh_edges<A: Allocator + Copy>(
     Ok(seen)
 }
 
-/// The desk of the next job, by a seat that is cut off.
-fn next_desk<A: Allocator + Copy>(
+/// What a job knows before its first event.
+fn fresh_knowledge<A: Allocator + Copy>(
+    alloc: A,
+    plan: &Plan<A>,
+    job: usize,
+) -> Result<JobKnowledge<A>, AllocError>
+    requires { job < length plan.now.jobs }
+    ensures { IfOk result (λ k. IsKnownAfter plan.now [] job k) }
+{
+    let count = plan.edges() as usize;
+    let fork_marks = Vec::from_elem(alloc, false, count)?;
+    let bottle_marks = Vec::from_elem(alloc, 0u32, count)?;
+    let seen = fresh_edges(alloc, plan)?;
+    Ok(JobKnowledge {
+        phase: JobState::IDLE,
+        fork_marks,
+        bottle_marks,
+        seen,
+        counts: NO_COUNTS,
+    })
+}
+
+/// The desk of the next job, by a seat that is cut off: the job knows this.
+pub(crate) fn next_desk<A: Allocator + Copy>(
     alloc: A,
     table: &Board<A>,
     keeper: &mut Seat<InstrumentLog<A>, View>,
     plan: &Plan<A>,
     job: usize,
+    knowledge: JobKnowledge<A>,
 ) -> Result<Desk<A>, AllocError>
-    requires table { (table.now.shared.key ≡ plan.now) × (keeper.old.table_id ≡ table.now.shared.table_id)
+    requires table { (table.now.shared.key.plan.value ≡ plan.now) × (keeper.old.table_id ≡ table.now.shared.table_id)
         × (table.now.shared.table_id.words ≡ word_count plan.now) }
     requires job { job < length plan.now.jobs }
-    requires left { keeper.old.me ≡ (undealt plan.now job, []) }
-    ensures keeper { IfOk result (λ d. (keeper.new.table_id ≡ keeper.old.table_id) × (keeper.new.me ≡ (undealt plan.now (job + 1), []))) }
-    ensures desk { IfOk result (λ d. d ≡ fresh_desk keeper.old.table_id plan.now job) }
+    requires past { IsHistory plan.now table.now.shared.key.past.events }
+    requires left { keeper.old.me ≡ (undealt plan.now table.now.shared.key.past.events job, []) }
+    requires known { IsKnownAfter plan.now table.now.shared.key.past.events job knowledge }
+    ensures keeper { IfOk result (λ d. (keeper.new.table_id ≡ keeper.old.table_id)
+        × (keeper.new.me ≡ (undealt plan.now table.now.shared.key.past.events (job + 1), []))) }
+    ensures desk { IfOk result (λ d. d ≡ desk_after keeper.old.table_id plan.now table.now.shared.key.past.events job) }
 {
     let jobs = plan.jobs();
     let count = plan.edges() as usize;
-    let fork_marks = Vec::from_elem(alloc, false, count)?;
-    let bottle_marks = Vec::from_elem(alloc, 0u32, count)?;
-    let seen = fresh_edges(alloc, plan)?;
     let calm = Vec::from_elem(alloc, NO_WORD, count)?;
-    let needed = Vec::from_elem(alloc, 0u32, count)?;
-    let phase = JobState::IDLE;
+    let mut needed = Vec::from_elem(alloc, 0u32, count)?;
     let number = JobNo(job as u8);
+    set_needed(plan, number, knowledge.phase, &mut needed);
+    let JobKnowledge {
+        phase,
+        fork_marks,
+        bottle_marks,
+        seen,
+        counts,
+    } = knowledge;
     let seat = table.shared.split_seat::<Deals>(keeper);
     Ok(Desk {
         seat,
@@ -89,7 +126,7 @@ fn next_desk<A: Allocator + Copy>(
             waited: 0,
             session: 0,
         },
-        counts: NO_COUNTS,
+        counts,
         apart: APART,
     })
 }
@@ -100,15 +137,17 @@ fn deal<A: Allocator + Copy>(
     keeper: &mut Seat<InstrumentLog<A>, View>,
     plan: &Plan<A>,
 ) -> Result<Vec<Desk<A>, A>, AllocError>
-    requires table { (table.now.shared.key ≡ plan.now) × (keeper.old.table_id ≡ table.now.shared.table_id)
+    requires table { (table.now.shared.key.plan.value ≡ plan.now) × (keeper.old.table_id ≡ table.now.shared.table_id)
         × (table.now.shared.table_id.words ≡ word_count plan.now) }
-    requires left { keeper.old.me ≡ (first_view plan.now, []) }
+    requires past { table.now.shared.key.past.events ≡ [] }
+    requires left { keeper.old.me ≡ (first_view plan.now [], []) }
     ensures keeper { IfOk result (λ v. (keeper.new.table_id ≡ keeper.old.table_id) × (keeper.new.me ≡ (nothing, []))) }
     ensures desks { IfOk result (λ v. v.items ≡ fresh_desks keeper.old.table_id plan.now (length plan.now.jobs)) }
 {
     let mut desks = Vec::with_capacity(alloc, plan.jobs())?;
     for job in 0..plan.jobs() {
-        let desk = next_desk(alloc, table, keeper, plan, job)?;
+        let knowledge = fresh_knowledge(alloc, plan, job)?;
+        let desk = next_desk(alloc, table, keeper, plan, job, knowledge)?;
         desks.push(desk)?;
     }
     Ok(desks)
@@ -125,7 +164,11 @@ fn opened<'p, A: Allocator + Copy>(
     let _ = plan.jobs();
     let words = fresh_words(alloc, plan)?;
     let logs = empty_logs(alloc, plan)?;
-    let made = Table::new(alloc, words.as_slice(), logs, plan);
+    let start = Start {
+        plan: Snapshot::of(plan),
+        past: Past::none(),
+    };
+    let made = Table::new(alloc, words.as_slice(), logs, &start);
     let Ok((table, mut keeper)) = made else {
         return Err(AllocError);
     };

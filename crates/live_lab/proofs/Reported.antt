@@ -1,5 +1,5 @@
 -- The headline holds of the report of a lab.
-use Rattle.std.proofs.Common.{◌≡◌, ℕ, ◌+◌, ◌<◌, List, [], length, replicate, refl, sym, ap, ◌∙◌, subst, arith}
+use Rattle.std.proofs.Common.{◌≡◌, ℕ, ◌+◌, ◌<◌, List, length, replicate, refl, sym, ap, ◌∙◌, subst, arith}
 use Rattle.std.proofs.lemmas.List.{length-replicate, get_or-replicate}
 use Rattle.lab_plan.specs.LabPlan.{LabPlan}
 use Rattle.legal_steps.specs.declared.counts.Counts.{Counts}
@@ -7,7 +7,7 @@ use Rattle.legal_steps.specs.declared.event.Event.{Event}
 use Rattle.legal_steps.specs.State.{State}
 use Rattle.legal_steps.specs.Opening.{the_opening}
 use Rattle.legal_steps.specs.Counting.{no_counts, counts_of}
-use Rattle.interleaving.specs.Counting.{count_at, both_counts, GoOnBy, AreCountsOf}
+use Rattle.interleaving.specs.Counting.{both_counts, GoOnBy, AreCountsOf}
 use Rattle.interleaving.specs.Kept.{no_kept, after_kept}
 use Rattle.interleaving.specs.Start.{at_start}
 use Rattle.interleaving.specs.World.{WorldView, IsReachedBy, LeadsTo}

@@ -1,7 +1,10 @@
 -- Groups that stand in a history stand in a longer one, with one more behind them.
-use Rattle.std.proofs.Common.{◌≡◌, List, [], ◌∷◌, ◌++◌, sym, ap, ◌∙◌, append_assoc, append-nil}
+use Rattle.std.proofs.Common.{◌≡◌, ℕ, true, false, ◌==◌, List, [], ◌∷◌, ◌++◌, refl, sym, ap, ◌∙◌, inl, inr, append_assoc, append-nil}
+use Rattle.std.proofs.lemmas.Bool.{cases_eq, eq-eqb, ne_eqb}
 use Rattle.legal_steps.specs.declared.event.Event.{Event}
-use Rattle.one_history.specs.Groups.{with_group, all_of, StandUnbroken}
+use Rattle.legal_steps.specs.Run.{actor}
+use Rattle.turns.specs.History.{events_by}
+use Rattle.one_history.specs.Groups.{with_group, one_by_one, all_of, StandUnbroken}
 
 pub stand_in_more : (gs : List (List Event)) (a b : List Event) → StandUnbroken gs a → StandUnbroken gs (a ++ b)
 stand_in_more [] a b t = tt
@@ -32,3 +35,22 @@ all_and (x ∷ gs) g = ap (λ z. x ++ z) (all_and gs g) ∙ sym (append_assoc x 
 pub all_with_group : (gs : List (List Event)) (g : List Event) → all_of (with_group gs g) ≡ all_of gs ++ g
 all_with_group gs [] = sym (append-nil (all_of gs))
 all_with_group gs (event ∷ g) = all_and gs (event ∷ g)
+
+-- ---- events one by one
+
+pub all_one_by_one : (l : List Event) → all_of (one_by_one l) ≡ l
+all_one_by_one [] = refl
+all_one_by_one (event ∷ l) = ap (λ z. event ∷ z) (all_one_by_one l)
+
+-- groups that stand in the rest of a history stand in all of it
+stand_behind : (x : Event) (gs : List (List Event)) (h : List Event) → StandUnbroken gs h → StandUnbroken gs (x ∷ h)
+stand_behind x [] h t = tt
+stand_behind x (g ∷ gs) h (before, after, is, rest) = (x ∷ before, after, ap (λ z. x ∷ z) is, rest)
+
+-- the events of a job stand one by one in the history that they are of
+pub one_by_one_stand : (j : ℕ) (h : List Event) → StandUnbroken (one_by_one (events_by j h)) h
+one_by_one_stand j [] = tt
+one_by_one_stand j (x ∷ h) = elim (cases_eq (actor x) j) [
+  | inl is ↦ let here : (actor x == j) ≡ true = eq-eqb (actor x) j is in rw here ([], h, refl, one_by_one_stand j h)
+  | inr ne ↦ let there : (actor x == j) ≡ false = ne_eqb (actor x) j ne in rw there (stand_behind x (one_by_one (events_by j h)) h (one_by_one_stand j h))
+]

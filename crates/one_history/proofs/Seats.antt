@@ -1,5 +1,5 @@
 -- Seats that are dealt, cut and joined keep the rule.
-use Rattle.std.proofs.Common.{◌≡◌, ◌≢◌, ℕ, zero, suc, ◌+◌, ◌-◌, ◌<◌, ◌⊎◌, inl, inr, Bool, if◌then◌else◌, ◌==◌, eq-eqb, ne_eqb, List, [], ◌∷◌, ◌++◌, map, length, get_or, set, replicate, refl, sym, ap, ◌∙◌, subst, ⊎_elim, arith}
+use Rattle.std.proofs.Common.{◌≡◌, ◌≢◌, ℕ, zero, suc, ◌+◌, ◌-◌, ◌<◌, ◌⊎◌, inl, inr, Bool, if◌then◌else◌, ◌==◌, eq-eqb, ne_eqb, List, [], ◌∷◌, ◌++◌, map, length, get_or, set, replicate, refl, sym, ap, ◌∙◌, subst, ⊎_elim, arith, append-nil}
 use mathlib.Core.Option.{some, some-injective, some-ne-none}
 use lib.ListN.{get_elem?}
 use Rattle.atomic_table.specs.Table.{State as TableState, Splits, Joins, Enters, opening}
@@ -12,12 +12,14 @@ use Rattle.one_history.specs.declared.board.View.{View}
 use Rattle.instrument_log.specs.InstrumentLog.{LogView}
 use Rattle.lab_plan.specs.IsPlan.{IsPlan}
 use Rattle.instrument_log.specs.InstrumentLog.{empty_log}
+use Rattle.legal_steps.specs.State.{State}
 use Rattle.legal_steps.specs.Opening.{the_opening}
 use Rattle.legal_steps.specs.WholeLogs.{room_of, log_with_room}
-use Rattle.one_history.specs.Rule.{hand, fresh, first_view, Spelled, Homed, Held, Sees, Kept}
+use Rattle.one_history.specs.Rule.{hand_after, fresh, first_view, Spelled, Homed, Held, Sees, Kept}
+use Rattle.turns.specs.History.{IsHistory, state_after}
 use Rattle.turns.specs.Lists.{StartsWith, Each}
 use Rattle.one_history.specs.Grow.{rest_hands}
-use Rattle.one_history.specs.Seating.{first_hand, dealt_left, dealt_right, note_of, glued, nothing, undealt, lent_left, returned_left, returned_right, taken_back}
+use Rattle.one_history.specs.Seating.{first_hand, dealt_left, dealt_right, note_of, glued, nothing, undealt, all_dealt, lent_left, returned_left, returned_right, taken_back}
 use Rattle.turns.proofs.Runs.{each_map, each-append}
 
 module _ {A : Type 0} where
@@ -28,23 +30,24 @@ module _ {A : Type 0} where
   snoc_at (x ∷ xs) a b (suc j) e = ⊎_elim inl (λ t. inr (ap suc t.0, t.1)) (snoc_at xs a b j e)
 
 module _ (p : LabPlan) where
-  fresh_held : (owner : ℕ → ℕ) (id j n : ℕ) → ((i : ℕ) → owner i ≡ id) → Each (Held p [] owner id) (fresh p j n)
-  fresh_held owner id j zero all = tt
-  fresh_held owner id j (suc n) all = ((refl, refl, all j), fresh_held owner id (suc j) n all)
+  fresh_held : (past : List Event) (owner : ℕ → ℕ) (id j n : ℕ) → ((i : ℕ) → owner i ≡ id) → Each (Held p past owner id) (fresh p past j n)
+  fresh_held past owner id j zero all = tt
+  fresh_held past owner id j (suc n) all = ((refl, refl, all j), fresh_held past owner id (suc j) n all)
 
-  pub fresh_apart : (k j n : ℕ) → k < j → Each (λ (y : Hand). y.job ≢ k) (fresh p j n)
-  fresh_apart k j zero l = tt
-  fresh_apart k j (suc n) l = ((λ e. absurd (omega arith)), fresh_apart k (suc j) n (omega arith))
+  pub fresh_apart : (past : List Event) (k j n : ℕ) → k < j → Each (λ (y : Hand). y.job ≢ k) (fresh p past j n)
+  fresh_apart past k j zero l = tt
+  fresh_apart past k j (suc n) l = ((λ e. absurd (omega arith)), fresh_apart past k (suc j) n (omega arith))
 
-  first_seat : (id : ℕ) (v : View) → get_elem? (first_view p ∷ []) id ≡ some v → Sees p [] (λ _. 0) id v
-  first_seat zero v e = subst (λ (z : View). Sees p [] (λ _. 0) 0 z) (some-injective (first_view p) v e)
-      (record { front = ([], refl); told = tt; hands = fresh_held (λ _. 0) 0 0 (length p.jobs) (λ _. refl) })
-  first_seat (suc id) v e = absurd (some-ne-none v (sym e))
+  first_seat : (past : List Event) (id : ℕ) (v : View) → get_elem? (first_view p past ∷ []) id ≡ some v → Sees p past (λ _. 0) id v
+  first_seat past zero v e = subst (λ (z : View). Sees p past (λ _. 0) 0 z) (some-injective (first_view p past) v e)
+      (record { front = ([], sym (append-nil past)); told = tt; hands = fresh_held past (λ _. 0) 0 0 (length p.jobs) (λ _. refl) })
+  first_seat past (suc id) v e = absurd (some-ne-none v (sym e))
 
-  -- the rule at the start
-  pub opens : (ws : List ℕ) (xs : List LogView) → IsPlan p → Spelled p (the_opening p) ws
-      → Homed p (the_opening p) (map some xs) → Kept p (opening ws xs (first_view p))
-  opens ws xs is spelled homed = record { is_plan = is; history = []; owner = λ _. 0; legal = tt; words = spelled; homes = homed; seats = first_seat }
+  -- the rule at the start: words and logs are those of the state after what came before
+  pub opens : (past : List Event) (ws : List ℕ) (xs : List LogView) → IsPlan p → IsHistory p past → Spelled p (state_after p past) ws
+      → Homed p (state_after p past) (map some xs) → Kept p (opening ws xs (first_view p past))
+  opens past ws xs is legal spelled homed =
+      record { is_plan = is; history = past; owner = λ _. 0; legal = legal; words = spelled; homes = homed; seats = first_seat past }
 
   cut : (s : TableState LogView View) (k : Kept p s) (id : ℕ) (v left right : View) (owner : ℕ → ℕ)
       → get_elem? s.views id ≡ some v → Sees p k.history owner id left
@@ -174,18 +177,19 @@ module _ (p : LabPlan) where
   pub takes_back : (id : ℕ) (v : View) (other : ℕ) (w : View) → Joins (Kept p) id v other w (taken_back v w) nothing
   takes_back id v other w = joins id v other w (taken_back v w) refl (λ h f t. (f, each_front (StartsWith h) v.told (w.front ∷ w.told) t))
 
-  pub undealt_next : (j : ℕ) → j < length p.jobs → (undealt p j).hands ≡ hand p j ∷ fresh p (suc j) (length p.jobs - suc j)
-  undealt_next j l = let e : length p.jobs - j ≡ suc (length p.jobs - suc j) = omega arith in ap (fresh p j) e
+  pub undealt_next : (past : List Event) (j : ℕ) → j < length p.jobs
+      → (undealt p past j).hands ≡ hand_after p past j ∷ fresh p past (suc j) (length p.jobs - suc j)
+  undealt_next past j l = let e : length p.jobs - j ≡ suc (length p.jobs - suc j) = omega arith in ap (fresh p past j) e
 
-  pub dealt_next : (j : ℕ) → j < length p.jobs → dealt_left (undealt p j) ≡ undealt p (j + 1)
-  dealt_next j l =
+  pub dealt_next : (past : List Event) (j : ℕ) → j < length p.jobs → dealt_left (undealt p past j) ≡ undealt p past (j + 1)
+  dealt_next past j l =
       let e : suc j ≡ j + 1 = omega arith in
-      ap (λ (z : List Hand). let v : View = record { hands = rest_hands z; front = []; told = [] } in v) (undealt_next j l) ∙ ap (undealt p) e
+      ap (λ (z : List Hand). let v : View = record { hands = rest_hands z; front = past; told = [] } in v) (undealt_next past j l) ∙ ap (undealt p past) e
 
-  pub undealt_last : undealt p (length p.jobs) ≡ nothing
-  undealt_last =
+  pub undealt_last : (past : List Event) → undealt p past (length p.jobs) ≡ all_dealt past
+  undealt_last past =
       let e : length p.jobs - length p.jobs ≡ 0 = omega arith in
-      ap (λ (z : ℕ). let v : View = record { hands = fresh p (length p.jobs) z; front = []; told = [] } in v) e
+      ap (λ (z : ℕ). let v : View = record { hands = fresh p past (length p.jobs) z; front = past; told = [] } in v) e
 
   some_at : (xs : List LogView) (i : ℕ) (x : LogView) → get_elem? xs i ≡ some x → get_elem? (map some xs) i ≡ some (some x)
   some_at [] i x e = absurd (some-ne-none x (sym e))
@@ -195,6 +199,11 @@ module _ (p : LabPlan) where
   some_length : (xs : List LogView) → length (map some xs) ≡ length xs
   some_length [] = refl
   some_length (x ∷ xs) = ap suc (some_length xs)
+
+  -- all logs at home
+  pub all_homed : (w : State) (xs : List LogView) → length xs ≡ length p.instruments
+      → ((i : ℕ) → i < length p.instruments → get_elem? xs i ≡ some (log_with_room p w i)) → Homed p w (map some xs)
+  all_homed w xs n e = record { deep = some_length xs ∙ n; slots = λ i l. inl (some_at xs i (log_with_room p w i) (e i l)) }
 
   pub fresh_homed : (xs : List LogView) → length xs ≡ length p.instruments
       → ((i : ℕ) → i < length p.instruments → get_elem? xs i ≡ some (empty_log (room_of p i))) → Homed p (the_opening p) (map some xs)

@@ -7,6 +7,11 @@ abbrev pub with_group : List (List Event) → List Event → List (List Event)
 with_group groups [] = groups
 with_group groups (event ∷ events) = groups ++ (event ∷ events) ∷ []
 
+-- each event a group of its own
+abbrev pub one_by_one : List Event → List (List Event)
+one_by_one [] = []
+one_by_one (event ∷ events) = (event ∷ []) ∷ one_by_one events
+
 -- the events of groups one after another
 abbrev pub all_of : List (List Event) → List Event
 all_of [] = []

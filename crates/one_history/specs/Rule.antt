@@ -13,6 +13,7 @@ use Rattle.edge_word.specs.Words.{word_of}
 use Rattle.edge_word.specs.Phases.{phase_word_of}
 use Rattle.one_history.specs.declared.board.Hand.{Hand}
 use Rattle.one_history.specs.declared.board.View.{View}
+use Rattle.one_history.specs.Groups.{one_by_one}
 use Rattle.turns.specs.History.{IsHistory, state_after, events_by}
 use Rattle.turns.specs.Lists.{StartsWith, Each}
 use Rattle.turns.specs.Reaching.{IsReachingFor}
@@ -49,13 +50,18 @@ pub record Homed (plan : LabPlan) (s : State) (homes : List (Option LogView)) : 
 abbrev pub hand : LabPlan → ℕ → Hand
 hand plan j = record { plan = plan; job = j; deeds = []; groups = [] }
 
--- one for each of n jobs from j on
-abbrev pub fresh : LabPlan → ℕ → ℕ → List Hand
-fresh plan j zero = []
-fresh plan j (suc n) = hand plan j ∷ fresh plan (suc j) n
+-- a hand with what its job did before, each event by itself
+abbrev pub hand_after : LabPlan → List Event → ℕ → Hand
+hand_after plan past j = record { plan = plan; job = j; deeds = events_by j past; groups = one_by_one (events_by j past) }
 
-abbrev pub first_view : LabPlan → View
-first_view plan = record { hands = fresh plan 0 (length plan.jobs); front = []; told = [] }
+-- one for each of n jobs from j on
+abbrev pub fresh : LabPlan → List Event → ℕ → ℕ → List Hand
+fresh plan past j zero = []
+fresh plan past j (suc n) = hand_after plan past j ∷ fresh plan past (suc j) n
+
+-- the view of the first seat: of all jobs, and of what came before
+abbrev pub first_view : LabPlan → List Event → View
+first_view plan past = record { hands = fresh plan past 0 (length plan.jobs); front = past; told = [] }
 
 -- the seat acts for the job, whose events in the history are these
 abbrev pub Held : LabPlan → List Event → (ℕ → ℕ) → ℕ → Hand → Type 0

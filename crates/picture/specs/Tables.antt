@@ -9,7 +9,7 @@ abbrev pub width : ℕ → ℕ
 width columns = max 700 (180 + left_of columns columns)
 
 abbrev pub height : ℕ → ℕ → ℕ
-height instruments jobs = 110 + 70 * instruments + 20 * jobs
+height instruments jobs = 130 + 70 * instruments + 20 * jobs
 
 -- a size if one is asked for
 abbrev pub size_text : ℕ → ℕ → List ℕ
@@ -62,8 +62,9 @@ meals_text job = codes "<text x=\"460\" y=\"10\">meals " ++ decimal job.meals ++
 unfoldable pub job_line : ℕ → ℕ → JobText → List ℕ
 job_line instruments number job = legend instruments number job ++ sessions_text job ++ withdrawn_text job.withdrawn ++ meals_text job
 
--- the last line, and the end
+-- the last line, what is drawn in everyday words, and the end
 abbrev pub end_text : ℕ → ℕ → Bool → List ℕ
 end_text instruments jobs is_finished =
     codes "<text x=\"10\" y=\"" ++ decimal (80 + 70 * instruments + 20 * jobs) ++ codes "\" font-size=\"13\">" ++ last_word is_finished
-    ++ codes "</text>\n</svg>\n"
+    ++ codes "</text>\n<text x=\"10\" y=\"" ++ decimal (100 + 70 * instruments + 20 * jobs)
+    ++ codes "\" fill=\"#555\">box: a session holds the instrument; tick: a command; withdrawn: it waited and gave up; meals: it had right of way</text>\n</svg>\n"

@@ -55,7 +55,7 @@ pub(crate) fn head_line(instruments: usize, jobs: usize, columns: u32) -> Pictur
 {
     let mut line = PictureLine::new();
     let width = (180 + left_of(columns, columns as usize)).max(700);
-    let height = 110 + 70 * instruments + 20 * jobs;
+    let height = 130 + 70 * instruments + 20 * jobs;
     add_size(&mut line, width, height);
     add_words(&mut line, instruments, jobs, columns);
     line.text(b"<rect width=\"100%\" height=\"100%\" fill=\"#fff\"/>\n");
@@ -181,7 +181,7 @@ fn last_word(is_finished: bool) -> &'static [u8]
     }
 }
 
-/// The last line, and the end.
+/// The last line, what is drawn in everyday words, and the end.
 pub(crate) fn end_line(instruments: usize, jobs: usize, is_finished: bool) -> PictureLine
     requires few_instruments { instruments ≤ most_instruments }
     requires few_jobs { jobs ≤ most_jobs }
@@ -192,6 +192,10 @@ pub(crate) fn end_line(instruments: usize, jobs: usize, is_finished: bool) -> Pi
     line.count(80 + 70 * instruments + 20 * jobs);
     line.text(b"\" font-size=\"13\">");
     line.text(last_word(is_finished));
-    line.text(b"</text>\n</svg>\n");
+    line.text(b"</text>\n<text x=\"10\" y=\"");
+    line.count(100 + 70 * instruments + 20 * jobs);
+    line.text(
+        b"\" fill=\"#555\">box: a session holds the instrument; tick: a command; withdrawn: it waited and gave up; meals: it had right of way</text>\n</svg>\n",
+    );
     line
 }

@@ -25,7 +25,7 @@ size_text w h =
     ++ codes "\" height=\"" ++ decimal h ++ codes "\" viewBox=\"0 0 " ++ decimal w ++ codes " " ++ decimal h
     ++ codes "\" font-family=\"monospace\" font-size=\"10\">\n"
 
--- the legend: what each shape stands for
+-- the legend: what each shape stands for, and in everyday words
 unfoldable pub legend : List ℕ
 legend =
     codes "<title>A run by rounds</title>\n<rect width=\"100%\" height=\"100%\" fill=\"#fff\"/>\n<g transform=\"translate(10 10)\">"
@@ -34,7 +34,7 @@ legend =
     ++ codes "<path d=\"M350 8m-5-5l10 10m0-10l-10 10\" fill=\"none\" stroke=\"#d00000\" stroke-width=\"2\"/><text x=\"362\" y=\"12\">given up</text>"
     ++ codes "<path d=\"M440 8h30\" stroke=\"#777\" stroke-width=\"2\" stroke-dasharray=\"2 3\"/><text x=\"476\" y=\"12\">hungry</text>"
     ++ codes "<path d=\"M540 8h30\" stroke=\"#222\" stroke-width=\"5\"/><text x=\"576\" y=\"12\">eats</text></g>\n"
-    ++ codes "<text x=\"10\" y=\"84\" fill=\"#555\">round</text>\n"
+    ++ codes "<text x=\"10\" y=\"36\" fill=\"#555\">thirsty: waits for its instruments; hungry: waits for its forks, which settle who gives way; eats: has all of them</text>\n<text x=\"10\" y=\"84\" fill=\"#555\">round</text>\n"
 
 -- lines are thin if rounds are narrow
 abbrev pub thin : ℕ → List ℕ

@@ -75,7 +75,10 @@ fn add_legend<A: Allocator>(out: &mut Vec<u8, A>) -> Result<(), AllocError>
         out,
         b"<path d=\"M540 8h30\" stroke=\"#222\" stroke-width=\"5\"/><text x=\"576\" y=\"12\">eats</text></g>\n",
     )?;
-    add_text(out, b"<text x=\"10\" y=\"84\" fill=\"#555\">round</text>\n")
+    add_text(
+        out,
+        b"<text x=\"10\" y=\"36\" fill=\"#555\">thirsty: waits for its instruments; hungry: waits for its forks, which settle who gives way; eats: has all of them</text>\n<text x=\"10\" y=\"84\" fill=\"#555\">round</text>\n",
+    )
 }
 
 /// How thick lines are.

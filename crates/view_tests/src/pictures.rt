@@ -70,7 +70,7 @@ unfinished
 
 /// The session of b is open at its right.
 const PICTURE: &str = "<?xml version=\"1.0\" encoding=\"UTF-8\"?>
-<svg xmlns=\"http://www.w3.org/2000/svg\" version=\"1.1\" width=\"700\" height=\"290\" viewBox=\"0 0 700 290\" font-family=\"monospace\" font-size=\"10\">
+<svg xmlns=\"http://www.w3.org/2000/svg\" version=\"1.1\" width=\"700\" height=\"310\" viewBox=\"0 0 700 310\" font-family=\"monospace\" font-size=\"10\">
 <title>Timeline of a laboratory run</title>
 <desc>Instruments, a row each: 2. Jobs, a line each in the table below: 2. Columns: 3. A box is a session on an instrument, and a tick is a command; a session has the same columns on each of its instruments.</desc>
 <rect width=\"100%\" height=\"100%\" fill=\"#fff\"/>
@@ -85,6 +85,7 @@ const PICTURE: &str = "<?xml version=\"1.0\" encoding=\"UTF-8\"?>
 <g transform=\"translate(10 190)\"><path d=\"M0 0h24v12H0z\" fill=\"#e69f00\" fill-opacity=\"0.5\" stroke=\"#222\"/><text x=\"34\" y=\"10\">a</text><text x=\"150\" y=\"10\">sessions 1 of 1</text><text x=\"460\" y=\"10\">meals 1</text><text x=\"590\" y=\"10\">retired</text></g>
 <g transform=\"translate(10 210)\"><path d=\"M0 0h24v12H0z\" fill=\"#56b4e9\" fill-opacity=\"0.5\" stroke=\"#222\"/><text x=\"34\" y=\"10\">b</text><text x=\"150\" y=\"10\">sessions 0 of 1</text><text x=\"460\" y=\"10\">meals 2</text><text x=\"590\" y=\"10\">waiting</text></g>
 <text x=\"10\" y=\"260\" font-size=\"13\">unfinished</text>
+<text x=\"10\" y=\"280\" fill=\"#555\">box: a session holds the instrument; tick: a command; withdrawn: it waited and gave up; meals: it had right of way</text>
 </svg>
 ";
 

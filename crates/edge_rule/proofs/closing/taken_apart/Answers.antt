@@ -16,7 +16,7 @@ use Rattle.one_history.proofs.Seats.{enters}
 use Rattle.edge_rule.proofs.closing.taken_apart.Goals as goal
 
 pub load_new_seat-keeper-requires : goal.load_new_seat-keeper-requires
-load_new_seat-keeper-requires g0 c = let k = c.bench.invariant in let words = k.words in (omega arith, enters c.bench.inside.table.shared.key _ _)
+load_new_seat-keeper-requires g0 c = let k = c.bench.invariant in let words = k.words in (omega arith, enters c.bench.inside.table.shared.key.plan.value _ _)
 
 pub gather-requires-clause-table : goal.gather-requires-clause-table
 gather-requires-clause-table g0 c = let k = c.bench.invariant in let words = k.words in (c.load_new_seat-keeper.ensures.0, omega arith)
@@ -33,7 +33,7 @@ pub invariant_of-result : goal.invariant_of-result
 invariant_of-result g0 c =
     let ws : List ℕ = slots_items c.close_with.result.words in
     let ls : List LogView = slots_items c.close_with.result.slots in
-    let p : LabPlan = c.bench.inside.table.shared.key in
+    let p : LabPlan = c.bench.inside.table.shared.key.plan.value in
     let plan : p ≡ c.bench.inside.plan.now = c.bench.invariant.plan in
     let same : p ≡ c.args.bench.plan = ap (λ (z : BenchView). z.plan) c.bench.view_is in
     let f = c.close_with.ensures.values in
@@ -57,7 +57,7 @@ pub returns : goal.returns
 returns g0 c =
     let ws : List ℕ = slots_items c.close_with.result.words in
     let ls : List LogView = slots_items c.close_with.result.slots in
-    let p : LabPlan = c.bench.inside.table.shared.key in
+    let p : LabPlan = c.bench.inside.table.shared.key.plan.value in
     let same : p ≡ c.args.bench.plan = ap (λ (z : BenchView). z.plan) c.bench.view_is in
     let view : ClosedView = record { plan = c.bench.inside.plan.now; words = ws; logs = ls; counts = c.args.counts.items } in
     subst (λ (z : LabPlan). IsEnd z c.args.desks.items view) same

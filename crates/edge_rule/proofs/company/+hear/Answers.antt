@@ -29,7 +29,7 @@ seat_view_of k t m = record {
 
 pub load-requires : goal.load-requires
 load-requires g0 t c =
-    (c.requires.table.0, c.requires.table.1, notices c.args.table.now.shared.key _ c.args.me.now.id c.args.me.now.me.0 c.args.me.now.me.1 c.requires.led.0)
+    (c.requires.table.0, c.requires.table.1, notices c.args.table.now.shared.key.plan.value _ c.args.me.now.id c.args.me.now.me.0 c.args.me.now.me.1 c.requires.led.0)
 
 pub split_seat-lent-requires : goal.split_seat-lent-requires
 split_seat-lent-requires g0 t c = let o : View = c.other.inside.seat.me.0 in (
@@ -38,7 +38,7 @@ split_seat-lent-requires g0 t c = let o : View = c.other.inside.seat.me.0 in (
       c.split_at_mut-front.result.1.now c.index-front-0.result c.if-is_empty.ensures c.split_at_mut-front.ensures.front c.split_at_mut-front.ensures.back
       c.requires.own c.requires.apart.0 c.requires.apart.1).table,
   c.requires.table.1,
-  lends c.args.table.now.shared.key c.other.inside.seat.id o (hand_in o) c.other.invariant.at_rest.mine,
+  lends c.args.table.now.shared.key.plan.value c.other.inside.seat.id o (hand_in o) c.other.invariant.at_rest.mine,
 )
 
 pub join_seat-requires : goal.join_seat-requires
@@ -50,7 +50,7 @@ join_seat-requires g0 t c = let e = c.split_seat-lent.ensures in
       e.3 ∙ (ap (λ (z : DeskView). z.table) c.other.view_is ∙ r.table),
       ap (λ m. m.1) e.4,
       c.requires.table.1,
-      glues c.args.table.now.shared.key c.args.me.now.id c.args.me.now.me.0 c.split_seat-lent.result.id c.split_seat-lent.result.me.0,
+      glues c.args.table.now.shared.key.plan.value c.args.me.now.id c.args.me.now.me.0 c.split_seat-lent.result.id c.split_seat-lent.result.me.0,
     )
 
 pub hear-requires : goal.hear-requires
@@ -111,7 +111,7 @@ split_seat-back-requires g0 t c =
     let job : (hand_in o).job ≡ (get_or c.split_at_mut-front.result.0.now 0 c.index-front-0.result).job = ap (λ (z : DeskView). z.job) c.other.view_is in (
       h.seat.0 ∙ (j.0 ∙ c.requires.table.0),
       c.requires.table.1,
-      backs c.args.table.now.shared.key c.hear.new.me.id w (adding (hand_in v) []) (rest_hands v.hands)
+      backs c.args.table.now.shared.key.plan.value c.hear.new.me.id w (adding (hand_in v) []) (rest_hands v.hands)
           (hand_in o) (hands_then v o c.requires.led.0 c.other.invariant.at_rest.mine w g)
           (subst (Each (λ (y : Hand). y.job ≢ (hand_in o).job)) c.requires.led.0.0
           (subst (λ (z : ℕ). Each (λ (y : Hand). y.job ≢ z) v.hands) (sym job) r.away)),
@@ -135,7 +135,7 @@ join_seat-requires-2 g0 t c =
       k.3 ∙ (h.seat.0 ∙ (j.0 ∙ c.requires.table.0)),
       ap (λ m. m.1) k.4,
       c.requires.table.1,
-      takes_back c.args.table.now.shared.key c.split_seat-lent.new.seat.id
+      takes_back c.args.table.now.shared.key.plan.value c.split_seat-lent.new.seat.id
           c.split_seat-lent.new.seat.me.0 c.split_seat-back.result.id c.split_seat-back.result.me.0,
     )
 

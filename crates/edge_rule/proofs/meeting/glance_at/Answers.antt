@@ -19,7 +19,7 @@ use Rattle.edge_rule.proofs.meeting.glance_at.Goals as goal
 pub split_seat-lent-requires : goal.split_seat-lent-requires
 split_seat-lent-requires g0 c =
     let t = c.requires.table in
-    (t.1, omega arith, lends c.args.table.now.shared.key c.args.other.now.id c.args.other.now.me.0 (hand_in c.args.other.now.me.0) c.requires.other_alone.0)
+    (t.1, omega arith, lends c.args.table.now.shared.key.plan.value c.args.other.now.id c.args.other.now.me.0 (hand_in c.args.other.now.me.0) c.requires.other_alone.0)
 
 pub join_seat-requires : goal.join_seat-requires
 join_seat-requires g0 c = let t = c.requires.table in let e = c.split_seat-lent.ensures in (
@@ -27,13 +27,13 @@ join_seat-requires g0 c = let t = c.requires.table in let e = c.split_seat-lent.
   e.3 ∙ t.1,
   ap (λ m. m.1) e.4,
   omega arith,
-  glues c.args.table.now.shared.key c.args.me.now.id c.args.me.now.me.0 c.split_seat-lent.result.id c.split_seat-lent.result.me.0,
+  glues c.args.table.now.shared.key.plan.value c.args.me.now.id c.args.me.now.me.0 c.split_seat-lent.result.id c.split_seat-lent.result.me.0,
 )
 
 pub load-found-requires : goal.load-found-requires
 load-found-requires g0 c =
     let t = c.requires.table in
-    let p : LabPlan = c.args.table.now.shared.key in
+    let p : LabPlan = c.args.table.now.shared.key.plan.value in
     let slots : ℕ = c.args.table.now.shared.table_id.slots in
     let v : View = c.args.me.now.me.0 in let o : View = c.args.other.now.me.0 in let k : ℕ = (hand_in o).job in let seat = c.join_seat.new.seat in
     let is : glued v o ≡ seat.me.0 = sym (ap (λ m. m.0) c.join_seat.ensures.2 ∙ ap (glued v) (ap (λ m. m.0) c.split_seat-lent.ensures.4)) in
@@ -53,14 +53,14 @@ split_seat-back-requires g0 c =
     let v : View = c.args.me.now.me.0 in
     let o : View = c.args.other.now.me.0 in
     let w : View = c.load-found.new.seat.me.0 in
-    let all = told_lent c.args.table.now.shared.key v o c.join_seat.new.seat.me.0 w c.args.word
+    let all = told_lent c.args.table.now.shared.key.plan.value v o c.join_seat.new.seat.me.0 w c.args.word
     c.load-found.result (step c.args.table.now.shared.table_id.slots c.args.word 0 0 none) c.join_seat.new.seat.me.1
     c.load-found.new.seat.me.1 c.requires.alone.0 c.requires.other_alone.0 c.requires.plan.0
     (ap (λ m. m.0) c.join_seat.ensures.2 ∙ ap (glued v) (ap (λ m. m.0) c.split_seat-lent.ensures.4)) c.requires.word.0 refl c.load-found.ensures.2 in
     let g = Glance (hand_in v).job (hand_in o).job all.0 ∷ [] in (
       c.load-found.ensures.0 ∙ (c.join_seat.ensures.0 ∙ t.0),
       omega arith,
-      gives_back c.args.table.now.shared.key c.load-found.new.seat.id w (adding (hand_in v) g) (hand_in o)
+      gives_back c.args.table.now.shared.key.plan.value c.load-found.new.seat.id w (adding (hand_in v) g) (hand_in o)
           (hands_after v o c.requires.alone.0 c.requires.other_alone.0 g w all.3) c.requires.apart,
     )
 
@@ -70,13 +70,13 @@ join_seat-requires-2 g0 c = let t = c.requires.table in let e = c.split_seat-bac
   e.3 ∙ (c.load-found.ensures.0 ∙ (c.join_seat.ensures.0 ∙ t.0)),
   ap (λ m. m.1) e.4,
   omega arith,
-  takes_back c.args.table.now.shared.key c.split_seat-lent.new.seat.id
+  takes_back c.args.table.now.shared.key.plan.value c.split_seat-lent.new.seat.id
       c.split_seat-lent.new.seat.me.0 c.split_seat-back.result.id c.split_seat-back.result.me.0,
 )
 
 pub returns-clause-same : goal.returns-clause-same
 returns-clause-same g0 c = let v : View = c.args.me.now.me.0 in let o : View = c.args.other.now.me.0 in let w : View = c.load-found.new.seat.me.0 in
-    let all = told_lent c.args.table.now.shared.key v o c.join_seat.new.seat.me.0 w c.args.word
+    let all = told_lent c.args.table.now.shared.key.plan.value v o c.join_seat.new.seat.me.0 w c.args.word
     c.load-found.result (step c.args.table.now.shared.table_id.slots c.args.word 0 0 none) c.join_seat.new.seat.me.1
     c.load-found.new.seat.me.1 c.requires.alone.0 c.requires.other_alone.0 c.requires.plan.0
     (ap (λ m. m.0) c.join_seat.ensures.2 ∙ ap (glued v) (ap (λ m. m.0) c.split_seat-lent.ensures.4)) c.requires.word.0 refl c.load-found.ensures.2 in
@@ -95,7 +95,7 @@ returns-clause-seat g0 c = let t = c.requires.table in (
 
 pub returns-clause-does : goal.returns-clause-does
 returns-clause-does g0 c = let v : View = c.args.me.now.me.0 in let o : View = c.args.other.now.me.0 in let w : View = c.load-found.new.seat.me.0 in
-    let all = told_lent c.args.table.now.shared.key v o c.join_seat.new.seat.me.0 w c.args.word
+    let all = told_lent c.args.table.now.shared.key.plan.value v o c.join_seat.new.seat.me.0 w c.args.word
     c.load-found.result (step c.args.table.now.shared.table_id.slots c.args.word 0 0 none) c.join_seat.new.seat.me.1
     c.load-found.new.seat.me.1 c.requires.alone.0 c.requires.other_alone.0 c.requires.plan.0
     (ap (λ m. m.0) c.join_seat.ensures.2 ∙ ap (glued v) (ap (λ m. m.0) c.split_seat-lent.ensures.4)) c.requires.word.0 refl c.load-found.ensures.2 in
@@ -109,7 +109,7 @@ returns-clause-does g0 c = let v : View = c.args.me.now.me.0 in let o : View = c
 
 pub returns-clause-both : goal.returns-clause-both
 returns-clause-both g0 c = let v : View = c.args.me.now.me.0 in let o : View = c.args.other.now.me.0 in let w : View = c.load-found.new.seat.me.0 in
-    let all = told_lent c.args.table.now.shared.key v o c.join_seat.new.seat.me.0 w c.args.word
+    let all = told_lent c.args.table.now.shared.key.plan.value v o c.join_seat.new.seat.me.0 w c.args.word
     c.load-found.result (step c.args.table.now.shared.table_id.slots c.args.word 0 0 none) c.join_seat.new.seat.me.1
     c.load-found.new.seat.me.1 c.requires.alone.0 c.requires.other_alone.0 c.requires.plan.0
     (ap (λ m. m.0) c.join_seat.ensures.2 ∙ ap (glued v) (ap (λ m. m.0) c.split_seat-lent.ensures.4)) c.requires.word.0 refl c.load-found.ensures.2 in

@@ -22,7 +22,7 @@ join_seat-requires g0 c =
       ap (λ (z : NewsView). z.table) c.news.view_is ∙ (c.requires.news ∙ sym (ap (λ (z : BenchView). z.table) c.bench.view_is)),
       c.news.invariant.empty,
       omega arith,
-      glues b.table.shared.key d.seat.id d.seat.me.0 n.seat.id n.seat.me.0,
+      glues b.table.shared.key.plan.value d.seat.id d.seat.me.0 n.seat.id n.seat.me.0,
     )
 
 pub load-requires : goal.load-requires
@@ -35,7 +35,7 @@ load-requires g0 c =
     let s = c.join_seat.new.seat in let j = c.join_seat.ensures in let is : glued d.seat.me.0 n.seat.me.0 ≡ s.me.0 = sym (ap (λ m. m.0) j.2) in (
       j.0 ∙ owns.0,
       omega arith,
-      notices b.table.shared.key b.table.shared.table_id.slots s.id s.me.0 s.me.1
+      notices b.table.shared.key.plan.value b.table.shared.table_id.slots s.id s.me.0 s.me.1
           (led s.me.0 (subst IsMine is (still_mine d.seat.me.0 n.seat.me.0 c.desk.invariant.at_rest.mine c.news.invariant.hands))),
     )
 

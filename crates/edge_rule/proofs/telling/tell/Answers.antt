@@ -14,7 +14,7 @@ split_seat-requires g0 c =
     let d = c.desk.inside in
     let owns = owned b d _ _ c.bench.view_is c.desk.view_is c.requires.own in
     let words = c.bench.invariant.words in
-    (owns.0, omega arith, notes b.table.shared.key d.seat.id d.seat.me.0)
+    (owns.0, omega arith, notes b.table.shared.key.plan.value d.seat.id d.seat.me.0)
 
 pub returns-clause-legal : goal.returns-clause-legal
 returns-clause-legal g0 c =

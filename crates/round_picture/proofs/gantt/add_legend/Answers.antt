@@ -25,6 +25,6 @@ returns g c =
     let t6 : List ℕ = codes "<path d=\"M540 8h30\" stroke=\"#222\" stroke-width=\"5\"/><text x=\"576\" y=\"12\">eats</text></g>\n" in
     let q6 : List ℕ = q5 ++ t6 in
     let e6 : c.add_text-6.new.out.items ≡ old ++ q6 = two old c.add_text-5.new.out.items c.add_text-6.new.out.items q5 t6 e5 c.in_ok-add_text-6.ensures in
-    let t : List ℕ = codes "<text x=\"10\" y=\"84\" fill=\"#555\">round</text>\n" in
+    let t : List ℕ = codes "<text x=\"10\" y=\"36\" fill=\"#555\">thirsty: waits for its instruments; hungry: waits for its forks, which settle who gives way; eats: has all of them</text>\n<text x=\"10\" y=\"84\" fill=\"#555\">round</text>\n" in
     let end : List ℕ = c.add_text-7.new.out.items in
     IfOk-weaker c.add_text-7.result (λ _. end ≡ c.add_text-6.new.out.items ++ t) (λ _. end ≡ old ++ legend) (λ _ last. two old c.add_text-6.new.out.items end q6 t e6 last) c.add_text-7.ensures

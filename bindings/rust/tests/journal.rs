@@ -1,0 +1,202 @@
+//! The journal: what comes back, what is refused, and what a write that fails leaves.
+use labrun::{Bench, Desk, Error, Report, SyncTo};
+use std::path::{Path, PathBuf};
+use std::time::Duration;
+
+const BOTH: &[u8] = b"lab 1\njob a\nsession\nscale set 3\nlamp add 2\nscale read\nend\njob b\nsession\nlamp read\nend\n";
+const LONG: Duration = Duration::from_secs(300);
+
+/// A folder of a test's own, in memory if there is such a place.
+struct Folder(PathBuf);
+
+impl Folder {
+    fn new(name: &str) -> Folder {
+        let shared = Path::new("/dev/shm");
+        let top = if shared.is_dir() { shared.to_path_buf() } else { std::env::temp_dir() };
+        let it = top.join(format!("labrun-{}-{name}", std::process::id()));
+        std::fs::create_dir(&it).unwrap();
+        Folder(it)
+    }
+
+    fn file(&self) -> PathBuf {
+        self.0.join("bay.journal")
+    }
+
+    fn text(&self) -> Vec<u8> {
+        std::fs::read(self.file()).unwrap()
+    }
+
+    fn opened(&self, script: &[u8]) -> Result<(Bench, Vec<Desk>), Error> {
+        Bench::from_text_with_journal(script, self.file(), SyncTo::Disk)
+    }
+}
+
+impl Drop for Folder {
+    fn drop(&mut self) {
+        let _ = std::fs::remove_dir_all(&self.0);
+    }
+}
+
+fn finished(opened: (Bench, Vec<Desk>)) -> Report {
+    let (bench, mut desks) = opened;
+    for desk in &mut desks {
+        while desk.begin_within(LONG).unwrap().is_some() {}
+    }
+    bench.close().unwrap()
+}
+
+/// The line that a journal is refused for, and why.
+fn refused(opened: Result<(Bench, Vec<Desk>), Error>) -> (usize, String) {
+    match opened.err() {
+        Some(Error::Journal { line, why, .. }) => (line, why),
+        other => panic!("{other:?}"),
+    }
+}
+
+#[test]
+fn held_comes_back() {
+    let folder = Folder::new("held");
+    {
+        let (bench, mut desks) = folder.opened(BOTH).unwrap();
+        assert!(!bench.resumed());
+        let mut a = desks[0].begin().unwrap().unwrap();
+        assert_eq!((a.resumed(), a.done()), (false, 0));
+        assert_eq!(a.command().unwrap().unwrap().value, 3);
+        a.note("4.998 V\nquit a").unwrap();
+        assert_eq!(refused(folder.opened(BOTH)), (0, "another process has it open".to_string()));
+        bench.close().unwrap();
+    }
+    assert!(String::from_utf8(folder.text()).unwrap().contains("\n# note a 1: 4.998 V\\nquit a\n"));
+    let (bench, mut desks) = folder.opened(BOTH).unwrap();
+    assert!(bench.resumed());
+    let (mut b, mut a) = (desks.pop().unwrap(), desks.pop().unwrap());
+    assert!(matches!(b.begin_within(Duration::ZERO).err(), Some(Error::TimedOut(keepers)) if keepers[0].job == "a" && keepers[0].holds));
+    let held = a.begin().unwrap().unwrap();
+    assert_eq!((held.number(), held.resumed(), held.done()), (1, true, 1));
+    held.finish().unwrap();
+    assert_eq!(b.begin_within(LONG).unwrap().unwrap().number(), 1);
+    let report = finished((bench, vec![a, b]));
+    assert!(report.finished);
+    let (bench, mut desks) = folder.opened(BOTH).unwrap();
+    assert!(desks[0].begin().unwrap().is_none());
+    drop(desks);
+    assert_eq!(bench.close().unwrap().text, report.text);
+    assert_eq!(
+        refused(folder.opened(b"lab 1\njob a\nsession\nscale set 4\nend\n")),
+        (4, "it is the journal of another script, which differs in line 4".to_string())
+    );
+}
+
+#[test]
+fn cuts_and_changes() {
+    let folder = Folder::new("cuts");
+    let (bench, mut desks) = folder.opened(BOTH).unwrap();
+    {
+        let mut a = desks[0].begin().unwrap().unwrap();
+        a.command().unwrap();
+        a.note("4.998 V").unwrap();
+    }
+    let report = finished((bench, desks)).text;
+    let all = folder.text();
+    for length in 0..=all.len() {
+        std::fs::write(folder.file(), &all[..length]).unwrap();
+        let cut = folder.opened(BOTH).unwrap();
+        assert_eq!(cut.0.resumed(), length >= BOTH.len() + 6);
+        assert!(finished(cut).finished, "{length}");
+    }
+    for place in 0..all.len() {
+        let mut changed = all.clone();
+        changed[place] ^= 1;
+        std::fs::write(folder.file(), &changed).unwrap();
+        match folder.opened(BOTH) {
+            Ok(passed) => {
+                let begin = all[..place].iter().rposition(|&it| it == b'\n').map_or(0, |it| it + 1);
+                assert!(all[begin] == b'#' || place + 1 == all.len(), "{place}");
+                assert_eq!(finished(passed).text, report, "{place}");
+            }
+            Err(fault) => assert_ne!(refused(Err(fault)).0, 0),
+        }
+    }
+}
+
+extern "C" {
+    fn setrlimit(what: i32, to: *const [u64; 2]) -> i32;
+    fn signal(number: i32, to: usize) -> usize;
+    fn fork() -> i32;
+    fn waitpid(process: i32, status: *mut i32, options: i32) -> i32;
+    fn _exit(status: i32) -> !;
+}
+
+/// The files of this process may not grow beyond so many bytes.
+fn limit(bytes: usize) {
+    let to = [bytes as u64, u64::MAX];
+    // SAFETY: RLIMIT_FSIZE with the two words that it wants.
+    assert_eq!(unsafe { setrlimit(1, &to) }, 0);
+}
+
+/// In a child, because the limit is the whole process's.
+#[test]
+fn no_room() {
+    // SAFETY: the child is one thread, and leaves by `_exit`.
+    let child = unsafe { fork() };
+    if child == 0 {
+        let done = std::panic::catch_unwind(without_room).is_ok();
+        unsafe { _exit(i32::from(!done)) };
+    }
+    let mut status = 0;
+    // SAFETY: the child's number, and a place for its status.
+    assert_eq!(unsafe { waitpid(child, &mut status, 0) }, child);
+    assert_eq!(status, 0);
+}
+
+fn without_room() {
+    // SAFETY: SIGXFSZ is ignored.
+    unsafe { signal(25, 1) };
+    let folder = Folder::new("room");
+    let (bench, mut desks) = folder.opened(BOTH).unwrap();
+    let too_large = "a write failed (File too large";
+    let failed = |fault: Option<Error>| matches!(fault, Some(Error::Journal { why, .. }) if why.starts_with(too_large));
+    limit(folder.text().len() + 5);
+    assert!(failed(desks[0].begin().err()));
+    limit(1 << 40);
+    {
+        let mut held = desks[0].begin().unwrap().unwrap();
+        assert!(!held.resumed());
+        let before = folder.text();
+        limit(before.len() + 5);
+        assert!(failed(held.command().err()) && failed(held.note("4.998 V").err()) && held.done() == 0);
+        assert!(failed(held.finish().err()));
+        assert_eq!(folder.text(), before);
+    }
+    {
+        let held = desks[0].begin().unwrap().unwrap();
+        assert_eq!((held.number(), held.resumed(), held.done()), (1, true, 0));
+        // (a drop can't give an error)
+    }
+    assert!(failed(desks[0].begin().err()));
+    limit(1 << 40);
+    assert_eq!(desks[0].begin().unwrap().unwrap().number(), 1);
+    assert!(finished((bench, desks)).finished);
+}
+
+#[test]
+fn who_waits_is_woken() {
+    let folder = Folder::new("woken");
+    let mut script = String::from("lab 1\n");
+    for job in 0..8 {
+        script += &format!("job j-{job}\n");
+        for session in 0..50 {
+            script += &format!("session\ni-{} add 1\ni-{} add 1\nend\n", job % 4, (job + session) % 5);
+        }
+    }
+    let (bench, desks) = folder.opened(script.as_bytes()).unwrap();
+    std::thread::scope(|threads| {
+        for mut desk in desks {
+            threads.spawn(move || while desk.begin().unwrap().is_some() {});
+        }
+    });
+    let report = bench.close().unwrap();
+    assert!(report.finished);
+    let (bench, _) = folder.opened(script.as_bytes()).unwrap();
+    assert_eq!(bench.close().unwrap().text, report.text);
+}
