@@ -270,6 +270,8 @@ uint32_t lab_bench_free(struct lab_bench *bench);
 
      - Take and write the journal before anybody acts on what a call told: before a thread works at its instruments, and before one
        that let go says so. How often it is brought to the disk (fsync) is up to you.
+     - Write the script and the line `steps` whole before the first call: a file that was cut within its script is read as the shorter script
+       that it is then.
      - A file that was cut while it was written comes back to its last whole line; `written` tells how many bytes that is. Cut the file
        there, take the journal of the bench that came back, and go on writing behind it.
      - A command that was in hand is done on the way back; the next journal tells it. All patience counts anew.

@@ -124,9 +124,14 @@ static void torn(void) {
         if (status == LAB_DONE) IS(lab_settle(&other, 7, &came) == LAB_DONE);
         lab_bench_free(&other);
     }
+    /* before that line it is a script that may be cut short, and read as what it then is, or refused */
     for (size_t cut = 0; cut < head; cut++) {
         uint32_t status = lab_bench_resume(file, cut, &other, &told);
-        expect(status == LAB_REFUSED && other.live == 0 && told.line > 0, "a journal of %zu bytes, without steps: status %u", cut, status);
+        if (status == LAB_DONE) {
+            IS(told.written == whole_lines(cut) && lab_bench_free(&other) == LAB_DONE);
+        } else {
+            expect(status == LAB_REFUSED && other.live == 0 && told.line > 0, "a script of %zu bytes: status %u", cut, status);
+        }
     }
 }
 
@@ -157,28 +162,22 @@ static void changed(void) {
     IS(refused > 100);
 }
 
-/* A job has a command in hand: it is done on the way back, and the next journal tells it. */
+/* A job has a command in hand, as no call of this library leaves it: it is done on the way back, and the next journal tells it. */
 static void in_hand(void) {
-    struct lab_turned turned;
-    struct lab_state state, after;
-    begin_file(two);
-    IS(lab_bench_open_kept((const uint8_t *)two, sizeof two - 1, &bench, &out.told) == LAB_DONE);
-    for (int turn = 0; turn < 100; turn++) {
-        IS(lab_turn(&bench, 0, &turned) == LAB_DONE && lab_state(&bench, 0, &state) == LAB_DONE);
-        if (state.drinking == 3) break;
-    }
-    IS(state.drinking == 3 && state.position == 0);
-    IS(take(&bench) > 0);
-    resumes();
-    IS(lab_state(&other, 0, &after) == LAB_DONE && after.drinking == 2 && after.position == 1);
-    IS(take(&other) > 0);
-    struct lab_bench third = {0};
+    static const char steps[] = "look a b\nthirst a\ndrink a\nreach a\n";
+    struct lab_state state;
     struct lab_told told;
+    struct lab_bench third = {0};
+    begin_file(two);
+    memcpy(file + length, steps, sizeof steps - 1);
+    length += sizeof steps - 1;
+    resumes();
+    IS(lab_state(&other, 0, &state) == LAB_DONE && state.drinking == 2 && state.position == 1);
+    IS(take(&other) > 0);
     IS(lab_bench_resume(file, length, &third, &told) == LAB_DONE && told.written == length && same_lab(&other, &third));
     lab_bench_free(&third);
     replays(&other);
     lab_bench_free(&other);
-    lab_bench_free(&bench);
 }
 
 /* A bench whose journal nobody takes says so in time, and goes on once it is taken. */

@@ -4,7 +4,8 @@ ghost use Rattle.session_layer.specs.Turn.{Took};
 ghost use Rattle.desk_user.specs.Serving.{Served};
 ghost use Rattle.live_lab.specs.declared.stage.Aim.TheVariants.{Hold, Retire};
 ghost use Rattle.bench_calls.specs.Closing.{Frees};
-ghost use Rattle.hall_calls.specs.Calls.{Opens, OfBench, TellsSize, Takes, GivesBack, OnDesk, Drives, GoesOn, LetsGo, DoesNext, GivesUp, TellsState, Closes, is_of_a_hall};
+ghost use Rattle.hall_calls.specs.Calls.{Opens, OfBench, TellsSize, Takes, GivesBack, Closes, is_of_a_hall};
+ghost use Rattle.hall_calls.specs.Calls.{OnDesk, Drives, GoesOn, LetsGo, DoesNext, GivesUp, TellsState};
 
 use bench_calls::{LabEntry, LabSize, LabState, LabTurned};
 use c_handles::Handle;

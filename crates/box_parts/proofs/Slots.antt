@@ -68,7 +68,3 @@ heap_told g vs s = s.1.0 ∙ (λ i. vstruct (of_list ((s.1.1.0.1.0 ∙ (λ j. vs
 pub held_of : {A : Type 0} (o : Option A) → holds o ≡ 1 → (x : A) × (o ≡ Some x)
 held_of (Some x) e = (x, refl)
 held_of None e = absurd (omega (arith, e))
-
-pub vacant_of : {A : Type 0} (o : Option A) → (holds o ≡ 1 → ⊥) → o ≡ None
-vacant_of (Some x) f = absurd (f refl)
-vacant_of None f = refl

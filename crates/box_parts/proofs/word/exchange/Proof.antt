@@ -1,12 +1,11 @@
 -- `exchange` is one step on a word that the caller owns. Assumes `Logic`.
-use Rattle.std.proofs.Common.{◌≡◌, ℕ, ◌^◌, ◌<◌, List, [], ◌∷◌, sym, refl, arith, w64}
+use Rattle.std.proofs.Common.{◌≡◌, ℕ, ◌^◌, List, [], ◌∷◌, refl, w64}
 use seplogic.Ra.Ura.{Ura}
 use mir.Syntax.{Fn, named}
 use mir.Val.{Val, vint, vptr}
 use base.Fraction.{full_share}
 use base.Logic.{SProp, ent, ex, ex_i, upd_i, emp, via}
-use base.Fml.{Lft, Share, Fml, ftrue, fsep, feq, flft}
-use prog.Wp.{WpFn}
+use base.Fml.{Fml, ftrue, fsep, feq, flft}
 use prog.Atomic.{either}
 use lib.Dec.{eqb}
 use types.Logic.{Logic, sem}
