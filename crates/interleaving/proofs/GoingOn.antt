@@ -51,5 +51,8 @@ by_none w = record { same_opening = refl; past = sym (append-nil w.past); kept =
 pub on_still : (w : WorldView) → GoesOn w w
 on_still w = on_by w w [] (by_none w)
 
+pub on_same : (old new : WorldView) → new ≡ old → GoesOn old new
+on_same old new same = subst (GoesOn old) (sym same) (on_still old)
+
 pub on_both : (old mid new : WorldView) → GoesOn old mid → GoesOn mid new → GoesOn old new
 on_both old mid new a b = on_by old new (a.more ++ b.more) (by_both old mid new a.more b.more (by_on old mid a) (by_on mid new b))
