@@ -11,12 +11,13 @@
      4  LAB_TOO_LONG    the script has more than 16777216 bytes
      5  LAB_NO_MEMORY   no memory
      6  LAB_NO_ROOM     what was to be written has more than `room` bytes; `written` says how many
-     7  LAB_NOT_OPEN    the handle isn't open, or another call on it runs; of a `struct lab_shared` or a `struct lab_desk` that is to be
-                        filled: it is in use
+     7  LAB_NOT_OPEN    the handle has nothing that the call could act on: it isn't open, or it is of another kind
      8  LAB_NOT_YET     not yet, or not now: what was asked for isn't so
      9  LAB_NO_SESSION  the job has no session left to begin
     10  LAB_SESSIONS_LEFT  the job can't retire, because it has sessions left
-    11  LAB_IN_USE      the `struct lab_bench` that is to be opened is in use: open, or closed and not freed
+    11  LAB_IN_USE      the handle that is to be filled isn't empty: it is open, or closed and not freed, or it wasn't zeroed
+    12  LAB_JOURNAL_FULL  the bench keeps its steps and has no room for those of this call: take its journal (`lab_journal`), and call again
+    13  LAB_BUSY        another call on the handle is under way
 
    At 1, 4, 5 and 6 the room for a report or a name stays as it was. No call starts a thread, waits or sleeps, and none asks
    for anything but malloc, realloc and free.
@@ -26,9 +27,9 @@
      - `script` points to `length` bytes that may be read, and no other thread writes them meanwhile;
      - `report` and `name` point to `room` bytes that may be read and written, and each other pointer to one of what it points to;
        nobody else reads or writes these meanwhile;
-     - no pointer is NULL, also where its length is 0;
+     - no pointer is NULL, but one to a script or a room whose length is 0;
      - what one call is given doesn't overlap;
-     - no call from a signal handler, nor in the child of a fork of a process with threads;
+     - no call from a signal handler (on a handle that is busy it answers 13), nor in the child of a fork of a process with threads;
      - malloc and realloc align what they give as usual, and give NULL where they have none;
      - of a bench, also what stands at `struct lab_bench`, or at `struct lab_shared`. */
 #ifndef LABRUN_H
@@ -51,6 +52,8 @@ extern "C" {
 #define LAB_NO_SESSION 9u
 #define LAB_SESSIONS_LEFT 10u
 #define LAB_IN_USE 11u
+#define LAB_JOURNAL_FULL 12u
+#define LAB_BUSY 13u
 
 struct lab_told {
     size_t written; /* how many bytes the report has; 0 where there is none */
@@ -99,7 +102,9 @@ uint32_t lab_upgrade(const uint8_t *script, size_t length, uint8_t *report, size
      - `struct lab_bench` is all zero before `lab_bench_open`, and the calls alone write it. It may be moved while no call on it runs, but
        a copy must not be used beside the first.
      - One call at a time on one bench: threads that share it hold one mutex of yours during each call, and don't while they work.
-       Threads with a bench each need no mutex.
+       Threads with a bench each need no mutex. The proofs are of programs that keep this rule. In one that doesn't, each call makes the
+       handle busy by one atomic step, and the call that comes meanwhile, from a thread or a signal handler, answers 13 and changes
+       nothing. A thread that is killed within a call leaves the handle busy for good.
      - Any thread may act for any job. If two threads act for one job, each sees what the other did: say among yourselves who does.
      - A thread that waits sleeps on a condition variable of yours. Whoever called `lab_settle` wakes the threads of the jobs that `came`
        names, and whoever called `lab_end`, `lab_withdraw`, `lab_begin`, or took single turns (`lab_turn`, `lab_serve`,
@@ -122,7 +127,7 @@ uint32_t lab_upgrade(const uint8_t *script, size_t length, uint8_t *report, size
 /* What C keeps of a bench. */
 struct lab_bench {
     void *at;
-    uint32_t live;
+    uint64_t live; /* not 0 if it has something */
 };
 
 struct lab_size {
@@ -252,8 +257,38 @@ uint32_t lab_retire(struct lab_bench *bench, uint32_t job, uint32_t turns, struc
    A closed handle keeps its report, for a further call; every other call on it but the free answers 7. */
 uint32_t lab_bench_close(struct lab_bench *bench, uint8_t *report, size_t room, struct lab_told *told);
 
-/* Gives back all that the handle has, at any time; it is empty then, and may be opened again. */
-void lab_bench_free(struct lab_bench *bench);
+/* Gives back all that the handle has, at any time; it is empty then, and may be opened again. 0; 7 if it is empty already, or no
+   `struct lab_bench`. */
+uint32_t lab_bench_free(struct lab_bench *bench);
+
+/* ---- A bench that comes back when its process has died.
+
+   A bench that is opened by `lab_bench_open_kept` keeps the steps that its calls do, and `lab_journal` takes them as text. Write the
+   script (and a line end, if it has none), the line `steps`, and then each text that was taken, one after another, into a file: that is the
+   journal, and also an input of `labrun replay`. `lab_bench_resume` reads it, does the steps again, and the bench stands where it
+   stood. So whatever was written before the process died stays so: who held, holds, and what was logged, is logged.
+
+     - Take and write the journal before anybody acts on what a call told: before a thread works at its instruments, and before one
+       that let go says so. How often it is brought to the disk (fsync) is up to you.
+     - A file that was cut while it was written comes back to its last whole line; `written` tells how many bytes that is. Cut the file
+       there, take the journal of the bench that came back, and go on writing behind it.
+     - A command that was in hand is done on the way back; the next journal tells it. All patience counts anew.
+     - Room is kept for the steps of two calls. A call that does steps answers 12, and does nothing, if less than half of it is left: take
+       the journal then, or rather after each call. That the room suffices isn't proved: if it ever didn't, `lab_journal` would answer 12
+       for good, and never give a journal that lacks a step. `lab_begin` settles once at most on such a bench.
+     - In the file, comments of your own begin with `# ` and stand between two texts. A journal has 1000000 steps at most: start a new one
+       before. */
+
+/* As `lab_bench_open`, and the bench keeps its steps. 0; 1 with `told->line` and `told->cause`; 4; 5; 11. */
+uint32_t lab_bench_open_kept(const uint8_t *script, size_t length, struct lab_bench *bench, struct lab_told *told);
+
+/* Takes the steps that were done since the journal was last taken, as text, which may be empty; `written` tells its length. 0; 5; 6 with
+   `written`, and nothing is taken; 7; 8 if the bench doesn't keep its steps; 12, see above. */
+uint32_t lab_journal(struct lab_bench *bench, uint8_t *text, size_t room, size_t *written);
+
+/* Opens the bench that a journal tells of; it keeps its steps. 0, with `told->written` as the length of what was read, up to the last line
+   end; 1 with `told->line` and `told->cause`, as `lab_replay`, also (13) for a line `#sum` that doesn't fit the steps above it; 5; 11. */
+uint32_t lab_bench_resume(const uint8_t *journal, size_t length, struct lab_bench *bench, struct lab_told *told);
 
 /* ---- A bench with a desk for each thread.
 
@@ -273,42 +308,43 @@ void lab_bench_free(struct lab_bench *bench);
 
    The rules, beside those at the top of this file:
 
-     - `struct lab_shared` and `struct lab_desk` are all zero at first, and the calls alone write them. Don't copy them, don't move them.
+     - `struct lab_shared` and `struct lab_desk` are all zero at first, and the calls alone write them. They may be moved while no call on
+       them runs, but a copy must not be used beside the first.
      - One call at a time on one handle. `lab_take_desk` is a call on both of its handles, and every other on the one that it is given:
-       so take the desks before the threads start, or hold a mutex of yours around the calls on the `struct lab_shared`. Calls on the
-       desks, `lab_give_desk` too, need none.
+       so take the desks before the threads start, or hold a mutex of yours around the calls on the `struct lab_shared`; or call again
+       when it answers 13, because another thread takes its desk just then. Calls on the desks, `lab_give_desk` too, need none.
      - A desk's handle may go from thread to thread, if something orders the calls: the start or the end of a thread, a mutex, a queue.
      - A job gives up what a neighbour asks for only in calls on its own desk: turn, serve, begin, retire, end. So whoever has a desk calls
        `lab_desk_serve` now and then, also while it holds, while it has nothing to do, and when its job is retired; or it gives the desk
        back, so that another thread can take it and serve. A desk that nobody serves keeps its neighbours waiting: nothing else is lost.
      - A thread that stops between two calls leaves its desk in the handle: let another go on with it, end its session (`lab_desk_end`),
-       and give it back. Until then the close answers 8. A thread that is killed within a call leaves the handle empty, and its desk
+       and give it back. Until then the close answers 8. A thread that is killed within a call leaves the handle busy, and its desk
        is lost: the close answers 8 for ever, and `lab_shared_free` gives back what it can.
      - No call wakes a thread. If `what` is 0, nothing is due until a neighbour's call did something (but a session with patience counts
        its own turns): sleep a little and call again, or wait on a condition variable of yours that each thread signals after a call
        that told `what` 2, and after `lab_desk_withdraw`.
      - What the script has (names, sessions, commands) is told by a `struct lab_bench` that is opened for the same script.
      - At each status but 0 nothing has changed and nothing is written, but for: `turned` and the turns taken, at 8 and 9 of
-       `lab_desk_begin`, 8 of `lab_desk_retire`; `written` at 6; `told` at 1, 4 and 5 of the open and at 0, 3, 5 and 6 of the close. */
+       `lab_desk_begin`, 8 and 10 of `lab_desk_retire`; `written` at 6; `told` at 1, 4 and 5 of the open and at 0, 3, 5 and 6 of the close. */
 
 /* What C keeps of such a bench, and of a desk. */
 struct lab_shared {
     void *at;
-    uint32_t live;
+    uint64_t live; /* not 0 if it has something */
 };
 
 struct lab_desk {
     void *at;
-    uint32_t live;
+    uint64_t live; /* not 0 if it has something */
 };
 
-/* Opens a bench for a script, with each desk at its place. 0; 1 with `told->line` and `told->cause`; 4; 5; 7 if the handle is in use. */
+/* Opens a bench for a script, with each desk at its place. 0; 1 with `told->line` and `told->cause`; 4; 5; 11 if the handle is in use. */
 uint32_t lab_shared_open(const uint8_t *script, size_t length, struct lab_shared *shared, struct lab_told *told);
 
 /* How many jobs and instruments there are. 0, 7. */
 uint32_t lab_shared_size(struct lab_shared *shared, struct lab_size *size);
 
-/* Takes the desk of a job into an empty handle. 0; 2; 5; 7 if the bench isn't open, or the desk's handle is in use; 8 if the desk is out. */
+/* Takes the desk of a job into an empty handle. 0; 2; 5; 7 if the bench isn't open; 8 if the desk is out; 11 if the desk's handle is in use. */
 uint32_t lab_take_desk(struct lab_shared *shared, uint32_t job, struct lab_desk *desk);
 
 /* Gives the desk back to its own bench; the handle is empty then. 0; 7. (8, with the desk still in the handle, if the place has a desk:
@@ -329,7 +365,8 @@ uint32_t lab_desk_begin(struct lab_desk *desk, uint32_t turns, struct lab_turned
 /* As `lab_end`: does the commands that are left, ends the session and lets go. 0, 7, 8. */
 uint32_t lab_desk_end(struct lab_desk *desk, struct lab_turned *turned);
 
-/* Takes turns of a desk whose job's sessions are all done, at most `turns`, until it is retired. 0 it is; 8 not yet, or sessions are left; 7. */
+/* Takes turns of a desk whose job's sessions are all done, at most `turns`, until it is retired. 0 it is; 8 not yet; 10 sessions are left: it
+   would never; 7. */
 uint32_t lab_desk_retire(struct lab_desk *desk, uint32_t turns, struct lab_turned *turned);
 
 /* Closes the bench, whatever its jobs are at, and writes the report. 0 or 3 as a run; 8 while a desk is out; 5 and 6: nothing is lost, call
@@ -337,8 +374,9 @@ uint32_t lab_desk_retire(struct lab_desk *desk, uint32_t turns, struct lab_turne
    call; every other call on it but the free answers 7. */
 uint32_t lab_shared_close(struct lab_shared *shared, uint8_t *report, size_t room, struct lab_told *told);
 
-/* Gives back what the handle has; it is empty then. Desks that are out may be used on, and the last that is given back frees the bench. */
-void lab_shared_free(struct lab_shared *shared);
+/* Gives back what the handle has; it is empty then. Desks that are out may be used on, and the last that is given back frees the bench. 0;
+   7 if it is empty already, or no `struct lab_shared`. */
+uint32_t lab_shared_free(struct lab_shared *shared);
 
 /* ---- The sizes and places that the library goes by. */
 

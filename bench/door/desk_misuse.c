@@ -47,7 +47,7 @@ static void faults(void) {
 
 static void taking(void) {
     IS(open_two(&shared) == LAB_DONE && shared.live != 0);
-    REFUSED(LAB_NOT_OPEN, open_two(&shared));
+    REFUSED(LAB_IN_USE, open_two(&shared));
     IS(lab_shared_size(&shared, &out.size) == LAB_DONE && out.size.jobs == 3 && out.size.instruments == 2);
     no_desk(none);
     REFUSED(LAB_NOT_THERE, lab_take_desk(&shared, 3, none));
@@ -55,7 +55,7 @@ static void taking(void) {
     for (uint32_t job = 0; job < 3; job++) {
         IS(lab_take_desk(&shared, job, &desks[job]) == LAB_DONE && desks[job].live != 0);
         REFUSED(LAB_NOT_YET, lab_take_desk(&shared, job, none));
-        REFUSED(LAB_NOT_OPEN, lab_take_desk(&shared, job, &desks[0]));
+        REFUSED(LAB_IN_USE, lab_take_desk(&shared, job, &desks[0]));
         REFUSED(LAB_NOT_YET, lab_shared_close(&shared, report, sizeof report, &out.told));
     }
     IS(lab_give_desk(&desks[1]) == LAB_DONE && desks[1].live == 0);
@@ -73,7 +73,7 @@ static void driving(void) {
     REFUSED(LAB_NOT_YET, lab_desk_end(&desks[0], &out.turned));
     REFUSED(LAB_NOT_YET, lab_desk_withdraw(&desks[0]));
     IS(lab_desk_begin(&desks[0], 0, &turned) == LAB_NOT_YET && turned.what == 0 && turned.count == 0);
-    IS(lab_desk_retire(&desks[0], 9, &turned) == LAB_NOT_YET);
+    IS(lab_desk_retire(&desks[0], 9, &turned) == LAB_SESSIONS_LEFT && turned.what == 0);
     /* b is thirsty once it asked, and gives its session up */
     IS(lab_desk_turn(&desks[1], &turned) == LAB_DONE && turned.what == 2);
     IS(lab_desk_state(&desks[1], &state) == LAB_DONE && state.session == 1 && state.sessions == 1 && state.turns == 1);
@@ -105,19 +105,61 @@ static void driving(void) {
     IS(lab_desk_begin(&desks[2], 10, &turned) == LAB_NO_SESSION && turned.what == 0);
 }
 
-/* A handle of another kind isn't open. */
+/* A handle of another kind isn't open, and isn't empty: nobody fills it, and nobody frees what it has. */
 static void wrong_kind(void) {
-    struct lab_bench bench = {0};
+    struct lab_bench bench = {0}, *shared_as_bench = (struct lab_bench *)(void *)&shared, *desk_as_bench = (struct lab_bench *)(void *)&desks[0];
+    struct lab_shared *bench_as_shared = (struct lab_shared *)(void *)&bench, *desk_as_shared = (struct lab_shared *)(void *)&desks[0];
+    struct lab_desk *bench_as_desk = (struct lab_desk *)(void *)&bench, *shared_as_desk = (struct lab_desk *)(void *)&shared;
     struct lab_told told;
     IS(lab_bench_open((const uint8_t *)two, sizeof two - 1, &bench, &told) == LAB_DONE);
-    REFUSED(LAB_NOT_OPEN, lab_turn((struct lab_bench *)(void *)&shared, 0, &out.turned));
-    REFUSED(LAB_NOT_OPEN, lab_settle((struct lab_bench *)(void *)&desks[0], 7, &out.came));
-    REFUSED(LAB_NOT_OPEN, lab_desk_turn((struct lab_desk *)(void *)&shared, &out.turned));
-    REFUSED(LAB_NOT_OPEN, lab_desk_turn((struct lab_desk *)(void *)&bench, &out.turned));
-    REFUSED(LAB_NOT_OPEN, lab_shared_size((struct lab_shared *)(void *)&desks[0], &out.size));
-    REFUSED(LAB_NOT_OPEN, lab_shared_size((struct lab_shared *)(void *)&bench, &out.size));
+    REFUSED(LAB_NOT_OPEN, lab_turn(shared_as_bench, 0, &out.turned));
+    REFUSED(LAB_NOT_OPEN, lab_settle(desk_as_bench, 7, &out.came));
+    REFUSED(LAB_NOT_OPEN, lab_bench_close(desk_as_bench, report, sizeof report, &out.told));
+    REFUSED(LAB_NOT_OPEN, lab_bench_free(shared_as_bench));
+    REFUSED(LAB_NOT_OPEN, lab_bench_free(desk_as_bench));
+    REFUSED(LAB_IN_USE, lab_bench_open((const uint8_t *)two, sizeof two - 1, shared_as_bench, &out.told));
+    REFUSED(LAB_IN_USE, lab_bench_open((const uint8_t *)two, sizeof two - 1, desk_as_bench, &out.told));
+    REFUSED(LAB_NOT_OPEN, lab_desk_turn(shared_as_desk, &out.turned));
+    REFUSED(LAB_NOT_OPEN, lab_desk_turn(bench_as_desk, &out.turned));
+    REFUSED(LAB_NOT_OPEN, lab_give_desk(shared_as_desk));
+    REFUSED(LAB_NOT_OPEN, lab_give_desk(bench_as_desk));
+    REFUSED(LAB_IN_USE, lab_take_desk(&shared, 0, bench_as_desk));
+    REFUSED(LAB_NOT_OPEN, lab_shared_size(desk_as_shared, &out.size));
+    REFUSED(LAB_NOT_OPEN, lab_shared_size(bench_as_shared, &out.size));
+    REFUSED(LAB_NOT_OPEN, lab_take_desk(bench_as_shared, 0, none));
+    REFUSED(LAB_NOT_OPEN, lab_shared_close(bench_as_shared, report, sizeof report, &out.told));
+    REFUSED(LAB_NOT_OPEN, lab_shared_free(bench_as_shared));
+    REFUSED(LAB_NOT_OPEN, lab_shared_free(desk_as_shared));
+    REFUSED(LAB_IN_USE, lab_shared_open((const uint8_t *)two, sizeof two - 1, bench_as_shared, &out.told));
     IS(lab_bench_size(&bench, &out.size) == LAB_DONE && out.size.jobs == 3);
-    lab_bench_free(&bench);
+    IS(lab_bench_free(&bench) == LAB_DONE && lab_bench_free(&bench) == LAB_NOT_OPEN);
+}
+
+/* A handle that wasn't zeroed isn't open, and isn't empty. */
+static void garbage(void) {
+    union {
+        struct lab_bench bench;
+        struct lab_shared shared;
+        struct lab_desk desk;
+        uint8_t bytes[16];
+    } handle;
+    static const uint8_t fills[] = {0x01, 0xa5, 0xff};
+    for (size_t fill = 0; fill < sizeof fills; fill++) {
+        uint8_t as_filled[sizeof handle];
+        memset(as_filled, fills[fill], sizeof as_filled);
+        memset(&handle, fills[fill], sizeof handle);
+        REFUSED(LAB_NOT_OPEN, lab_turn(&handle.bench, 0, &out.turned));
+        REFUSED(LAB_NOT_OPEN, lab_bench_close(&handle.bench, report, sizeof report, &out.told));
+        REFUSED(LAB_NOT_OPEN, lab_bench_free(&handle.bench));
+        REFUSED(LAB_NOT_OPEN, lab_shared_size(&handle.shared, &out.size));
+        REFUSED(LAB_NOT_OPEN, lab_shared_free(&handle.shared));
+        REFUSED(LAB_NOT_OPEN, lab_desk_turn(&handle.desk, &out.turned));
+        REFUSED(LAB_NOT_OPEN, lab_give_desk(&handle.desk));
+        REFUSED(LAB_IN_USE, lab_bench_open((const uint8_t *)two, sizeof two - 1, &handle.bench, &out.told));
+        REFUSED(LAB_IN_USE, lab_shared_open((const uint8_t *)two, sizeof two - 1, &handle.shared, &out.told));
+        REFUSED(LAB_IN_USE, lab_take_desk(&shared, 1, &handle.desk));
+        IS(memcmp(handle.bytes, as_filled, sizeof handle) == 0);
+    }
 }
 
 static void closing(void) {
@@ -128,22 +170,21 @@ static void closing(void) {
     }
     struct lab_told told;
     IS(lab_shared_close(&shared, report, 0, &told) == LAB_NO_ROOM && memcmp(report, as_it_was, sizeof report) == 0);
+    IS(lab_shared_close(&shared, NULL, 0, &told) == LAB_NO_ROOM); /* (no room at all) */
     size_t length = told.written;
     IS(length > 0 && length < sizeof report);
     IS(lab_shared_close(&shared, report, length - 1, &told) == LAB_NO_ROOM && told.written == length && memcmp(report, as_it_was, sizeof report) == 0);
     no_bench(1);
-    REFUSED(LAB_NOT_OPEN, open_two(&shared));
+    REFUSED(LAB_IN_USE, open_two(&shared));
     IS(lab_shared_close(&shared, report, sizeof report, &told) == LAB_UNFINISHED && told.written == length && told.line == 0);
     static const char starts[] = "lab 2\ninstrument scale ", holds[] = "\na 1 1/2 add 1 = 1\na 1 2/2 read = 1\n", lamp[] = "\na 1 1/1 set 7 = 7\n";
     report[length] = 0;
     IS(memcmp(report, starts, sizeof starts - 1) == 0);
     IS(strstr((char *)report, holds) && strstr((char *)report, lamp) && strstr((char *)report, "unfinished"));
     IS(lab_shared_close(&shared, report, length, &told) == LAB_UNFINISHED && told.written == length);
-    lab_shared_free(&shared);
-    IS(shared.live == 0);
+    IS(lab_shared_free(&shared) == LAB_DONE && shared.live == 0);
     no_bench(0);
-    lab_shared_free(&shared);
-    IS(shared.live == 0);
+    IS(lab_shared_free(&shared) == LAB_NOT_OPEN && shared.live == 0);
 }
 
 /* A bench that is freed while its desks are out: they go on, and give back what it had. */
@@ -188,6 +229,7 @@ int main(void) {
     taking();
     driving();
     wrong_kind();
+    garbage();
     closing();
     freed_with_desks_out();
     two_benches();

@@ -109,7 +109,7 @@ static void take_again(uint32_t job) {
     pthread_mutex_lock(&shop.mutex);
     if (desks[job].live) {
         status = lab_take_desk(&shared, job, &desks[job]);
-        expect(status == LAB_NOT_OPEN, "%s: a desk into a handle that is in use: status %u", shop.name, status);
+        expect(status == LAB_IN_USE, "%s: a desk into a handle that is in use: status %u", shop.name, status);
         struct lab_desk other = {0};
         status = lab_take_desk(&shared, job, &other);
         expect(status == LAB_NOT_YET && other.live == 0, "%s: a desk that is out: status %u", shop.name, status);
@@ -132,7 +132,8 @@ static void *go_anyhow(void *given) {
         uint32_t mine = ((uint32_t)shop.size.jobs - me->number - 1) / shop.threads + 1;
         uint32_t job = me->number + shop.threads * chance(me, mine);
         struct lab_desk *desk = &desks[job];
-        uint32_t was = desk->live, status;
+        uint64_t was = desk->live;
+        uint32_t status;
         switch (chance(me, 12)) {
         case 0: status = lab_desk_serve(desk, &turned); break;
         case 1: status = lab_desk_begin(desk, chance(me, 5), &turned); break;
@@ -145,7 +146,7 @@ static void *go_anyhow(void *given) {
         case 8: take_again(job); continue;
         default: status = lab_desk_turn(desk, &turned); break;
         }
-        if (was) is(status == LAB_DONE || status == LAB_NOT_YET || status == LAB_NO_SESSION, "a call made anyhow", job, status);
+        if (was) is(status == LAB_DONE || status == LAB_NOT_YET || status == LAB_NO_SESSION || status == LAB_SESSIONS_LEFT, "a call made anyhow", job, status);
         else is(status == LAB_NOT_OPEN, "a call without a desk", job, status);
     }
     for (uint32_t job = me->number; job < shop.size.jobs; job += shop.threads)

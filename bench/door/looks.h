@@ -4,7 +4,8 @@
 #include "scripts.h"
 
 struct seen {
-    uint32_t live, desks[MOST_JOBS], status[MOST_JOBS];
+    uint64_t live, desks[MOST_JOBS];
+    uint32_t status[MOST_JOBS];
     struct lab_state states[MOST_JOBS];
 };
 

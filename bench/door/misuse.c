@@ -287,6 +287,7 @@ static void closed(void) {
     memset(report, POISON, sizeof report);
     memset(before, POISON, sizeof before);
     IS(lab_bench_close(&bench, report, 0, &told) == LAB_NO_ROOM);
+    IS(lab_bench_close(&bench, NULL, 0, &told) == LAB_NO_ROOM); /* (no room at all) */
     size_t length = told.written;
     IS(length > sizeof wanted && memcmp(report, before, sizeof report) == 0);
     for (size_t room = 1; room < length; room++) {
@@ -301,11 +302,9 @@ static void closed(void) {
     }
     not_open(1);
     REFUSED(LAB_IN_USE, open_two());
-    lab_bench_free(&bench);
-    IS(bench.live == 0);
+    IS(lab_bench_free(&bench) == LAB_DONE && bench.live == 0);
     not_open(0);
-    lab_bench_free(&bench);
-    IS(bench.live == 0);
+    IS(lab_bench_free(&bench) == LAB_NOT_OPEN && bench.live == 0);
 }
 
 /* Who keeps whom waiting: before the first turn each bottle is at the lower of its two jobs, and a job's first turn makes it thirsty. */

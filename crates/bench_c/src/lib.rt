@@ -1,14 +1,19 @@
-//! What C calls on the lab of one handle: each export is the call of `bench_calls`, with its contract.
+//! What C calls on a handle: each export is the call of `bench_calls` or of `hall_calls`, with its contract.
 #![tactic(auto)]
 
-ghost use Rattle.std.specs.Prelude.{◌≡◌, None};
-ghost use Rattle.bench_calls.specs.Closing.{Closes};
-ghost use Rattle.bench_calls.specs.Calls.{Opens, InLab, Turns, Serves, ServesRest, SettlesAll, GoesToHold, DoesNext, LetsGo, GivesUp, GoesToEnd};
+ghost use Rattle.std.specs.Prelude.{◌≡◌};
+ghost use Rattle.lab_journal.specs.Taking.{IsOpenedKept};
+ghost use Rattle.bench_calls.specs.Journals.{TellsJournal, Resumes};
+ghost use Rattle.bench_calls.specs.Closing.{Closes, Frees, is_of_a_lab};
+ghost use Rattle.bench_calls.specs.Calls.{Opens, IsFresh, InLab, InRoom, Turns, Serves, ServesRest, SettlesAll, GoesToHold, DoesNext, LetsGo, GivesUp, GoesToEnd};
 ghost use Rattle.bench_calls.specs.Calls.{TellsSize, TellsSession, TellsPlanned, TellsState, TellsKeepers, TellsJobName, TellsInstrumentName};
 
+mod desks;
+
 use bench_calls::{
-    Handle, LabCame, LabEntry, LabKeepers, LabPlanned, LabSession, LabSize, LabState, LabTurned,
+    LabCame, LabEntry, LabKeepers, LabPlanned, LabSession, LabSize, LabState, LabTurned,
 };
+use c_handles::Handle;
 use c_tells::Told;
 use std::alloc::Global;
 
@@ -20,9 +25,48 @@ pub extern "C" fn lab_bench_open(
     bench: &mut Handle,
     told: &mut Told,
 ) -> u32
-    ensures { Opens script.now bench.old.slot.held bench.new.slot.held told.old told.new result }
+    ensures { Opens IsFresh script.now bench.old.slot.held bench.new.slot.held told.old told.new result }
 {
     bench_calls::open(alloc, script, bench, told)
+}
+
+/// Opens a lab for a script that keeps its steps until its journal is taken. A handle that is in use stays as it is.
+#[unsafe(no_mangle)]
+pub extern "C" fn lab_bench_open_kept(
+    alloc: Global,
+    script: &[u8],
+    bench: &mut Handle,
+    told: &mut Told,
+) -> u32
+    ensures { Opens IsOpenedKept script.now bench.old.slot.held bench.new.slot.held told.old told.new result }
+{
+    bench_calls::open_kept(alloc, script, bench, told)
+}
+
+/// Takes what the lab did since its journal was last taken, as text, if there is room for it.
+#[unsafe(no_mangle)]
+pub extern "C" fn lab_journal(
+    alloc: Global,
+    bench: &mut Handle,
+    text: &mut [u8],
+    written: &mut usize,
+) -> u32
+    ensures { InLab TellsJournal bench.old.slot.held bench.new.slot.held (text.old, written.old) (text.new, written.new) result }
+{
+    bench_calls::journal(alloc, bench, text, written)
+}
+
+/// Opens the lab that a journal tells of, as far as it has whole lines, and tells how many bytes these are. It keeps its steps from then on.
+#[unsafe(no_mangle)]
+pub extern "C" fn lab_bench_resume(
+    alloc: Global,
+    journal: &[u8],
+    bench: &mut Handle,
+    told: &mut Told,
+) -> u32
+    ensures { Resumes journal.now bench.old.slot.held bench.new.slot.held told.old told.new result }
+{
+    bench_calls::resume(alloc, journal, bench, told)
 }
 
 /// Tells how many jobs and instruments there are.
@@ -125,7 +169,7 @@ pub extern "C" fn lab_settle(
     waiting: u32,
     came: &mut LabCame,
 ) -> u32
-    ensures { InLab (SettlesAll waiting) bench.old.slot.held bench.new.slot.held came.old came.new result }
+    ensures { InLab (InRoom (SettlesAll waiting)) bench.old.slot.held bench.new.slot.held came.old came.new result }
 {
     bench_calls::settle(alloc, bench, waiting, came)
 }
@@ -138,7 +182,7 @@ pub extern "C" fn lab_turn(
     job: u32,
     turned: &mut LabTurned,
 ) -> u32
-    ensures { InLab (Turns job) bench.old.slot.held bench.new.slot.held turned.old turned.new result }
+    ensures { InLab (InRoom (Turns job)) bench.old.slot.held bench.new.slot.held turned.old turned.new result }
 {
     bench_calls::turn(alloc, bench, job, turned)
 }
@@ -151,7 +195,7 @@ pub extern "C" fn lab_serve(
     job: u32,
     turned: &mut LabTurned,
 ) -> u32
-    ensures { InLab (Serves job) bench.old.slot.held bench.new.slot.held turned.old turned.new result }
+    ensures { InLab (InRoom (Serves job)) bench.old.slot.held bench.new.slot.held turned.old turned.new result }
 {
     bench_calls::serve(alloc, bench, job, turned)
 }
@@ -164,7 +208,7 @@ pub extern "C" fn lab_serve_others(
     job: u32,
     turned: &mut LabTurned,
 ) -> u32
-    ensures { InLab (ServesRest job) bench.old.slot.held bench.new.slot.held turned.old turned.new result }
+    ensures { InLab (InRoom (ServesRest job)) bench.old.slot.held bench.new.slot.held turned.old turned.new result }
 {
     bench_calls::serve_others(alloc, bench, job, turned)
 }
@@ -178,7 +222,7 @@ pub extern "C" fn lab_begin(
     turns: u32,
     turned: &mut LabTurned,
 ) -> u32
-    ensures { InLab (GoesToHold turns job) bench.old.slot.held bench.new.slot.held turned.old turned.new result }
+    ensures { InLab (InRoom (GoesToHold turns job)) bench.old.slot.held bench.new.slot.held turned.old turned.new result }
 {
     bench_calls::begin(alloc, bench, job, turns, turned)
 }
@@ -191,7 +235,7 @@ pub extern "C" fn lab_command(
     job: u32,
     entry: &mut LabEntry,
 ) -> u32
-    ensures { InLab (DoesNext job) bench.old.slot.held bench.new.slot.held entry.old entry.new result }
+    ensures { InLab (InRoom (DoesNext job)) bench.old.slot.held bench.new.slot.held entry.old entry.new result }
 {
     bench_calls::command(alloc, bench, job, entry)
 }
@@ -204,7 +248,7 @@ pub extern "C" fn lab_end(
     job: u32,
     turned: &mut LabTurned,
 ) -> u32
-    ensures { InLab (LetsGo job) bench.old.slot.held bench.new.slot.held turned.old turned.new result }
+    ensures { InLab (InRoom (LetsGo job)) bench.old.slot.held bench.new.slot.held turned.old turned.new result }
 {
     bench_calls::end(alloc, bench, job, turned)
 }
@@ -212,7 +256,7 @@ pub extern "C" fn lab_end(
 /// Gives up the session that a job is thirsty in, if it has a patience.
 #[unsafe(no_mangle)]
 pub extern "C" fn lab_withdraw(alloc: Global, bench: &mut Handle, job: u32) -> u32
-    ensures { InLab (GivesUp job) bench.old.slot.held bench.new.slot.held tt tt result }
+    ensures { InLab (InRoom (GivesUp job)) bench.old.slot.held bench.new.slot.held tt tt result }
 {
     bench_calls::withdraw(alloc, bench, job)
 }
@@ -226,7 +270,7 @@ pub extern "C" fn lab_retire(
     turns: u32,
     turned: &mut LabTurned,
 ) -> u32
-    ensures { InLab (GoesToEnd turns job) bench.old.slot.held bench.new.slot.held turned.old turned.new result }
+    ensures { InLab (InRoom (GoesToEnd turns job)) bench.old.slot.held bench.new.slot.held turned.old turned.new result }
 {
     bench_calls::retire(alloc, bench, job, turns, turned)
 }
@@ -245,10 +289,10 @@ pub extern "C" fn lab_bench_close(
     bench_calls::close(alloc, bench, report, told)
 }
 
-/// Frees what the handle has, which then has nothing.
+/// Frees the lab of the handle, or its report. The handle has nothing then.
 #[unsafe(no_mangle)]
-pub extern "C" fn lab_bench_free(alloc: Global, bench: &mut Handle)
-    ensures { bench.new.slot.held ≡ None }
+pub extern "C" fn lab_bench_free(alloc: Global, bench: &mut Handle) -> u32
+    ensures { Frees is_of_a_lab bench.old.slot.held bench.new.slot.held result }
 {
     bench_calls::free(alloc, bench)
 }

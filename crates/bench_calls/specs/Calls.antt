@@ -1,5 +1,5 @@
 -- For readers: what each call leaves in the handle and in the caller's memory, and its status.
-use Rattle.std.specs.Prelude.{◌≡◌, ◌⊎◌, ℕ, ◌≤◌, ◌<◌, List, length, Option, Some, None, Err}
+use Rattle.std.specs.Prelude.{◌≡◌, ◌⊎◌, ℕ, ◌-◌, ◌≤◌, ◌<◌, ◌==◌, min, if◌then◌else◌, Bool, true, false, List, length, Option, Some, None, Err}
 use Rattle.lab_plan.specs.LabPlan.{job_at}
 use Rattle.script_reader.specs.Script.{ScriptMeans}
 use Rattle.lab_program.specs.declared.faults.RunFault.{RunFault}
@@ -12,10 +12,11 @@ use Rattle.live_lab.specs.Ends.{EndsSession}
 use Rattle.live_lab.specs.Settles.{Settles}
 use Rattle.live_lab.specs.Readers.{IsSession, IsPlanned, IsStandingAt, IsInstrumentName}
 use Rattle.live_lab.specs.Keepers.{AreKeepersAt}
+use Rattle.lab_journal.specs.Taking.{has_room}
 use Rattle.c_tells.specs.declared.telling.Told.{Told}
 use Rattle.c_tells.specs.Telling.{told_of, Gives}
-use Rattle.bench_calls.specs.declared.ending.Held.{Held}
-use Rattle.bench_calls.specs.declared.ending.Held.TheVariants.{Open, Reported}
+use Rattle.c_handles.specs.declared.inside.Inside.{Inside}
+use Rattle.c_handles.specs.declared.inside.Inside.TheVariants.{Open}
 use Rattle.bench_calls.specs.declared.told.LabTurned.{LabTurned}
 use Rattle.bench_calls.specs.declared.told.LabCame.{LabCame}
 use Rattle.bench_calls.specs.declared.told.LabSize.{LabSize}
@@ -29,21 +30,41 @@ use Rattle.bench_calls.specs.Telling.{IfTold, TellsAs, TellsDid, TellsBegun, Tel
 
 -- ---- opening
 
--- an empty handle has a lab of the plan that the script means, before its first event (0); or no lab was opened, the handle is as it was and the fault is
+-- before its first event
+abbrev pub IsFresh : LabView → Type 0
+IsFresh l = l ≡ fresh_lab l.world.plan
+
+-- a lab of the plan that the script means, of which this holds, and nothing is told
+abbrev pub IsOpened : (LabView → Type 0) → List ℕ → Inside → Told → Told → Type 0
+IsOpened Is script new told told' = (l : LabView) × (new ≡ Open l) × ScriptMeans script l.world.plan × Is l × (told' ≡ told)
+
+-- there is none because of this fault, which is told
+abbrev pub IsNotOpened : List ℕ → Told → ℕ → Type 0
+IsNotOpened script told' status = (fault : RunFault) × IsWhyNot script fault × (status ≡ status_of (Err fault)) × (told' ≡ told_of fault)
+
+-- an empty handle has a lab of the plan that the script means, of which this holds (0); or no lab was opened, the handle is as it was and the fault is
 -- told; or the handle is in use, and nothing changed (11)
-abbrev pub Opens : List ℕ → Option Held → Option Held → Told → Told → ℕ → Type 0
-Opens script (Some held) new told told' status = (status ≡ 11) × (new ≡ Some held) × (told' ≡ told)
-Opens script None new told told' status =
-    ((status ≡ 0) × (l : LabView) × (new ≡ Some (Open l)) × ScriptMeans script l.world.plan × (l ≡ fresh_lab l.world.plan) × (told' ≡ told))
-    ⊎ ((fault : RunFault) × IsWhyNot script fault × (status ≡ status_of (Err fault)) × (new ≡ None) × (told' ≡ told_of fault))
+abbrev pub Opens : (LabView → Type 0) → List ℕ → Option Inside → Option Inside → Told → Told → ℕ → Type 0
+Opens Is script (Some held) new told told' status = (status ≡ 11) × (new ≡ Some held) × (told' ≡ told)
+Opens Is script None new told told' status =
+    ((status ≡ 0) × (h : Inside) × (new ≡ Some h) × IsOpened Is script h told told')
+    ⊎ ((new ≡ None) × IsNotOpened script told' status)
 
 -- ---- calls on an open lab
 
 -- the open lab of the handle went from one to another; or the handle has none, and nothing changed (7)
-abbrev pub InLab : {T : Type 0} → (LabView → LabView → T → T → ℕ → Type 0) → Option Held → Option Held → T → T → ℕ → Type 0
+abbrev pub InLab : {T : Type 0} → (LabView → LabView → T → T → ℕ → Type 0) → Option Inside → Option Inside → T → T → ℕ → Type 0
 InLab Did (Some (Open a)) new told told' status = (b : LabView) × (new ≡ Some (Open b)) × Did a b told told' status
-InLab Did (Some (Reported p)) new told told' status = (status ≡ 7) × (new ≡ Some (Reported p)) × (told' ≡ told)
+InLab Did (Some other) new told told' status = (status ≡ 7) × (new ≡ Some other) × (told' ≡ told)
 InLab Did None new told told' status = (status ≡ 7) × (new ≡ None) × (told' ≡ told)
+
+abbrev pub IfSo : {T : Type 0} → Bool → (LabView → LabView → T → T → ℕ → Type 0) → LabView → LabView → T → T → ℕ → Type 0
+IfSo true Did a b told told' status = Did a b told told' status
+IfSo false Did a b told told' status = (status ≡ 12) × (b ≡ a) × (told' ≡ told)
+
+-- so it was, if the lab keeps no steps or has room for those of a call; or else nothing changed (12)
+abbrev pub InRoom : {T : Type 0} → (LabView → LabView → T → T → ℕ → Type 0) → LabView → LabView → T → T → ℕ → Type 0
+InRoom Did a b told told' status = IfSo (has_room a.world.kept) Did a b told told' status
 
 -- the job did so, and its answer is told; or there is no such job, and nothing changed (2)
 abbrev pub ByJob : {R T : Type 0} → (ℕ → LabView → R → LabView → Type 0) → (R → T → T → ℕ → Type 0) → ℕ → LabView → LabView → T → T → ℕ → Type 0
@@ -66,9 +87,13 @@ ServesRest job = ByJob ServesOthers (TellsAs turned_of) job
 abbrev pub SettlesAll : ℕ → LabView → LabView → LabCame → LabCame → ℕ → Type 0
 SettlesAll waiting a b told told' status = (status ≡ 0) × (came : Came) × Settles waiting a came b × (told' ≡ came_of came)
 
+-- at most one settle, if the lab has room for steps that it keeps
+abbrev pub settles_of : LabView → ℕ → ℕ
+settles_of a most = if a.world.kept.room - length a.world.kept.events == 0 then most else min most 1
+
 -- settles for the job alone, and how far it is then: it holds (0), not yet (8), or no session is left (9)
 abbrev pub GoesToHold : ℕ → ℕ → LabView → LabView → LabTurned → LabTurned → ℕ → Type 0
-GoesToHold most job = ByJob (Begins most) TellsBegun job
+GoesToHold most job a = ByJob (Begins (settles_of a most)) TellsBegun job a
 
 -- the job's next command was done, and its entry is told (0); or it doesn't hold or no command is left (8)
 abbrev pub DoesNext : ℕ → LabView → LabView → LabEntry → LabEntry → ℕ → Type 0

@@ -1,4 +1,4 @@
 pub mod Telling
-pub mod Handles
 pub mod Closing
 pub mod Calls
+pub mod Journals

@@ -33,18 +33,12 @@ turned_of (Acted n) = record { what = 2; count = n }
 turned_of Moved = record { what = 1; count = 0 }
 turned_of Idle = record { what = 0; count = 0 }
 
--- a job that was to hold and has no session left is told apart (9)
+-- a job that was to hold and has no session left is told apart (9), and one that can't retire, because it has sessions left (10)
 abbrev pub stage_status : Aim → Stage → ℕ
 stage_status aim There = 0
 stage_status aim OnTheWay = 8
 stage_status Hold Barred = 9
-stage_status Retire Barred = 8
-
--- a job that can't retire, because it has sessions left, is told apart (10)
-abbrev pub retire_status : Stage → ℕ
-retire_status There = 0
-retire_status OnTheWay = 8
-retire_status Barred = 10
+stage_status Retire Barred = 10
 
 -- it let go (0); or it never held, and nothing is told (8)
 abbrev pub TellsEnded : Ended → LabTurned → LabTurned → ℕ → Type 0
@@ -134,4 +128,4 @@ abbrev pub TellsBegun : Stage × Turned → LabTurned → LabTurned → ℕ → 
 TellsBegun a told told' status = (status ≡ stage_status Hold a.0) × (told' ≡ turned_of a.1)
 
 abbrev pub TellsRetired : Stage × Turned → LabTurned → LabTurned → ℕ → Type 0
-TellsRetired a told told' status = (status ≡ retire_status a.0) × (told' ≡ turned_of a.1)
+TellsRetired a told told' status = (status ≡ stage_status Retire a.0) × (told' ≡ turned_of a.1)

@@ -1,146 +1,252 @@
 //! Calls that do something in the lab of a handle.
-ghost use Rattle.bench_calls.specs.Calls.{InLab, Turns, Serves, ServesRest, SettlesAll, GoesToHold, DoesNext, LetsGo, GivesUp, GoesToEnd};
+ghost use Rattle.std.specs.Prelude.{◌≡◌};
+ghost use Rattle.bench_calls.specs.Calls.{InLab, InRoom, settles_of, Turns, Serves, ServesRest, SettlesAll, GoesToHold, DoesNext, LetsGo, GivesUp, GoesToEnd};
 
-use crate::ending::Held;
-use crate::handle::Handle;
 use crate::statuses::{
-    NOT_OPEN, tell_begun, tell_came, tell_command, tell_ended, tell_retired, tell_turned,
+    JOURNAL_FULL, tell_begun, tell_came, tell_command, tell_ended, tell_retired, tell_turned,
     tell_withdrew,
 };
 use crate::told::{LabCame, LabEntry, LabTurned};
+use c_handles::{Handle, Inside, NOT_OPEN, put, take};
+use lab_journal::has_room;
+use live_lab::Lab;
 use std::alloc::Global;
+
+/// How many settles a call may do: one, if the lab keeps its steps, so that there is room for them.
+fn settles_of(lab: &Lab, most: u32) -> u32
+    ensures { result ≡ settles_of lab.now most }
+{
+    if lab.world().kept_room() == 0 {
+        most
+    } else {
+        most.min(1)
+    }
+}
+
+// What is done in the lab, if it has room for the steps.
+
+fn turn_in(lab: &mut Lab, job: u32, turned: &mut LabTurned) -> u32
+    ensures { InRoom (Turns job) lab.old lab.new turned.old turned.new result }
+{
+    if !has_room(lab) {
+        return JOURNAL_FULL;
+    }
+    tell_turned(lab.turn(job as usize), turned)
+}
+
+fn serve_in(lab: &mut Lab, job: u32, turned: &mut LabTurned) -> u32
+    ensures { InRoom (Serves job) lab.old lab.new turned.old turned.new result }
+{
+    if !has_room(lab) {
+        return JOURNAL_FULL;
+    }
+    tell_turned(lab.serve(job as usize), turned)
+}
+
+fn serve_others_in(lab: &mut Lab, job: u32, turned: &mut LabTurned) -> u32
+    ensures { InRoom (ServesRest job) lab.old lab.new turned.old turned.new result }
+{
+    if !has_room(lab) {
+        return JOURNAL_FULL;
+    }
+    tell_turned(lab.serve_others(job as usize), turned)
+}
+
+fn settle_in(lab: &mut Lab, waiting: u32, came: &mut LabCame) -> u32
+    ensures { InRoom (SettlesAll waiting) lab.old lab.new came.old came.new result }
+{
+    if !has_room(lab) {
+        return JOURNAL_FULL;
+    }
+    tell_came(lab.settle(waiting), came)
+}
+
+fn begin_in(lab: &mut Lab, job: u32, most: u32, turned: &mut LabTurned) -> u32
+    ensures { InRoom (GoesToHold most job) lab.old lab.new turned.old turned.new result }
+{
+    if !has_room(lab) {
+        return JOURNAL_FULL;
+    }
+    let few = settles_of(lab, most);
+    tell_begun(lab.begin(job as usize, few), turned)
+}
+
+fn command_in(lab: &mut Lab, job: u32, entry: &mut LabEntry) -> u32
+    ensures { InRoom (DoesNext job) lab.old lab.new entry.old entry.new result }
+{
+    if !has_room(lab) {
+        return JOURNAL_FULL;
+    }
+    tell_command(lab.command(job as usize), entry)
+}
+
+fn end_in(lab: &mut Lab, job: u32, turned: &mut LabTurned) -> u32
+    ensures { InRoom (LetsGo job) lab.old lab.new turned.old turned.new result }
+{
+    if !has_room(lab) {
+        return JOURNAL_FULL;
+    }
+    tell_ended(lab.end(job as usize), turned)
+}
+
+fn withdraw_in(lab: &mut Lab, job: u32) -> u32
+    ensures { InRoom (GivesUp job) lab.old lab.new tt tt result }
+{
+    if !has_room(lab) {
+        return JOURNAL_FULL;
+    }
+    tell_withdrew(lab.withdraw(job as usize))
+}
+
+fn retire_in(lab: &mut Lab, job: u32, most: u32, turned: &mut LabTurned) -> u32
+    ensures { InRoom (GoesToEnd most job) lab.old lab.new turned.old turned.new result }
+{
+    if !has_room(lab) {
+        return JOURNAL_FULL;
+    }
+    tell_retired(lab.retire(job as usize, most), turned)
+}
 
 /// One turn of a job.
 pub fn turn(alloc: Global, bench: &mut Handle, job: u32, turned: &mut LabTurned) -> u32
-    ensures { InLab (Turns job) bench.old.slot.held bench.new.slot.held turned.old turned.new result }
+    ensures { InLab (InRoom (Turns job)) bench.old.slot.held bench.new.slot.held turned.old turned.new result }
 {
-    let Some(mut held) = bench.take(alloc) else {
-        return NOT_OPEN;
+    let mut inside = match take(&mut bench.slot, &mut bench.live, alloc) {
+        Ok(inside) => inside,
+        Err(status) => return status,
     };
-    let status = match &mut *held {
-        Held::Open(lab) => tell_turned(lab.turn(job as usize), turned),
-        Held::Reported(_) => NOT_OPEN,
+    let status = match &mut *inside {
+        Inside::Open(lab) => turn_in(lab, job, turned),
+        _ => NOT_OPEN,
     };
-    bench.put(held);
+    put(&mut bench.slot, &mut bench.live, inside);
     status
 }
 
 /// Gives and asks for a job, and ends or starts a meal that it owes: nothing of its sessions.
 pub fn serve(alloc: Global, bench: &mut Handle, job: u32, turned: &mut LabTurned) -> u32
-    ensures { InLab (Serves job) bench.old.slot.held bench.new.slot.held turned.old turned.new result }
+    ensures { InLab (InRoom (Serves job)) bench.old.slot.held bench.new.slot.held turned.old turned.new result }
 {
-    let Some(mut held) = bench.take(alloc) else {
-        return NOT_OPEN;
+    let mut inside = match take(&mut bench.slot, &mut bench.live, alloc) {
+        Ok(inside) => inside,
+        Err(status) => return status,
     };
-    let status = match &mut *held {
-        Held::Open(lab) => tell_turned(lab.serve(job as usize), turned),
-        Held::Reported(_) => NOT_OPEN,
+    let status = match &mut *inside {
+        Inside::Open(lab) => serve_in(lab, job, turned),
+        _ => NOT_OPEN,
     };
-    bench.put(held);
+    put(&mut bench.slot, &mut bench.live, inside);
     status
 }
 
 /// Serves each job but this one.
 pub fn serve_others(alloc: Global, bench: &mut Handle, job: u32, turned: &mut LabTurned) -> u32
-    ensures { InLab (ServesRest job) bench.old.slot.held bench.new.slot.held turned.old turned.new result }
+    ensures { InLab (InRoom (ServesRest job)) bench.old.slot.held bench.new.slot.held turned.old turned.new result }
 {
-    let Some(mut held) = bench.take(alloc) else {
-        return NOT_OPEN;
+    let mut inside = match take(&mut bench.slot, &mut bench.live, alloc) {
+        Ok(inside) => inside,
+        Err(status) => return status,
     };
-    let status = match &mut *held {
-        Held::Open(lab) => tell_turned(lab.serve_others(job as usize), turned),
-        Held::Reported(_) => NOT_OPEN,
+    let status = match &mut *inside {
+        Inside::Open(lab) => serve_others_in(lab, job, turned),
+        _ => NOT_OPEN,
     };
-    bench.put(held);
+    put(&mut bench.slot, &mut bench.live, inside);
     status
 }
 
 /// Begins the next session of each job of `waiting`, and does all that can be done without a word from an owner.
 pub fn settle(alloc: Global, bench: &mut Handle, waiting: u32, came: &mut LabCame) -> u32
-    ensures { InLab (SettlesAll waiting) bench.old.slot.held bench.new.slot.held came.old came.new result }
+    ensures { InLab (InRoom (SettlesAll waiting)) bench.old.slot.held bench.new.slot.held came.old came.new result }
 {
-    let Some(mut held) = bench.take(alloc) else {
-        return NOT_OPEN;
+    let mut inside = match take(&mut bench.slot, &mut bench.live, alloc) {
+        Ok(inside) => inside,
+        Err(status) => return status,
     };
-    let status = match &mut *held {
-        Held::Open(lab) => tell_came(lab.settle(waiting), came),
-        Held::Reported(_) => NOT_OPEN,
+    let status = match &mut *inside {
+        Inside::Open(lab) => settle_in(lab, waiting, came),
+        _ => NOT_OPEN,
     };
-    bench.put(held);
+    put(&mut bench.slot, &mut bench.live, inside);
     status
 }
 
 /// Settles for one job alone, at most this many times, until it holds.
 pub fn begin(alloc: Global, bench: &mut Handle, job: u32, most: u32, turned: &mut LabTurned) -> u32
-    ensures { InLab (GoesToHold most job) bench.old.slot.held bench.new.slot.held turned.old turned.new result }
+    ensures { InLab (InRoom (GoesToHold most job)) bench.old.slot.held bench.new.slot.held turned.old turned.new result }
 {
-    let Some(mut held) = bench.take(alloc) else {
-        return NOT_OPEN;
+    let mut inside = match take(&mut bench.slot, &mut bench.live, alloc) {
+        Ok(inside) => inside,
+        Err(status) => return status,
     };
-    let status = match &mut *held {
-        Held::Open(lab) => tell_begun(lab.begin(job as usize, most), turned),
-        Held::Reported(_) => NOT_OPEN,
+    let status = match &mut *inside {
+        Inside::Open(lab) => begin_in(lab, job, most, turned),
+        _ => NOT_OPEN,
     };
-    bench.put(held);
+    put(&mut bench.slot, &mut bench.live, inside);
     status
 }
 
 /// Does the next command of the session that a job holds, and tells its entry.
 pub fn command(alloc: Global, bench: &mut Handle, job: u32, entry: &mut LabEntry) -> u32
-    ensures { InLab (DoesNext job) bench.old.slot.held bench.new.slot.held entry.old entry.new result }
+    ensures { InLab (InRoom (DoesNext job)) bench.old.slot.held bench.new.slot.held entry.old entry.new result }
 {
-    let Some(mut held) = bench.take(alloc) else {
-        return NOT_OPEN;
+    let mut inside = match take(&mut bench.slot, &mut bench.live, alloc) {
+        Ok(inside) => inside,
+        Err(status) => return status,
     };
-    let status = match &mut *held {
-        Held::Open(lab) => tell_command(lab.command(job as usize), entry),
-        Held::Reported(_) => NOT_OPEN,
+    let status = match &mut *inside {
+        Inside::Open(lab) => command_in(lab, job, entry),
+        _ => NOT_OPEN,
     };
-    bench.put(held);
+    put(&mut bench.slot, &mut bench.live, inside);
     status
 }
 
 /// Does the commands that are left of the session that a job holds, ends it, and does all that this makes due.
 pub fn end(alloc: Global, bench: &mut Handle, job: u32, turned: &mut LabTurned) -> u32
-    ensures { InLab (LetsGo job) bench.old.slot.held bench.new.slot.held turned.old turned.new result }
+    ensures { InLab (InRoom (LetsGo job)) bench.old.slot.held bench.new.slot.held turned.old turned.new result }
 {
-    let Some(mut held) = bench.take(alloc) else {
-        return NOT_OPEN;
+    let mut inside = match take(&mut bench.slot, &mut bench.live, alloc) {
+        Ok(inside) => inside,
+        Err(status) => return status,
     };
-    let status = match &mut *held {
-        Held::Open(lab) => tell_ended(lab.end(job as usize), turned),
-        Held::Reported(_) => NOT_OPEN,
+    let status = match &mut *inside {
+        Inside::Open(lab) => end_in(lab, job, turned),
+        _ => NOT_OPEN,
     };
-    bench.put(held);
+    put(&mut bench.slot, &mut bench.live, inside);
     status
 }
 
 /// Gives up the session that a job is thirsty in, if it has a patience.
 pub fn withdraw(alloc: Global, bench: &mut Handle, job: u32) -> u32
-    ensures { InLab (GivesUp job) bench.old.slot.held bench.new.slot.held tt tt result }
+    ensures { InLab (InRoom (GivesUp job)) bench.old.slot.held bench.new.slot.held tt tt result }
 {
-    let Some(mut held) = bench.take(alloc) else {
-        return NOT_OPEN;
+    let mut inside = match take(&mut bench.slot, &mut bench.live, alloc) {
+        Ok(inside) => inside,
+        Err(status) => return status,
     };
-    let status = match &mut *held {
-        Held::Open(lab) => tell_withdrew(lab.withdraw(job as usize)),
-        Held::Reported(_) => NOT_OPEN,
+    let status = match &mut *inside {
+        Inside::Open(lab) => withdraw_in(lab, job),
+        _ => NOT_OPEN,
     };
-    bench.put(held);
+    put(&mut bench.slot, &mut bench.live, inside);
     status
 }
 
 /// Retires a job whose sessions are all done.
 pub fn retire(alloc: Global, bench: &mut Handle, job: u32, most: u32, turned: &mut LabTurned) -> u32
-    ensures { InLab (GoesToEnd most job) bench.old.slot.held bench.new.slot.held turned.old turned.new result }
+    ensures { InLab (InRoom (GoesToEnd most job)) bench.old.slot.held bench.new.slot.held turned.old turned.new result }
 {
-    let Some(mut held) = bench.take(alloc) else {
-        return NOT_OPEN;
+    let mut inside = match take(&mut bench.slot, &mut bench.live, alloc) {
+        Ok(inside) => inside,
+        Err(status) => return status,
     };
-    let status = match &mut *held {
-        Held::Open(lab) => tell_retired(lab.retire(job as usize, most), turned),
-        Held::Reported(_) => NOT_OPEN,
+    let status = match &mut *inside {
+        Inside::Open(lab) => retire_in(lab, job, most, turned),
+        _ => NOT_OPEN,
     };
-    bench.put(held);
+    put(&mut bench.slot, &mut bench.live, inside);
     status
 }

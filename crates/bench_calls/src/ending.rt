@@ -1,22 +1,12 @@
-//! What a handle has, and how it ends: from a lab to its report.
-ghost use Rattle.std.specs.Prelude.{◌≡◌, None};
-ghost use Rattle.bench_calls.specs.Closing.{Closes, ClosesHeld, Reports};
+//! How what a handle has ends: from a lab to its report.
+ghost use Rattle.std.specs.Prelude.{◌≡◌};
+ghost use Rattle.bench_calls.specs.Closing.{Closes, ClosesInside, Frees, Reports, is_of_a_lab};
 
-use crate::handle::Handle;
-use crate::statuses::NOT_OPEN;
+use c_handles::{Handle, Inside, NOT_OPEN, put, release, take};
 use c_tells::{Told, deliver, fail};
 use lab_program::{RunFault, status_of};
-use live_lab::{Lab, Printed};
+use live_lab::Printed;
 use std::alloc::Global;
-
-/// What a handle has.
-#[derive(Drop)]
-pub enum Held {
-    /// A lab that goes on.
-    Open(Lab),
-    /// The report of a lab that was closed.
-    Reported(Printed),
-}
 
 fn give(printed: &Printed, room: &mut [u8], told: &mut Told) -> u32
     ensures { Reports printed.now room.old room.new told.new result }
@@ -26,19 +16,20 @@ fn give(printed: &Printed, room: &mut [u8], told: &mut Told) -> u32
 }
 
 /// The lab's report takes its place, as far as memory goes, and is given.
-fn close_in(alloc: Global, held: &mut Held, room: &mut [u8], told: &mut Told) -> u32
-    ensures { ClosesHeld held.old held.new room.old room.new told.new result }
+fn close_in(alloc: Global, inside: &mut Inside, room: &mut [u8], told: &mut Told) -> u32
+    ensures { ClosesInside inside.old inside.new room.old room.new told.old told.new result }
 {
-    match held {
-        Held::Open(lab) => match lab.print(alloc) {
+    match inside {
+        Inside::Open(lab) => match lab.print(alloc) {
             Some(printed) => {
                 let status = give(&printed, room, told);
-                *held = Held::Reported(printed);
+                *inside = Inside::Reported(printed);
                 status
             }
             None => fail(RunFault::NoMemory, told),
         },
-        Held::Reported(printed) => give(printed, room, told),
+        Inside::Reported(printed) => give(printed, room, told),
+        _ => NOT_OPEN,
     }
 }
 
@@ -46,17 +37,38 @@ fn close_in(alloc: Global, held: &mut Held, room: &mut [u8], told: &mut Told) ->
 pub fn close(alloc: Global, bench: &mut Handle, room: &mut [u8], told: &mut Told) -> u32
     ensures { Closes bench.old.slot.held bench.new.slot.held room.old room.new told.old told.new result }
 {
-    let Some(mut held) = bench.take(alloc) else {
-        return NOT_OPEN;
+    let mut inside = match take(&mut bench.slot, &mut bench.live, alloc) {
+        Ok(inside) => inside,
+        Err(status) => return status,
     };
-    let status = close_in(alloc, &mut held, room, told);
-    bench.put(held);
+    let status = close_in(alloc, &mut inside, room, told);
+    put(&mut bench.slot, &mut bench.live, inside);
     status
 }
 
-/// Frees what the handle has, which then has nothing.
-pub fn free(alloc: Global, bench: &mut Handle)
-    ensures { bench.new.slot.held ≡ None }
+fn is_of_a_lab(inside: &Inside) -> bool
+    ensures { result ≡ is_of_a_lab inside.now }
 {
-    let _ = bench.take(alloc);
+    match inside {
+        Inside::Open(_) => true,
+        Inside::Reported(_) => true,
+        _ => false,
+    }
+}
+
+/// Frees the lab of the handle, or its report. The handle has nothing then.
+pub fn free(alloc: Global, bench: &mut Handle) -> u32
+    ensures { Frees is_of_a_lab bench.old.slot.held bench.new.slot.held result }
+{
+    let inside = match take(&mut bench.slot, &mut bench.live, alloc) {
+        Ok(inside) => inside,
+        Err(status) => return status,
+    };
+    if is_of_a_lab(&inside) {
+        release(&mut bench.live);
+        0
+    } else {
+        put(&mut bench.slot, &mut bench.live, inside);
+        NOT_OPEN
+    }
 }

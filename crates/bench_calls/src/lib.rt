@@ -1,22 +1,20 @@
-//! The calls for C on the lab of one handle: what C keeps of a lab, what each call does to it, what it tells, as structs that C has too, and its status.
+//! The calls for C on the lab of one handle: what each does to it, what it tells, as structs that C has too, and its status.
 #![tactic(auto)]
 
 mod doing;
 mod ending;
-mod handle;
+mod journals;
 mod opening;
 mod reading;
-mod slot;
 mod statuses;
 mod told;
 
 pub use doing::{begin, command, end, retire, serve, serve_others, settle, turn, withdraw};
-pub use ending::{Held, close, free};
-pub use handle::Handle;
+pub use ending::{close, free};
+pub use journals::{journal, open_kept, resume};
 pub use opening::open;
 pub use reading::{instrument_name, job_name, keepers, planned, session, size, state};
-pub use slot::Slot;
-pub use statuses::{NO_JOB, NOT_NOW, NOT_OPEN, stage_status, tell_entry, withdrew};
+pub use statuses::{NO_JOB, NOT_NOW, stage_status, tell_entry, withdrew};
 pub use told::{
     LabCame, LabEntry, LabKeepers, LabPlanned, LabSession, LabSize, LabState, LabTurned, entry_of,
     state_of, turned_of,

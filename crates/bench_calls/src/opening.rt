@@ -1,29 +1,42 @@
 //! How a handle gets a lab.
-ghost use Rattle.bench_calls.specs.Calls.{Opens};
+ghost use Rattle.std.specs.Prelude.{IfOk, IfErr};
+ghost use Rattle.bench_calls.specs.Calls.{Opens, IsFresh, IsOpened, IsNotOpened};
 
-use crate::ending::Held;
-use crate::handle::Handle;
-use crate::statuses::IN_USE;
+use c_handles::{Handle, Inside, claim, put, release};
 use c_tells::{Told, fail};
 use lab_program::RunFault;
 use live_lab::Lab;
 use std::alloc::Global;
 
+/// A lab for a script, in a box; or the status that says why not, with the fault told.
+fn opened(alloc: Global, script: &[u8], told: &mut Told) -> Result<Box<Inside, Global>, u32>
+    ensures opened { IfOk result (λ b. IsOpened IsFresh script.now b.value told.old told.new) }
+    ensures refused { IfErr result (λ status. IsNotOpened script.now told.new status) }
+{
+    match Lab::open(alloc, script) {
+        Ok(lab) => match Box::new(alloc, Inside::Open(lab)) {
+            Ok(inside) => Ok(inside),
+            Err(_) => Err(fail(RunFault::NoMemory, told)),
+        },
+        Err(fault) => Err(fail(fault, told)),
+    }
+}
+
 /// Opens a lab for a script. A handle that is in use stays as it is.
 pub fn open(alloc: Global, script: &[u8], bench: &mut Handle, told: &mut Told) -> u32
-    ensures { Opens script.now bench.old.slot.held bench.new.slot.held told.old told.new result }
+    ensures { Opens IsFresh script.now bench.old.slot.held bench.new.slot.held told.old told.new result }
 {
-    if bench.is_live() {
-        return IN_USE;
+    if let Err(status) = claim(&bench.slot, &mut bench.live) {
+        return status;
     }
-    match Lab::open(alloc, script) {
-        Ok(lab) => match Box::new(alloc, Held::Open(lab)) {
-            Ok(held) => {
-                bench.put(held);
-                0
-            }
-            Err(_) => fail(RunFault::NoMemory, told),
-        },
-        Err(fault) => fail(fault, told),
+    match opened(alloc, script, told) {
+        Ok(inside) => {
+            put(&mut bench.slot, &mut bench.live, inside);
+            0
+        }
+        Err(status) => {
+            release(&mut bench.live);
+            status
+        }
     }
 }

@@ -1,32 +1,30 @@
 //! Calls that tell of the lab of a handle and change nothing in it.
 ghost use Rattle.bench_calls.specs.Calls.{InLab, TellsSize, TellsSession, TellsPlanned, TellsState, TellsKeepers, TellsJobName, TellsInstrumentName};
 
-use crate::ending::Held;
-use crate::handle::Handle;
-use crate::statuses::{
-    NO_JOB, NOT_OPEN, tell_keepers, tell_name, tell_planned, tell_session, tell_standing,
-};
+use crate::statuses::{NO_JOB, tell_keepers, tell_name, tell_planned, tell_session, tell_standing};
 use crate::told::{LabKeepers, LabPlanned, LabSession, LabSize, LabState};
+use c_handles::{Handle, Inside, NOT_OPEN, put, take};
 use std::alloc::Global;
 
 /// Tells how many jobs and instruments there are.
 pub fn size(alloc: Global, bench: &mut Handle, size: &mut LabSize) -> u32
     ensures { InLab TellsSize bench.old.slot.held bench.new.slot.held size.old size.new result }
 {
-    let Some(held) = bench.take(alloc) else {
-        return NOT_OPEN;
+    let inside = match take(&mut bench.slot, &mut bench.live, alloc) {
+        Ok(inside) => inside,
+        Err(status) => return status,
     };
-    let status = match &*held {
-        Held::Open(lab) => {
+    let status = match &*inside {
+        Inside::Open(lab) => {
             *size = LabSize {
                 jobs: lab.jobs(),
                 instruments: lab.instruments(),
             };
             0
         },
-        Held::Reported(_) => NOT_OPEN,
+        _ => NOT_OPEN,
     };
-    bench.put(held);
+    put(&mut bench.slot, &mut bench.live, inside);
     status
 }
 
@@ -40,17 +38,18 @@ pub fn job_name(
 ) -> u32
     ensures { InLab (TellsJobName job) bench.old.slot.held bench.new.slot.held (name.old, written.old) (name.new, written.new) result }
 {
-    let Some(held) = bench.take(alloc) else {
-        return NOT_OPEN;
+    let inside = match take(&mut bench.slot, &mut bench.live, alloc) {
+        Ok(inside) => inside,
+        Err(status) => return status,
     };
-    let status = match &*held {
-        Held::Open(lab) => match lab.job_name(job) {
+    let status = match &*inside {
+        Inside::Open(lab) => match lab.job_name(job) {
             Some(text) => tell_name(text, name, written),
             None => NO_JOB,
         },
-        Held::Reported(_) => NOT_OPEN,
+        _ => NOT_OPEN,
     };
-    bench.put(held);
+    put(&mut bench.slot, &mut bench.live, inside);
     status
 }
 
@@ -64,17 +63,18 @@ pub fn instrument_name(
 ) -> u32
     ensures { InLab (TellsInstrumentName instrument) bench.old.slot.held bench.new.slot.held (name.old, written.old) (name.new, written.new) result }
 {
-    let Some(held) = bench.take(alloc) else {
-        return NOT_OPEN;
+    let inside = match take(&mut bench.slot, &mut bench.live, alloc) {
+        Ok(inside) => inside,
+        Err(status) => return status,
     };
-    let status = match &*held {
-        Held::Open(lab) => match lab.instrument_name(instrument) {
+    let status = match &*inside {
+        Inside::Open(lab) => match lab.instrument_name(instrument) {
             Some(text) => tell_name(text, name, written),
             None => NO_JOB,
         },
-        Held::Reported(_) => NOT_OPEN,
+        _ => NOT_OPEN,
     };
-    bench.put(held);
+    put(&mut bench.slot, &mut bench.live, inside);
     status
 }
 
@@ -88,14 +88,15 @@ pub fn session(
 ) -> u32
     ensures { InLab (TellsSession job session) bench.old.slot.held bench.new.slot.held what.old what.new result }
 {
-    let Some(held) = bench.take(alloc) else {
-        return NOT_OPEN;
+    let inside = match take(&mut bench.slot, &mut bench.live, alloc) {
+        Ok(inside) => inside,
+        Err(status) => return status,
     };
-    let status = match &*held {
-        Held::Open(lab) => tell_session(lab.session(job, session), what),
-        Held::Reported(_) => NOT_OPEN,
+    let status = match &*inside {
+        Inside::Open(lab) => tell_session(lab.session(job, session), what),
+        _ => NOT_OPEN,
     };
-    bench.put(held);
+    put(&mut bench.slot, &mut bench.live, inside);
     status
 }
 
@@ -110,14 +111,15 @@ pub fn planned(
 ) -> u32
     ensures { InLab (TellsPlanned job session place) bench.old.slot.held bench.new.slot.held what.old what.new result }
 {
-    let Some(held) = bench.take(alloc) else {
-        return NOT_OPEN;
+    let inside = match take(&mut bench.slot, &mut bench.live, alloc) {
+        Ok(inside) => inside,
+        Err(status) => return status,
     };
-    let status = match &*held {
-        Held::Open(lab) => tell_planned(lab.planned(job, session, place), what),
-        Held::Reported(_) => NOT_OPEN,
+    let status = match &*inside {
+        Inside::Open(lab) => tell_planned(lab.planned(job, session, place), what),
+        _ => NOT_OPEN,
     };
-    bench.put(held);
+    put(&mut bench.slot, &mut bench.live, inside);
     status
 }
 
@@ -125,14 +127,15 @@ pub fn planned(
 pub fn state(alloc: Global, bench: &mut Handle, job: u32, state: &mut LabState) -> u32
     ensures { InLab (TellsState job) bench.old.slot.held bench.new.slot.held state.old state.new result }
 {
-    let Some(held) = bench.take(alloc) else {
-        return NOT_OPEN;
+    let inside = match take(&mut bench.slot, &mut bench.live, alloc) {
+        Ok(inside) => inside,
+        Err(status) => return status,
     };
-    let status = match &*held {
-        Held::Open(lab) => tell_standing(lab.standing(job as usize), state),
-        Held::Reported(_) => NOT_OPEN,
+    let status = match &*inside {
+        Inside::Open(lab) => tell_standing(lab.standing(job as usize), state),
+        _ => NOT_OPEN,
     };
-    bench.put(held);
+    put(&mut bench.slot, &mut bench.live, inside);
     status
 }
 
@@ -146,13 +149,14 @@ pub fn keepers(
 ) -> u32
     ensures { InLab (TellsKeepers job instrument) bench.old.slot.held bench.new.slot.held what.old what.new result }
 {
-    let Some(held) = bench.take(alloc) else {
-        return NOT_OPEN;
+    let inside = match take(&mut bench.slot, &mut bench.live, alloc) {
+        Ok(inside) => inside,
+        Err(status) => return status,
     };
-    let status = match &*held {
-        Held::Open(lab) => tell_keepers(lab.keepers(job, instrument), what),
-        Held::Reported(_) => NOT_OPEN,
+    let status = match &*inside {
+        Inside::Open(lab) => tell_keepers(lab.keepers(job, instrument), what),
+        _ => NOT_OPEN,
     };
-    bench.put(held);
+    put(&mut bench.slot, &mut bench.live, inside);
     status
 }

@@ -1,7 +1,7 @@
 //! The statuses, and what is told with them of what a lab answered.
 ghost use Rattle.std.specs.Prelude.{◌≡◌, if◌then◌else◌, length};
 ghost use Rattle.c_tells.specs.Telling.{Gives};
-ghost use Rattle.bench_calls.specs.Telling.{stage_status, retire_status, TellsEntry, TellsDid, TellsBegun, TellsRetired, TellsEnded, TellsAs, IfTold};
+ghost use Rattle.bench_calls.specs.Telling.{stage_status, TellsEntry, TellsDid, TellsBegun, TellsRetired, TellsEnded, TellsAs, IfTold};
 ghost use Rattle.bench_calls.specs.Telling.{turned_of, came_of, session_of, state_of, planned_of, keepers_of};
 
 use crate::told::{
@@ -16,8 +16,7 @@ use session_layer::Turned;
 /// The status if there is no such job, session or instrument.
 pub const NO_JOB: u32 = 2;
 
-/// The status if the handle has nothing that the call could act on.
-pub const NOT_OPEN: u32 = 7;
+pub(crate) const NO_MEMORY: u32 = 5;
 
 /// The status if what was asked for isn't so.
 pub const NOT_NOW: u32 = 8;
@@ -26,8 +25,8 @@ const NO_SESSION: u32 = 9;
 
 const SESSIONS_LEFT: u32 = 10;
 
-/// The status if the handle that is to be opened has something.
-pub(crate) const IN_USE: u32 = 11;
+/// The status if a lab keeps its steps and has no room for those of one more call.
+pub(crate) const JOURNAL_FULL: u32 = 12;
 
 /// Whether a session was given up.
 pub fn withdrew(did: bool) -> u32
@@ -45,18 +44,8 @@ pub fn stage_status(aim: Aim, stage: Stage) -> u32
         Stage::OnTheWay => NOT_NOW,
         Stage::Barred => match aim {
             Aim::Hold => NO_SESSION,
-            Aim::Retire => NOT_NOW,
+            Aim::Retire => SESSIONS_LEFT,
         },
-    }
-}
-
-fn retire_status(stage: Stage) -> u32
-    ensures { result ≡ retire_status stage }
-{
-    match stage {
-        Stage::There => 0,
-        Stage::OnTheWay => NOT_NOW,
-        Stage::Barred => SESSIONS_LEFT,
     }
 }
 
@@ -118,7 +107,7 @@ pub(crate) fn tell_retired(answer: Option<(Stage, Turned)>, told: &mut LabTurned
         return NO_JOB
     };
     *told = turned_of(turned);
-    retire_status(stage)
+    stage_status(Aim::Retire, stage)
 }
 
 pub(crate) fn tell_ended(answer: Option<Ended>, told: &mut LabTurned) -> u32

@@ -1,11 +1,14 @@
-//! A box as the pointer and the allocator that it is made of, and back.
+//! A box as the pointer and the allocator that it is made of, and back; and a word that is exchanged in one step.
 #![tactic(auto)]
 
 ghost use Rattle.std.specs.Prelude.{◌≡◌};
 ghost use Rattle.std.specs.Box.Ownership.{box_owns};
 
+mod word;
+
 use std::alloc::Allocator;
 use std::marker::Model;
+pub use word::exchange;
 
 /// A boxed value, as its pointer and the allocator of its block. It owns what the box owned.
 pub struct Parts<T, A: Allocator> {

@@ -15,6 +15,7 @@ use std::process::Abort;
 mod cases;
 mod every_list;
 mod guards;
+mod keeping;
 mod marks;
 mod phases;
 mod starts;

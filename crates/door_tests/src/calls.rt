@@ -1,7 +1,8 @@
 //! The calls on a handle that has a lab.
-use bench_calls::{Handle, LabCame, LabEntry, LabKeepers, LabTurned};
+use bench_calls::{LabCame, LabEntry, LabKeepers, LabTurned};
+use c_handles::Handle;
 use c_tells::Told;
-use std::alloc::Global;
+use std::alloc::{AllocError, Global};
 use std::process::Abort;
 use std::rt::HostRuntime;
 
@@ -116,7 +117,8 @@ fn closes(rt: &impl Abort, alloc: Global, bench: &mut Handle) {
     assert!(rt; bench_calls::turn(alloc, bench, 0, &mut turned) == 7);
     assert!(rt; bench_calls::close(alloc, bench, &mut room, &mut told) == 0);
     assert!(rt; room.starts_with(IN_TURN));
-    bench_calls::free(alloc, bench);
+    assert!(rt; bench_calls::free(alloc, bench) == 0);
+    assert!(rt; bench_calls::free(alloc, bench) == 7);
     assert!(rt; bench_calls::close(alloc, bench, &mut room, &mut told) == 7);
 }
 
@@ -139,4 +141,46 @@ fn gives_up_when_patience_is_used_up(rt: HostRuntime) {
     settles(&rt, alloc, &mut bench, 2, (1, 0, 0));
     settles(&rt, alloc, &mut bench, 2, (1, 2, 2));
     bench_calls::free(alloc, &mut bench);
+}
+
+/// What was done so far is in the room.
+fn takes(rt: &impl Abort, alloc: Global, bench: &mut Handle, room: &mut [u8]) -> usize {
+    let mut written = 0;
+    assert!(rt; bench_calls::journal(alloc, bench, &mut room[..0], &mut written) == 6);
+    assert!(rt; bench_calls::journal(alloc, bench, room, &mut written) == 0);
+    let length = written;
+    assert!(rt; bench_calls::journal(alloc, bench, room, &mut written) == 0);
+    assert!(rt; written == 0);
+    length
+}
+
+/// The lab that a journal tells of.
+fn resumed(rt: &impl Abort, alloc: Global, journal: &[u8]) -> Handle {
+    let mut bench = Handle::vacant();
+    let mut told = NOTHING;
+    assert!(rt; bench_calls::resume(alloc, journal, &mut bench, &mut told) == 0);
+    assert!(rt; told.written == journal.len());
+    assert!(rt; bench_calls::resume(alloc, journal, &mut bench, &mut told) == 11);
+    bench
+}
+
+#[test]
+fn comes_back_from_its_journal(rt: HostRuntime) -> Result<(), AllocError> {
+    let alloc = rt.alloc();
+    let mut bench = Handle::vacant();
+    let mut told = NOTHING;
+    assert!(rt; bench_calls::open_kept(alloc, SHARED, &mut bench, &mut told) == 0);
+    settles(&rt, alloc, &mut bench, 1, (1, 0, 0));
+    let mut room = [0u8; 1000];
+    let length = takes(&rt, alloc, &mut bench, &mut room);
+    bench_calls::free(alloc, &mut bench);
+    let mut journal = Vec::new(alloc);
+    journal.extend_from_slice(SHARED)?;
+    journal.extend_from_slice(b"steps\n")?;
+    assert!(rt; length <= 1000);
+    journal.extend_from_slice(&room[..length])?;
+    let mut again = resumed(&rt, alloc, journal.as_slice());
+    settles(&rt, alloc, &mut again, 2, (1, 0, 0));
+    adds_one(&rt, alloc, &mut again);
+    Ok(())
 }

@@ -4,7 +4,11 @@
 #[cfg(test)]
 mod calls;
 #[cfg(test)]
+mod desks;
+#[cfg(test)]
 mod hall;
+#[cfg(test)]
+mod journals;
 #[cfg(test)]
 mod live;
 #[cfg(test)]

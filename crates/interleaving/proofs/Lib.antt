@@ -2,6 +2,7 @@ pub mod FitLemmas
 pub mod TableWrites
 pub mod LogLemmas
 pub mod CountLemmas
+pub mod GoingOn
 pub mod WorldLemmas
 pub mod OpeningTables
 pub mod StepsLemmas

@@ -20,6 +20,11 @@ entries_at [] i = refl
 entries_at (l ∷ logs) zero = refl
 entries_at (l ∷ logs) (suc i) = entries_at logs i
 
+-- there are as many of their entries as of them
+pub logs_wide : (logs : List LogView) → length logs ≡ length (map (λ (l : LogView). l.entries) logs)
+logs_wide [] = refl
+logs_wide (l ∷ logs) = ap suc (logs_wide logs)
+
 -- one log is replaced
 pub entries_set : (logs : List LogView) (i : ℕ) (log : LogView)
     → map (λ (l : LogView). l.entries) (slice_set logs i log) ≡ slice_set (map (λ (l : LogView). l.entries) logs) i log.entries

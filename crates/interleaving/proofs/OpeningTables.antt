@@ -19,8 +19,11 @@ use Rattle.legal_steps.specs.Precedence.{IsAcyclic}
 use Rattle.legal_steps.proofs.OpeningChoices.{opening_edge, opening_of_choices}
 use Rattle.legal_steps.proofs.OpeningLemmas.{fits_opening}
 use Rattle.legal_steps.proofs.ReachedLemmas.{reached_opening}
+use Rattle.legal_steps.specs.declared.event.Event.{Event}
 use Rattle.legal_steps.specs.Counting.{no_counts, counts_of}
-use Rattle.interleaving.specs.World.{IsReachedWith, WorldView}
+use Rattle.interleaving.specs.Kept.{Kept, no_kept, IsKept}
+use Rattle.interleaving.specs.World.{IsReachedBy}
+use Rattle.interleaving.proofs.GoingOn.{kept_none}
 use Rattle.interleaving.proofs.LogLemmas.{shown, are_empty}
 
 chosen_length : (plan : LabPlan) (choices : List EndChoice) → length (opening_of plan choices).edges ≡ length choices
@@ -58,9 +61,12 @@ none_counted : (n k : ℕ) → k < n → slice_index_or (replicate n no_counts) 
 none_counted n k below = get_or-replicate n k no_counts no_counts below
 
 pub reached_at_start : (plan : LabPlan) (s : State) → IsPlan plan → IsOpening plan s
-    → IsAcyclic plan s → IsReachedWith plan s (replicate (length plan.jobs) no_counts)
+    → IsAcyclic plan s → IsReachedBy plan s [] s (replicate (length plan.jobs) no_counts)
 reached_at_start plan s is_plan opens acyclic = record {
-  reached = reached_opening plan s is_plan opens acyclic;
+  is_plan = is_plan;
+  is_opening = opens;
+  acyclic = acyclic;
+  run = (reached_opening plan s is_plan opens acyclic).run;
   counted = record { one_each = length-replicate (length plan.jobs) no_counts; counted = λ k below. none_counted (length plan.jobs) k below };
 }
 
@@ -69,19 +75,30 @@ pub opened_of : (t : Setting) (kept plan : LabPlan) (choices : List EndChoice) �
     → kept ≡ plan → t ≡ record { plan = plan; state = opening_of plan choices }
 opened_of t kept plan choices shows same = let make : LabPlan → Setting = λ p. record { plan = p; state = opening_of p choices } in shows ∙ ap make same
 
--- tables that show an opening state, with a tally of no counts
+-- tables that show an opening state, with a tally of no counts, no past and nothing kept
 pub reached_opened : (t : Setting) (plan : LabPlan) (s : State) (tally : List Counts) (n : ℕ)
     → t ≡ record { plan = plan; state = s } → n ≡ length plan.jobs → tally ≡ replicate n no_counts
-    → IsPlan plan → IsOpening plan s → IsAcyclic plan s → IsReachedWith t.plan t.state tally
-reached_opened t plan s tally n shows all none is_plan opens acyclic =
+    → IsPlan plan → IsOpening plan s → IsAcyclic plan s → (start : Setting) (past : List Event) → start ≡ t → past ≡ []
+    → IsReachedBy t.plan start.state past t.state tally
+reached_opened t plan s tally n shows all none is_plan opens acyclic start past began empty =
     let counts : tally ≡ replicate (length plan.jobs) no_counts = none ∙ ap (λ k. replicate k no_counts) all in
-    subst (λ (x : Setting). IsReachedWith x.plan x.state tally) (sym shows)
-    (subst (IsReachedWith plan s) (sym counts) (reached_at_start plan s is_plan opens acyclic))
+    subst (λ (z : Setting × Setting × List Event). IsReachedBy z.1.plan z.0.state z.2 z.1.state tally) (λ i. (sym (began ∙ shows) i, sym shows i, sym empty i))
+    (subst (IsReachedBy plan s [] s) (sym counts) (reached_at_start plan s is_plan opens acyclic))
+
+pub kept_opened : (past : List Event) (kept : Kept) → kept ≡ no_kept → IsKept past kept
+kept_opened past kept none = subst (IsKept past) (sym none) (kept_none past 0)
 
 pub is_at_start : (t : Setting) (plan : LabPlan) (s : State) (tally : List Counts) (n : ℕ)
     → t ≡ record { plan = plan; state = s } → n ≡ length plan.jobs → tally ≡ replicate n no_counts
-    → record { plan = t.plan; state = t.state; counts = tally } ≡ at_start plan s
-is_at_start t plan s tally n shows all none =
+    → (start : Setting) (past : List Event) (kept : Kept) → start ≡ t → past ≡ [] → kept ≡ no_kept
+    → record { plan = t.plan; state = t.state; counts = tally; opening = start.state; past = past; kept = kept } ≡ at_start plan s
+is_at_start t plan s tally n shows all none start past kept began empty untold =
     let counts : tally ≡ replicate (length plan.jobs) no_counts = none ∙ ap (λ k. replicate k no_counts) all in
-    let make : Setting → List Counts → WorldView = λ x y. record { plan = x.plan; state = x.state; counts = y } in
-    ap (λ x. make x tally) shows ∙ ap (make (record { plan = plan; state = s })) counts
+    λ i. record {
+      plan = (shows i).plan;
+      state = (shows i).state;
+      counts = counts i;
+      opening = ((began ∙ shows) i).state;
+      past = empty i;
+      kept = untold i;
+    }

@@ -3,5 +3,6 @@ pub mod Rooms
 pub mod KeptPlan
 pub mod Step
 pub mod Counting
+pub mod Kept
 pub mod World
 pub mod Start

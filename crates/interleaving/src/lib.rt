@@ -16,6 +16,7 @@ mod seeing;
 mod stepping;
 mod steps;
 mod tables;
+mod tape;
 mod world;
 
 pub use cycles::{NoMemory, cycle_in};

@@ -56,6 +56,18 @@ impl<A: Allocator> JobSeat<A> {
         self.bottle_marks[edge]
     }
 
+    pub(crate) fn fork_mark_list(&self) -> &[bool]
+        ensures { result.now ≡ self.now.fork_marks }
+    {
+        self.fork_marks.as_slice()
+    }
+
+    pub(crate) fn bottle_mark_list(&self) -> &[u32]
+        ensures { result.now ≡ self.now.bottle_marks }
+    {
+        self.bottle_marks.as_slice()
+    }
+
     pub(crate) fn set_phase(&mut self, phase: JobState)
         ensures { self.new ≡ record self.old { phase = phase } }
     {

@@ -9,6 +9,7 @@ ghost use Rattle.legal_steps.specs.Opening.{AreChoices, opening_of, the_opening}
 ghost use Rattle.lab_plan.specs.IsPlan.{IsPlan};
 ghost use Rattle.lab_plan.specs.Limits.{most_commands};
 ghost use Rattle.legal_steps.specs.WholeLogs.{log_with_room};
+ghost use Rattle.interleaving.specs.Rooms.{log_at as log_in};
 ghost use Rattle.instrument_log.specs.Dial.{turned, dial};
 ghost use Rattle.instrument_log.specs.Entries.{IsWithinLimits};
 ghost use Rattle.instrument_log.specs.InstrumentLog.{MayAppend};
@@ -232,6 +233,27 @@ impl<'a, A: Allocator> Tables<'a, A> {
         ensures { result.now ≡ log_with_room self.now.plan self.now.state instrument }
     {
         &self.logs[instrument.0 as usize]
+    }
+
+    pub(crate) fn seat(&self, job: JobNo) -> &JobSeat<A>
+        requires { IsJob self.now.plan job }
+        ensures { result.now ≡ seat self.now.state job }
+    {
+        &self.seats[job.0 as usize]
+    }
+
+    /// The logs alone.
+    pub(crate) fn into_logs(self) -> Vec<InstrumentLog<A>, A>
+        ensures there { length result.items ≡ length self.entry.plan.instruments }
+        ensures logs { (i : ℕ) → i < length self.entry.plan.instruments → log_in result.items i ≡ log_with_room self.entry.plan self.entry.state i }
+    {
+        let Tables {
+            plan: _,
+            edges: _,
+            seats: _,
+            logs,
+        } = self;
+        logs
     }
 
     /// One more entry at the end of a log that takes it.

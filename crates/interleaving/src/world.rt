@@ -1,14 +1,17 @@
 //! A world: a plan, and a state of its bench that legal events have led to from an opening without a cycle.
-ghost use Rattle.std.specs.Prelude.{◌≡◌, ℕ, ◌<◌, ◌↔◌, IsTrue, length, IfOk, IfErr};
+ghost use Rattle.std.specs.Prelude.{◌≡◌, ℕ, ◌-◌, ◌<◌, ◌↔◌, [], true, IsTrue, length, IfOk, IfErr};
 ghost use Rattle.cycles.specs.Cycles.{IsAmong, AreBelow};
 ghost use Rattle.lab_plan.specs.LabPlan.{edges};
-ghost use Rattle.legal_steps.specs.State.{IsOwn, edge as edge_at, phase as phase_at, fork_mark as fork_mark_at, bottle_marks as bottle_marks_at};
+ghost use Rattle.legal_steps.specs.State.{IsOwn, edge as edge_at, seat as seat_at, phase as phase_at};
+ghost use Rattle.legal_steps.specs.State.{fork_mark as fork_mark_at, bottle_marks as bottle_marks_at};
 ghost use Rattle.legal_steps.specs.Legal.{IsJob, May};
 ghost use Rattle.legal_steps.specs.Fitting.{IsPhaseOf};
 ghost use Rattle.interleaving.specs.Pairs.{IsPrecedenceByEdge};
 ghost use Rattle.legal_steps.specs.WholeLogs.{log_with_room};
+ghost use Rattle.interleaving.specs.Rooms.{log_at as log_in};
 ghost use Rattle.interleaving.specs.Counting.{count_at};
-ghost use Rattle.interleaving.specs.World.{IsReachedWith, Steps, Replays};
+ghost use Rattle.interleaving.specs.Kept.{IsKept};
+ghost use Rattle.interleaving.specs.World.{IsReachedWith, IsReachedBy, Steps, Replays};
 ghost use Rattle.interleaving.specs.Start.{at_start, IsStartRefused};
 ghost use Rattle.legal_steps.specs.Opening.{AreChoices, opening_of, the_opening};
 ghost use Rattle.legal_steps.specs.Precedence.{IsAcyclic, Precedes};
@@ -18,32 +21,51 @@ use crate::kept_plan::KeptPlan;
 use crate::opening::are_choices;
 use crate::refusal::StartRefusal;
 use crate::tables::Tables;
+use crate::tape::Tape;
 use cycles::NoMemory;
 use instrument_log::InstrumentLog;
 use lab_plan::{EdgeNo, InstrumentNo, JobNo, Plan};
 use legal_steps::{EdgeState, EndChoice, Event, JobState, NotLegal};
-use std::alloc::{Allocator, Global};
+use past_events::Past;
+use std::alloc::{AllocError, Allocator, Global};
 use std::marker::Model;
+use std::snapshot::Snapshot;
 
 /// A state of a plan's bench, with what each job has done so far.
 ///
 /// It begins with [`start`](Self::start), [`opening`](Self::opening) or [`of_plan`](Self::of_plan), and goes
 /// on by one legal event at a time. So each of its states is reached from an opening without a cycle of
-/// precedence, and all that the laws of such states say is true of it. After its start it takes no memory.
+/// precedence, and all that the laws of such states say is true of it. After its start it takes no memory,
+/// but for the room of the events that it [keeps](Self::keep) if it is told to.
 #[derive(Drop)]
 pub struct World<'a, A: Allocator = Global> {
     tables: Tables<'a, A>,
     tally: JobCounts<A>,
+    tape: Tape<A>,
+    /// Where the world began, and the events since: for contracts alone.
+    start: Snapshot<Tables<'a, A>>,
+    past: Past,
 }
 
 impl<'a, A: Allocator> Model for World<'a, A> {
-    ghost use Rattle.interleaving.specs.World.{WorldView, IsReachedWith};
+    ghost use Rattle.interleaving.specs.Kept.{IsKept};
+    ghost use Rattle.interleaving.specs.World.{WorldView, IsReachedBy};
 
     ghost Value = { WorldView };
 
-    ghost view = { λ w. record { plan = w.tables.plan; state = w.tables.state; counts = w.tally } };
+    ghost view = { λ w. record {
+      plan = w.tables.plan;
+      state = w.tables.state;
+      counts = w.tally;
+      opening = w.start.value.state;
+      past = w.past.events;
+      kept = w.tape;
+    } };
 
-    ghost invariant = { λ w. IsReachedWith w.tables.plan w.tables.state w.tally };
+    ghost invariant = { λ w. record {
+      reached : IsReachedBy w.tables.plan w.start.value.state w.past.events w.tables.state w.tally;
+      kept : IsKept w.past.events w.tape;
+    } };
 }
 
 impl<'a, A: Allocator + Copy> World<'a, A> {
@@ -66,7 +88,14 @@ impl<'a, A: Allocator + Copy> World<'a, A> {
         if tables.has_cycle(alloc)? {
             return Err(StartRefusal::Cycle);
         }
-        Ok(World { tables, tally })
+        let start = Snapshot::of(&tables);
+        Ok(World {
+            tables,
+            tally,
+            tape: Tape::none(alloc),
+            start,
+            past: Past::none(),
+        })
     }
 
     /// A world in the initial state, with each fork and each bottle at the edge's lower job. On each edge
@@ -91,7 +120,14 @@ impl<'a, A: Allocator + Copy> World<'a, A> {
         let jobs = plan.get().jobs();
         let tables = Tables::opening(alloc, plan)?;
         let tally = JobCounts::new(alloc, jobs)?;
-        Ok(World { tables, tally })
+        let start = Snapshot::of(&tables);
+        Ok(World {
+            tables,
+            tally,
+            tape: Tape::none(alloc),
+            start,
+            past: Past::none(),
+        })
     }
 }
 
@@ -102,6 +138,8 @@ impl<'a, A: Allocator> World<'a, A> {
     {
         self.tables.step(&event)?;
         self.tally.count(&event);
+        self.tape.keep(&event);
+        self.past = Past::after(&self.past, &event);
         Ok(())
     }
 
@@ -131,6 +169,8 @@ impl<'a, A: Allocator> World<'a, A> {
     pub fn plan(&self) -> &Plan<A>
         ensures plan { result.now ≡ self.now.plan }
         ensures reached { IsReachedWith self.now.plan self.now.state self.now.counts }
+        ensures past { IsReachedBy self.now.plan self.now.opening self.now.past self.now.state self.now.counts }
+        ensures kept { IsKept self.now.past self.now.kept }
     {
         self.tables.plan()
     }
@@ -184,6 +224,75 @@ impl<'a, A: Allocator> World<'a, A> {
         ensures below { IfOk result (λ pairs. AreBelow (length self.now.plan.jobs) pairs.items) }
     {
         Ok(self.tables.precedence(alloc)?)
+    }
+
+    /// All fork marks of a job, by edge number.
+    pub fn fork_marks(&self, job: JobNo) -> &[bool]
+        requires { IsJob self.now.plan job }
+        ensures { result.now ≡ (seat_at self.now.state job).fork_marks }
+    {
+        self.tables.seat(job).fork_mark_list()
+    }
+
+    /// All bottle marks of a job, by edge number.
+    pub fn all_bottle_marks(&self, job: JobNo) -> &[u32]
+        requires { IsJob self.now.plan job }
+        ensures { result.now ≡ (seat_at self.now.state job).bottle_marks }
+    {
+        self.tables.seat(job).bottle_mark_list()
+    }
+
+    /// The logs, and the events that led here.
+    pub fn into_logs(self) -> (Vec<InstrumentLog<A>, A>, Past)
+        ensures there { length result.0.items ≡ length self.entry.plan.instruments }
+        ensures logs { (i : ℕ) → i < length self.entry.plan.instruments → log_in result.0.items i ≡ log_with_room self.entry.plan self.entry.state i }
+        ensures past { result.1.events ≡ self.entry.past }
+    {
+        let World {
+            tables,
+            tally: _,
+            tape: _,
+            start: _,
+            past,
+        } = self;
+        (tables.into_logs(), past)
+    }
+
+    /// From now on keeps its events, up to this many until they are [taken](Self::take_kept). What was kept before is let go.
+    pub fn keep(&mut self, alloc: A, room: usize) -> Result<(), AllocError>
+        ensures kept { IfOk result (λ _. self.new ≡ record self.old { kept = record { room = room; events = []; whole = true } }) }
+        ensures refused { IfErr result (λ _. self.new ≡ self.old) }
+    {
+        self.tape = Tape::with_room(alloc, room)?;
+        Ok(())
+    }
+
+    /// The events that are kept, oldest first.
+    pub fn kept(&self) -> &[Event]
+        ensures { result.now ≡ self.now.kept.events }
+    {
+        self.tape.events()
+    }
+
+    /// Whether no event was left out of those that are kept, for want of room.
+    pub fn is_whole(&self) -> bool
+        ensures { result ≡ self.now.kept.whole }
+    {
+        self.tape.is_whole()
+    }
+
+    /// How many more events can be kept.
+    pub fn kept_room(&self) -> usize
+        ensures { result ≡ self.now.kept.room - length self.now.kept.events }
+    {
+        self.tape.left()
+    }
+
+    /// Lets the kept events go, so that there is room for as many again.
+    pub fn take_kept(&mut self)
+        ensures { self.new ≡ record self.old { kept = record self.old.kept { events = [] } } }
+    {
+        self.tape.clear();
     }
 
     /// The log of the instrument.

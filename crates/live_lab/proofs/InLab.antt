@@ -1,8 +1,9 @@
--- A lab goes on: legal events lead from the plan's initial state to where it is, and it is marked who may have something to do.
+-- A lab goes on: it began in the plan's initial state, and it is marked who may have something to do.
 use Rattle.std.proofs.Common.{◌≡◌, Bool, false, List, [], ◌++◌, length, sym, ap, ◌∙◌, subst}
 use Rattle.lab_plan.specs.LabPlan.{LabPlan}
 use Rattle.legal_steps.specs.declared.event.Event.{Event}
 use Rattle.legal_steps.specs.State.{State}
+use Rattle.legal_steps.specs.Opening.{the_opening}
 use Rattle.legal_steps.specs.Run.{after_all}
 use Rattle.interleaving.specs.World.{WorldView, LeadsTo}
 use Rattle.edge_word.specs.Moves.{on}
@@ -11,7 +12,7 @@ use Rattle.settling.specs.Left.{DueView, AreMarked, KeepsMarks}
 use Rattle.settling.proofs.Worlds.{leads_both}
 use Rattle.settling.proofs.Waking.{marked_on}
 use Rattle.live_lab.specs.declared.clock.Clock.{Clock}
-use Rattle.live_lab.specs.Labs.{IsLab, opened}
+use Rattle.live_lab.specs.Labs.{IsLab}
 
 -- some legal events lead from one world to the other
 abbrev pub GoesOn : WorldView → WorldView → Type 0
@@ -22,9 +23,7 @@ pub lab_on : (old : WorldView) (clocks clocks' : List Clock) (new : WorldView) �
 lab_on old clocks clocks' new go as_many is =
     let same : new.plan ≡ old.plan = go.1.same_plan in
     record {
-      history = is.history ++ go.0;
-      leads = subst (λ (p : LabPlan). LeadsTo (opened p) (is.history ++ go.0) new) (sym same)
-          (leads_both (opened old.plan) old new is.history go.0 is.leads go.1);
+      opening = go.1.goes_on.same_opening ∙ (is.opening ∙ ap the_opening (sym same));
       one_each = as_many ∙ (is.one_each ∙ ap (λ (p : LabPlan). length p.jobs) (sym same));
     }
 

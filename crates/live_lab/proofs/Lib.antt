@@ -9,4 +9,3 @@ mod Tests
 mod Sessions
 mod Calls
 mod Reported
-mod Nothing

@@ -1,11 +1,11 @@
 -- For readers: a lab as contracts see it, and what is true of every lab.
 use Rattle.std.specs.Prelude.{◌≡◌, ℕ, ◌<◌, List, length, replicate, slice_index_or}
 use Rattle.lab_plan.specs.LabPlan.{LabPlan}
-use Rattle.legal_steps.specs.declared.event.Event.{Event}
 use Rattle.legal_steps.specs.State.{session}
 use Rattle.legal_steps.specs.Opening.{the_opening}
 use Rattle.turns.specs.Patience.{waited_in}
-use Rattle.interleaving.specs.World.{WorldView, LeadsTo}
+use Rattle.interleaving.specs.Kept.{Kept}
+use Rattle.interleaving.specs.World.{WorldView}
 use Rattle.interleaving.specs.Start.{at_start}
 use Rattle.lab_program.specs.Answers.{ScriptRefuses}
 use Rattle.lab_program.specs.declared.faults.RunFault.{RunFault}
@@ -22,15 +22,22 @@ pub record LabView : Type 0 where
 abbrev pub opened : LabPlan → WorldView
 opened plan = at_start plan (the_opening plan)
 
--- legal events, one after another, led from the plan's initial state to where the lab is, and each job has a clock
+-- the lab began in the plan's initial state, from which its past leads to where it is, as of every world; and each job has a clock
 pub record IsLab (x : LabView) : Type 0 where
-  pub history : List Event
-  pub leads : LeadsTo (opened x.world.plan) history x.world
+  pub opening : x.world.opening ≡ the_opening x.world.plan
   pub one_each : length x.clocks ≡ length x.world.plan.jobs
+
+-- a lab in this world, with new clocks
+abbrev pub lab_in : WorldView → LabView
+lab_in w = record { world = w; clocks = replicate (length w.plan.jobs) no_clock }
 
 -- a lab of the plan before its first event
 abbrev pub fresh_lab : LabPlan → LabView
-fresh_lab plan = record { world = opened plan; clocks = replicate (length plan.jobs) no_clock }
+fresh_lab plan = lab_in (opened plan)
+
+-- the same lab, but that this is kept of it
+abbrev pub with_kept : LabView → Kept → LabView
+with_kept x kept = record x { world = record x.world { kept = kept } }
 
 -- why no lab was opened: the script is too long, or it has this fault; or there was no memory
 abbrev pub IsWhyNot : List ℕ → RunFault → Type 0

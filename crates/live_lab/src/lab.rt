@@ -1,8 +1,9 @@
 //! The lab, and how it is opened.
-ghost use Rattle.std.specs.Prelude.{◌≡◌, ◌≤◌, IfOk, IfErr, length, replicate};
+ghost use Rattle.std.specs.Prelude.{◌≡◌, ◌≤◌, [], true, IfOk, IfErr, OnErr, length, replicate};
+ghost use Rattle.legal_steps.specs.Opening.{the_opening};
 ghost use Rattle.script_reader.specs.Script.{ScriptMeans};
 ghost use Rattle.live_lab.specs.Clocks.{no_clock};
-ghost use Rattle.live_lab.specs.Labs.{fresh_lab, IsWhyNot};
+ghost use Rattle.live_lab.specs.Labs.{fresh_lab, lab_in, with_kept, IsWhyNot};
 
 use crate::clock::{Clock, fresh};
 use interleaving::World;
@@ -44,16 +45,40 @@ impl Lab {
             return Err(RunFault::TooLong);
         }
         let plan = read_plan(alloc, script)?;
-        let Ok(due) = Due::all(alloc, &plan) else {
-            return Err(RunFault::NoMemory);
-        };
-        let Ok(clocks) = fresh_clocks(alloc, plan.jobs()) else {
-            return Err(RunFault::NoMemory);
-        };
-        let Ok(world) = World::of_plan(alloc, plan) else {
-            return Err(RunFault::NoMemory);
-        };
+        let world = World::of_plan(alloc, plan)?;
+        Ok(Lab::of_world(alloc, world)?)
+    }
+
+    /// A lab that goes on from this world. Its clocks are new, and each job is attended to at the next settle.
+    pub fn of_world(alloc: Global, world: World<'static, Global>) -> Result<Lab, AllocError>
+        requires { world.opening ≡ the_opening world.plan }
+        ensures { IfOk result (λ l. l ≡ lab_in world.entry) }
+    {
+        let due = Due::all(alloc, world.plan())?;
+        let clocks = fresh_clocks(alloc, world.plan().jobs())?;
         Ok(Lab { world, clocks, due })
+    }
+
+    /// The world, for all that is asked without a step.
+    pub fn world(&self) -> &World<'static, Global>
+        ensures { result.now ≡ self.now.world }
+    {
+        &self.world
+    }
+
+    /// From now on keeps its events, up to this many until they are [taken](Self::take_kept). What was kept before is let go.
+    pub fn keep(&mut self, alloc: Global, room: usize) -> Result<(), AllocError>
+        ensures kept { IfOk result (λ _. self.new ≡ with_kept self.old (record { room = room; events = []; whole = true })) }
+        ensures refused { OnErr result (self.new ≡ self.old) }
+    {
+        self.world.keep(alloc, room)
+    }
+
+    /// Lets the kept events go, so that there is room for as many again.
+    pub fn take_kept(&mut self)
+        ensures { self.new ≡ with_kept self.old (record self.old.world.kept { events = [] }) }
+    {
+        self.world.take_kept();
     }
 }
 

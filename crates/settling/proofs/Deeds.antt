@@ -18,6 +18,7 @@ use Rattle.reasons.proofs.LawProofs.{few_deeds}
 use Rattle.settling.specs.Doing.{VisitsEdge, IsOwnAct}
 use Rattle.settling.specs.Left.{IsBySelf}
 use Rattle.settling.specs.Resting.{DoesAlone}
+use Rattle.settling.proofs.Nothing.{leads_none}
 use Rattle.settling.proofs.Worlds.{leads_both}
 use Rattle.settling.proofs.Local.{each_move}
 
@@ -62,6 +63,9 @@ between_both [] ys a b = b
 between_both (x ∷ xs) ys a b = (a.0, between_both xs ys a.1 b)
 
 -- ---- what is done alone
+
+pub alone_none : (w : WorldView) → DoesAlone w 0 w
+alone_none w = record { events = []; leads = leads_none w; between = tt; deeds = refl }
 
 pub alone_both : (old mid new : WorldView) (m n : ℕ) → DoesAlone old m mid → DoesAlone mid n new → DoesAlone old (m + n) new
 alone_both old mid new m n a b = record {

@@ -1,3 +1,4 @@
+pub mod Nothing
 pub mod Worlds
 pub mod DueThere
 pub mod Visits

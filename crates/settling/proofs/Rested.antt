@@ -28,7 +28,7 @@ use Rattle.settling.specs.Left.{DueView, AreMarked, HasNothingToDo, KeepsMarks, 
 use Rattle.settling.specs.Resting.{DoesAlone, Rests}
 use Rattle.settling.specs.Attending.{TriesEdge, AttendsEdge, AttendsEdges, Attends, not_due}
 use Rattle.settling.proofs.Worlds.{reached_sound}
-use Rattle.settling.proofs.Deeds.{alone_both, alone_act, act_is, none_legal, few_alone}
+use Rattle.settling.proofs.Deeds.{alone_none, alone_both, alone_act, act_is, none_legal, few_alone}
 use Rattle.settling.proofs.Waking.{marked_on}
 
 -- ---- edge after edge
@@ -44,6 +44,20 @@ edge_once old new d0 d1 j e n none a = record {
   kept = a.kept;
   only = a.only;
   stays = λ h. a.stays none;
+}
+
+-- it is noted that there is nothing to do
+pub edge_noted : (w : WorldView) (due : DueView) (j e : ℕ) → AreMarked w.plan w.state due → is_due due j ≡ true → is_noted due (end_of w.plan j e) e ≡ true
+    → AttendsEdge w due j e 0 false w due
+edge_noted w due j e marked is noted = record {
+  alone = alone_none w;
+  marked = marked;
+  still_due = is;
+  closed = λ none. refl;
+  noted = λ h. noted;
+  kept = λ end f other before. before;
+  only = λ h. h;
+  stays = λ none k out. out;
 }
 
 -- something was done at first, and so it is twice
@@ -69,6 +83,17 @@ pub record EdgesSoFar (old : WorldView) (due : DueView) (j : ℕ) (k n : ℕ) (u
   pub noted : undone ≡ false → (i : ℕ) → i < k → is_noted due' (end_of old.plan j (slice_index_or (edges_of old.plan j) i 0)) (slice_index_or (edges_of old.plan j) i 0) ≡ true
   pub stays : n ≡ 0 → (i : ℕ) → is_due due i ≡ false → is_due due' i ≡ false
   pub few : n ≤ 10 * k
+
+pub edges_none : (w : WorldView) (due : DueView) (j : ℕ) → AreMarked w.plan w.state due → is_due due j ≡ true → EdgesSoFar w due j 0 0 false w due
+edges_none w due j marked is = record {
+  alone = alone_none w;
+  marked = marked;
+  still_due = is;
+  closed = λ none. refl;
+  noted = λ h i below. absurd (omega (arith, below));
+  stays = λ none i out. out;
+  few = omega arith;
+}
 
 pub edges_more : (old mid new : WorldView) (d0 d1 d2 : DueView) (j k e m n : ℕ) (before left undone : Bool) → e ≡ slice_index_or (edges_of old.plan j) k 0 →
     EdgesSoFar old d0 j k m before mid d1 → AttendsEdge mid d1 j e n left new d2 → n ≤ 10 → (before ≡ false → left ≡ false → undone ≡ false) →
@@ -255,6 +280,9 @@ pub record SoFar (old : WorldView) (rounds n : ℕ) (new : WorldView) (due : Due
   pub alone : DoesAlone old n new
   pub many : rounds ≤ n
   pub marked : AreMarked new.plan new.state due
+
+pub so_far_none : (w : WorldView) (due : DueView) → AreMarked w.plan w.state due → SoFar w 0 0 w due
+so_far_none w due marked = record { alone = alone_none w; many = omega arith; marked = marked }
 
 pub so_far_more : (old mid new : WorldView) (d1 d2 : DueView) (rounds m n : ℕ) (Asked : ℕ → Type 0) → SoFar old rounds m mid d1 → Attends Asked mid d1 n new d2 →
     1 ≤ n → SoFar old (rounds + 1) (m + n) new d2

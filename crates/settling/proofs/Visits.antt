@@ -14,6 +14,7 @@ use Rattle.legal_steps.specs.Run.{IsLegalFrom, after_all, is_sit, is_quit, is_wi
 use Rattle.legal_steps.specs.declared.counts.Counts.{Counts}
 use Rattle.interleaving.specs.Counting.{GoOnBy, count_at}
 use Rattle.interleaving.specs.World.{WorldView, LeadsTo}
+use Rattle.interleaving.proofs.GoingOn.{on_still}
 use Rattle.edge_word.specs.declared.moves.EdgeMoves.{EdgeMoves}
 use Rattle.edge_word.specs.Moves.{on, events_of, is_nothing}
 use Rattle.turns.specs.History.{learned, learned_all}
@@ -60,6 +61,7 @@ calm_look w j e own f b = record {
   run = record { legal = ((own, refl), tt); leads = sym (look_same w.plan w.state j e (edge w.state e) f b) };
   counted = none_of_looks w.counts j e (edge w.state e);
   same_plan = refl;
+  goes_on = on_still w;
 }
 
 -- ---- who knows the state itself learns nothing else by legal events

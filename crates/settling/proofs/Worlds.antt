@@ -1,5 +1,5 @@
 -- Lists of legal events, one after another.
-use Rattle.std.proofs.Common.{◌≡◌, ℕ, ◌+◌, Bool, cond, List, ◌++◌, sym, ap, ◌∙◌, subst, arith}
+use Rattle.std.proofs.Common.{◌≡◌, ℕ, ◌+◌, Bool, true, false, cond, List, [], ◌∷◌, ◌++◌, sym, ap, ◌∙◌, subst, arith}
 use Rattle.std.specs.List.{count_by}
 use Rattle.std.proofs.lemmas.List.Sums.{sum_by-append}
 use Rattle.lab_plan.specs.LabPlan.{LabPlan}
@@ -12,6 +12,8 @@ use Rattle.legal_steps.specs.Fitting.{Fits}
 use Rattle.legal_steps.proofs.ReachedInvariant.{IsSound, sound_opening, sound_after_all}
 use Rattle.interleaving.specs.Counting.{both_counts, count_at, GoOnBy}
 use Rattle.interleaving.specs.World.{WorldView, LeadsTo, IsReachedWith}
+use Rattle.interleaving.proofs.GoingOn.{on_both}
+use Rattle.edge_word.specs.Moves.{on}
 use Rattle.turns.proofs.Runs.{after_all-append, legal-append}
 
 -- ---- counts
@@ -45,7 +47,14 @@ leads_both old mid new xs ys a b =
       run = record { legal = legal-append plan old.state xs ys a.run.legal legal; leads = leads ∙ sym (after_all-append plan old.state xs ys) };
       counted = both_counted old.counts mid.counts new.counts xs ys a.counted b.counted;
       same_plan = b.same_plan ∙ a.same_plan;
+      goes_on = on_both old mid new a.goes_on b.goes_on;
     }
+
+-- one event, or none, before others
+pub leads_then : (old mid new : WorldView) (b : Bool) (x : Event) (rest : List Event) → LeadsTo old (on b x []) mid → LeadsTo mid rest new
+    → LeadsTo old (on b x rest) new
+leads_then old mid new false x rest a b = leads_both old mid new [] rest a b
+leads_then old mid new true x rest a b = leads_both old mid new (x ∷ []) rest a b
 
 -- ---- states that are reached
 

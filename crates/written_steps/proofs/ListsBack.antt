@@ -11,6 +11,7 @@ use Rattle.lab_plan.specs.LabPlan.{LabPlan}
 use Rattle.lab_plan.specs.IsPlan.{IsPlan}
 use Rattle.lab_plan.specs.Texts.{job_name}
 use Rattle.legal_steps.specs.declared.event.Step.{Step}
+use Rattle.legal_steps.specs.declared.event.StepLine.{StepLine}
 use Rattle.legal_steps.specs.declared.event.Step.TheVariants.{Look, AskFork, GiveFork, Soil, AskBottles, GiveBottles, Thirst, Hunger, Sit, Leave, Drink, Reach, Act, Quit, Retire, Glance, Withdraw}
 use Rattle.legal_steps.specs.State.{IsOwn}
 use Rattle.legal_steps.specs.Legal.{IsJob}
@@ -24,7 +25,7 @@ use Rattle.script_reader.proofs.UpgradeForms.{shown_behind}
 use Rattle.step_texts.specs.Names.{other_name}
 use Rattle.step_texts.specs.StepTexts.{step_text, alone_text, pair_text, bottles_text, set_text}
 use Rattle.written_steps.specs.ReadBack.{IsNameable}
-use Rattle.written_steps.specs.StepLists.{script_head, step_line, step_lines, lines_from_here, steps_behind, IsListReadBack}
+use Rattle.written_steps.specs.StepLists.{script_head, step_line, step_lines, lines_from_here, IsListReadBack}
 use Rattle.written_steps.proofs.NamesBack.{own_is_job}
 use Rattle.written_steps.proofs.DarkNames.{dark_job, dark_other, dark_members}
 use Rattle.written_steps.proofs.SetsBack.{member_names, set_written}
@@ -57,7 +58,7 @@ shown_set plan word j e set is shown own =
     shown_behind (pair_text plan word j e) (set_text plan e set) (shown_pair plan word j e is shown own)
     (ap (list_all is_shown) (set_written plan e set) ∙ shown_spaced (member_names plan e set) (dark_members plan e set is))
 
-step_shown : (plan : LabPlan) (step : Step) → IsPlan plan → IsNameable plan step → list_all is_shown (step_text plan step) ≡ true
+pub step_shown : (plan : LabPlan) (step : Step) → IsPlan plan → IsNameable plan step → list_all is_shown (step_text plan step) ≡ true
 unfolding step_text
 step_shown plan (Look j e) is h = shown_pair plan (codes "look") j e is refl h
 step_shown plan (AskFork j e) is h = shown_pair plan (codes "askfork") j e is refl h
@@ -90,14 +91,14 @@ lines_of_steps plan (step ∷ steps) is all =
     ∙ ap (λ l. step_text plan step ∷ l) (lines_of_steps plan steps is all.1)
 
 -- each of them is read back, in its line
-list_back : (plan : LabPlan) (n : ℕ) (steps : List Step) → IsPlan plan → AllByRecursion (IsNameable plan) steps
+pub list_back : (plan : LabPlan) (n : ℕ) (steps : List Step) → IsPlan plan → AllByRecursion (IsNameable plan) steps
     → list_of plan n (map (step_text plan) steps) ≡ map placed (lines_from_here n steps)
 list_back plan n [] is all = refl
 list_back plan n (step ∷ steps) is all =
     ap (λ found. cons_option (option_map (λ it. (n, it)) found) (list_of plan (n + 1) (map (step_text plan) steps))) (read_back plan step is all.0)
     ∙ ap (λ l. (n, Some step) ∷ l) (list_back plan (n + 1) steps is all.1)
 
-length_here : (n : ℕ) (steps : List Step) → length (lines_from_here n steps) ≡ length steps
+pub length_here : (n : ℕ) (steps : List Step) → length (lines_from_here n steps) ≡ length steps
 length_here n [] = refl
 length_here n (step ∷ steps) = ap suc (length_here (n + 1) steps)
 
@@ -142,7 +143,7 @@ any_form n (line ∷ lines) = one (form_of line) (any_form (n + 1) lines)
     one None more = more
     one (Some x) more = ap (λ t. is_steps x || t) more
 
-no_steps_line : (lines : List (List ℕ)) (plan : LabPlan) → LinesMean lines plan → list_any is_steps_line lines ≡ false
+pub no_steps_line : (lines : List (List ℕ)) (plan : LabPlan) → LinesMean lines plan → list_any is_steps_line lines ≡ false
 no_steps_line lines plan means =
     sym (any_form 1 lines) ∙ any_turned (map (λ (p : ℕ × Line). p.1) (script_of lines)) (none_sound (backwards (script_of lines)) means.0)
 
@@ -163,25 +164,19 @@ behind : (lines : List (List ℕ)) (line : List ℕ) (rest : List (List ℕ)) �
 behind [] line rest = refl
 behind (x ∷ lines) line rest = let next : length (x ∷ lines) + 1 ≡ suc (length lines + 1) = omega arith in rw next (behind lines line rest)
 
-steps_form : form_of (codes "steps") ≡ Some Steps
+pub steps_form : form_of (codes "steps") ≡ Some Steps
 unfolding line_with
 steps_form = ap line_in (fields_one (codes "steps") refl (omega arith))
 
--- lines that mean a plan, a line `steps`, and the lines of the steps
-joined : (plan : LabPlan) (lines : List (List ℕ)) (steps : List Step) → IsPlan plan → LinesMean lines plan → AllByRecursion (IsNameable plan) steps
-    → length steps ≤ 1000000 → (text : List ℕ) → text_lines text ≡ lines ++ codes "steps" ∷ map (step_text plan) steps
-    → StepsMean text plan (lines_from_here (length lines + 2) steps)
-joined plan lines steps is means all few text cut =
+-- lines that mean a plan, a line `steps`, and lines that are steps
+pub joined : (plan : LabPlan) (lines rest : List (List ℕ)) (steps : List StepLine) → LinesMean lines plan
+    → list_of plan (length lines + 2) rest ≡ map placed steps → length steps ≤ 1000000 → (text : List ℕ) → text_lines text ≡ lines ++ codes "steps" ∷ rest
+    → StepsMean text plan steps
+joined plan lines rest steps means are few text cut =
     let line = codes "steps" in
-    let rest = map (step_text plan) steps in
     let part : script_part (text_lines text) ≡ lines = ap script_part cut ∙ part_before lines line rest (no_steps_line lines plan means) (ap (has is_steps) steps_form) in
-    let later : steps_part (text_lines text) ≡ rest = (λ i. drop (length (part i) + 1) (cut i)) ∙ behind lines line rest in (
-      subst (λ l. LinesMean l plan) (sym part) means,
-      (
-        (λ i. list_of plan (length (part i) + 2) (later i)) ∙ list_back plan (length lines + 2) steps is all,
-        let size = length_here (length lines + 2) steps in omega (arith, few, size),
-      ),
-    )
+    let later : steps_part (text_lines text) ≡ rest = (λ i. drop (length (part i) + 1) (cut i)) ∙ behind lines line rest in
+    (subst (λ l. LinesMean l plan) (sym part) means, ((λ i. list_of plan (length (part i) + 2) (later i)) ∙ are, few))
 
 -- ---- the lines of the head
 
@@ -197,14 +192,11 @@ same_forms front line other plan same means =
         ≡ numbered form_of 1 front ++ cons_option (option_map (λ (found : Line). (1 + length front, found)) (form_of last)) []
     scripts last = numbered-append form_of 1 front (last ∷ [])
 
--- the steps behind lines that have their ends, the last of them with an end of its own
-behind_closed : (plan : LabPlan) (lines : List (List ℕ)) (steps : List Step) → IsPlan plan → AllByRecursion IsOneLine lines
-    → AllByRecursion (IsNameable plan) steps
-    → text_lines (closed lines ++ (codes "steps\n" ++ step_lines plan steps)) ≡ map read_line lines ++ codes "steps" ∷ map (step_text plan) steps
-behind_closed plan lines steps is one all =
-    closed_lines lines (codes "steps\n" ++ step_lines plan steps) one
-    ∙ ap (λ l. map read_line lines ++ l) (one_more_line (codes "steps") (step_lines plan steps) refl
-    ∙ ap (λ l. codes "steps" ∷ l) (lines_of_steps plan steps is all))
+-- what is behind lines that have their ends, the last of them with an end of its own
+behind_closed : (lines : List (List ℕ)) (tail : List ℕ) → AllByRecursion IsOneLine lines
+    → text_lines (closed lines ++ (codes "steps\n" ++ tail)) ≡ map read_line lines ++ codes "steps" ∷ text_lines tail
+behind_closed lines tail one =
+    closed_lines lines (codes "steps\n" ++ tail) one ∙ ap (λ l. map read_line lines ++ l) (one_more_line (codes "steps") tail refl)
 
 all_and : (P : List ℕ → Type 0) (xs : List (List ℕ)) (x : List ℕ) → AllByRecursion P xs → P x → AllByRecursion P (xs ++ x ∷ [])
 all_and P [] x all own = (own, tt)
@@ -213,21 +205,30 @@ all_and P (y ∷ xs) x all own = (all.0, all_and P xs x all.1 own)
 no_script : (plan : LabPlan) → LinesMean [] plan → ⊥
 no_script plan means = let end = means.1 in cc
 
+-- the lines of a script that is closed by `steps`, whatever comes behind: lines that mean its plan, as many as it has, and a line `steps`
+pub record IsHead (plan : LabPlan) (script head : List ℕ) : Type 0 where
+  pub front : List (List ℕ)
+  pub means : LinesMean front plan
+  pub as_many : length front ≡ length (text_lines script)
+  pub cut : (tail : List ℕ) → text_lines (head ++ tail) ≡ front ++ codes "steps" ∷ text_lines tail
+
 -- the script ends with a line's end
-whole_head : (plan : LabPlan) (lines : List (List ℕ)) (steps : List Step) → IsPlan plan → AllByRecursion IsOneLine lines
-    → AllByRecursion (IsNameable plan) steps → length steps ≤ 1000000 → ScriptMeans (closed lines) plan
-    → StepsMean (script_head (closed lines) ++ step_lines plan steps) plan (steps_behind (closed lines) steps)
+whole_head : (plan : LabPlan) (lines : List (List ℕ)) → AllByRecursion IsOneLine lines → ScriptMeans (closed lines) plan
+    → IsHead plan (closed lines) (script_head (closed lines))
 unfolding script_head
-whole_head plan [] steps is one all few means = absurd (no_script plan (subst (λ l. LinesMean l plan) no_text means))
-whole_head plan (line ∷ lines) steps is one all few means =
+whole_head plan [] one means = absurd (no_script plan (subst (λ l. LinesMean l plan) no_text means))
+whole_head plan (line ∷ lines) one means =
     let bytes = closed (line ∷ lines) in
     let read : text_lines bytes ≡ map read_line (line ∷ lines) =
     ap text_lines (sym (append-nil bytes)) ∙ closed_lines (line ∷ lines) [] one ∙ ap (λ l. map read_line (line ∷ lines) ++ l) no_text ∙ append-nil _ in
-    let head : script_head bytes ++ step_lines plan steps ≡ bytes ++ (codes "steps\n" ++ step_lines plan steps) =
-    ap (λ t. (bytes ++ (if t then [] else (if ends_with_byte 13 bytes then codes " \n" else codes "\n")) ++ codes "steps\n") ++ step_lines plan steps) (closed_ends line lines)
-    ∙ ap (λ l. (l ++ codes "steps\n") ++ step_lines plan steps) (append-nil bytes) ∙ append_assoc bytes (codes "steps\n") (step_lines plan steps) in
-    joined plan (text_lines bytes) steps is means all few _
-    (ap text_lines head ∙ behind_closed plan (line ∷ lines) steps is one all ∙ ap (λ l. l ++ codes "steps" ∷ map (step_text plan) steps) (sym read))
+    let head : (tail : List ℕ) → script_head bytes ++ tail ≡ bytes ++ (codes "steps\n" ++ tail) = λ tail.
+    ap (λ t. (bytes ++ (if t then [] else (if ends_with_byte 13 bytes then codes " \n" else codes "\n")) ++ codes "steps\n") ++ tail) (closed_ends line lines)
+    ∙ ap (λ l. (l ++ codes "steps\n") ++ tail) (append-nil bytes) ∙ append_assoc bytes (codes "steps\n") tail in record {
+      front = text_lines bytes;
+      means = means;
+      as_many = refl;
+      cut = λ tail. ap text_lines (head tail) ∙ behind_closed (line ∷ lines) tail one ∙ ap (λ l. l ++ codes "steps" ∷ text_lines tail) (sym read);
+    }
 
 -- ---- the script ends in the middle of a line
 
@@ -241,80 +242,81 @@ one_more : (lines : List (List ℕ)) (last : List ℕ) → (closed lines ++ last
 one_more lines last = append_assoc (closed lines) last (codes "\n") ∙ sym (closed-append lines (last ∷ []))
 
 -- with this line in place of the last
-ended_lines : (plan : LabPlan) (lines : List (List ℕ)) (last : List ℕ) (steps : List Step) → IsPlan plan → AllByRecursion IsOneLine lines
-    → IsOneLine last → ends_with_byte 13 last ≡ false → AllByRecursion (IsNameable plan) steps
-    → text_lines (((closed lines ++ last) ++ codes "\n") ++ (codes "steps\n" ++ step_lines plan steps))
-    ≡ (map read_line lines ++ last ∷ []) ++ codes "steps" ∷ map (step_text plan) steps
-ended_lines plan lines last steps is one own plain all =
-    ap (λ l. text_lines (l ++ (codes "steps\n" ++ step_lines plan steps))) (one_more lines last)
-    ∙ behind_closed plan (lines ++ last ∷ []) steps is (all_and IsOneLine lines last one own) all
-    ∙ ap (λ l. l ++ codes "steps" ∷ map (step_text plan) steps) (map-append read_line lines (last ∷ [])
-    ∙ ap (λ l. map read_line lines ++ l ∷ []) (read_plain last plain))
+ended_lines : (lines : List (List ℕ)) (last tail : List ℕ) → AllByRecursion IsOneLine lines → IsOneLine last → ends_with_byte 13 last ≡ false
+    → text_lines (((closed lines ++ last) ++ codes "\n") ++ (codes "steps\n" ++ tail)) ≡ (map read_line lines ++ last ∷ []) ++ codes "steps" ∷ text_lines tail
+ended_lines lines last tail one own plain =
+    ap (λ l. text_lines (l ++ (codes "steps\n" ++ tail))) (one_more lines last)
+    ∙ behind_closed (lines ++ last ∷ []) tail (all_and IsOneLine lines last one own)
+    ∙ ap (λ l. l ++ codes "steps" ∷ text_lines tail) (map-append read_line lines (last ∷ []) ∙ ap (λ l. map read_line lines ++ l ∷ []) (read_plain last plain))
 
 -- what a last line gets that ends with no carriage return, and with one
-plain_head : (plan : LabPlan) (lines : List (List ℕ)) (last : List ℕ) (steps : List Step) → IsPlan plan → AllByRecursion IsOneLine lines
-    → IsOneLine last → 0 < length last → ends_with_byte 13 last ≡ false → AllByRecursion (IsNameable plan) steps → length steps ≤ 1000000
-    → ScriptMeans (closed lines ++ last) plan
-    → StepsMean (((closed lines ++ last) ++ codes "\n") ++ (codes "steps\n" ++ step_lines plan steps)) plan (steps_behind (closed lines ++ last) steps)
-plain_head plan lines last steps is one own some plain all few means =
-    joined plan (text_lines (closed lines ++ last)) steps is means all few _
-    (ended_lines plan lines last steps is one own plain all
-    ∙ ap (λ l. l ++ codes "steps" ∷ map (step_text plan) steps) (sym (open_lines lines last one own some)))
+plain_head : (plan : LabPlan) (lines : List (List ℕ)) (last : List ℕ) → AllByRecursion IsOneLine lines → IsOneLine last → 0 < length last
+    → ends_with_byte 13 last ≡ false → ScriptMeans (closed lines ++ last) plan
+    → IsHead plan (closed lines ++ last) (((closed lines ++ last) ++ codes "\n") ++ codes "steps\n")
+plain_head plan lines last one own some plain means =
+    let bytes = closed lines ++ last in record {
+      front = text_lines bytes;
+      means = means;
+      as_many = refl;
+      cut = λ tail. ap text_lines (append_assoc (bytes ++ codes "\n") (codes "steps\n") tail) ∙ ended_lines lines last tail one own plain
+          ∙ ap (λ l. l ++ codes "steps" ∷ text_lines tail) (sym (open_lines lines last one own some));
+    }
 
-spaced_head : (plan : LabPlan) (lines : List (List ℕ)) (last : List ℕ) (steps : List Step) → IsPlan plan → AllByRecursion IsOneLine lines
-    → IsOneLine last → 0 < length last → AllByRecursion (IsNameable plan) steps → length steps ≤ 1000000 → ScriptMeans (closed lines ++ last) plan
-    → StepsMean (((closed lines ++ last) ++ codes " \n") ++ (codes "steps\n" ++ step_lines plan steps)) plan (steps_behind (closed lines ++ last) steps)
-spaced_head plan lines last steps is one own some all few means =
+spaced_head : (plan : LabPlan) (lines : List (List ℕ)) (last : List ℕ) → AllByRecursion IsOneLine lines → IsOneLine last → 0 < length last
+    → ScriptMeans (closed lines ++ last) plan
+    → IsHead plan (closed lines ++ last) (((closed lines ++ last) ++ codes " \n") ++ codes "steps\n")
+spaced_head plan lines last one own some means =
+    let bytes = closed lines ++ last in
     let other = last ++ codes " " in
     let front = map read_line lines in
     let read = open_lines lines last one own some in
     let same : form_of other ≡ form_of last = ap line_in (space_behind last) in
-    let new = same_forms front last other plan same (subst (λ l. LinesMean l plan) read means) in
     let inside : IsOneLine other = list_all-append is_inside last (codes " ") ∙ (λ i. own i && true) in
     let cut : ((closed lines ++ last) ++ codes " \n") ≡ (closed lines ++ other) ++ codes "\n" =
     append_assoc (closed lines) last (codes " \n") ∙ ap (λ l. closed lines ++ l) (sym (append_assoc last (codes " ") (codes "\n")))
-    ∙ sym (append_assoc (closed lines) other (codes "\n")) in
-    let size : length (front ++ other ∷ []) ≡ length (text_lines (closed lines ++ last)) =
-    length-append front (other ∷ []) ∙ sym (length-append front (last ∷ [])) ∙ ap length (sym read) in
-    subst (λ n. StepsMean (((closed lines ++ last) ++ codes " \n") ++ (codes "steps\n" ++ step_lines plan steps)) plan (lines_from_here (n + 2) steps)) size
-    (joined plan (front ++ other ∷ []) steps is new all few _
-    (ap (λ l. text_lines (l ++ (codes "steps\n" ++ step_lines plan steps))) cut
-    ∙ ended_lines plan lines other steps is one inside (ends_behind 13 last (codes " ") (omega arith)) all))
+    ∙ sym (append_assoc (closed lines) other (codes "\n")) in record {
+      front = front ++ other ∷ [];
+      means = same_forms front last other plan same (subst (λ l. LinesMean l plan) read means);
+      as_many = length-append front (other ∷ []) ∙ sym (length-append front (last ∷ [])) ∙ ap length (sym read);
+      cut = λ tail. ap text_lines (append_assoc (bytes ++ codes " \n") (codes "steps\n") tail)
+          ∙ (ap (λ l. text_lines (l ++ (codes "steps\n" ++ tail))) cut
+          ∙ ended_lines lines other tail one inside (ends_behind 13 last (codes " ") (omega arith)));
+    }
 
-open_head : (plan : LabPlan) (lines : List (List ℕ)) (last : List ℕ) (steps : List Step) → IsPlan plan → AllByRecursion IsOneLine lines
-    → IsOneLine last → 0 < length last → AllByRecursion (IsNameable plan) steps → length steps ≤ 1000000 → ScriptMeans (closed lines ++ last) plan
-    → StepsMean (script_head (closed lines ++ last) ++ step_lines plan steps) plan (steps_behind (closed lines ++ last) steps)
+open_head : (plan : LabPlan) (lines : List (List ℕ)) (last : List ℕ) → AllByRecursion IsOneLine lines → IsOneLine last → 0 < length last
+    → ScriptMeans (closed lines ++ last) plan → IsHead plan (closed lines ++ last) (script_head (closed lines ++ last))
 unfolding script_head
-open_head plan lines last steps is one own some all few means =
+open_head plan lines last one own some means =
     let bytes = closed lines ++ last in
-    let Wanted : List ℕ → Type 0 = λ ending. StepsMean (((bytes ++ ending) ++ codes "steps\n") ++ step_lines plan steps) plan (steps_behind bytes steps) in
+    let Wanted : List ℕ → Type 0 = λ ending. IsHead plan bytes ((bytes ++ ending) ++ codes "steps\n") in
     let no_feed : ends_with_byte 10 bytes ≡ false = ends_behind 10 (closed lines) last some ∙ not_ended last own some in
     let at_end = ends_behind 13 (closed lines) last some in
     ⊎_elim
-    (λ return. subst Wanted (sym ((λ i. lacking (no_feed i) ((at_end ∙ return) i))))
-    (subst Means (sym (append_assoc (bytes ++ codes " \n") (codes "steps\n") (step_lines plan steps)))
-    (spaced_head plan lines last steps is one own some all few means)))
-    (λ plain. subst Wanted (sym ((λ i. lacking (no_feed i) ((at_end ∙ plain) i))))
-    (subst Means (sym (append_assoc (bytes ++ codes "\n") (codes "steps\n") (step_lines plan steps)))
-    (plain_head plan lines last steps is one own some plain all few means)))
+    (λ return. subst Wanted (sym ((λ i. lacking (no_feed i) ((at_end ∙ return) i)))) (spaced_head plan lines last one own some means))
+    (λ plain. subst Wanted (sym ((λ i. lacking (no_feed i) ((at_end ∙ plain) i)))) (plain_head plan lines last one own some plain means))
     (cases_Bool (ends_with_byte 13 last))
   where
     lacking : Bool → Bool → List ℕ
     lacking feed return = if feed then [] else (if return then codes " \n" else codes "\n")
 
-    Means : List ℕ → Type 0
-    Means text = StepsMean text plan (steps_behind (closed lines ++ last) steps)
-
-pub list_read_back : IsListReadBack
-list_read_back plan script steps is means all few =
+pub script_head_is : (plan : LabPlan) (script : List ℕ) → ScriptMeans script plan → IsHead plan script (script_head script)
+script_head_is plan script means =
     let parts = cut script in
-    subst (λ l. StepsMean (script_head l ++ step_lines plan steps) plan (steps_behind l steps)) (sym parts.is.whole)
+    subst (λ l. IsHead plan l (script_head l)) (sym parts.is.whole)
     (ended parts.lines parts.last parts.is.lines_one parts.is.last_one (subst (λ l. ScriptMeans l plan) parts.is.whole means))
   where
     ended : (lines : List (List ℕ)) (last : List ℕ) → AllByRecursion IsOneLine lines → IsOneLine last → ScriptMeans (closed lines ++ last) plan
-        → StepsMean (script_head (closed lines ++ last) ++ step_lines plan steps) plan (steps_behind (closed lines ++ last) steps)
+        → IsHead plan (closed lines ++ last) (script_head (closed lines ++ last))
     ended lines [] one own means =
         let same : closed lines ++ [] ≡ closed lines = append-nil (closed lines) in
-        subst (λ l. StepsMean (script_head l ++ step_lines plan steps) plan (steps_behind l steps)) (sym same)
-        (whole_head plan lines steps is one all few (subst (λ l. ScriptMeans l plan) same means))
-    ended lines (b ∷ last) one own means = open_head plan lines (b ∷ last) steps is one own (omega arith) all few means
+        subst (λ l. IsHead plan l (script_head l)) (sym same) (whole_head plan lines one (subst (λ l. ScriptMeans l plan) same means))
+    ended lines (b ∷ last) one own means = open_head plan lines (b ∷ last) one own (omega arith) means
+
+pub list_read_back : IsListReadBack
+list_read_back plan script steps is means all few =
+    let h = script_head_is plan script means in
+    let first = length (text_lines script) + 2 in
+    let size = length_here first steps in
+    joined plan h.front (map (step_text plan) steps) (lines_from_here first steps) h.means
+    (ap (λ n. list_of plan (n + 2) (map (step_text plan) steps)) h.as_many ∙ list_back plan first steps is all) (omega (arith, few, size))
+    (script_head script ++ step_lines plan steps) (h.cut (step_lines plan steps) ∙ ap (λ l. h.front ++ codes "steps" ∷ l) (lines_of_steps plan steps is all))

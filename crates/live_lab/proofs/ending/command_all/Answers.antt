@@ -9,7 +9,7 @@ use Rattle.lab_plan.specs.IsPlan.{IsPlan}
 use Rattle.legal_steps.proofs.FewCommands.{few_commands}
 use Rattle.interleaving.specs.World.{LeadsTo}
 use Rattle.settling.proofs.Worlds.{leads_both}
-use Rattle.live_lab.proofs.Nothing.{leads_none}
+use Rattle.settling.proofs.Nothing.{leads_none}
 use Rattle.live_lab.specs.Ends.{commands_by}
 use Rattle.live_lab.proofs.Phases.{has_seat, seat_after, commanded, plus_none, left_same, further}
 use Rattle.live_lab.proofs.ending.command_all.Goals as goal

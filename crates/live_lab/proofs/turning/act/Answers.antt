@@ -1,7 +1,7 @@
 use Rattle.std.proofs.Common.{[], refl, subst}
 use Rattle.turns.specs.Acts.{AreActs}
 use Rattle.round_trace.specs.Doing.{first_events}
-use Rattle.live_lab.proofs.Nothing.{leads_none}
+use Rattle.settling.proofs.Nothing.{leads_none}
 use Rattle.live_lab.proofs.turning.act.Goals as goal
 
 pub returns-in-None-clause-acts : goal.returns-in-None-clause-acts

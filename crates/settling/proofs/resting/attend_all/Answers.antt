@@ -4,7 +4,7 @@ use Rattle.lab_plan.specs.LabPlan.{LabPlan, edges, edges_of}
 use Rattle.legal_steps.proofs.OwnEdges.{own_at, get_default}
 use Rattle.interleaving.specs.World.{WorldView}
 use Rattle.settling.proofs.Few.{few_own}
-use Rattle.settling.proofs.Rested.{EdgesSoFar, edges_more, edges_all}
+use Rattle.settling.proofs.Rested.{EdgesSoFar, edges_none, edges_more, edges_all}
 use Rattle.settling.proofs.resting.attend_all.Goals as goal
 use Rattle.settling.proofs.resting.attend_all.Goals.{then-left, else-left}
 
@@ -18,6 +18,9 @@ attend_edge-moved-requires-clause-own g c =
     let long : length xs ≡ length c.edges_of-index-end.result.now = ap (λ (l : List ℕ). length l) (is ∙ (ap (λ (q : LabPlan). edges_of q j) p ∙ sym first)) in
     let t = c.loop-index-test.true in
     own_at c.loop-index.world.plan j xs c.loop-index.index c.index-edges_of-index.result is (omega (arith, long, t)) c.index-edges_of-index.is
+
+pub loop-index-init : goal.loop-index-init
+loop-index-init g c = edges_none c.args.world.now c.args.due.now c.args.job c.requires.marked c.requires.due
 
 few_at : (p q : LabPlan) (xs : List ℕ) (j n k m : ℕ) → p ≡ q → xs ≡ edges_of q j → n ≡ length (edges p) → n ≤ 496 → k ≤ length xs → m ≤ 10 * k → m ≤ 4960
 few_at p q xs j n k m same are is few inside most =

@@ -2,13 +2,16 @@ use Rattle.std.proofs.Common.{◌≤◌, length, subst, arith}
 use Rattle.lab_plan.specs.LabPlan.{LabPlan, edges}
 use Rattle.legal_steps.specs.Legal.{IsJob}
 use Rattle.settling.proofs.Deeds.{few_alone, some_if}
-use Rattle.settling.proofs.Rested.{so_far_more, rested, too_many}
+use Rattle.settling.proofs.Rested.{so_far_none, so_far_more, rested, too_many}
 use Rattle.settling.proofs.resting.rest.Goals as goal
 
 pub returns-then-more-eq0-clause-rests : goal.returns-then-more-eq0-clause-rests
 returns-then-more-eq0-clause-rests g c =
     rested c.args.world.now c.loop-number.world c.round-more.new.world c.loop-number.due c.round-more.new.due c.loop-number._number c.loop-number.done
     c.round-more.result c.plan.ensures.reached c.loop-number.invariant c.if-more-eq0.true c.round-more.ensures.attends
+
+pub loop-number-init : goal.loop-number-init
+loop-number-init g c = so_far_none c.args.world.now c.args.due.now c.requires
 
 pub overflow_add-done : goal.overflow_add-done
 overflow_add-done g c =

@@ -1,15 +1,16 @@
 use Rattle.std.proofs.Common.{[], ◌∷◌, sym, subst}
 use Rattle.interleaving.specs.Counting.{GoOnBy}
-use Rattle.interleaving.specs.World.{IsReachedWith}
-use Rattle.interleaving.proofs.WorldLemmas.{takes_entry, can_count, reached_with}
+use Rattle.interleaving.specs.World.{IsReachedBy}
+use Rattle.interleaving.proofs.WorldLemmas.{takes_entry, can_count, reached_by, reached_with}
 use Rattle.interleaving.proofs.CountLemmas.{goes_on}
+use Rattle.interleaving.proofs.GoingOn.{kept_next}
 use Rattle.interleaving.proofs.world.World.step.Goals as goal
 
 pub step-requires : goal.step-requires
-step-requires g c = takes_entry _ _ c.args.event c.self.invariant.reached
+step-requires g c = takes_entry _ _ c.args.event (reached_by _ _ _ _ _ c.self.invariant.reached).reached
 
 pub count-requires : goal.count-requires
-count-requires g c = can_count _ _ _ c.args.event c.self.invariant c.in_ok-step.ensures.0.may
+count-requires g c = can_count _ _ _ c.args.event (reached_by _ _ _ _ _ c.self.invariant.reached) c.in_ok-step.ensures.0.may
 
 pub invariant_of-self-2 : goal.invariant_of-self-2
 invariant_of-self-2 g c =
@@ -18,6 +19,12 @@ invariant_of-self-2 g c =
     let legal = c.in_ok-step.ensures.0 in
     let counted : GoOnBy counts (c.args.event ∷ []) c.count.new.self =
     subst (GoOnBy counts (c.args.event ∷ [])) (sym c.count.ensures)
-    (goes_on c.args.event counts (can_count _ _ _ c.args.event c.self.invariant legal.may)) in
-    subst (λ plan. IsReachedWith plan c.step.new.self.state c.count.new.self) (sym c.in_ok-step.ensures.1)
-    (reached_with old.plan old.state c.step.new.self.state counts c.count.new.self c.args.event c.self.invariant legal counted)
+    (goes_on c.args.event counts (can_count _ _ _ c.args.event (reached_by _ _ _ _ _ c.self.invariant.reached) legal.may)) in
+    record {
+      reached = subst (λ plan. IsReachedBy plan c.self.inside.start.value.state c.after-self-inside.result.events c.step.new.self.state c.count.new.self)
+          (sym c.in_ok-step.ensures.1)
+          (reached_with old.plan c.self.inside.start.value.state c.self.inside.past.events c.after-self-inside.result.events old.state c.step.new.self.state
+          counts c.count.new.self c.args.event c.self.invariant.reached legal counted c.after-self-inside.ensures);
+      kept = kept_next c.self.inside.past.events c.after-self-inside.result.events c.self.inside.tape c.keep.new.self c.args.event c.self.invariant.kept
+          c.after-self-inside.ensures c.keep.ensures;
+    }

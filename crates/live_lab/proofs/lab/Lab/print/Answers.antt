@@ -1,5 +1,4 @@
 use Rattle.std.proofs.Common.{subst}
-use Rattle.lab_plan.specs.IsPlan.{IsPlan}
 use Rattle.live_lab.specs.Labs.{LabView}
 use Rattle.live_lab.specs.Prints.{HasReport}
 use Rattle.live_lab.proofs.Reported.{has_report}
@@ -11,7 +10,7 @@ invariant_of-result c =
     record {
       reported = ∣ (
         x.world.plan,
-        has_report c.report_of_events.ensures c.holds_of_every_run.ensures x.world x.clocks.items (subst IsPlan c.plan.ensures.plan c.jobs.ensures.plan)
+        has_report c.report_of_events.ensures c.holds_of_every_run.ensures x.world x.clocks.items c.plan.ensures.past
             c.self.invariant.0 c.in-Some.text.items c.in-Some.outcome c.in-Some.ensures,
       ) ∣₁;
     }
@@ -20,5 +19,5 @@ pub returns-in-Some-clause-holds : goal.returns-in-Some-clause-holds
 returns-in-Some-clause-holds c =
     let x = c.self.inside in
     subst (λ (v : LabView). HasReport v.world.plan c.in-Some.text.items c.in-Some.outcome) c.self.view_is
-    (has_report c.report_of_events.ensures c.holds_of_every_run.ensures x.world x.clocks.items (subst IsPlan c.plan.ensures.plan c.jobs.ensures.plan)
+    (has_report c.report_of_events.ensures c.holds_of_every_run.ensures x.world x.clocks.items c.plan.ensures.past
     c.self.invariant.0 c.in-Some.text.items c.in-Some.outcome c.in-Some.ensures)

@@ -1,2 +1,0 @@
-mod Crosses
-mod Refused

@@ -1,0 +1,88 @@
+//! How a bench of desks ends.
+ghost use Rattle.std.specs.Prelude.{◌≡◌};
+ghost use Rattle.bench_calls.specs.Closing.{Frees};
+ghost use Rattle.c_handles.specs.declared.inside.Inside.TheVariants.{Shared};
+ghost use Rattle.hall_calls.specs.Calls.{Closes, ClosesShared, is_of_a_hall};
+
+use bench_calls::NOT_NOW;
+use bench_door::{Held, ended};
+use bench_hall::{Hall, WhyOpen};
+use c_handles::{Handle, Inside, NOT_OPEN, put, release, take};
+use c_tells::{Told, fail};
+use lab_program::RunFault;
+use std::alloc::Global;
+use std::sync::Arc;
+
+/// The end of an open bench, if all its desks are back.
+fn closed(alloc: Global, hall: Arc<Hall, Global>, room: &mut [u8], told: &mut Told) -> (Inside, u32)
+    ensures { ClosesShared (Shared hall) result.0 room.old room.new told.old told.new result.1 }
+{
+    match Hall::into_lab(hall, alloc) {
+        Ok(lab) => {
+            let (held, status) = ended(alloc, Held::Open(lab), room, told);
+            (Inside::Closing(held), status)
+        }
+        Err(stays) => {
+            let status = match stays.why {
+                WhyOpen::DesksOut => NOT_NOW,
+                WhyOpen::NoMemory => fail(RunFault::NoMemory, told),
+            };
+            (Inside::Shared(stays.hall), status)
+        }
+    }
+}
+
+/// One step of the end, and the next as far as memory goes.
+fn close_in(alloc: Global, inside: Inside, room: &mut [u8], told: &mut Told) -> (Inside, u32)
+    ensures { ClosesShared inside result.0 room.old room.new told.old told.new result.1 }
+{
+    match inside {
+        Inside::Shared(hall) => closed(alloc, hall, room, told),
+        Inside::Closing(held) => {
+            let (held, status) = ended(alloc, held, room, told);
+            (Inside::Closing(held), status)
+        }
+        other => (other, NOT_OPEN),
+    }
+}
+
+/// Closes the bench, if all its desks are back, and puts its report into the room. Without memory or room the next call goes on from there.
+pub fn close(alloc: Global, bench: &mut Handle, room: &mut [u8], told: &mut Told) -> u32
+    ensures { Closes bench.old.slot.held bench.new.slot.held room.old room.new told.old told.new result }
+{
+    let mut inside = match take(&mut bench.slot, &mut bench.live, alloc) {
+        Ok(inside) => inside,
+        Err(status) => return status,
+    };
+    let (after, status) = close_in(alloc, Box::replace(&mut inside, Inside::Moved), room, told);
+    Box::replace(&mut inside, after);
+    put(&mut bench.slot, &mut bench.live, inside);
+    status
+}
+
+fn is_of_a_hall(inside: &Inside) -> bool
+    ensures { result ≡ is_of_a_hall inside.now }
+{
+    match inside {
+        Inside::Shared(_) => true,
+        Inside::Closing(_) => true,
+        _ => false,
+    }
+}
+
+/// Frees the bench of the handle, which then has nothing. Desks that are out stay where they are.
+pub fn free(alloc: Global, bench: &mut Handle) -> u32
+    ensures { Frees is_of_a_hall bench.old.slot.held bench.new.slot.held result }
+{
+    let inside = match take(&mut bench.slot, &mut bench.live, alloc) {
+        Ok(inside) => inside,
+        Err(status) => return status,
+    };
+    if is_of_a_hall(&inside) {
+        release(&mut bench.live);
+        0
+    } else {
+        put(&mut bench.slot, &mut bench.live, inside);
+        NOT_OPEN
+    }
+}

@@ -1,0 +1,3 @@
+pub mod SumLines
+pub mod PieceLines
+pub mod Read

@@ -1,0 +1,4 @@
+pub mod Texts
+pub mod Sums
+pub mod Lines
+pub mod Reading

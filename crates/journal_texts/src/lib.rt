@@ -1,0 +1,13 @@
+//! The text of a journal: a list of steps that grows by whole texts, each between a line `#steps` and a line with its sum. `labrun replay`
+//! passes over both, since they are comments.
+#![tactic(auto)]
+
+mod digits;
+pub mod laws;
+mod lines;
+mod sums;
+mod writing;
+
+pub use lines::whole_lines;
+pub use sums::wrong_sum;
+pub use writing::journal_text;

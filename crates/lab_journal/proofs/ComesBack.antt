@@ -1,0 +1,130 @@
+-- A lab that is resumed from a journal stands where its events lead.
+use Rattle.std.proofs.Common.{◌≡◌, ◌≢◌, ◌⊎◌, ℕ, ◌+◌, ◌<◌, ◌≤◌, Bool, true, false, if◌then◌else◌, List, [], ◌∷◌, ◌++◌, length, take, get_or, refl, sym, ap, ◌∙◌, subst, inl, inr, arith, append_assoc, append-nil, length-append}
+use Rattle.std.specs.Prelude.{codes, map, slice_index}
+use Rattle.std.specs.List.{All, flat_map}
+use Rattle.std.proofs.lemmas.List.{ext_get_or, get_or-append-add, take_all}
+use Rattle.lab_plan.specs.LabPlan.{LabPlan}
+use Rattle.legal_steps.specs.declared.event.Event.{Event}
+use Rattle.legal_steps.specs.declared.event.Event.TheVariants.{Act}
+use Rattle.legal_steps.specs.declared.event.Step.{Step}
+use Rattle.legal_steps.specs.declared.phase.Drinking.TheVariants.{Reaching}
+use Rattle.legal_steps.specs.declared.counts.Counts.{Counts}
+use Rattle.legal_steps.specs.State.{State, drinking}
+use Rattle.legal_steps.specs.Legal.{IsJob, May}
+use Rattle.legal_steps.specs.Opening.{the_opening}
+use Rattle.legal_steps.specs.Run.{IsLegalFrom}
+use Rattle.legal_steps.specs.Counting.{no_counts}
+use Rattle.interleaving.specs.Counting.{AreCountsOf}
+use Rattle.interleaving.specs.World.{IsReachedBy}
+use Rattle.turns.proofs.Runs.{legal-goes_on}
+use Rattle.script_reader.specs.Laws.{HasOneList}
+use Rattle.script_reader.specs.Steps.{StepsMean}
+use Rattle.explaining.specs.Explanations.{events_from_opening}
+use Rattle.round_trace.specs.StepsOf.{step_of}
+use Rattle.written_steps.specs.StepLists.{script_head, step_line, step_lines, lacking_end}
+use Rattle.journal_texts.specs.Lines.{AreWholeLines}
+use Rattle.journal_texts.specs.Reading.{IsRead, FilesAreRead}
+use Rattle.journal_texts.specs.Texts.{Piece, events_of, lines_text, sum_line, end_text, piece_text, file_text}
+use Rattle.lab_journal.specs.Resumed.{IsAct}
+use Rattle.lab_journal.specs.Laws.{ResumesAt, JournalComesBack}
+
+-- ---- a journal ends with a line feed
+
+abbrev Fed : List ℕ → Type 0
+Fed l = (front : List ℕ) × (l ≡ front ++ 10 ∷ [])
+
+fed_behind : (a b : List ℕ) → Fed b → Fed (a ++ b)
+fed_behind a b fed = (a ++ fed.0, ap (λ (l : List ℕ). a ++ l) fed.1 ∙ sym (append_assoc a fed.0 (10 ∷ [])))
+
+-- what is nothing, or fed, keeps a text fed
+abbrev Keeps : List ℕ → Type 0
+Keeps l = (l ≡ []) ⊎ Fed l
+
+fed_kept : (a b : List ℕ) → Fed a → Keeps b → Fed (a ++ b)
+fed_kept a b fed (inl none) = subst (λ (l : List ℕ). Fed (a ++ l)) (sym none) (subst Fed (sym (append-nil a)) fed)
+fed_kept a b fed (inr more) = fed_behind a b more
+
+fed_step : (plan : LabPlan) (x : Step) → Fed (step_line plan x)
+unfolding step_line
+fed_step plan x = (_, refl)
+
+keeps_steps : (plan : LabPlan) (l : List Step) → Keeps (step_lines plan l)
+keeps_steps plan [] = inl refl
+keeps_steps plan (x ∷ l) = inr (fed_kept (step_line plan x) (step_lines plan l) (fed_step plan x) (keeps_steps plan l))
+
+keeps_end : (plan : LabPlan) (events : List Event) (ended : Bool) → Keeps (if ended then end_text plan events else [])
+keeps_end plan events true = inr (sum_line (lines_text plan events), refl)
+keeps_end plan events false = inl refl
+
+fed_piece : (plan : LabPlan) (piece : Piece) → Fed (piece_text plan piece)
+fed_piece plan piece =
+    let begin = codes "#steps\n" in
+    let lines = lines_text plan piece.events in
+    fed_kept (begin ++ lines) _ (fed_kept begin lines (codes "#steps", refl) (keeps_steps plan (map step_of piece.events))) (keeps_end plan piece.events piece.ended)
+
+keeps_pieces : (plan : LabPlan) (pieces : List Piece) → Keeps (flat_map (piece_text plan) pieces)
+keeps_pieces plan [] = inl refl
+keeps_pieces plan (piece ∷ pieces) = inr (fed_kept (piece_text plan piece) (flat_map (piece_text plan) pieces) (fed_piece plan piece) (keeps_pieces plan pieces))
+
+fed_head : (script : List ℕ) → Fed (script_head script)
+unfolding script_head
+fed_head script = fed_behind (script ++ lacking_end script) (codes "steps\n") (codes "steps", refl)
+
+fed_file : (plan : LabPlan) (script : List ℕ) (pieces : List Piece) → Fed (file_text plan script pieces)
+fed_file plan script pieces = fed_kept (script_head script) (flat_map (piece_text plan) pieces) (fed_head script) (keeps_pieces plan pieces)
+
+-- so all of it is whole lines
+all_of_it : (file : List ℕ) (n : ℕ) → Fed file → AreWholeLines file n → n ≡ length file
+all_of_it file n fed lines =
+    let size : length file ≡ length fed.0 + 1 = ap (λ (l : List ℕ). length l) fed.1 ∙ length-append fed.0 (10 ∷ []) in
+    let last : slice_index file (length fed.0) ≡ 10 =
+    ap (λ (l : List ℕ). get_or l (length fed.0) 0) fed.1 ∙ (let none : length fed.0 ≡ length fed.0 + 0 = omega arith in ap (λ k. get_or (fed.0 ++ 10 ∷ []) k 0) none
+    ∙ get_or-append-add fed.0 (10 ∷ []) 0 0) in
+    small n (length fed.0) (length file) size lines.within (λ less. lines.behind (length fed.0) less (omega (arith, size)) last)
+  where
+    small : (n k m : ℕ) → m ≡ k + 1 → n ≤ m → (n ≤ k → ⊥) → n ≡ m
+    small n k m e h less = omega (arith, e, h, less)
+
+-- ---- no command was in hand
+
+no_acts : (plan : LabPlan) (s : State) (acts : List Event) → All IsAct acts → IsLegalFrom plan s acts → ((j : ℕ) → IsJob plan j → drinking s j ≢ Reaching) → acts ≡ []
+no_acts plan s [] all legal none = refl
+no_acts plan s (x ∷ acts) all legal none =
+    let act = all 0 x (omega arith) in
+    let may : May plan s (Act act.0) = subst (λ (e : Event). May plan s e) act.1 legal.0 in
+    absurd (none act.0 may.0 may.1)
+
+same_counts : (plan : LabPlan) (events : List Event) (a b : List Counts) → AreCountsOf plan events a → AreCountsOf plan events b → a ≡ b
+same_counts plan events a b p q =
+    ext_get_or no_counts a b (p.one_each ∙ sym q.one_each)
+    (λ j below. let job : j < length plan.jobs = omega (arith, below, p.one_each) in p.counted j job ∙ sym (q.counted j job))
+
+-- two ways by the same events from the same opening
+same_way : (plan : LabPlan) (o : State) (events : List Event) (s t : State) (a b : List Counts) → IsReachedBy plan o events s a → IsReachedBy plan o events t b
+    → (s ≡ t) × (a ≡ b)
+same_way plan o events s t a b p q = (p.run.leads ∙ sym q.run.leads, same_counts plan events a b p.counted q.counted)
+
+stands_there : HasOneList → (plan : LabPlan) (file : List ℕ) (events : List Event) (s : State) (counts : List Counts) → Fed file → IsRead plan file events
+    → IsReachedBy plan (the_opening plan) events s counts → ((j : ℕ) → IsJob plan j → drinking s j ≢ Reaching) → ResumesAt file plan s counts
+stands_there one plan file events s counts fed read by none n x is =
+    let all : n ≡ length file = all_of_it file n fed is.lines in
+    let whole : take n file ≡ file = ap (λ k. take k file) all ∙ take_all (length file) file (omega arith) in
+    let both = one file x.world.plan plan is.steps read.steps (subst (λ l. StepsMean l x.world.plan is.steps) whole is.means) read.means in
+    let same : x.world.plan ≡ plan = both.0 in
+    let told : events_from_opening x.world.plan is.steps ≡ events = (λ i. events_from_opening (both.0 i) (both.1 i)) ∙ read.events_are in
+    let past : x.world.past ≡ events ++ is.acts = is.past ∙ ap (λ (l : List Event). l ++ is.acts) told in
+    let reached : IsReachedBy plan (the_opening plan) (events ++ is.acts) x.world.state x.world.counts =
+    subst (λ (z : LabPlan × State × List Event). IsReachedBy z.0 z.1 z.2 x.world.state x.world.counts)
+    (λ i. (same i, (is.opening ∙ ap the_opening same) i, past i)) is.reached in
+    let legal : IsLegalFrom plan s is.acts = subst (λ (z : State). IsLegalFrom plan z is.acts) (sym by.run.leads)
+    (legal-goes_on plan (the_opening plan) events is.acts reached.run.legal) in
+    let none_left = no_acts plan s is.acts is.are_acts legal none in
+    let there = same_way plan (the_opening plan) events x.world.state s x.world.counts counts
+    (subst (λ (l : List Event). IsReachedBy plan (the_opening plan) l x.world.state x.world.counts)
+    (ap (λ (l : List Event). events ++ l) none_left ∙ append-nil events) reached) by in
+    (all, same, there.0, there.1)
+
+pub journal_comes_back : FilesAreRead → HasOneList → JournalComesBack
+journal_comes_back read one plan script pieces s counts means by few =
+    let is = read plan script pieces by.is_plan means by.run.legal few in
+    (is, λ none. stands_there one plan (file_text plan script pieces) (events_of pieces) s counts (fed_file plan script pieces) is by none)

@@ -1,0 +1,5 @@
+pub mod Taken
+pub mod ComesBack
+pub mod Finished
+pub mod OfPlan
+pub mod Replayed

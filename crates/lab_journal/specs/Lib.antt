@@ -1,0 +1,4 @@
+pub mod Taking
+pub mod Resumed
+pub mod Finishing
+pub mod Laws

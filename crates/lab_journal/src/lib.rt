@@ -1,0 +1,15 @@
+//! A lab that keeps a journal: what it did is taken as text, and a lab comes back from all texts taken.
+//!
+//! A journal is the script, a line `steps`, and the texts, one after another. It is also an input of `labrun replay`.
+#![tactic(auto)]
+
+mod finishing;
+pub mod laws;
+mod opening;
+mod resuming;
+mod room;
+mod taking;
+
+pub use opening::{has_room, open_kept};
+pub use resuming::resume;
+pub use taking::{NotTaken, journal, take_journal};
