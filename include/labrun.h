@@ -1,6 +1,6 @@
 /* labrun in your own process. Three parts: the program's runs on one thread, from a script in memory to a report in memory; the bench
    itself (`struct lab_bench`), on which threads of your own take turns, hold instruments, work, and let go, one call at a time; and a
-   bench whose desks threads drive at once (`struct lab_shared`, `struct lab_desk`).
+   bench whose desks threads drive at once (a `struct lab_bench` too, and a `struct lab_desk` for each desk).
 
    Every call answers a status:
 
@@ -31,7 +31,7 @@
      - what one call is given doesn't overlap;
      - no call from a signal handler (on a handle that is busy it answers 13), nor in the child of a fork of a process with threads;
      - malloc and realloc align what they give as usual, and give NULL where they have none;
-     - of a bench, also what stands at `struct lab_bench`, or at `struct lab_shared`. */
+     - of a bench, also what stands at `struct lab_bench`, or at the desks. */
 #ifndef LABRUN_H
 #define LABRUN_H
 #include <stddef.h>
@@ -310,10 +310,11 @@ uint32_t lab_bench_resume(const uint8_t *journal, size_t length, struct lab_benc
 
    The rules, beside those at the top of this file:
 
-     - `struct lab_shared` and `struct lab_desk` are all zero at first, and the calls alone write them. They may be moved while no call on
-       them runs, but a copy must not be used beside the first.
+     - The bench's `struct lab_bench` and each `struct lab_desk` are all zero at first, and the calls alone write them. They may be moved
+       while no call on them runs, but a copy must not be used beside the first. A `lab_shared_` call on a bench that `lab_bench_open` opened
+       answers 7, and so does a call of the one handle on a bench of desks.
      - One call at a time on one handle. `lab_take_desk` is a call on both of its handles, and every other on the one that it is given:
-       so take the desks before the threads start, or hold a mutex of yours around the calls on the `struct lab_shared`; or call again
+       so take the desks before the threads start, or hold a mutex of yours around the calls on the bench; or call again
        when it answers 13, because another thread takes its desk just then. Calls on the desks, `lab_give_desk` too, need none.
      - A desk's handle may go from thread to thread, if something orders the calls: the start or the end of a thread, a mutex, a queue.
      - A job gives up what a neighbour asks for only in calls on its own desk: turn, serve, begin, retire, end. So whoever has a desk calls
@@ -325,29 +326,24 @@ uint32_t lab_bench_resume(const uint8_t *journal, size_t length, struct lab_benc
      - No call wakes a thread. If `what` is 0, nothing is due until a neighbour's call did something (but a session with patience counts
        its own turns): sleep a little and call again, or wait on a condition variable of yours that each thread signals after a call
        that told `what` 2, and after `lab_desk_withdraw`.
-     - What the script has (names, sessions, commands) is told by a `struct lab_bench` that is opened for the same script.
+     - What the script has (names, sessions, commands) is told by a bench that `lab_bench_open` opens for the same script.
      - At each status but 0 nothing has changed and nothing is written, but for: `turned` and the turns taken, at 8 and 9 of
        `lab_desk_begin`, 8 and 10 of `lab_desk_retire`; `written` at 6; `told` at 1, 4 and 5 of the open and at 0, 3, 5 and 6 of the close. */
 
-/* What C keeps of such a bench, and of a desk. */
-struct lab_shared {
-    void *at;
-    uint64_t live; /* not 0 if it has something */
-};
-
+/* What C keeps of a desk. */
 struct lab_desk {
     void *at;
     uint64_t live; /* not 0 if it has something */
 };
 
 /* Opens a bench for a script, with each desk at its place. 0; 1 with `told->line` and `told->cause`; 4; 5; 11 if the handle is in use. */
-uint32_t lab_shared_open(const uint8_t *script, size_t length, struct lab_shared *shared, struct lab_told *told);
+uint32_t lab_shared_open(const uint8_t *script, size_t length, struct lab_bench *shared, struct lab_told *told);
 
 /* How many jobs and instruments there are. 0, 7. */
-uint32_t lab_shared_size(struct lab_shared *shared, struct lab_size *size);
+uint32_t lab_shared_size(struct lab_bench *shared, struct lab_size *size);
 
 /* Takes the desk of a job into an empty handle. 0; 2; 5; 7 if the bench isn't open; 8 if the desk is out; 11 if the desk's handle is in use. */
-uint32_t lab_take_desk(struct lab_shared *shared, uint32_t job, struct lab_desk *desk);
+uint32_t lab_take_desk(struct lab_bench *shared, uint32_t job, struct lab_desk *desk);
 
 /* Gives the desk back to its own bench; the handle is empty then. 0; 7. (8, with the desk still in the handle, if the place has a desk:
    that can't be, and is there because it isn't proved.) */
@@ -374,11 +370,11 @@ uint32_t lab_desk_retire(struct lab_desk *desk, uint32_t turns, struct lab_turne
 /* Closes the bench, whatever its jobs are at, and writes the report. 0 or 3 as a run; 8 while a desk is out; 5 and 6: nothing is lost, call
    again; 7. Once all desks are back, a close that answers 5 gives none out any more. A closed handle keeps its report, for a further
    call; every other call on it but the free answers 7. */
-uint32_t lab_shared_close(struct lab_shared *shared, uint8_t *report, size_t room, struct lab_told *told);
+uint32_t lab_shared_close(struct lab_bench *shared, uint8_t *report, size_t room, struct lab_told *told);
 
 /* Gives back what the handle has; it is empty then. Desks that are out may be used on, and the last that is given back frees the bench. 0;
-   7 if it is empty already, or no `struct lab_shared`. */
-uint32_t lab_shared_free(struct lab_shared *shared);
+   7 if it is empty already, or has no bench of desks. */
+uint32_t lab_shared_free(struct lab_bench *shared);
 
 /* ---- The sizes and places that the library goes by. */
 
@@ -397,9 +393,6 @@ LAB_AT(lab_told, cause, 16);
 LAB_IS(sizeof(struct lab_bench) == 16);
 LAB_AT(lab_bench, at, 0);
 LAB_AT(lab_bench, live, 8);
-LAB_IS(sizeof(struct lab_shared) == 16);
-LAB_AT(lab_shared, at, 0);
-LAB_AT(lab_shared, live, 8);
 LAB_IS(sizeof(struct lab_desk) == 16);
 LAB_AT(lab_desk, at, 0);
 LAB_AT(lab_desk, live, 8);

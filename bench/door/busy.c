@@ -16,7 +16,7 @@
 #define SECONDS 20
 
 static struct lab_bench bench;
-static struct lab_shared shared;
+static struct lab_bench shared;
 static struct lab_desk desks[JOBS];
 static char script[4096];
 static pthread_mutex_t mutex = PTHREAD_MUTEX_INITIALIZER;

@@ -3,14 +3,14 @@
    cc -I include bench/door/desk_misuse.c FOLDER/liblabrun.a */
 #include "poison.h"
 
-static struct lab_shared shared;
+static struct lab_bench shared;
 static struct lab_desk desks[MOST_JOBS], *const none = &desks[MOST_JOBS - 1];
 
 static void look(struct seen *seen) { look_at_desks(seen, &shared, desks); }
 
 static uint8_t report[4096], as_it_was[4096];
 
-static uint32_t open_two(struct lab_shared *at) { return lab_shared_open((const uint8_t *)two, sizeof two - 1, at, &out.told); }
+static uint32_t open_two(struct lab_bench *at) { return lab_shared_open((const uint8_t *)two, sizeof two - 1, at, &out.told); }
 
 /* Every call on a desk that isn't there. */
 static void no_desk(struct lab_desk *desk) {
@@ -108,7 +108,7 @@ static void driving(void) {
 /* A handle of another kind isn't open, and isn't empty: nobody fills it, and nobody frees what it has. */
 static void wrong_kind(void) {
     struct lab_bench bench = {0}, *shared_as_bench = (struct lab_bench *)(void *)&shared, *desk_as_bench = (struct lab_bench *)(void *)&desks[0];
-    struct lab_shared *bench_as_shared = (struct lab_shared *)(void *)&bench, *desk_as_shared = (struct lab_shared *)(void *)&desks[0];
+    struct lab_bench *bench_as_shared = (struct lab_bench *)(void *)&bench, *desk_as_shared = (struct lab_bench *)(void *)&desks[0];
     struct lab_desk *bench_as_desk = (struct lab_desk *)(void *)&bench, *shared_as_desk = (struct lab_desk *)(void *)&shared;
     struct lab_told told;
     IS(lab_bench_open((const uint8_t *)two, sizeof two - 1, &bench, &told) == LAB_DONE);
@@ -139,7 +139,7 @@ static void wrong_kind(void) {
 static void garbage(void) {
     union {
         struct lab_bench bench;
-        struct lab_shared shared;
+        struct lab_bench shared;
         struct lab_desk desk;
         uint8_t bytes[16];
     } handle;
@@ -200,7 +200,7 @@ static void freed_with_desks_out(void) {
 
 /* Two benches at once: a desk goes back to its own. */
 static void two_benches(void) {
-    struct lab_shared other = {0};
+    struct lab_bench other = {0};
     struct lab_desk desk = {0};
     struct lab_turned turned;
     struct lab_state state;

@@ -2,7 +2,7 @@
    cc -I include bench/door/desk_refused.c FOLDER/liblabrun.a -Wl,--wrap=malloc -Wl,--wrap=realloc -Wl,--wrap=free */
 #include "lives.h"
 
-static struct lab_shared shared;
+static struct lab_bench shared;
 static struct lab_desk desks[MOST_JOBS];
 
 static void look(struct seen *seen) { look_at_desks(seen, &shared, desks); }

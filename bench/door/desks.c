@@ -8,7 +8,7 @@
 #define _POSIX_C_SOURCE 200809L
 #include "drive.h"
 
-static struct lab_shared shared;
+static struct lab_bench shared;
 static struct lab_desk desks[MOST_JOBS];
 static uint64_t *needs_of[MOST_JOBS]; /* of each session, from 1 */
 static atomic_int retired, failing;
@@ -157,7 +157,7 @@ static void *go_anyhow(void *given) {
 /* ---- the bench */
 
 static uint32_t try_open(struct text script, struct lab_told *told) {
-    struct lab_shared tried = {0};
+    struct lab_bench tried = {0};
     uint32_t status = lab_shared_open(script.bytes, script.length, &tried, told);
     lab_shared_free(&tried);
     return status;

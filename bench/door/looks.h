@@ -15,7 +15,7 @@ static inline void look_at_bench(struct seen *seen, struct lab_bench *bench) {
     for (uint32_t job = 0; job < MOST_JOBS; job++) seen->status[job] = lab_state(bench, job, &seen->states[job]);
 }
 
-static inline void look_at_desks(struct seen *seen, struct lab_shared *shared, struct lab_desk *desks) {
+static inline void look_at_desks(struct seen *seen, struct lab_bench *shared, struct lab_desk *desks) {
     memset(seen, 0, sizeof *seen);
     seen->live = shared->live;
     for (uint32_t job = 0; job < MOST_JOBS; job++) {
