@@ -12,8 +12,8 @@ the same one (`all one`), as in bench/broker/speed.py. The columns:
   SQLite             no bench at all: a row a session, WAL, synchronous=FULL, one connection behind a lock; `two`: a row as the session begins,
                      and a change of it as it ends, which promises what a journal does: that who holds is on the disk before it begins
 
-Each number is the best of N runs (5). With --back, how long the way back takes from the journal of a bench as large as a script may be. The
-package is found by PYTHONPATH, the library by LABRUN_LIBRARY."""
+Each number is the best of N runs (5). With --back, how long the way back takes from a long journal. The package is found by
+PYTHONPATH, the library by LABRUN_LIBRARY."""
 
 import argparse
 import os
@@ -105,7 +105,7 @@ def columns(shape, threads, memory, disk):
 
 def way_back(memory):
     path = os.path.join(memory, "large.journal")
-    script = script_of("ring", 32, 1000)
+    script = script_of("ring", 32, 500)  # (with more it would have more steps than are read again)
     begun = time.perf_counter()
     with labrun.Bench.from_text(script, journal=path, sync="none") as bench:
         bench.run(lambda job: [session.__exit__(None, None, None) for session in job.sessions() if session.__enter__()])
@@ -117,7 +117,7 @@ def way_back(memory):
     again = labrun.Bench.from_text(script, journal=path)
     back = time.perf_counter() - begun
     same = again.close().text == bench.report.text
-    print(f"the way back: 32000 sessions took {took:.1f} s; their journal, {steps} steps, {len(text)} bytes, is read again in {back:.2f} s: {same}")
+    print(f"the way back: 16000 sessions took {took:.1f} s; their journal, {steps} steps, {len(text)} bytes, is read again in {back:.2f} s: {same}")
 
 
 def main():

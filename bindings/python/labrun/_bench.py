@@ -556,7 +556,7 @@ class Bench:
             if status:
                 raise told_fault(status, told)
         else:
-            self._journal = Journal(journal, given, sync, _new_lock())
+            self._journal = Journal(journal, given, sync, _new_lock)
             calls, self.resumed = self._journal.open(library(), handle)
         self._finalizer = weakref.finalize(self, _freed, calls, handle)
         self._process = os.getpid()

@@ -31,14 +31,17 @@ _STEPS = ("lab_settle", "lab_command", "lab_end", "lab_withdraw", "lab_retire")
 class Journal:
     """`ticket` is of all that was added. `fault` is a write that failed, until the bench has gone back to what the file has."""
 
-    def __init__(self, path: Path, script: bytes, sync: str, disk: Any) -> None:
+    def __init__(self, path: Path, script: bytes, sync: str, new_lock: Callable[[], Any]) -> None:
         if sync not in ("data", "none"):
             raise ValueError('sync is "data" or "none"')
         self.path = os.fspath(path)
         self.fault: Optional[OSError] = None
         self._script = script
         self._syncs = sync == "data"
-        self._disk = disk  # the lock of who writes
+        # who writes, by its lock; and those who wait until it has; both by the one lock
+        self._new_lock, self._lock = new_lock, new_lock()
+        self._writes: Any = None
+        self._waiting: list[Any] = []
         self._file = os.open(path, os.O_RDWR | os.O_CREAT | os.O_CLOEXEC, 0o666)
         self.close = weakref.finalize(self, os.close, self._file)
         try:
@@ -91,10 +94,9 @@ class Journal:
                 raise told_fault(status, told)
             self._add(head)
         try:
-            with self._disk:
-                self._write()
-                if self._syncs and not is_there:
-                    _sync_folder(self.path)
+            self._write()
+            if self._syncs and not is_there:
+                _sync_folder(self.path)
         except OSError as fault:
             calls["lab_bench_free"](ctypes.byref(handle))
             raise JournalError(self.path, f"a write failed ({fault.strerror})") from fault
@@ -186,18 +188,36 @@ class Journal:
         stands = self._stands
         if stands[0] == ticket[0] and stands[1] >= ticket[1]:
             return
-        with self._disk:
-            if self._is_kept(ticket):
-                return
+        me = self._new_lock()
+        while not self._is_kept(ticket):
             try:
-                if self.fault is None:
-                    self._write()
-            except OSError as fault:
-                self.fault = fault
-            fault_now = self.fault
-            if fault_now is not None:
-                goes_back()
-                raise self._not_written(fault_now) from fault_now
+                with self._lock:
+                    if self._writes is None:
+                        self._writes = me
+                    else:
+                        me.acquire(False)
+                        self._waiting.append(me)
+                if self._writes is me:
+                    self._write_or_go_back(goes_back)
+                else:
+                    me.acquire()
+            finally:
+                if self._writes is me:
+                    with self._lock:
+                        self._writes, waiting, self._waiting = None, self._waiting, []
+                    for it in waiting:
+                        it.release()
+
+    def _write_or_go_back(self, goes_back: Callable[[], None]) -> None:
+        try:
+            if self.fault is None:
+                self._write()
+        except OSError as fault:
+            self.fault = fault
+        fault_now = self.fault
+        if fault_now is not None:
+            goes_back()
+            raise self._not_written(fault_now) from fault_now
 
     def _is_kept(self, ticket: Ticket) -> bool:
         failures, length = self._stands
