@@ -102,7 +102,7 @@ fn go_on<T: Allocator>(rt: &impl Abort, world: &mut World<'_, T>, steps: &[Do]) 
 }
 
 /// Whether the edge is one of the job's.
-fn owns<T: Allocator>(plan: &Plan<T>, job: JobNo, edge: EdgeNo) -> bool
+pub(crate) fn owns<T: Allocator>(plan: &Plan<T>, job: JobNo, edge: EdgeNo) -> bool
     ensures { IsTrue result → IsOwn plan.now job edge }
 {
     if edge.0 >= plan.edges() {
