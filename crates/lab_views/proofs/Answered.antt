@@ -25,7 +25,7 @@ use Rattle.lab_views.specs.Pictures.{Pictures, HasNoTimeline, for_reading}
 use Rattle.lab_views.specs.Tables.{Tabulates, LacksNothing}
 use Rattle.lab_views.specs.Arranged.{Arranges}
 use Rattle.lab_views.specs.BestOrders.{ArrangesBest}
-use Rattle.lab_views.specs.Traces.{Traces}
+use Rattle.lab_views.specs.Traces.{WritesTrace, TraceRefuses}
 use Rattle.lab_views.specs.Waits.{TellsWaits}
 use Rattle.lab_views.specs.Blocks.{TellsBlocks}
 use Rattle.lab_views.specs.Gantts.{DrawsRun}
@@ -93,7 +93,7 @@ at_source Picture told left old new seen input r is whole within a = report_at P
 at_source Table told left old new seen input r is whole within a = report_at Tabulates LacksNothing left old new seen input r is whole within a
 at_source Arrange told left old new seen input r is whole within a = script_at Arranges ScriptRefuses left old new seen input r is whole within a
 at_source (ArrangeMeasured limit) told left old new seen input r is whole within a = script_at (ArrangesBest limit told) ScriptRefuses left old new seen input r is whole within a
-at_source (Trace limit) told left old new seen input r is whole within a = script_at (Traces limit) ScriptRefuses left old new seen input r is whole within a
+at_source (Trace limit) told left old new seen input r is whole within a = script_at (WritesTrace limit) TraceRefuses left old new seen input r is whole within a
 at_source (Waits limit) told left old new seen input r is whole within a = script_at (TellsWaits limit) ScriptRefuses left old new seen input r is whole within a
 at_source (Blocks limit) told left old new seen input r is whole within a = script_at (TellsBlocks limit) ScriptRefuses left old new seen input r is whole within a
 at_source (Gantt limit) told left old new seen input r is whole within a = script_at (DrawsRun limit) ScriptRefuses left old new seen input r is whole within a
@@ -126,7 +126,7 @@ unread Picture gain left old e told is long = report_unread Pictures HasNoTimeli
 unread Table gain left old e told is long = report_unread Tabulates LacksNothing left old e told is long
 unread Arrange gain left old e told is long = script_unread Arranges ScriptRefuses left old e told is long
 unread (ArrangeMeasured limit) gain left old e told is long = script_unread (ArrangesBest limit gain) ScriptRefuses left old e told is long
-unread (Trace limit) gain left old e told is long = script_unread (Traces limit) ScriptRefuses left old e told is long
+unread (Trace limit) gain left old e told is long = script_unread (WritesTrace limit) TraceRefuses left old e told is long
 unread (Waits limit) gain left old e told is long = script_unread (TellsWaits limit) ScriptRefuses left old e told is long
 unread (Blocks limit) gain left old e told is long = script_unread (TellsBlocks limit) ScriptRefuses left old e told is long
 unread (Gantt limit) gain left old e told is long = script_unread (DrawsRun limit) ScriptRefuses left old e told is long

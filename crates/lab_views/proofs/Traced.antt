@@ -1,5 +1,5 @@
 -- What is written for an input whose run was traced, and what run that is.
-use Rattle.std.proofs.Common.{◌≡◌, ℕ, zero, suc, ◌+◌, ◌<◌, ◌≤◌, List, [], ◌∷◌, ◌++◌, length, map, take, refl, sym, ap, ◌∙◌, subst, arith}
+use Rattle.std.proofs.Common.{◌≡◌, ℕ, zero, suc, ◌+◌, ◌<◌, ◌≤◌, slice_index_or, List, [], ◌∷◌, ◌++◌, length, map, drop, refl, sym, ap, ◌∙◌, subst, arith}
 use Rattle.std.specs.Prelude.{Some, slice_get}
 use Rattle.std.specs.List.{AllByRecursion}
 use Rattle.std.proofs.lemmas.List.Folds.{flat_map-map}
@@ -13,14 +13,14 @@ use Rattle.report.specs.Events.{report_after}
 use Rattle.rounds.specs.OneRun.{RanRounds, OneRun}
 use Rattle.rounds.specs.FromOpening.{fresh_players}
 use Rattle.round_trace.specs.StepsOf.{StepsGiveEvents}
-use Rattle.round_trace.specs.Traces.{IsRunByRounds}
+use Rattle.round_trace.specs.Traces.{IsRunByRounds, GoesOnByRounds}
 use Rattle.lab_plan.specs.IsPlan.{IsPlan}
 use Rattle.legal_steps.specs.declared.event.Step.{Step}
 use Rattle.legal_steps.specs.declared.event.Event.TheVariants.{Look, AskFork, GiveFork, Soil, AskBottles, GiveBottles, Thirst, Hunger, Sit, Leave, Drink, Reach, Act, Quit, Retire, Glance, Withdraw}
 use Rattle.legal_steps.specs.declared.event.StepLine.{StepLine}
 use Rattle.legal_steps.specs.State.{State}
 use Rattle.legal_steps.specs.Legal.{May, after}
-use Rattle.legal_steps.specs.Steps.{step_events}
+use Rattle.legal_steps.specs.Steps.{step_events, event_of}
 use Rattle.legal_steps.specs.Run.{IsLegalFrom, StopsAt, after_all}
 use Rattle.script_reader.specs.Laws.{HasOneList, HasListOrFault}
 use Rattle.script_reader.specs.Steps.{StepsMean}
@@ -28,11 +28,13 @@ use Rattle.round_trace.specs.StepsOf.{step_of}
 use Rattle.report.specs.Events.{retired_after}
 use Rattle.lab_program.specs.declared.faults.Outcome.{Outcome}
 use Rattle.lab_program.specs.Reports.{outcome_of}
-use Rattle.lab_runs.specs.Replays.{run_of}
+use Rattle.lab_runs.specs.Replays.{run_of, HasIllegalStep}
 use Rattle.written_steps.specs.ReadBack.{IsNameable}
 use Rattle.written_steps.specs.StepLists.{script_head, step_line, steps_behind, lines_from_here}
 use Rattle.written_steps.proofs.ListsBack.{list_read_back}
-use Rattle.lab_views.specs.Traces.{trace_text, is_replayable, Traces, TracesTheRun, TraceIsReplayed}
+use Rattle.round_trace.proofs.InHand.{never_stops}
+use Rattle.round_trace.proofs.Taken.{begins_with, as_many, legal_behind}
+use Rattle.lab_views.specs.Traces.{trace_text, further_text, events_behind, is_replayable, Traces, TracesFurther, TracesTheRun, TraceIsReplayed}
 
 -- ---- the text is read back
 
@@ -109,23 +111,6 @@ steps_here : (n : ℕ) (steps : List Step) → map (λ (line : StepLine). line.s
 steps_here n [] = refl
 steps_here n (step ∷ steps) = ap (λ l. step ∷ l) (steps_here (n + 1) steps)
 
--- an event of a legal list is legal where it stands
-legal_at : (plan : LabPlan) (s : State) (events : List Event) (place : ℕ) (event : Event) → IsLegalFrom plan s events → slice_get events place ≡ Some event
-    → May plan (after_all plan s (take place events)) event
-legal_at plan s [] place event legal there = cc
-legal_at plan s (x ∷ events) zero event legal there = let is : x ≡ event = cc in subst (May plan s) is legal.0
-legal_at plan s (x ∷ events) (suc place) event legal there = legal_at plan (after plan s x) events place event legal.1 there
-
-inside : {A : Type 0} (xs : List A) (k : ℕ) → k < length xs → (x : A) × (slice_get xs k ≡ Some x)
-inside [] k less = absurd (omega (arith, less))
-inside (x ∷ xs) zero less = (x, refl)
-inside (x ∷ xs) (suc k) less = inside xs k (omega (arith, less))
-
-never_stops : (plan : LabPlan) (s s' : State) (events : List Event) (place : ℕ) → IsLegalFrom plan s events → StopsAt plan s events place s' → ⊥
-never_stops plan s s' events place legal stops =
-    let there = inside events place stops.inside in
-    stops.not_legal there.0 there.1 (subst (λ z. May plan z there.0) (sym stops.before.leads) (legal_at plan s events place there.0 legal there.1))
-
 pub trace_is_replayed : HasOneList → HasListOrFault → TracesTheRun → TraceIsReplayed
 trace_is_replayed one_list either shows limit input text report outcome ended t few r =
     let run = shows limit input text report outcome ended t r in
@@ -148,3 +133,62 @@ trace_is_replayed one_list either shows limit input text report outcome ended t 
           (subst (λ (p : LabPlan × List Event). StopsAt p.0 (the_opening p.0) p.1 bad.stops.place bad.stops.state) (λ i. (same.0 i, whole i)) bad.stops.stops);
       no_fault = λ number cause. either text q steps number cause means;
     }
+
+-- ---- a step that isn't legal
+
+pub run_length : (plan : LabPlan) (s : State) (lines : List StepLine)
+    → length (step_events plan s (map (λ (line : StepLine). line.step) lines)) ≡ length lines
+run_length plan s [] = refl
+run_length plan s (line ∷ lines) = ap suc (run_length plan (after plan s (event_of s line.step)) lines)
+
+line_at : (lines : List StepLine) (n : ℕ) (x : StepLine) → n < length lines → x ≡ slice_index_or lines n x
+    → slice_get (map (λ (line : StepLine). line.line) lines) n ≡ Some x.line
+line_at [] n x inside is = absurd (omega arith)
+line_at (y ∷ lines) zero x inside is = ap (λ (z : StepLine). Some z.line) (sym is)
+line_at (y ∷ lines) (suc n) x inside is = line_at lines n x (omega arith) is
+
+pub not_legal_at : (input : List ℕ) (plan : LabPlan) (steps : List StepLine) (place : ℕ) (s : State) (x : StepLine) → StepsMean input plan steps
+    → StopsAt plan (the_opening plan) (run_of plan steps) place s → x ≡ slice_index_or steps place x → HasIllegalStep input x.line
+not_legal_at input plan steps place s x means stops is =
+    let inside = stops.inside in
+    let count = run_length plan (the_opening plan) steps in
+    record {
+      plan = plan;
+      steps = steps;
+      means = means;
+      stops = record { place = place; state = s; stops = stops; at_line = line_at steps place x (omega (arith, inside, count)) is };
+    }
+
+-- ---- what is written behind steps
+
+module _ (plan : LabPlan) (limit : ℕ) (steps : List StepLine) (history : List Event)
+    (run : GoesOnByRounds plan limit (map (λ (line : StepLine). line.step) steps) history) where
+  count : length (map (λ (line : StepLine). line.step) steps) ≡ length steps
+  count = length-map steps (λ (line : StepLine). line.step)
+
+  pub begins : history ≡ run_of plan steps ++ events_behind steps history
+  begins = subst (λ n. history ≡ run_of plan steps ++ drop n history) count
+      (begins_with plan limit (map (λ (line : StepLine). line.step) steps) history run)
+
+  pub fits : length steps ≤ length history
+  fits = let n = as_many plan limit (map (λ (line : StepLine). line.step) steps) history run in omega (arith, n, count)
+
+  -- what came further is legal behind them
+  pub legal_further : IsLegalFrom plan (after_all plan (the_opening plan) (run_of plan steps)) (events_behind steps history)
+  legal_further = subst (λ n. IsLegalFrom plan (after_all plan (the_opening plan) (run_of plan steps)) (drop n history)) count
+      (legal_behind plan limit (map (λ (line : StepLine). line.step) steps) history run)
+
+  pub further : (input sent : List ℕ) (outcome : Outcome) → StepsMean input plan steps → ((other : LabPlan) → ¬ ScriptMeans input other)
+      → sent ≡ further_text plan input (events_behind steps history) → outcome ≡ outcome_of (is_replayable history sent)
+      → TracesFurther limit input sent outcome
+  further input sent outcome means has_steps written ends = record {
+    plan = plan;
+    steps = steps;
+    means = means;
+    has_steps = has_steps;
+    history = history;
+    run = run;
+    begins = begins;
+    written = written;
+    ends = ends;
+  }

@@ -31,7 +31,7 @@ use Rattle.lab_views.specs.Pictures.{DrawsFor, PictureAnswers, failed_picture_re
 use Rattle.lab_views.specs.Tables.{TabulatesFor, TableAnswers}
 use Rattle.lab_views.specs.Arranged.{Arranges, ArrangeAnswers}
 use Rattle.lab_views.specs.BestOrders.{ArrangesBest, ArrangesBestAnswers}
-use Rattle.lab_views.specs.Traces.{Traces, TraceAnswers}
+use Rattle.lab_views.specs.Traces.{WritesTrace, TraceRefuses, TraceAnswers}
 use Rattle.lab_views.specs.Waits.{TellsWaits, WaitsAnswers}
 use Rattle.lab_views.specs.Blocks.{TellsBlocks, BlocksAnswers}
 use Rattle.lab_views.specs.Gantts.{DrawsRun, GanttAnswers}
@@ -76,7 +76,7 @@ ViewAnswersFor Table told input old new result = ForReport (λ a. TabulatesFor i
 ViewAnswersFor Arrange told input old new result = ForScript (λ a. AnswersFor Arranges ScriptRefuses input old new a) (IsReport input) result
 ViewAnswersFor (ArrangeMeasured limit) told input old new result =
     ForScript (λ a. AnswersFor (ArrangesBest limit told) ScriptRefuses input old new a) (IsReport input) result
-ViewAnswersFor (Trace limit) told input old new result = ForScript (λ a. AnswersFor (Traces limit) ScriptRefuses input old new a) (IsReport input) result
+ViewAnswersFor (Trace limit) told input old new result = ForScript (λ a. AnswersFor (WritesTrace limit) TraceRefuses input old new a) (IsReport input) result
 ViewAnswersFor (Waits limit) told input old new result = ForScript (λ a. AnswersFor (TellsWaits limit) ScriptRefuses input old new a) (IsReport input) result
 ViewAnswersFor (Blocks limit) told input old new result = ForScript (λ a. AnswersFor (TellsBlocks limit) ScriptRefuses input old new a) (IsReport input) result
 ViewAnswersFor (Gantt limit) told input old new result = ForScript (λ a. AnswersFor (DrawsRun limit) ScriptRefuses input old new a) (IsReport input) result

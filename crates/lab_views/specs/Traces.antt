@@ -1,22 +1,25 @@
--- For readers: what `trace N` writes for a script: the script with the steps of its run by rounds.
-use Rattle.std.specs.Prelude.{◌≡◌, ◌≤◌, ℕ, Bool, ◌&&◌, nat_le, List, ◌++◌, length, Option, Result, map}
+-- For readers: what `trace N` writes for a script: the script with the steps of its run by rounds. A script that has steps goes on from there.
+use Rattle.std.specs.Prelude.{◌≡◌, ◌≢◌, ◌≤◌, ◌⊎◌, ℕ, Bool, ◌&&◌, nat_le, List, ◌++◌, length, drop, Option, Result, map}
 use Rattle.std.specs.List.{flat_map}
 use Rattle.lab_plan.specs.LabPlan.{LabPlan}
 use Rattle.legal_steps.specs.declared.event.Event.{Event}
+use Rattle.legal_steps.specs.declared.event.StepLine.{StepLine}
 use Rattle.legal_steps.specs.Steps.{step_events}
 use Rattle.legal_steps.specs.Opening.{the_opening}
 use Rattle.script_reader.specs.declared.fault.ScriptCause.{ScriptCause}
-use Rattle.script_reader.specs.Script.{ScriptMeans}
-use Rattle.script_reader.specs.Steps.{StepsMean, StepsFault}
-use Rattle.written_steps.specs.StepLists.{script_head, step_line, steps_behind}
+use Rattle.script_reader.specs.declared.fault.ScriptCause.TheVariants.{UnknownWord}
+use Rattle.script_reader.specs.Script.{text_lines, ScriptMeans, Refuses}
+use Rattle.script_reader.specs.Steps.{StepsMean, StepsFault, StepsRefuse}
+use Rattle.written_steps.specs.StepLists.{script_head, lacking_end, step_line, steps_behind}
 use Rattle.report.specs.Events.{report_after, retired_after}
 use Rattle.round_trace.specs.StepsOf.{step_of}
-use Rattle.round_trace.specs.Traces.{IsRunByRounds}
+use Rattle.round_trace.specs.Traces.{IsRunByRounds, GoesOnByRounds}
 use Rattle.lab_program.specs.declared.faults.RunFault.{RunFault}
+use Rattle.lab_program.specs.declared.faults.RunFault.TheVariants.{Script, Step}
 use Rattle.lab_program.specs.declared.faults.Outcome.{Outcome}
-use Rattle.lab_program.specs.Answers.{ScriptRefuses, AnswersTo}
+use Rattle.lab_program.specs.Answers.{AnswersTo}
 use Rattle.lab_program.specs.Reports.{outcome_of}
-use Rattle.lab_runs.specs.Replays.{ReplaysScript, HasIllegalStep}
+use Rattle.lab_runs.specs.Replays.{run_of, ReplaysScript, HasIllegalStep}
 use Rattle.lab_runs.specs.Shared.{RunsInRounds}
 
 -- the step of each event, on a line of its own
@@ -41,8 +44,42 @@ pub record Traces (limit : ℕ) (input text : List ℕ) (outcome : Outcome) : Ty
   pub read_back : length history ≤ 1000000 → StepsMean text plan (steps_behind input (map step_of history))
   pub ends : outcome ≡ outcome_of (is_replayable history text)
 
+-- ---- a script with steps goes on
+
+-- the input, its last line ended, and further steps
+unfoldable pub further_text : LabPlan → List ℕ → List Event → List ℕ
+further_text plan input events = (input ++ lacking_end input) ++ step_lines plan events
+
+-- the events behind those of the steps
+abbrev pub events_behind : List StepLine → List Event → List Event
+events_behind steps history = drop (length steps) history
+
+-- The input is a script with a line `steps`, and all its steps are legal. The history is that of the steps, of the acts of the commands that are in hand
+-- then, and of at most this many rounds. The text is the input with the steps of what came further; it is Finished if a replay reads so much, otherwise
+-- Unfinished
+pub record TracesFurther (limit : ℕ) (input text : List ℕ) (outcome : Outcome) : Type 0 where
+  pub plan : LabPlan
+  pub steps : List StepLine
+  pub means : StepsMean input plan steps
+  pub has_steps : (other : LabPlan) → ¬ ScriptMeans input other
+  pub history : List Event
+  pub run : GoesOnByRounds plan limit (map (λ line. line.step) steps) history
+  pub begins : history ≡ run_of plan steps ++ events_behind steps history
+  pub written : text ≡ further_text plan input (events_behind steps history)
+  pub ends : outcome ≡ outcome_of (is_replayable history text)
+
+-- a script alone is traced from the initial state on, one with steps from where they lead
+abbrev pub WritesTrace : ℕ → List ℕ → List ℕ → Outcome → Type 0
+WritesTrace limit input text outcome = Traces limit input text outcome ⊎ TracesFurther limit input text outcome
+
+-- The fault is that of the script; or of its steps, if it has a line `steps`; or the step of this line is the first that isn't legal
+abbrev pub TraceRefuses : List ℕ → RunFault → Type 0
+TraceRefuses input (Script fault) = (Refuses (text_lines input) fault × (fault.cause ≢ UnknownWord)) ⊎ StepsRefuse input fault
+TraceRefuses input (Step line) = HasIllegalStep input line
+TraceRefuses input _ = ⊥
+
 abbrev pub TraceAnswers : ℕ → Option (List ℕ) → Option (List ℕ) → Option (List ℕ) → Result Outcome RunFault → Type 0
-TraceAnswers limit left old new result = AnswersTo (Traces limit) ScriptRefuses left old new result
+TraceAnswers limit left old new result = AnswersTo (WritesTrace limit) TraceRefuses left old new result
 
 -- ---- the trace's run is that of `labrun rounds N`
 

@@ -5,4 +5,6 @@ pub mod Visiting
 pub mod Alike
 pub mod OneTurn
 pub mod Played
+pub mod InHand
+pub mod Taken
 pub mod StepLaws

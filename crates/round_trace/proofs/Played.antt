@@ -1,8 +1,8 @@
 -- Rounds of all jobs, and why they end.
-use Rattle.std.proofs.Common.{◌≡◌, ◌↔◌, ℕ, zero, suc, ◌+◌, ◌<◌, ◌≤◌, Bool, true, false, List, [], ◌∷◌, ◌++◌, length, get_or, set, take, drop, refl, sym, ap, ◌∙◌, subst, arith, length-set, ◌&&◌}
+use Rattle.std.proofs.Common.{◌≡◌, ◌↔◌, ℕ, zero, suc, ◌+◌, ◌<◌, ◌≤◌, Bool, true, false, List, [], ◌∷◌, ◌++◌, length, get_or, set, take, drop, refl, sym, ap, ◌∙◌, subst, arith, length-set, ◌&&◌, inl, inr, add-one}
 use Rattle.lab_plan.specs.LabPlan.{LabPlan}
 use Rattle.legal_steps.specs.declared.event.Event.{Event}
-use Rattle.legal_steps.specs.declared.phase.Drinking.TheVariants.{Retired}
+use Rattle.legal_steps.specs.declared.phase.Drinking.TheVariants.{Tranquil, Reaching, Retired}
 use Rattle.legal_steps.specs.State.{State, drinking}
 use Rattle.legal_steps.specs.Legal.{IsJob}
 use Rattle.interleaving.specs.World.{WorldView}
@@ -13,14 +13,18 @@ use Rattle.turns.proofs.Runs.{each-append}
 use Rattle.session_layer.specs.declared.turning.Turned.{Turned}
 use Rattle.rounds.specs.Rounds as rounds
 use Rattle.turns.specs.AtTheEnd.{AllRetired}
-use Rattle.rounds.specs.Rounds.{Plays, Round, Rounds, is_idle, no_player}
+use Rattle.rounds.specs.Rounds.{Plays, Round, Rounds, IsOver, is_idle, no_player}
 use Rattle.rounds.proofs.Lists.{take_set, drop_set, get_set, take_snoc, drop_next, get_same}
 use Rattle.rounds.proofs.Snoc.{round-snoc}
-use Rattle.rounds.specs.QuietEnd.{jobs_in}
+use Rattle.rounds.specs.QuietEnd.{jobs_in, NoneReaches}
 use Rattle.rounds.specs.FromOpening.{fresh_players}
 use Rattle.rounds.specs.OneRun.{RanRounds, why_ended}
 use Rattle.rounds.proofs.InRounds.{rounds_jobs}
-use Rattle.rounds.proofs.Going.{not_over}
+use Rattle.rounds.proofs.Opened.{all_players, players_once}
+use Rattle.rounds.proofs.QuietEnd.{no_quiet_end_from_rest}
+use Rattle.legal_steps.specs.Opening.{the_opening}
+use Rattle.legal_steps.proofs.LogRun.{opening_phase}
+use Rattle.legal_steps.proofs.ReachedLaws.{the_opening_is_acyclic}
 use Rattle.round_trace.specs.declared.player.Player.{Player}
 use Rattle.round_trace.specs.Players.{player_of, players_of, StandsAt, AreJobs}
 
@@ -102,34 +106,50 @@ of_jobs : (top : ℕ) (players : List rounds.Player) → Each (λ (j : ℕ). j <
 of_jobs top [] each = tt
 of_jobs top (x ∷ players) each = (each.0, of_jobs top players each.1)
 
-module _ (plan : LabPlan) where
+module _ (plan : LabPlan) (begun : List Event) where
   abbrev all : List rounds.Player
   all = fresh_players (length plan.jobs)
 
-  module _ (players : List rounds.Player) (n : ℕ) (idle : Bool) (h : List Event) (rounds_were : Rounds plan all n idle [] h players) where
+  module _ (players : List rounds.Player) (n : ℕ) (idle : Bool) (h : List Event) (rounds_were : Rounds plan all n idle begun h players) where
     pub are_jobs : AreJobs plan players
     are_jobs = of_jobs (length plan.jobs) players (subst (Each (λ (j : ℕ). j < length plan.jobs)) (sym
-        (rounds_jobs plan all players n idle [] h rounds_were)) (to_jobs (length plan.jobs) all (fresh_jobs (length plan.jobs) (length plan.jobs)
+        (rounds_jobs plan all players n idle begun h rounds_were)) (to_jobs (length plan.jobs) all (fresh_jobs (length plan.jobs) (length plan.jobs)
         (omega arith))))
 
-    pub ran : (limit : ℕ) (retired : Bool) → IsHistory plan h → n ≤ limit → (retired ≡ true) ↔ AllRetired plan h → (retired ≡ false → n ≡ limit) →
-        (m : ℕ) × RanRounds plan limit all [] (why_ended retired) m h
-    ran limit true legal most test end =
-        (n, record { idle = idle; players_then = players; legal = legal; rounds = rounds_were; most = most; why = test.0 refl })
-    ran limit false legal most test end = (
-      n,
-      record {
-        idle = idle;
-        players_then = players;
-        legal = legal;
-        rounds = rounds_were;
-        most = most;
-        why =
-            (not_over plan players n idle h rounds_were legal (λ r. absurd (cannot (test.1 r))), end refl);
-      },
-    ) where
-      cannot : false ≡ true → ⊥
-      cannot is = cc
+    module _ (rests : NoneReaches plan begun) (legal : IsHistory plan h) where
+      -- as long as a job isn't retired
+      not_over : ¬ AllRetired plan h → ¬ IsOver plan idle h
+      not_over other (inl retired) = other retired
+      not_over other (inr quiet) = other (no_quiet_end_from_rest plan all players n begun h (all_players plan) (players_once plan) rests legal
+          (subst (λ b. Rounds plan all n b begun h players) quiet.0 rounds_were) quiet.1)
+
+      pub round_more : (players' : List rounds.Player) (idle' : Bool) (g : List Event) → ¬ AllRetired plan h → Round plan players idle' h g players'
+          → Rounds plan all (n + 1) idle' begun g players'
+      round_more players' idle' g other round = subst (λ m. Rounds plan all m idle' begun g players') (sym (add-one n))
+          (h, idle, players, rounds_were, not_over other, round)
+
+      pub ran : (limit : ℕ) (retired : Bool) → n ≤ limit → (retired ≡ true) ↔ AllRetired plan h → (retired ≡ false → n ≡ limit) →
+          (m : ℕ) × RanRounds plan limit all begun (why_ended retired) m h
+      ran limit true most test end =
+          (n, record { idle = idle; players_then = players; legal = legal; rounds = rounds_were; most = most; why = test.0 refl })
+      ran limit false most test end = (
+        n,
+        record {
+          idle = idle;
+          players_then = players;
+          legal = legal;
+          rounds = rounds_were;
+          most = most;
+          why = (not_over (λ r. absurd (cannot (test.1 r))), end refl);
+        },
+      ) where
+        cannot : false ≡ true → ⊥
+        cannot is = cc
+
+-- no job reaches at the start
+pub none_at_start : (plan : LabPlan) → NoneReaches plan []
+none_at_start plan j job e = let begins : Tranquil ≡ Reaching = sym (ap (λ x. x.drinking)
+    (opening_phase plan (the_opening plan) j (the_opening_is_acyclic plan).0)) ∙ e in cc
 
 -- the test of a world is that of its history
 pub retired_in : (plan : LabPlan) (w : WorldView) (h : List Event) (b : Bool) → StandsAt w h → w.plan ≡ plan → (b ≡ true) ↔ ((j : ℕ) →

@@ -2,7 +2,9 @@
 use Rattle.std.specs.Prelude.{◌≡◌, ◌↔◌, ℕ, Bool, true, not, ◌==◌, List, [], ◌∷◌, ◌++◌, map, Option, None, Some}
 use Rattle.legal_steps.specs.declared.event.Event.{Event}
 use Rattle.legal_steps.specs.Legal.{May}
-use Rattle.legal_steps.specs.Run.{Runs}
+use Rattle.legal_steps.specs.Run.{Runs, StopsAt}
+use Rattle.legal_steps.specs.Steps.{step_events}
+use Rattle.legal_steps.specs.declared.event.StepLine.{StepLine}
 use Rattle.interleaving.specs.World.{WorldView}
 use Rattle.edge_word.specs.Moves.{on}
 use Rattle.turns.specs.Due.{after_if, IsGreatest}
@@ -49,3 +51,8 @@ pub record ActsDue (old : WorldView) (before : List Event) (j waited : ℕ) (new
   pub acts : List Event
   pub due : AreActs old.plan old.state j waited acts
   pub does : Does old before acts new after
+
+-- the steps were done one after another, from no events on; or the one at this place is the first that isn't legal
+abbrev pub TakesAll : WorldView → List StepLine → WorldView → List Event → Option ℕ → Type 0
+TakesAll old lines new after None = Does old [] (step_events old.plan old.state (map (λ line. line.step) lines)) new after
+TakesAll old lines new after (Some place) = StopsAt old.plan old.state (step_events old.plan old.state (map (λ line. line.step) lines)) place new.state

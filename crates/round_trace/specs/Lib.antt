@@ -1,4 +1,5 @@
 pub mod Doing
+pub mod InHand
 pub mod Players
 pub mod Traces
 pub mod StepsOf

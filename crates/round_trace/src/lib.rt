@@ -6,6 +6,8 @@
 mod acts;
 mod bottles;
 mod edges;
+mod going_on;
+mod in_hand;
 pub mod laws;
 mod player;
 mod running;
@@ -14,5 +16,7 @@ mod trying;
 mod turning;
 
 pub use acts::first_act;
+pub use going_on::{NotTraced, trace_on};
+pub use in_hand::acts_in_hand;
 pub use running::trace;
 pub use steps::step_of;

@@ -1,8 +1,9 @@
 //! Rounds one after another, until all jobs are retired, or the limit is there.
-ghost use Rattle.std.specs.Prelude.{◌≡◌, ◌<◌, ◌↔◌, ℕ, [], IsTrue, IfOk, length};
+ghost use Rattle.std.specs.Prelude.{◌≡◌, ◌<◌, ◌↔◌, ℕ, IsTrue, IfOk, length};
 ghost use Rattle.legal_steps.specs.declared.phase.Drinking.TheVariants.{Retired};
 ghost use Rattle.legal_steps.specs.State.{drinking};
 ghost use Rattle.rounds.specs.FromOpening.{fresh_players};
+ghost use Rattle.rounds.specs.QuietEnd.{NoneReaches};
 ghost use Rattle.round_trace.specs.Players.{players_of, StandsAt};
 ghost use Rattle.round_trace.specs.Traces.{Plays, IsRunByRounds};
 
@@ -26,7 +27,7 @@ fn all_retired<A: Allocator>(world: &World<A>) -> bool
 }
 
 /// The players of all jobs, in their order.
-fn all_players<A: Allocator, B: Allocator>(
+pub(crate) fn all_players<A: Allocator, B: Allocator>(
     alloc: A,
     plan: &Plan<B>,
 ) -> Result<Vec<Player, A>, AllocError>
@@ -39,8 +40,8 @@ fn all_players<A: Allocator, B: Allocator>(
     Ok(players)
 }
 
-/// Rounds, at most this many. Answers whether all jobs are retired then.
-fn play<A: Allocator>(
+/// Rounds, at most this many, behind what was done before. Answers whether all jobs are retired then.
+pub(crate) fn play<A: Allocator>(
     world: &mut World<A>,
     events: &mut Vec<Event, A>,
     players: &mut [Player],
@@ -48,8 +49,8 @@ fn play<A: Allocator>(
 ) -> Result<bool, AllocError>
     requires fresh { players_of players.old ≡ fresh_players (length world.old.plan.jobs) }
     requires stands { StandsAt world.old events.old.items }
-    requires first { events.old.items ≡ [] }
-    ensures { IfOk result (λ retired. Plays world.old.plan limit retired events.new.items) }
+    requires rests { NoneReaches world.old.plan events.old.items }
+    ensures { IfOk result (λ retired. Plays world.old.plan limit retired events.old.items events.new.items) }
 {
     for _number in 0..limit {
         if all_retired(world) {

@@ -4,7 +4,7 @@ use lab_runs::{run_replay, run_rounds};
 use lab_views::run_trace;
 use report::ToWrite;
 use script_reader::{ScriptCause, ScriptFault};
-use std::alloc::Global;
+use std::alloc::{AllocError, Global};
 use std::test::Fail;
 
 pub(crate) fn traced(
@@ -95,14 +95,74 @@ fn no_rounds_no_steps(rt: HostRuntime) {
     );
 }
 
+/// The same script with this behind it.
+fn shared_with(alloc: Global, behind: &str) -> Result<String, AllocError> {
+    let mut text = String::new(alloc);
+    text.push_str(SHARED)?;
+    text.push_str(behind)?;
+    Ok(text)
+}
+
 #[test]
-fn steps_are_refused(rt: HostRuntime) {
-    let (text, answer) = traced(rt.alloc(), b"lab 1\nsteps\n", 1);
-    let unknown = ScriptFault {
-        line: 2,
-        cause: ScriptCause::UnknownWord,
-    };
-    assert!(rt; answer == Err(RunFault::Script(unknown)) && text.is_empty());
+fn a_run_goes_on(rt: HostRuntime) -> Result<(), Fail> {
+    let wanted = shared_with(rt.alloc(), STEPS)?;
+    for limit in 0..13 {
+        let (begun, _) = traced(rt.alloc(), SHARED.as_bytes(), limit);
+        let (text, answer) = traced(rt.alloc(), begun.as_slice(), 1000000000);
+        assert!(rt;
+            answer == Ok(Outcome::Finished) && text.as_slice() == wanted.as_bytes(),
+            "{limit}"
+        );
+    }
+    Ok(())
+}
+
+/// In the middle of a command and of a line: the act comes first, and each job then takes a turn.
+const REACHED: &str = "\nsteps\nthirst a\nlook a b\ndrink a\nreach a";
+
+const ACTED: &str = "\nsteps\nthirst a\nlook a b\ndrink a\nreach a
+act a
+look a b\nquit a
+look b a\nthirst b
+";
+
+#[test]
+fn a_command_in_hand_is_done(rt: HostRuntime) -> Result<(), Fail> {
+    let begun = shared_with(rt.alloc(), REACHED)?;
+    let wanted = shared_with(rt.alloc(), ACTED)?;
+    let (text, answer) = traced(rt.alloc(), begun.as_bytes(), 1);
+    assert!(rt; answer == Ok(Outcome::Finished) && text.as_slice() == wanted.as_bytes());
+    Ok(())
+}
+
+#[test]
+fn a_step_that_is_not_legal_is_refused(rt: HostRuntime) -> Result<(), Fail> {
+    let begun = shared_with(rt.alloc(), "\nsteps\nthirst a\nthirst a\n")?;
+    let (text, answer) = traced(rt.alloc(), begun.as_bytes(), 1);
+    assert!(rt; answer == Err(RunFault::Step { line: 13 }) && text.is_empty());
+    Ok(())
+}
+
+#[test]
+fn faults_before_and_behind_the_line_steps(rt: HostRuntime) {
+    let cases = [
+        (b"lab 1\njob A\nsteps\n".as_slice(), 2, ScriptCause::BadName),
+        (b"lab 1\njob a b\nsteps\n", 2, ScriptCause::UnknownWord),
+        (
+            b"lab 1\njob a\nsession\nsteps\n",
+            4,
+            ScriptCause::SessionNotClosed,
+        ),
+        (b"lab 1\njob a\nsteps\nlook a a\n", 4, ScriptCause::BadStep),
+    ];
+    for (input, line, cause) in cases {
+        let (text, answer) = traced(rt.alloc(), input, 1);
+        let wanted = ScriptFault { line, cause };
+        assert!(rt;
+            answer == Err(RunFault::Script(wanted)) && text.is_empty(),
+            "{cause:?}"
+        );
+    }
 }
 
 /// Three jobs, each of which shares an instrument with each other, and one that gives a session up.

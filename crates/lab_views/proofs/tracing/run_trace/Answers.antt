@@ -1,13 +1,12 @@
 use Rattle.std.proofs.Common.{arith, ap, Err}
 use Rattle.lab_program.specs.declared.reading.ReadFault.{ReadFault}
 use Rattle.lab_program.proofs.RunAnswers.{for_read, not_read, reads_of}
-use Rattle.lab_program.specs.Answers.{ScriptRefuses}
-use Rattle.lab_views.specs.Traces.{Traces}
+use Rattle.lab_views.specs.Traces.{WritesTrace, TraceRefuses}
 use Rattle.lab_views.proofs.tracing.run_trace.Goals as goal
 
 pub returns-in_err-input-clause-answer : goal.returns-in_err-input-clause-answer
 returns-in_err-input-clause-answer g c =
-    not_read (Traces c.args.limit) ScriptRefuses (g.R.Source.left c.args.source.now)
+    not_read (WritesTrace c.args.limit) TraceRefuses (g.R.Source.left c.args.source.now)
     (g.W.Sink.taken c.args.sink.now) c.in_err-input.field-0.0 c.from_residual.result c.from_residual.ensures.1
     (λ is. c.in_err-input.ensures.long (ap (λ (e : ReadFault). Err e) is))
 
@@ -19,6 +18,6 @@ returns-in_err-input-clause-reads g c =
 pub returns-clause-answer : goal.returns-clause-answer
 returns-clause-answer g c =
     let input = c.in_ok-input.input in
-    for_read (Traces c.args.limit) ScriptRefuses (g.R.Source.left c.args.source.now) (g.W.Sink.taken c.args.sink.now)
+    for_read (WritesTrace c.args.limit) TraceRefuses (g.R.Source.left c.args.source.now) (g.W.Sink.taken c.args.sink.now)
     (g.W.Sink.taken c.trace_input.new.sink) c.deref.result.now input.items c.trace_input.result
     c.deref.ensures.value c.in_ok-input.ensures.whole (omega (arith, input.ok.0, c.in_ok-input.ensures.limit)) c.trace_input.ensures.answer

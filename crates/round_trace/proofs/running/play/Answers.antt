@@ -5,14 +5,13 @@ use Rattle.turns.specs.History.{IsHistory}
 use Rattle.turns.specs.AtTheEnd.{AllRetired}
 use Rattle.rounds.specs.Rounds.{Round}
 use Rattle.round_trace.specs.Players.{players_of, AreJobs}
-use Rattle.rounds.proofs.Going.{round_more}
-use Rattle.round_trace.proofs.Played.{are_jobs, ran, retired_in}
+use Rattle.round_trace.proofs.Played.{are_jobs, round_more, ran, retired_in}
 use Rattle.round_trace.proofs.running.play.Goals as goal
 
 pub round-requires-clause-jobs : goal.round-requires-clause-jobs
 round-requires-clause-jobs g c =
     let inv = c.loop-number.invariant in
-    subst (λ (p : LabPlan). AreJobs p (players_of c.loop-number.players)) (sym inv.1) (are_jobs c.args.world.now.plan
+    subst (λ (p : LabPlan). AreJobs p (players_of c.loop-number.players)) (sym inv.1) (are_jobs c.args.world.now.plan c.args.events.now.items
     (players_of c.loop-number.players) c.loop-number._number inv.2.0 c.loop-number.events.items inv.2.1)
 
 pub loop-number-preserved : goal.loop-number-preserved
@@ -29,8 +28,8 @@ loop-number-preserved g c =
       t.plan ∙ inv.1,
       (
         t.plays.0,
-        round_more plan (players_of c.loop-number.players) c.loop-number._number inv.2.0 h inv.2.1
-            (players_of c.round.new.players) t.plays.0 c.round.new.events.items legal other played,
+        round_more plan c.args.events.now.items (players_of c.loop-number.players) c.loop-number._number inv.2.0 h inv.2.1 c.requires.rests legal
+            (players_of c.round.new.players) t.plays.0 c.round.new.events.items other played,
       ),
     )
 
@@ -41,7 +40,7 @@ returns-then-all_retired g c =
     let test : (c.all_retired.result ≡ true) ↔ AllRetired plan h = retired_in plan c.loop-number.world h c.all_retired.result inv.0 inv.1
     c.all_retired.ensures in
     let most : c.loop-number._number ≤ c.args.limit = let l = c.loop-number-test.true in omega (arith, l) in
-    ran plan (players_of c.loop-number.players) c.loop-number._number inv.2.0 h inv.2.1 c.args.limit true legal most
+    ran plan c.args.events.now.items (players_of c.loop-number.players) c.loop-number._number inv.2.0 h inv.2.1 c.requires.rests legal c.args.limit true most
     (λ yes. test.0 c.if-all_retired.true, λ retired. refl) (λ is. absurd (false≢true (sym is)))
 
 pub returns : goal.returns
@@ -51,5 +50,6 @@ returns g c =
     let test : (c.all_retired-2.result ≡ true) ↔ AllRetired plan h = retired_in plan c.loop-number.world h c.all_retired-2.result inv.0 inv.1
     c.all_retired-2.ensures in
     let end : c.loop-number._number ≡ c.args.limit = let l = c.loop-number-test.false in let m = c.loop-number.auto._number-end in omega (arith, l, m) in
-    ran plan (players_of c.loop-number.players) c.loop-number._number inv.2.0 h inv.2.1 c.args.limit c.all_retired-2.result legal (omega (arith, end)) test
+    ran plan c.args.events.now.items (players_of c.loop-number.players) c.loop-number._number inv.2.0 h inv.2.1 c.requires.rests legal c.args.limit
+    c.all_retired-2.result (omega (arith, end)) test
     (λ is. end)
