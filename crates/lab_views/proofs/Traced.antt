@@ -1,14 +1,16 @@
 -- What is written for an input whose run was traced, and what run that is.
-use Rattle.std.proofs.Common.{◌≡◌, ℕ, zero, suc, ◌+◌, ◌<◌, ◌≤◌, slice_index_or, List, [], ◌∷◌, ◌++◌, length, map, drop, refl, sym, ap, ◌∙◌, subst, arith}
-use Rattle.std.specs.Prelude.{Some, slice_get}
+use Rattle.std.proofs.Common.{◌≡◌, ℕ, suc, ◌+◌, ◌<◌, ◌≤◌, slice_index_or, List, [], ◌∷◌, ◌++◌, length, map, drop, refl, sym, ap, ◌∙◌, subst, inl, inr, arith}
+use Rattle.std.specs.Prelude.{Some}
 use Rattle.std.specs.List.{AllByRecursion}
 use Rattle.std.proofs.lemmas.List.Folds.{flat_map-map}
 use Rattle.std.proofs.lemmas.List.{length-map}
 use Rattle.lab_plan.specs.LabPlan.{LabPlan}
 use Rattle.legal_steps.specs.declared.event.Event.{Event}
 use Rattle.legal_steps.specs.Opening.{the_opening}
-use Rattle.script_reader.specs.Script.{ScriptMeans}
-use Rattle.script_reader.specs.Laws.{HasOnePlan}
+use Rattle.script_reader.specs.declared.fault.ScriptFault.{ScriptFault}
+use Rattle.script_reader.specs.declared.fault.ScriptCause.TheVariants.{UnknownWord, NoMemory}
+use Rattle.script_reader.specs.Script.{text_lines, ScriptMeans, Refuses}
+use Rattle.script_reader.specs.Laws.{HasOnePlan, HasPlanOrFault}
 use Rattle.report.specs.Events.{report_after}
 use Rattle.rounds.specs.OneRun.{RanRounds, OneRun}
 use Rattle.rounds.specs.FromOpening.{fresh_players}
@@ -29,6 +31,7 @@ use Rattle.report.specs.Events.{retired_after}
 use Rattle.lab_program.specs.declared.faults.Outcome.{Outcome}
 use Rattle.lab_program.specs.Reports.{outcome_of}
 use Rattle.lab_runs.specs.Replays.{run_of, HasIllegalStep}
+use Rattle.lab_runs.proofs.Replayed.{line_at}
 use Rattle.written_steps.specs.ReadBack.{IsNameable}
 use Rattle.written_steps.specs.StepLists.{script_head, step_line, steps_behind, lines_from_here}
 use Rattle.written_steps.proofs.ListsBack.{list_read_back}
@@ -136,28 +139,37 @@ trace_is_replayed one_list either shows limit input text report outcome ended t 
 
 -- ---- a step that isn't legal
 
-pub run_length : (plan : LabPlan) (s : State) (lines : List StepLine)
+run_length : (plan : LabPlan) (s : State) (lines : List StepLine)
     → length (step_events plan s (map (λ (line : StepLine). line.step) lines)) ≡ length lines
 run_length plan s [] = refl
 run_length plan s (line ∷ lines) = ap suc (run_length plan (after plan s (event_of s line.step)) lines)
 
-line_at : (lines : List StepLine) (n : ℕ) (x : StepLine) → n < length lines → x ≡ slice_index_or lines n x
-    → slice_get (map (λ (line : StepLine). line.line) lines) n ≡ Some x.line
-line_at [] n x inside is = absurd (omega arith)
-line_at (y ∷ lines) zero x inside is = ap (λ (z : StepLine). Some z.line) (sym is)
-line_at (y ∷ lines) (suc n) x inside is = line_at lines n x (omega arith) is
+pub inside : (plan : LabPlan) (steps : List StepLine) (place : ℕ) (s : State) → StopsAt plan (the_opening plan) (run_of plan steps) place s
+    → place < length steps
+inside plan steps place s stops = let n = run_length plan (the_opening plan) steps in omega (arith, stops.inside, n)
 
-pub not_legal_at : (input : List ℕ) (plan : LabPlan) (steps : List StepLine) (place : ℕ) (s : State) (x : StepLine) → StepsMean input plan steps
-    → StopsAt plan (the_opening plan) (run_of plan steps) place s → x ≡ slice_index_or steps place x → HasIllegalStep input x.line
-not_legal_at input plan steps place s x means stops is =
-    let inside = stops.inside in
-    let count = run_length plan (the_opening plan) steps in
-    record {
-      plan = plan;
-      steps = steps;
-      means = means;
-      stops = record { place = place; state = s; stops = stops; at_line = line_at steps place x (omega (arith, inside, count)) is };
-    }
+pub not_legal_at : (input : List ℕ) (plan : LabPlan) (steps : List StepLine) (place at : ℕ) (s : State) (x : StepLine)
+    → StepsMean input plan steps → StopsAt plan (the_opening plan) (run_of plan steps) place s → x ≡ slice_index_or steps at x → at ≡ place
+    → HasIllegalStep input x.line
+not_legal_at input plan steps place at s x means stops is same = record {
+  plan = plan;
+  steps = steps;
+  means = means;
+  stops = record {
+    place = place;
+    state = s;
+    stops = stops;
+    at_line = line_at steps place x (inside plan steps place s stops)
+        ∙ ap (λ (z : StepLine). Some z.line) (sym (is ∙ ap (λ n. slice_index_or steps n x) same));
+  };
+}
+
+-- ---- an input that is no script alone
+
+pub not_alone : HasPlanOrFault → (input : List ℕ) (fault : ScriptFault) → Refuses (text_lines input) fault → fault.cause ≡ UnknownWord
+    → (other : LabPlan) → ¬ ScriptMeans input other
+not_alone either input fault (inl none) word other means = let both : NoMemory ≡ UnknownWord = sym none.0 ∙ word in cc
+not_alone either input fault (inr is) word other means = either input other fault.line fault.cause means is
 
 -- ---- what is written behind steps
 
@@ -178,10 +190,11 @@ module _ (plan : LabPlan) (limit : ℕ) (steps : List StepLine) (history : List 
   legal_further = subst (λ n. IsLegalFrom plan (after_all plan (the_opening plan) (run_of plan steps)) (drop n history)) count
       (legal_behind plan limit (map (λ (line : StepLine). line.step) steps) history run)
 
-  pub further : (input sent : List ℕ) (outcome : Outcome) → StepsMean input plan steps → ((other : LabPlan) → ¬ ScriptMeans input other)
-      → sent ≡ further_text plan input (events_behind steps history) → outcome ≡ outcome_of (is_replayable history sent)
+  pub further : (input : List ℕ) (seen : List Event) (sent text : List ℕ) (judged : List Event) (weighed : List ℕ) (outcome : Outcome)
+      → StepsMean input plan steps → ((other : LabPlan) → ¬ ScriptMeans input other) → seen ≡ events_behind steps history → sent ≡ text
+      → text ≡ further_text plan input seen → judged ≡ history → weighed ≡ text → outcome ≡ outcome_of (is_replayable judged weighed)
       → TracesFurther limit input sent outcome
-  further input sent outcome means has_steps written ends = record {
+  further input seen sent text judged weighed outcome means has_steps behind whole written j w reckoned = record {
     plan = plan;
     steps = steps;
     means = means;
@@ -189,6 +202,11 @@ module _ (plan : LabPlan) (limit : ℕ) (steps : List StepLine) (history : List 
     history = history;
     run = run;
     begins = begins;
-    written = written;
-    ends = ends;
+    written = whole ∙ (written ∙ ap (further_text plan input) behind);
+    ends = reckoned ∙ (λ i. outcome_of (is_replayable (j i) ((w ∙ sym whole) i)));
   }
+
+-- the events behind them, as they were seen
+pub seen_behind : (steps seen given : List StepLine) (history events further : List Event) → further ≡ events_behind seen events → seen ≡ given
+    → steps ≡ given → events ≡ history → further ≡ events_behind steps history
+seen_behind steps seen given history events further is a b same = is ∙ (λ i. events_behind ((a ∙ sym b) i) (same i))

@@ -1,5 +1,5 @@
 //! The run of a script by rounds, as a script with its steps.
-ghost use Rattle.std.specs.Prelude.{◌≡◌, ◌++◌, ◌+◌, OnOk, IfOk};
+ghost use Rattle.std.specs.Prelude.{◌≡◌, ◌≤◌, ◌++◌, ◌+◌, length, OnOk, IfOk};
 ghost use Rattle.std.specs.List.{All};
 ghost use Rattle.std.specs.Io.BufRead.{ends_with_byte};
 ghost use Rattle.legal_steps.specs.Steps.{IsStepOf};
@@ -11,11 +11,11 @@ ghost use Rattle.script_reader.specs.Script.{ScriptMeans};
 ghost use Rattle.written_steps.specs.StepLists.{script_head, lacking_end, step_line};
 ghost use Rattle.round_trace.specs.StepsOf.{step_of};
 ghost use Rattle.lab_program.specs.Reports.{outcome_of};
-ghost use Rattle.lab_views.specs.Traces.{step_lines, trace_text, further_text, is_replayable, WritesTrace, TraceRefuses, TraceAnswers};
+ghost use Rattle.lab_views.specs.Traces.{step_lines, trace_text, further_text, events_behind, is_replayable, WritesTrace, TraceRefuses, TraceAnswers};
 
 use lab_plan::Plan;
 use lab_program::{INPUT_LIMIT, Outcome, RunFault, Source, read_input, send_text};
-use legal_steps::Event;
+use legal_steps::{Event, StepLine};
 use report::Sink;
 use round_trace::laws::steps_are_of_plan;
 use round_trace::{NotTraced, step_of, trace, trace_on};
@@ -107,6 +107,14 @@ fn text_of<A: Allocator, B: Allocator>(
     Ok(text)
 }
 
+/// The events behind those of the steps.
+fn behind<'a>(events: &'a [Event], steps: &[StepLine]) -> &'a [Event]
+    requires { length steps.now ≤ length events.now }
+    ensures { result.now ≡ events_behind steps.now events.now }
+{
+    &events[steps.len()..]
+}
+
 /// The whole text of an input that has steps: further ones stand behind them.
 #[tactic(auto, unfolding(crate::specs::Traces::further_text))]
 fn further_text_of<A: Allocator, B: Allocator>(
@@ -180,7 +188,8 @@ fn trace_further<A: Allocator + Copy, W: Sink>(
             return Err(RunFault::Step { line });
         }
     };
-    let text = further_text_of(alloc, &plan, input, &events[steps.len()..])?;
+    let further = behind(&events, &steps);
+    let text = further_text_of(alloc, &plan, input, further)?;
     let outcome = outcome_for(&events, &text);
     send_text(&text, sink)?;
     Ok(outcome)
