@@ -14,13 +14,6 @@ use Rattle.legal_steps.proofs.RunLemmas.{after_all_push, legal_push}
 use Rattle.turns.proofs.Frame.{as_many_seats, own_seat, other_seat}
 use Rattle.round_trace.specs.InHand.{act_of, acts_below, acts_in_hand, BringsToRest}
 
-pub act_of_none : (j : ℕ) (d : Drinking) → d ≢ Reaching → act_of j d ≡ []
-act_of_none j Reaching other = absurd (other refl)
-act_of_none j Tranquil other = refl
-act_of_none j Thirsty other = refl
-act_of_none j Drinks other = refl
-act_of_none j Retired other = refl
-
 module _ (plan : LabPlan) (s : State) (wide : length s.seats ≡ length plan.jobs) where
   -- after the acts of the jobs below n
   record Acted (acts : List Event) (n : ℕ) : Type 0 where

@@ -2,7 +2,7 @@
 use Rattle.std.proofs.Common.{◌≡◌, ◌↔◌, ℕ, zero, suc, ◌+◌, ◌<◌, ◌≤◌, Bool, true, false, List, [], ◌∷◌, ◌++◌, length, get_or, set, take, drop, refl, sym, ap, ◌∙◌, subst, arith, length-set, ◌&&◌, inl, inr, add-one}
 use Rattle.lab_plan.specs.LabPlan.{LabPlan}
 use Rattle.legal_steps.specs.declared.event.Event.{Event}
-use Rattle.legal_steps.specs.declared.phase.Drinking.TheVariants.{Tranquil, Reaching, Retired}
+use Rattle.legal_steps.specs.declared.phase.Drinking.TheVariants.{Retired}
 use Rattle.legal_steps.specs.State.{State, drinking}
 use Rattle.legal_steps.specs.Legal.{IsJob}
 use Rattle.interleaving.specs.World.{WorldView}
@@ -22,9 +22,6 @@ use Rattle.rounds.specs.OneRun.{RanRounds, why_ended}
 use Rattle.rounds.proofs.InRounds.{rounds_jobs}
 use Rattle.rounds.proofs.Opened.{all_players, players_once}
 use Rattle.rounds.proofs.QuietEnd.{no_quiet_end_from_rest}
-use Rattle.legal_steps.specs.Opening.{the_opening}
-use Rattle.legal_steps.proofs.LogRun.{opening_phase}
-use Rattle.legal_steps.proofs.ReachedLaws.{the_opening_is_acyclic}
 use Rattle.round_trace.specs.declared.player.Player.{Player}
 use Rattle.round_trace.specs.Players.{player_of, players_of, StandsAt, AreJobs}
 
@@ -145,11 +142,6 @@ module _ (plan : LabPlan) (begun : List Event) where
       ) where
         cannot : false ≡ true → ⊥
         cannot is = cc
-
--- no job reaches at the start
-pub none_at_start : (plan : LabPlan) → NoneReaches plan []
-none_at_start plan j job e = let begins : Tranquil ≡ Reaching = sym (ap (λ x. x.drinking)
-    (opening_phase plan (the_opening plan) j (the_opening_is_acyclic plan).0)) ∙ e in cc
 
 -- the test of a world is that of its history
 pub retired_in : (plan : LabPlan) (w : WorldView) (h : List Event) (b : Bool) → StandsAt w h → w.plan ≡ plan → (b ≡ true) ↔ ((j : ℕ) →

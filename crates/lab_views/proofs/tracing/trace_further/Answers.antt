@@ -64,16 +64,16 @@ further_text_of-requires g c =
     let events = c.in-Ok.events.items in
     subst (All (λ event. IsStepOf plan (step_of event)))
     (sym (seen_behind steps c.deref-3.result.now c.in_ok-plan.steps.items events c.deref-2.result.now c.behind-further.result.now
-        c.behind-further.ensures c.deref-3.ensures.value c.deref.ensures.value c.deref-2.ensures.value))
+    c.behind-further.ensures c.deref-3.ensures.value c.deref.ensures.value c.deref-2.ensures.value))
     (c.steps_are_of_plan.ensures plan (after_all plan (the_opening plan) (run_of plan steps)) (events_behind steps events)
-        (legal_further plan c.args.limit steps events c.in-Ok.ensures.goes_on))
+    (legal_further plan c.args.limit steps events c.in-Ok.ensures.goes_on))
 
 pub returns-clause-answer : goal.returns-clause-answer
 returns-clause-answer g c = (
   c.deref-6.result.now,
   inr (further c.in_ok-plan.plan c.args.limit c.in_ok-plan.steps.items c.in-Ok.events.items
       (subst (λ (l : List StepLine). GoesOnByRounds c.in_ok-plan.plan c.args.limit (map (λ (line : StepLine). line.step) l) c.in-Ok.events.items)
-          c.deref.ensures.value c.in-Ok.ensures.goes_on)
+      c.deref.ensures.value c.in-Ok.ensures.goes_on)
       c.args.input.now c.behind-further.result.now c.deref-6.result.now c.in_ok-text.text.items c.deref-4.result.now c.deref-5.result.now
       c.outcome_for-outcome.result c.in_ok-plan.ensures.meaning c.requires
       (c.behind-further.ensures ∙ (λ i. events_behind (c.deref-3.ensures.value i) (c.deref-2.ensures.value i)))
@@ -87,11 +87,11 @@ returns-in_err-send_text-clause-answer g c =
       c.deref-6.result.now,
       c.outcome_for-outcome.result,
       inr (further c.in_ok-plan.plan c.args.limit c.in_ok-plan.steps.items c.in-Ok.events.items
-      (subst (λ (l : List StepLine). GoesOnByRounds c.in_ok-plan.plan c.args.limit (map (λ (line : StepLine). line.step) l) c.in-Ok.events.items)
+          (subst (λ (l : List StepLine). GoesOnByRounds c.in_ok-plan.plan c.args.limit (map (λ (line : StepLine). line.step) l) c.in-Ok.events.items)
           c.deref.ensures.value c.in-Ok.ensures.goes_on)
-      c.args.input.now c.behind-further.result.now c.deref-6.result.now c.in_ok-text.text.items c.deref-4.result.now c.deref-5.result.now
-      c.outcome_for-outcome.result c.in_ok-plan.ensures.meaning c.requires
-      (c.behind-further.ensures ∙ (λ i. events_behind (c.deref-3.ensures.value i) (c.deref-2.ensures.value i)))
-      c.deref-6.ensures.value c.in_ok-text.ensures c.deref-4.ensures.value c.deref-5.ensures.value c.outcome_for-outcome.ensures),
+          c.args.input.now c.behind-further.result.now c.deref-6.result.now c.in_ok-text.text.items c.deref-4.result.now c.deref-5.result.now
+          c.outcome_for-outcome.result c.in_ok-plan.ensures.meaning c.requires
+          (c.behind-further.ensures ∙ (λ i. events_behind (c.deref-3.ensures.value i) (c.deref-2.ensures.value i)))
+          c.deref-6.ensures.value c.in_ok-text.ensures c.deref-4.ensures.value c.deref-5.ensures.value c.outcome_for-outcome.ensures),
       c.in_err-send_text.ensures.0,
     )
