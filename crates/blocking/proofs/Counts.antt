@@ -10,7 +10,8 @@ use Rattle.legal_steps.specs.Legal.{instrument_of}
 use Rattle.rounds.specs.Rounds.{known_in}
 use Rattle.waiting.specs.Rounds.{joined}
 use Rattle.blocking.specs.declared.places.Place.{Place}
-use Rattle.blocking.specs.Waiting.{waits_at, holds_in}
+use Rattle.waiting.specs.Holding.{holds_in}
+use Rattle.blocking.specs.Waiting.{waits_at}
 use Rattle.blocking.specs.Blocks.{history_after, rounds_where, is_blocked, is_held, block_of}
 use Rattle.blocking.specs.Watching.{AreHeld, set_at, holds_then, counted_if, block_then, blocks_then}
 

@@ -8,7 +8,7 @@ use Rattle.legal_steps.specs.declared.event.Event.{Event}
 use Rattle.legal_steps.specs.State.{phase}
 use Rattle.edge_rule.specs.DeskView.{DeskView, known}
 use Rattle.rounds.specs.Rounds.{known_in}
-use Rattle.blocking.specs.Waiting.{holds_in}
+use Rattle.waiting.specs.Holding.{holds_in}
 use Rattle.blocking.specs.Watching.{KnowsJob, KnowAll, set_at}
 
 -- the set is what job j holds

@@ -9,7 +9,8 @@ use Rattle.rounds.specs.Rounds.{known_in}
 use Rattle.block_lines.specs.declared.block.Block.{Block}
 use Rattle.waiting.specs.Rounds.{joined, AreRoundsOf}
 use Rattle.blocking.specs.declared.places.Place.{Place}
-use Rattle.blocking.specs.Waiting.{waits_at, holds_in}
+use Rattle.waiting.specs.Holding.{holds_in}
+use Rattle.blocking.specs.Waiting.{waits_at}
 
 -- ---- where a job may wait
 

@@ -1,29 +1,17 @@
--- For readers: what a job waits for, and what it holds.
+-- For readers: what a job waits for.
 use Rattle.std.specs.Prelude.{ℕ, Bool, true, false, ◌&&◌}
 use Rattle.lab_plan.specs.LabPlan.{LabPlan, session_names}
 use Rattle.legal_steps.specs.declared.end.End.{End}
 use Rattle.legal_steps.specs.declared.end.End.TheVariants.{Lower, Higher}
-use Rattle.legal_steps.specs.declared.phase.Drinking.{Drinking}
-use Rattle.legal_steps.specs.declared.phase.Drinking.TheVariants.{Drinking as Drinks, Reaching}
 use Rattle.legal_steps.specs.declared.phase.JobState.{JobState}
 use Rattle.legal_steps.specs.State.{State, edge, phase, end_of, bottle_end}
 use Rattle.legal_steps.specs.Legal.{instrument_of}
 use Rattle.turns.specs.Patience.{is_waiting}
 use Rattle.blocking.specs.declared.places.Place.{Place}
 
--- it drinks, or reaches while it does
-abbrev pub is_drinking : Drinking → Bool
-is_drinking Drinks = true
-is_drinking Reaching = true
-is_drinking _ = false
-
 -- a job in this phase is thirsty, and its session names the instrument
 abbrev pub waits_for : LabPlan → ℕ → JobState → ℕ → Bool
 waits_for plan j phase i = is_waiting phase.drinking && session_names plan j phase.session i
-
--- a job in this phase holds the instrument: it drinks, and its session names it
-abbrev pub holds_in : LabPlan → ℕ → JobState → ℕ → Bool
-holds_in plan j phase i = is_drinking phase.drinking && session_names plan j phase.session i
 
 -- one end is the other job's
 abbrev pub is_across : End → End → Bool

@@ -11,7 +11,8 @@ use Rattle.rounds.specs.Rounds.{known_in}
 use Rattle.block_lines.specs.declared.block.Block.{Block}
 use Rattle.blocking.specs.declared.counting.Wait.{Wait}
 use Rattle.blocking.specs.declared.places.Place.{Place}
-use Rattle.blocking.specs.Waiting.{waits_at, holds_in}
+use Rattle.waiting.specs.Holding.{holds_in}
+use Rattle.blocking.specs.Waiting.{waits_at}
 use Rattle.blocking.specs.Blocks.{place, IsBlockedRun}
 
 -- a bottle of one of the job's edges

@@ -9,12 +9,13 @@ ghost use Rattle.rounds.specs.Company.{first_front};
 ghost use Rattle.blocking.specs.Blocks.{block_of, places_on, places_of};
 ghost use Rattle.blocking.specs.Watching.{IsPlace, KnowAll, AreHeld, IsWait, held_across, counted_if, waited_then, rounds_then, each_from, counted_from};
 
-use crate::knowing::{has, held_by, instrument_at, next_in, waited_on};
+use crate::knowing::{has, instrument_at, next_in, waited_on};
 use crate::places::Place;
 use block_lines::Block;
 use edge_rule::Desk;
 use lab_plan::{EdgeNo, JobNo, Plan};
 use std::alloc::{AllocError, Allocator};
+use waiting::held_by;
 
 /// The bottles of an edge for which its job waits in a round, and what the neighbour holds then.
 #[derive(Clone, Copy, PartialEq, Eq, Debug)]

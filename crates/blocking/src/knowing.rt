@@ -1,4 +1,4 @@
-//! What a job waits for, and what it holds, by what its desk knows.
+//! What a job waits for, by what its desk knows.
 ghost use Rattle.std.specs.Prelude.{◌≡◌, ◌<◌, ◌≤◌, ◌==◌, ℕ, length, true};
 ghost use Rattle.std.specs.Int.{bit_at};
 ghost use Rattle.lab_plan.specs.LabPlan.{edges, bottles, sessions, session_names};
@@ -7,7 +7,6 @@ ghost use Rattle.legal_steps.specs.State.{IsOwn, phase as phase_at};
 ghost use Rattle.legal_steps.specs.Legal.{instrument_of};
 ghost use Rattle.turns.specs.Patience.{is_waiting};
 ghost use Rattle.edge_rule.specs.DeskView.{known};
-ghost use Rattle.blocking.specs.Waiting.{holds_in};
 ghost use Rattle.blocking.specs.Watching.{AreWaitedFor};
 
 use edge_rule::Desk;
@@ -22,29 +21,6 @@ pub(crate) fn has(set: u64, instrument: InstrumentNo) -> bool
     ensures { result ≡ holds set instrument }
 {
     set >> instrument.0 & 1 == 1
-}
-
-/// The instruments that a session of the job names.
-fn named<A: Allocator>(plan: &Plan<A>, job: JobNo, session: u32) -> u64
-    requires is_job { job < length plan.now.jobs }
-    requires begun { 1 ≤ session }
-    requires is_session { session ≤ length (sessions plan.now job) }
-    ensures { (i : ℕ) → holds result i ≡ session_names plan.now job session i }
-{
-    plan.needs(job, session)
-}
-
-/// The instruments that the desk's job holds: those of its session while it drinks, and else none.
-pub(crate) fn held_by<A: Allocator>(plan: &Plan<A>, desk: &Desk<A>) -> u64
-    requires { desk.now.plan ≡ plan.now }
-    ensures { (i : ℕ) → holds result i ≡ holds_in plan.now desk.now.job (phase_at (known desk.now) desk.now.job) i }
-{
-    let phase = desk.phase();
-    if phase.is_drinking() {
-        named(plan, desk.job(), phase.session)
-    } else {
-        0
-    }
 }
 
 /// The instrument of a bottle.

@@ -2,14 +2,13 @@
 ghost use Rattle.std.specs.Prelude.{◌≡◌, ◌+◌, IfOk};
 ghost use Rattle.blocking.specs.Keepers.{IsKeptOf};
 ghost use Rattle.round_picture.specs.Gantt.{gantt_of};
-ghost use Rattle.lab_program.specs.Input.{ConsumesUpTo};
 ghost use Rattle.lab_program.specs.Faults.{failed_reads, failed_writes};
 ghost use Rattle.lab_program.specs.Answers.{AnswersFor, ScriptRefuses};
-ghost use Rattle.lab_views.specs.Gantts.{DrawsRun, GanttAnswers};
+ghost use Rattle.lab_views.specs.Gantts.{DrawsRun};
 
 use blocking::{KeptRun, keepers_by_rounds};
 use lab_plan::Plan;
-use lab_program::{Outcome, RunFault, Source, read_input, send_text};
+use lab_program::{Outcome, RunFault, send_text};
 use report::Sink;
 use round_picture::add_gantt;
 use script_reader::read_plan;
@@ -29,7 +28,10 @@ fn text_of<A: Allocator>(
     Ok(text)
 }
 
-/// Draws the run of an input.
+/// Draws the run of a script over time: who waits when, for whom, and who holds instruments.
+///
+/// Memory grows with the sessions of the script and with the instruments that pairs of jobs have in common, not with the rounds. The
+/// outcome is Finished, whether or not all jobs are retired then.
 pub(crate) fn draw_run<A: Allocator + Copy, W: Sink>(
     alloc: A,
     input: &[u8],
@@ -45,25 +47,4 @@ pub(crate) fn draw_run<A: Allocator + Copy, W: Sink>(
     let text = text_of(alloc, &plan, &run)?;
     send_text(&text, sink)?;
     Ok(Outcome::Finished)
-}
-
-/// Reads a script and draws its run by at most this many rounds over time: who waits when, for
-/// whom, and who holds instruments.
-///
-/// The input is at most 16777216 bytes. Memory grows with the sessions of the script and with the instruments that pairs of
-/// jobs have in common, not with the rounds. The outcome is
-/// Finished, whether or not all jobs are retired then.
-pub fn run_gantt<A: Allocator + Copy, R: Source, W: Sink>(
-    alloc: A,
-    source: &mut R,
-    sink: &mut W,
-    limit: u32,
-) -> Result<Outcome, RunFault>
-    ensures answer { GanttAnswers limit (R.left source.old) (W.taken sink.old) (W.taken sink.new) result }
-    ensures most { ConsumesUpTo (R.left source.old) (R.left source.new) 16777217 }
-    ensures reads { R.failures source.new ≡ R.failures source.old + failed_reads result }
-    ensures writes { W.failures sink.new ≡ W.failures sink.old + failed_writes result }
-{
-    let input = read_input(alloc, source)?;
-    draw_run(alloc, &input, sink, limit)
 }

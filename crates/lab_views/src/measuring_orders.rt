@@ -1,17 +1,21 @@
 //! A script with its jobs in the best order that was measured.
 ghost use Rattle.std.specs.Prelude.{◌≡◌, ◌+◌};
-ghost use Rattle.lab_program.specs.Input.{ConsumesUpTo};
 ghost use Rattle.lab_program.specs.Faults.{failed_reads, failed_writes};
 ghost use Rattle.lab_program.specs.Answers.{AnswersFor, ScriptRefuses};
-ghost use Rattle.lab_views.specs.BestOrders.{ArrangesBest, ArrangesBestAnswers};
+ghost use Rattle.lab_views.specs.BestOrders.{ArrangesBest};
 
-use lab_program::{Outcome, RunFault, Source, read_input, send_text};
+use lab_program::{Outcome, RunFault, send_text};
 use measured_orders::{Gain, best_order};
 use report::Sink;
 use script_reader::read_plan;
 use std::alloc::Allocator;
 
-/// Writes an input with its jobs in the best order that was measured.
+/// Writes a script with its jobs in the best order of those that were tried, each measured by the run of the script in that order by at
+/// most this many rounds. What was gained is reported in `gain`.
+///
+/// The order as it is and that of `arrange` are among them, and up to 398 orders near to the better of these. Lines and comments
+/// move as in `arrange`, and a script whose own order is the best goes out as it came. The same input and number of rounds give the
+/// same text. If `arrange` ends with Unfinished, so does this, and it reports nothing in `gain`.
 pub(crate) fn arrange_measured<A: Allocator + Copy, W: Sink>(
     alloc: A,
     input: &[u8],
@@ -37,27 +41,4 @@ pub(crate) fn arrange_measured<A: Allocator + Copy, W: Sink>(
             Ok(Outcome::Unfinished)
         }
     }
-}
-
-/// Reads a script and writes it again, with its jobs in the best order of those that were tried, each measured by the run of the
-/// script in that order by at most this many rounds. What was gained is reported in `gain`.
-///
-/// The order as it is and that of `run_arrange` are among them, and up to 398 orders near to the better of these. Lines and comments
-/// move as in `run_arrange`, and a script whose own order is the best goes out as it came. The input is at most 16777216 bytes. The
-/// same input and number of rounds give the same text. If `run_arrange` ends with Unfinished, so does this, and it reports
-/// nothing in `gain`.
-pub fn run_arrange_measured<A: Allocator + Copy, R: Source, W: Sink>(
-    alloc: A,
-    source: &mut R,
-    sink: &mut W,
-    limit: u32,
-    gain: &mut Option<Gain>,
-) -> Result<Outcome, RunFault>
-    ensures answer { ArrangesBestAnswers limit gain.new (R.left source.old) (W.taken sink.old) (W.taken sink.new) result }
-    ensures most { ConsumesUpTo (R.left source.old) (R.left source.new) 16777217 }
-    ensures reads { R.failures source.new ≡ R.failures source.old + failed_reads result }
-    ensures writes { W.failures sink.new ≡ W.failures sink.old + failed_writes result }
-{
-    let input = read_input(alloc, source)?;
-    arrange_measured(alloc, &input, sink, limit, gain)
 }

@@ -3,11 +3,10 @@ ghost use Rattle.std.specs.Prelude.{◌≡◌, ◌+◌};
 ghost use Rattle.report.specs.Taken.{Sends};
 ghost use Rattle.timeline.specs.Timelines.{IsTimeline};
 ghost use Rattle.picture.specs.Picture.{picture_of};
-ghost use Rattle.lab_program.specs.Input.{ConsumesUpTo};
-ghost use Rattle.lab_views.specs.Pictures.{DrawsFor, PictureAnswers, failed_picture_reads, failed_picture_writes};
+ghost use Rattle.lab_views.specs.Pictures.{DrawsFor, failed_picture_reads, failed_picture_writes};
 
-use crate::picture_fault::{PictureFault, for_reading, for_report, for_timeline};
-use lab_program::{Source, pass_on, read_input};
+use crate::picture_fault::{PictureFault, for_report, for_timeline};
+use lab_program::pass_on;
 use picture::write_picture;
 use report::{Sink, WriteFault};
 use report_reader::{Report, read_report};
@@ -51,22 +50,4 @@ pub(crate) fn draw_input<A: Allocator + Copy, W: Sink>(
         Ok(()) => Ok(()),
         Err(_) => Err(PictureFault::Write),
     }
-}
-
-/// Reads a report and writes its picture. The input is at most 16777216 bytes.
-pub fn run_picture<A: Allocator + Copy, R: Source, W: Sink>(
-    alloc: A,
-    source: &mut R,
-    sink: &mut W,
-) -> Result<(), PictureFault>
-    ensures answer { PictureAnswers (R.left source.old) (W.taken sink.old) (W.taken sink.new) result }
-    ensures most { ConsumesUpTo (R.left source.old) (R.left source.new) 16777217 }
-    ensures reads { R.failures source.new ≡ R.failures source.old + failed_picture_reads result }
-    ensures writes { W.failures sink.new ≡ W.failures sink.old + failed_picture_writes result }
-{
-    let input = match read_input(alloc, source) {
-        Ok(input) => input,
-        Err(fault) => return Err(for_reading(fault)),
-    };
-    draw_input(alloc, &input, sink)
 }

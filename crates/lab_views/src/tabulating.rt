@@ -1,11 +1,10 @@
 //! Tables of reports.
 ghost use Rattle.std.specs.Prelude.{◌≡◌, ◌+◌};
-ghost use Rattle.lab_program.specs.Input.{ConsumesUpTo};
 ghost use Rattle.lab_views.specs.Pictures.{failed_picture_reads, failed_picture_writes};
-ghost use Rattle.lab_views.specs.Tables.{TabulatesFor, TableAnswers};
+ghost use Rattle.lab_views.specs.Tables.{TabulatesFor};
 
-use crate::picture_fault::{PictureFault, for_reading, for_report};
-use lab_program::{Source, read_input, send_text};
+use crate::picture_fault::{PictureFault, for_report};
+use lab_program::send_text;
 use picture::table_of;
 use report::Sink;
 use report_reader::read_report;
@@ -32,22 +31,4 @@ pub(crate) fn tabulate_input<A: Allocator + Copy, W: Sink>(
         Ok(()) => Ok(()),
         Err(_) => Err(PictureFault::Write),
     }
-}
-
-/// Reads a report and writes the table of its logs. The input is at most 16777216 bytes.
-pub fn run_table<A: Allocator + Copy, R: Source, W: Sink>(
-    alloc: A,
-    source: &mut R,
-    sink: &mut W,
-) -> Result<(), PictureFault>
-    ensures answer { TableAnswers (R.left source.old) (W.taken sink.old) (W.taken sink.new) result }
-    ensures most { ConsumesUpTo (R.left source.old) (R.left source.new) 16777217 }
-    ensures reads { R.failures source.new ≡ R.failures source.old + failed_picture_reads result }
-    ensures writes { W.failures sink.new ≡ W.failures sink.old + failed_picture_writes result }
-{
-    let input = match read_input(alloc, source) {
-        Ok(input) => input,
-        Err(fault) => return Err(for_reading(fault)),
-    };
-    tabulate_input(alloc, &input, sink)
 }

@@ -2,15 +2,14 @@
 ghost use Rattle.std.specs.Prelude.{◌≡◌, ◌+◌, IfOk};
 ghost use Rattle.std.specs.List.{All};
 ghost use Rattle.block_lines.specs.Text.{IsOfPlan, blocks_text};
-ghost use Rattle.lab_program.specs.Input.{ConsumesUpTo};
 ghost use Rattle.lab_program.specs.Faults.{failed_reads, failed_writes};
 ghost use Rattle.lab_program.specs.Answers.{AnswersFor, ScriptRefuses};
-ghost use Rattle.lab_views.specs.Blocks.{TellsBlocks, BlocksAnswers};
+ghost use Rattle.lab_views.specs.Blocks.{TellsBlocks};
 
 use block_lines::add_blocks;
 use blocking::{BlockedRun, blocks_by_rounds};
 use lab_plan::Plan;
-use lab_program::{Outcome, RunFault, Source, read_input, send_text};
+use lab_program::{Outcome, RunFault, send_text};
 use report::Sink;
 use script_reader::read_plan;
 use std::alloc::{AllocError, Allocator};
@@ -36,7 +35,11 @@ fn blocks_of<A: Allocator + Copy>(
     Ok(text)
 }
 
-/// Writes who keeps whom waiting, of an input.
+/// Writes which job kept which waiting for which instrument in a script's run by at most this many rounds, in how many rounds, and in how
+/// many of these it held the instrument.
+///
+/// Memory grows with the instruments that pairs of jobs have in common, not with the rounds. The outcome is Finished, whether or not
+/// all jobs are retired then.
 pub(crate) fn blocks_input<A: Allocator + Copy, W: Sink>(
     alloc: A,
     input: &[u8],
@@ -52,24 +55,4 @@ pub(crate) fn blocks_input<A: Allocator + Copy, W: Sink>(
     let text = blocks_of(alloc, &plan, &run)?;
     send_text(&text, sink)?;
     Ok(Outcome::Finished)
-}
-
-/// Reads a script and writes which job kept which waiting for which instrument in its run by at most this many rounds, in how
-/// many rounds, and in how many of these it held the instrument.
-///
-/// The input is at most 16777216 bytes. Memory grows with the instruments that pairs of jobs have in common, not with the
-/// rounds. The outcome is Finished, whether or not all jobs are retired then.
-pub fn run_blocks<A: Allocator + Copy, R: Source, W: Sink>(
-    alloc: A,
-    source: &mut R,
-    sink: &mut W,
-    limit: u32,
-) -> Result<Outcome, RunFault>
-    ensures answer { BlocksAnswers limit (R.left source.old) (W.taken sink.old) (W.taken sink.new) result }
-    ensures most { ConsumesUpTo (R.left source.old) (R.left source.new) 16777217 }
-    ensures reads { R.failures source.new ≡ R.failures source.old + failed_reads result }
-    ensures writes { W.failures sink.new ≡ W.failures sink.old + failed_writes result }
-{
-    let input = read_input(alloc, source)?;
-    blocks_input(alloc, &input, sink, limit)
 }

@@ -2,14 +2,13 @@
 ghost use Rattle.std.specs.Prelude.{◌≡◌, ◌+◌, ◌<◌, length, IfOk};
 ghost use Rattle.std.specs.List.{All};
 ghost use Rattle.waiting.specs.Text.{waits_text};
-ghost use Rattle.lab_program.specs.Input.{ConsumesUpTo};
 ghost use Rattle.lab_program.specs.Faults.{failed_reads, failed_writes};
 ghost use Rattle.lab_program.specs.Answers.{AnswersFor, ScriptRefuses};
-ghost use Rattle.lab_views.specs.Waits.{TellsWaits, WaitsAnswers};
+ghost use Rattle.lab_views.specs.Waits.{TellsWaits};
 
 use chains::longest_chain;
 use lab_plan::{JobNo, Plan};
-use lab_program::{Outcome, RunFault, Source, read_input, send_text};
+use lab_program::{Outcome, RunFault, send_text};
 use report::Sink;
 use script_reader::read_plan;
 use std::alloc::{AllocError, Allocator};
@@ -31,7 +30,9 @@ fn waits_of<A: Allocator>(
     Ok(text)
 }
 
-/// Writes the waits of an input.
+/// Writes who waited in a script's run by at most this many rounds, and for how long; and a longest chain of precedence at the start.
+///
+/// Memory grows with the sessions of the script, not with the rounds. The outcome is Finished, whether or not all jobs are retired then.
 pub(crate) fn waits_input<A: Allocator + Copy, W: Sink>(
     alloc: A,
     input: &[u8],
@@ -48,24 +49,4 @@ pub(crate) fn waits_input<A: Allocator + Copy, W: Sink>(
     let text = waits_of(alloc, &plan, &run, chain.jobs())?;
     send_text(&text, sink)?;
     Ok(Outcome::Finished)
-}
-
-/// Reads a script and writes who waited in its run by at most this many rounds, and for how long; and a longest chain of
-/// precedence at the start.
-///
-/// The input is at most 16777216 bytes. Memory grows with the sessions of the script, not with the rounds. The outcome is
-/// Finished, whether or not all jobs are retired then.
-pub fn run_waits<A: Allocator + Copy, R: Source, W: Sink>(
-    alloc: A,
-    source: &mut R,
-    sink: &mut W,
-    limit: u32,
-) -> Result<Outcome, RunFault>
-    ensures answer { WaitsAnswers limit (R.left source.old) (W.taken sink.old) (W.taken sink.new) result }
-    ensures most { ConsumesUpTo (R.left source.old) (R.left source.new) 16777217 }
-    ensures reads { R.failures source.new ≡ R.failures source.old + failed_reads result }
-    ensures writes { W.failures sink.new ≡ W.failures sink.old + failed_writes result }
-{
-    let input = read_input(alloc, source)?;
-    waits_input(alloc, &input, sink, limit)
 }

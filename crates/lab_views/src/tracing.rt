@@ -3,7 +3,6 @@ ghost use Rattle.std.specs.Prelude.{◌≡◌, ◌≤◌, ◌++◌, ◌+◌, len
 ghost use Rattle.std.specs.List.{All};
 ghost use Rattle.std.specs.Io.BufRead.{ends_with_byte};
 ghost use Rattle.legal_steps.specs.Steps.{IsStepOf};
-ghost use Rattle.lab_program.specs.Input.{ConsumesUpTo};
 ghost use Rattle.lab_program.specs.Faults.{failed_reads, failed_writes};
 ghost use Rattle.lab_program.specs.Answers.{AnswersFor};
 ghost use Rattle.lab_plan.specs.LabPlan.{LabPlan};
@@ -11,10 +10,10 @@ ghost use Rattle.script_reader.specs.Script.{ScriptMeans};
 ghost use Rattle.written_steps.specs.StepLists.{script_head, lacking_end, step_line};
 ghost use Rattle.round_trace.specs.StepsOf.{step_of};
 ghost use Rattle.lab_program.specs.Reports.{outcome_of};
-ghost use Rattle.lab_views.specs.Traces.{step_lines, trace_text, further_text, events_behind, is_replayable, WritesTrace, TraceRefuses, TraceAnswers};
+ghost use Rattle.lab_views.specs.Traces.{step_lines, trace_text, further_text, events_behind, is_replayable, WritesTrace, TraceRefuses};
 
 use lab_plan::Plan;
-use lab_program::{INPUT_LIMIT, Outcome, RunFault, Source, read_input, send_text};
+use lab_program::{INPUT_LIMIT, Outcome, RunFault, send_text};
 use legal_steps::{Event, StepLine};
 use report::Sink;
 use round_trace::laws::steps_are_of_plan;
@@ -195,7 +194,12 @@ fn trace_further<A: Allocator + Copy, W: Sink>(
     Ok(outcome)
 }
 
-/// Writes the trace of an input. As a script alone, one with steps has an unknown word at its line `steps`, or a fault before it.
+/// Writes a script again, with the line `steps` and the steps of its run by at most this many rounds behind it. A script that has steps is
+/// written with them, and with those of at most this many rounds from where they lead: a run that ended goes on. (As a script alone, one
+/// with steps has an unknown word at its line `steps`, or a fault before it.)
+///
+/// The last line of the input may lack its end. The outcome is Finished if a replay reads the trace: it has at most 1000000 steps, in
+/// 16777216 bytes. A longer one goes out whole, and the outcome is Unfinished. Whether all jobs are retired then makes no difference.
 pub(crate) fn trace_input<A: Allocator + Copy, W: Sink>(
     alloc: A,
     input: &[u8],
@@ -216,25 +220,4 @@ pub(crate) fn trace_input<A: Allocator + Copy, W: Sink>(
             trace_further(alloc, input, sink, limit)
         }
     }
-}
-
-/// Reads a script and writes it again, with the line `steps` and the steps of its run by at most this many rounds behind it. A script that
-/// has steps is written with them, and with those of at most this many rounds from where they lead: a run that ended goes on.
-///
-/// The input is at most 16777216 bytes, and its last line may lack its end. The outcome is Finished if a replay reads the trace: it has
-/// at most 1000000 steps, in 16777216 bytes. A longer one goes out whole, and the outcome is Unfinished. Whether all jobs are retired then
-/// makes no difference.
-pub fn run_trace<A: Allocator + Copy, R: Source, W: Sink>(
-    alloc: A,
-    source: &mut R,
-    sink: &mut W,
-    limit: u32,
-) -> Result<Outcome, RunFault>
-    ensures answer { TraceAnswers limit (R.left source.old) (W.taken sink.old) (W.taken sink.new) result }
-    ensures most { ConsumesUpTo (R.left source.old) (R.left source.new) 16777217 }
-    ensures reads { R.failures source.new ≡ R.failures source.old + failed_reads result }
-    ensures writes { W.failures sink.new ≡ W.failures sink.old + failed_writes result }
-{
-    let input = read_input(alloc, source)?;
-    trace_input(alloc, &input, sink, limit)
 }

@@ -1,16 +1,12 @@
 //! What `labview blocks` writes, by its bytes.
-use lab_program::{FromRead, Outcome, RunFault};
-use lab_views::run_blocks;
-use report::ToWrite;
+use crate::seen::of_script_seen;
+use lab_program::{Outcome, RunFault};
+use lab_views::View;
 use script_reader::{ScriptCause, ScriptFault};
 use std::alloc::Global;
 
 fn told(alloc: Global, input: &str, limit: u32) -> (Vec<u8>, Result<Outcome, RunFault>) {
-    let mut bytes = Vec::new(alloc);
-    let mut source = FromRead::new(input.as_bytes());
-    let mut sink = ToWrite::new(&mut bytes);
-    let answer = run_blocks(alloc, &mut source, &mut sink, limit);
-    (bytes, answer)
+    of_script_seen(alloc, View::Blocks { limit }, input.as_bytes())
 }
 
 /// Two jobs that share a scale. The fork and the bottle start at a, so b precedes a.

@@ -1,19 +1,15 @@
 //! What `labview gantt` draws, by its bytes.
 use crate::blocks::RING;
+use crate::seen::of_script_seen;
 use blocking::sessions_add_up;
-use lab_program::{FromRead, Outcome, RunFault};
-use lab_views::run_gantt;
-use report::ToWrite;
+use lab_program::{Outcome, RunFault};
+use lab_views::View;
 use round_picture::pictures_are_narrow;
 use script_reader::{ScriptCause, ScriptFault};
 use std::alloc::Global;
 
 fn drawn(alloc: Global, input: &str, limit: u32) -> (Vec<u8>, Result<Outcome, RunFault>) {
-    let mut bytes = Vec::new(alloc);
-    let mut source = FromRead::new(input.as_bytes());
-    let mut sink = ToWrite::new(&mut bytes);
-    let answer = run_gantt(alloc, &mut source, &mut sink, limit);
-    (bytes, answer)
+    of_script_seen(alloc, View::Gantt { limit }, input.as_bytes())
 }
 
 /// Whether the text is these two, one after the other.

@@ -23,6 +23,8 @@ mod printed;
 #[cfg(test)]
 mod reading;
 #[cfg(test)]
+mod seen;
+#[cfg(test)]
 mod stages;
 #[cfg(test)]
 mod tables;

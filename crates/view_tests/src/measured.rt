@@ -1,11 +1,12 @@
 //! The best order that was measured, and what `labview arrange N` writes, by its bytes.
 use crate::orders::RING_OF_EIGHT;
+use crate::seen::of_script;
 use arranged_scripts::laws::{arranged_texts_have_short_chains, texts_are_cut_in_one_way};
 use arranged_scripts::{moved, read_back, with_line_end};
 use arranging::has_jobs_of;
 use lab_plan::JobNo;
 use lab_program::{FromRead, Outcome, RunFault};
-use lab_views::run_arrange_measured;
+use lab_views::{View, run_view};
 use measured_orders::laws::{best_is_no_worse, one_measure};
 use measured_orders::{Gain, Measure, best_order, is_better, measured};
 use report::ToWrite;
@@ -22,8 +23,9 @@ fn told(
     let mut source = FromRead::new(input.as_bytes());
     let mut sink = ToWrite::new(&mut bytes);
     let mut gain = None;
-    let answer = run_arrange_measured(alloc, &mut source, &mut sink, limit, &mut gain);
-    (bytes, answer, gain)
+    let view = View::ArrangeMeasured { limit };
+    let answer = run_view(view, alloc, &mut source, &mut sink, &mut gain);
+    (bytes, of_script(answer), gain)
 }
 
 fn finished(rounds: u32, waited: u128) -> Measure {

@@ -1,9 +1,6 @@
 //! Memory that runs out: each allocation of a view is refused in turn. The view says so and writes nothing, or makes up for it.
-use lab_program::{FromRead, status_of};
-use lab_views::{
-    View, run_arrange, run_arrange_measured, run_blocks, run_explain, run_gantt, run_picture,
-    run_table, run_trace, run_waits, status_of_picture,
-};
+use lab_program::FromRead;
+use lab_views::{View, run_view, status_of_view};
 use refusing_heap::RefusingHeap;
 use report::ToWrite;
 use std::alloc::Global;
@@ -15,23 +12,8 @@ fn told_without(out: Global, view: View, text: &[u8], refused: u64) -> (usize, u
     let mut bytes = Vec::new(out);
     let mut source = FromRead::new(text);
     let mut sink = ToWrite::new(&mut bytes);
-    let status = match view {
-        View::Explain => status_of(&run_explain(&heap, &mut source, &mut sink)),
-        View::Picture => status_of_picture(&run_picture(&heap, &mut source, &mut sink)),
-        View::Table => status_of_picture(&run_table(&heap, &mut source, &mut sink)),
-        View::Arrange => status_of(&run_arrange(&heap, &mut source, &mut sink)),
-        View::ArrangeMeasured { limit } => status_of(&run_arrange_measured(
-            &heap,
-            &mut source,
-            &mut sink,
-            limit,
-            &mut None,
-        )),
-        View::Trace { limit } => status_of(&run_trace(&heap, &mut source, &mut sink, limit)),
-        View::Waits { limit } => status_of(&run_waits(&heap, &mut source, &mut sink, limit)),
-        View::Blocks { limit } => status_of(&run_blocks(&heap, &mut source, &mut sink, limit)),
-        View::Gantt { limit } => status_of(&run_gantt(&heap, &mut source, &mut sink, limit)),
-    };
+    let answer = run_view(view, &heap, &mut source, &mut sink, &mut None);
+    let status = status_of_view(&answer);
     (bytes.len(), status, heap.allocations())
 }
 

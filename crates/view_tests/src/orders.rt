@@ -1,19 +1,15 @@
 //! Orders of jobs in which chains at the start are short, and what `labview arrange` writes, by its bytes.
+use crate::seen::of_script_seen;
 use arranging::{colours_of, order_of};
 use lab_plan::JobNo;
-use lab_program::{FromRead, INPUT_LIMIT, Outcome, RunFault};
-use lab_views::run_arrange;
-use report::ToWrite;
+use lab_program::{INPUT_LIMIT, Outcome, RunFault};
+use lab_views::View;
 use script_reader::{ScriptCause, ScriptFault, read_plan};
 use std::alloc::{AllocError, Global};
 use std::test::Fail;
 
 fn told(alloc: Global, input: &[u8]) -> (Vec<u8>, Result<Outcome, RunFault>) {
-    let mut bytes = Vec::new(alloc);
-    let mut source = FromRead::new(input);
-    let mut sink = ToWrite::new(&mut bytes);
-    let answer = run_arrange(alloc, &mut source, &mut sink);
-    (bytes, answer)
+    of_script_seen(alloc, View::Arrange, input)
 }
 
 /// Two jobs that share a scale, and one that shares nothing; the last line has no end.

@@ -1,7 +1,6 @@
 //! The columns of sessions, by hand, the picture by its bytes, and the faults of reports that have no timeline.
-use lab_program::FromRead;
-use lab_views::{PictureFault, run_picture, status_of_picture};
-use report::ToWrite;
+use crate::seen::of_report_seen;
+use lab_views::{PictureFault, View, status_of_picture};
 use report_reader::read_report;
 use std::alloc::Global;
 use std::test::Fail;
@@ -90,11 +89,7 @@ const PICTURE: &str = "<?xml version=\"1.0\" encoding=\"UTF-8\"?>
 ";
 
 fn drawn(alloc: Global, input: &[u8]) -> (Vec<u8>, Result<(), PictureFault>) {
-    let mut bytes = Vec::new(alloc);
-    let mut source = FromRead::new(input);
-    let mut sink = ToWrite::new(&mut bytes);
-    let answer = run_picture(alloc, &mut source, &mut sink);
-    (bytes, answer)
+    of_report_seen(alloc, View::Picture, input)
 }
 
 #[test]
@@ -106,7 +101,7 @@ fn draws_by_its_bytes(rt: HostRuntime) {
 #[test]
 fn faults_of_reports(rt: HostRuntime) -> Result<(), Fail> {
     let texts = [
-        ("lab 1\n", "line 2: report not whole"),
+        ("lab 1\ninstrument x 0\n", "line 3: report not whole"),
         (
             "lab 1\ninstrument x 1\na 1 1/1 read = 0\nfinished\n",
             "instrument 1, entry 1: its job has no job line",

@@ -1,8 +1,9 @@
 //! Scripts made at random: each report that a run prints has a picture with all its sessions, and each trace is replayed.
+use crate::seen::of_report_seen;
 use crate::traces::{replayed, reported, traced};
 use lab_program::{FromRead, Outcome};
 use lab_runs::run_threads;
-use lab_views::run_picture;
+use lab_views::View;
 use report::ToWrite;
 use std::alloc::{AllocError, Global};
 use std::process::Abort;
@@ -63,10 +64,7 @@ fn count(text: &[u8], words: &[u8]) -> usize {
 /// Whether a report has a picture, with a box for each session on each instrument (as many as there are entries with place 1) and one for
 /// each job in the table below.
 fn is_drawn(alloc: Global, report: &[u8]) -> bool {
-    let mut bytes = Vec::new(alloc);
-    let mut source = FromRead::new(report);
-    let mut sink = ToWrite::new(&mut bytes);
-    let answer = run_picture(alloc, &mut source, &mut sink);
+    let (bytes, answer) = of_report_seen(alloc, View::Picture, report);
     answer.is_ok()
         && count(bytes.as_slice(), b"fill-opacity=\"0.5\"")
             == count(report, b" 1/").saturating_add(count(report, b"\njob "))

@@ -1,7 +1,6 @@
 //! The table of a report, by its bytes.
-use lab_program::FromRead;
-use lab_views::run_table;
-use report::ToWrite;
+use crate::seen::of_report_seen;
+use lab_views::View;
 
 const REPORT: &str = "lab 1
 instrument scale 2
@@ -23,9 +22,6 @@ lamp,1,a,2,1,1,set,70,70
 
 #[test]
 fn table_by_its_bytes(rt: HostRuntime) {
-    let mut bytes = Vec::new(rt.alloc());
-    let mut source = FromRead::new(REPORT.as_bytes());
-    let mut sink = ToWrite::new(&mut bytes);
-    let answer = run_table(rt.alloc(), &mut source, &mut sink);
+    let (bytes, answer) = of_report_seen(rt.alloc(), View::Table, REPORT.as_bytes());
     assert!(rt; answer == Ok(()) && bytes.as_slice() == TABLE.as_bytes());
 }

@@ -1,7 +1,8 @@
 //! What `labview trace` writes, by its bytes, and that a replay of it has the report of rounds.
+use crate::seen::of_script_seen;
 use lab_program::{FromRead, Outcome, RunFault};
 use lab_runs::{run_replay, run_rounds};
-use lab_views::run_trace;
+use lab_views::View;
 use report::ToWrite;
 use script_reader::{ScriptCause, ScriptFault};
 use std::alloc::{AllocError, Global};
@@ -12,11 +13,7 @@ pub(crate) fn traced(
     input: &[u8],
     limit: u32,
 ) -> (Vec<u8>, Result<Outcome, RunFault>) {
-    let mut bytes = Vec::new(alloc);
-    let mut source = FromRead::new(input);
-    let mut sink = ToWrite::new(&mut bytes);
-    let answer = run_trace(alloc, &mut source, &mut sink, limit);
-    (bytes, answer)
+    of_script_seen(alloc, View::Trace { limit }, input)
 }
 
 pub(crate) fn replayed(alloc: Global, input: &[u8]) -> (Vec<u8>, Result<Outcome, RunFault>) {

@@ -1,9 +1,10 @@
 //! What `labview` writes, by its bytes, and its words.
+use crate::seen::of_script_seen;
 use crate::stages::text_at;
 use command_line::NoTask;
 use lab_program::{FromRead, Outcome, RunFault};
 use lab_views::laws::{drawn_once, rounds_are_reported};
-use lab_views::{View, ViewFault, read_words, run_explain, run_view};
+use lab_views::{View, ViewFault, read_words, run_view};
 use report::ToWrite;
 use script_reader::{ScriptCause, ScriptFault};
 use std::alloc::{AllocError, Global};
@@ -28,11 +29,7 @@ legal now, besides looks and glances:
 ";
 
 fn explained(alloc: Global, input: &[u8]) -> (Vec<u8>, Result<Outcome, RunFault>) {
-    let mut bytes = Vec::new(alloc);
-    let mut source = FromRead::new(input);
-    let mut sink = ToWrite::new(&mut bytes);
-    let answer = run_explain(alloc, &mut source, &mut sink);
-    (bytes, answer)
+    of_script_seen(alloc, View::Explain, input)
 }
 
 #[test]
@@ -111,8 +108,8 @@ impl Write for Full {
 fn writer_fails(rt: HostRuntime) {
     let mut source = FromRead::new(b"lab 1".as_slice());
     let mut sink = ToWrite::new(Full);
-    let answer = run_explain(rt.alloc(), &mut source, &mut sink);
-    assert!(rt; answer == Err(RunFault::Write));
+    let answer = run_view(View::Explain, rt.alloc(), &mut source, &mut sink, &mut None);
+    assert!(rt; answer == Err(ViewFault::OfScript(RunFault::Write)));
 }
 
 const HELP: &str = "Shows and explains the runs of labrun

@@ -6,3 +6,4 @@ pub mod Noting
 pub mod Waits
 pub mod Watching
 pub mod Text
+pub mod Holding

@@ -6,6 +6,7 @@
 #![tactic(auto)]
 
 mod driving;
+mod holding;
 mod job_log;
 mod longest;
 mod run;
@@ -14,6 +15,7 @@ mod text;
 mod waits;
 
 pub use driving::{fresh_logs, note_all, run_by_rounds};
+pub use holding::held_by;
 pub use job_log::JobLog;
 pub use run::RoundsRun;
 pub use session::{Meal, Session};

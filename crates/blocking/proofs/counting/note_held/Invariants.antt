@@ -3,7 +3,7 @@ use Rattle.lab_plan.specs.InstrumentSets.{holds}
 use Rattle.legal_steps.specs.State.{phase}
 use Rattle.rounds.specs.Company.{first_front}
 use Rattle.rounds.specs.Rounds.{known_in}
-use Rattle.blocking.specs.Waiting.{holds_in}
+use Rattle.waiting.specs.Holding.{holds_in}
 use Rattle.blocking.specs.Watching.{set_at}
 use Rattle.blocking.proofs.counting.note_held.Given as goal
 

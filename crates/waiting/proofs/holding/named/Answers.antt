@@ -1,7 +1,7 @@
 use Rattle.std.proofs.Common.{◌≡◌, ℕ, Bool, true, false, ◌==◌, if◌then◌else◌, refl, ap, ◌∙◌}
 use Rattle.lab_plan.specs.LabPlan.{session_names}
 use Rattle.lab_plan.specs.InstrumentSets.{holds}
-use Rattle.blocking.proofs.knowing.named.Goals as goal
+use Rattle.waiting.proofs.holding.named.Goals as goal
 
 one_if : (b : Bool) → ((if b then 1 else 0) == 1) ≡ b
 one_if true = refl

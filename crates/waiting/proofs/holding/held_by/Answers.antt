@@ -6,8 +6,8 @@ use Rattle.legal_steps.specs.declared.phase.JobState.{JobState}
 use Rattle.legal_steps.specs.declared.phase.Drinking.{Drinking}
 use Rattle.legal_steps.specs.declared.phase.Drinking.TheVariants.{Tranquil, Thirsty, Drinking as Drinks, Reaching, Retired}
 use Rattle.legal_steps.specs.State.{IsDrinking}
-use Rattle.blocking.specs.Waiting.{is_drinking, holds_in}
-use Rattle.blocking.proofs.knowing.held_by.Goals as goal
+use Rattle.waiting.specs.Holding.{is_drinking, holds_in}
+use Rattle.waiting.proofs.holding.held_by.Goals as goal
 
 none_held : (d : Drinking) → d ≢ Drinks → d ≢ Reaching → is_drinking d ≡ false
 none_held Tranquil a b = refl
