@@ -13,7 +13,7 @@ use Rattle.lab_plan.proofs.Bits.{holds_none}
 use Rattle.late_thirst.specs.declared.asker.Asker.{Asker}
 use Rattle.late_thirst.specs.declared.asker.Reason.{Reason}
 use Rattle.late_thirst.specs.declared.asker.Reason.TheVariants.{Passed, Free}
-use Rattle.late_thirst.specs.Outside.{place, IsOutside, needs_of, IsDue, IsDueAt, passed_at}
+use Rattle.late_thirst.specs.Outside.{place, IsOutside, needs_of, IsDue, IsDueAt, NobodyIsDue, passed_at}
 use Rattle.late_thirst.specs.LettingIn.{GoesIn, GoInPassed, AreGone, LetsIn}
 use Rattle.late_thirst.proofs.Passing.{IsLike, none_stays, one_stays}
 
@@ -53,8 +53,9 @@ pub record GoneSoFar (most ready : ℕ) (old : List (Option Asker)) (set : ℕ) 
   pub one_by_one : GoInPassed most ready many old new
   pub gone : AreGone old set new
   pub before : (j : ℕ) → place old j ≡ None → place new j ≡ None
+  pub some : set ≢ 0 → many ≢ 0
 
-not_both : (o : Option Asker) (a : Asker) → o ≡ Some a → o ≡ None → ⊥
+pub not_both : (o : Option Asker) (a : Asker) → o ≡ Some a → o ≡ None → ⊥
 not_both o a some none = cc
 
 pub nobody_yet : (most ready : ℕ) (old : List (Option Asker)) → GoneSoFar most ready old 0 old
@@ -64,6 +65,7 @@ nobody_yet most ready old = record {
   one_by_one = refl;
   gone = λ j. (λ h. absurd (false≢true (sym (holds_none j) ∙ h)), λ h. absurd (not_both (place old j) h.0.0 h.0.1 h.1));
   before = λ j none. none;
+  some = λ h none. h refl;
 }
 
 some_case : (o : Option Asker) → ((a : Asker) → o ≡ Some a → ⊥) → o ≡ None
@@ -138,6 +140,7 @@ one_more_gone most ready k old set mid new few inside due g x = record {
   one_by_one = subst (λ n. GoInPassed most ready n old new) (sym (add-one x.many)) (mid, k, x.one_by_one, inside, due, g);
   gone = gone_more most ready k old set mid new (omega (arith, few, inside)) (due_is_outside (Passed most) (place mid k) due.1) g x.before x.gone;
   before = λ j none. outside_before most ready k mid new g j (x.before j none);
+  some = λ h none. absurd (omega (arith, none));
 }
 
 -- whoever is outside isn't in the set
@@ -149,6 +152,20 @@ pub alone_gone : (most ready k : ℕ) (old new : List (Option Asker)) → k < 32
 alone_gone most ready k old new few out g =
     subst (λ n. AreGone old n new) (or_zero (1 * 2 ^ k % 2 ^ 32))
     (gone_more most ready k old 0 old new few out g (λ j none. none) (nobody_yet most ready old).gone)
+
+same_needs : (a b : Asker) (x : Option Asker) → x ≡ Some b → IsLike a x → a.needs ≡ b.needs
+same_needs a b x is like = let same : like.0 ≡ b = cc in sym like.3 ∙ ap (λ (y : Asker). y.needs) same
+
+-- whoever stays after one went in was outside before, and needs the same
+one_like : (most ready k : ℕ) (old new : List (Option Asker)) → GoesIn most ready k old new → (j : ℕ) (a : Asker) → place new j ≡ Some a
+    → (b : Asker) × (place old j ≡ Some b) × (b.needs ≡ a.needs)
+one_like most ready k old new g j a at = elim (cases_eq j k) [
+  | inl same ↦ absurd (not_both (place new j) a at (subst (λ i. place new i ≡ None) (sym same) g.inside))
+  | inr other ↦
+      let was = outside_if (place old j) (λ none. not_both (place new j) a at (outside_before most ready k old new g j none)) in
+      let moved = g.others j other ∙ ap (passed_at most ready (needs_of (place old k)) j) was.1 in
+      (was.0, was.1, same_needs was.0 a (passed_at most ready (needs_of (place old k)) j (Some was.0)) (sym moved ∙ at) (one_stays most ready (needs_of (place old k)) j was.0))
+]
 
 chain_before : (most ready n : ℕ) (old new : List (Option Asker)) → GoInPassed most ready n old new → (j : ℕ) → place old j ≡ None → place new j ≡ None
 chain_before most ready zero old new is j none = ap (λ (l : List (Option Asker)). place l j) is ∙ none
@@ -172,3 +189,70 @@ pub as_many_after : (most ready used : ℕ) (old : List (Option Asker)) (set : �
 as_many_after most ready used old set new (inl (some, p)) = chain_length most ready p.many old new p.one_by_one
 as_many_after most ready used old set new (inr (inl (none, k, first, g, gone))) = g.as_many
 as_many_after most ready used old set new (inr (inr (none, free, is, same))) = ap (λ (l : List (Option Asker)). length l) same
+
+last_in : (most ready n : ℕ) (old new : List (Option Asker)) → n ≢ 0 → GoInPassed most ready n old new → (k : ℕ) × IsOutside old k × (place new k ≡ None)
+last_in most ready zero old new some chain = absurd (some refl)
+last_in most ready (suc n) old new some (mid, k, chain, inside, due, g) =
+    let out = due_is_outside (Passed most) (place mid k) due.1 in
+    (k, outside_if (place old k) (λ none. not_both (place mid k) out.0 out.1 (chain_before most ready n old mid chain k none)), g.inside)
+
+-- somebody went in, if the set isn't empty
+pub somebody_in : (most ready used : ℕ) (old : List (Option Asker)) (set : ℕ) (new : List (Option Asker)) → set ≢ 0 → LetsIn most ready used old set new
+    → (k : ℕ) × IsOutside old k × (place new k ≡ None)
+somebody_in most ready used old set new some (inl (not_none, p)) = last_in most ready p.many old new (p.some some) p.one_by_one
+somebody_in most ready used old set new some (inr (inl (none, k, first, g, gone))) = (k, due_is_outside (Free used) (place old k) first.1.1, g.inside)
+somebody_in most ready used old set new some (inr (inr (none, free, is, same))) = absurd (some is)
+
+-- and whoever is outside was so before
+pub before_in : (most ready used : ℕ) (old : List (Option Asker)) (set : ℕ) (new : List (Option Asker)) → LetsIn most ready used old set new
+    → (j : ℕ) → place old j ≡ None → place new j ≡ None
+before_in most ready used old set new (inl (not_none, p)) j none = chain_before most ready p.many old new p.one_by_one j none
+before_in most ready used old set new (inr (inl (none_due, k, first, g, gone))) j none = outside_before most ready k old new g j none
+before_in most ready used old set new (inr (inr (none_due, free, is, same))) j none = ap (λ (l : List (Option Asker)). place l j) same ∙ none
+
+-- an empty set says that nobody is due
+pub nobody_in : (most ready used : ℕ) (old new : List (Option Asker)) → LetsIn most ready used old 0 new
+    → NobodyIsDue (Passed most) ready old × NobodyIsDue (Free used) ready old × (new ≡ old)
+nobody_in most ready used old new (inl (not_none, p)) = absurd (not_none refl)
+nobody_in most ready used old new (inr (inl (none, k, first, g, gone))) =
+    absurd (false≢true (sym (holds_none k) ∙ (gone k).1 (due_is_outside (Free used) (place old k) first.1.1, g.inside)))
+nobody_in most ready used old new (inr (inr (none, free, is, same))) = (none, free, same)
+
+-- whoever went in is in the set
+pub are_gone : (most ready used : ℕ) (old : List (Option Asker)) (set : ℕ) (new : List (Option Asker)) → LetsIn most ready used old set new
+    → (k : ℕ) → holds set k ≡ true → IsOutside old k × (place new k ≡ None)
+are_gone most ready used old set new (inl (not_none, p)) k h = (p.gone k).0 h
+are_gone most ready used old set new (inr (inl (none, j, first, g, gone))) k h = (gone k).0 h
+are_gone most ready used old set new (inr (inr (none, free, is, same))) k h = absurd (false≢true (sym (holds_none k) ∙ subst (λ n. holds n k ≡ true) is h))
+
+in_chain : (most ready n : ℕ) (old new : List (Option Asker)) → GoInPassed most ready n old new → (k : ℕ) → IsOutside old k → place new k ≡ None → holds ready k ≡ true
+in_chain most ready zero old new is k out none = absurd (not_both (place old k) out.0 out.1 (ap (λ (l : List (Option Asker)). place l k) (sym is) ∙ none))
+in_chain most ready (suc n) old new (mid, i, chain, inside, due, g) k out none = elim (cases_eq k i) [
+  | inl same ↦ subst (λ j. holds ready j ≡ true) (sym same) due.0
+  | inr other ↦ in_chain most ready n old mid chain k out (only_one most ready i mid new g k other none)
+]
+
+-- and is one of `ready`
+pub were_ready : (most ready used : ℕ) (old : List (Option Asker)) (set : ℕ) (new : List (Option Asker)) → LetsIn most ready used old set new
+    → (k : ℕ) → holds set k ≡ true → holds ready k ≡ true
+were_ready most ready used old set new (inl (not_none, p)) k h = let g = (p.gone k).0 h in in_chain most ready p.many old new p.one_by_one k g.0 g.1
+were_ready most ready used old set new (inr (inl (none, j, first, g, gone))) k h = elim (cases_eq k j) [
+  | inl same ↦ subst (λ i. holds ready i ≡ true) (sym same) first.1.0
+  | inr other ↦ let was = (gone k).0 h in absurd (not_both (place old k) was.0.0 was.0.1 (only_one most ready j old new g k other was.1))
+]
+were_ready most ready used old set new (inr (inr (none, free, is, same))) k h = absurd (false≢true (sym (holds_none k) ∙ subst (λ n. holds n k ≡ true) is h))
+
+-- ---- whoever stays needs the same
+
+chain_like : (most ready n : ℕ) (old new : List (Option Asker)) → GoInPassed most ready n old new → (j : ℕ) (a : Asker) → place new j ≡ Some a
+    → (b : Asker) × (place old j ≡ Some b) × (b.needs ≡ a.needs)
+chain_like most ready zero old new is j a at = (a, ap (λ (l : List (Option Asker)). place l j) (sym is) ∙ at, refl)
+chain_like most ready (suc n) old new (mid, k, chain, inside, due, g) j a at =
+    let one = one_like most ready k mid new g j a at in
+    let before = chain_like most ready n old mid chain j one.0 one.1 in (before.0, before.1, before.2 ∙ one.2)
+
+pub like_before : (most ready used : ℕ) (old : List (Option Asker)) (set : ℕ) (new : List (Option Asker)) → LetsIn most ready used old set new
+    → (j : ℕ) (a : Asker) → place new j ≡ Some a → (b : Asker) × (place old j ≡ Some b) × (b.needs ≡ a.needs)
+like_before most ready used old set new (inl (not_none, p)) j a at = chain_like most ready p.many old new p.one_by_one j a at
+like_before most ready used old set new (inr (inl (none, k, first, g, gone))) j a at = one_like most ready k old new g j a at
+like_before most ready used old set new (inr (inr (none, free, is, same))) j a at = (a, ap (λ (l : List (Option Asker)). place l j) (sym same) ∙ at, refl)

@@ -29,6 +29,7 @@ pub record PassedGoIn (most ready : ℕ) (old : List (Option Asker)) (set : ℕ)
   pub one_by_one : GoInPassed most ready many old new
   pub all : NobodyIsDue (Passed most) ready new
   pub gone : AreGone old set new
+  pub some : set ≢ 0 → many ≢ 0
 
 -- One letting-in. All who were passed by often enough went in, if there are any. If not, one went in of those that need no instrument in use: the one
 -- that asked first. And if there is none either, nobody did

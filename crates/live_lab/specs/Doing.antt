@@ -16,7 +16,7 @@ use Rattle.reasons.specs.Deeds.{is_deed}
 use Rattle.live_lab.specs.declared.words.Word.{Word}
 use Rattle.live_lab.specs.declared.words.Word.TheVariants.{Begins, GivesUp}
 use Rattle.live_lab.specs.Calls.{IsMealDue}
-use Rattle.live_lab.specs.Settles.{ComesToRest}
+use Rattle.live_lab.specs.Rests.{ComesToRest}
 use Rattle.live_lab.specs.Ends.{in_hand, rest_of_session}
 
 -- the phase act was done that was due, and it is said whether there was one
