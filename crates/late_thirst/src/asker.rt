@@ -16,7 +16,7 @@ pub struct Asker {
 
 /// Why one may be let in.
 #[derive(Clone, Copy, PartialEq, Eq, Debug)]
-pub(crate) enum Reason {
+pub enum Reason {
     /// It was passed by this often.
     Passed(u32),
     /// It needs none of these instruments.

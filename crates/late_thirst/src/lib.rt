@@ -9,5 +9,5 @@ mod entering;
 mod line;
 mod picking;
 
-pub use asker::Asker;
+pub use asker::{Asker, Reason};
 pub use line::Line;

@@ -9,3 +9,5 @@ mod Tests
 mod Sessions
 mod Calls
 mod Reported
+mod Asked
+mod Admitted
