@@ -11,3 +11,4 @@ mod Calls
 mod Reported
 mod Asked
 mod Admitted
+mod Frames
