@@ -221,6 +221,31 @@ uint32_t lab_keepers(struct lab_bench *bench, uint32_t job, uint32_t instrument,
    above. 0, 7. */
 uint32_t lab_settle(struct lab_bench *bench, uint32_t waiting, struct lab_came *came);
 
+/* Late thirst. A job that is in a session and waits keeps instruments for itself, though it may have to wait long for another one. So a bench
+   may leave jobs *outside*: `lab_settle` and `lab_begin` then begin the session of a job of `waiting` (it is *let in*) as soon as
+
+     (a) no job in a session needs one of its instruments: then it holds when the call ends; or
+     (b) it has been *passed by* `most` times: so many sessions that need one of its instruments were let in, by calls that wait for it,
+         since it asked. From then on it is in a session, and waits as ever.
+
+   It asks by the first call in whose `waiting` it is while it may begin. Those of (b) go before those of (a), and among these the one that
+   asked first goes first. At 0, as it is after the open, all of `waiting` are let in at once, as `lab_settle` says. The number may be set
+   at any time, and counts from the next call on. Whoever calls `lab_settle` names all jobs that still wait: one that isn't named keeps its
+   place, but is neither let in nor counted as passed by. After `lab_settle` each job of `waiting` that is left outside and may begin was passed by
+   fewer than `most` times, and one of its instruments is needed by a job in a session, which holds or waits for one that does. Sessions that
+   single turns (`lab_turn`) begin are let in by nobody, and count for nothing here. No journal keeps who is outside, nor this number: after
+   `lab_bench_resume` nobody is, and it is 0. 0, 7. */
+uint32_t lab_overtakes(struct lab_bench *bench, uint32_t most);
+
+/* Whether a job is outside: it has asked, and isn't let in yet. One that gives up asking (`lab_withdraw`) isn't any more. `lab_keepers` of a
+   job that is outside, and an instrument that its next session needs, tells the jobs in a session that needs the instrument, and those of them that
+   hold. 0, 2, 7. */
+struct lab_outside {
+    uint32_t is_outside; /* 1 or 0 */
+    uint32_t passed;     /* how often it has been passed by; 0 if it isn't outside */
+};
+uint32_t lab_outside(struct lab_bench *bench, uint32_t job, struct lab_outside *outside);
+
 /* One turn of a job: it gives and asks at each of its edges, and does the first act that is due, also a command of a session
    that it holds, or its end. 0, 2, 7. */
 uint32_t lab_turn(struct lab_bench *bench, uint32_t job, struct lab_turned *turned);
@@ -244,8 +269,8 @@ uint32_t lab_command(struct lab_bench *bench, uint32_t job, struct lab_entry *en
    others may hold: the next `lab_settle` tells which. 0; 8 if it doesn't hold; 2, 7. */
 uint32_t lab_end(struct lab_bench *bench, uint32_t job, struct lab_turned *turned);
 
-/* Gives up the session that a job waits for, if it has patience. Others may come to hold by that: `lab_settle` sees to it, and tells
-   which. 0; 8 if it isn't thirsty or has no patience; 2, 7. */
+/* Gives up the session that a job waits for, if it has patience; or takes a job that is outside from its place. Others may come to hold by
+   that: `lab_settle` sees to it, and tells which. 0; 8 if it isn't outside, and isn't thirsty or has no patience; 2, 7. */
 uint32_t lab_withdraw(struct lab_bench *bench, uint32_t job);
 
 /* Retires a job whose sessions are all done. It begins no session, but does all that can be done without a word from an owner, as `lab_end`;
@@ -415,6 +440,9 @@ LAB_AT(lab_came, deeds, 12);
 LAB_IS(sizeof(struct lab_keepers) == 8);
 LAB_AT(lab_keepers, jobs, 0);
 LAB_AT(lab_keepers, holding, 4);
+LAB_IS(sizeof(struct lab_outside) == 8);
+LAB_AT(lab_outside, is_outside, 0);
+LAB_AT(lab_outside, passed, 4);
 LAB_IS(sizeof(struct lab_state) == 48);
 LAB_AT(lab_state, turns, 0);
 LAB_AT(lab_state, dining, 8);

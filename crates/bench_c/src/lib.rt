@@ -6,13 +6,13 @@ ghost use Rattle.lab_journal.specs.Taking.{IsOpenedKept};
 ghost use Rattle.bench_calls.specs.Journals.{TellsJournal, Resumes};
 ghost use Rattle.bench_calls.specs.Closing.{Closes, Frees, is_of_a_lab};
 ghost use Rattle.bench_calls.specs.Calls.{Opens, IsFresh, InLab, InRoom};
-ghost use Rattle.bench_calls.specs.Calls.{Turns, Serves, ServesRest, SettlesAll, GoesToHold, DoesNext, LetsGo, GivesUp, GoesToEnd};
-ghost use Rattle.bench_calls.specs.Calls.{TellsSize, TellsSession, TellsPlanned, TellsState, TellsKeepers, TellsJobName, TellsInstrumentName};
+ghost use Rattle.bench_calls.specs.Calls.{Turns, Serves, ServesRest, SettlesAll, GoesToHold, DoesNext, LetsGo, GivesUp, GoesToEnd, SetsOvertakes};
+ghost use Rattle.bench_calls.specs.Calls.{TellsSize, TellsSession, TellsPlanned, TellsState, TellsKeepers, TellsOutside, TellsJobName, TellsInstrumentName};
 
 mod desks;
 
 use bench_calls::{
-    LabCame, LabEntry, LabKeepers, LabPlanned, LabSession, LabSize, LabState, LabTurned,
+    LabCame, LabEntry, LabKeepers, LabOutside, LabPlanned, LabSession, LabSize, LabState, LabTurned,
 };
 use c_handles::Handle;
 use c_tells::Told;
@@ -162,6 +162,19 @@ pub extern "C" fn lab_keepers(
     bench_calls::keepers(alloc, bench, job, instrument, keepers)
 }
 
+/// Tells whether a job waits outside, and how often it has been passed by.
+#[unsafe(no_mangle)]
+pub extern "C" fn lab_outside(
+    alloc: Global,
+    bench: &mut Handle,
+    job: u32,
+    outside: &mut LabOutside,
+) -> u32
+    ensures { InLab (TellsOutside job) bench.old.slot.held bench.new.slot.held outside.old outside.new result }
+{
+    bench_calls::outside(alloc, bench, job, outside)
+}
+
 /// Begins the next session of each job of `waiting`, and does all that can be done without a word from an owner.
 #[unsafe(no_mangle)]
 pub extern "C" fn lab_settle(
@@ -254,7 +267,15 @@ pub extern "C" fn lab_end(
     bench_calls::end(alloc, bench, job, turned)
 }
 
-/// Gives up the session that a job is thirsty in, if it has a patience.
+/// Jobs are let in after so many sessions that pass them by, from now on.
+#[unsafe(no_mangle)]
+pub extern "C" fn lab_overtakes(alloc: Global, bench: &mut Handle, most: u32) -> u32
+    ensures { InLab (SetsOvertakes most) bench.old.slot.held bench.new.slot.held tt tt result }
+{
+    bench_calls::overtakes(alloc, bench, most)
+}
+
+/// A job that waits outside doesn't any more; of another one the session is given up that it is thirsty in, if it has a patience.
 #[unsafe(no_mangle)]
 pub extern "C" fn lab_withdraw(alloc: Global, bench: &mut Handle, job: u32) -> u32
     ensures { InLab (InRoom (GivesUp job)) bench.old.slot.held bench.new.slot.held tt tt result }

@@ -5,7 +5,9 @@ use Rattle.script_reader.specs.Script.{ScriptMeans}
 use Rattle.lab_program.specs.declared.faults.RunFault.{RunFault}
 use Rattle.lab_program.specs.Faults.{status_of}
 use Rattle.live_lab.specs.declared.settle.Came.{Came}
-use Rattle.live_lab.specs.Labs.{LabView, fresh_lab, IsWhyNot}
+use Rattle.late_thirst.specs.Lines.{with_most}
+use Rattle.live_lab.specs.Labs.{LabView, fresh_lab, with_line, IsWhyNot}
+use Rattle.live_lab.specs.Admitting.{IsOutsideAt}
 use Rattle.live_lab.specs.Calls.{AtJob, TakesTurn, Serves as ServesJob, ServesOthers, Withdraws, Commands}
 use Rattle.live_lab.specs.Stages.{Begins, GoesToRetire}
 use Rattle.live_lab.specs.Ends.{EndsSession}
@@ -25,7 +27,8 @@ use Rattle.bench_calls.specs.declared.told.LabState.{LabState}
 use Rattle.bench_calls.specs.declared.told.LabEntry.{LabEntry}
 use Rattle.bench_calls.specs.declared.told.LabPlanned.{LabPlanned}
 use Rattle.bench_calls.specs.declared.told.LabKeepers.{LabKeepers}
-use Rattle.bench_calls.specs.Telling.{turned_of, came_of, session_of, state_of, planned_of, keepers_of}
+use Rattle.bench_calls.specs.declared.told.LabOutside.{LabOutside}
+use Rattle.bench_calls.specs.Telling.{turned_of, came_of, session_of, state_of, planned_of, keepers_of, outside_of}
 use Rattle.bench_calls.specs.Telling.{IfTold, TellsAs, TellsDid, TellsBegun, TellsRetired, TellsEnded, TellsEntry}
 
 -- ---- opening
@@ -103,13 +106,17 @@ DoesNext job = ByJob Commands TellsEntry job
 abbrev pub LetsGo : ℕ → LabView → LabView → LabTurned → LabTurned → ℕ → Type 0
 LetsGo job = ByJob EndsSession TellsEnded job
 
--- the job's session was given up (0); or it isn't thirsty or has no patience (8)
+-- the job waits outside no more, or its session was given up (0); or it isn't outside, and isn't thirsty or has no patience (8)
 abbrev pub GivesUp : ℕ → LabView → LabView → Unit {0} → Unit {0} → ℕ → Type 0
 GivesUp job = ByJob Withdraws TellsDid job
 
 -- the job is retired (0), not yet (8), or it has sessions left (10)
 abbrev pub GoesToEnd : ℕ → ℕ → LabView → LabView → LabTurned → LabTurned → ℕ → Type 0
 GoesToEnd most job = ByJob (GoesToRetire most) TellsRetired job
+
+-- jobs are let in after so many sessions that pass them by, from now on (0)
+abbrev pub SetsOvertakes : ℕ → LabView → LabView → Unit {0} → Unit {0} → ℕ → Type 0
+SetsOvertakes most a b told told' status = (status ≡ 0) × (b ≡ with_line a (with_most a.line most))
 
 -- ---- calls that change nothing in the lab
 
@@ -134,7 +141,11 @@ TellsState job = Reads (λ a. IsStandingAt a job) state_of
 
 -- the jobs that keep the job waiting for the instrument, and those of them that hold (0), or there is no such job or instrument (2)
 abbrev pub TellsKeepers : ℕ → ℕ → LabView → LabView → LabKeepers → LabKeepers → ℕ → Type 0
-TellsKeepers job instrument = Reads (λ a. AreKeepersAt a.world job instrument) keepers_of
+TellsKeepers job instrument = Reads (λ a. AreKeepersAt a job instrument) keepers_of
+
+-- whether the job waits outside, and how often it has been passed by (0), or there is no such job (2)
+abbrev pub TellsOutside : ℕ → LabView → LabView → LabOutside → LabOutside → ℕ → Type 0
+TellsOutside job = Reads (λ a. IsOutsideAt a job) outside_of
 
 -- a room and how long the text is that was asked for
 abbrev pub Written : Type 0

@@ -23,6 +23,7 @@ use Rattle.live_lab.specs.declared.planned.Planned.{Planned}
 use Rattle.bench_calls.specs.declared.told.LabTurned.{LabTurned}
 use Rattle.bench_calls.specs.declared.told.LabCame.{LabCame}
 use Rattle.bench_calls.specs.declared.told.LabKeepers.{LabKeepers}
+use Rattle.bench_calls.specs.declared.told.LabOutside.{LabOutside}
 use Rattle.bench_calls.specs.declared.told.LabSession.{LabSession}
 use Rattle.bench_calls.specs.declared.told.LabState.{LabState}
 use Rattle.bench_calls.specs.declared.told.LabEntry.{LabEntry}
@@ -51,6 +52,11 @@ came_of c = record { holds = c.holds; given_up = c.given_up; none_left = c.none_
 
 abbrev pub keepers_of : Keepers → LabKeepers
 keepers_of k = record { jobs = k.jobs; holding = k.holding }
+
+-- whether it is outside, and how often it has been passed by
+abbrev pub outside_of : Option ℕ → LabOutside
+outside_of (Some passed) = record { is_outside = 1; passed = passed }
+outside_of None = record { is_outside = 0; passed = 0 }
 
 abbrev pub turns_of : Option ℕ → ℕ × ℕ
 turns_of (Some turns) = (turns, 1)

@@ -1,6 +1,6 @@
 //! Calls that do something in the lab of a handle.
 ghost use Rattle.std.specs.Prelude.{◌≡◌};
-ghost use Rattle.bench_calls.specs.Calls.{InLab, InRoom, settles_of, Turns, Serves, ServesRest, SettlesAll, GoesToHold, DoesNext, LetsGo, GivesUp, GoesToEnd};
+ghost use Rattle.bench_calls.specs.Calls.{InLab, InRoom, settles_of, Turns, Serves, ServesRest, SettlesAll, GoesToHold, DoesNext, LetsGo, GivesUp, GoesToEnd, SetsOvertakes};
 
 use crate::statuses::{
     JOURNAL_FULL, tell_begun, tell_came, tell_command, tell_ended, tell_retired, tell_turned,
@@ -219,7 +219,26 @@ pub fn end(alloc: Global, bench: &mut Handle, job: u32, turned: &mut LabTurned) 
     status
 }
 
-/// Gives up the session that a job is thirsty in, if it has a patience.
+/// Jobs are let in after so many sessions that pass them by, from now on.
+pub fn overtakes(alloc: Global, bench: &mut Handle, most: u32) -> u32
+    ensures { InLab (SetsOvertakes most) bench.old.slot.held bench.new.slot.held tt tt result }
+{
+    let mut inside = match take(&mut bench.slot, &mut bench.live, alloc) {
+        Ok(inside) => inside,
+        Err(status) => return status,
+    };
+    let status = match &mut *inside {
+        Inside::Open(lab) => {
+            lab.set_overtakes(most);
+            0
+        }
+        _ => NOT_OPEN,
+    };
+    put(&mut bench.slot, &mut bench.live, inside);
+    status
+}
+
+/// A job that waits outside doesn't any more; of another one the session is given up that it is thirsty in, if it has a patience.
 pub fn withdraw(alloc: Global, bench: &mut Handle, job: u32) -> u32
     ensures { InLab (InRoom (GivesUp job)) bench.old.slot.held bench.new.slot.held tt tt result }
 {

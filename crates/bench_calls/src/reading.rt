@@ -1,8 +1,8 @@
 //! Calls that tell of the lab of a handle and change nothing in it.
-ghost use Rattle.bench_calls.specs.Calls.{InLab, TellsSize, TellsSession, TellsPlanned, TellsState, TellsKeepers, TellsJobName, TellsInstrumentName};
+ghost use Rattle.bench_calls.specs.Calls.{InLab, TellsSize, TellsSession, TellsPlanned, TellsState, TellsKeepers, TellsOutside, TellsJobName, TellsInstrumentName};
 
-use crate::statuses::{NO_JOB, tell_keepers, tell_name, tell_planned, tell_session, tell_standing};
-use crate::told::{LabKeepers, LabPlanned, LabSession, LabSize, LabState};
+use crate::statuses::{NO_JOB, tell_keepers, tell_name, tell_outside, tell_planned, tell_session, tell_standing};
+use crate::told::{LabKeepers, LabOutside, LabPlanned, LabSession, LabSize, LabState};
 use c_handles::{Handle, Inside, NOT_OPEN, put, take};
 use std::alloc::Global;
 
@@ -155,6 +155,22 @@ pub fn keepers(
     };
     let status = match &*inside {
         Inside::Open(lab) => tell_keepers(lab.keepers(job, instrument), what),
+        _ => NOT_OPEN,
+    };
+    put(&mut bench.slot, &mut bench.live, inside);
+    status
+}
+
+/// Tells whether a job waits outside, and how often it has been passed by.
+pub fn outside(alloc: Global, bench: &mut Handle, job: u32, outside: &mut LabOutside) -> u32
+    ensures { InLab (TellsOutside job) bench.old.slot.held bench.new.slot.held outside.old outside.new result }
+{
+    let inside = match take(&mut bench.slot, &mut bench.live, alloc) {
+        Ok(inside) => inside,
+        Err(status) => return status,
+    };
+    let status = match &*inside {
+        Inside::Open(lab) => tell_outside(lab.outside(job as usize), outside),
         _ => NOT_OPEN,
     };
     put(&mut bench.slot, &mut bench.live, inside);

@@ -2,11 +2,11 @@
 ghost use Rattle.std.specs.Prelude.{◌≡◌, if◌then◌else◌, length};
 ghost use Rattle.c_tells.specs.Telling.{Gives};
 ghost use Rattle.bench_calls.specs.Telling.{stage_status, TellsEntry, TellsDid, TellsBegun, TellsRetired, TellsEnded, TellsAs, IfTold};
-ghost use Rattle.bench_calls.specs.Telling.{turned_of, came_of, session_of, state_of, planned_of, keepers_of};
+ghost use Rattle.bench_calls.specs.Telling.{turned_of, came_of, session_of, state_of, planned_of, keepers_of, outside_of};
 
 use crate::told::{
-    LabCame, LabEntry, LabKeepers, LabPlanned, LabSession, LabState, LabTurned, came_of, entry_of,
-    keepers_of, planned_of, session_of, state_of, turned_of,
+    LabCame, LabEntry, LabKeepers, LabOutside, LabPlanned, LabSession, LabState, LabTurned, came_of, entry_of,
+    keepers_of, outside_of, planned_of, session_of, state_of, turned_of,
 };
 use c_tells::put;
 use instrument_log::Entry;
@@ -152,6 +152,14 @@ pub(crate) fn tell_keepers(answer: Option<Keepers>, told: &mut LabKeepers) -> u3
 {
     let Some(answer) = answer else { return NO_JOB };
     *told = keepers_of(answer);
+    0
+}
+
+pub(crate) fn tell_outside(answer: Option<Option<u32>>, told: &mut LabOutside) -> u32
+    ensures { IfTold (TellsAs outside_of) answer told.old told.new result }
+{
+    let Some(answer) = answer else { return NO_JOB };
+    *told = outside_of(answer);
     0
 }
 

@@ -1,6 +1,6 @@
 //! What a call tells of a lab.
 ghost use Rattle.std.specs.Prelude.{◌≡◌};
-ghost use Rattle.bench_calls.specs.Telling.{turned_of, came_of, state_of, entry_of, session_of, keepers_of, planned_of, verb_numbers};
+ghost use Rattle.bench_calls.specs.Telling.{turned_of, came_of, state_of, entry_of, session_of, keepers_of, outside_of, planned_of, verb_numbers};
 
 use instrument_log::Entry;
 use lab_plan::Verb;
@@ -68,6 +68,31 @@ pub fn keepers_of(keepers: Keepers) -> LabKeepers
     LabKeepers {
         jobs: keepers.jobs,
         holding: keepers.holding,
+    }
+}
+
+/// Whether a job waits outside. In C: `struct lab_outside { uint32_t is_outside, passed; };`
+#[repr(C)]
+#[derive(Clone, Copy)]
+pub struct LabOutside {
+    /// 1 or 0.
+    pub is_outside: u32,
+    /// How often it has been passed by; 0 if it isn't outside.
+    pub passed: u32,
+}
+
+pub fn outside_of(passed: Option<u32>) -> LabOutside
+    ensures { result ≡ outside_of passed }
+{
+    match passed {
+        Some(passed) => LabOutside {
+            is_outside: 1,
+            passed,
+        },
+        None => LabOutside {
+            is_outside: 0,
+            passed: 0,
+        },
     }
 }
 

@@ -1,8 +1,9 @@
 -- The two ways of saying that a job is in a set.
-use Rattle.std.proofs.Common.{◌≡◌, ℕ, ◌*◌, ◌^◌, ◌%◌, ◌<◌, Bool, true, false, ◌==◌, arith, sym, ◌∙◌}
+use Rattle.std.proofs.Common.{◌≡◌, ◌⊎◌, bit_or, max, inl, inr, ℕ, ◌*◌, ◌^◌, ◌%◌, ◌<◌, Bool, true, false, ◌==◌, arith, sym, ◌∙◌}
 use Rattle.std.specs.Int.{bit_at}
 use Rattle.std.proofs.Math.Pow.{pow-lt}
-use Rattle.std.proofs.lemmas.Bool.{eq-eqb, false≢true}
+use Rattle.std.proofs.lemmas.Bool.{cases_eq, eq-eqb, false≢true}
+use Rattle.std.proofs.lemmas.Nat.Bits.{bit_at_or, bit_at-lt}
 use Rattle.std.proofs.lemmas.Bool.Decides.{nat_tests}
 use Rattle.lab_plan.specs.InstrumentSets.{holds}
 use Rattle.legal_steps.specs.State.{Has}
@@ -30,3 +31,27 @@ same_test false true f g = g (λ i. true)
 
 pub shifted : (k : ℕ) → k < 32 → 1 * 2 ^ k % 2 ^ 32 ≡ 2 ^ k
 shifted k small = let below : 2 ^ k < 2 ^ 32 = pow-lt small in omega (arith, below)
+
+-- a set of all that are in either of two
+bit_or_of : (a b : ℕ) → max a b ≡ 1 → a < 2 → b < 2 → (a ≡ 1) ⊎ (b ≡ 1)
+bit_or_of a b h p q = elim (cases_eq a 1) [ inl is ↦ inl is | inr other ↦ inr (omega (arith, h, p, q, other)) ]
+
+pub in_either : (a b i : ℕ) → holds (bit_or a b) i ≡ true → (holds a i ≡ true) ⊎ (holds b i ≡ true)
+unfolding Has
+in_either a b i h = elim (bit_or_of (bit_at a i) (bit_at b i) (sym (bit_at_or a b i) ∙ holds_has (bit_or a b) i h) (bit_at-lt a i) (bit_at-lt b i)) [
+  | inl x ↦ inl (has_holds a i x)
+  | inr x ↦ inr (has_holds b i x)
+]
+
+most_of : (a b : ℕ) → (a ≡ 1) ⊎ (b ≡ 1) → a < 2 → b < 2 → max a b ≡ 1
+most_of a b (inl h) p q = omega (arith, h, p, q)
+most_of a b (inr h) p q = omega (arith, h, p, q)
+
+has_either : (a b i : ℕ) → (holds a i ≡ true) ⊎ (holds b i ≡ true) → (bit_at a i ≡ 1) ⊎ (bit_at b i ≡ 1)
+unfolding Has
+has_either a b i (inl h) = inl (holds_has a i h)
+has_either a b i (inr h) = inr (holds_has b i h)
+
+pub either_in : (a b i : ℕ) → (holds a i ≡ true) ⊎ (holds b i ≡ true) → holds (bit_or a b) i ≡ true
+unfolding Has
+either_in a b i h = has_holds (bit_or a b) i (bit_at_or a b i ∙ most_of (bit_at a i) (bit_at b i) (has_either a b i h) (bit_at-lt a i) (bit_at-lt b i))

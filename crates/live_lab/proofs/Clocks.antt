@@ -8,6 +8,7 @@ use Rattle.legal_steps.specs.State.{phase, drinking}
 use Rattle.legal_steps.specs.Legal.{IsJob}
 use Rattle.interleaving.specs.World.{WorldView}
 use Rattle.turns.specs.Patience.{is_waiting}
+use Rattle.late_thirst.specs.Outside.{LineView}
 use Rattle.live_lab.specs.declared.clock.Clock.{Clock}
 use Rattle.live_lab.specs.Clocks.{no_clock, after_turn}
 use Rattle.live_lab.specs.Sets.{AreJobs}
@@ -76,8 +77,8 @@ stays w waiting thirsty old n f g =
 -- who was thirsty is told by the set of those who were
 pub are_counted : (w new : WorldView) (waiting thirsty : ℕ) (old after : List Clock) → new.plan ≡ w.plan
     → AreJobs w.plan thirsty (λ j. is_waiting (drinking w.state j) ≡ true) → AreTurnsCounted new waiting thirsty old after
-    → AreCounted waiting (record { world = w; clocks = old }) (record { world = new; clocks = after })
-are_counted w new waiting thirsty old after same set c = record {
+    → (line line' : LineView) → AreCounted waiting (record { world = w; clocks = old; line = line }) (record { world = new; clocks = after; line = line' })
+are_counted w new waiting thirsty old after same set c line line' = record {
   as_many = c.as_many;
   each = λ j job.
       let was = set.just j job in

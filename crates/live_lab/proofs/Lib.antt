@@ -9,3 +9,6 @@ mod Tests
 mod Sessions
 mod Calls
 mod Reported
+mod Asked
+mod Admitted
+mod Frames

@@ -50,7 +50,7 @@ walks w by = record {
 }
 
 pub has_report : IsReportOfEvents → HoldsOfEveryRun → (w : WorldView) (clocks : List Clock) → IsReachedBy w.plan w.opening w.past w.state w.counts
-    → IsLab (record { world = w; clocks = clocks }) → (text : List ℕ) (outcome : Outcome) → IsPrint w text outcome → HasReport w.plan text outcome
+    → IsLab w clocks → (text : List ℕ) (outcome : Outcome) → IsPrint w text outcome → HasReport w.plan text outcome
 has_report reports holds w clocks by lab text outcome print =
     told (subst (λ (s : State). IsReachedBy w.plan s w.past w.state w.counts) lab.opening by)
   where

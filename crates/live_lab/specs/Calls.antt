@@ -14,7 +14,10 @@ use Rattle.session_layer.specs.declared.turning.Turned.{Turned}
 use Rattle.session_layer.specs.declared.turning.Turned.TheVariants.{Acted, Moved, Idle}
 use Rattle.session_layer.specs.Turn.{Says}
 use Rattle.live_lab.specs.Clocks.{after_turn}
-use Rattle.live_lab.specs.Labs.{LabView, clock_at, waited}
+use Rattle.late_thirst.specs.declared.asker.Asker.{Asker}
+use Rattle.late_thirst.specs.Lines.{with_place}
+use Rattle.live_lab.specs.Labs.{LabView, with_line, clock_at, waited}
+use Rattle.live_lab.specs.Admitting.{IsLeftOutside}
 
 -- the job did so; or there is no such job, and nothing changed
 abbrev pub AtJob : {R : Type 0} → (ℕ → LabView → R → LabView → Type 0) → ℕ → LabView → Option R → LabView → Type 0
@@ -25,6 +28,7 @@ AtJob Did job old None new = (length old.world.plan.jobs ≤ job) × (new ≡ ol
 pub record Does (old : LabView) (events : List Event) (new : LabView) : Type 0 where
   pub leads : LeadsTo old.world events new.world
   pub clocks : new.clocks ≡ old.clocks
+  pub line : new.line ≡ old.line
 
 -- One turn of the job: each of its edges in ascending order was visited, then came the phase act that was due by the count at the turn's start, and the
 -- turn was counted
@@ -37,6 +41,7 @@ pub record TakesTurn (j : ℕ) (old : LabView) (r : Turned) (new : LabView) : Ty
   pub says : Says r (count is_done visits + once acts) 0
   pub leads : LeadsTo old.world events new.world
   pub clocks : new.clocks ≡ slice_set old.clocks j (after_turn (is_waiting (drinking old.world.state j)) (phase new.world.state j) (clock_at old j))
+  pub line : new.line ≡ old.line
 
 -- ---- service
 
@@ -81,10 +86,12 @@ ServesOthers job old r new = ServesAllBut job (length old.world.plan.jobs) old r
 
 -- ---- single steps
 
--- the job's session was given up; or it could not be, and nothing changed
+-- a job that waited outside doesn't any more, or the session that it waited for was given up; or neither could be, and nothing changed
 abbrev pub Withdraws : ℕ → LabView → Bool → LabView → Type 0
-Withdraws j old true new = May old.world.plan old.world.state (Withdraw j) × Does old (Withdraw j ∷ []) new
-Withdraws j old false new = (May old.world.plan old.world.state (Withdraw j) → ⊥) × (new ≡ old)
+Withdraws j old true new =
+    ((a : Asker) × IsLeftOutside old j a × (new ≡ with_line old (with_place old.line j None)))
+    ⊎ (((a : Asker) → ¬ IsLeftOutside old j a) × May old.world.plan old.world.state (Withdraw j) × Does old (Withdraw j ∷ []) new)
+Withdraws j old false new = ((a : Asker) → ¬ IsLeftOutside old j a) × (May old.world.plan old.world.state (Withdraw j) → ⊥) × (new ≡ old)
 
 -- the job's next command was done, and this is its entry; or the job doesn't hold, or has none left, and nothing changed
 abbrev pub Commands : ℕ → LabView → Option Entry → LabView → Type 0

@@ -16,7 +16,10 @@ use Rattle.reasons.specs.Deeds.{is_deed}
 use Rattle.live_lab.specs.declared.words.Word.{Word}
 use Rattle.live_lab.specs.declared.words.Word.TheVariants.{Begins, GivesUp}
 use Rattle.live_lab.specs.Calls.{IsMealDue}
-use Rattle.live_lab.specs.Settles.{ComesToRest}
+use Rattle.late_thirst.specs.Outside.{LineView}
+use Rattle.live_lab.specs.Labs.{IsLineOf}
+use Rattle.live_lab.specs.Rests.{IsAtRest, ComesToRest, DoAndRest}
+use Rattle.live_lab.specs.Admitting.{AdmitsAll}
 use Rattle.live_lab.specs.Ends.{in_hand, rest_of_session}
 
 -- the phase act was done that was due, and it is said whether there was one
@@ -80,4 +83,20 @@ said GivesUp j = Withdraw j
 pub record RestsIn (old : WorldView) (n : ℕ) (new : WorldView) : Type 0 where
   pub events : List Event
   pub rests : ComesToRest old events new
+  pub deeds : n ≡ count_by is_deed events
+
+-- each job of the set did so, and then all was done that this made due: so many deeds
+pub record DoesAndRests (word : Word) (set : ℕ) (old : WorldView) (n : ℕ) (new : WorldView) : Type 0 where
+  pub events : List Event
+  pub does : DoAndRest (said word) set old events new
+  pub leads : LeadsTo old events new
+  pub deeds : n ≡ count_by is_deed events
+
+-- those who were due were let in, until nobody was any more: so many deeds
+pub record AdmitsIn (waiting : ℕ) (old : WorldView) (line : LineView) (n : ℕ) (new : WorldView) (line' : LineView) : Type 0 where
+  pub events : List Event
+  pub admits : AdmitsAll waiting old line events new line'
+  pub leads : LeadsTo old events new
+  pub at_rest : IsAtRest old → IsAtRest new
+  pub line_of : IsLineOf new line'
   pub deeds : n ≡ count_by is_deed events

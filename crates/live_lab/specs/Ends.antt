@@ -13,7 +13,7 @@ use Rattle.session_layer.specs.Turn.{Says}
 use Rattle.live_lab.specs.declared.ending.Ended.{Ended}
 use Rattle.live_lab.specs.declared.ending.Ended.TheVariants.{NotHeld, LetGo}
 use Rattle.live_lab.specs.Labs.{LabView}
-use Rattle.live_lab.specs.Settles.{ComesToRest}
+use Rattle.live_lab.specs.Rests.{ComesToRest}
 
 -- a command that is in hand is done
 abbrev pub in_hand : Drinking → ℕ → List Event
@@ -42,6 +42,7 @@ pub record EndsHeld (j : ℕ) (old : LabView) (r : Turned) (new : LabView) : Typ
   pub rests : ComesToRest mid later new.world
   pub says : Says r (count_by is_deed (rest_of_session (drinking old.world.state j) j left ++ later)) 0
   pub clocks : new.clocks ≡ old.clocks
+  pub line : new.line ≡ old.line
 
 -- so it was; or it didn't hold, and nothing changed
 abbrev pub EndsSession : ℕ → LabView → Ended → LabView → Type 0

@@ -1,12 +1,15 @@
 -- For readers: who keeps a job waiting for an instrument.
-use Rattle.std.specs.Prelude.{◌≡◌, ◌⊎◌, ℕ, ◌≤◌, ◌<◌, length, Option, Some, None}
-use Rattle.lab_plan.specs.LabPlan.{LabPlan}
-use Rattle.legal_steps.specs.State.{State, IsDrinking, phase}
-use Rattle.legal_steps.specs.Legal.{IsJob, instrument_of}
+use Rattle.std.specs.Prelude.{◌≡◌, ◌⊎◌, ℕ, ◌+◌, ◌≤◌, ◌<◌, true, length, Option, Some, None}
+use Rattle.lab_plan.specs.LabPlan.{LabPlan, session_names}
+use Rattle.legal_steps.specs.State.{State, IsDrinking, phase, session}
+use Rattle.legal_steps.specs.Legal.{IsJob, Needs, instrument_of}
 use Rattle.interleaving.specs.World.{WorldView}
 use Rattle.reasons.specs.Reasons.{Lacks, Keeps as KeepsBottle}
 use Rattle.live_lab.specs.declared.keeping.Keepers.{Keepers}
+use Rattle.late_thirst.specs.declared.asker.Asker.{Asker}
+use Rattle.live_lab.specs.Labs.{LabView}
 use Rattle.live_lab.specs.Sets.{AreJobs}
+use Rattle.live_lab.specs.Admitting.{IsLeftOutside}
 
 -- bottle b of edge e is the instrument's, job j lacks it, and job k keeps it
 abbrev pub IsKept : LabPlan → State → ℕ → ℕ → ℕ → ℕ → ℕ → Type 0
@@ -25,7 +28,17 @@ pub record AreKeepers (w : WorldView) (j i : ℕ) (r : Keepers) : Type 0 where
   pub jobs : AreJobs w.plan r.jobs (IsKeeper w.plan w.state j i)
   pub holding : AreJobs w.plan r.holding (λ k. IsKeeper w.plan w.state j i k × IsDrinking (phase w.state k))
 
--- these; or there is no such job, or no such instrument
-abbrev pub AreKeepersAt : WorldView → ℕ → ℕ → Option Keepers → Type 0
-AreKeepersAt w job i (Some r) = IsJob w.plan job × (i < length w.plan.instruments) × AreKeepers w job i r
-AreKeepersAt w job i None = (length w.plan.jobs ≤ job) ⊎ (length w.plan.instruments ≤ i)
+-- of a job outside whose next session names the instrument: the jobs in a session that needs it, and those of them that hold
+abbrev pub IsUser : LabPlan → State → ℕ → ℕ → ℕ → Type 0
+IsUser plan s j i k = (session_names plan j (session s j + 1) i ≡ true) × Needs plan s k i
+
+pub record AreUsers (w : WorldView) (j i : ℕ) (r : Keepers) : Type 0 where
+  pub jobs : AreJobs w.plan r.jobs (IsUser w.plan w.state j i)
+  pub holding : AreJobs w.plan r.holding (λ k. IsUser w.plan w.state j i k × IsDrinking (phase w.state k))
+
+-- these of a job that waits outside; of another one that keep it waiting; or there is no such job, or no such instrument
+abbrev pub AreKeepersAt : LabView → ℕ → ℕ → Option Keepers → Type 0
+AreKeepersAt x job i (Some r) =
+    IsJob x.world.plan job × (i < length x.world.plan.instruments)
+    × (((a : Asker) × IsLeftOutside x job a × AreUsers x.world job i r) ⊎ (((a : Asker) → ¬ IsLeftOutside x job a) × AreKeepers x.world job i r))
+AreKeepersAt x job i None = (length x.world.plan.jobs ≤ job) ⊎ (length x.world.plan.instruments ≤ i)

@@ -5,6 +5,8 @@ pub mod Sets
 pub mod Doing
 pub mod Kinds
 pub mod Counting
+pub mod Rests
+pub mod Admitting
 pub mod Settles
 pub mod Stages
 pub mod Ends

@@ -11,40 +11,15 @@ use Rattle.legal_steps.specs.Legal.{May, IsJob}
 use Rattle.interleaving.specs.World.{WorldView, LeadsTo}
 use Rattle.turns.specs.Patience.{is_waiting, waited_in}
 use Rattle.turns.specs.Acts.{IsUsedUp}
-use Rattle.reasons.specs.Quiet.{Waited, IsQuietFor}
-use Rattle.reasons.specs.Reasons.{LeadsToHolder}
-use Rattle.reasons.specs.Deeds.{AreBetween, is_deed}
-use Rattle.settling.specs.Left.{HasNothingToDo}
+use Rattle.reasons.specs.Deeds.{is_deed}
 use Rattle.live_lab.specs.declared.settle.Came.{Came}
 use Rattle.live_lab.specs.declared.clock.Clock.{Clock}
 use Rattle.live_lab.specs.Clocks.{no_clock, waits, after_turn}
 use Rattle.live_lab.specs.Labs.{LabView, clock_at}
-use Rattle.live_lab.specs.Sets.{AreJobs, events_of_jobs}
-
--- ---- rest
-
--- No job has anything to do of itself, and the state is quiet, whoever waits. So from each job that is thirsty a chain of jobs leads to one that holds,
--- each of which keeps a bottle that the one before it lacks
-pub record IsAtRest (w : WorldView) : Type 0 where
-  pub all_done : (j : ℕ) → IsJob w.plan j → HasNothingToDo w.plan w.state j
-  pub quiet : (waited : Waited) → IsQuietFor w.plan w.state waited
-  pub reasons : (j : ℕ) → IsJob w.plan j → drinking w.state j ≡ Thirsty → (chain : List ℕ) × LeadsToHolder w.plan w.state j chain
-
--- all was done that was due without a word from an owner: these legal events, none of which is an owner's
-pub record ComesToRest (old : WorldView) (events : List Event) (new : WorldView) : Type 0 where
-  pub leads : LeadsTo old events new
-  pub between : AreBetween events
-  pub at_rest : IsAtRest new
-
--- each job of the set did so, in ascending order, and then all was done that this made due
-pub record DoAndRest (event : ℕ → Event) (set : ℕ) (old : WorldView) (events : List Event) (new : WorldView) : Type 0 where
-  pub mid : WorldView
-  pub later : List Event
-  pub each : LeadsTo old (events_of_jobs event old.plan set) mid
-  pub rests : ComesToRest mid later new
-  pub events_are : events ≡ events_of_jobs event old.plan set ++ later
-
--- ---- a settle
+use Rattle.late_thirst.specs.Outside.{LineView}
+use Rattle.live_lab.specs.Sets.{AreJobs}
+use Rattle.live_lab.specs.Rests.{IsAtRest, ComesToRest, DoAndRest}
+use Rattle.live_lab.specs.Admitting.{Asks, AdmitsAll}
 
 -- the job is in no session, and has none left
 abbrev pub IsThrough : LabPlan → State → ℕ → Type 0
@@ -68,19 +43,25 @@ pub record Settles (waiting : ℕ) (old : LabView) (came : Came) (new : LabView)
   pub rested : WorldView
   pub first : List Event
   pub rests : ComesToRest old.world first rested
-  -- each job of `waiting` that might begin its next session began it, and no other; and all was done that this made due
-  pub begun : ℕ
-  pub begins : AreJobs rested.plan begun (λ j. Has waiting j × May rested.plan rested.state (Thirst j))
+  -- each job of `waiting` that may begin its next session asks, if it hasn't
+  pub asking : LineView
+  pub asks : Asks waiting rested old.line asking
+  -- those who are due are let in, and all was done that this made due
   pub joined : WorldView
+  pub left_out : LineView
   pub second : List Event
-  pub joins : DoAndRest (λ j. Thirst j) begun rested second joined
+  pub joins : AdmitsAll waiting rested asking second joined left_out
   -- each job that is still thirsty and out of patience gave its session up, and no other; and all was done that this made due
   pub gives_up : AreJobs joined.plan came.given_up (IsOutOfPatience old.clocks joined)
+  pub left : WorldView
   pub third : List Event
-  pub leaves : DoAndRest (λ j. Withdraw j) came.given_up joined third new.world
+  pub leaves : DoAndRest (λ j. Withdraw j) came.given_up joined third left
+  -- those who are due by that are let in, as above
+  pub fourth : List Event
+  pub rejoins : AdmitsAll waiting left left_out fourth new.world new.line
   -- all these are legal events one after another, and it is told how many they are, looks aside
-  pub leads : LeadsTo old.world (first ++ second ++ third) new.world
-  pub deeds : came.deeds ≡ count_by is_deed (first ++ second ++ third)
+  pub leads : LeadsTo old.world (first ++ second ++ third ++ fourth) new.world
+  pub deeds : came.deeds ≡ count_by is_deed (first ++ second ++ third ++ fourth)
   -- it is told who holds now, and who of `waiting` is in no session and has none left
   pub holds : AreJobs new.world.plan came.holds (λ j. IsDrinking (phase new.world.state j))
   pub none_left : AreJobs new.world.plan came.none_left (λ j. Has waiting j × IsThrough new.world.plan new.world.state j)

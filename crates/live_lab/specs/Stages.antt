@@ -18,7 +18,8 @@ use Rattle.live_lab.specs.declared.stage.Stage.{Stage}
 use Rattle.live_lab.specs.declared.stage.Stage.TheVariants.{There, OnTheWay, Barred}
 use Rattle.live_lab.specs.declared.settle.Came.{Came}
 use Rattle.live_lab.specs.Labs.{LabView}
-use Rattle.live_lab.specs.Settles.{ComesToRest, Settles, IsThrough}
+use Rattle.live_lab.specs.Rests.{ComesToRest}
+use Rattle.live_lab.specs.Settles.{Settles, IsThrough}
 
 -- To hold, the job needs a session that it is in or that is left. To retire, it needs all its sessions behind it
 abbrev pub IsStage : Aim → WorldView → ℕ → Stage → Type 0
@@ -56,6 +57,7 @@ pub record RestsAndRetires (job : ℕ) (old : LabView) (r : Turned) (new : LabVi
   pub legal : (did ≡ true) ↔ May mid.plan mid.state (Retires job)
   pub leads : LeadsTo mid (on did (Retires job) []) new.world
   pub clocks : new.clocks ≡ old.clocks
+  pub line : new.line ≡ old.line
   pub says : Says r (count_by is_deed events + count_by is_deed (on did (Retires job) [])) 0
 
 -- the job is so far; it was on its way, and did so; or it was there already, or sessions are left, or no try is allowed, and nothing changed

@@ -15,6 +15,10 @@ impl Lab {
         requires { IsJob self.old.world.plan job }
         ensures { Withdraws job self.old result self.new }
     {
+        if self.place_outside(job).is_some() {
+            self.line.leave(job.0 as usize);
+            return true;
+        }
         if !self.world.enabled(Event::Withdraw(job)) {
             return false;
         }
@@ -38,7 +42,8 @@ impl Lab {
         Some(entry)
     }
 
-    /// Gives up the session that a job waits for, if there is such a job. Answers whether it did: only a session that has a patience can be given up.
+    /// A job that waits outside doesn't any more; of another one the session that it waits for is given up, if there is such a job. Answers whether it
+    /// was: only a session that has a patience can be given up.
     pub fn withdraw(&mut self, job: usize) -> Option<bool>
         ensures { AtJob Withdraws job self.old result self.new }
     {

@@ -1,11 +1,11 @@
 //! Who keeps a job waiting.
-ghost use Rattle.std.specs.Prelude.{◌≡◌, ℕ, ◌≤◌, ◌<◌, ◌↔◌, IsTrue, length};
+ghost use Rattle.std.specs.Prelude.{◌≡◌, ℕ, ◌+◌, ◌≤◌, ◌<◌, ◌↔◌, IsTrue, length};
 ghost use Rattle.lab_plan.specs.LabPlan.{edges, bottles, sessions, session_names};
 ghost use Rattle.lab_plan.specs.InstrumentSets.{holds};
-ghost use Rattle.legal_steps.specs.State.{IsOwn, edge as edge_at, bottle_end as end_of_bottle};
+ghost use Rattle.legal_steps.specs.State.{IsOwn, session, edge as edge_at, bottle_end as end_of_bottle};
 ghost use Rattle.legal_steps.specs.Legal.{IsJob, Here, Needs, instrument_of};
 ghost use Rattle.reasons.specs.Reasons.{Lacks, Keeps};
-ghost use Rattle.live_lab.specs.Keepers.{IsKept, IsKeptAt, IsKeeper, AreKeepers, AreKeepersAt};
+ghost use Rattle.live_lab.specs.Keepers.{IsKept, IsKeptAt, IsKeeper, IsUser, AreUsers, AreKeepers, AreKeepersAt};
 
 use crate::lab::Lab;
 use interleaving::World;
@@ -32,7 +32,7 @@ fn names(set: u64, instrument: InstrumentNo) -> bool
 }
 
 /// The instruments that a session of the job names.
-fn named<A: Allocator>(plan: &Plan<A>, job: JobNo, session: u32) -> u64
+pub(crate) fn named<A: Allocator>(plan: &Plan<A>, job: JobNo, session: u32) -> u64
     requires is_job { IsJob plan.now job }
     requires begun { 1 ≤ session }
     requires is_session { session ≤ length (sessions plan.now job) }
@@ -219,19 +219,70 @@ fn keepers_of<A: Allocator>(world: &World<A>, job: JobNo, instrument: Instrument
     Keepers { jobs, holding }
 }
 
+/// Whether the next session of the first job names the instrument.
+fn wants<A: Allocator>(world: &World<A>, job: JobNo, instrument: InstrumentNo) -> bool
+    requires job { IsJob world.now.plan job }
+    requires few { instrument < 64 }
+    ensures { result ≡ session_names world.now.plan job (session world.now.state job + 1) instrument }
+{
+    let before = world.job(job).session;
+    if world.plan().sessions(job) <= before {
+        return false;
+    }
+    names(named(world.plan(), job, before + 1), instrument)
+}
+
+/// Whether the next session of the first job names the instrument, and the second is in one that does.
+fn is_user<A: Allocator>(
+    world: &World<A>,
+    job: JobNo,
+    other: JobNo,
+    instrument: InstrumentNo,
+) -> bool
+    requires job { IsJob world.now.plan job }
+    requires other { IsJob world.now.plan other }
+    requires few { instrument < 64 }
+    ensures { IsTrue result ↔ IsUser world.now.plan world.now.state job instrument other }
+{
+    wants(world, job, instrument) && needs(world, other, instrument)
+}
+
+/// The jobs in a session that needs the instrument, if the next session of the job names it.
+fn users_of<A: Allocator>(world: &World<A>, job: JobNo, instrument: InstrumentNo) -> Keepers
+    requires job { IsJob world.now.plan job }
+    requires few { instrument < 64 }
+    ensures { AreUsers world.now job instrument result }
+{
+    let mut jobs = 0u32;
+    let mut holding = 0u32;
+    for number in 0..world.plan().jobs() {
+        let other = JobNo(number as u8);
+        if is_user(world, job, other, instrument) {
+            jobs |= 1 << number;
+            if world.job(other).is_drinking() {
+                holding |= 1 << number;
+            }
+        }
+    }
+    Keepers { jobs, holding }
+}
+
 impl Lab {
-    /// The jobs that keep a job waiting for an instrument, if there is such a job and such an instrument.
+    /// The jobs that keep a job waiting for an instrument, if there is such a job and such an instrument. Of a job that waits outside: the jobs in a
+    /// session that needs the instrument.
     pub fn keepers(&self, job: u32, instrument: u32) -> Option<Keepers>
-        ensures { AreKeepersAt self.now.world job instrument result }
+        ensures { AreKeepersAt self.now job instrument result }
     {
         let plan = self.world.plan();
         if plan.jobs() <= job as usize || plan.instruments() <= instrument as usize {
             return None;
         }
-        Some(keepers_of(
-            &self.world,
-            JobNo(job as u8),
-            InstrumentNo(instrument as u8),
-        ))
+        let number = JobNo(job as u8);
+        let instrument = InstrumentNo(instrument as u8);
+        Some(if self.place_outside(number).is_some() {
+            users_of(&self.world, number, instrument)
+        } else {
+            keepers_of(&self.world, number, instrument)
+        })
     }
 }

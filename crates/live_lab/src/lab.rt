@@ -3,11 +3,13 @@ ghost use Rattle.std.specs.Prelude.{◌≡◌, ◌≤◌, [], true, IfOk, IfErr,
 ghost use Rattle.legal_steps.specs.Opening.{the_opening};
 ghost use Rattle.script_reader.specs.Script.{ScriptMeans};
 ghost use Rattle.live_lab.specs.Clocks.{no_clock};
-ghost use Rattle.live_lab.specs.Labs.{fresh_lab, lab_in, with_kept, IsWhyNot};
+ghost use Rattle.late_thirst.specs.Lines.{with_most};
+ghost use Rattle.live_lab.specs.Labs.{fresh_lab, lab_in, with_kept, with_line, IsWhyNot};
 
 use crate::clock::{Clock, fresh};
 use interleaving::World;
 use lab_program::RunFault;
+use late_thirst::Line;
 use script_reader::read_plan;
 use settling::Due;
 use std::alloc::{AllocError, Global};
@@ -16,23 +18,24 @@ use std::marker::Model;
 /// The most bytes that a script may have.
 const MOST_BYTES: usize = 16_777_216;
 
-/// A world, a clock for each job, and notes of who may have something to do.
+/// A world, a clock for each job, notes of who may have something to do, and who waits outside.
 #[derive(Drop)]
 pub struct Lab {
     pub(crate) world: World<'static, Global>,
     pub(crate) clocks: Vec<Clock, Global>,
     pub(crate) due: Due<Global>,
+    pub(crate) line: Line,
 }
 
 impl Model for Lab {
-    ghost use Rattle.live_lab.specs.Labs.{LabView, IsLab};
+    ghost use Rattle.live_lab.specs.Labs.{LabView, IsLab, IsLineOf};
     ghost use Rattle.settling.specs.Left.{AreMarked};
 
     ghost Value = { LabView };
 
-    ghost view = { λ x. record { world = x.world; clocks = x.clocks.items } };
+    ghost view = { λ x. record { world = x.world; clocks = x.clocks.items; line = x.line } };
 
-    ghost invariant = { λ x. IsLab (record { world = x.world; clocks = x.clocks.items }) × AreMarked x.world.plan x.world.state x.due };
+    ghost invariant = { λ x. IsLab x.world x.clocks.items × AreMarked x.world.plan x.world.state x.due × IsLineOf x.world x.line };
 }
 
 impl Lab {
@@ -49,14 +52,29 @@ impl Lab {
         Ok(Lab::of_world(alloc, world)?)
     }
 
-    /// A lab that goes on from this world. Its clocks are new, and each job is attended to at the next settle.
+    /// A lab that goes on from this world. Its clocks are new, and each job is attended to at the next settle. Nobody is outside: whoever was has to
+    /// ask again.
     pub fn of_world(alloc: Global, world: World<'static, Global>) -> Result<Lab, AllocError>
         requires { world.opening ≡ the_opening world.plan }
         ensures { IfOk result (λ l. l ≡ lab_in world.entry) }
     {
         let due = Due::all(alloc, world.plan())?;
         let clocks = fresh_clocks(alloc, world.plan().jobs())?;
-        Ok(Lab { world, clocks, due })
+        let line = Line::nobody(alloc, world.plan().jobs())?;
+        Ok(Lab {
+            world,
+            clocks,
+            due,
+            line,
+        })
+    }
+
+    /// From now on a job that asks is let in after so many sessions that pass it by, if its instruments aren't free before. At 0, as a lab begins, it
+    /// is at once.
+    pub fn set_overtakes(&mut self, most: u32)
+        ensures { self.new ≡ with_line self.old (with_most self.old.line most) }
+    {
+        self.line.set_most(most);
     }
 
     /// The world, for all that is asked without a step.

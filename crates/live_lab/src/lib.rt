@@ -4,6 +4,8 @@
 //! that names a job that isn't there changes nothing and answers `None`. No call but the first takes memory, but for what it hands out.
 #![tactic(auto)]
 
+mod admitting;
+mod asking;
 mod beginning;
 mod clock;
 mod commanding;
@@ -11,6 +13,7 @@ mod ending;
 mod keeping;
 mod kinds;
 mod lab;
+mod outside;
 mod planned;
 mod printing;
 mod readers;

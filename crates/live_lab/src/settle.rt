@@ -3,11 +3,13 @@ ghost use Rattle.std.specs.Prelude.{◌≡◌, length};
 ghost use Rattle.live_lab.specs.Counting.{AreTurnsCounted};
 ghost use Rattle.live_lab.specs.Settles.{Settles};
 
+use crate::admitting::{admit, say_and_rest};
+use crate::asking::ask;
 use crate::clock::{Clock, after_turn};
 use crate::kinds::{Kind, has, jobs_of};
 use crate::lab::Lab;
 use crate::resting::come_to_rest;
-use crate::words::{Word, say_each};
+use crate::words::Word;
 use interleaving::World;
 use lab_plan::JobNo;
 use std::alloc::Allocator;
@@ -40,25 +42,37 @@ fn count_turns<A: Allocator>(clocks: &mut [Clock], world: &World<A>, waiting: u3
 }
 
 impl Lab {
-    /// Begins the next session of each job of `waiting` that may begin one, and does all that can be done without a word from an owner, until nothing is
-    /// left to do anywhere. Sessions are given up whose patience was used up before. Bits beyond the plan's jobs say nothing.
+    /// Each job of `waiting` that may begin its next session asks, and those are let in that are due; then all is done that can be done without a word
+    /// from an owner, until nothing is left to do anywhere. Sessions are given up whose patience was used up before. Bits beyond the plan's jobs say
+    /// nothing.
     pub fn settle(&mut self, waiting: u32) -> Came
         ensures { Settles waiting self.old result self.new }
     {
         let thirsty = jobs_of(&self.world, &self.clocks, waiting, Kind::Waits);
         let first = come_to_rest(&mut self.world, &mut self.due);
-        let begun = jobs_of(&self.world, &self.clocks, waiting, Kind::Begins);
-        let began = say_each(&mut self.world, &mut self.due, begun, Word::Begins);
-        let second = come_to_rest(&mut self.world, &mut self.due);
+        ask(&mut self.line, &self.world, waiting);
+        let second = admit(
+            &mut self.world,
+            &mut self.due,
+            &mut self.line,
+            &self.clocks,
+            waiting,
+        );
         let given_up = jobs_of(&self.world, &self.clocks, waiting, Kind::IsImpatient);
-        let gave_up = say_each(&mut self.world, &mut self.due, given_up, Word::GivesUp);
-        let third = come_to_rest(&mut self.world, &mut self.due);
+        let third = say_and_rest(&mut self.world, &mut self.due, given_up, Word::GivesUp);
+        let fourth = admit(
+            &mut self.world,
+            &mut self.due,
+            &mut self.line,
+            &self.clocks,
+            waiting,
+        );
         count_turns(&mut self.clocks, &self.world, waiting, thirsty);
         Came {
             holds: jobs_of(&self.world, &self.clocks, waiting, Kind::Holds),
             given_up,
             none_left: jobs_of(&self.world, &self.clocks, waiting, Kind::NoneLeft),
-            deeds: first + (began + second) + (gave_up + third),
+            deeds: first + second + third + fourth,
         }
     }
 }

@@ -14,7 +14,7 @@ use Rattle.live_lab.proofs.lab.Lab.command_of.Goals as goal
 pub invariant_of-self : goal.invariant_of-self
 invariant_of-self c =
     let x = c.self.inside in let j = c.args.job in
-    in_lab x.world c.do_act.new.world x.clocks.items x.clocks.items (Reach j ∷ Act j ∷ []) (IsBySelf j) c.plan-3.result.now x.due c.wake_self.new.due
+    in_lab x.world c.do_act.new.world x.clocks.items x.clocks.items x.line (Reach j ∷ Act j ∷ []) (IsBySelf j) c.plan-3.result.now x.due c.wake_self.new.due
     c.do_act.ensures ((refl, tt), ((refl, tt), tt)) c.wake_self.ensures.keeps c.plan-3.ensures.plan refl c.self.invariant
 
 pub returns : goal.returns
@@ -28,5 +28,5 @@ returns c =
     let lg = ap (λ (l : LogView). l.entries) c.log.ensures ∙ ap (λ (z : ℕ × Verb). log w.state z.0) cmd in
     let entry : c.next_entry-entry.result ≡ next_entry w.plan w.state j =
     c.next_entry-entry.ensures ∙ (λ i. entry_after (c.plan-2.ensures.plan i) j (ph i).session (ph i).position (lg i)) in
-    subst (λ (old : LabView). Commands j old (Some c.next_entry-entry.result) (record { world = c.do_act.new.world; clocks = x.clocks.items })) c.self.view_is
-    (may, entry, record { leads = c.do_act.ensures; clocks = refl })
+    subst (λ (old : LabView). Commands j old (Some c.next_entry-entry.result) (record { world = c.do_act.new.world; clocks = x.clocks.items; line = x.line })) c.self.view_is
+    (may, entry, record { leads = c.do_act.ensures; clocks = refl; line = refl })

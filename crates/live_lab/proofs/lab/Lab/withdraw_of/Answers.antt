@@ -1,11 +1,17 @@
-use Rattle.std.proofs.Common.{[], ◌∷◌, refl}
+use Rattle.std.proofs.Common.{sym, subst, [], ◌∷◌, refl, None, length-set, ◌∙◌}
 use Rattle.legal_steps.specs.declared.event.Event.TheVariants.{Withdraw}
 use Rattle.settling.specs.Left.{IsBySelf}
+use Rattle.late_thirst.specs.Outside.{LineView}
+use Rattle.live_lab.specs.Labs.{IsLineOf}
 use Rattle.live_lab.proofs.InLab.{in_lab}
 use Rattle.live_lab.proofs.lab.Lab.withdraw_of.Goals as goal
 
 pub invariant_of-self : goal.invariant_of-self
 invariant_of-self c =
+    let x = c.self.inside in (c.self.invariant.0, c.self.invariant.1, subst (λ (l : LineView). IsLineOf x.world l) (sym c.leave.ensures) (length-set x.line.places _ None ∙ c.self.invariant.2))
+
+pub invariant_of-self-2 : goal.invariant_of-self-2
+invariant_of-self-2 c =
     let x = c.self.inside in let j = c.args.job in
-    in_lab x.world c.step.new.world x.clocks.items x.clocks.items (Withdraw j ∷ []) (IsBySelf j) c.plan.result.now x.due c.wake_self.new.due
+    in_lab x.world c.step.new.world x.clocks.items x.clocks.items x.line (Withdraw j ∷ []) (IsBySelf j) c.plan.result.now x.due c.wake_self.new.due
     c.step.ensures ((refl, tt), tt) c.wake_self.ensures.keeps c.plan.ensures.plan refl c.self.invariant

@@ -1,0 +1,3 @@
+pub mod Passing
+pub mod Gone
+pub mod Fewer

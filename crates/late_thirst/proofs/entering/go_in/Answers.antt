@@ -1,0 +1,10 @@
+use Rattle.std.proofs.Common.{◌∙◌, ap, arith, length, sym, subst}
+use Rattle.late_thirst.specs.Outside.{needs_of, passed_at, place}
+use Rattle.late_thirst.proofs.Passing.{begins, one_more}
+use Rattle.late_thirst.proofs.entering.go_in.Goals as goal
+
+pub loop-other-preserved : goal.loop-other-preserved
+loop-other-preserved c =
+    let l = c.loop-other in
+    one_more c.args.most c.args.ready c.needs_of-needs.result c.args.job c.args.places.now l.other l.places c.passed_at.result
+    (omega (arith, l.auto.places, c.loop-other-test.true)) c.passed_at.ensures l.invariant

@@ -1,0 +1,7 @@
+use Rattle.std.proofs.Common.{◌≡◌}
+use Rattle.late_thirst.specs.Outside.{place, needs_of}
+use Rattle.late_thirst.proofs.Passing.{ArePassedTo}
+use Rattle.late_thirst.proofs.entering.go_in.Given as goal
+
+abbrev pub invariant-loop-other : goal.invariant-loop-other
+invariant-loop-other l = ArePassedTo l.most l.ready l.needs l.job l.fn.places l.other l.places

@@ -1,0 +1,21 @@
+use Rattle.std.proofs.Common.{◌≡◌, ◌∙◌, List, Option, refl, sym, subst}
+use Rattle.std.proofs.lemmas.List.{with_items_is}
+use Rattle.std.specs.Vec.{with_items}
+use Rattle.late_thirst.specs.declared.asker.Asker.{Asker}
+use Rattle.late_thirst.specs.Outside.{LineView}
+use Rattle.late_thirst.specs.LettingIn.{LetsIn}
+use Rattle.late_thirst.specs.Lines.{LineLetsIn}
+use Rattle.late_thirst.proofs.Gone.{as_many_after}
+use Rattle.late_thirst.proofs.line.Line.let_in.Goals as goal
+
+pub returns : goal.returns
+returns c =
+    let x = c.self.inside in let ready = c.args.ready in let used = c.args.used in let set = c.let_in.result in
+    let lets : LetsIn x.most ready used c.deref_mut.result.now set c.let_in.new.places = c.let_in.ensures in
+    let items = with_items_is x.places c.let_in.new.places (as_many_after x.most ready used c.deref_mut.result.now set c.let_in.new.places lets ∙ c.deref_mut.ensures.len) in
+    let new : LineView = record { places = (with_items x.places c.let_in.new.places).items; calls = x.calls; most = x.most } in
+    subst (λ (old : LineView). LineLetsIn ready used old set new) c.self.view_is (record {
+      places = subst (λ (z : List (Option Asker) × List (Option Asker)). LetsIn x.most ready used z.0 set z.1) (λ i. (c.deref_mut.ensures.value i, sym items i)) lets;
+      calls = refl;
+      most = refl;
+    })

@@ -1,0 +1,13 @@
+//! Who waits outside, and who is let in: late thirst. Pure bookkeeping, without a world.
+//!
+//! A job that asks for its session may be left outside until its instruments are free, or until it has been passed by often enough. No call
+//! but the first takes memory.
+#![tactic(auto)]
+
+mod asker;
+mod entering;
+mod line;
+mod picking;
+
+pub use asker::{Asker, Reason};
+pub use line::Line;

@@ -1,0 +1,109 @@
+-- Those who are let in, round after round.
+use Rattle.std.proofs.Common.{◌≡◌, ◌≢◌, ℕ, ◌+◌, ◌*◌, ◌<◌, ◌≤◌, true, false, List, [], ◌++◌, length, Option, refl, sym, ap, ◌∙◌, subst, inl, inr, arith, add-one}
+use Rattle.std.specs.List.{count_by}
+use Rattle.lab_plan.specs.LabPlan.{LabPlan}
+use Rattle.lab_plan.specs.InstrumentSets.{holds}
+use Rattle.legal_steps.specs.declared.event.Event.{Event}
+use Rattle.legal_steps.specs.declared.event.Event.TheVariants.{Thirst}
+use Rattle.legal_steps.specs.State.{Has}
+use Rattle.legal_steps.specs.Legal.{May, IsJob}
+use Rattle.interleaving.specs.World.{WorldView, LeadsTo}
+use Rattle.reasons.specs.Deeds.{is_deed}
+use Rattle.settling.specs.Left.{DueView, AreMarked}
+use Rattle.settling.proofs.Worlds.{leads_both}
+use Rattle.settling.proofs.Deeds.{deeds_both}
+use Rattle.late_thirst.specs.declared.asker.Asker.{Asker}
+use Rattle.late_thirst.specs.Outside.{LineView}
+use Rattle.late_thirst.specs.LettingIn.{LetsIn}
+use Rattle.late_thirst.proofs.Gone.{were_ready, nobody_in, as_many_after}
+use Rattle.late_thirst.proofs.Fewer.{count, at_most_all, fewer_after}
+use Rattle.live_lab.specs.declared.words.Word.{Word}
+use Rattle.live_lab.specs.declared.words.Word.TheVariants.{Begins}
+use Rattle.live_lab.specs.Labs.{IsLineOf}
+use Rattle.live_lab.specs.Sets.{events_of_jobs}
+use Rattle.live_lab.specs.Rests.{IsAtRest, DoAndRest}
+use Rattle.live_lab.specs.Doing.{said, RestsIn, DoesAndRests, AdmitsIn}
+use Rattle.live_lab.specs.Admitting.{LetsInNext, AdmitsNext, Admits, AdmitsAll}
+use Rattle.live_lab.proofs.Bits.{holds_has, has_holds}
+
+pub said_and_rested : (word : Word) (set : ℕ) (old mid new : WorldView) (m n : ℕ) → LeadsTo old (events_of_jobs (said word) old.plan set) mid
+    → m ≡ count_by is_deed (events_of_jobs (said word) old.plan set) → RestsIn mid n new → DoesAndRests word set old (m + n) new
+said_and_rested word set old mid new m n each deeds r =
+    let said_now = events_of_jobs (said word) old.plan set in
+    record {
+      events = said_now ++ r.events;
+      does = record { mid = mid; later = r.events; each = each; rests = r.rests; events_are = refl };
+      leads = leads_both old mid new said_now r.events each r.rests.leads;
+      deeds = (λ i. deeds i + r.deeds i) ∙ sym (deeds_both said_now r.events);
+    }
+
+-- whoever is let in may begin
+pub may_begin : (waiting : ℕ) (w : WorldView) (old : LineView) (set : ℕ) (new : LineView) → LetsInNext waiting w old set new → (j : ℕ) → IsJob w.plan j → Has set j
+    → May w.plan w.state (Thirst j)
+may_begin waiting w old set new n j job has =
+    let ready = were_ready old.most n.ready n.used old.places set new.places n.lets.places j (has_holds set j has) in
+    ((n.may.just j job).0 (holds_has n.ready j ready)).1
+
+-- so far these were let in
+pub record AdmittedSoFar (waiting : ℕ) (w0 : WorldView) (line0 : LineView) (w : WorldView) (line : LineView) (due : DueView) (n : ℕ) : Type 0 where
+  pub times : ℕ
+  pub events : List Event
+  pub one_by_one : Admits waiting times w0 line0 events w line
+  pub leads : LeadsTo w0 events w
+  pub at_rest : IsAtRest w0 → IsAtRest w
+  pub deeds : n ≡ count_by is_deed events
+  pub bound : n + count line.places * 129616 ≤ 4147712
+  pub marked : AreMarked w.plan w.state due
+  pub line_of : IsLineOf w line
+
+pub nobody_yet : (waiting : ℕ) (w : WorldView) (line : LineView) (due : DueView) → length w.plan.jobs ≤ 32 → IsLineOf w line → LeadsTo w [] w
+    → AreMarked w.plan w.state due → AdmittedSoFar waiting w line w line due 0
+nobody_yet waiting w line due few of none marked = record {
+  times = 0;
+  events = [];
+  one_by_one = (refl, refl, refl);
+  leads = none;
+  at_rest = λ r. r;
+  deeds = refl;
+  bound = let most = at_most_all line.places in omega (arith, most, few, of);
+  marked = marked;
+  line_of = of;
+}
+
+pub some_more : (waiting : ℕ) (w0 : WorldView) (line0 : LineView) (mid : WorldView) (there : LineView) (due : DueView) (n set m : ℕ) (new : WorldView)
+    (line : LineView) (due' : DueView) → set ≢ 0 → LetsInNext waiting mid there set line → DoesAndRests Begins set mid m new → m ≤ 129616
+    → AreMarked new.plan new.state due' → AdmittedSoFar waiting w0 line0 mid there due n → AdmittedSoFar waiting w0 line0 new line due' (n + m)
+some_more waiting w0 line0 mid there due n set m new line due' some lets does small marked x =
+    let fewer = fewer_after there.most lets.ready lets.used there.places set line.places some lets.lets.places in
+    record {
+      times = x.times + 1;
+      events = x.events ++ does.events;
+      one_by_one = subst (λ k. Admits waiting k w0 line0 (x.events ++ does.events) new line) (sym (add-one x.times))
+          (mid, there, x.events, set, does.events, x.one_by_one, record { some = some; lets = lets; begins = does.does }, refl);
+      leads = leads_both w0 mid new x.events does.events x.leads does.leads;
+      at_rest = λ r. does.does.rests.at_rest;
+      deeds = (λ i. x.deeds i + does.deeds i) ∙ sym (deeds_both x.events does.events);
+      bound = let before = x.bound in omega (arith, before, small, fewer);
+      marked = marked;
+      line_of = as_many_after there.most lets.ready lets.used there.places set line.places lets.lets.places
+          ∙ (x.line_of ∙ ap (λ (p : LabPlan). length p.jobs) (sym does.leads.same_plan));
+    }
+
+-- nobody is due any more
+pub all_admitted : (waiting : ℕ) (w0 : WorldView) (line0 : LineView) (w : WorldView) (there : LineView) (due : DueView) (n : ℕ) (line : LineView)
+    → LetsInNext waiting w there 0 line → AdmittedSoFar waiting w0 line0 w there due n → AdmitsIn waiting w0 line0 n w line
+all_admitted waiting w0 line0 w there due n line lets x =
+    let none = nobody_in there.most lets.ready lets.used there.places line.places lets.lets.places in
+    let same : line ≡ there = λ i. record { places = none.2 i; calls = lets.lets.calls i; most = lets.lets.most i } in
+    record {
+      events = x.events;
+      admits = record {
+        times = x.times;
+        one_by_one = subst (Admits waiting x.times w0 line0 x.events w) (sym same) x.one_by_one;
+        over = subst (λ (z : LineView). LetsInNext waiting w z 0 line) (sym same) lets;
+      };
+      leads = x.leads;
+      at_rest = x.at_rest;
+      line_of = subst (λ (z : LineView). IsLineOf w z) (sym same) x.line_of;
+      deeds = x.deeds;
+    }
