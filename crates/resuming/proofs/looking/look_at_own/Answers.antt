@@ -1,4 +1,4 @@
-use Rattle.std.proofs.Common.{◌≡◌, ◌<◌, ℕ, List, length, sym, ap, ◌∙◌, subst, arith}
+use Rattle.std.proofs.Common.{◌≡◌, ◌<◌, ℕ, List, length, ap, ◌∙◌, subst, arith}
 use Rattle.lab_plan.specs.LabPlan.{LabPlan, edges_of}
 use Rattle.resuming.proofs.Goes.{IsAt, look_step, own_place}
 use Rattle.resuming.proofs.looking.look_at_own.Goals as goal
