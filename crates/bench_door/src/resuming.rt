@@ -1,9 +1,10 @@
 //! A lab of desks that comes back from a journal.
-ghost use Rattle.std.specs.Prelude.{◌≡◌, IfOk, IfErr};
+ghost use Rattle.std.specs.Prelude.{◌≡◌, List, length, IfOk, IfErr};
 ghost use Rattle.std.specs.List.{All};
 ghost use Rattle.legal_steps.specs.declared.event.Event.{Event};
 ghost use Rattle.legal_steps.specs.Steps.{IsStepOf};
 ghost use Rattle.script_reader.specs.Steps.{StepsMean};
+ghost use Rattle.edge_rule.specs.DeskView.{desks_after};
 ghost use Rattle.edge_rule.specs.Standing.{StandsAfter};
 ghost use Rattle.lab_journal.specs.Resumed.{IsRefused, IsNotResumed};
 ghost use Rattle.resuming.specs.Resuming.{after_looks};
@@ -11,6 +12,7 @@ ghost use Rattle.bench_door.specs.Resumed.{IsPastOf, StandsAfterText, IsResumedB
 
 use crate::lab::Lab;
 use desk_user::open;
+use edge_rule::OpenError;
 use interleaving::{StepLine, World};
 use journal_texts::whole_lines;
 use lab_journal::{finish, replay_text};
@@ -41,22 +43,39 @@ fn reached(
     Ok(Reached::of(alloc, world)?)
 }
 
+/// The lab that opens with these parts.
+fn lab_of(
+    alloc: Global,
+    plan: &'static Plan<Global>,
+    reached: Reached<Global>,
+) -> Result<Lab, OpenError>
+    requires { StandsAfter plan.now reached.past.events reached.there.items reached.known.items reached.logs.items }
+    ensures { IfOk result (λ l. (l.bench.plan ≡ plan.now)
+        × (l.desks.items ≡ desks_after l.bench.table plan.now reached.past.events (length plan.now.jobs))) }
+{
+    match reached.open(alloc, plan) {
+        Ok((bench, desks)) => Ok(Lab { bench, desks }),
+        Err(error) => Err(error),
+    }
+}
+
 /// A lab that stands after a text. Its plan's memory is never given back.
-#[tactic(auto, using(crate::proofs::Desks::after_own, crate::proofs::Desks::after_rise))]
 fn standing_after(alloc: Global, text: &[u8]) -> Result<Lab, RunFault>
     ensures stands { IfOk result (λ l. StandsAfterText text.now l.bench l.desks.items) }
     ensures refused { IfErr result (IsRefused text.now) }
 {
     let (plan, steps) = read_steps(alloc, text)?;
-    let held = Box::new(alloc, plan)?;
+    let Ok(held) = Box::new(alloc, plan) else {
+        return Err(RunFault::NoMemory);
+    };
     let reached = reached(alloc, text, &*held, &steps)?;
     // What is leaked doesn't come back. So whether there is memory for a bench is tried before.
     if open(alloc, &*held).is_err() {
         return Err(RunFault::NoMemory);
     }
     let plan: &'static Plan<Global> = Box::leak(held);
-    match reached.open(alloc, plan) {
-        Ok((bench, desks)) => Ok(Lab { bench, desks }),
+    match lab_of(alloc, plan, reached) {
+        Ok(lab) => Ok(lab),
         Err(_) => Err(RunFault::NoMemory),
     }
 }
