@@ -5,6 +5,7 @@ ghost use Rattle.desk_user.specs.Serving.{Served};
 ghost use Rattle.live_lab.specs.declared.stage.Aim.TheVariants.{Hold, Retire};
 ghost use Rattle.bench_calls.specs.Closing.{Frees};
 ghost use Rattle.hall_calls.specs.Calls.{Opens, OfBench, TellsSize, Takes, GivesBack, Closes, is_of_a_hall};
+ghost use Rattle.hall_calls.specs.Resuming.{ResumesShared};
 ghost use Rattle.hall_calls.specs.Calls.{OnDesk, Drives, GoesOn, LetsGo, DoesNext, GivesUp, TellsState};
 
 use bench_calls::{LabEntry, LabSize, LabState, LabTurned};
@@ -23,6 +24,19 @@ pub extern "C" fn lab_shared_open(
     ensures { Opens script.now bench.old.slot.held bench.new.slot.held told.old told.new result }
 {
     hall_calls::open(alloc, script, bench, told)
+}
+
+/// Opens the bench that a journal tells of, as far as it has whole lines, with each desk at its place, and tells how many bytes these are.
+#[unsafe(no_mangle)]
+pub extern "C" fn lab_shared_resume(
+    alloc: Global,
+    journal: &[u8],
+    bench: &mut Handle,
+    told: &mut Told,
+) -> u32
+    ensures { ResumesShared journal.now bench.old.slot.held bench.new.slot.held told.old told.new result }
+{
+    hall_calls::resume(alloc, journal, bench, told)
 }
 
 /// Tells how many jobs and instruments there are.

@@ -2,3 +2,4 @@ pub mod Crosses
 pub mod Desks
 mod Closed
 mod OneMore
+mod Resumed

@@ -3,3 +3,4 @@ pub mod Ends
 pub mod Going
 pub mod Own
 pub mod Closing
+pub mod Resumed

@@ -7,6 +7,7 @@ mod ending;
 mod going;
 mod lab;
 mod readers;
+mod resuming;
 
 pub use closing::{LabEnd, print};
 pub use driving::{give_up, next_command};

@@ -1,11 +1,11 @@
 -- Jobs in ascending and in descending order.
-use Rattle.std.proofs.Common.{◌≡◌, ℕ, zero, suc, List, [], ◌∷◌, ◌++◌, length, refl, sym, ap, ◌∙◌, subst, arith}
-use Rattle.std.proofs.lemmas.List.{append-nil, append_assoc, length-map, length_push, map_push, same_from_push}
+use Rattle.std.proofs.Common.{◌≡◌, ℕ, zero, suc, List, [], ◌∷◌, ◌++◌, length, refl, sym, ap, ◌∙◌, subst, arith, reverse}
+use Rattle.std.proofs.lemmas.List.{append-nil, append_assoc, reverse-append, length-map, length_push, map_push, same_from_push}
 use Rattle.edge_rule.specs.DeskView.{DeskView}
 use Rattle.edge_rule.specs.Company.{jobs_of}
 use Rattle.bench_door.specs.Own.{rising}
 use Rattle.bench_hall.specs.declared.spot.Spot.{Spot}
-use Rattle.bench_hall.specs.Rows.{falling, jobs_at}
+use Rattle.bench_hall.specs.Rows.{falling, jobs_at, firsts}
 
 length_rising : (n : ℕ) → length (rising n) ≡ n
 length_rising zero = refl
@@ -57,4 +57,21 @@ pub all_placed : (spots : List Spot) (desks : List DeskView) (n : ℕ) → lengt
     → jobs_at spots ≡ falling n
 all_placed spots desks n none placed = sym (append-nil (jobs_at spots)) ∙ ap (λ k. jobs_at spots ++ falling k) (sym none) ∙ placed
 
-pub ruleset places = (all_left, none_placed, one_less, one_placed, all_placed)
+-- ---- which desks these are
+
+pub none_first : (spots : List Spot) (desks : List DeskView) → spots ≡ [] → firsts spots ++ reverse desks ≡ reverse desks
+none_first spots desks none = ap (λ l. firsts l ++ reverse desks) none
+
+pub one_first : (spots : List Spot) (s : Spot) (desks rest all : List DeskView) (d : DeskView) → desks ≡ rest ++ d ∷ []
+    → firsts spots ++ reverse desks ≡ reverse all → s.place.value ≡ d → firsts (spots ++ s ∷ []) ++ reverse rest ≡ reverse all
+one_first spots s desks rest all d is so_far of_it =
+    ap (λ l. l ++ reverse rest) (map_push (λ (s : Spot). s.place.value) spots s ∙ ap (λ x. firsts spots ++ x ∷ []) of_it)
+    ∙ append_assoc (firsts spots) (d ∷ []) (reverse rest)
+    ∙ ap (λ l. firsts spots ++ l) (sym (ap reverse is ∙ reverse-append rest (d ∷ [])))
+    ∙ so_far
+
+pub all_first : (spots : List Spot) (desks all : List DeskView) → length desks ≡ 0 → firsts spots ++ reverse desks ≡ reverse all → firsts spots ≡ reverse all
+all_first spots [] all none so_far = sym (append-nil (firsts spots)) ∙ so_far
+all_first spots (d ∷ desks) all none so_far = absurd (omega (arith, none))
+
+pub ruleset places = (all_left, none_placed, one_less, one_placed, all_placed, none_first, one_first, all_first)

@@ -1,6 +1,7 @@
 -- That each job has a place.
 use Rattle.std.specs.Prelude.{◌≡◌, ℕ, zero, suc, List, [], ◌∷◌, length, map}
 use Rattle.lab_plan.specs.LabPlan.{LabPlan}
+use Rattle.edge_rule.specs.DeskView.{DeskView}
 use Rattle.bench_hall.specs.declared.spot.Spot.{Spot}
 
 -- the numbers below this one, in descending order
@@ -14,3 +15,7 @@ jobs_at spots = map (λ (s : Spot). s.job) spots
 -- each job of the plan has one place, the last job's first
 abbrev pub HasEachPlace : LabPlan → List Spot → Type 0
 HasEachPlace plan spots = jobs_at spots ≡ falling (length plan.jobs)
+
+-- the desks that the places were made with, the last job's first
+abbrev pub firsts : List Spot → List DeskView
+firsts spots = map (λ (s : Spot). s.place.value) spots

@@ -1,5 +1,5 @@
 //! The hall: a bench, and a place for each of its desks.
-ghost use Rattle.std.specs.Prelude.{◌≡◌, ◌≤◌, [], IfOk, IfErr, IfSome, length, vec_capacity};
+ghost use Rattle.std.specs.Prelude.{◌≡◌, ◌≤◌, [], IfOk, IfErr, IfSome, length, reverse, vec_capacity};
 ghost use Rattle.std.specs.Arc.{arc_value};
 ghost use Rattle.std.proofs.Props.{props};
 ghost use Rattle.turns.specs.Lists.{Each};
@@ -8,7 +8,10 @@ ghost use Rattle.edge_rule.specs.Company.{jobs_of};
 ghost use Rattle.script_reader.specs.Script.{ScriptMeans};
 ghost use Rattle.live_lab.specs.Labs.{IsWhyNot};
 ghost use Rattle.bench_door.specs.Own.{each_prop, rising};
-ghost use Rattle.bench_hall.specs.Rows.{HasEachPlace};
+ghost use Rattle.lab_program.specs.declared.faults.RunFault.TheVariants.{NoMemory};
+ghost use Rattle.lab_journal.specs.Resumed.{IsNotResumed};
+ghost use Rattle.bench_hall.specs.Rows.{HasEachPlace, firsts};
+ghost use Rattle.bench_hall.specs.Resumed.{IsResumedHall};
 
 use crate::place::{is_home, put_back, take_out};
 use crate::spot::{Spot, spot_with};
@@ -39,6 +42,7 @@ fn spots_with(
     requires all { jobs_of desks.items ≡ rising (length bench.now.plan.jobs) }
     ensures own { IfSome result (λ spots. Each (λ s. Owns bench.now s.place.value) spots.items) }
     ensures each { IfSome result (λ spots. HasEachPlace bench.now.plan spots.items) }
+    ensures first { IfSome result (λ spots. firsts spots.items ≡ reverse desks.entry.items) }
 {
     let mut spots = Vec::new(alloc);
     while let Some(desk) = desks.pop() {
@@ -55,12 +59,28 @@ fn spots_with(
 impl Hall {
     /// A hall of a lab, with each desk at its place.
     pub fn of(alloc: Global, lab: Lab) -> Option<Hall>
-        ensures { IfSome result (λ hall. hall.bench ≡ lab.bench) }
+        ensures bench { IfSome result (λ hall. hall.bench ≡ lab.bench) }
+        ensures first { IfSome result (λ hall. firsts hall.spots.items ≡ reverse lab.desks.items) }
     {
         let Lab { bench, desks } = lab;
         match spots_with(alloc, &bench, desks) {
             Some(spots) => Some(Hall { bench, spots }),
             None => None,
+        }
+    }
+
+    /// The same, to be shared.
+    fn shared(alloc: Global, lab: Lab) -> Result<Arc<Hall, Global>, RunFault>
+        ensures bench { IfOk result (λ h. (arc_value h).bench ≡ lab.bench) }
+        ensures first { IfOk result (λ h. firsts (arc_value h).spots.items ≡ reverse lab.desks.items) }
+        ensures refused { IfErr result (λ fault. fault ≡ NoMemory) }
+    {
+        let Some(hall) = Hall::of(alloc, lab) else {
+            return Err(RunFault::NoMemory);
+        };
+        match Arc::new(alloc, hall) {
+            Ok(hall) => Ok(hall),
+            Err(_) => Err(RunFault::NoMemory),
         }
     }
 
@@ -70,13 +90,17 @@ impl Hall {
         ensures refused { IfErr result (λ fault. IsWhyNot script.now fault) }
     {
         let lab = Lab::open(alloc, script)?;
-        let Some(hall) = Hall::of(alloc, lab) else {
-            return Err(RunFault::NoMemory);
-        };
-        match Arc::new(alloc, hall) {
-            Ok(hall) => Ok(hall),
-            Err(_) => Err(RunFault::NoMemory),
-        }
+        Hall::shared(alloc, lab)
+    }
+
+    /// A hall that goes on where a journal ends, and how many bytes of the journal were taken. The plan's memory is never given back.
+    pub fn resume(alloc: Global, journal: &[u8]) -> Result<(Arc<Hall, Global>, usize), RunFault>
+        ensures resumed { IfOk result (λ r. IsResumedHall journal.now r.1 (arc_value r.0)) }
+        ensures refused { IfErr result (IsNotResumed journal.now) }
+    {
+        let (lab, n) = Lab::resume(alloc, journal)?;
+        let hall = Hall::shared(alloc, lab)?;
+        Ok((hall, n))
     }
 
     fn spot(&self, job: u32) -> Option<&Spot>

@@ -4,10 +4,12 @@
 
 mod driving;
 mod ending;
+mod resuming;
 mod seats;
 mod sharing;
 
 pub use driving::{begin, command, end, retire, serve, state, turn, withdraw};
 pub use ending::{close, free};
+pub use resuming::resume;
 pub use seats::{give, take_desk};
 pub use sharing::{open, size};

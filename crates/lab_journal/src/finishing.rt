@@ -39,7 +39,7 @@ fn finish_of<A: Allocator>(world: &mut World<A>, job: JobNo)
 }
 
 /// Does each command that is in hand.
-pub(crate) fn finish<A: Allocator>(world: &mut World<A>)
+pub fn finish<A: Allocator>(world: &mut World<A>)
     ensures goes { Finishes 32 world.old world.new }
     ensures none { (j : ℕ) → IsJob world.new.plan j → drinking world.new.state j ≢ Reaching }
 {

@@ -10,6 +10,7 @@ mod resuming;
 mod room;
 mod taking;
 
+pub use finishing::finish;
 pub use opening::{has_room, open_kept};
-pub use resuming::resume;
+pub use resuming::{replay_text, resume};
 pub use taking::{NotTaken, journal, take_journal};

@@ -3,6 +3,8 @@ ghost use Rattle.std.specs.Prelude.{◌≡◌, IfOk, IfErr};
 ghost use Rattle.std.specs.List.{All};
 ghost use Rattle.legal_steps.specs.Opening.{the_opening};
 ghost use Rattle.legal_steps.specs.Steps.{IsStepOf};
+ghost use Rattle.script_reader.specs.Steps.{StepsMean};
+ghost use Rattle.live_lab.specs.Labs.{opened};
 ghost use Rattle.lab_program.specs.declared.faults.RunFault.TheVariants.{NoMemory};
 ghost use Rattle.lab_journal.specs.Resumed.{IsResumed, IsRefused, IsNotResumed};
 ghost use Rattle.lab_journal.specs.Finishing.{TakesSteps, IsReplayed, IsKeptIn};
@@ -27,6 +29,31 @@ fn take_steps<A: Allocator>(world: &mut World<A>, steps: &[StepLine]) -> Result<
     }
 }
 
+/// Does the steps of a text in the world that its plan opens, and looks at its sums.
+pub fn replay_text<A: Allocator>(
+    world: &mut World<A>,
+    text: &[u8],
+    steps: &[StepLine],
+) -> Result<(), RunFault>
+    requires opened { world.old ≡ opened world.old.plan }
+    requires means { StepsMean text.now world.old.plan steps.now }
+    requires own { All (λ line. IsStepOf world.old.plan line.step) steps.now }
+    ensures plan { IfOk result (λ _. world.new.plan ≡ world.old.plan) }
+    ensures replayed { IfOk result (λ _. IsReplayed text.now world.new) }
+    ensures refused { IfErr result (IsRefused text.now) }
+{
+    if let Err(line) = take_steps(world, steps) {
+        return Err(RunFault::Step { line });
+    }
+    match wrong_sum(text) {
+        None => Ok(()),
+        Some(line) => Err(RunFault::Script(ScriptFault {
+            line,
+            cause: ScriptCause::BadStep,
+        })),
+    }
+}
+
 /// The world after the steps of a text.
 fn replayed(alloc: Global, text: &[u8]) -> Result<World<'static, Global>, RunFault>
     ensures replayed { IfOk result (λ w. IsReplayed text.now w) }
@@ -34,16 +61,8 @@ fn replayed(alloc: Global, text: &[u8]) -> Result<World<'static, Global>, RunFau
 {
     let (plan, steps) = read_steps(alloc, text)?;
     let mut world = World::of_plan(alloc, plan)?;
-    if let Err(line) = take_steps(&mut world, &steps) {
-        return Err(RunFault::Step { line });
-    }
-    match wrong_sum(text) {
-        None => Ok(world),
-        Some(line) => Err(RunFault::Script(ScriptFault {
-            line,
-            cause: ScriptCause::BadStep,
-        })),
-    }
+    replay_text(&mut world, text, &steps)?;
+    Ok(world)
 }
 
 /// The lab in a world that is replayed. It keeps what it does from now on: first of all the commands in hand.
