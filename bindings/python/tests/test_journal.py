@@ -42,8 +42,8 @@ class Journals(unittest.TestCase):
         self.addCleanup(folder.cleanup)
         self.path = os.path.join(folder.name, "bay.journal")
 
-    def opened(self, script: str = TWO, sync: str = "data") -> labrun.Bench:
-        bench = labrun.Bench.from_text(script, journal=self.path, sync=sync)
+    def opened(self, script: str = TWO, sync: str = "data", overtakes: int = labrun.OVERTAKES) -> labrun.Bench:
+        bench = labrun.Bench.from_text(script, journal=self.path, sync=sync, overtakes=overtakes)
         self.addCleanup(self.dropped, bench)
         return bench
 
@@ -116,7 +116,7 @@ class Files(Journals):
         self.assertTrue(more())
 
     def test_held_comes_back(self) -> None:
-        bench = self.opened(BOTH)
+        bench = self.opened(BOTH, overtakes=0)
         session, other = self.asked(bench, "a"), self.asked(bench, "b")
         session.acquire()
         session.command()
