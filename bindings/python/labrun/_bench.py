@@ -36,7 +36,7 @@ _HOLDS = (_DRINKING, _REACHING)
 _TICK = 0.1
 
 # by how many sessions one that asks may be overtaken before it stands in line, if nothing else is said (docs/PERFORMANCE.md, Fair and fast)
-OVERTAKES = 16
+OVERTAKES = 64
 
 # how a bench stands: no further session; no call at all
 _OPEN, _STOPPED, _CLOSED, _ELSEWHERE = range(4)
