@@ -3,7 +3,8 @@
 
 usage: bench/late/late.py [--seconds S] [--best N] [--bays NAME,..] [--ways NAME,..] [--json FILE]
 
-Stations without a pause ask for a session, sleep for its work, and let go, for S seconds (2). The bays (work of 1 ms, but in `mixed`):
+Stations without a pause ask for a session, sleep for its work, and let go, for S seconds (1: in more, a station that is always served would do
+more than the thousand sessions that a job has at most; `mixed` takes four times as long). The bays (work of 1 ms, but in `mixed`):
 
   six        6 stations at 5 instruments; each session needs one to three of them by chance
   thirty-two 32 stations at 20 instruments, likewise
@@ -22,8 +23,9 @@ The ways:
 Sessions are the same ones, by chance with one seed, in all ways. The ways are taken in turn, N times (3), and each row is of the run in the
 middle, by its sessions a second. Waits are from asking to holding, in milliseconds; one that still waits when the time is over counts
 as long as it waited by then. `free` is the share of time in which an instrument stood free though somebody waited who needs it, the mean over
-the instruments; `idle` the share in which somebody waited all of whose instruments were free. The package is found by PYTHONPATH, the
-library by LABRUN_LIBRARY."""
+the instruments; `idle` the share in which somebody waited all of whose instruments were free. After the rows of each bay come the same numbers
+as tables. The package is found by PYTHONPATH, the library by LABRUN_LIBRARY. Beside other work call it by `nice -n -15`: threads that are woken
+then get a processor soon. (Not by a real-time priority: who lets go of a Condition would nearly always take it again before others come.)"""
 
 import argparse
 import collections
@@ -32,7 +34,6 @@ import math
 import os
 import random
 import statistics
-import sys
 import threading
 import time
 
@@ -250,25 +251,38 @@ def shares(told, begun, end, instruments):
 
 def main():
     words = argparse.ArgumentParser(usage=__doc__)
-    words.add_argument("--seconds", type=float, default=2)
+    words.add_argument("--seconds", type=float, default=1)
     words.add_argument("--best", type=int, default=3)
     words.add_argument("--bays", default=",".join(BAYS))
     words.add_argument("--ways", default=",".join(WAYS))
     words.add_argument("--json")
     given = words.parse_args()
     ways, kept = given.ways.split(","), {}
-    sys.setswitchinterval(sys.getswitchinterval())
     for bay in given.bays.split(","):
         runs = {way: [] for way in ways}
         for _ in range(given.best):
             for way in ways:
-                runs[way].append(one_run(way, bay, given.seconds))
+                runs[way].append(one_run(way, bay, given.seconds * (4 if bay == "mixed" else 1)))
         found = {way: sorted(runs[way], key=lambda it: it["rate"])[len(runs[way]) // 2] for way in ways}
         kept[bay] = found
         tell(bay, found)
+    table("sessions a second", kept, lambda one: f"{one['rate']:.0f}")
+    table("wait in ms: median; 99 of 100; longest", kept, lambda one: "; ".join(short(one[it]) for it in ("median", "p99", "longest")))
+    table("an instrument free though wanted; somebody could work", kept, lambda one: f"{100 * one['free']:.0f}; {100 * one['idle']:.0f} %")
     if given.json:
         with open(given.json, "w", encoding="ascii") as file:
             json.dump({"bays": kept, "load": os.getloadavg()}, file)
+
+
+def short(milliseconds):
+    return f"{milliseconds:.{0 if milliseconds >= 9.95 else 1}f}"
+
+
+def table(head, kept, cell):
+    ways = list(next(iter(kept.values())))
+    print(f"\n| {head} | " + " | ".join(ways) + " |\n" + "|---" * (len(ways) + 1) + "|")
+    for bay, found in kept.items():
+        print(f"| {bay} | " + " | ".join(cell(found[way]) for way in ways) + " |", flush=True)
 
 
 def tell(bay, found):

@@ -921,6 +921,8 @@ class Bench:
         if self._lab_settle(self._at, self._waiting | job._bit, self._came_at):
             raise LabrunError("lab_settle: a status that it doesn't have")
         holds = self._came.holds
+        if self._has_patience:
+            self._settles += 1
         if holds & job._bit and not (holds & (self._waiting | self._left) or self._has_patience and self._came.given_up):
             session.state = "held"
             job._since = time.monotonic()
