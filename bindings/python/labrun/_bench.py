@@ -948,8 +948,13 @@ class Bench:
         self._look_over()
         number = session.number
         if job._in == number:
-            if job._session is not None and job._session.state == "held" or self._state_of(job.index).drinking in _HOLDS:
+            is_held = job._session is not None and job._session.state == "held"
+            if is_held or self._state_of(job.index).drinking in _HOLDS:
                 self._left &= ~job._bit
+                if not is_held:
+                    job._since = time.monotonic()
+                if job._limit is not None and not self._limited & job._bit:
+                    self._may_hold(job, job._limit)
                 job._session, session.state = session, "held"
                 return True
             self._may_go_on()
@@ -1175,7 +1180,9 @@ class Bench:
         return tuple(found)
 
     def _holder(self, instrument: str, job: Job) -> Keeper:
-        return Keeper(instrument, job.name, True, seconds=time.monotonic() - job._since)
+        # (if nobody waited for that, nobody knows since when)
+        is_known = job._session is not None and job._session.state not in ("asked", "left")
+        return Keeper(instrument, job.name, True, seconds=time.monotonic() - job._since if is_known else None)
 
     def _behind(self, job: Job, seen: int) -> Optional[Keeper]:
         """The keeper that this job waits for, with those behind it: one chain of perhaps several, to a holder."""

@@ -402,6 +402,20 @@ class Limits(unittest.TestCase):
         back(thread)
         self.assertEqual((bench.taken, bench._limited), ((), 0))
 
+    def test_limit_of_one_that_came_back(self) -> None:
+        """Held when its process died, and offered first: the limit counts from then."""
+        with tempfile.TemporaryDirectory() as folder:
+            path = os.path.join(folder, "bay.journal")
+            bench = labrun.Bench.from_text(TWO, journal=path)
+            asked(bench, "a").acquire()
+            bench.close()
+            bench = labrun.Bench.from_text(TWO, journal=path)
+            first = asked(bench, "a", limit=0.05)
+            first.acquire()
+            asked(bench, "b").acquire(timeout=LIMIT)
+            self.assertEqual((first.state, bench.taken), ("taken", (("a", 1),)))
+            bench.close()
+
     def test_limit_in_a_loop(self) -> None:
         async def main() -> str:
             bench = self.bench()
