@@ -11,12 +11,14 @@
 What is proved ends at the calls of the C library: that no two sessions hold an instrument at once, that each log is whole sessions, and
 that nobody waits for nothing: who waits, waits in the end for somebody who holds. This package, which calls it, is tested."""
 
-from ._bench import Bench, Command, Job, Jobs, JobState, Keeper, NotBack, Session
-from ._faults import Closed, JournalError, LabrunError, NotHeld, OtherProcess, Refused, StillHeld, Stopped, TimeoutError, TooLong, Withdrawn, WouldBlock
+from ._bench import OVERTAKES, Bench, Command, Job, Jobs, JobState, Keeper, NotBack, Session
+from ._faults import Closed, JournalError, LabrunError, NotHeld, OtherProcess, Refused, StillHeld, Stopped, TakenAway, TimeoutError, TooLong
+from ._faults import Withdrawn, WouldBlock
 from ._library import library_path
 from ._report import Counts, Entry, JobReport, Report, check, replay, run, upgrade
 
 __all__ = [
+    "OVERTAKES",
     "Bench",
     "Closed",
     "Command",
@@ -37,6 +39,7 @@ __all__ = [
     "Session",
     "StillHeld",
     "Stopped",
+    "TakenAway",
     "TimeoutError",
     "TooLong",
     "Withdrawn",

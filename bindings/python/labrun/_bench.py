@@ -3,7 +3,9 @@
 One mutex guards the handle, because the library takes one call at a time. It is held for the microseconds of the calls, never while
 somebody works. A session costs two of them if nobody waits: `lab_settle` begins it, and tells that it holds; `lab_end` ends it. If others
 wait, another `lab_settle` tells which of them hold now, and those are woken. So a thread that waits sleeps until its instruments are its
-own: after `lab_settle` whoever waits, waits in the end for somebody who holds. That is proved, so nobody looks from time to time."""
+own: after `lab_settle` whoever waits, waits in the end for somebody who holds. That is proved, so nobody looks from time to time.
+
+A session that waits is in line, or it is outside: it has asked, and keeps nothing from others yet. The library says when it is let in."""
 
 from __future__ import annotations
 
@@ -18,9 +20,9 @@ from dataclasses import dataclass, field
 from types import TracebackType
 from typing import Any, Awaitable, Callable, Iterator, Optional, SupportsIndex, Union, overload
 
-from ._faults import Closed, JournalError, LabrunError, NotHeld, OtherProcess, StillHeld, Stopped, TimeoutError, Withdrawn, WouldBlock
+from ._faults import Closed, JournalError, LabrunError, NotHeld, OtherProcess, StillHeld, Stopped, TakenAway, TimeoutError, Withdrawn, WouldBlock
 from ._journal import Journal, Kept, Path, Ticket
-from ._library import NO_SUCH, NOT_NOW, SESSIONS_LEFT, Came, Entered, Handle, Keepers, Library, Size, State, Told, Turned, library
+from ._library import NO_SUCH, NOT_NOW, SESSIONS_LEFT, Came, Entered, Handle, Keepers, Library, Outside, Size, State, Told, Turned, library
 from ._report import Entry, Report, Text, as_bytes, told_fault, told_text
 
 VERBS = ("set", "add", "read")
@@ -33,30 +35,56 @@ _HOLDS = (_DRINKING, _REACHING)
 # and those of all who begin or let go: it is no measure of time.
 _TICK = 0.1
 
+# by how many sessions one that asks may be overtaken before it stands in line, if nothing else is said (docs/PERFORMANCE.md, Fair and fast)
+OVERTAKES = 64
+
 # how a bench stands: no further session; no call at all
 _OPEN, _STOPPED, _CLOSED, _ELSEWHERE = range(4)
 
 # (a name of its own, so that a test can put gates there)
 _new_lock = threading.Lock
 
+_now = time.monotonic
+
 
 @dataclass(frozen=True)
 class Keeper:
-    """A job that keeps an instrument from a waiting session: it has it and needs it, too, and holds it (`holds`), or comes first and waits
-    itself. Then `behind` is why: the keeper that it waits for, whose own is the next, and the last of them holds."""
+    """A job that keeps an instrument from a waiting session: it needs it, too, and holds it (`holds`, for `seconds` by now), or is in line for it
+    and waits itself. Then `behind` is why: the keeper that it waits for, whose own is the next, and the last of them, the `end`, holds.
+
+    `why` is `held`; `in line before you`; or `kept for board, passed 16 times`, where you are still outside: so many sessions went before
+    board (`passed`) until it stood in line."""
 
     instrument: str
     job: str
     holds: bool
     behind: Optional[Keeper] = field(default=None, compare=False)
+    seconds: Optional[float] = field(default=None, compare=False)
+    passed: Optional[int] = field(default=None, compare=False)
+
+    @property
+    def why(self) -> str:
+        if self.holds:
+            return "held"
+        return "in line before you" if self.passed is None else f"kept for {self.job}, passed {self.passed} times"
+
+    @property
+    def end(self) -> Keeper:
+        end = self
+        while end.behind is not None:
+            end = end.behind
+        return end
+
+    @property
+    def for_long(self) -> str:
+        """As ` for 125 s`, of one that holds."""
+        return "" if self.seconds is None else f" for {self.seconds:.{0 if self.seconds >= 10 else 1}f} s"
 
     def __str__(self) -> str:
-        if self.holds:
-            return f"{self.instrument} is held by {self.job}"
-        text, why = f"{self.instrument} is kept by {self.job}", self.behind
-        while why is not None:
-            text += f", which waits for {why.instrument}, {'held' if why.holds else 'kept'} by {why.job}"
-            why = why.behind
+        text, one = f"{self.instrument} is {'held by' if self.holds else 'kept for'} {self.job}{self.for_long}", self.behind
+        while one is not None:
+            text += f", which waits for {one.instrument}, {'held by' if one.holds else 'kept for'} {one.job}{one.for_long}"
+            one = one.behind
         return text
 
 
@@ -71,7 +99,8 @@ class Command:
 
 @dataclass(frozen=True)
 class JobState:
-    """How far a job is: `session` is its current or last session, from 1, of `sessions`; `waited` is how many turns it waited for it."""
+    """How far a job is: `session` is its current or last session, from 1, of `sessions`; `waited` is how many turns it waited for it in line.
+    One that waits may be `outside`, not in line yet, and `passed` is then how many sessions went before it."""
 
     session: int
     sessions: int
@@ -83,10 +112,13 @@ class JobState:
     waited: int
     meals: int
     turns: int
+    outside: bool = False
+    passed: int = 0
 
 
 class NotBack(LabrunError, builtins.TimeoutError):
-    """The time limit of `Bench.run` passed, and the threads of these jobs aren't back. The text says what each of them is at."""
+    """The time limit of `Bench.run` passed, and the threads of these jobs aren't back. The text says what each of them is at. Those that hold
+    instruments come first, the longest of all before the others: who waits, waits for these."""
 
     def __init__(self, jobs: tuple[str, ...], at: tuple[str, ...] = ()) -> None:
         super().__init__("not back: " + ", ".join(f"{job} ({what})" if what else job for job, what in zip(jobs, at or ("",) * len(jobs))))
@@ -98,11 +130,11 @@ class Session:
     that are left and lets go, also when the body raised. Acquired, it holds them; nobody else does meanwhile.
 
     `number` counts the job's sessions from 1, `instruments` are the names of those that it needs, in the order in which the script first
-    names them, `commands` what it does with them, `patience` is in turns, None if it has none. `state` is `new`; `waiting`, for its
-    instruments; `held`; `finished`, with its commands logged; `withdrawn`, with none; `asked`: a time limit passed, and it keeps its place in
-    the line; `left`: it was given up but may not be withdrawn; `lapsed`: it was left, its turn came while somebody waited, and so its
-    commands were logged though nobody did its work. `done` is how many of its commands are done; `resumed`, whether it held its instruments
-    when the process died that had the journal before: then it is held as it is offered."""
+    names them, `commands` what it does with them, `patience` is the script's, in turns, None if it has none. `state` is `new`; `waiting`, for
+    its instruments; `held`; `finished`, with its commands logged; `withdrawn`, with none; `asked`: a time limit passed, and it keeps its place
+    in the line; `left`: it was given up but may not be withdrawn; `lapsed`: it was left, its turn came while somebody waited, and so its
+    commands were logged though nobody did its work; `taken`: it was ended for its owner. `done` is how many of its commands are done;
+    `resumed`, whether it held its instruments when the process died that had the journal before: then it is held as it is offered."""
 
     __slots__ = ("job", "number", "timeout", "instruments", "commands", "patience", "state", "done", "resumed")
     job: Job
@@ -136,15 +168,15 @@ class Session:
         """Blocks until the session holds all its instruments; at once if it does.
 
         After `timeout` seconds it raises TimeoutError, which says who keeps it waiting. The session keeps its place in the line, and may
-        come to its instruments meanwhile: acquire it again, or `give_up`. Withdrawn: its patience ran out. WouldBlock: it would have to
-        wait, and a loop of asyncio runs on this thread. Any other exception that comes while it waits, KeyboardInterrupt among them,
-        gives it up."""
+        come to its instruments meanwhile (unless it is still outside): acquire it again, or `give_up`. Withdrawn: its patience ran out.
+        TakenAway: it was ended for its owner. WouldBlock: it would have to wait, and a loop of asyncio runs on this thread. Any other exception
+        that comes while it waits, KeyboardInterrupt among them, gives it up."""
         job = self.job
         bench = job.bench
         try:
-            until = None if timeout is None else time.monotonic() + timeout
+            until = None if timeout is None else _now() + timeout
             with bench._mutex:
-                holds = bench._ask(job, self, job._sleep.release)
+                holds = bench._ask(job, self, job._get_up)
                 ticket = None if bench._journal is None else bench._journal.ticket
             if not holds:
                 ticket = self._sleep(job, bench, until, timeout)
@@ -166,7 +198,9 @@ class Session:
             job._sleep.acquire(True, self._span(until))
             if job._outcome and bench._journal is None:
                 self.state = "held"
-                return None
+                if job._in == self.number:
+                    return None
+                # it was taken away just now
             with bench._mutex:
                 if self._is_over(job, until):
                     return bench._ticket()
@@ -176,7 +210,7 @@ class Session:
         KeyboardInterrupt does."""
         job = self.job
         bench = job.bench
-        until = None if timeout is None else time.monotonic() + timeout
+        until = None if timeout is None else _now() + timeout
         loop, event = asyncio.get_running_loop(), asyncio.Event()
 
         def wake() -> None:
@@ -209,11 +243,17 @@ class Session:
             raise
 
     def _span(self, until: Optional[float]) -> float:
-        """For how long it may sleep; -1 for without limit. Only who has a time limit or a patience looks again without being woken."""
-        if until is None:
-            return -1 if self.patience is None else _TICK
-        span = max(0.0, min(until - time.monotonic(), threading.TIMEOUT_MAX))
-        return span if self.patience is None else min(span, _TICK)
+        """For how long it may sleep; -1 for without limit. Only who has a time limit or a patience looks again without being woken, and who
+        waits for a session that has a limit on holding."""
+        job = self.job
+        if until is None and self.patience is None and job._patience is None and not job.bench._limited:
+            return -1
+        now = _now()
+        ends = [threading.TIMEOUT_MAX, *(() if until is None else (until - now,)), *(() if self.patience is None else (_TICK,))]
+        if job._patience is not None:
+            ends.append(job._asked + job._patience - now)
+        ends += [it._due - now for it in job.bench._members(job.bench._limited)]
+        return max(0.0, min(ends))
 
     def _is_over(self, job: Job, until: Optional[float]) -> bool:
         """Whether it holds now. It raises what keeps it from waiting on."""
@@ -224,13 +264,24 @@ class Session:
             return True
         bench._may_go_on()
         if self.patience is not None:
-            now = time.monotonic()
+            now = _now()
             if now - bench._ticked >= _TICK / 2:
                 bench._ticked = now
                 bench._settle()
                 if self._came(job):
                     return True
-        if until is not None and time.monotonic() >= until:
+            # (outside the library doesn't count it)
+            if bench._settles - job._settles >= self.patience and bench._outside_of(job) is not None:
+                bench._leaves(job, self, True)
+                return self._came(job)
+        if bench._limited and bench._takes_overdue() and self._came(job):
+            return True
+        if job._patience is not None and _now() >= job._asked + job._patience:
+            keepers = bench._keepers(job)
+            if not bench._leaves(job, self, True):
+                return self._came(job)
+            raise Withdrawn(self, job._patience, keepers)
+        if until is not None and _now() >= until:
             self._asked(job)
             raise TimeoutError(self, bench._keepers(job))
         return False
@@ -243,7 +294,9 @@ class Session:
         if job._outcome:
             self.state = "held"
             return True
-        if self.state == "left":
+        if job._untold is self:
+            raise self._taken_away()
+        if self.state in ("left", "new"):
             raise NotHeld(f"session {self.number} of {job.name} was given up")
         self.state = "withdrawn"
         raise Withdrawn(self)
@@ -275,6 +328,10 @@ class Session:
                         raise self._not_held()
                     job._in = 0
                     self.state, self.done = "finished", len(self.commands)
+                    if bench._limited:
+                        bench._limited &= ~job._bit
+                    # (before the settle: that it let go may be in the file already, and what others come to by it not yet)
+                    ticket = None if bench._journal is None else bench._journal.ticket
                     if bench._waiting:
                         bench._settle()
                     else:
@@ -283,7 +340,6 @@ class Session:
                     if bench._torn:
                         bench._mend()
                     raise
-                ticket = None if bench._journal is None else bench._journal.ticket
             if ticket is not None:
                 bench._commit(ticket)
         except KeyboardInterrupt:
@@ -292,14 +348,21 @@ class Session:
             raise
 
     def _not_held(self) -> NotHeld:
+        if self.state == "taken" or self.job._untold is not None and self.job._untold.number == self.number:
+            return self._taken_away()
         return NotHeld(f"session {self.number} of {self.job.name} is {self.state}: it doesn't hold its instruments")
+
+    def _taken_away(self) -> TakenAway:
+        """To be raised: its owner is told."""
+        self.state, self.job._untold = "taken", None
+        return TakenAway(self)
 
     def give_up(self) -> None:
         """Gives the session up, if it asked and isn't held or over. It is withdrawn if it has a patience: it logs nothing.
 
-        A session without patience can't leave the line. It is `left`: nobody comes for it, but its turn may come; if somebody waits then, its
-        commands are logged, though nobody did its work, and it lets go (`lapsed`, and `Bench.lapsed` names it). Acquired before, it is as
-        any other."""
+        One without patience that is still outside is `new` again, as if it had never asked. In line, it can't leave. It is `left` then: nobody
+        comes for it, but its turn may come; if somebody waits then, its commands are logged, though nobody did its work, and it lets go
+        (`lapsed`, and `Bench.lapsed` names it). Acquired before, it is as any other."""
         ticket = self._give_up()
         if ticket is not None:
             self.job.bench._commit(ticket)
@@ -313,13 +376,7 @@ class Session:
             bench._look_over()
             if job._in != self.number or self.state == "held":
                 return None
-            bench._torn = True
-            job._session = self
-            if bench._call("lab_withdraw", job.index) == 0:
-                bench._comes_to(job, False, "withdrawn")
-            else:
-                bench._comes_to(job, False, "left")
-            bench._settle()
+            bench._leaves(job, self, False)
             return bench._ticket()
 
     def command(self) -> Optional[Entry]:
@@ -349,13 +406,9 @@ class Session:
         bench = job.bench
         with bench._mutex, bench._mending:
             bench._look_over()
-            bench._torn = job._in == self.number
-            if not bench._torn or bench._call("lab_withdraw", job.index) == NOT_NOW:
-                bench._torn = False
+            waits = job._in == self.number and not bench._holds(job) and self.patience is not None
+            if not (waits and bench._leaves(job, self, True)):
                 raise NotHeld(f"session {self.number} of {job.name} is {self.state}: it can't be withdrawn")
-            job._session = self
-            bench._comes_to(job, False, "withdrawn")
-            bench._settle()
             ticket = bench._ticket()
         if ticket is not None:
             bench._commit(ticket)
@@ -394,6 +447,8 @@ class Session:
             self._raised()
         elif self.state == "held":
             self.release()
+        elif self.job._untold is self:
+            raise self._taken_away()
 
     async def __aenter__(self) -> Session:
         await self.acquire_async(self.timeout)
@@ -438,12 +493,22 @@ class Job:
         self._is_retired: bool = False
         # who asked last; what came of that: None as long as it waits, then whether it holds; and what wakes who waits
         self._session: Optional[Session] = None
+        # the session that was taken away, until its owner is told
+        self._untold: Optional[Session] = None
+        # its session's limit on holding and its patience in seconds; since when it holds, until when it may, and since when it waits
+        self._limit: Optional[float] = None
+        self._patience: Optional[float] = None
+        self._since = self._due = self._asked = 0.0
+        # which session that is, how often the bench was settled before, and whether it comes from a journal: then it was in line
+        self._asked_for = self._settles = 0
+        self._is_old = False
         self._outcome: Optional[bool] = None
         self._fault: Optional[JournalError] = None
         self._wake: Optional[Callable[[], None]] = None
         # it is locked but for the moment between a wake-up and the thread that is woken
         self._sleep: threading.Lock = _new_lock()
         self._sleep.acquire()
+        self._get_up = self._sleep.release
 
     def __repr__(self) -> str:
         return f"<Job {self.name}>"
@@ -453,24 +518,32 @@ class Job:
         """How far the job is now."""
         with self.bench._mutex:
             self.bench._look_over()
+            outside = self.bench._outside_of(self)
             it = self.bench._state_of(self.index)
             return JobState(
-                it.session,
+                it.session + (outside is not None),
                 it.sessions,
                 it.sessions_done,
                 it.withdrawn,
-                it.drinking == _THIRSTY,
+                it.drinking == _THIRSTY or outside is not None,
                 it.drinking in _HOLDS,
                 it.drinking == _RETIRED,
                 it.waited,
                 it.meals,
                 it.turns,
+                outside is not None,
+                outside or 0,
             )
 
-    def next_session(self, timeout: Optional[float] = None) -> Optional[Session]:
-        """The session that comes next, not yet acquired; the same one again if it isn't over. None if none is left. `timeout` is the limit
-        of `with session:`."""
+    def next_session(self, timeout: Optional[float] = None, limit: Optional[float] = None, patience: Optional[float] = None) -> Optional[Session]:
+        """The session that comes next, not yet acquired; the same one again if it isn't over. None if none is left. All in seconds, None for
+        without: `timeout` is the limit of `with session:`; `limit` is one on holding: once it has held so long and others wait for it, it is
+        taken away; after `patience` seconds of waiting it is given up (`Session.give_up`), and Withdrawn is raised."""
         bench = self.bench
+        self._limit = limit
+        self._patience = patience
+        if self._untold is not None:
+            raise self._untold._taken_away()
         if bench._stands or bench._torn:
             with bench._mutex:
                 bench._look_over()
@@ -489,12 +562,12 @@ class Job:
                 return None
         return Session(self, number, timeout)
 
-    def sessions(self, timeout: Optional[float] = None) -> Iterator[Session]:
-        """The job's sessions, one after another. Each is yet to be entered: `with session:` blocks until it holds its instruments, for
-        `timeout` seconds at most (None: without limit). One that was neither held nor withdrawn comes again, and one that is still held
-        when the next is asked for is finished. If the loop is left, a session that timed out is given up."""
+    def sessions(self, timeout: Optional[float] = None, limit: Optional[float] = None, patience: Optional[float] = None) -> Iterator[Session]:
+        """The job's sessions, one after another. Each is yet to be entered: `with session:` blocks until it holds its instruments. `timeout`,
+        `limit` and `patience` are as in `next_session`. One that was neither held nor withdrawn comes again, and one that is still held when
+        the next is asked for is finished. If the loop is left, a session that timed out is given up."""
         while True:
-            session = self.next_session(timeout)
+            session = self.next_session(timeout, limit, patience)
             if session is None:
                 return
             try:
@@ -544,9 +617,14 @@ class Bench:
 
     With a `journal`, the path of a file, all that is done is there before a call returns: who holds, what was done. If the file is there, the
     bench goes on where it ends (`resumed`): a job that held still holds, and its session is offered first, with `resumed` true. With
-    `sync="data"` it is on the disk, with `sync="none"` in the system's memory, which outlives the process and not the machine."""
+    `sync="data"` it is on the disk, with `sync="none"` in the system's memory, which outlives the process and not the machine.
 
-    def __init__(self, script: Text, journal: Optional[Path] = None, sync: str = "data") -> None:
+    A session that asks stays outside, and keeps nothing from others, until its instruments are free; but `overtakes` sessions at most that need
+    one of them go before it, and then it stands in line. 0: it stands in line at once."""
+
+    def __init__(self, script: Text, journal: Optional[Path] = None, sync: str = "data", overtakes: int = OVERTAKES) -> None:
+        if not 0 <= overtakes < 1 << 32:
+            raise ValueError("overtakes is a number from 0 to 4294967295")
         calls: Union[Library, Kept] = library()
         given, told, handle = as_bytes(script), Told(), Handle()
         self._journal: Optional[Journal] = None
@@ -564,7 +642,7 @@ class Bench:
         self._at = ctypes.byref(handle)
         self._mutex = _new_lock()
         self._mending = _Mending(self)
-        self._turned, self._came, self._state = Turned(), Came(), State()
+        self._turned, self._came, self._state, self._outside = Turned(), Came(), State(), Outside()
         self._turned_at, self._came_at, self._state_at = ctypes.byref(self._turned), ctypes.byref(self._came), ctypes.byref(self._state)
         self._lab_settle, self._lab_end = calls.quick("lab_settle"), calls.quick("lab_end")
         self._report: Optional[Report] = None
@@ -572,12 +650,18 @@ class Bench:
         # the jobs whose owners wait, and those whose sessions were given up and can't be withdrawn, as sets of bits
         self._waiting = 0
         self._left = 0
+        # the jobs that hold with a limit
+        self._limited = 0
         self._ticked = 0.0
+        self._settles = 0
         self._lapsed: list[tuple[str, int]] = []
+        self._taken: list[tuple[str, int]] = []
         # the sessions whose body raised while they held
         self._raised: list[tuple[str, int]] = []
         # from a call that changes something until what it told is noted: an exception there leaves it, and then all is looked at anew
         self._torn = False
+        self._overtakes = overtakes
+        self._call("lab_overtakes", overtakes)
         size = Size()
         self._call("lab_bench_size", ctypes.byref(size))
         self.instruments: tuple[str, ...] = tuple(self._name("lab_instrument_name", at) for at in range(size.instruments))
@@ -591,17 +675,17 @@ class Bench:
         _benches.add(self)
 
     @classmethod
-    def open(cls, path: Path, journal: Optional[Path] = None, sync: str = "data") -> Bench:
+    def open(cls, path: Path, journal: Optional[Path] = None, sync: str = "data", overtakes: int = OVERTAKES) -> Bench:
         """The bench of the script in a file. Refused says which line isn't sound; JournalError, what is wrong with the journal."""
         if isinstance(path, str) and "\n" in path:
             raise ValueError("Bench.open takes the path of a script; Bench.from_text takes the script itself")
         with open(path, "rb") as file:
-            return cls(file.read(), journal, sync)
+            return cls(file.read(), journal, sync, overtakes)
 
     @classmethod
-    def from_text(cls, text: Text, journal: Optional[Path] = None, sync: str = "data") -> Bench:
+    def from_text(cls, text: Text, journal: Optional[Path] = None, sync: str = "data", overtakes: int = OVERTAKES) -> Bench:
         """The bench of a script in memory, else as `open`."""
-        return cls(text, journal, sync)
+        return cls(text, journal, sync, overtakes)
 
     def job(self, name: str) -> Job:
         """The job of this name, as `jobs[name]`; KeyError if there is none."""
@@ -626,6 +710,38 @@ class Bench:
         """The sessions, as (job, number), whose body raised while they held: their commands are in the logs all the same."""
         with self._mutex:
             return tuple(self._raised)
+
+    @property
+    def taken(self) -> tuple[tuple[str, int], ...]:
+        """The sessions, as (job, number), that were taken away from their owners: their commands are in the logs, and nobody may have done
+        all of their work."""
+        with self._mutex:
+            return tuple(self._taken)
+
+    @property
+    def overtakes(self) -> int:
+        """By how many sessions one that waits may be overtaken before it stands in line."""
+        return self._overtakes
+
+    def take_away(self, name: str) -> tuple[str, ...]:
+        """Ends the session that this job holds, for its owner, and gives the names of its instruments. NotHeld if it holds none; KeyError if
+        there is no such job.
+
+        The commands that are left are logged, `taken` names the session, and others may hold its instruments at once: first see that whoever
+        was at them is not. (The bench can't.) The owner's next call on the session, the end of `with session:` too, or the next one that
+        asks for a session of the job, raises TakenAway."""
+        job = self.jobs[name]
+        with self._mutex, self._mending:
+            self._look_over()
+            if not job._in or self._state_of(job.index).drinking not in _HOLDS:
+                raise NotHeld(f"{name} holds nothing")
+            instruments = job._plan[job._in - 1][0]
+            self._take_away(job)
+            ticket = self._ticket()
+            self._settle()
+        if ticket is not None:
+            self._commit(ticket)
+        return instruments
 
     def run(self, station: Callable[[Job], object], timeout: Optional[float] = None) -> None:
         """Calls `station(job)` on a thread for each job, and returns when all are back.
@@ -656,13 +772,13 @@ class Bench:
                 ends.gone(job)
                 back[job.index].set()
 
-        until = None if timeout is None else time.monotonic() + timeout
+        until = None if timeout is None else _now() + timeout
         try:
             for job in self.jobs:
                 threading.Thread(target=work, args=(job,), name=job.name, daemon=True).start()
             all_there.set()
             for event in back:
-                event.wait(None if until is None else max(0.0, until - time.monotonic()))
+                event.wait(None if until is None else max(0.0, until - _now()))
         except BaseException:
             self.stop()
             begun = back if all_there.is_set() else []
@@ -671,11 +787,11 @@ class Bench:
             # (again, because an interrupt may have come in the midst of it)
             all_there.set()
             for event in begun:
-                event.wait(None if until is None else max(0.0, until - time.monotonic()))
+                event.wait(None if until is None else max(0.0, until - _now()))
             raise
         late = tuple(job for job, event in zip(self.jobs, back) if not event.is_set())
         if late:
-            at = self._what_they_are_at(late)
+            late, at = self._what_they_are_at(late)
             self.stop()
             raise NotBack(tuple(job.name for job in late), at)
         ends.tell()
@@ -809,16 +925,24 @@ class Bench:
         if self._lab_settle(self._at, self._waiting | job._bit, self._came_at):
             raise LabrunError("lab_settle: a status that it doesn't have")
         holds = self._came.holds
+        self._settles += 1
         if holds & job._bit and not (holds & (self._waiting | self._left) or self._has_patience and self._came.given_up):
             session.state = "held"
+            job._since = _now()
+            if job._limit is not None:
+                self._may_hold(job, job._limit)
             self._torn = False
             return True
         # it waits, or others are to be told something as well
         job._outcome, job._wake, job._fault = None, None, None
         job._sleep.acquire(False)
         session.state = "waiting"
+        if job._asked_for != session.number:
+            job._asked_for, job._asked, job._settles, job._is_old = session.number, _now(), self._settles, False
         self._waiting |= job._bit
         self._tell()
+        if self._limited:
+            self._takes_overdue()
         job._wake = wake
         return session._came(job)
 
@@ -827,8 +951,13 @@ class Bench:
         self._look_over()
         number = session.number
         if job._in == number:
-            if job._session is not None and job._session.state == "held" or self._state_of(job.index).drinking in _HOLDS:
+            is_held = job._session is not None and job._session.state == "held"
+            if is_held or self._state_of(job.index).drinking in _HOLDS:
                 self._left &= ~job._bit
+                if not is_held:
+                    job._since = _now()
+                if job._limit is not None and not self._limited & job._bit:
+                    self._may_hold(job, job._limit)
                 job._session, session.state = session, "held"
                 return True
             self._may_go_on()
@@ -840,6 +969,8 @@ class Bench:
         if number <= job._last:
             if session.state == "withdrawn":
                 raise Withdrawn(session)
+            if session.state == "taken" or job._untold is not None and job._untold.number == number:
+                raise session._taken_away()
             raise NotHeld(f"session {number} of {job.name} is over")
         if job._in or number != job._last + 1:
             raise LabrunError(f"session {job._in or job._last + 1} of {job.name} comes before its session {number}")
@@ -849,6 +980,7 @@ class Bench:
     def _settle(self) -> None:
         """All that can be done is done, and those are woken whose sessions came to hold by it."""
         self._torn = True
+        self._settles += 1
         if self._lab_settle(self._at, self._waiting, self._came_at):
             raise LabrunError("lab_settle: a status that it doesn't have")
         self._tell()
@@ -875,16 +1007,87 @@ class Bench:
         """A session that somebody may wait for holds, or has the end that `how` says. Whoever waits for it is woken."""
         job._outcome = holds
         self._waiting &= ~job._bit
+        if holds:
+            job._since = _now()
+            if job._limit is not None:
+                self._may_hold(job, job._limit)
         if how == "left":
             self._left |= job._bit
         elif how:
             if how == "lapsed":
                 self._lapsed.append((job.name, job._in))
             self._left &= ~job._bit
-            job._in = 0
+            job._in = job._asked_for = 0
+            job._last -= how == "new"
         if how and job._session is not None:
             job._session.state = how
         self._rouse(job)
+
+    def _outside_of(self, job: Job) -> Optional[int]:
+        """How often a job that is outside has been passed by; None if it isn't outside."""
+        self._call("lab_outside", job.index, ctypes.byref(self._outside))
+        return self._outside.passed if self._outside.is_outside else None
+
+    def _leaves(self, job: Job, session: Session, unless_held: bool) -> bool:
+        """A session that asked and doesn't hold is given up. One with a patience is withdrawn: if it is outside, it is let in for that, it
+        alone. Whether it left: `unless_held`, it doesn't if it came to hold by that."""
+        self._torn = True
+        job._session = session
+        if session.patience is not None and self._outside_of(job) is not None:
+            self._call("lab_overtakes", 0)
+            try:
+                if self._lab_settle(self._at, job._bit, self._came_at):
+                    raise LabrunError("lab_settle: a status that it doesn't have")
+            finally:
+                self._call("lab_overtakes", self._overtakes)
+            holds = self._came.holds & job._bit
+            if not unless_held:
+                self._waiting &= ~job._bit
+            self._tell()
+            if holds and unless_held:
+                return False
+            self._torn = True
+        is_outside = session.patience is None and self._outside_of(job) is not None
+        if self._call("lab_withdraw", job.index) == NOT_NOW:
+            self._comes_to(job, False, "left")
+        else:
+            self._comes_to(job, False, "new" if is_outside else "withdrawn")
+        self._settle()
+        return True
+
+    def _take_away(self, job: Job) -> None:
+        """Ends the session that a job holds. `_settle` comes next."""
+        number, session = job._in, job._session
+        self._torn = True
+        job._untold = session if session is not None and session.number == number else Session(job, number, None)
+        if self._call("lab_end", job.index, self._turned_at):
+            job._untold = None
+            raise NotHeld(f"{job.name} holds nothing")
+        self._taken.append((job.name, number))
+        self._limited &= ~job._bit
+        self._comes_to(job, False, "taken")
+
+    def _may_hold(self, job: Job, limit: float) -> None:
+        """A session with a limit came to hold: those that wait for it reckon anew how long they sleep."""
+        job._due = job._since + limit
+        self._limited |= job._bit
+        for other in self._members(self._waiting):
+            if self._needs_of(other, job):
+                self._rouse(other)
+
+    def _needs_of(self, job: Job, other: Job) -> bool:
+        """Whether a job asked for an instrument of another's session."""
+        return bool(job._in and other._in) and not set(job._plan[job._in - 1][0]).isdisjoint(other._plan[other._in - 1][0])
+
+    def _takes_overdue(self) -> bool:
+        """Takes away each session that has held for longer than its limit while somebody asks for an instrument of it. Whether it did."""
+        now = _now()
+        found = [it for it in self._members(self._limited) if it._due <= now and any(self._needs_of(by, it) for by in self._jobs if by is not it)]
+        for job in found:
+            self._take_away(job)
+        if found:
+            self._settle()
+        return bool(found)
 
     def _rouse(self, job: Job) -> None:
         """Wakes who waits for a session of this job, if anybody does. (Whoever is woken for nothing sleeps again.)"""
@@ -899,13 +1102,19 @@ class Bench:
         self._torn = True
         if self._journal is not None and self._journal.fault is not None:
             self._journal.goes_back()
+            self._call("lab_overtakes", self._overtakes)
             self._went_back(JournalError(self._journal.path, "a write failed while it waited"))
             return
+        self._call("lab_overtakes", self._overtakes)
         for job in self._jobs:
+            is_outside = self._outside_of(job) is not None
             state, session = self._state_of(job.index), job._session
             holds = state.drinking in _HOLDS
-            job._last, job._in = state.session, state.session if holds or state.drinking == _THIRSTY else 0
+            job._last = state.session + is_outside
+            job._in = job._last if holds or is_outside or state.drinking == _THIRSTY else 0
             job._is_retired = state.drinking == _RETIRED
+            if not holds:
+                self._limited &= ~job._bit
             if session is None:
                 continue
             is_over = job._in != session.number and job._last >= session.number
@@ -917,7 +1126,9 @@ class Bench:
             elif is_over and session.state in ("held", "asked", "left"):
                 if session.state == "left" and (job.name, session.number) not in self._lapsed:
                     self._lapsed.append((job.name, session.number))
-                session.state = {"held": "finished", "asked": "withdrawn", "left": "lapsed"}[session.state]
+                if job._untold is session and (job.name, session.number) not in self._taken:
+                    self._taken.append((job.name, session.number))
+                session.state = "taken" if job._untold is session else {"held": "finished", "asked": "withdrawn", "left": "lapsed"}[session.state]
                 self._left &= ~job._bit
             self._rouse(job)
         self._settle()
@@ -932,6 +1143,7 @@ class Bench:
                 job._session.resumed = state.drinking != _THIRSTY
                 job._session.state = "held" if job._session.resumed else "asked"
                 job._session.done = state.position
+                job._since, job._asked_for, job._is_old = _now(), state.session, True
 
     def _went_back(self, fault: JournalError) -> None:
         """The bench is an earlier one: each session is what it was, and whoever waits gets this fault."""
@@ -942,6 +1154,9 @@ class Bench:
             job._last, job._is_retired = state.session, state.drinking == _RETIRED
             job._in = state.session if holds or state.drinking == _THIRSTY else 0
             self._lapsed = [it for it in self._lapsed if it != (job.name, job._in)]
+            self._taken = [it for it in self._taken if it != (job.name, job._in)]
+            if job._untold is not None and job._untold.number == job._in:
+                job._untold = None
             if session is None or session.number < job._last or session.number == job._last and not job._in:
                 continue
             if session.state == "waiting" and not holds:
@@ -956,19 +1171,28 @@ class Bench:
 
     def _keepers(self, job: Job) -> tuple[Keeper, ...]:
         """Who keeps an instrument from this job: who holds it, and where nobody does, who is before it."""
-        found = []
+        found, is_outside = [], self._outside_of(job) is not None
         for instrument, keepers in self._kept(job):
             for other in self._members(keepers.holding or keepers.jobs):
-                behind = None if keepers.holding else self._behind(other, keepers.jobs | job._bit)
-                found.append(Keeper(instrument, other.name, bool(keepers.holding), behind))
+                if keepers.holding:
+                    found.append(self._holder(instrument, other))
+                else:
+                    # who is in line and doesn't hold was let in because it had been passed as often as may be
+                    passed = self._overtakes if is_outside and not other._is_old else None
+                    found.append(Keeper(instrument, other.name, False, self._behind(other, keepers.jobs | job._bit), passed=passed))
         return tuple(found)
+
+    def _holder(self, instrument: str, job: Job) -> Keeper:
+        # (if nobody waited for that, nobody knows since when)
+        is_known = job._session is not None and job._session.state not in ("asked", "left")
+        return Keeper(instrument, job.name, True, seconds=_now() - job._since if is_known else None)
 
     def _behind(self, job: Job, seen: int) -> Optional[Keeper]:
         """The keeper that this job waits for, with those behind it: one chain of perhaps several, to a holder."""
         seen |= job._bit
         for instrument, keepers in self._kept(job):
             if keepers.holding:
-                return Keeper(instrument, self._members(keepers.holding)[0].name, True)
+                return self._holder(instrument, self._members(keepers.holding)[0])
         for instrument, keepers in self._kept(job):
             for other in self._members(keepers.jobs & ~seen):
                 return Keeper(instrument, other.name, False, self._behind(other, seen))
@@ -982,18 +1206,23 @@ class Bench:
             if keepers.jobs:
                 yield instrument, keepers
 
-    def _what_they_are_at(self, jobs: tuple[Job, ...]) -> tuple[str, ...]:
+    def _what_they_are_at(self, jobs: tuple[Job, ...]) -> tuple[tuple[Job, ...], tuple[str, ...]]:
+        """These jobs, and what each is at; first those that hold."""
         with self._mutex:
             if self._stands > _STOPPED:
-                return ()
+                return jobs, ()
             self._look_over()
-            return tuple(self._what_it_is_at(job) for job in jobs)
+            in_order = tuple(sorted(jobs, key=lambda job: (not self._holds(job), job._since if self._holds(job) else 0, job.index)))
+            return in_order, tuple(self._what_it_is_at(job) for job in in_order)
+
+    def _holds(self, job: Job) -> bool:
+        return bool(job._in) and self._state_of(job.index).drinking in _HOLDS
 
     def _what_it_is_at(self, job: Job) -> str:
         if not job._in:
             return ""
-        if self._state_of(job.index).drinking in _HOLDS:
-            return "holds " + ", ".join(job._plan[job._in - 1][0])
+        if self._holds(job):
+            return "holds " + ", ".join(job._plan[job._in - 1][0]) + self._holder("", job).for_long
         return "waits: " + ", ".join(str(keeper) for keeper in self._keepers(job))
 
     def _retire(self, job: Job) -> bool:

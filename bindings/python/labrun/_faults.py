@@ -48,25 +48,44 @@ class TooLong(LabrunError, ValueError):
 
 class TimeoutError(LabrunError, builtins.TimeoutError):  # noqa: A001 (a kind of the builtin, and caught as such)
     """The time limit of an `acquire` passed. The session keeps its place in the line: acquire it again, or `give_up`. `keepers` says who
-    kept it waiting."""
+    kept it waiting, the text also for whom it waits in the end."""
 
     def __init__(self, session: Session, keepers: tuple[Keeper, ...]) -> None:
-        by = ", ".join(str(keeper) for keeper in keepers) or "it holds by now, or is over"
-        super().__init__(f"session {session.number} of {session.job.name} still waits: {by}")
+        super().__init__(f"session {session.number} of {session.job.name} still waits{_because(keepers)}")
         self.session = session
         self.keepers = keepers
 
 
-class Withdrawn(LabrunError):
-    """The session was given up: its patience ran out, or `withdraw` was called. It held nothing, and logs nothing."""
+def _because(keepers: tuple[Keeper, ...]) -> str:
+    """Who keeps one waiting, behind `waits`. Those at the ends of the chains come first: they are the ones to look after."""
+    by = ", ".join(str(keeper) for keeper in keepers) or "it holds by now, or is over"
+    ends = {end.job: end for end in (keeper.end for keeper in keepers)}
+    if all(keeper.behind is None for keeper in keepers):
+        return f": {by}"
+    return f" for {' and '.join(f'{end.job}, at {end.instrument}{end.for_long}' for end in ends.values())}: {by}"
 
-    def __init__(self, session: Session) -> None:
-        super().__init__(f"session {session.number} of {session.job.name} was withdrawn")
+
+class Withdrawn(LabrunError):
+    """The session was given up: its patience ran out, or `withdraw` was called. It held nothing. `session.state` says what became of it: it is
+    `withdrawn`, and logs nothing, if the script gives it a patience; for others see `Session.give_up`."""
+
+    def __init__(self, session: Session, seconds: Optional[float] = None, keepers: tuple[Keeper, ...] = ()) -> None:
+        how = "was withdrawn" if seconds is None else f"was given up after {seconds:g} s{_because(keepers)}"
+        super().__init__(f"session {session.number} of {session.job.name} {how}")
         self.session = session
 
 
 class NotHeld(LabrunError):
     """What was asked for needs the session to hold its instruments, and it doesn't."""
+
+
+class TakenAway(NotHeld):
+    """The session was ended by `Bench.take_away`, or because others waited when its limit on holding had passed. Others may be at its
+    instruments by now, and its commands are in the logs."""
+
+    def __init__(self, session: Session) -> None:
+        super().__init__(f"session {session.number} of {session.job.name} was taken away: {', '.join(session.instruments)}")
+        self.session = session
 
 
 class WouldBlock(LabrunError, RuntimeError):

@@ -198,7 +198,7 @@ class Journal:
                         me.acquire(False)
                         self._waiting.append(me)
                 if self._writes is me:
-                    self._write_or_go_back(goes_back)
+                    self._write_or_go_back(ticket, goes_back)
                 else:
                     me.acquire()
             finally:
@@ -208,7 +208,7 @@ class Journal:
                     for it in waiting:
                         it.release()
 
-    def _write_or_go_back(self, goes_back: Callable[[], None]) -> None:
+    def _write_or_go_back(self, ticket: Ticket, goes_back: Callable[[], None]) -> None:
         try:
             if self.fault is None:
                 self._write()
@@ -217,7 +217,9 @@ class Journal:
         fault_now = self.fault
         if fault_now is not None:
             goes_back()
-            raise self._not_written(fault_now) from fault_now
+            # (another may have written what this ticket is of, before)
+            if ticket[1] > self._ends[ticket[0]]:
+                raise self._not_written(fault_now) from fault_now
 
     def _is_kept(self, ticket: Ticket) -> bool:
         failures, length = self._stands

@@ -75,6 +75,14 @@ class Keepers(ctypes.Structure):
     holding: int
 
 
+class Outside(ctypes.Structure):
+    """`struct lab_outside`."""
+
+    _fields_ = [("is_outside", ctypes.c_uint32), ("passed", ctypes.c_uint32)]
+    is_outside: int
+    passed: int
+
+
 class State(ctypes.Structure):
     """`struct lab_state`."""
 
@@ -130,6 +138,8 @@ _SHORT: dict[str, list[Any]] = {
     "lab_session_of": [_HANDLE, _WORD, _WORD, ctypes.POINTER(SessionOf)],
     "lab_state": [_HANDLE, _WORD, ctypes.POINTER(State)],
     "lab_keepers": [_HANDLE, _WORD, _WORD, ctypes.POINTER(Keepers)],
+    "lab_overtakes": [_HANDLE, _WORD],
+    "lab_outside": [_HANDLE, _WORD, ctypes.POINTER(Outside)],
     "lab_settle": [_HANDLE, _WORD, ctypes.POINTER(Came)],
     "lab_command": [_HANDLE, _WORD, ctypes.POINTER(Entered)],
     "lab_end": [_HANDLE, _WORD, _TURNED],

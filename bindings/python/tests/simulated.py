@@ -18,7 +18,7 @@ sys.path.insert(0, os.path.join(TOP, "bench"))
 import simulate  # type: ignore[import]  # noqa: E402
 
 # the calls that take steps
-KEPT = ("lab_settle", "lab_command", "lab_end", "lab_withdraw", "lab_retire")
+KEPT = ("lab_settle", "lab_command", "lab_end", "lab_withdraw", "lab_retire", "lab_overtakes", "lab_nobody_outside")
 
 DINING = (simulate.THINKING, simulate.HUNGRY, simulate.EATING)
 DRINKING = (simulate.TRANQUIL, simulate.THIRSTY, simulate.DRINKING, simulate.REACHING, simulate.RETIRED)
@@ -51,9 +51,11 @@ class Simulated:
 
     def keeping(self, name: str, call: Callable[..., Any]) -> Callable[..., Any]:
         def keeps(handle: Any, *given: Any) -> Any:
+            before = self.run(handle).overtakes
             status = call(handle, *given)
             kept = self.kept.get(at(handle).at)
-            did = at(given[-1]).deeds if name == "lab_settle" else status == 0
+            did = at(given[-1]).deeds or self.run(handle).line if name == "lab_settle" else status == 0
+            did = did and name != "lab_overtakes" or name == "lab_overtakes" and before != self.run(handle).overtakes
             if did and kept is not None:
                 kept.append(" ".join([name, *(str(it) for it in given if isinstance(it, int))]))
             return status
@@ -98,16 +100,25 @@ class Simulated:
                 at(told).line = number
                 return 1
         self.kept[at(handle).at].clear()
+        if self.run(handle).line:
+            self["lab_nobody_outside"](handle)
         at(told).written = len(whole)
         return status
 
+    def lab_nobody_outside(self, handle: Any) -> int:
+        """(A journal of the library has steps, and so it needn't say this.)"""
+        self.run(handle).line = []
+        return 0
+
     def is_done_again(self, handle: Any, words: list[str]) -> bool:
         name, *given = words
-        if name not in KEPT or not all(it.isdigit() for it in given) or len(given) != 1 + (name == "lab_retire"):
+        if name not in KEPT or not all(it.isdigit() for it in given) or len(given) != {"lab_retire": 2, "lab_nobody_outside": 0}.get(name, 1):
             return False
-        told = {"lab_settle": [pointer(Came())], "lab_command": [pointer(Entered())], "lab_withdraw": []}.get(name, [pointer(Turned())])
+        none: list[Any] = []
+        told = {"lab_settle": [pointer(Came())], "lab_command": [pointer(Entered())], "lab_withdraw": none, "lab_overtakes": none}
+        told["lab_nobody_outside"] = none
         try:
-            return getattr(self, name)(handle, *map(int, given), *told) == 0
+            return getattr(self, name)(handle, *map(int, given), *told.get(name, [pointer(Turned())])) == 0
         except IndexError:
             return False
 
@@ -120,6 +131,8 @@ class Simulated:
     def lab_bench_open(self, script: bytes, length: int, handle: Any, told: Any) -> int:
         try:
             self.runs.append(simulate.Run(simulate.read_script(script)))
+            # who is outside, in the order of asking, each as its job, its needs, and how often it was passed by
+            self.runs[-1].line, self.runs[-1].overtakes = [], 0
         except simulate.Fault as fault:
             line, cause = re.findall(r"\d+", str(fault))[:2]
             at(told).line, at(told).cause = int(line), int(cause)
@@ -204,21 +217,55 @@ class Simulated:
     def patience(self, run: Any, one: Any) -> Any:
         return run.plan.sessions[one.number][one.session - 1].patience
 
+    def lab_overtakes(self, handle: Any, most: int) -> int:
+        self.run(handle).overtakes = most
+        return 0
+
+    def lab_outside(self, handle: Any, job: int, outside: Any) -> int:
+        found = [passed for one, _, passed in self.run(handle).line if one.number == job]
+        at(outside).is_outside, at(outside).passed = len(found), sum(found)
+        return 0
+
+    def may_begin(self, one: Any) -> bool:
+        return one.drinking == simulate.TRANQUIL and one.dining != simulate.EATING and one.session < one.total
+
+    def let_in(self, run: Any, waiting: int) -> list[Any]:
+        """One after another: first whoever was passed by often enough, then whoever needs nothing that one in a session needs."""
+        done: list[Any] = []
+        while True:
+            named = [it for it in run.line if waiting >> it[0].number & 1 and self.may_begin(it[0])]
+            used = 0
+            for one in run.jobs:
+                if one.drinking in (simulate.THIRSTY, simulate.DRINKING, simulate.REACHING):
+                    used |= run.needed(one)
+            due = [it for it in named if it[2] >= run.overtakes] + [it for it in named if not it[1] & used]
+            if not due:
+                return done
+            one, needs, _ = due[0]
+            run.line.remove(due[0])
+            run.store(one, "thirst")
+            done.append("thirst")
+            for it in run.line:
+                it[2] += it in named and bool(it[1] & needs)
+
     def lab_settle(self, handle: Any, waiting: int, came: Any) -> int:
         run, told = self.run(handle), at(came)
         begun = [one.session if one.drinking == simulate.THIRSTY else 0 for one in run.jobs]
         done = self.rest(run)
+        run.line = [it for it in run.line if it[0].drinking == simulate.TRANQUIL and it[0].session < it[0].total]
+        there = [it[0] for it in run.line]
         for one in run.jobs:
-            is_free = one.drinking == simulate.TRANQUIL and one.dining != simulate.EATING
-            if waiting >> one.number & 1 and is_free and one.session < one.total:
-                run.store(one, "thirst")
-                done.append("thirst")
+            if waiting >> one.number & 1 and self.may_begin(one) and one not in there:
+                run.line.append([one, run.plan.needs(one.number, one.session + 1), 0])
+        done += self.let_in(run, waiting)
         done += self.rest(run)
         thirsty = [one for one in run.jobs if one.drinking == simulate.THIRSTY]
         given_up = [one for one in thirsty if self.patience(run, one) is not None and one.waited >= self.patience(run, one)]
         for one in given_up:
             run.store(one, "withdraw")
             done.append("withdraw")
+        done += self.rest(run)
+        done += self.let_in(run, waiting & ~bits(given_up))
         done += self.rest(run)
         for one, session in zip(run.jobs, begun):
             one.turns += bool(waiting >> one.number & 1 or session)
@@ -238,6 +285,13 @@ class Simulated:
         run, told = self.run(handle), at(keepers)
         told.jobs = told.holding = 0
         one = run.jobs[job]
+        for asker, needs, _ in run.line:
+            if asker is one and needs >> instrument & 1:
+                for its in run.jobs:
+                    if its.drinking in (simulate.THIRSTY, simulate.DRINKING, simulate.REACHING) and run.needed(its) >> instrument & 1:
+                        told.jobs |= 1 << its.number
+                        told.holding |= (its.drinking != simulate.THIRSTY) << its.number
+                return 0
         if one.drinking != simulate.THIRSTY or not run.needed(one) >> instrument & 1:
             return 0
         for edge in one.edges:
@@ -279,6 +333,9 @@ class Simulated:
     def lab_withdraw(self, handle: Any, job: int) -> int:
         run = self.run(handle)
         one = run.jobs[job]
+        if any(it[0] is one for it in run.line):
+            run.line = [it for it in run.line if it[0] is not one]
+            return 0
         if one.drinking != simulate.THIRSTY or run.plan.sessions[job][one.session - 1].patience is None:
             return 8
         run.store(one, "withdraw")

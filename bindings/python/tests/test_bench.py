@@ -3,6 +3,7 @@
 import asyncio
 import ctypes
 import os
+import re
 import signal
 import subprocess
 import sys
@@ -214,8 +215,8 @@ class Waiting(unittest.TestCase):
     """Sessions of several threads."""
 
     def holding(self, script: str) -> tuple[labrun.Bench, labrun.Session, labrun.Session]:
-        """A bench where a holds the scale, and the session of b that wants it."""
-        bench = labrun.Bench.from_text(script)
+        """A bench where a holds the scale, and the session of b that wants it, which stands in line as soon as it asks."""
+        bench = labrun.Bench.from_text(script, overtakes=0)
         self.addCleanup(bench.close)
         first, second = bench.jobs[0].next_session(), bench.jobs[1].next_session()
         assert first and second
@@ -230,7 +231,7 @@ class Waiting(unittest.TestCase):
         self.assertGreaterEqual(time.monotonic() - begun, 0.2)
         self.assertIsInstance(caught.exception, TimeoutError)
         self.assertEqual(caught.exception.keepers, (labrun.Keeper("scale", "a", True),))
-        self.assertEqual(str(caught.exception), "session 1 of b still waits: scale is held by a")
+        self.assertRegex(str(caught.exception), r"\Asession 1 of b still waits: scale is held by a for 0\.\d s\Z")
         self.assertEqual(second.state, "asked")
         self.assertEqual(second.waits_for(), (labrun.Keeper("scale", "a", True),))
         self.assertEqual(first.waits_for(), ())
@@ -556,7 +557,8 @@ class Running(unittest.TestCase):
             # the machine is so busy that b and c weren't back by then either
             self.assertIn("a", caught.exception.jobs)
         self.assertEqual(caught.exception.jobs, ("a",))
-        self.assertEqual(told, ["session 1 of b still waits: scale is held by a"])
+        self.assertRegex(told[0], r"\Asession 1 of b still waits: scale is held by a for \d+(\.\d)? s\Z")
+        self.assertRegex(str(caught.exception), r"\Anot back: a \(holds scale for \d+(\.\d)? s\)\Z")
         self.assertTrue(report.job("c").retired)
         self.assertFalse(report.finished)
 
@@ -576,8 +578,8 @@ class Running(unittest.TestCase):
         self.assertEqual((counting.clashes, counting.done, bench.report.finished), (0, 160, True))
 
     def test_async_time_out_and_cancel(self) -> None:
-        async def main(script: str) -> str:
-            with labrun.Bench.from_text(script) as bench:
+        async def main(script: str, overtakes: int) -> str:
+            with labrun.Bench.from_text(script, overtakes=overtakes) as bench:
                 first, second = bench.jobs[0].next_session(), bench.jobs[1].next_session()
                 assert first and second
                 async with first:
@@ -591,8 +593,10 @@ class Running(unittest.TestCase):
                         await task
                     return second.state
 
-        self.assertEqual(asyncio.run(main(TWO)), "left")
-        self.assertEqual(asyncio.run(main(PATIENT)), "withdrawn")
+        self.assertEqual(asyncio.run(main(TWO, 0)), "left")
+        self.assertEqual(asyncio.run(main(TWO, 9)), "new")
+        for overtakes in (0, 9):
+            self.assertEqual(asyncio.run(main(PATIENT, overtakes)), "withdrawn")
 
     def test_threads_and_tasks(self) -> None:
         bench = labrun.Bench.from_text(TWO)
@@ -742,7 +746,8 @@ class Ends(unittest.TestCase):
     def test_keepers(self) -> None:
         """radio holds the scope, board has the supply and waits for the scope, drive wants the supply, which nobody holds."""
         bench = labrun.Bench.from_text(
-            "lab 1\njob radio\nsession\nscope read\nend\njob board\nsession\nscope read\nsupply read\nend\njob drive\nsession\nsupply read\nend\n"
+            "lab 1\njob radio\nsession\nscope read\nend\njob board\nsession\nscope read\nsupply read\nend\njob drive\nsession\nsupply read\nend\n",
+            overtakes=0,
         )
         sessions = [job.next_session() for job in bench.jobs]
         for session in sessions:
@@ -756,7 +761,10 @@ class Ends(unittest.TestCase):
         self.assertEqual(radio.waits_for(), ())
         self.assertEqual(board.waits_for(), (labrun.Keeper("scope", "radio", True),))
         self.assertEqual(drive.waits_for(), (labrun.Keeper("supply", "board", False),))
-        self.assertEqual(text, "session 1 of drive still waits: supply is kept by board, which waits for scope, held by radio")
+        (kept,) = drive.waits_for()
+        self.assertEqual((kept.why, kept.end, kept.end.why), ("in line before you", labrun.Keeper("scope", "radio", True), "held"))
+        wanted = "session 1 of drive still waits for radio, at scope for 0.0 s: supply is kept for board, which waits for scope, held by radio for 0.0 s"
+        self.assertEqual(re.sub(r"\d+(\.\d)? s", "0.0 s", text), wanted)
         radio.release()
         board.acquire(timeout=LIMIT)
         self.assertEqual(drive.waits_for(), (labrun.Keeper("supply", "board", True),))

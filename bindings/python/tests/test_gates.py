@@ -32,11 +32,12 @@ def once(at: int) -> Callable[[int, int, list[int]], int]:
 class Gated(OnDefinitions):
     # of a journal, for those that have one
     path: Optional[str] = None
+    overtakes = labrun.OVERTAKES
 
     def gated(self, gates: Gates, script: str, station: Optional[Callable[[labrun.Job, Counting], None]] = None) -> labrun.Bench:
         """The stations of a script, each on a thread; no two hold an instrument at once, and all come to their ends."""
         with mock.patch.object(_bench, "_new_lock", gates.lock):
-            bench = labrun.Bench.from_text(script, journal=self.path, sync="none")
+            bench = labrun.Bench.from_text(script, journal=self.path, sync="none", overtakes=self.overtakes)
         counting = Counting(bench)
 
         def work(job: labrun.Job) -> None:
@@ -108,6 +109,38 @@ class WakeUps(Gated):
             with self.subTest(seed), mock.patch.object(_bench, "_TICK", 1e-9):
                 report = self.gated(Gates(sometimes(seed, 0.2)), script, station).close()
                 self.assertEqual((report.job("a").done, report.job("c").done), (2, 2))
+
+
+    def test_taken_away(self) -> None:
+        """Sessions are taken away at any moment, also just as they come to hold: each has one end, and nobody sleeps on."""
+        for seed in range(100):
+            chance, ends = random.Random(seed), []
+
+            def station(job: labrun.Job, counting: Counting) -> None:
+                for session in job.sessions(limit=0.0 if seed % 5 == 0 else None):
+                    try:
+                        with session:
+                            pass
+                    except labrun.TakenAway:
+                        pass
+                    ends.append(session.state)
+                    try:
+                        job.bench.take_away(chance.choice(job.bench.jobs.keys()))
+                        ends.append("take")
+                    except labrun.NotHeld:
+                        pass
+
+            with self.subTest(seed):
+                bench = self.gated(Gates(sometimes(seed, (0.02, 0.2, 0.7)[seed % 3])), ALL_ONE if seed % 2 else RING, station)
+                self.assertEqual(ends.count("taken"), len(bench.taken))
+                self.assertEqual(ends.count("taken") + ends.count("finished"), 6)
+                self.assertTrue(bench.close().finished)
+
+
+class InLine(WakeUps):
+    """The same where each stands in line as soon as it asks."""
+
+    overtakes = 0
 
 
 class Journals(Gated):

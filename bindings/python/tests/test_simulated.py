@@ -6,7 +6,7 @@ from unittest import mock
 
 import labrun
 from labrun import _library
-from tests import test_bench, test_journal
+from tests import test_bench, test_journal, test_thirst
 from tests.load import Counting, load_script
 from tests.simulated import Simulated
 
@@ -61,6 +61,18 @@ class Alone(OnDefinitions, test_bench.Alone):
 
 class Waiting(OnDefinitions, test_bench.Waiting):
     """All that the bench's tests say of waiting."""
+
+
+class Outside(OnDefinitions, test_thirst.Outside):
+    """Sessions that are outside until it is worth it."""
+
+
+class Taken(OnDefinitions, test_thirst.Taken):
+    """Instruments that are taken away."""
+
+
+class Limits(OnDefinitions, test_thirst.Limits):
+    """Limits on holding, and patience in seconds."""
 
 
 class Files(OnDefinitions, test_journal.Files):

@@ -1,0 +1,498 @@
+"""Sessions that are outside until it is worth it; instruments that are taken away; limits on holding, and patience in seconds."""
+
+import asyncio
+import itertools
+import os
+import re
+import tempfile
+import time
+import unittest
+from typing import Any, Callable, Optional
+
+import labrun
+from tests.test_bench import LIMIT, PATIENT, SOON, TWO, back, in_thread, until
+
+# radio needs the scope, board the scope and the supply, drive the supply, five times
+CONVOY = {
+    "radio": "job radio\nsession\nscope read\nend\n",
+    "board": "job board\nsession\nscope read\nsupply read\nend\n",
+    "drive": "job drive\n" + "session\nsupply add 1\nend\n" * 5,
+}
+
+
+def convoy(order: tuple[str, ...] = ("radio", "board", "drive"), overtakes: int = labrun.OVERTAKES) -> labrun.Bench:
+    return labrun.Bench.from_text("lab 1\n" + "".join(CONVOY[name] for name in order), overtakes=overtakes)
+
+
+def asked(bench: labrun.Bench, name: str, **limits: float) -> labrun.Session:
+    """The next session of a job."""
+    session = bench.jobs[name].next_session(**limits)
+    assert session
+    return session
+
+
+def in_vain(session: labrun.Session) -> str:
+    """It is asked for, and doesn't hold: why not."""
+    try:
+        session.acquire(timeout=0)
+    except labrun.TimeoutError as late:
+        return re.sub(r"\d+(\.\d)? s", "N s", str(late))
+    raise AssertionError("it holds")
+
+
+def waiting(session: labrun.Session, faults: list[BaseException]) -> Any:
+    """A thread that acquires it."""
+
+    def wait() -> None:
+        try:
+            session.acquire()
+        except labrun.LabrunError as fault:
+            faults.append(fault)
+
+    thread = in_thread(wait)
+    until(lambda: session.state in ("waiting", "held"))
+    return thread
+
+
+class Outside(unittest.TestCase):
+    def holding(self, script: str, overtakes: int = 2) -> tuple[labrun.Bench, labrun.Session, labrun.Session]:
+        bench = labrun.Bench.from_text(script, overtakes=overtakes)
+        self.addCleanup(bench.close)
+        first, second = asked(bench, "a"), asked(bench, "b")
+        first.acquire()
+        return bench, first, second
+
+    def test_overtakes(self) -> None:
+        with labrun.Bench.from_text(TWO) as bench:
+            self.assertEqual((bench.overtakes, labrun.OVERTAKES > 0), (labrun.OVERTAKES, True))
+        with tempfile.NamedTemporaryFile("w", suffix=".lab") as file:
+            file.write(TWO)
+            file.flush()
+            with labrun.Bench.open(file.name, overtakes=3) as bench:
+                self.assertEqual(bench.overtakes, 3)
+        for wrong in (-1, 1 << 32):
+            with self.assertRaises(ValueError):
+                labrun.Bench(TWO, overtakes=wrong)
+
+    def test_convoy(self) -> None:
+        """radio hangs with the scope, and board waits for scope and supply: drive works at the supply, in all orders of the script."""
+        for order in itertools.permutations(CONVOY):
+            with self.subTest(order), convoy(order) as bench:
+                asked(bench, "radio").acquire()
+                faults: list[BaseException] = []
+                thread = waiting(asked(bench, "board"), faults)
+                for session in bench.jobs["drive"].sessions(timeout=LIMIT):
+                    with session:
+                        self.assertTrue(bench.jobs["board"].state.outside)
+                self.assertEqual((bench.jobs["drive"].state.done, bench.jobs["board"].state.passed), (5, 5))
+                self.assertEqual(bench.take_away("radio"), ("scope",))
+                back(thread)
+                self.assertEqual(faults, [])
+
+    def test_convoy_of_today(self) -> None:
+        """With 0 board keeps the supply at once."""
+        with convoy(overtakes=0) as bench:
+            asked(bench, "radio").acquire()
+            board, drive = asked(bench, "board"), asked(bench, "drive")
+            self.assertEqual(in_vain(board), "session 1 of board still waits: scope is held by radio for N s")
+            self.assertFalse(bench.jobs["board"].state.outside)
+            wanted = "session 1 of drive still waits for radio, at scope for N s: supply is kept for board, which waits for scope, held by radio for N s"
+            self.assertEqual(in_vain(drive), wanted)
+            self.assertEqual([it.why for it in drive.waits_for()], ["in line before you"])
+
+    def test_passed(self) -> None:
+        """Two sessions go before board; then the supply is kept for it."""
+        with convoy(overtakes=2) as bench:
+            asked(bench, "radio").acquire()
+            board, faults = asked(bench, "board"), []  # type: ignore[var-annotated]
+            thread = waiting(board, faults)
+            for passed in range(2):
+                self.assertEqual((bench.jobs["board"].state.outside, bench.jobs["board"].state.passed), (True, passed))
+                with asked(bench, "drive"):
+                    self.assertEqual([(it.job, it.why) for it in board.waits_for()], [("radio", "held"), ("drive", "held")][: 2 - (passed == 1)] + [("drive", "held")][: passed == 1])
+            third = asked(bench, "drive")
+            self.assertEqual(in_vain(third)[:70], "session 1 of drive still waits for radio, at scope for N s: supply is "[:70].replace("1", "3"))
+            self.assertFalse(bench.jobs["board"].state.outside)
+            (kept,) = third.waits_for()
+            self.assertEqual((kept.why, kept.passed, kept.end.job), ("kept for board, passed 2 times", 2, "radio"))
+            bench.take_away("radio")
+            back(thread)
+            self.assertEqual((faults, board.held), ([], True))
+            board.release()
+            third.acquire(timeout=LIMIT)
+
+    def test_given_up_outside(self) -> None:
+        """Without a patience it is as if it had never asked; with one it is withdrawn."""
+        bench, first, second = self.holding(TWO)
+        in_vain(second)
+        self.assertEqual((second.state, bench.jobs["b"].state.outside, bench.jobs["b"].state.waits), ("asked", True, True))
+        second.give_up()
+        self.assertEqual((second.state, bench.jobs["b"].state.outside, bench.jobs["b"].state.waits), ("new", False, False))
+        self.assertEqual(second.waits_for(), ())
+        first.release()
+        second.acquire(timeout=LIMIT)
+        second.release()
+        self.assertEqual((bench.lapsed, bench.close().job("b").done), ((), 1))
+        bench, first, second = self.holding(PATIENT)
+        in_vain(second)
+        second.give_up()
+        self.assertEqual(second.state, "withdrawn")
+        first.release()
+        self.assertEqual(asked(bench, "b").number, 2)
+        self.assertEqual(bench.close().job("b").withdrawn, 1)
+
+    def test_withdraw(self) -> None:
+        for script in (TWO, PATIENT):
+            bench, first, second = self.holding(script)
+            in_vain(second)
+            if script == TWO:
+                with self.assertRaises(labrun.NotHeld):
+                    second.withdraw()
+                self.assertEqual(second.state, "asked")
+            else:
+                second.withdraw()
+                self.assertEqual((second.state, bench.overtakes), ("withdrawn", 2))
+
+    def test_given_up_by_another_thread(self) -> None:
+        for script, kind, state in ((TWO, labrun.NotHeld, "new"), (PATIENT, labrun.Withdrawn, "withdrawn")):
+            bench, first, second = self.holding(script)
+            faults: list[BaseException] = []
+            thread = waiting(second, faults)
+            second.give_up()
+            back(thread)
+            self.assertEqual(([type(fault) for fault in faults], second.state), ([kind], state))
+
+    def test_patience_in_turns(self) -> None:
+        """It runs out outside, too."""
+        bench, first, second = self.holding(SOON)
+        with self.assertRaises(labrun.Withdrawn):
+            second.acquire(timeout=LIMIT)
+        self.assertEqual(second.state, "withdrawn")
+
+    def test_stop(self) -> None:
+        for script, state in ((TWO, "new"), (PATIENT, "withdrawn")):
+            bench, first, second = self.holding(script)
+            faults: list[BaseException] = []
+            thread = waiting(second, faults)
+            bench.stop()
+            back(thread)
+            self.assertEqual(([type(fault) for fault in faults], second.state), ([labrun.Stopped], state))
+
+    def test_one_that_is_asked_for_no_more_is_passed_over(self) -> None:
+        """A time limit passed outside: the instruments aren't given to nobody."""
+        bench, first, second = self.holding(TWO)
+        in_vain(second)
+        first.release()
+        following = asked(bench, "a")
+        following.acquire(timeout=0)
+        self.assertEqual(in_vain(second)[:33], "session 1 of b still waits: scale"[:33])
+        following.release()
+        second.acquire(timeout=LIMIT)
+        second.release()
+
+    def test_journal(self) -> None:
+        """Who was outside asks anew; the number is that of the new open."""
+        with tempfile.TemporaryDirectory() as folder:
+            path = os.path.join(folder, "bay.journal")
+            bench = labrun.Bench.from_text(TWO, journal=path, overtakes=2)
+            first, second = asked(bench, "a"), asked(bench, "b")
+            first.acquire()
+            in_vain(second)
+            bench.close()
+            bench = labrun.Bench.from_text(TWO, journal=path, overtakes=3)
+            self.assertEqual((asked(bench, "a").resumed, bench.jobs["b"].state.outside), (True, False))
+            second = asked(bench, "b")
+            self.assertEqual(second.state, "new")
+            in_vain(second)
+            self.assertTrue(bench.jobs["b"].state.outside)
+            self.assertEqual(bench.take_away("a"), ("scale",))
+            second.acquire(timeout=LIMIT)
+            second.release()
+            self.assertEqual(bench.close().job("a").done, 1)
+
+
+class Taken(unittest.TestCase):
+    """`take_away`, and what its owner is told."""
+
+    def bench(self, script: str = TWO) -> labrun.Bench:
+        bench = labrun.Bench.from_text(script)
+        self.addCleanup(bench.close)
+        return bench
+
+    def test_next_call(self) -> None:
+        calls: list[Callable[[labrun.Session], object]] = [labrun.Session.release, labrun.Session.command, labrun.Session.acquire]
+        for call in [*calls, lambda session: session.job.next_session()]:
+            bench = self.bench()
+            first, second = asked(bench, "a"), asked(bench, "b")
+            first.acquire()
+            thread = waiting(second, [])
+            self.assertEqual(bench.take_away("a"), ("scale",))
+            back(thread)
+            self.assertTrue(second.held)
+            with self.assertRaises(labrun.TakenAway) as caught:
+                call(first)
+            self.assertEqual(str(caught.exception), "session 1 of a was taken away: scale")
+            self.assertEqual((first.state, first.held, caught.exception.session), ("taken", False, first))
+            self.assertEqual((bench.taken, bench.jobs["a"].state.done), ((("a", 1),), 1))
+            # it was told: the job goes on
+            following = asked(bench, "a")
+            self.assertEqual(following.number, 2)
+            second.release()
+            following.acquire(timeout=LIMIT)
+
+    def test_end_of_with(self) -> None:
+        bench, seen = self.bench(), []
+        for session in bench.jobs["a"].sessions():
+            try:
+                with session:
+                    seen.append(session.number)
+                    if session.number == 1:
+                        bench.take_away("a")
+            except labrun.TakenAway:
+                seen.append(-session.number)
+        self.assertEqual(seen, [1, -1, 2])
+
+    def test_loop_without_with(self) -> None:
+        bench = self.bench()
+        with self.assertRaises(labrun.TakenAway):
+            for session in bench.jobs["a"].sessions():
+                session.acquire()
+                bench.take_away("a")
+
+    def test_exception_in_the_body_goes_first(self) -> None:
+        bench = self.bench()
+        with self.assertRaises(ZeroDivisionError):
+            with asked(bench, "a"):
+                bench.take_away("a")
+                1 / 0
+        self.assertEqual((bench.raised, bench.taken), ((), (("a", 1),)))
+
+    def test_nothing_to_take(self) -> None:
+        bench = self.bench()
+        with self.assertRaisesRegex(labrun.NotHeld, "a holds nothing"):
+            bench.take_away("a")
+        with self.assertRaises(KeyError):
+            bench.take_away("c")
+        with asked(bench, "a"):
+            in_vain(asked(bench, "b"))
+            with self.assertRaisesRegex(labrun.NotHeld, "b holds nothing"):
+                bench.take_away("b")
+
+    def test_run(self) -> None:
+        """A station that hangs: its instruments are taken, the others end, and the text says who hangs first."""
+        ended: list[Optional[str]] = []
+
+        def station(job: labrun.Job) -> None:
+            for session in job.sessions():
+                with session:
+                    if job.name == "radio":
+                        until(lambda: bool(ended))
+
+        bench = convoy()
+        with bench:
+            asked(bench, "radio").acquire()
+            with self.assertRaises(labrun.NotBack) as late:
+                bench.run(station, timeout=1)
+            text = re.sub(r"\d+(\.\d)? s", "N s", str(late.exception))
+            self.assertEqual(text, "not back: radio (holds scope for N s), board (waits: scope is held by radio for N s)")
+            self.assertEqual(late.exception.jobs, ("radio", "board"))
+            bench.take_away("radio")
+            ended.append(None)
+        self.assertEqual(bench.report.job("drive").done, 5)
+
+    def test_run_raises(self) -> None:
+        def station(job: labrun.Job) -> None:
+            for session in job.sessions():
+                with session:
+                    if job.name == "a":
+                        bench.take_away("a")
+
+        bench = self.bench()
+        with self.assertRaises(labrun.TakenAway):
+            bench.run(station)
+        self.assertEqual(bench.close().job("b").done, 1)
+
+    def test_async(self) -> None:
+        async def main() -> list[str]:
+            bench, seen = self.bench(), []
+            first, second = asked(bench, "a"), asked(bench, "b")
+
+            async def other() -> None:
+                async with second:
+                    seen.append("b")
+
+            try:
+                async with first:
+                    task = asyncio.create_task(other())
+                    while second.state != "waiting":
+                        await asyncio.sleep(0)
+                    bench.take_away("a")
+                    await task
+            except labrun.TakenAway:
+                seen.append("taken")
+            return seen
+
+        self.assertEqual(asyncio.run(main()), ["b", "taken"])
+
+    def test_journal(self) -> None:
+        with tempfile.TemporaryDirectory() as folder:
+            path = os.path.join(folder, "bay.journal")
+            with labrun.Bench.from_text(TWO, journal=path) as bench:
+                with self.assertRaises(labrun.TakenAway):
+                    with asked(bench, "a"):
+                        bench.take_away("a")
+            self.assertEqual(labrun.Bench.from_text(TWO, journal=path).close().job("a").done, 1)
+
+
+class Limits(unittest.TestCase):
+    """A limit on holding, in seconds, and patience in seconds."""
+
+    def bench(self, script: str = TWO, overtakes: int = labrun.OVERTAKES) -> labrun.Bench:
+        bench = labrun.Bench.from_text(script, overtakes=overtakes)
+        self.addCleanup(bench.close)
+        return bench
+
+    def test_limit(self) -> None:
+        """One that comes later takes it at once, if the limit has passed; one that waits, when it passes."""
+        for pause in (0.1, 0.0):
+            for overtakes in (0, 9):
+                bench = self.bench(overtakes=overtakes)
+                first, second = asked(bench, "a", limit=0.05), asked(bench, "b")
+                first.acquire()
+                time.sleep(pause)
+                self.assertEqual(first.state, "held")
+                second.acquire(timeout=LIMIT)
+                self.assertEqual((second.state, bench.taken), ("held", (("a", 1),)))
+                with self.assertRaises(labrun.TakenAway):
+                    first.release()
+                second.release()
+
+    def test_limit_of_one_that_waits(self) -> None:
+        """Those that sleep already learn of a limit of one that comes to hold before them."""
+        bench = self.bench()
+        first, second = asked(bench, "a"), asked(bench, "b", limit=0.05)
+        first.acquire()
+        thread = waiting(second, [])
+        following: list[labrun.Session] = []
+
+        def again() -> None:
+            first.release()
+            following.append(asked(bench, "a"))
+            following[0].acquire()
+
+        back(in_thread(again))
+        back(thread)
+        self.assertTrue(following[0].held)
+        with self.assertRaises(labrun.TakenAway):
+            second.release()
+
+    def test_limit_and_nobody_waits(self) -> None:
+        bench = self.bench()
+        for session in bench.jobs["a"].sessions(limit=0.01):
+            with session:
+                time.sleep(0.05)
+        self.assertEqual((bench.taken, bench.jobs["a"].state.done), ((), 2))
+
+    def test_limit_that_has_not_passed(self) -> None:
+        bench = self.bench()
+        first, second = asked(bench, "a", limit=LIMIT), asked(bench, "b")
+        first.acquire()
+        thread = waiting(second, [])
+        first.release()
+        back(thread)
+        self.assertEqual((bench.taken, bench._limited), ((), 0))
+
+    def test_limit_of_one_that_came_back(self) -> None:
+        """Held when its process died, and offered first: the limit counts from then."""
+        with tempfile.TemporaryDirectory() as folder:
+            path = os.path.join(folder, "bay.journal")
+            bench = labrun.Bench.from_text(TWO, journal=path)
+            asked(bench, "a").acquire()
+            bench.close()
+            bench = labrun.Bench.from_text(TWO, journal=path)
+            first = asked(bench, "a", limit=0.05)
+            first.acquire()
+            asked(bench, "b").acquire(timeout=LIMIT)
+            self.assertEqual((first.state, bench.taken), ("taken", (("a", 1),)))
+            bench.close()
+
+    def test_limit_in_a_loop(self) -> None:
+        async def main() -> str:
+            bench = self.bench()
+            first, second = asked(bench, "a", limit=0.05), asked(bench, "b")
+            await first.acquire_async()
+            await second.acquire_async(timeout=LIMIT)
+            return first.state
+
+        self.assertEqual(asyncio.run(main()), "taken")
+
+    def test_patience(self) -> None:
+        """In seconds: it is given up as `give_up` does it."""
+        for script, overtakes, state in ((TWO, 0, "left"), (TWO, 9, "new"), (PATIENT, 0, "withdrawn"), (PATIENT, 9, "withdrawn")):
+            bench = self.bench(script, overtakes)
+            first, second = asked(bench, "a"), asked(bench, "b", patience=0.2)
+            first.acquire()
+            begun = time.monotonic()
+            with self.assertRaises(labrun.Withdrawn) as caught:
+                second.acquire()
+            self.assertGreaterEqual(time.monotonic() - begun, 0.2)
+            self.assertEqual(second.state, state)
+            self.assertRegex(str(caught.exception), r"\Asession 1 of b was given up after 0\.2 s: scale is held by a for \d+(\.\d)? s\Z")
+            if state == "withdrawn":
+                self.assertEqual(asked(bench, "b").number, 2)
+            first.release()
+            self.assertEqual(bench.close().job("b").withdrawn, int(state == "withdrawn"))
+
+    def test_patience_of_a_loop(self) -> None:
+        """The next session comes, if the script gives this one a patience."""
+        bench, seen = self.bench(PATIENT), []
+        first = asked(bench, "a")
+        first.acquire()
+        for session in bench.jobs["b"].sessions(patience=0.05):
+            try:
+                with session:
+                    seen.append(session.number)
+            except labrun.Withdrawn:
+                seen.append(-session.number)
+                if session.number == 2:
+                    break
+                first.release()
+        self.assertEqual(seen, [-1, 2])
+
+    def test_patience_that_does_not_run_out(self) -> None:
+        bench = self.bench()
+        first, second = asked(bench, "a"), asked(bench, "b", patience=LIMIT)
+        first.acquire()
+        thread = waiting(second, [])
+        first.release()
+        back(thread)
+        self.assertTrue(second.held)
+
+    def test_patience_in_a_loop(self) -> None:
+        async def main() -> str:
+            bench = self.bench(PATIENT)
+            async with asked(bench, "a"):
+                second = asked(bench, "b", patience=0.05)
+                with self.assertRaises(labrun.Withdrawn):
+                    await second.acquire_async()
+                return second.state
+
+        self.assertEqual(asyncio.run(main()), "withdrawn")
+
+    def test_patience_and_time_limit(self) -> None:
+        """A time limit passes, and patience goes on from the first time it was asked for."""
+        bench = self.bench(PATIENT)
+        first, second = asked(bench, "a"), asked(bench, "b", patience=0.2)
+        first.acquire()
+        while True:
+            try:
+                second.acquire(timeout=0.05)
+            except labrun.TimeoutError:
+                self.assertEqual(second.state, "asked")
+            except labrun.Withdrawn:
+                break
+        self.assertEqual(second.state, "withdrawn")
+
+
+if __name__ == "__main__":
+    unittest.main()
