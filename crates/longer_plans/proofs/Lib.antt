@@ -1,0 +1,4 @@
+pub mod Retired
+pub mod Stays
+pub mod States
+pub mod Once

@@ -1,0 +1,36 @@
+//! A plan that is longer: sessions are added at the end of one job's. What was legal stays legal, and leads to the same state.
+#![tactic(auto)]
+
+ghost use Rattle.longer_plans.specs.Longer.{StaysLegal, StillFits, StaysAnOpening, StaysAcyclic, OpensTheSame};
+ghost use Rattle.longer_plans.specs.OneMore.{IsLongerByOne};
+
+/// Every legal list of events stays legal if its plan gets longer, unless the job that gets the sessions has retired in it: nothing
+/// that an event reads of the plan changes, but that there are sessions left, which only a retirement asks to be otherwise.
+pub fn stays_legal()
+    ensures { StaysLegal }
+{}
+
+/// Every state that fits a plan fits a longer one.
+pub fn still_fits()
+    ensures { StillFits }
+{}
+
+/// Every opening of a plan is one of a longer plan.
+pub fn stays_an_opening()
+    ensures { StaysAnOpening }
+{}
+
+/// Precedence among jobs is the same by a longer plan, so it has no cycle if it had none.
+pub fn stays_acyclic()
+    ensures { StaysAcyclic }
+{}
+
+/// The initial state of a longer plan is the plan's own.
+pub fn opens_the_same()
+    ensures { OpensTheSame }
+{}
+
+/// A plan with one more session at the end of a job's, of instruments that the job names already, is a longer one in that sense.
+pub fn longer_by_one()
+    ensures { IsLongerByOne }
+{}
