@@ -21,7 +21,7 @@ use Rattle.legal_steps.specs.Legal.{with_seat, with_phase, with_fork_mark, with_
 use Rattle.legal_steps.specs.Run.{IsLegalFrom, after_all}
 use Rattle.legal_steps.specs.Fitting.{Fits}
 use Rattle.legal_steps.proofs.FitsWrites.{seat_same}
-use Rattle.longer_plans.specs.Longer.{IsLonger, StaysLegal}
+use Rattle.longer_plans.specs.Longer.{IsLonger, AsksWhatIsLeft, StaysLegal, IsAsLegal}
 use Rattle.longer_plans.proofs.Retired.{retired_stays}
 
 module _ (p q : LabPlan) (j : ℕ) (more : IsLonger p q j) where
@@ -50,6 +50,9 @@ module _ (p q : LabPlan) (j : ℕ) (more : IsLonger p q j) where
 
   there_same : (k e : ℕ) (thing : End) → There p k e thing → There q k e thing
   there_same k e thing h = λ is. h (here_back k e thing is)
+
+  there_back : (k e : ℕ) (thing : End) → There q k e thing → There p k e thing
+  there_back k e thing h = λ is. h (here_same k e thing is)
 
   bottles_at_same : (e : ℕ) (here : End) (x : EdgeState) → bottles_at q e here x ≡ bottles_at p e here x
   unfolding bottles_at
@@ -105,6 +108,12 @@ module _ (p q : LabPlan) (j : ℕ) (more : IsLonger p q j) where
     set_same : (e set : ℕ) → IsBottleSet p e set → IsBottleSet q e set
     set_same e set is = record { not_empty = is.not_empty; of_edge = of_edge_same e set is.of_edge }
 
+    set_back : (e set : ℕ) → IsBottleSet q e set → IsBottleSet p e set
+    set_back e set is = record {
+      not_empty = is.not_empty;
+      of_edge = subst (λ (l : List ℕ). set < 2 ^ length l) (more.bottles_same e) is.of_edge;
+    }
+
     ask_same : (k e i : ℕ) → IsJob p k → MayAskBottle p s k e i → MayAskBottle q s k e i
     ask_same k e i job m = record {
       needed = subst (Needs q s k) (sym (instrument_same e i)) (needs_same k (instrument_of p e i) job m.needed);
@@ -122,6 +131,23 @@ module _ (p q : LabPlan) (j : ℕ) (more : IsLonger p q j) where
       );
     }
 
+    ask_back : (k e i : ℕ) → IsJob p k → MayAskBottle q s k e i → MayAskBottle p s k e i
+    ask_back k e i job m = record {
+      needed = needs_back k (instrument_of p e i) job (subst (Needs q s k) (instrument_same e i) m.needed);
+      bottle_there = there_back k e (bottle_end (edge s e).bottles i) m.bottle_there;
+      token_here = here_back k e (bottle_end (edge s e).bottle_tokens i) m.token_here;
+    }
+
+    give_back : (k e i : ℕ) → IsJob p k → MayGiveBottle q s k e i → MayGiveBottle p s k e i
+    give_back k e i job m = record {
+      bottle_here = here_back k e (bottle_end (edge s e).bottles i) m.bottle_here;
+      token_here = here_back k e (bottle_end (edge s e).bottle_tokens i) m.token_here;
+      not_kept = λ kept. m.not_kept (
+        subst (Needs q s k) (sym (instrument_same e i)) (needs_same k (instrument_of p e i) job kept.0),
+        elim kept.1 [ inl drinks ↦ inl drinks | inr here ↦ inr (here_same k e (fork s e) here) ],
+      );
+    }
+
     marked_same : (k : ℕ) → IsMarkedAll p s k → IsMarkedAll q s k
     marked_same k all e own = all e (own_back k e own)
 
@@ -129,6 +155,17 @@ module _ (p q : LabPlan) (j : ℕ) (more : IsLonger p q j) where
     needed_same k job all e own i inside needs =
         all e (own_back k e own) i (subst (λ (l : List ℕ). i < length l) (more.bottles_same e) inside)
         (needs_back k (instrument_of p e i) job (subst (Needs q s k) (instrument_same e i) needs))
+
+    marked_back : (k : ℕ) → IsMarkedAll q s k → IsMarkedAll p s k
+    marked_back k all e own = all e (own_same k e own)
+
+    needed_back : (k : ℕ) → IsJob p k → HasNeeded q s k → HasNeeded p s k
+    needed_back k job all e own i inside needs =
+        all e (own_same k e own) i (subst (λ (l : List ℕ). i < length l) (sym (more.bottles_same e)) inside)
+        (subst (Needs q s k) (sym (instrument_same e i)) (needs_same k (instrument_of p e i) job needs))
+
+    job_back : (k : ℕ) → IsJob q k → IsJob p k
+    job_back k job = let n = more.jobs_same in omega arith
 
     job_same : (k : ℕ) → IsJob p k → IsJob q k
     job_same k job = let n = more.jobs_same in omega arith
@@ -176,6 +213,50 @@ module _ (p q : LabPlan) (j : ℕ) (more : IsLonger p q j) where
     may.1,
     subst (λ (x : SessionPlan). IsSome x.patience) (sym (now_same s fit k may.0 (inl may.1))) may.2,
   )
+
+  may_back : (s : State) → Fits p s → (event : Event) → ¬ AsksWhatIsLeft j event → May q s event → May p s event
+  may_back s fit (Look k e seen) ok may = (own_back k e may.0, may.1)
+  may_back s fit (AskFork k e) ok may = (own_back k e may.0, may.1, there_back k e (fork s e) may.2, here_back k e (edge s e).token may.3)
+  may_back s fit (GiveFork k e) ok may = (own_back k e may.0, may.1, here_back k e (fork s e) may.2, may.3, here_back k e (edge s e).token may.4)
+  may_back s fit (Soil k e) ok may = (own_back k e may.0, may.1, here_back k e (fork s e) may.2, may.3)
+  may_back s fit (AskBottles k e set) ok may =
+      let own = own_back k e may.0 in
+      (own, may.1, set_back s fit e set may.2, λ i has. ask_back s fit k e i (own_is_job p k e own) (may.3 i has))
+  may_back s fit (GiveBottles k e set) ok may =
+      let own = own_back k e may.0 in (own, set_back s fit e set may.1, λ i has. give_back s fit k e i (own_is_job p k e own) (may.2 i has))
+  may_back s fit (Thirst k) ok may =
+      (job_back s fit k may.0, may.1, may.2, subst (λ (l : List SessionPlan). session s k < length l) (more.others_same k ok) may.3)
+  may_back s fit (Hunger k) ok may = (job_back s fit k may.0, may.1, may.2)
+  may_back s fit (Sit k) ok may = (job_back s fit k may.0, may.1, marked_back s fit k may.2)
+  may_back s fit (Leave k) ok may = (job_back s fit k may.0, may.1, may.2, marked_back s fit k may.3)
+  may_back s fit (Drink k) ok may = (job_back s fit k may.0, may.1, needed_back s fit k (job_back s fit k may.0) may.2)
+  may_back s fit (Reach k) ok may = (
+    job_back s fit k may.0,
+    may.1,
+    subst (λ (x : SessionPlan). position s k < length x.commands) (now_same s fit k (job_back s fit k may.0) (inr (inl may.1))) may.2,
+  )
+  may_back s fit (Act k) ok may = (job_back s fit k may.0, may.1)
+  may_back s fit (Quit k) ok may = (
+    job_back s fit k may.0,
+    may.1,
+    subst (λ (x : SessionPlan). length x.commands ≤ position s k) (now_same s fit k (job_back s fit k may.0) (inr (inl may.1))) may.2,
+  )
+  may_back s fit (Retire k) ok may = (
+    job_back s fit k may.0,
+    may.1,
+    may.2,
+    subst (λ (l : List SessionPlan). length l ≤ session s k) (more.others_same k ok) may.3,
+  )
+  may_back s fit (Glance k other seen) ok may = (job_back s fit k may.0, job_back s fit other may.1, may.2, may.3)
+  may_back s fit (Withdraw k) ok may = (
+    job_back s fit k may.0,
+    may.1,
+    subst (λ (x : SessionPlan). IsSome x.patience) (now_same s fit k (job_back s fit k may.0) (inl may.1)) may.2,
+  )
+
+  kept_so : (event : Event) → ¬ AsksWhatIsLeft j event → IsNotRetire event
+  kept_so (Retire k) ok = ok
+  kept_so _ ok = tt
 
   -- ---- the state after it
 
@@ -240,3 +321,6 @@ pub stays_legal : StaysLegal
 stays_legal p q j more s s' h fit run alive =
     let both = all_legal p q j more s h fit run.legal (subst (λ (z : State). drinking z j ≢ Retired) run.leads alive) in
     record { legal = both.0; leads = run.leads ∙ sym both.1 }
+
+pub is_as_legal : IsAsLegal
+is_as_legal p q j more s event fit other = (may_back p q j more s fit event other, may_same p q j more s fit event (kept_so p q j more event other))

@@ -1,13 +1,19 @@
 //! A plan that is longer: sessions are added at the end of one job's. What was legal stays legal, and leads to the same state.
 #![tactic(auto)]
 
-ghost use Rattle.longer_plans.specs.Longer.{StaysLegal, StillFits, StaysAnOpening, StaysAcyclic, OpensTheSame};
+ghost use Rattle.longer_plans.specs.Longer.{StaysLegal, IsAsLegal, StillFits, StaysAnOpening, StaysAcyclic, OpensTheSame};
 ghost use Rattle.longer_plans.specs.OneMore.{IsLongerByOne};
 
 /// Every legal list of events stays legal if its plan gets longer, unless the job that gets the sessions has retired in it: nothing
 /// that an event reads of the plan changes, but that there are sessions left, which only a retirement asks to be otherwise.
 pub fn stays_legal()
     ensures { StaysLegal }
+{}
+
+/// Only a beginning and a retirement of the job that gets the sessions are told apart by the two plans. So of what a job may do of itself nothing changes:
+/// its moves, its meals, and whether it drinks.
+pub fn is_as_legal()
+    ensures { IsAsLegal }
 {}
 
 /// Every state that fits a plan fits a longer one.
