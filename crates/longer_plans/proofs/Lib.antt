@@ -2,3 +2,4 @@ pub mod Retired
 pub mod Stays
 pub mod States
 pub mod Once
+pub mod Rooms

@@ -27,19 +27,19 @@ use Rattle.longer_plans.proofs.Retired.{retired_stays}
 module _ (p q : LabPlan) (j : ℕ) (more : IsLonger p q j) where
   -- ---- what is read of the plan
 
-  own_same : (k e : ℕ) → IsOwn p k e → IsOwn q k e
+  pub own_same : (k e : ℕ) → IsOwn p k e → IsOwn q k e
   own_same k e own = record {
     is_edge = subst (λ (l : List (ℕ × ℕ)). e < length l) (sym more.edges_same) own.is_edge;
     at_end = subst (λ (l : List (ℕ × ℕ)). ((slice_index_or l e (0, 0)).0 ≡ k) ⊎ ((slice_index_or l e (0, 0)).1 ≡ k)) (sym more.edges_same) own.at_end;
   }
 
-  own_back : (k e : ℕ) → IsOwn q k e → IsOwn p k e
+  pub own_back : (k e : ℕ) → IsOwn q k e → IsOwn p k e
   own_back k e own = record {
     is_edge = subst (λ (l : List (ℕ × ℕ)). e < length l) more.edges_same own.is_edge;
     at_end = subst (λ (l : List (ℕ × ℕ)). ((slice_index_or l e (0, 0)).0 ≡ k) ⊎ ((slice_index_or l e (0, 0)).1 ≡ k)) more.edges_same own.at_end;
   }
 
-  end_same : (k e : ℕ) → end_of q k e ≡ end_of p k e
+  pub end_same : (k e : ℕ) → end_of q k e ≡ end_of p k e
   end_same k e = ap (λ (l : List (ℕ × ℕ)). if (slice_index_or l e (0, 0)).0 == k then Lower else Higher) more.edges_same
 
   here_same : (k e : ℕ) (thing : End) → Here p k e thing → Here q k e thing
@@ -54,7 +54,7 @@ module _ (p q : LabPlan) (j : ℕ) (more : IsLonger p q j) where
   there_back : (k e : ℕ) (thing : End) → There q k e thing → There p k e thing
   there_back k e thing h = λ is. h (here_same k e thing is)
 
-  bottles_at_same : (e : ℕ) (here : End) (x : EdgeState) → bottles_at q e here x ≡ bottles_at p e here x
+  pub bottles_at_same : (e : ℕ) (here : End) (x : EdgeState) → bottles_at q e here x ≡ bottles_at p e here x
   unfolding bottles_at
   bottles_at_same e Higher x = refl
   bottles_at_same e Lower x = ap (λ (l : List ℕ). bit_xor (2 ^ length l - 1) x.bottles) (more.bottles_same e)

@@ -2,7 +2,7 @@
 #![tactic(auto)]
 
 ghost use Rattle.longer_plans.specs.Longer.{StaysLegal, IsAsLegal, StillFits, StaysAnOpening, StaysAcyclic, OpensTheSame};
-ghost use Rattle.longer_plans.specs.OneMore.{IsLongerByOne};
+ghost use Rattle.longer_plans.specs.OneMore.{IsLongerByOne, NeedsMoreRoom};
 
 /// Every legal list of events stays legal if its plan gets longer, unless the job that gets the sessions has retired in it: nothing
 /// that an event reads of the plan changes, but that there are sessions left, which only a retirement asks to be otherwise.
@@ -40,3 +40,9 @@ pub fn opens_the_same()
 pub fn longer_by_one()
     ensures { IsLongerByOne }
 {}
+
+/// The room of each log grows by the session's commands on its instrument, and no other.
+pub fn needs_more_room()
+    ensures { NeedsMoreRoom }
+{
+}
