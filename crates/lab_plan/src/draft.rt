@@ -2,7 +2,7 @@
 ghost use Rattle.std.specs.Prelude.{◌≡◌, ◌≢◌, ℕ, ◌-◌, ◌<◌, ◌≤◌, ◌&&◌, nat_lt, length, take, slice_index_or, [], ◌∷◌, ◌++◌, is_ok, if◌then◌else◌, IfNone, true};
 ghost use Rattle.std.specs.List.{position, AllPairs};
 ghost use Rattle.std.specs.Str.{bytes_eq};
-ghost use Rattle.lab_plan.specs.Limits.{most_instruments};
+ghost use Rattle.lab_plan.specs.Limits.{most_instruments, most_commands};
 
 use crate::job::Job;
 use crate::name::Name;
@@ -27,7 +27,7 @@ impl<A: Allocator> Model for Draft<A> {
 }
 
 impl<A: Allocator> Draft<A> {
-    ghost use Rattle.lab_plan.specs.LabPlan.{sessions, commands, patience, job_at};
+    ghost use Rattle.lab_plan.specs.LabPlan.{sessions, commands, patience, job_at, all_commands};
     ghost use Rattle.lab_plan.specs.Cuts.{commands_before};
     ghost use Rattle.lab_plan.specs.Building.{is_job, is_bare, has_session, last_job, with_job, with_session, with_command, on_last, in_last_session, IsPlace};
 
@@ -169,6 +169,18 @@ impl<A: Allocator> Draft<A> {
             self.drop_instrument();
         }
         pushed
+    }
+
+    /// How many commands all jobs have together. One step for each job.
+    pub(crate) fn all_commands(&self) -> usize
+        requires { length (all_commands self.now) ≤ most_commands }
+        ensures { result ≡ length (all_commands self.now) }
+    {
+        let mut count = 0;
+        for job in &self.jobs {
+            count += job.all_commands().len();
+        }
+        count
     }
 
     pub(crate) fn version(&self) -> u8

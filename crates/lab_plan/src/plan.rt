@@ -39,10 +39,10 @@ impl<A: Allocator> Model for Plan<A> {
 impl<A: Allocator> Plan<A> {
     ghost use Rattle.lab_plan.specs.Limits.{most_instruments, most_sessions, most_bottles};
     ghost use Rattle.lab_plan.specs.LabPlan.{edges, ends, edges_of, lower_first, bottles, sessions, commands};
-    ghost use Rattle.lab_plan.specs.LabPlan.{patience, session_names, part, place_at, length_at, job_at};
+    ghost use Rattle.lab_plan.specs.LabPlan.{patience, session_names, part, place_at, length_at, job_at, all_commands};
     ghost use Rattle.lab_plan.specs.IsPlan.{IsPlan};
     ghost use Rattle.lab_plan.specs.Names.{IsName};
-    ghost use Rattle.lab_plan.specs.SessionTables.{IsJobTable, AreNeeds};
+    ghost use Rattle.lab_plan.specs.SessionTables.{IsJobTable, AreNeeds, AreNamedBy};
     ghost use Rattle.lab_plan.specs.Tables.{AreTablesOf};
 
     pub(crate) fn new(draft: Draft<A>, tables: Tables<A>) -> Plan<A>
@@ -209,6 +209,21 @@ impl<A: Allocator> Plan<A> {
         ensures plan { IsPlan self.now }
     {
         self.tables.job(job)
+    }
+
+    /// The instruments that a job's sessions name.
+    pub(crate) fn named(&self, job: JobNo) -> InstrumentSet
+        requires { job < length self.now.jobs }
+        ensures { AreNamedBy (job_at self.now job) result }
+    {
+        self.table(job).named()
+    }
+
+    /// How many commands all sessions of the plan have. It takes one step for each job.
+    pub(crate) fn all_commands(&self) -> usize
+        ensures { result ≡ length (all_commands self.now) }
+    {
+        self.draft.all_commands()
     }
 
     /// The instruments that a session names.

@@ -9,6 +9,7 @@ ghost use Rattle.lab_plan.specs.SessionTables.{IsJobTable, AreJobTables, places_
 use crate::instrument_set::InstrumentSet;
 use crate::job::Job;
 use crate::limits::MOST_INSTRUMENTS;
+use crate::naming::named_by;
 use crate::numbers::InstrumentNo;
 use crate::place::Place;
 use crate::verb::Verb;
@@ -47,11 +48,12 @@ fn push_places<A: Allocator>(places: &mut Vec<Place, A>, commands: &[(Instrument
     }
 }
 
-/// What is kept of the sessions of one job: what each names, and the places of the commands of all.
+/// What is kept of the sessions of one job: what each names, the places of the commands of all, and what all name together.
 #[derive(Drop)]
 pub(crate) struct JobTable<A: Allocator = Global> {
     needs: Vec<InstrumentSet, A>,
     places: Vec<Place, A>,
+    named: InstrumentSet,
 }
 
 impl<A: Allocator> Model for JobTable<A> {
@@ -59,7 +61,7 @@ impl<A: Allocator> Model for JobTable<A> {
 
     ghost Value = { JobTable };
 
-    ghost view = { λ t. record { needs = t.needs.items; places = t.places.items } };
+    ghost view = { λ t. record { needs = t.needs.items; places = t.places.items; named = t.named } };
 }
 
 impl<A: Allocator> JobTable<A> {
@@ -76,7 +78,18 @@ impl<A: Allocator> JobTable<A> {
             needs.push_reserved(InstrumentSet::of(commands));
             push_places(&mut places, commands);
         }
-        Ok(JobTable { needs, places })
+        Ok(JobTable {
+            needs,
+            places,
+            named: named_by(job),
+        })
+    }
+
+    /// What all sessions of the job name.
+    pub(crate) fn named(&self) -> InstrumentSet
+        ensures { result ≡ self.now.named }
+    {
+        self.named
     }
 
     /// What the session with this many before it names.
