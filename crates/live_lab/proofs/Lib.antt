@@ -9,3 +9,4 @@ mod Tests
 mod Sessions
 mod Calls
 mod Reported
+pub mod LongerLabs

@@ -1,11 +1,12 @@
 //! The lab of one handle: a world that owns its plan, for callers that name a job by its number. One call at a time.
 //!
 //! A job is driven by single turns, or all jobs together by settles: a settle does all that can be done without a word from an owner. A call
-//! that names a job that isn't there changes nothing and answers `None`. No call but the first takes memory, but for what it hands out.
+//! that names a job that isn't there changes nothing and answers `None`. Only the first call and one that adds a session take memory, but for what is handed out.
 #![tactic(auto)]
 
 mod beginning;
 mod clock;
+mod coming;
 mod commanding;
 mod ending;
 mod keeping;
@@ -24,6 +25,7 @@ mod turning;
 mod words;
 
 pub use ending::Ended;
+pub use interleaving::AddRefusal;
 pub use keeping::Keepers;
 pub use lab::Lab;
 pub use planned::Planned;

@@ -1,11 +1,15 @@
 -- One more session of instruments that the job names already changes no edge and no bottle.
-use Rattle.std.proofs.Common.{◌≡◌, ◌≢◌, ℕ, ◌<◌, Bool, true, false, ◌&&◌, ◌||◌, List, [], ◌∷◌, filter, length, get_or, refl, sym, ap, ◌∙◌, subst, inl, inr, length-set, get_or-set_same, get_or-set_other}
+use Rattle.std.proofs.Common.{◌≡◌, ◌≢◌, ℕ, ◌<◌, Bool, true, false, ◌&&◌, ◌||◌, ◌==◌, not, if◌then◌else◌, Some, None, List, [], ◌∷◌, filter, length, get_or, refl, sym, ap, ◌∙◌, subst, inl, inr, length-set, get_or-set_same, get_or-set_other}
 use Rattle.std.specs.List.{list_any, range_with_len}
-use Rattle.std.proofs.lemmas.Bool.{cases_eq}
+use Rattle.std.proofs.lemmas.Bool.{cases_eq, cases_Bool, eqb-true, false≢true}
 use Rattle.std.proofs.lemmas.List.Folds.{list_any-append}
 use Rattle.lab_plan.specs.LabPlan.{LabPlan, SessionPlan, JobPlan, no_job, job_at, sessions, any_on, is_named_by, names, pairs, edges, ends, common}
 use Rattle.longer_plans.specs.Longer.{IsLonger}
-use Rattle.longer_plans.specs.OneMore.{with_session, with_one_more, IsOfItsOwn, IsLongerByOne}
+use Rattle.lab_plan.specs.declared.verb.Verb.{Verb}
+use Rattle.lab_plan.specs.declared.refusal.MoreRefusal.{MoreRefusal}
+use Rattle.lab_plan.specs.declared.refusal.MoreRefusal.TheVariants.{Empty, LimitPassed, NotItsOwn, NotPatient, TooLarge}
+use Rattle.lab_plan.specs.Longer.{with_session, with_one_more, IsOfItsOwn, is_past_limit, are_its_own, may_be_patient, all_fit, more_refusal}
+use Rattle.longer_plans.specs.OneMore.{IsLongerByOne, TakenIsLonger}
 
 module _ (p : LabPlan) (j : ℕ) (session : SessionPlan) (there : j < length p.jobs) (own : IsOfItsOwn p j session) where
   abbrev q : LabPlan
@@ -59,3 +63,39 @@ module _ (p : LabPlan) (j : ℕ) (session : SessionPlan) (there : j < length p.j
 
 pub longer_by_one : IsLongerByOne
 longer_by_one p j session there own = longer p j session there own
+
+-- ---- a session that a plan doesn't refuse
+
+both_true : (a b : Bool) → (a && b) ≡ true → (a ≡ true) × (b ≡ true)
+both_true true b is = (refl, is)
+both_true false b is = absurd (false≢true is)
+
+-- each command is on an instrument that the job names, so each instrument with a command is one of those
+named : (p : LabPlan) (j i : ℕ) (commands : List (ℕ × Verb)) → are_its_own p j commands ≡ true → any_on i commands ≡ true → names p j i ≡ true
+named p j i [] own there = absurd (false≢true there)
+named p j i (command ∷ commands) own there =
+    let both = both_true (names p j command.0) (are_its_own p j commands) own in
+    elim (cases_Bool (command.0 == i)) [
+      | inl is ↦ subst (λ (n : ℕ). names p j n ≡ true) (eqb-true command.0 i is) both.0
+      | inr other ↦ named p j i commands both.1 (sym (ap (λ (b : Bool). b || any_on i commands) other) ∙ there)
+    ]
+
+-- of its causes, the third
+not_its_own : (empty past own patient fit : Bool)
+    → (if empty then Some Empty
+        else (if past then Some LimitPassed
+        else (if not own then Some NotItsOwn
+        else (if not patient then Some NotPatient
+        else (if not fit then Some TooLarge else None))))) ≡ None → own ≡ true
+not_its_own true past own patient fit is = absurd (cc)
+not_its_own false true own patient fit is = absurd (cc)
+not_its_own false false true patient fit is = refl
+not_its_own false false false patient fit is = absurd (cc)
+
+pub is_of_its_own : (p : LabPlan) (j : ℕ) (session : SessionPlan) → more_refusal p j session ≡ None → IsOfItsOwn p j session
+is_of_its_own p j session is = λ i there.
+    named p j i session.commands (not_its_own (length session.commands == 0) (is_past_limit p j session) (are_its_own p j session.commands)
+    (may_be_patient p session.patience) (all_fit session.commands) is) there
+
+pub taken_is_longer : TakenIsLonger
+taken_is_longer p j session there is = longer p j session there (is_of_its_own p j session is)

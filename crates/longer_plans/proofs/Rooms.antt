@@ -7,7 +7,8 @@ use Rattle.std.proofs.lemmas.List.Concat.{flat_map-append}
 use Rattle.lab_plan.specs.declared.verb.Verb.{Verb}
 use Rattle.lab_plan.specs.LabPlan.{LabPlan, SessionPlan, JobPlan, no_job, job_at, sessions, count_on}
 use Rattle.legal_steps.proofs.RoomShares.{sum_to, room_is_sum, count_on-append}
-use Rattle.longer_plans.specs.OneMore.{with_session, with_one_more, NeedsMoreRoom}
+use Rattle.lab_plan.specs.Longer.{with_session, with_one_more}
+use Rattle.longer_plans.specs.OneMore.{NeedsMoreRoom}
 
 sum_to-same : (f g : ℕ → ℕ) (n : ℕ) → ((k : ℕ) → k < n → g k ≡ f k) → sum_to g n ≡ sum_to f n
 sum_to-same f g zero h = refl

@@ -2,7 +2,7 @@
 #![tactic(auto)]
 
 ghost use Rattle.longer_plans.specs.Longer.{StaysLegal, IsAsLegal, StillFits, StaysAnOpening, StaysAcyclic, OpensTheSame};
-ghost use Rattle.longer_plans.specs.OneMore.{IsLongerByOne, NeedsMoreRoom};
+ghost use Rattle.longer_plans.specs.OneMore.{IsLongerByOne, TakenIsLonger, NeedsMoreRoom};
 
 /// Every legal list of events stays legal if its plan gets longer, unless the job that gets the sessions has retired in it: nothing
 /// that an event reads of the plan changes, but that there are sessions left, which only a retirement asks to be otherwise.
@@ -40,6 +40,12 @@ pub fn opens_the_same()
 pub fn longer_by_one()
     ensures { IsLongerByOne }
 {}
+
+/// So it is with every session that a plan takes: of no other instrument than the job's own.
+pub fn taken_is_longer()
+    ensures { TakenIsLonger }
+{
+}
 
 /// The room of each log grows by the session's commands on its instrument, and no other.
 pub fn needs_more_room()
