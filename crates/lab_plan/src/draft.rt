@@ -252,6 +252,22 @@ impl<A: Allocator> Draft<A> {
 }
 
 impl<A: Allocator> Draft<A> {
+    ghost use Rattle.lab_plan.specs.Longer.{session_of, with_one_more};
+
+    /// Adds a session of any job, of instruments that the draft has.
+    pub(crate) fn add_session(
+        &mut self,
+        job: JobNo,
+        patience: Option<u32>,
+        commands: &[(InstrumentNo, Verb)],
+    ) -> Result<(), AllocError>
+        requires { job < length self.old.jobs }
+        ensures { self.new ≡ (if is_ok result then with_one_more self.old job (session_of patience commands.now) else self.old) }
+    {
+        let job = &mut self.jobs[job.0 as usize];
+        job.add_session(patience, commands)
+    }
+
     pub(crate) fn all_jobs(&self) -> &[Job<A>]
         ensures { result.now ≡ self.now.jobs }
     {
