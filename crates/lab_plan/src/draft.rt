@@ -29,7 +29,7 @@ impl<A: Allocator> Model for Draft<A> {
 impl<A: Allocator> Draft<A> {
     ghost use Rattle.lab_plan.specs.LabPlan.{sessions, commands, patience, job_at, all_commands};
     ghost use Rattle.lab_plan.specs.Cuts.{commands_before};
-    ghost use Rattle.lab_plan.specs.Building.{is_job, is_bare, has_session, last_job, with_job, with_session, with_command, on_last, in_last_session, IsPlace};
+    ghost use Rattle.lab_plan.specs.Building.{is_job, job_number, is_bare, has_session, last_job, with_job, with_session, with_command, on_last, in_last_session, IsPlace};
 
     pub(crate) fn new(alloc: A, version: u8) -> Draft<A>
     where
@@ -47,6 +47,12 @@ impl<A: Allocator> Draft<A> {
         ensures { result ≡ is_job name.now self.now }
     {
         self.jobs.iter().any(|job| job.is(name))
+    }
+
+    pub(crate) fn job_place(&self, name: &[u8]) -> Option<usize>
+        ensures { result ≡ job_number name.now self.now }
+    {
+        self.jobs.iter().position(|job| job.is(name))
     }
 
     fn position(&self, name: &[u8]) -> Option<usize>

@@ -44,6 +44,7 @@ impl<A: Allocator> Plan<A> {
     ghost use Rattle.lab_plan.specs.Names.{IsName};
     ghost use Rattle.lab_plan.specs.SessionTables.{IsJobTable, AreNeeds, AreNamedBy};
     ghost use Rattle.lab_plan.specs.Tables.{AreTablesOf};
+    ghost use Rattle.lab_plan.specs.Building.{IsPlace, job_number};
     ghost use Rattle.lab_plan.specs.Longer.{session_of, with_one_more, more_refusal};
 
     pub(crate) fn new(draft: Draft<A>, tables: Tables<A>) -> Plan<A>
@@ -103,6 +104,24 @@ impl<A: Allocator> Plan<A> {
         ensures short { length result.now ≤ 16 }
     {
         self.draft.instrument_name(instrument)
+    }
+
+    /// The instrument with this name.
+    pub fn instrument_named(&self, name: &[u8]) -> Option<InstrumentNo>
+        ensures { IsPlace name.now self.now result }
+    {
+        let place = self.draft.place(0, name)?;
+        Some(InstrumentNo(place as u8))
+    }
+
+    /// The job with this name.
+    pub fn job_named(&self, name: &[u8]) -> Option<JobNo>
+        ensures found { IfSome result (λ j. job_number name.now self.now ≡ Some j) }
+        ensures there { IfSome result (λ j. j < length self.now.jobs) }
+        ensures none { IfNone result (job_number name.now self.now ≡ None) }
+    {
+        let place = self.draft.job_place(name)?;
+        Some(JobNo(place as u8))
     }
 
     /// The two jobs of an edge, the lower number first.
@@ -221,7 +240,7 @@ impl<A: Allocator> Plan<A> {
     }
 
     /// How many commands all sessions of the plan have. It takes one step for each job.
-    pub(crate) fn all_commands(&self) -> usize
+    pub fn all_commands(&self) -> usize
         ensures commands { result ≡ length (all_commands self.now) }
         ensures few { result ≤ most_commands }
     {
