@@ -1,5 +1,5 @@
 -- For readers: a plan that gets longer: one more session of a job, of instruments that this job names already, so that edges and bottles stay.
-use Rattle.std.specs.Prelude.{◌≡◌, ℕ, ◌+◌, Bool, true, ◌&&◌, not, ◌==◌, nat_le, nat_lt, List, [], ◌∷◌, ◌++◌, length}
+use Rattle.std.specs.Prelude.{◌≡◌, ℕ, ◌+◌, Bool, true, ◌&&◌, ◌||◌, not, ◌==◌, nat_le, nat_lt, List, [], ◌∷◌, ◌++◌, length}
 use Rattle.std.specs.Prelude.{Option, None, Some, Result, Ok, Err, slice_set, if◌then◌else◌}
 use Rattle.std.specs.List.{list_all}
 use Rattle.lab_plan.specs.declared.verb.Verb.{Verb}
@@ -30,7 +30,7 @@ IsOfItsOwn plan j session = (i : ℕ) → any_on i session.commands ≡ true →
 -- the job has as many sessions as it may, or the plan would have more commands than it may
 abbrev pub is_past_limit : LabPlan → ℕ → SessionPlan → Bool
 is_past_limit plan j session =
-    if nat_le most_sessions (length (sessions plan j)) then true else nat_lt most_commands (length (all_commands plan) + length session.commands)
+    nat_le most_sessions (length (sessions plan j)) || nat_lt most_commands (length (all_commands plan) + length session.commands)
 
 -- the job names the instrument of each command
 abbrev pub are_its_own : LabPlan → ℕ → List (ℕ × Verb) → Bool

@@ -1,5 +1,5 @@
 -- What is kept of the sessions of each job, so that its readers count nothing again.
-use Rattle.std.specs.Prelude.{◌≡◌, ℕ, ◌<◌, List, [], length, map, slice_index_or}
+use Rattle.std.specs.Prelude.{◌≡◌, ℕ, ◌-◌, ◌<◌, List, [], ◌∷◌, ◌++◌, length, take, map, slice_index_or}
 use Rattle.std.specs.List.{flat_map, range_with_len}
 use Rattle.lab_plan.specs.declared.verb.Verb.{Verb}
 use Rattle.lab_plan.specs.declared.verb.Verb.TheVariants.{Read}
@@ -56,3 +56,13 @@ pub record IsJobTable (job : JobPlan) (table : JobTable) : Type 0 where
 
 abbrev pub AreJobTables : List JobPlan → List JobTable → Type 0
 AreJobTables jobs tables = Related IsJobTable no_job no_table jobs tables
+
+-- what is kept of a job with one more session of instruments that the job names already, and without its last session
+abbrev pub table_with : ℕ → List (ℕ × Verb) → JobTable → JobTable
+table_with needs commands table = record table { needs = table.needs ++ needs ∷ []; places = table.places ++ places_of commands }
+
+abbrev pub table_without : ℕ → JobTable → JobTable
+table_without commands table = record table {
+  needs = take (length table.needs - 1) table.needs;
+  places = take (length table.places - commands) table.places;
+}

@@ -43,6 +43,7 @@ impl<A: Allocator> Plan<A> {
         }
     }
 
+    #[tactic(auto, using(crate::proofs::OneMore::past_is))]
     fn is_past_limit(&self, job: JobNo, commands: &[(InstrumentNo, Verb)]) -> bool
         requires { job < length self.now.jobs }
         ensures { result ≡ is_past_limit self.now job (session_of None commands.now) }
@@ -92,6 +93,7 @@ impl<A: Allocator> Plan<A> {
         if let Some(refusal) = self.more_refusal(job, patience, commands) {
             return Err(refusal);
         }
-        Err(MoreRefusal::NoMemory)
+        self.push_session(job, patience, commands)?;
+        Ok(())
     }
 }

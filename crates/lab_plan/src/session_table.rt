@@ -1,10 +1,10 @@
 //! What is kept of the sessions of each job: what each needs, and the place of each command in its part.
-ghost use Rattle.std.specs.Prelude.{◌≡◌, ℕ, ◌+◌, ◌<◌, ◌≤◌, ◌++◌, length, slice_index_or, vec_capacity, IfOk};
+ghost use Rattle.std.specs.Prelude.{◌≡◌, ℕ, ◌+◌, ◌<◌, ◌≤◌, ◌++◌, length, slice_index_or, vec_capacity, is_ok, if◌then◌else◌, IfOk};
 ghost use Rattle.std.specs.List.{All};
 ghost use Rattle.lab_plan.specs.Limits.{most_instruments, most_commands};
 ghost use Rattle.lab_plan.specs.LabPlan.{count_on};
 ghost use Rattle.lab_plan.specs.NamedBy.{HasSmall};
-ghost use Rattle.lab_plan.specs.SessionTables.{IsJobTable, AreJobTables, places_of, no_place};
+ghost use Rattle.lab_plan.specs.SessionTables.{IsJobTable, AreJobTables, places_of, table_with, table_without, no_place};
 
 use crate::instrument_set::InstrumentSet;
 use crate::job::Job;
@@ -83,6 +83,33 @@ impl<A: Allocator> JobTable<A> {
             places,
             named: named_by(job),
         })
+    }
+
+    /// Adds what is kept of one more session, all of whose instruments the job names already.
+    pub(crate) fn add_session(
+        &mut self,
+        needs: InstrumentSet,
+        commands: &[(InstrumentNo, Verb)],
+    ) -> Result<(), AllocError>
+        requires numbered { All (λ command. command.0 < most_instruments) commands.now }
+        requires few { length commands.now ≤ most_commands }
+        ensures { self.new ≡ (if is_ok result then table_with needs commands.now self.old else self.old) }
+    {
+        self.needs.reserve(1)?;
+        self.places.reserve(commands.len())?;
+        self.needs.push_reserved(needs);
+        push_places(&mut self.places, commands);
+        Ok(())
+    }
+
+    /// Takes back the last session, which has this many commands.
+    pub(crate) fn take_back_session(&mut self, commands: usize)
+        requires sessions { 0 < length self.old.needs }
+        requires commands { commands ≤ length self.old.places }
+        ensures { self.new ≡ table_without commands self.old }
+    {
+        self.needs.truncate(self.needs.len() - 1);
+        self.places.truncate(self.places.len() - commands);
     }
 
     /// What all sessions of the job name.
