@@ -53,7 +53,7 @@ impl<A: Allocator> Plan<A> {
     }
 
     /// Why the plan refuses one more session of the job, unless no memory is left.
-    fn more_refusal(
+    pub fn more_refusal(
         &self,
         job: JobNo,
         patience: Option<u32>,
