@@ -1,6 +1,6 @@
 -- A world whose plan is longer by one session: its tables fit it, and it is reached by its past.
-use Rattle.std.proofs.Common.{◌≡◌, ◌≢◌, ℕ, ◌+◌, ◌<◌, ◌≤◌, List, [], length, map, arith, refl, sym, ap, ◌∙◌, subst}
-use Rattle.std.specs.Prelude.{Result, Ok, Err}
+use Rattle.std.proofs.Common.{◌≡◌, ◌≢◌, ℕ, ◌+◌, ◌<◌, List, [], length, map, arith, sym, ap, ◌∙◌, subst}
+use Rattle.std.specs.Prelude.{Result, Ok, Err, OnOk}
 use Rattle.std.proofs.lemmas.List.{ext_get_or}
 use Rattle.lab_plan.specs.declared.verb.Verb.{Verb}
 use Rattle.lab_plan.specs.IsPlan.{IsPlan}
@@ -23,7 +23,7 @@ use Rattle.longer_plans.proofs.Once.{longer_by_one}
 use Rattle.longer_plans.proofs.Rooms.{needs_more_room}
 use Rattle.longer_plans.proofs.Stays.{stays_legal}
 use Rattle.longer_plans.proofs.States.{still_fits, stays_an_opening, stays_acyclic}
-use Rattle.interleaving.specs.Rooms.{log_at, HasRooms, HaveMore}
+use Rattle.interleaving.specs.Rooms.{HasRooms, HaveMore}
 use Rattle.interleaving.specs.declared.adding.AddRefusal.{AddRefusal}
 use Rattle.interleaving.specs.declared.adding.AddRefusal.TheVariants.{HasRetired, IsLent, Refused}
 use Rattle.interleaving.specs.Adding.{PlanAdds, WorldAdds}
@@ -37,8 +37,8 @@ same_entries commands logs logs' more =
     let wide : length (map (λ (l : LogView). l.entries) logs') ≡ length (map (λ (l : LogView). l.entries) logs) =
     sym (logs_wide logs') ∙ (more.as_many ∙ logs_wide logs) in
     ext_get_or [] (map (λ (l : LogView). l.entries) logs') (map (λ (l : LogView). l.entries) logs) wide (λ i inside.
-        let there : i < length logs = (let w = logs_wide logs in omega arith) in
-        entries_at logs' i ∙ (ap (λ (l : LogView). l.entries) (more.more i there there) ∙ sym (entries_at logs i)))
+    let there : i < length logs = (let w = logs_wide logs in omega arith) in
+    entries_at logs' i ∙ (ap (λ (l : LogView). l.entries) (more.more i there there) ∙ sym (entries_at logs i)))
 
 module _ (p q : LabPlan) (j : ℕ) (session : SessionPlan) (there : j < length p.jobs) (own : IsOfItsOwn p j session) (is : q ≡ with_one_more p j session) where
   longer : IsLonger p q j
@@ -92,3 +92,13 @@ refused_same w j session HasRetired new adds = adds.1
 refused_same w j session IsLent new adds = adds.2 ∙ ap (λ (p : LabPlan). record w { plan = p }) (plan_same w.plan j session IsLent new.plan adds.1)
 refused_same w j session (Refused cause) new adds =
     adds.2 ∙ ap (λ (p : LabPlan). record w { plan = p }) (plan_same w.plan j session (Refused cause) new.plan adds.1)
+
+-- ---- a world
+
+pub world_longer : (p : LabPlan) (j : ℕ) (session : SessionPlan) (answer : Result (Unit {0}) AddRefusal) (q : LabPlan) (opening : State) (past : List Event)
+    (s s' : State) (counts : List Counts) → j < length p.jobs → drinking s j ≢ Retired → PlanAdds p j session answer q → OnOk answer (IsOfItsOwn p j session)
+    → OnOk answer (IsPlan q) → s' ≡ s → IsReachedBy p opening past s counts → IsReachedBy q opening past s' counts
+world_longer p j session (Ok done) q opening past s s' counts job alive adds own is_plan same h =
+    subst (λ (x : State). IsReachedBy q opening past x counts) (sym same) (reached_longer p q j session job own adds.1 opening past s counts is_plan alive h)
+world_longer p j session (Err refusal) q opening past s s' counts job alive adds own is_plan same h =
+    subst (λ (z : LabPlan × State). IsReachedBy z.0 opening past z.1 counts) (λ i. (sym (plan_same p j session refusal q adds) i, sym same i)) h

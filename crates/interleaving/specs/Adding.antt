@@ -1,5 +1,5 @@
 -- For readers: a session that is added to the plan of a world.
-use Rattle.std.specs.Prelude.{◌≡◌, ◌≢◌, ℕ, Option, None, Result, Ok, Err}
+use Rattle.std.specs.Prelude.{◌≡◌, ◌≢◌, ℕ, None, Result, Ok, Err}
 use Rattle.lab_plan.specs.LabPlan.{LabPlan, SessionPlan}
 use Rattle.lab_plan.specs.Longer.{with_one_more, more_refusal, Adds}
 use Rattle.legal_steps.specs.declared.phase.Drinking.TheVariants.{Retired}

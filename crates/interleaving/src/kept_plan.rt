@@ -69,9 +69,9 @@ impl<'a, A: Allocator> KeptPlan<'a, A> {
     {
         match &self.whose {
             Whose::Lent(_) => Some(AddRefusal::IsLent),
-            Whose::Own(plan) => Some(AddRefusal::Refused(
-                plan.more_refusal(job, patience, commands)?,
-            )),
+            Whose::Own(plan) => Some(AddRefusal::Refused(plan.more_refusal(
+                job, patience, commands,
+            )?)),
         }
     }
 

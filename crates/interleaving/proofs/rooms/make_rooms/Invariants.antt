@@ -3,6 +3,6 @@ use Rattle.interleaving.proofs.rooms.make_rooms.Given as goal
 
 abbrev pub invariant-loop-number : goal.invariant-loop-number
 invariant-loop-number g l = record {
-  more : HaveMoreBelow l.number l.commands l.initial.logs l.logs;
-  spare : MaySpareBelow l.number l.commands l.logs;
+  more : HaveMoreBelow l.number l.commands l.initial.logs.items l.logs.items;
+  spare : MaySpareBelow l.number l.commands l.logs.items;
 }
