@@ -36,10 +36,7 @@ fn does<T: Allocator>(rt: &impl Abort, world: &mut World<T>, events: &[Event]) {
 /// How many sessions the job has, and how many entries the log of the scale has room for.
 fn sizes<T: Allocator>(rt: &impl Abort, world: &World<T>, job: u8) -> (u32, usize) {
     assert!(rt; world.plan().jobs() > job as usize && world.plan().instruments() == 1);
-    (
-        world.plan().sessions(JobNo(job)),
-        world.log(SCALE).room(),
-    )
+    (world.plan().sessions(JobNo(job)), world.log(SCALE).room())
 }
 
 /// From the first session of a job to its end.
@@ -63,7 +60,11 @@ fn a_session_comes(rt: HostRuntime) {
     // The bottle of the scale is at a, but it hasn't looked yet: so it looks first.
     assert!(rt; world.plan().edges() == 1);
     let edge = world.edge(EdgeNo(AB));
-    does(&rt, &mut world, &[thirst, Event::Look(JobNo(A), EdgeNo(AB), edge), drink]);
+    does(
+        &rt,
+        &mut world,
+        &[thirst, Event::Look(JobNo(A), EdgeNo(AB), edge), drink],
+    );
     assert!(rt; adds(&rt, &mut world, A, Verb::Read).is_ok());
     assert!(rt; sizes(&rt, &world, A) == (2, 3));
     assert!(rt; sizes(&rt, &world, B) == (1, 3));
@@ -83,7 +84,19 @@ fn none_comes_behind_a_retire(rt: HostRuntime) {
     assert!(rt; world.plan().edges() == 1);
     let edge = world.edge(EdgeNo(AB));
     let look = Event::Look(JobNo(A), EdgeNo(AB), edge);
-    does(&rt, &mut world, &[thirst, look, drink, reach, act, quit, Event::Retire(JobNo(A))]);
+    does(
+        &rt,
+        &mut world,
+        &[
+            thirst,
+            look,
+            drink,
+            reach,
+            act,
+            quit,
+            Event::Retire(JobNo(A)),
+        ],
+    );
     assert!(rt; adds(&rt, &mut world, A, Verb::Read) == Err(AddRefusal::HasRetired));
     assert!(rt; sizes(&rt, &world, A) == (1, 2));
     assert!(rt; adds(&rt, &mut world, B, Verb::Read).is_ok());
@@ -108,10 +121,17 @@ fn a_refused_session_takes_no_room(rt: HostRuntime) {
     assert!(rt; world.plan().jobs() == 2);
     let none = world.add_session(JobNo(A), None, &[]);
     assert!(rt; none == Err(AddRefusal::Refused(MoreRefusal::Empty)));
-    let other = world.add_session(JobNo(A), None, &[(SCALE, Verb::Read), (InstrumentNo(1), Verb::Read)]);
+    let other = world.add_session(
+        JobNo(A),
+        None,
+        &[(SCALE, Verb::Read), (InstrumentNo(1), Verb::Read)],
+    );
     assert!(rt; other == Err(AddRefusal::Refused(MoreRefusal::NotItsOwn)));
     let patient = world.add_session(JobNo(A), Some(3), &[(SCALE, Verb::Read)]);
     assert!(rt; patient == Err(AddRefusal::Refused(MoreRefusal::NotPatient)));
-    assert!(rt; adds(&rt, &mut world, A, Verb::Set(1000000)) == Err(AddRefusal::Refused(MoreRefusal::TooLarge)));
+    assert!(rt;
+        adds(&rt, &mut world, A, Verb::Set(1000000))
+            == Err(AddRefusal::Refused(MoreRefusal::TooLarge))
+    );
     assert!(rt; sizes(&rt, &world, A) == (1, 2));
 }

@@ -6,7 +6,8 @@ use std::alloc::Global;
 use std::process::Abort;
 
 /// The scale is at job a at first.
-const SHARED: &[u8] = b"lab 2\njob a\nsession\nscale add 1\nend\njob b\nsession\nscale set 5\nend\n";
+const SHARED: &[u8] =
+    b"lab 2\njob a\nsession\nscale add 1\nend\njob b\nsession\nscale set 5\nend\n";
 
 /// Job a does its session, job b does its own, and job a does the one that came.
 const WITH_ONE_MORE: &[u8] =

@@ -1,7 +1,8 @@
 //! The lab of one handle: a world that owns its plan, for callers that name a job by its number. One call at a time.
 //!
 //! A job is driven by single turns, or all jobs together by settles: a settle does all that can be done without a word from an owner. A call
-//! that names a job that isn't there changes nothing and answers `None`. Only the first call and one that adds a session take memory, but for what is handed out.
+//! that names a job that isn't there changes nothing and answers `None`. But for what is handed out, memory is taken by the first call alone, and by one
+//! that adds a session.
 #![tactic(auto)]
 
 mod beginning;

@@ -83,10 +83,10 @@ named p j i (command ∷ commands) own there =
 -- of its causes, the third
 not_its_own : (empty past own patient fit : Bool)
     → (if empty then Some Empty
-        else (if past then Some LimitPassed
-        else (if not own then Some NotItsOwn
-        else (if not patient then Some NotPatient
-        else (if not fit then Some TooLarge else None))))) ≡ None → own ≡ true
+    else (if past then Some LimitPassed
+    else (if not own then Some NotItsOwn
+    else (if not patient then Some NotPatient
+    else (if not fit then Some TooLarge else None))))) ≡ None → own ≡ true
 not_its_own true past own patient fit is = absurd (cc)
 not_its_own false true own patient fit is = absurd (cc)
 not_its_own false false true patient fit is = refl

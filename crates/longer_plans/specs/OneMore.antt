@@ -7,7 +7,8 @@ use Rattle.longer_plans.specs.Longer.{IsLonger}
 
 -- it is a longer one: the same edges, with the same bottles
 abbrev pub IsLongerByOne : Type 0
-IsLongerByOne = (plan : LabPlan) (j : ℕ) (session : SessionPlan) → j < length plan.jobs → IsOfItsOwn plan j session → IsLonger plan (with_one_more plan j session) j
+IsLongerByOne = (plan : LabPlan) (j : ℕ) (session : SessionPlan) → j < length plan.jobs → IsOfItsOwn plan j session
+    → IsLonger plan (with_one_more plan j session) j
 
 -- and so is the plan with a session that it takes
 abbrev pub TakenIsLonger : Type 0

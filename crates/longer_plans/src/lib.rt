@@ -44,11 +44,9 @@ pub fn longer_by_one()
 /// So it is with every session that a plan takes: of no other instrument than the job's own.
 pub fn taken_is_longer()
     ensures { TakenIsLonger }
-{
-}
+{}
 
 /// The room of each log grows by the session's commands on its instrument, and no other.
 pub fn needs_more_room()
     ensures { NeedsMoreRoom }
-{
-}
+{}

@@ -5,11 +5,9 @@ ghost use Rattle.settling.specs.Longer.{HasStillNothingToDo, StaysMarked};
 /// but the one that it is in.
 pub fn has_still_nothing_to_do()
     ensures { HasStillNothingToDo }
-{
-}
+{}
 
 /// So the notes of who is due, and where nothing is to be done, are true of the longer plan as they are.
 pub fn stays_marked()
     ensures { StaysMarked }
-{
-}
+{}
