@@ -15,6 +15,18 @@ fn owning<T: Allocator + Copy>(rt: &impl Abort, alloc: T) -> World<'static, T> {
     }
 }
 
+/// Adds a session to the job.
+fn adds_all<T: Allocator>(
+    rt: &impl Abort,
+    world: &mut World<T>,
+    job: u8,
+    patience: Option<u32>,
+    commands: &[(InstrumentNo, Verb)],
+) -> Result<(), AddRefusal> {
+    assert!(rt; world.plan().jobs() > job as usize);
+    world.add_session(JobNo(job), patience, commands)
+}
+
 /// Adds a session of one command to the job.
 fn adds<T: Allocator>(
     rt: &impl Abort,
@@ -22,8 +34,7 @@ fn adds<T: Allocator>(
     job: u8,
     verb: Verb,
 ) -> Result<(), AddRefusal> {
-    assert!(rt; world.plan().jobs() > job as usize);
-    world.add_session(JobNo(job), None, &[(SCALE, verb)])
+    adds_all(rt, world, job, None, &[(SCALE, verb)])
 }
 
 /// Does events that are legal.
@@ -118,20 +129,14 @@ fn a_lent_plan_stays(rt: HostRuntime) {
 #[test]
 fn a_refused_session_takes_no_room(rt: HostRuntime) {
     let mut world = owning(&rt, rt.alloc());
-    assert!(rt; world.plan().jobs() == 2);
-    let none = world.add_session(JobNo(A), None, &[]);
+    let none = adds_all(&rt, &mut world, A, None, &[]);
     assert!(rt; none == Err(AddRefusal::Refused(MoreRefusal::Empty)));
-    let other = world.add_session(
-        JobNo(A),
-        None,
-        &[(SCALE, Verb::Read), (InstrumentNo(1), Verb::Read)],
-    );
+    let two = [(SCALE, Verb::Read), (InstrumentNo(1), Verb::Read)];
+    let other = adds_all(&rt, &mut world, A, None, &two);
     assert!(rt; other == Err(AddRefusal::Refused(MoreRefusal::NotItsOwn)));
-    let patient = world.add_session(JobNo(A), Some(3), &[(SCALE, Verb::Read)]);
+    let patient = adds_all(&rt, &mut world, A, Some(3), &[(SCALE, Verb::Read)]);
     assert!(rt; patient == Err(AddRefusal::Refused(MoreRefusal::NotPatient)));
-    assert!(rt;
-        adds(&rt, &mut world, A, Verb::Set(1000000))
-            == Err(AddRefusal::Refused(MoreRefusal::TooLarge))
-    );
+    let large = adds(&rt, &mut world, A, Verb::Set(1000000));
+    assert!(rt; large == Err(AddRefusal::Refused(MoreRefusal::TooLarge)));
     assert!(rt; sizes(&rt, &world, A) == (1, 2));
 }

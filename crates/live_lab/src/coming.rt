@@ -24,7 +24,8 @@ impl Lab {
     }
 
     /// Adds a session behind the others of a job, if there is such a job, of instruments that the job names already. Whatever was promised of the lab is
-    /// promised of it with the longer plan. A job that had no session left has one again, unless it has retired.
+    /// promised of it with the longer plan. A job that had no session left has one again, unless it has retired. What a lab keeps for
+    /// its journal are events alone: that the session came isn't among them.
     pub fn add_session(
         &mut self,
         job: usize,
