@@ -4,6 +4,8 @@
 #[cfg(test)]
 mod benches;
 #[cfg(test)]
+mod longer;
+#[cfg(test)]
 mod settled;
 #[cfg(test)]
 mod steps;

@@ -4,6 +4,8 @@
 #[cfg(test)]
 mod calls;
 #[cfg(test)]
+mod coming;
+#[cfg(test)]
 mod desks;
 #[cfg(test)]
 mod hall;

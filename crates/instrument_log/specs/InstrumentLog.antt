@@ -17,6 +17,10 @@ pub record LogView : Type 0 where
 abbrev pub empty_log : ℕ → LogView
 empty_log room = record { entries = []; room = room }
 
+-- the log with another room
+abbrev pub with_room : ℕ → LogView → LogView
+with_room room log = record log { room = room }
+
 -- the log with one more entry
 abbrev pub with_entry : LogView → Entry → LogView
 with_entry log entry = record log { entries = log.entries ++ entry ∷ [] }

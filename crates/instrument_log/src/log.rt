@@ -1,10 +1,10 @@
 //! The log of one instrument.
-ghost use Rattle.std.specs.Prelude.{◌≡◌, ◌≢◌, ◌+◌, ◌-◌, ◌<◌, ◌≤◌, length, map, slice_get, Some, IfOk, IsTrue, ◌↔◌};
+ghost use Rattle.std.specs.Prelude.{◌≡◌, ◌≢◌, ◌+◌, ◌-◌, ◌<◌, ◌≤◌, length, map, slice_get, Some, is_ok, if◌then◌else◌, IfOk, IsTrue, ◌↔◌};
 ghost use Rattle.std.specs.Option.{MatchOption, option_map_or};
 ghost use Rattle.instrument_log.specs.Entries.{IsWithinLimits, entry_bytes};
 ghost use Rattle.instrument_log.specs.Dial.{turned, dial};
 ghost use Rattle.instrument_log.specs.Parts.{IsNextPlace, if_open, open_entry, unfinished_of};
-ghost use Rattle.instrument_log.specs.InstrumentLog.{IsLog, MayAppend, IsRefused, Appends, empty_log, with_entry};
+ghost use Rattle.instrument_log.specs.InstrumentLog.{IsLog, MayAppend, IsRefused, Appends, empty_log, with_room, with_entry};
 
 use crate::entry::Entry;
 use crate::packing::{pack_entry, spelled_by};
@@ -19,7 +19,7 @@ type Apart = [u64; 16];
 const APART: Apart = [0; 16];
 
 /// The log of one instrument: what its commands left, in order, with room for a number of entries that
-/// is set when the log is made.
+/// is set when the log is made; `make_room` makes more.
 ///
 /// Its entries are parts, one after another: a part is what one session of a job leaves on the
 /// instrument, with places from 1 to its length, and only the last part may be unfinished. Each value
@@ -49,7 +49,7 @@ impl<A: Allocator> Model for InstrumentLog<A> {
 }
 
 impl<A: Allocator> InstrumentLog<A> {
-    /// An empty log with room for this many entries. All the memory that the log ever takes is taken here.
+    /// An empty log with room for this many entries. All the memory that they take is taken here.
     pub fn with_room(alloc: A, room: usize) -> Result<InstrumentLog<A>, AllocError>
         ensures { IfOk result (λ log. log ≡ empty_log room) }
     {
@@ -60,6 +60,26 @@ impl<A: Allocator> InstrumentLog<A> {
             value: 0,
             apart: APART,
         })
+    }
+
+    /// Makes room for more entries behind those that the log has room for already. Like every list, what the log takes grows by
+    /// doubling, so that a number of calls costs no more than the entries that they make room for. It fails if no memory is left.
+    pub fn make_room(&mut self, more: usize) -> Result<(), AllocError>
+        ensures { self.new ≡ (if is_ok result then with_room (self.old.room + more) self.old else self.old) }
+    {
+        let room = self.room.checked_add(more).ok_or(AllocError)?;
+        self.packed.reserve(room - self.packed.len())?;
+        self.room = room;
+        Ok(())
+    }
+
+    /// Gives up room that no entry takes, as one who made too much of it. It neither takes nor frees memory: the next call that makes
+    /// room has it.
+    pub fn give_back_room(&mut self, less: usize)
+        requires { length self.old.entries + less ≤ self.old.room }
+        ensures { self.new ≡ with_room (self.old.room - less) self.old }
+    {
+        self.room -= less;
     }
 
     /// Adds the entry at the end, if it follows: it is the next place of the unfinished part, or
@@ -129,7 +149,7 @@ impl<A: Allocator> InstrumentLog<A> {
         self.packed.is_empty()
     }
 
-    /// The number of entries that the log was made for.
+    /// The number of entries that the log has room for.
     pub fn room(&self) -> usize
         ensures room { result ≡ self.now.room }
         ensures fits { length self.now.entries ≤ result }

@@ -7,3 +7,5 @@ pub mod WorldLemmas
 pub mod OpeningTables
 pub mod StepsLemmas
 pub mod PrecedenceLemmas
+pub mod MoreRooms
+pub mod LongerWorlds

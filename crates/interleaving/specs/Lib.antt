@@ -6,3 +6,4 @@ pub mod Counting
 pub mod Kept
 pub mod World
 pub mod Start
+pub mod Adding

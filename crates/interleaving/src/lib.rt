@@ -2,6 +2,7 @@
 #![tactic(auto)]
 
 mod acting;
+mod adding;
 mod bottle_moves;
 mod counts;
 mod dining;
@@ -11,6 +12,7 @@ mod needs;
 mod opening;
 mod precedence;
 mod refusal;
+mod rooms;
 mod seat;
 mod seeing;
 mod stepping;
@@ -19,6 +21,7 @@ mod tables;
 mod tape;
 mod world;
 
+pub use adding::AddRefusal;
 pub use cycles::{NoMemory, cycle_in};
 pub use legal_steps::{
     Counts, Dining, Drinking, EdgeState, End, EndChoice, Event, JobState, NotLegal, Step, StepLine,

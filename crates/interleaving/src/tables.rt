@@ -1,5 +1,5 @@
 //! The tables of a world: a plan and a state of its bench that fits it. Every write keeps that.
-ghost use Rattle.std.specs.Prelude.{◌≡◌, ℕ, ◌<◌, ◌≤◌, ◌↔◌, IsTrue, length, IfOk};
+ghost use Rattle.std.specs.Prelude.{◌≡◌, ℕ, ◌<◌, ◌≤◌, ◌↔◌, IsTrue, length, IfOk, OnOk};
 ghost use Rattle.lab_plan.specs.LabPlan.{edges};
 ghost use Rattle.legal_steps.specs.State.{IsOwn, IsOfEdge, end_of, edge as edge_at, phase as phase_at, seat};
 ghost use Rattle.legal_steps.specs.State.{fork_mark as fork_mark_at, bottle_marks as bottle_marks_at, log as log_at};
@@ -10,15 +10,19 @@ ghost use Rattle.lab_plan.specs.IsPlan.{IsPlan};
 ghost use Rattle.lab_plan.specs.Limits.{most_commands};
 ghost use Rattle.legal_steps.specs.WholeLogs.{log_with_room};
 ghost use Rattle.interleaving.specs.Rooms.{log_at as log_in};
+ghost use Rattle.lab_plan.specs.Longer.{session_of, IsOfItsOwn};
+ghost use Rattle.interleaving.specs.Adding.{PlanAdds};
 ghost use Rattle.instrument_log.specs.Dial.{turned, dial};
 ghost use Rattle.instrument_log.specs.Entries.{IsWithinLimits};
 ghost use Rattle.instrument_log.specs.InstrumentLog.{MayAppend};
 
+use crate::adding::AddRefusal;
 use crate::kept_plan::KeptPlan;
 use crate::opening::{chosen_edges, idle_seats, lower_choices};
+use crate::rooms::{give_back, make_rooms};
 use crate::seat::JobSeat;
 use instrument_log::{Entry, InstrumentLog};
-use lab_plan::{EdgeNo, InstrumentNo, JobNo, Plan};
+use lab_plan::{EdgeNo, InstrumentNo, JobNo, Plan, Verb};
 use legal_steps::{Dining, EdgeState, End, EndChoice, JobState};
 use plan_logs::{empty_logs, push};
 use std::alloc::{AllocError, Allocator, Global};
@@ -267,5 +271,32 @@ impl<'a, A: Allocator> Tables<'a, A> {
     {
         let log = &mut self.logs[instrument.0 as usize];
         push(log, &entry);
+    }
+}
+
+impl<'a, A: Allocator> Tables<'a, A> {
+    /// The plan takes one more session of the job, and each log room for it. Whatever fails, all is as it was.
+    pub(crate) fn add_session(
+        &mut self,
+        job: JobNo,
+        patience: Option<u32>,
+        commands: &[(InstrumentNo, Verb)],
+    ) -> Result<(), AddRefusal>
+        requires { IsJob self.old.plan job }
+        ensures plan { PlanAdds self.old.plan job (session_of patience commands.now) result self.new.plan }
+        ensures state { self.new.state ≡ self.old.state }
+        ensures own { OnOk result (IsOfItsOwn self.old.plan job (session_of patience commands.now)) }
+        ensures is_plan { OnOk result (IsPlan self.new.plan) }
+    {
+        if let Some(refusal) = self.plan.refuses(job, patience, commands) {
+            return Err(refusal);
+        }
+        make_rooms(&mut self.logs, commands)?;
+        // The logs have the room first: so if the plan takes the session, nothing can fail any more.
+        if let Err(refusal) = self.plan.add_session(job, patience, commands) {
+            give_back(&mut self.logs, commands);
+            return Err(refusal);
+        }
+        Ok(())
     }
 }

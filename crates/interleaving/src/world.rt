@@ -12,10 +12,13 @@ ghost use Rattle.interleaving.specs.Rooms.{log_at as log_in};
 ghost use Rattle.interleaving.specs.Counting.{count_at};
 ghost use Rattle.interleaving.specs.Kept.{IsKept};
 ghost use Rattle.interleaving.specs.World.{IsReachedWith, IsReachedBy, Steps, Replays};
+ghost use Rattle.interleaving.specs.Adding.{WorldAdds};
+ghost use Rattle.lab_plan.specs.Longer.{session_of};
 ghost use Rattle.interleaving.specs.Start.{at_start, IsStartRefused};
 ghost use Rattle.legal_steps.specs.Opening.{AreChoices, opening_of, the_opening};
 ghost use Rattle.legal_steps.specs.Precedence.{IsAcyclic, Precedes};
 
+use crate::adding::AddRefusal;
 use crate::counts::JobCounts;
 use crate::kept_plan::KeptPlan;
 use crate::opening::are_choices;
@@ -24,8 +27,8 @@ use crate::tables::Tables;
 use crate::tape::Tape;
 use cycles::NoMemory;
 use instrument_log::InstrumentLog;
-use lab_plan::{EdgeNo, InstrumentNo, JobNo, Plan};
-use legal_steps::{EdgeState, EndChoice, Event, JobState, NotLegal};
+use lab_plan::{EdgeNo, InstrumentNo, JobNo, Plan, Verb};
+use legal_steps::{Drinking, EdgeState, EndChoice, Event, JobState, NotLegal};
 use past_events::Past;
 use std::alloc::{AllocError, Allocator, Global};
 use std::marker::Model;
@@ -163,6 +166,23 @@ impl<'a, A: Allocator> World<'a, A> {
             done += 1;
         }
         Ok(done)
+    }
+
+    /// Adds a session behind the others of a job, of instruments that the job names already, while the world goes on: the
+    /// plan is longer then, and every event so far is legal by it. It takes memory, in proportion to the session.
+    pub fn add_session(
+        &mut self,
+        job: JobNo,
+        patience: Option<u32>,
+        commands: &[(InstrumentNo, Verb)],
+    ) -> Result<(), AddRefusal>
+        requires { IsJob self.old.plan job }
+        ensures { WorldAdds self.old job (session_of patience commands.now) result self.new }
+    {
+        if self.tables.phase(job).drinking == Drinking::Retired {
+            return Err(AddRefusal::HasRetired);
+        }
+        self.tables.add_session(job, patience, commands)
     }
 
     /// The plan, which the world borrows or owns.

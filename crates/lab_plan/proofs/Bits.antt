@@ -1,9 +1,9 @@
 -- Sets of instruments by their bits.
-use Rattle.std.proofs.Common.{◌≡◌, ◌⊎◌, ℕ, ◌*◌, ◌/◌, ◌%◌, ◌^◌, ◌<◌, false, ◌||◌, nat_eq, bit_and, bit_or, arith, refl, sym, ap, inl, inr, subst}
+use Rattle.std.proofs.Common.{◌≡◌, ◌⊎◌, ℕ, ◌*◌, ◌/◌, ◌%◌, ◌^◌, ◌<◌, ◌≤◌, false, ◌||◌, nat_eq, bit_and, bit_or, arith, refl, sym, ap, inl, inr, subst}
 use Rattle.std.proofs.Math.Bool.{or-false, or-true}
 use Rattle.std.proofs.lemmas.Bool.{cases_eq, eq-eqb, ne_eqb}
 use Rattle.std.specs.Int.{bit_at, w64}
-use Rattle.std.proofs.lemmas.Nat.Bits.{bit_at-lt, bit_at-zero, bit_at_set_same, bit_at_set_other, shr_and_one}
+use Rattle.std.proofs.lemmas.Nat.Bits.{bit_at-lt, bit_at-zero, bit_at_set_same, bit_at_set_other, bit_at_above, shr_and_one}
 use Rattle.lab_plan.specs.InstrumentSets.{holds}
 
 pub bit_cases : (n k : ℕ) → (bit_at n k ≡ 0) ⊎ (bit_at n k ≡ 1)
@@ -26,3 +26,8 @@ holds_with set k i within = elim (cases_eq k i) [
       (rw (bit_at_set_same w64 set k within, eq-eqb k k refl) (sym (or-true (nat_eq (bit_at set k) 1))))
   | inr h ↦ rw (bit_at_set_other w64 set k within i (λ e. h (sym e)), ne_eqb k i h) (sym (or-false (nat_eq (bit_at set i) 1)))
 ]
+
+-- a set has no instrument past its bits
+pub holds_past : (set i : ℕ) → set < 2 ^ 64 → 64 ≤ i → holds set i ≡ false
+unfolding holds
+holds_past set i few past = ap (λ b. nat_eq b 1) (bit_at_above set 64 i few past)

@@ -165,6 +165,36 @@ order_begun [] end patience order = (omega arith, tt)
 order_begun (s ∷ sessions) end patience order =
     (omega (arith, order.0, first_begun sessions end patience), order_begun sessions end patience order.1)
 
+-- ---- one more session with its commands
+
+range_added : (all more : List (ℕ × Verb)) (from to : ℕ) → from ≤ to → to ≤ length all → slice_range (all ++ more) from to ≡ slice_range all from to
+range_added all more from to order within =
+    ap (take (to - from)) (drop-append-le from all more (omega (arith, order, within)))
+    ∙ take-append-le (to - from) (drop from all) more (omega (arith, length-drop from all, within))
+
+pub first_added : (sessions : List Session) (end end' : ℕ) (patience : Option ℕ)
+    → first_start (sessions ++ begun patience end ∷ []) end' ≡ first_start sessions end
+first_added [] end end' patience = refl
+first_added (s ∷ sessions) end end' patience = refl
+
+pub cut_added : (sessions : List Session) (all more : List (ℕ × Verb)) (patience : Option ℕ) → AreInOrder sessions (length all)
+    → cut (sessions ++ begun patience (length all) ∷ []) (all ++ more) ≡ cut sessions all ++ session_of patience more ∷ []
+cut_added [] all more patience order =
+    ap (λ l. session_of patience l ∷ []) (take_rest (all ++ more) (length all) ∙ drop-append-le (length all) all more (omega arith)
+    ∙ ap (λ l. l ++ more) (drop_all (length all) all (omega arith)))
+cut_added (s ∷ sessions) all more patience order =
+    ap (λ end. session_of s.patience (slice_range (all ++ more) s.start end) ∷ cut (sessions ++ begun patience (length all) ∷ []) (all ++ more))
+    (first_added sessions (length all) (length (all ++ more)) patience)
+    ∙ ap (λ l. session_of s.patience l ∷ cut (sessions ++ begun patience (length all) ∷ []) (all ++ more))
+    (range_added all more s.start (first_start sessions (length all)) order.0 (first_within sessions (length all) order.1))
+    ∙ ap (λ l. session_of s.patience (slice_range all s.start (first_start sessions (length all))) ∷ l) (cut_added sessions all more patience order.1)
+
+pub order_added : (sessions : List Session) (end more : ℕ) (patience : Option ℕ) → end ≤ more → AreInOrder sessions end
+    → AreInOrder (sessions ++ begun patience end ∷ []) more
+order_added [] end more patience later order = (later, tt)
+order_added (s ∷ sessions) end more patience later order =
+    (omega (arith, order.0, first_added sessions end more patience), order_added sessions end more patience later order.1)
+
 -- ---- one more command
 
 range_more : (all : List (ℕ × Verb)) (command : ℕ × Verb) (from : ℕ) → from ≤ length all

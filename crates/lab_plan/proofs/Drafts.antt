@@ -28,7 +28,7 @@ use Rattle.lab_plan.proofs.Ranges.{range_push}
 abbrev pub Everywhere : {X : Type 0} → (X → Type 0) → X → List X → Type 0
 Everywhere P d xs = (k : ℕ) → P (get_or xs k d)
 
-everywhere_push : {X : Type 0} (P : X → Type 0) (d : X) (xs : List X) (x : X) → Everywhere P d xs → P d → P x → Everywhere P d (xs ++ x ∷ [])
+pub everywhere_push : {X : Type 0} (P : X → Type 0) (d : X) (xs : List X) (x : X) → Everywhere P d xs → P d → P x → Everywhere P d (xs ++ x ∷ [])
 everywhere_push P d [] x h past new zero = new
 everywhere_push P d [] x h past new (suc k) = past
 everywhere_push P d (y ∷ xs) x h past new zero = h 0
@@ -85,7 +85,7 @@ differ a b fails same = true≢false (sym ((bytes_eq-Decides a b).1 (sym same)) 
 abbrev pub EachSession : (SessionPlan → Type 0) → LabPlan → Type 0
 EachSession P plan = (j k : ℕ) → P (get_or (sessions plan j) k no_session)
 
-abbrev OfJob : (SessionPlan → Type 0) → JobPlan → Type 0
+abbrev pub OfJob : (SessionPlan → Type 0) → JobPlan → Type 0
 OfJob P job = Everywhere P no_session job.sessions
 
 each_with_job : (P : SessionPlan → Type 0) (name : List ℕ) (plan : LabPlan) → P no_session → EachSession P plan → EachSession P (with_job name plan)
@@ -104,7 +104,7 @@ each_with_command P name verb plan keeps h =
     (λ job each. everywhere_kept P no_session (and_command (instrument_number name plan) verb) job.sessions each keeps)
 
 -- sessions are counted from 1
-each : (P : SessionPlan → Type 0) (plan : LabPlan) → ((j s : ℕ) → P (session_at plan j s)) → EachSession P plan
+pub each : (P : SessionPlan → Type 0) (plan : LabPlan) → ((j s : ℕ) → P (session_at plan j s)) → EachSession P plan
 each P plan h j k = let less : (k + 1) - 1 ≡ k = omega arith in subst (λ n. P (get_or (sessions plan j) n no_session)) less (h j (k + 1))
 
 -- ---- the first of each number
@@ -115,7 +115,7 @@ gone p xs x is = filter-append p xs (x ∷ []) ∙ rw is (append-nil _)
 left : {X : Type 0} (p : X → Bool) (xs : List X) (x : X) → p x ≡ true → filter p (xs ++ x ∷ []) ≡ filter p xs ++ x ∷ []
 left p xs x is = filter-append p xs (x ∷ []) ∙ rw is refl
 
-firsts_push : (ns : List ℕ) (n : ℕ) → firsts (ns ++ n ∷ []) ≡ (if list_any (λ m. m == n) (firsts ns) then firsts ns else firsts ns ++ n ∷ [])
+pub firsts_push : (ns : List ℕ) (n : ℕ) → firsts (ns ++ n ∷ []) ≡ (if list_any (λ m. m == n) (firsts ns) then firsts ns else firsts ns ++ n ∷ [])
 firsts_push [] n = refl
 firsts_push (x ∷ ns) n =
     let p : ℕ → Bool = λ m. not (m == x) in
@@ -170,13 +170,13 @@ draft_empty version is = record {
 }
 
 -- the commands are on the first n instruments; their numbers fit; the patience is one of the version
-abbrev NamesBelow : ℕ → SessionPlan → Type 0
+abbrev pub NamesBelow : ℕ → SessionPlan → Type 0
 NamesBelow n session = All (λ command. command.0 < n) session.commands
 
-abbrev FitsAll : SessionPlan → Type 0
+abbrev pub FitsAll : SessionPlan → Type 0
 FitsAll session = All (λ command. Fits command.1) session.commands
 
-abbrev IsPatient : ℕ → SessionPlan → Type 0
+abbrev pub IsPatient : ℕ → SessionPlan → Type 0
 IsPatient version session = ForSome session.patience (λ n. (version ≡ 2) × (n ≤ 999999))
 
 abbrev bare_job : List ℕ → JobPlan

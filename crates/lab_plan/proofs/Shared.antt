@@ -61,7 +61,7 @@ in_filter p x (y ∷ ys) h t = elim h [
     skip x zs true y h = inr h
     skip x zs false y h = h
 
-any_from_in : {X : Type 0} (p : X → Bool) (x : X) (xs : List X) → In x xs → p x ≡ true → list_any p xs ≡ true
+pub any_from_in : {X : Type 0} (p : X → Bool) (x : X) (xs : List X) → In x xs → p x ≡ true → list_any p xs ≡ true
 any_from_in p x [] h t = absurd h
 any_from_in p x (y ∷ ys) h t = elim h [ inl is ↦ rw (ap p is ∙ t) refl | inr later ↦ rw (any_from_in p x ys later t) (or-true (p y)) ]
 
@@ -90,7 +90,7 @@ shared plan a b i below job inside na nb =
       subst (λ p. slice_index_or (common plan p) place.0 0 ≡ i) (sym is) (place.2 0),
     )
 
-any_place : {X : Type 0} (p : X → Bool) (xs : List X) (d : X) → list_any p xs ≡ true → (k : ℕ) × (k < length xs) × (p (slice_index_or xs k d) ≡ true)
+pub any_place : {X : Type 0} (p : X → Bool) (xs : List X) (d : X) → list_any p xs ≡ true → (k : ℕ) × (k < length xs) × (p (slice_index_or xs k d) ≡ true)
 any_place p [] d h = absurd (false≢true h)
 any_place p (y ∷ ys) d h = elim (cases_Bool (p y)) [
   | inl is ↦ (zero, omega arith, is)

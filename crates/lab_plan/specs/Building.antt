@@ -1,7 +1,7 @@
 -- Building a plan, one line at a time.
 use Rattle.std.specs.Prelude.{◌≡◌, ◌⊎◌, ℕ, ◌+◌, ◌-◌, ◌<◌, ◌≤◌, Bool, true, false, ◌&&◌, ◌||◌, not, nat_le, nat_lt, ◌==◌, List, []}
 use Rattle.std.specs.Prelude.{◌∷◌, ◌++◌, length, Option, None, Some, Result, Ok, Err, slice_index_or, if◌then◌else◌}
-use Rattle.std.specs.List.{list_any, position_or_len}
+use Rattle.std.specs.List.{list_any, position, position_or_len}
 use Rattle.std.specs.Option.{MatchOption}
 use Rattle.std.specs.Str.{bytes_eq}
 use Rattle.lab_plan.specs.declared.verb.Verb.{Verb}
@@ -32,6 +32,10 @@ and_session patience job = record job { sessions = job.sessions ++ record { pati
 
 abbrev pub with_session : Option ℕ → LabPlan → LabPlan
 with_session patience plan = record plan { jobs = on_last (and_session patience) plan.jobs }
+
+-- the number of a job, if one has the name
+abbrev pub job_number : List ℕ → LabPlan → Option ℕ
+job_number name plan = position (λ (job : JobPlan). bytes_eq name job.name) plan.jobs
 
 -- the number of an instrument: its place among the names, or the next if it is new
 abbrev pub instrument_number : List ℕ → LabPlan → ℕ

@@ -6,6 +6,7 @@ pub mod IsPlan
 pub mod Building
 pub mod Texts
 pub mod Upgrade
+pub mod Longer
 pub mod NeededBottles
 pub mod InstrumentSets
 pub mod NamedBy

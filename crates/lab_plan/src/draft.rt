@@ -2,7 +2,7 @@
 ghost use Rattle.std.specs.Prelude.{◌≡◌, ◌≢◌, ℕ, ◌-◌, ◌<◌, ◌≤◌, ◌&&◌, nat_lt, length, take, slice_index_or, [], ◌∷◌, ◌++◌, is_ok, if◌then◌else◌, IfNone, true};
 ghost use Rattle.std.specs.List.{position, AllPairs};
 ghost use Rattle.std.specs.Str.{bytes_eq};
-ghost use Rattle.lab_plan.specs.Limits.{most_instruments};
+ghost use Rattle.lab_plan.specs.Limits.{most_instruments, most_commands};
 
 use crate::job::Job;
 use crate::name::Name;
@@ -27,9 +27,9 @@ impl<A: Allocator> Model for Draft<A> {
 }
 
 impl<A: Allocator> Draft<A> {
-    ghost use Rattle.lab_plan.specs.LabPlan.{sessions, commands, patience, job_at};
+    ghost use Rattle.lab_plan.specs.LabPlan.{sessions, commands, patience, job_at, all_commands};
     ghost use Rattle.lab_plan.specs.Cuts.{commands_before};
-    ghost use Rattle.lab_plan.specs.Building.{is_job, is_bare, has_session, last_job, with_job, with_session, with_command, on_last, in_last_session, IsPlace};
+    ghost use Rattle.lab_plan.specs.Building.{is_job, job_number, is_bare, has_session, last_job, with_job, with_session, with_command, on_last, in_last_session, IsPlace};
 
     pub(crate) fn new(alloc: A, version: u8) -> Draft<A>
     where
@@ -47,6 +47,12 @@ impl<A: Allocator> Draft<A> {
         ensures { result ≡ is_job name.now self.now }
     {
         self.jobs.iter().any(|job| job.is(name))
+    }
+
+    pub(crate) fn job_place(&self, name: &[u8]) -> Option<usize>
+        ensures { result ≡ job_number name.now self.now }
+    {
+        self.jobs.iter().position(|job| job.is(name))
     }
 
     fn position(&self, name: &[u8]) -> Option<usize>
@@ -171,6 +177,18 @@ impl<A: Allocator> Draft<A> {
         pushed
     }
 
+    /// How many commands all jobs have together. One step for each job.
+    pub(crate) fn all_commands(&self) -> usize
+        requires { length (all_commands self.now) ≤ most_commands }
+        ensures { result ≡ length (all_commands self.now) }
+    {
+        let mut count = 0;
+        for job in &self.jobs {
+            count += job.all_commands().len();
+        }
+        count
+    }
+
     pub(crate) fn version(&self) -> u8
         ensures { result ≡ self.now.version }
     {
@@ -240,6 +258,22 @@ impl<A: Allocator> Draft<A> {
 }
 
 impl<A: Allocator> Draft<A> {
+    ghost use Rattle.lab_plan.specs.Longer.{session_of, with_one_more};
+
+    /// Adds a session of any job, of instruments that the draft has.
+    pub(crate) fn add_session(
+        &mut self,
+        job: JobNo,
+        patience: Option<u32>,
+        commands: &[(InstrumentNo, Verb)],
+    ) -> Result<(), AllocError>
+        requires { job < length self.old.jobs }
+        ensures { self.new ≡ (if is_ok result then with_one_more self.old job (session_of patience commands.now) else self.old) }
+    {
+        let job = &mut self.jobs[job.0 as usize];
+        job.add_session(patience, commands)
+    }
+
     pub(crate) fn all_jobs(&self) -> &[Job<A>]
         ensures { result.now ≡ self.now.jobs }
     {

@@ -43,6 +43,14 @@ impl InstrumentSet {
         self.bits >> instrument & 1 == 1
     }
 
+    /// Whether it holds an instrument, also one that no plan has.
+    #[tactic(auto, using(crate::proofs::Bits::holds_past))]
+    pub(crate) fn has(self, instrument: InstrumentNo) -> bool
+        ensures { result ≡ holds self instrument }
+    {
+        instrument.0 < 64 && self.holds(instrument.0)
+    }
+
     pub(crate) fn both_hold(self, other: InstrumentSet, instrument: u8) -> bool
         requires { instrument < 64 }
         ensures { result ≡ both_in self other instrument }

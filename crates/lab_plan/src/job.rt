@@ -3,6 +3,7 @@ ghost use Rattle.std.specs.Prelude.{◌≡◌, ℕ, ◌+◌, ◌-◌, ◌≤◌,
 ghost use Rattle.std.specs.Str.{bytes_eq};
 ghost use Rattle.lab_plan.specs.LabPlan.{no_session};
 ghost use Rattle.lab_plan.specs.Building.{in_last_session, and_session};
+ghost use Rattle.lab_plan.specs.Longer.{session_of, with_session};
 ghost use Rattle.lab_plan.specs.Cuts.{commands_of, commands_before};
 
 use crate::name::Name;
@@ -82,6 +83,21 @@ impl<A: Allocator> Job<A> {
         ensures { self.new ≡ (if is_ok result then in_last_session instrument verb self.old else self.old) }
     {
         self.commands.push((instrument, verb))?;
+        Ok(())
+    }
+
+    /// Adds a session with its commands.
+    pub(crate) fn add_session(
+        &mut self,
+        patience: Option<u32>,
+        commands: &[(InstrumentNo, Verb)],
+    ) -> Result<(), AllocError>
+        ensures { self.new ≡ (if is_ok result then with_session self.old (session_of patience commands.now) else self.old) }
+    {
+        self.sessions.reserve(1)?;
+        let start = self.commands.len();
+        self.commands.extend_from_slice(commands)?;
+        self.sessions.push_reserved(Session { patience, start });
         Ok(())
     }
 

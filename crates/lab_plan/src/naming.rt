@@ -15,7 +15,7 @@ use crate::limits::{MOST_BOTTLES, MOST_JOBS};
 use std::alloc::Allocator;
 
 /// The instruments that a job's sessions name.
-fn named_by<A: Allocator>(job: &Job<A>) -> InstrumentSet
+pub(crate) fn named_by<A: Allocator>(job: &Job<A>) -> InstrumentSet
     requires { HasSmall job.now }
     ensures { (i : ℕ) → holds result i ≡ is_named_by job.now i }
 {

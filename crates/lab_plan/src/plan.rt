@@ -1,6 +1,6 @@
 //! A plan, kept with the tables of its edges and bottles.
 ghost use Rattle.std.specs.Prelude.{◌≡◌, ℕ, ◌-◌, ◌^◌, ◌<◌, ◌≤◌, length, slice_index, slice_index_or};
-ghost use Rattle.std.specs.Prelude.{slice_get, All, Contains, IfSome, IfNone, if◌then◌else◌, []};
+ghost use Rattle.std.specs.Prelude.{slice_get, All, Contains, IfSome, IfNone, is_ok, if◌then◌else◌, [], None};
 ghost use Rattle.std.specs.Int.{bit_at};
 
 use crate::bottles::Bottles;
@@ -11,7 +11,7 @@ use crate::place::Place;
 use crate::session_table::JobTable;
 use crate::tables::Tables;
 use crate::verb::Verb;
-use std::alloc::{Allocator, Global};
+use std::alloc::{AllocError, Allocator, Global};
 use std::marker::Model;
 
 /// A plan: jobs with their sessions of commands on instruments, within every limit.
@@ -37,13 +37,15 @@ impl<A: Allocator> Model for Plan<A> {
 }
 
 impl<A: Allocator> Plan<A> {
-    ghost use Rattle.lab_plan.specs.Limits.{most_instruments, most_sessions, most_bottles};
+    ghost use Rattle.lab_plan.specs.Limits.{most_instruments, most_sessions, most_commands, most_bottles};
     ghost use Rattle.lab_plan.specs.LabPlan.{edges, ends, edges_of, lower_first, bottles, sessions, commands};
-    ghost use Rattle.lab_plan.specs.LabPlan.{patience, session_names, part, place_at, length_at, job_at};
+    ghost use Rattle.lab_plan.specs.LabPlan.{patience, session_names, part, place_at, length_at, job_at, all_commands};
     ghost use Rattle.lab_plan.specs.IsPlan.{IsPlan};
     ghost use Rattle.lab_plan.specs.Names.{IsName};
-    ghost use Rattle.lab_plan.specs.SessionTables.{IsJobTable, AreNeeds};
+    ghost use Rattle.lab_plan.specs.SessionTables.{IsJobTable, AreNeeds, AreNamedBy};
     ghost use Rattle.lab_plan.specs.Tables.{AreTablesOf};
+    ghost use Rattle.lab_plan.specs.Building.{IsPlace, job_number};
+    ghost use Rattle.lab_plan.specs.Longer.{session_of, with_one_more, more_refusal};
 
     pub(crate) fn new(draft: Draft<A>, tables: Tables<A>) -> Plan<A>
         requires plan { IsPlan draft }
@@ -102,6 +104,24 @@ impl<A: Allocator> Plan<A> {
         ensures short { length result.now ≤ 16 }
     {
         self.draft.instrument_name(instrument)
+    }
+
+    /// The instrument with this name.
+    pub fn instrument_named(&self, name: &[u8]) -> Option<InstrumentNo>
+        ensures { IsPlace name.now self.now result }
+    {
+        let place = self.draft.place(0, name)?;
+        Some(InstrumentNo(place as u8))
+    }
+
+    /// The job with this name.
+    pub fn job_named(&self, name: &[u8]) -> Option<JobNo>
+        ensures found { IfSome result (λ j. job_number name.now self.now ≡ Some j) }
+        ensures there { IfSome result (λ j. j < length self.now.jobs) }
+        ensures none { IfNone result (job_number name.now self.now ≡ None) }
+    {
+        let place = self.draft.job_place(name)?;
+        Some(JobNo(place as u8))
     }
 
     /// The two jobs of an edge, the lower number first.
@@ -211,6 +231,22 @@ impl<A: Allocator> Plan<A> {
         self.tables.job(job)
     }
 
+    /// The instruments that a job's sessions name.
+    pub(crate) fn named(&self, job: JobNo) -> InstrumentSet
+        requires { job < length self.now.jobs }
+        ensures { AreNamedBy (job_at self.now job) result }
+    {
+        self.table(job).named()
+    }
+
+    /// How many commands all sessions of the plan have. It takes one step for each job.
+    pub fn all_commands(&self) -> usize
+        ensures commands { result ≡ length (all_commands self.now) }
+        ensures few { result ≤ most_commands }
+    {
+        self.draft.all_commands()
+    }
+
     /// The instruments that a session names.
     pub(crate) fn needed(&self, job: JobNo, session: u32) -> InstrumentSet
         requires is_job { job < length self.now.jobs }
@@ -231,6 +267,27 @@ impl<A: Allocator> Plan<A> {
         ensures few { result < 2 ^ length self.now.instruments }
     {
         self.needed(job, session).bits()
+    }
+
+    /// Adds a session that the plan doesn't refuse.
+    pub(crate) fn push_session(
+        &mut self,
+        job: JobNo,
+        patience: Option<u32>,
+        commands: &[(InstrumentNo, Verb)],
+    ) -> Result<(), AllocError>
+        requires job { job < length self.old.jobs }
+        requires granted { more_refusal self.old job (session_of patience commands.now) ≡ None }
+        ensures { self.new ≡ (if is_ok result then with_one_more self.old job (session_of patience commands.now) else self.old) }
+    {
+        let _ = &self.draft;
+        let needs = InstrumentSet::of(commands);
+        self.tables.add_session(job, needs, commands)?;
+        let added = self.draft.add_session(job, patience, commands);
+        if added.is_err() {
+            self.tables.take_back_session(job, commands.len());
+        }
+        added
     }
 
     /// How many of a session's commands are on an instrument.

@@ -1,4 +1,4 @@
-//! Why a plan's builder refuses a call.
+//! Why a plan's builder refuses a call, and a plan one more session.
 use std::alloc::{AllocError, AllocFailed};
 
 /// Why a plan's builder refuses a call. Of several reasons the first of these is given: an empty
@@ -36,5 +36,33 @@ impl<T: Drop> From<AllocFailed<T>> for PlanRefusal {
 
     fn from(_error: AllocFailed<T>) -> PlanRefusal {
         PlanRefusal::NoMemory
+    }
+}
+
+/// Why a plan refuses one more session. Of several reasons the first of these is given.
+#[derive(Clone, Copy, PartialEq, Eq, Debug)]
+pub enum MoreRefusal {
+    /// The session has no command.
+    Empty,
+    /// It would be past a limit of sessions of a job, or of commands (`limits`).
+    LimitPassed,
+    /// A command is on an instrument that no session of the job names. The session would make an edge, or a bottle.
+    NotItsOwn,
+    /// The plan is of version 1, which knows no patience, or the patience is past the largest number.
+    NotPatient,
+    /// The number of a command is past the largest.
+    TooLarge,
+    /// An allocation failed.
+    NoMemory,
+}
+
+impl From<AllocError> for MoreRefusal {
+    ghost use Rattle.std.specs.Prelude.{◌≡◌};
+    ghost use Rattle.lab_plan.specs.declared.refusal.MoreRefusal.TheVariants.{NoMemory};
+
+    ghost from_gives = { λ _ refusal. refusal ≡ NoMemory };
+
+    fn from(_error: AllocError) -> MoreRefusal {
+        MoreRefusal::NoMemory
     }
 }

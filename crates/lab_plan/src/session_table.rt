@@ -1,14 +1,15 @@
 //! What is kept of the sessions of each job: what each needs, and the place of each command in its part.
-ghost use Rattle.std.specs.Prelude.{◌≡◌, ℕ, ◌+◌, ◌<◌, ◌≤◌, ◌++◌, length, slice_index_or, vec_capacity, IfOk};
+ghost use Rattle.std.specs.Prelude.{◌≡◌, ℕ, ◌+◌, ◌<◌, ◌≤◌, ◌++◌, length, slice_index_or, vec_capacity, is_ok, if◌then◌else◌, IfOk};
 ghost use Rattle.std.specs.List.{All};
 ghost use Rattle.lab_plan.specs.Limits.{most_instruments, most_commands};
 ghost use Rattle.lab_plan.specs.LabPlan.{count_on};
 ghost use Rattle.lab_plan.specs.NamedBy.{HasSmall};
-ghost use Rattle.lab_plan.specs.SessionTables.{IsJobTable, AreJobTables, places_of, no_place};
+ghost use Rattle.lab_plan.specs.SessionTables.{IsJobTable, AreJobTables, places_of, table_with, table_without, no_place};
 
 use crate::instrument_set::InstrumentSet;
 use crate::job::Job;
 use crate::limits::MOST_INSTRUMENTS;
+use crate::naming::named_by;
 use crate::numbers::InstrumentNo;
 use crate::place::Place;
 use crate::verb::Verb;
@@ -47,11 +48,12 @@ fn push_places<A: Allocator>(places: &mut Vec<Place, A>, commands: &[(Instrument
     }
 }
 
-/// What is kept of the sessions of one job: what each names, and the places of the commands of all.
+/// What is kept of the sessions of one job: what each names, the places of the commands of all, and what all name together.
 #[derive(Drop)]
 pub(crate) struct JobTable<A: Allocator = Global> {
     needs: Vec<InstrumentSet, A>,
     places: Vec<Place, A>,
+    named: InstrumentSet,
 }
 
 impl<A: Allocator> Model for JobTable<A> {
@@ -59,7 +61,7 @@ impl<A: Allocator> Model for JobTable<A> {
 
     ghost Value = { JobTable };
 
-    ghost view = { λ t. record { needs = t.needs.items; places = t.places.items } };
+    ghost view = { λ t. record { needs = t.needs.items; places = t.places.items; named = t.named } };
 }
 
 impl<A: Allocator> JobTable<A> {
@@ -76,7 +78,45 @@ impl<A: Allocator> JobTable<A> {
             needs.push_reserved(InstrumentSet::of(commands));
             push_places(&mut places, commands);
         }
-        Ok(JobTable { needs, places })
+        Ok(JobTable {
+            needs,
+            places,
+            named: named_by(job),
+        })
+    }
+
+    /// Adds what is kept of one more session, all of whose instruments the job names already.
+    pub(crate) fn add_session(
+        &mut self,
+        needs: InstrumentSet,
+        commands: &[(InstrumentNo, Verb)],
+    ) -> Result<(), AllocError>
+        requires numbered { All (λ command. command.0 < most_instruments) commands.now }
+        requires few { length commands.now ≤ most_commands }
+        ensures { self.new ≡ (if is_ok result then table_with needs commands.now self.old else self.old) }
+    {
+        self.needs.reserve(1)?;
+        self.places.reserve(commands.len())?;
+        self.needs.push_reserved(needs);
+        push_places(&mut self.places, commands);
+        Ok(())
+    }
+
+    /// Takes back the last session, which has this many commands.
+    pub(crate) fn take_back_session(&mut self, commands: usize)
+        requires sessions { 0 < length self.old.needs }
+        requires commands { commands ≤ length self.old.places }
+        ensures { self.new ≡ table_without commands self.old }
+    {
+        self.needs.truncate(self.needs.len() - 1);
+        self.places.truncate(self.places.len() - commands);
+    }
+
+    /// What all sessions of the job name.
+    pub(crate) fn named(&self) -> InstrumentSet
+        ensures { result ≡ self.now.named }
+    {
+        self.named
     }
 
     /// What the session with this many before it names.

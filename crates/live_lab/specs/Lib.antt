@@ -13,3 +13,4 @@ pub mod Ends
 pub mod Readers
 pub mod Keepers
 pub mod Prints
+pub mod Adding

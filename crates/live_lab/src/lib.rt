@@ -1,13 +1,15 @@
 //! The lab of one handle: a world that owns its plan, for callers that name a job by its number. One call at a time.
 //!
 //! A job is driven by single turns, or all jobs together by settles: a settle does all that can be done without a word from an owner. A call
-//! that names a job that isn't there changes nothing and answers `None`. No call but the first takes memory, but for what it hands out.
+//! that names a job that isn't there changes nothing and answers `None`. But for what is handed out, memory is taken by the first call alone, and by one
+//! that adds a session.
 #![tactic(auto)]
 
 mod admitting;
 mod asking;
 mod beginning;
 mod clock;
+mod coming;
 mod commanding;
 mod ending;
 mod keeping;
@@ -27,6 +29,7 @@ mod turning;
 mod words;
 
 pub use ending::Ended;
+pub use interleaving::AddRefusal;
 pub use keeping::Keepers;
 pub use lab::Lab;
 pub use planned::Planned;

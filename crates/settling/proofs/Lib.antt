@@ -10,3 +10,4 @@ pub mod Waking
 pub mod Deeds
 pub mod Attended
 pub mod Rested
+pub mod MarkedOn

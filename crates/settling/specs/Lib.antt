@@ -2,3 +2,4 @@ pub mod Doing
 pub mod Left
 pub mod Resting
 pub mod Attending
+pub mod Longer

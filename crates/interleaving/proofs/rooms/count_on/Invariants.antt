@@ -1,0 +1,6 @@
+use Rattle.std.proofs.Common.{◌≡◌, take}
+use Rattle.lab_plan.specs.LabPlan.{count_on}
+use Rattle.interleaving.proofs.rooms.count_on.Given as goal
+
+abbrev pub invariant-loop-other : goal.invariant-loop-other
+invariant-loop-other l = l.count ≡ count_on l.instrument (take l.other-index l.commands)

@@ -1,0 +1,5 @@
+pub mod Retired
+pub mod Stays
+pub mod States
+pub mod Once
+pub mod Rooms
