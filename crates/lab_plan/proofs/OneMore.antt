@@ -299,8 +299,11 @@ module _ (p : LabPlan) (j : ℕ) (session : SessionPlan) (there : j < length p.j
     few_instruments = draft.few_instruments;
     few_sessions = each_job p j session there (λ (x : JobPlan). length x.sessions ≤ 1000) draft.few_sessions
         (omega (arith, length_push (sessions p j) session, may.few_sessions));
-    few_commands = omega (arith, may.few_commands,
-        length_more p.jobs j (with_session (job_at p j) session) session.commands there (commands_more (job_at p j) session));
+    few_commands = omega (
+      arith,
+      may.few_commands,
+      length_more p.jobs j (with_session (job_at p j) session) session.commands there (commands_more (job_at p j) session),
+    );
     job_names = λ k d inside. subst IsName (sym (name_same p j session there k d)) (draft.job_names k d (omega (arith, inside, many p j session there)));
     jobs_distinct = λ a b d first second.
         subst (λ (n : List ℕ). n ≢ (get_or longer.jobs b d).name) (sym (name_same p j session there a d))
