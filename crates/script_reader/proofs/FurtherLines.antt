@@ -1,7 +1,11 @@
 -- The reader's loop over the lines of further sessions.
-use Rattle.std.proofs.Common.{◌≡◌, ◌⊎◌, ℕ, ◌+◌, ◌<◌, ◌≤◌, List, [], ◌∷◌, ◌++◌, length, refl, sym, ap, ◌∙◌, subst, arith, inl, inr, length-append, append_assoc}
+use Rattle.std.proofs.Common.{◌≡◌, ◌⊎◌, ℕ, ◌+◌, ◌<◌, ◌≤◌, List, [], ◌∷◌, ◌++◌, length, refl, sym, ap, ◌∙◌, subst, arith, inl, inr, length-append, append_assoc, append-nil}
 use Rattle.std.specs.Prelude.{Option, None, Some, Result, Ok, Err, MatchResult}
+use Rattle.std.proofs.lemmas.List.{length_push}
+use Rattle.lab_plan.specs.declared.verb.Verb.{Verb}
 use Rattle.lab_plan.specs.LabPlan.{LabPlan, SessionPlan}
+use Rattle.lab_plan.specs.Building.{on_last, and_command}
+use Rattle.lab_plan.specs.Cuts.{commands_of}
 use Rattle.script_reader.specs.declared.fault.ScriptFault.{ScriptFault}
 use Rattle.script_reader.specs.declared.fault.ScriptCause.{ScriptCause}
 use Rattle.script_reader.specs.declared.fault.ScriptCause.TheVariants.{NoHeader, UnknownWord, BadName, BadNumber, JobTwice, NotInSession, NotInJob, EmptySession, SessionNotClosed, LimitPassed, TooManyInCommon, NoMemory, BadStep, NotItsOwn}
@@ -95,3 +99,14 @@ module _ (plan : LabPlan) (j : ℕ) (text : List ℕ) where
   pub ends_badly_more : (done : List (List ℕ)) (n : ℕ) (s : SessionsSoFar) (cause : ScriptCause) → IsReadingMore plan j text done [] n s
       → more_end_cause s ≡ Some cause → AnswersMore plan j text (Err (record { line = n; cause = cause }))
   ends_badly_more done n s cause h bad = inr (h.left ∙ ap (λ o. fault_or o n (Ok s.sessions)) bad)
+
+-- ---- one more command of the last session
+
+pub commands_more : (i : ℕ) (verb : Verb) (xs : List SessionPlan) → 0 < length xs
+    → length (commands_of (on_last (and_command i verb) xs)) ≡ length (commands_of xs) + 1
+commands_more i verb [] some = absurd (omega (arith, some))
+commands_more i verb (x ∷ []) some =
+    omega (arith, ap (λ l. length l) (append-nil (x.commands ++ (i, verb) ∷ [])), ap (λ l. length l) (append-nil x.commands), length_push x.commands (i, verb))
+commands_more i verb (x ∷ y ∷ xs) some =
+    let rest = commands_more i verb (y ∷ xs) (omega arith) in
+    omega (arith, rest, length-append x.commands (commands_of (on_last (and_command i verb) (y ∷ xs))), length-append x.commands (commands_of (y ∷ xs)))

@@ -118,6 +118,9 @@ impl<A: Allocator + Copy> Model for SessionReader<A> {
 }
 
 impl<A: Allocator + Copy> SessionReader<A> {
+    ghost use Rattle.lab_plan.specs.Limits.{most_commands};
+    ghost use Rattle.lab_plan.specs.Cuts.{commands_of};
+
     fn new(alloc: A) -> SessionReader<A>
         ensures { result ≡ no_sessions }
     {
@@ -155,7 +158,8 @@ impl<A: Allocator + Copy> SessionReader<A> {
     }
 
     fn push(&mut self, instrument: InstrumentNo, verb: Verb) -> Result<(), ScriptCause>
-        requires { self.old.in_session ≡ true }
+        requires in_session { self.old.in_session ≡ true }
+        requires few { length (commands_of self.old.sessions) < most_commands }
         ensures value { self.new ≡ (if is_ok result then with_more instrument verb self.old else self.old) }
         ensures err { IfErr result (λ cause. cause ≡ NoMemory) }
     {
