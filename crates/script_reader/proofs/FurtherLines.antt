@@ -1,6 +1,6 @@
 -- The reader's loop over the lines of further sessions.
-use Rattle.std.proofs.Common.{◌≡◌, ◌⊎◌, ℕ, ◌+◌, ◌<◌, ◌≤◌, List, [], ◌∷◌, ◌++◌, length, refl, sym, ap, ◌∙◌, subst, arith, inl, inr, length-append, append_assoc, append-nil}
-use Rattle.std.specs.Prelude.{Option, None, Some, Result, Ok, Err, MatchResult}
+use Rattle.std.proofs.Common.{◌≡◌, ◌⊎◌, ℕ, ◌+◌, ◌<◌, ◌≤◌, List, [], ◌∷◌, ◌++◌, length, refl, sym, ap, ◌∙◌, arith, inl, inr, length-append, append-nil}
+use Rattle.std.specs.Prelude.{Option, None, Some, Result, Ok, Err}
 use Rattle.std.proofs.lemmas.List.{length_push}
 use Rattle.lab_plan.specs.declared.verb.Verb.{Verb}
 use Rattle.lab_plan.specs.LabPlan.{LabPlan, SessionPlan}
@@ -11,7 +11,7 @@ use Rattle.script_reader.specs.declared.fault.ScriptCause.{ScriptCause}
 use Rattle.script_reader.specs.declared.fault.ScriptCause.TheVariants.{NoHeader, UnknownWord, BadName, BadNumber, JobTwice, NotInSession, NotInJob, EmptySession, SessionNotClosed, LimitPassed, TooManyInCommon, NoMemory, BadStep, NotItsOwn}
 use Rattle.script_reader.specs.Line.{Line, form_of}
 use Rattle.script_reader.specs.Script.{text_lines}
-use Rattle.script_reader.specs.More.{SessionsSoFar, no_sessions, more_after, more_cause, more_end_cause, fault_or, more_in, sessions_in, IsCleanThrough, AnswersMore, TakesMore}
+use Rattle.script_reader.specs.More.{SessionsSoFar, more_after, more_cause, more_end_cause, fault_or, more_in, sessions_in, AnswersMore, TakesMore}
 
 -- a fault is at the line that it names, or among the rest
 fault_in : {X : Type 0} (o : Option ScriptCause) (n : ℕ) (rest : Result X ScriptFault) (fault : ScriptFault)
@@ -46,21 +46,10 @@ pub record IsReadingMore (plan : LabPlan) (j : ℕ) (text : List ℕ) (done rest
   pub left : sessions_in plan j text ≡ more_in plan j number s rest
 
 module _ (plan : LabPlan) (j : ℕ) (text : List ℕ) where
-  pub starts_more : IsReadingMore plan j text [] (text_lines text) 1 no_sessions
-  starts_more = record { split = refl; placed = refl; left = refl }
-
   behind : (line : List ℕ) (done rest : List (List ℕ)) (n : ℕ) (s : SessionsSoFar) → IsReadingMore plan j text done (line ∷ rest) n s
       → more_cause plan j s (form_of line) ≡ None → sessions_in plan j text ≡ more_in plan j (n + 1) (more_after plan s (form_of line)) rest
   behind line done rest n s h none =
       h.left ∙ ap (λ o. fault_or o n (more_in plan j (n + 1) (more_after plan s (form_of line)) rest)) none
-
-  pub reads_more : (line : List ℕ) (done rest : List (List ℕ)) (n : ℕ) (s s' : SessionsSoFar) (done_is : Unit {0}) → IsReadingMore plan j text done (line ∷ rest) n s
-      → TakesMore plan j s (form_of line) (Ok done_is) s' → IsReadingMore plan j text (done ++ line ∷ []) rest (n + 1) s'
-  reads_more line done rest n s s' done_is h took = record {
-    split = h.split ∙ sym (append_assoc done (line ∷ []) rest);
-    placed = omega (arith, h.placed, length-append done (line ∷ []));
-    left = behind line done rest n s h took.0 ∙ ap (λ z. more_in plan j (n + 1) z rest) (sym took.1);
-  }
 
   -- why a line isn't taken
   stopped : (s s' : SessionsSoFar) (line : Option Line) (cause : ScriptCause) → TakesMore plan j s line (Err cause) s'
@@ -91,14 +80,6 @@ module _ (plan : LabPlan) (j : ℕ) (text : List ℕ) where
     )
     | inr bad ↦ inr (h.left ∙ ap (λ o. fault_or o n (more_in plan j (n + 1) (more_after plan s (form_of line)) rest)) bad)
   ]
-
-  pub ends_more : (done : List (List ℕ)) (n : ℕ) (s : SessionsSoFar) (further : List SessionPlan) → IsReadingMore plan j text done [] n s
-      → more_end_cause s ≡ None → further ≡ s.sessions → AnswersMore plan j text (Ok further)
-  ends_more done n s further h none is = h.left ∙ ap (λ o. fault_or o n (Ok s.sessions)) none ∙ ap (λ l. Ok l) (sym is)
-
-  pub ends_badly_more : (done : List (List ℕ)) (n : ℕ) (s : SessionsSoFar) (cause : ScriptCause) → IsReadingMore plan j text done [] n s
-      → more_end_cause s ≡ Some cause → AnswersMore plan j text (Err (record { line = n; cause = cause }))
-  ends_badly_more done n s cause h bad = inr (h.left ∙ ap (λ o. fault_or o n (Ok s.sessions)) bad)
 
 -- ---- one more command of the last session
 

@@ -1,4 +1,4 @@
-use Rattle.std.proofs.Common.{List, ℕ, refl, sym, subst, Bor}
+use Rattle.std.proofs.Common.{List, ℕ, sym, subst, Bor}
 use Rattle.std.specs.Prelude.{map, Err}
 use Rattle.std.proofs.lemmas.Result.{err_from_is_err_and}
 use Rattle.script_reader.specs.Line.{form_of}

@@ -1,4 +1,4 @@
-use Rattle.std.proofs.Common.{◌≡◌, ◌+◌, ◌-◌, ◌<◌, List, length, slice_set, is_ok, true, rules, arith, sym, ap, ◌∙◌, length-set}
+use Rattle.std.proofs.Common.{◌≡◌, ◌+◌, ◌-◌, ◌<◌, List, length, slice_set, true, rules, arith, sym, ap, ◌∙◌, length-set}
 use Rattle.lab_plan.specs.LabPlan.{SessionPlan}
 use Rattle.lab_plan.specs.Building.{on_last, and_command}
 use Rattle.lab_plan.specs.Cuts.{commands_of}
