@@ -15,6 +15,7 @@ use std::alloc::{Allocator, Global};
 use std::fmt::Display;
 use std::process::Abort;
 
+mod further;
 pub(crate) mod limits;
 mod memory;
 
@@ -35,7 +36,7 @@ pub(crate) fn plan_of<A: Allocator + Copy>(rt: &impl Abort, alloc: A, script: &[
 }
 
 /// What is wanted of the text of a cause, and of a fault.
-const PRINTED: [(ScriptCause, &str); 13] = [
+const PRINTED: [(ScriptCause, &str); 14] = [
     (NoHeader, "S1 no lab header"),
     (UnknownWord, "S2 unknown word"),
     (BadName, "S3 bad name"),
@@ -52,6 +53,7 @@ const PRINTED: [(ScriptCause, &str); 13] = [
     ),
     (ScriptCause::NoMemory, "S12 no memory"),
     (BadStep, "S13 bad step"),
+    (ScriptCause::NotItsOwn, "S14 not an instrument of the job"),
 ];
 
 fn check_printed<T: Copy + Display>(rt: &impl Abort, alloc: Global, value: T, text: &str) {

@@ -27,3 +27,4 @@ pub mod EdgeNumbers
 pub mod OneList
 pub mod OwnSteps
 pub mod StepForms
+pub mod FurtherLines
