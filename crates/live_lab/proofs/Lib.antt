@@ -12,3 +12,4 @@ mod Reported
 mod Asked
 mod Admitted
 mod Frames
+mod Lawful

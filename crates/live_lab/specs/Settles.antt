@@ -1,5 +1,5 @@
 -- For readers: what a settle does, and what holds after it.
-use Rattle.std.specs.Prelude.{◌≡◌, ℕ, ◌≤◌, ◌||◌, List, ◌++◌, length, slice_index_or, if◌then◌else◌}
+use Rattle.std.specs.Prelude.{◌≡◌, ◌⊎◌, ℕ, ◌≤◌, ◌||◌, List, ◌++◌, length, slice_index_or, if◌then◌else◌}
 use Rattle.std.specs.List.{count_by}
 use Rattle.lab_plan.specs.LabPlan.{LabPlan, sessions}
 use Rattle.lab_plan.specs.InstrumentSets.{holds}
@@ -19,7 +19,7 @@ use Rattle.live_lab.specs.Labs.{LabView, clock_at}
 use Rattle.late_thirst.specs.Outside.{LineView}
 use Rattle.live_lab.specs.Sets.{AreJobs}
 use Rattle.live_lab.specs.Rests.{IsAtRest, ComesToRest, DoAndRest}
-use Rattle.live_lab.specs.Admitting.{Asks, AdmitsAll}
+use Rattle.live_lab.specs.Admitting.{Asks, AdmitsAll, WasFree, EachStandsOutside}
 
 -- the job is in no session, and has none left
 abbrev pub IsThrough : LabPlan → State → ℕ → Type 0
@@ -59,6 +59,13 @@ pub record Settles (waiting : ℕ) (old : LabView) (came : Came) (new : LabView)
   -- those who are due by that are let in, as above
   pub fourth : List Event
   pub rejoins : AdmitsAll waiting left left_out fourth new.world new.line
+  -- whoever was let in because its instruments were free holds now
+  pub free_hold : (k : ℕ) → IsJob new.world.plan k
+      → WasFree waiting joins.times rested asking second joined left_out joins.one_by_one k
+      ⊎ WasFree waiting rejoins.times left left_out fourth new.world new.line rejoins.one_by_one k → IsDrinking (phase new.world.state k)
+  -- whoever is left outside, though it is waited for and may begin, was passed by fewer than `most` times, and a job in a session needs one of its
+  -- instruments
+  pub outside : EachStandsOutside waiting new.world new.line
   -- all these are legal events one after another, and it is told how many they are, looks aside
   pub leads : LeadsTo old.world (first ++ second ++ third ++ fourth) new.world
   pub deeds : came.deeds ≡ count_by is_deed (first ++ second ++ third ++ fourth)

@@ -1,4 +1,4 @@
-use Rattle.std.proofs.Common.{◌≡◌, ℕ, ◌+◌, List, ◌++◌, length, refl, sym, ap, ◌∙◌, subst, arith}
+use Rattle.std.proofs.Common.{◌≡◌, inl, inr, ℕ, ◌+◌, List, ◌++◌, length, refl, sym, ap, ◌∙◌, subst, arith}
 use Rattle.std.proofs.lemmas.List.{with_items_is}
 use Rattle.std.specs.List.{count_by}
 use Rattle.std.specs.Vec.{with_items}
@@ -16,6 +16,14 @@ use Rattle.live_lab.specs.Counting.{AreTurnsCounted}
 use Rattle.live_lab.specs.Settles.{IsOutOfPatience, Settles}
 use Rattle.live_lab.proofs.Clocks.{are_counted}
 use Rattle.live_lab.proofs.InLab.{lab_on, line_on, both_on}
+use Rattle.lab_plan.specs.LabPlan.{LabPlan}
+use Rattle.lab_plan.specs.InstrumentSets.{holds}
+use Rattle.legal_steps.specs.declared.phase.Drinking.TheVariants.{Thirsty}
+use Rattle.legal_steps.specs.State.{Has, phase, drinking}
+use Rattle.legal_steps.specs.Legal.{IsJob}
+use Rattle.live_lab.specs.declared.words.Word.TheVariants.{GivesUp}
+use Rattle.live_lab.proofs.Bits.{holds_has}
+use Rattle.live_lab.proofs.Lawful.{not_true, others_go, holding_goes, thirsty_holds_nothing, asked_right, askers_after}
 use Rattle.live_lab.proofs.lab.Lab.settle.Goals as goal
 
 -- the sum of the counts of four lists
@@ -31,6 +39,19 @@ pub admit-fourth-requires-clause-line : goal.admit-fourth-requires-clause-line
 admit-fourth-requires-clause-line c =
     let third = c.say_and_rest-third.ensures.does in
     line_on c.admit-second.new.world c.say_and_rest-third.new.world c.admit-second.new.line (third.events, third.leads) c.admit-second.ensures.admits.line_of
+
+thirsty_ones : (clocks : List Clock) (w : WorldView) (set j : ℕ) → AreJobs w.plan set (IsOutOfPatience clocks w) → IsJob w.plan j → Has set j
+    → drinking w.state j ≡ Thirsty
+thirsty_ones clocks w set j are job has = ((are.just j job).0 has).0.1
+
+pub admit-second-requires-clause-askers : goal.admit-second-requires-clause-askers
+admit-second-requires-clause-askers c = asked_right c.args.waiting c.come_to_rest-first.new.world c.self.inside.line c.ask.new.line c.ask.ensures
+
+pub admit-fourth-requires-clause-askers : goal.admit-fourth-requires-clause-askers
+admit-fourth-requires-clause-askers c =
+    let third = c.say_and_rest-third.ensures.does in let w3 = c.admit-second.new.world in let given = c.jobs_of-given_up.result in
+    askers_after w3 c.admit-second.new.line given third.events c.say_and_rest-third.new.world third.does
+    (λ j job has. thirsty_ones c.deref-3.result.now w3 given j c.jobs_of-given_up.ensures job has) c.admit-second.ensures.admits.askers
 
 pub invariant_of-self : goal.invariant_of-self
 invariant_of-self c =
@@ -81,6 +102,18 @@ returns c =
       leaves = d3.does;
       fourth = a4.events;
       rejoins = a4.admits;
+      free_hold = λ k job was.
+          let at4 = subst (λ (p : LabPlan). IsJob p k) a4.leads.same_plan job in
+          let at3 = subst (λ (p : LabPlan). IsJob p k) d3.leads.same_plan at4 in
+          elim was [
+            | inl first ↦
+                let holding = a2.admits.free_hold k at3 first in
+                a4.stay k at4 (holding_goes (phase w3.state k) (phase w4.state k) (others_go GivesUp given w3 d3.events w4 d3.does k
+                (not_true (holds given k) (λ h. thirsty_holds_nothing (phase w3.state k)
+                (thirsty_ones c.deref-3.result.now w3 given k c.jobs_of-given_up.ensures at3 (holds_has given k h)) holding))) holding)
+            | inr later ↦ a4.admits.free_hold k job later
+          ];
+      outside = a4.admits.outside;
       leads = all;
       deeds = sum_of r1.events a2.events d3.events a4.events c.come_to_rest-first.result c.admit-second.result c.say_and_rest-third.result c.admit-fourth.result
           r1.deeds a2.deeds d3.deeds a4.deeds;
