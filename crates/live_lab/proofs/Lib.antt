@@ -13,3 +13,4 @@ mod Asked
 mod Admitted
 mod Frames
 mod Lawful
+mod AtOnce

@@ -27,7 +27,7 @@ pub record AsksFor (plan : LabPlan) (s : State) (j needs : ℕ) : Type 0 where
 -- what its next session needs, if it can ask for one
 abbrev pub IsNext : LabPlan → State → ℕ → Option ℕ → Type 0
 IsNext plan s j (Some needs) = AsksFor plan s j needs
-IsNext plan s j None = (needs : ℕ) → ¬ AsksFor plan s j needs
+IsNext plan s j None = drinking s j ≡ Tranquil → length (sessions plan j) ≤ session s j
 
 -- a place of one that asks for a session with these needs
 abbrev pub IsPlaceFor : ℕ → Option Asker → Type 0
@@ -125,6 +125,10 @@ pub record AdmitsAll (waiting : ℕ) (old : WorldView) (line : LineView) (events
   pub over : LetsInNext waiting new line' 0 line'
   pub free_hold : (k : ℕ) → IsJob new.plan k → WasFree waiting times old line events new line' one_by_one k → IsDrinking (phase new.state k)
   pub outside : EachStandsOutside waiting new line'
+
+-- nobody is outside
+abbrev pub NobodyIsOutside : LineView → Type 0
+NobodyIsOutside line = (j : ℕ) → place line.places j ≡ None
 
 -- ---- what is read
 

@@ -1,4 +1,4 @@
-use Rattle.std.proofs.Common.{◌≡◌, inl, inr, ℕ, ◌+◌, List, ◌++◌, length, refl, sym, ap, ◌∙◌, subst, arith}
+use Rattle.std.proofs.Common.{◌≡◌, inl, inr, ℕ, ◌+◌, List, ◌++◌, append-nil, length, refl, sym, ap, ◌∙◌, subst, arith}
 use Rattle.std.proofs.lemmas.List.{with_items_is}
 use Rattle.std.specs.List.{count_by}
 use Rattle.std.specs.Vec.{with_items}
@@ -13,7 +13,9 @@ use Rattle.live_lab.specs.declared.settle.Came.{Came}
 use Rattle.live_lab.specs.Labs.{LabView, IsLineOf}
 use Rattle.live_lab.specs.Sets.{AreJobs}
 use Rattle.live_lab.specs.Counting.{AreTurnsCounted}
-use Rattle.live_lab.specs.Settles.{IsOutOfPatience, Settles}
+use Rattle.live_lab.specs.Settles.{IsOutOfPatience, SettlesAtOnce, Settles}
+use Rattle.live_lab.specs.Admitting.{NobodyIsOutside}
+use Rattle.live_lab.proofs.AtOnce.{all_ask, in_at_once, never}
 use Rattle.live_lab.proofs.Clocks.{are_counted}
 use Rattle.live_lab.proofs.InLab.{lab_on, line_on, both_on}
 use Rattle.lab_plan.specs.LabPlan.{LabPlan}
@@ -117,6 +119,32 @@ returns c =
       leads = all;
       deeds = sum_of r1.events a2.events d3.events a4.events c.come_to_rest-first.result c.admit-second.result c.say_and_rest-third.result c.admit-fourth.result
           r1.deeds a2.deeds d3.deeds a4.deeds;
+      at_once = λ most nobody.
+          let long : length x.line.places ≡ length w1.plan.jobs = c.self.invariant.2 ∙ ap (λ (p : LabPlan). length p.jobs) (sym r1.rests.leads.same_plan) in
+          let waiters = all_ask c.args.waiting w1 x.line c.ask.new.line long most nobody c.ask.ensures in
+          let in_now = in_at_once c.args.waiting a2.admits.times w1 c.ask.new.line a2.events w3 c.admit-second.new.line r1.rests.at_rest
+          (c.ask.ensures.as_many ∙ long) waiters a2.admits.over a2.admits.one_by_one in
+          let later = never c.args.waiting a4.admits.times w4 c.admit-second.new.line a4.events w5 c.admit-fourth.new.line in_now.3 a4.admits.one_by_one in
+          let given_up = subst (λ (l : List Clock). AreJobs w3.plan given (IsOutOfPatience l w3)) c.deref-3.ensures.value c.jobs_of-given_up.ensures in
+          let leads = leads_both w0 w3 w4 (r1.events ++ a2.events) d3.events (leads_both w0 w1 w3 r1.events a2.events r1.rests.leads a2.leads) d3.leads in (
+            subst (λ (z : WorldView). SettlesAtOnce c.args.waiting (record { world = w0; clocks = x.clocks.items; line = x.line }) came z) (sym later.1) (record {
+              rested = w1;
+              first = r1.events;
+              rests = r1.rests;
+              begun = in_now.0;
+              begins = in_now.1;
+              joined = w3;
+              second = a2.events;
+              joins = in_now.2;
+              gives_up = given_up;
+              third = d3.events;
+              leaves = d3.does;
+              leads = leads;
+              deeds = sum_of r1.events a2.events d3.events a4.events c.come_to_rest-first.result c.admit-second.result c.say_and_rest-third.result c.admit-fourth.result
+                  r1.deeds a2.deeds d3.deeds a4.deeds ∙ ap (count_by is_deed) ((λ i. r1.events ++ a2.events ++ d3.events ++ later.0 i) ∙ append-nil (r1.events ++ a2.events ++ d3.events));
+            }),
+            subst (λ (l : LineView). NobodyIsOutside l) (sym later.2) in_now.3,
+          );
       holds = c.jobs_of.ensures;
       none_left = c.jobs_of-2.ensures;
       at_rest = a4.at_rest d3.does.rests.at_rest;
