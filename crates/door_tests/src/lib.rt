@@ -12,6 +12,8 @@ mod hall;
 #[cfg(test)]
 mod journals;
 #[cfg(test)]
+mod late;
+#[cfg(test)]
 mod live;
 #[cfg(test)]
 mod runs;

@@ -34,8 +34,9 @@ fn longest_session<A: Allocator>(plan: &Plan<A>) -> usize {
 }
 
 /// Room for the events of two calls. Between two words of owners there are at most 4 deeds a job, and 9 an edge and a bottle; a look that
-/// changes marks comes before each of them. A call has three such times, and the commands of a session. That a call never has more isn't
-/// proved: an event that finds no room is missed, and no journal is taken any more.
+/// changes marks comes before each of them. A call has the room of five such times, and the commands of a session: before those who ask, when they are
+/// let in, once more if they are so one after another, and the same again when some have given up. That a call never has more isn't proved: an event
+/// that finds no room is missed, and no journal is taken any more.
 pub(crate) fn room_of<A: Allocator>(plan: &Plan<A>) -> usize
     ensures { 64 ≤ result }
 {
@@ -46,7 +47,7 @@ pub(crate) fn room_of<A: Allocator>(plan: &Plan<A>) -> usize
         .saturating_add(all_bottles(plan).saturating_mul(18));
     let commands = longest_session(plan).saturating_mul(2);
     deeds
-        .saturating_mul(3)
+        .saturating_mul(5)
         .saturating_add(commands)
         .saturating_mul(2)
         .saturating_add(64)

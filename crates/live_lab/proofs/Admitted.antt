@@ -1,11 +1,11 @@
 -- Those who are let in, round after round.
-use Rattle.std.proofs.Common.{◌≡◌, ◌≢◌, ℕ, ◌+◌, ◌*◌, ◌<◌, ◌≤◌, true, false, List, [], ◌++◌, length, Option, refl, sym, ap, ◌∙◌, subst, inl, inr, arith, add-one}
+use Rattle.std.proofs.Common.{◌≡◌, ◌≢◌, ℕ, suc, Bool, ◌+◌, ◌*◌, ◌<◌, ◌≤◌, true, false, List, [], ◌++◌, length, Option, refl, sym, ap, ◌∙◌, subst, inl, inr, arith}
 use Rattle.std.specs.List.{count_by}
 use Rattle.lab_plan.specs.LabPlan.{LabPlan}
 use Rattle.lab_plan.specs.InstrumentSets.{holds}
 use Rattle.legal_steps.specs.declared.event.Event.{Event}
 use Rattle.legal_steps.specs.declared.event.Event.TheVariants.{Thirst}
-use Rattle.legal_steps.specs.State.{Has}
+use Rattle.legal_steps.specs.State.{Has, IsDrinking, phase}
 use Rattle.legal_steps.specs.Legal.{May, IsJob}
 use Rattle.interleaving.specs.World.{WorldView, LeadsTo}
 use Rattle.reasons.specs.Deeds.{is_deed}
@@ -23,16 +23,19 @@ use Rattle.live_lab.specs.Labs.{IsLineOf}
 use Rattle.live_lab.specs.Sets.{events_of_jobs}
 use Rattle.live_lab.specs.Rests.{IsAtRest, DoAndRest}
 use Rattle.live_lab.specs.Doing.{said, RestsIn, DoesAndRests, AdmitsIn}
-use Rattle.live_lab.specs.Admitting.{LetsInNext, AdmitsNext, Admits, AdmitsAll}
+use Rattle.live_lab.specs.Admitting.{AreAskers, LetsInNext, AdmitsNext, Admits, WasFree, AdmitsAll}
 use Rattle.live_lab.proofs.Bits.{holds_has, has_holds}
+use Rattle.live_lab.proofs.Lawful.{not_true, others_go, holding_goes, tranquil_holds_nothing, still_askers, free_holds, stands_outside}
 
 pub said_and_rested : (word : Word) (set : ℕ) (old mid new : WorldView) (m n : ℕ) → LeadsTo old (events_of_jobs (said word) old.plan set) mid
-    → m ≡ count_by is_deed (events_of_jobs (said word) old.plan set) → RestsIn mid n new → DoesAndRests word set old (m + n) new
-said_and_rested word set old mid new m n each deeds r =
+    → m ≡ count_by is_deed (events_of_jobs (said word) old.plan set) → RestsIn mid n new
+    → length old.state.seats ≡ length old.plan.jobs → DoesAndRests word set old (m + n) new
+said_and_rested word set old mid new m n each deeds r seats =
     let said_now = events_of_jobs (said word) old.plan set in
     record {
       events = said_now ++ r.events;
       does = record { mid = mid; later = r.events; each = each; rests = r.rests; events_are = refl };
+      seats = seats;
       leads = leads_both old mid new said_now r.events each r.rests.leads;
       deeds = (λ i. deeds i + r.deeds i) ∙ sym (deeds_both said_now r.events);
     }
@@ -55,10 +58,13 @@ pub record AdmittedSoFar (waiting : ℕ) (w0 : WorldView) (line0 : LineView) (w 
   pub bound : n + count line.places * 129616 ≤ 4147712
   pub marked : AreMarked w.plan w.state due
   pub line_of : IsLineOf w line
+  pub askers : AreAskers w line
+  pub stay : (k : ℕ) → IsJob w0.plan k → IsDrinking (phase w0.state k) → IsDrinking (phase w.state k)
+  pub free_hold : (k : ℕ) → IsJob w.plan k → WasFree waiting times w0 line0 events w line one_by_one k → IsDrinking (phase w.state k)
 
-pub nobody_yet : (waiting : ℕ) (w : WorldView) (line : LineView) (due : DueView) → length w.plan.jobs ≤ 32 → IsLineOf w line → LeadsTo w [] w
+pub nobody_yet : (waiting : ℕ) (w : WorldView) (line : LineView) (due : DueView) → length w.plan.jobs ≤ 32 → IsLineOf w line → AreAskers w line → LeadsTo w [] w
     → AreMarked w.plan w.state due → AdmittedSoFar waiting w line w line due 0
-nobody_yet waiting w line due few of none marked = record {
+nobody_yet waiting w line due few of askers none marked = record {
   times = 0;
   events = [];
   one_by_one = (refl, refl, refl);
@@ -68,7 +74,18 @@ nobody_yet waiting w line due few of none marked = record {
   bound = let most = at_most_all line.places in omega (arith, most, few, of);
   marked = marked;
   line_of = of;
+  askers = askers;
+  stay = λ k job h. h;
+  free_hold = λ k job no. absurd no;
 }
+
+-- who holds before a letting-in holds after it
+holders_stay : (waiting : ℕ) (w : WorldView) (there : LineView) (set : ℕ) (line : LineView) (m : ℕ) (new : WorldView) → LetsInNext waiting w there set line
+    → DoesAndRests Begins set w m new → (k : ℕ) → IsJob w.plan k → IsDrinking (phase w.state k) → IsDrinking (phase new.state k)
+holders_stay waiting w there set line m new lets does k job holding =
+    let out : holds set k ≡ false = not_true (holds set k)
+    (λ h. tranquil_holds_nothing (phase w.state k) (may_begin waiting w there set line lets k job (holds_has set k h)).1 holding) in
+    holding_goes (phase w.state k) (phase new.state k) (others_go Begins set w does.events new does.does k out) holding
 
 pub some_more : (waiting : ℕ) (w0 : WorldView) (line0 : LineView) (mid : WorldView) (there : LineView) (due : DueView) (n set m : ℕ) (new : WorldView)
     (line : LineView) (due' : DueView) → set ≢ 0 → LetsInNext waiting mid there set line → DoesAndRests Begins set mid m new → m ≤ 129616
@@ -76,10 +93,9 @@ pub some_more : (waiting : ℕ) (w0 : WorldView) (line0 : LineView) (mid : World
 some_more waiting w0 line0 mid there due n set m new line due' some lets does small marked x =
     let fewer = fewer_after there.most lets.ready lets.used there.places set line.places some lets.lets.places in
     record {
-      times = x.times + 1;
+      times = suc x.times;
       events = x.events ++ does.events;
-      one_by_one = subst (λ k. Admits waiting k w0 line0 (x.events ++ does.events) new line) (sym (add-one x.times))
-          (mid, there, x.events, set, does.events, x.one_by_one, record { some = some; lets = lets; begins = does.does }, refl);
+      one_by_one = (mid, there, x.events, set, does.events, x.one_by_one, record { some = some; lets = lets; begins = does.does }, refl);
       leads = leads_both w0 mid new x.events does.events x.leads does.leads;
       at_rest = λ r. does.does.rests.at_rest;
       deeds = (λ i. x.deeds i + does.deeds i) ∙ sym (deeds_both x.events does.events);
@@ -87,6 +103,14 @@ some_more waiting w0 line0 mid there due n set m new line due' some lets does sm
       marked = marked;
       line_of = as_many_after there.most lets.ready lets.used there.places set line.places lets.lets.places
           ∙ (x.line_of ∙ ap (λ (p : LabPlan). length p.jobs) (sym does.leads.same_plan));
+      askers = still_askers waiting mid there set line does.events new lets does.does x.askers;
+      stay = λ k job h. holders_stay waiting mid there set line m new lets does k (subst (λ (p : LabPlan). IsJob p k) (sym x.leads.same_plan) job) (x.stay k job h);
+      free_hold = λ k job was.
+          let here = subst (λ (p : LabPlan). IsJob p k) does.leads.same_plan job in
+          elim was [
+            | inl before ↦ holders_stay waiting mid there set line m new lets does k here (x.free_hold k here before)
+            | inr now ↦ free_holds waiting mid there set line does.events new lets does.does x.askers does.seats now.1 k here now.0
+          ];
     }
 
 -- nobody is due any more
@@ -95,15 +119,22 @@ pub all_admitted : (waiting : ℕ) (w0 : WorldView) (line0 : LineView) (w : Worl
 all_admitted waiting w0 line0 w there due n line lets x =
     let none = nobody_in there.most lets.ready lets.used there.places line.places lets.lets.places in
     let same : line ≡ there = λ i. record { places = none.2 i; calls = lets.lets.calls i; most = lets.lets.most i } in
+    let y = subst (λ (z : LineView). AdmittedSoFar waiting w0 line0 w z due n) (sym same) x in
+    let over = subst (λ (z : LineView). LetsInNext waiting w z 0 line) (sym same) lets in
+    let due_now = nobody_in line.most over.ready over.used line.places line.places over.lets.places in
     record {
-      events = x.events;
+      events = y.events;
       admits = record {
-        times = x.times;
-        one_by_one = subst (Admits waiting x.times w0 line0 x.events w) (sym same) x.one_by_one;
-        over = subst (λ (z : LineView). LetsInNext waiting w z 0 line) (sym same) lets;
+        times = y.times;
+        one_by_one = y.one_by_one;
+        over = over;
+        free_hold = y.free_hold;
+        outside = stands_outside waiting w line over due_now.0 due_now.1 y.line_of y.askers;
       };
-      leads = x.leads;
-      at_rest = x.at_rest;
-      line_of = subst (λ (z : LineView). IsLineOf w z) (sym same) x.line_of;
-      deeds = x.deeds;
+      leads = y.leads;
+      at_rest = y.at_rest;
+      line_of = y.line_of;
+      askers = y.askers;
+      stay = y.stay;
+      deeds = y.deeds;
     }

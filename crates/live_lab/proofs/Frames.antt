@@ -53,7 +53,7 @@ goes_own plan s (Retire j) may b = absurd b
 goes_own plan s (Glance j other seen) may b = (refl, inl refl)
 goes_own plan s (Withdraw j) may b = absurd b
 
-below_or : (a b : ℕ) → (a < b) ⊎ (b ≤ a)
+pub below_or : (a b : ℕ) → (a < b) ⊎ (b ≤ a)
 below_or a zero = inr (omega arith)
 below_or zero (suc b) = inl (omega arith)
 below_or (suc a) (suc b) = elim (below_or a b) [ inl h ↦ inl (omega (arith, h)) | inr h ↦ inr (omega (arith, h)) ]

@@ -12,4 +12,6 @@ mod Reported
 mod Asked
 mod Admitted
 mod Frames
+mod Lawful
+mod AtOnce
 pub mod LongerLabs

@@ -1,5 +1,5 @@
 -- For readers: who waits outside, and who is let in.
-use Rattle.std.specs.Prelude.{◌≡◌, ◌≢◌, ◌⊎◌, ◌↔◌, ℕ, zero, suc, ◌+◌, ◌<◌, ◌≤◌, min, true, List, [], ◌++◌, length, Option, Some, None}
+use Rattle.std.specs.Prelude.{◌≡◌, ◌≢◌, ◌⊎◌, ◌↔◌, ℕ, zero, suc, ◌+◌, ◌^◌, ◌<◌, ◌≤◌, min, true, List, [], ◌++◌, length, Option, Some, None}
 use Rattle.lab_plan.specs.LabPlan.{LabPlan, sessions, session_names}
 use Rattle.lab_plan.specs.InstrumentSets.{holds}
 use Rattle.legal_steps.specs.declared.event.Event.{Event}
@@ -27,7 +27,7 @@ pub record AsksFor (plan : LabPlan) (s : State) (j needs : ℕ) : Type 0 where
 -- what its next session needs, if it can ask for one
 abbrev pub IsNext : LabPlan → State → ℕ → Option ℕ → Type 0
 IsNext plan s j (Some needs) = AsksFor plan s j needs
-IsNext plan s j None = (needs : ℕ) → ¬ AsksFor plan s j needs
+IsNext plan s j None = drinking s j ≡ Tranquil → length (sessions plan j) ≤ session s j
 
 -- a place of one that asks for a session with these needs
 abbrev pub IsPlaceFor : ℕ → Option Asker → Type 0
@@ -65,6 +65,10 @@ pub record Asks (waiting : ℕ) (w : WorldView) (old new : LineView) : Type 0 wh
   pub most : new.most ≡ old.most
   pub each : (j : ℕ) → IsJob w.plan j → IsPlaceThen waiting w new.calls j (place old.places j) (place new.places j)
 
+-- each that has a place asks for what its next session needs
+abbrev pub AreAskers : WorldView → LineView → Type 0
+AreAskers w line = (j : ℕ) (a : Asker) → IsJob w.plan j → place line.places j ≡ Some a → AsksFor w.plan w.state j a.needs
+
 -- ---- letting in
 
 -- the set has just the instruments that a job in a session needs
@@ -77,6 +81,7 @@ pub record LetsInNext (waiting : ℕ) (w : WorldView) (old : LineView) (set : �
   pub may : AreJobs w.plan ready (MayAsk waiting w)
   pub used : ℕ
   pub in_use : AreInUse w used
+  pub small : used < 2 ^ 64
   pub lets : LineLetsIn ready used old set new
 
 -- and they begin, and all was done that this made due
@@ -92,11 +97,38 @@ Admits waiting (suc n) old line events new line' =
     (mid : WorldView) × (there : LineView) × (before : List Event) × (set : ℕ) × (last : List Event) × Admits waiting n old line before mid there
     × AdmitsNext waiting mid there set last new line' × (events ≡ before ++ last)
 
--- until nobody is due to be let in any more
+-- the job is one of those who were let in because no instrument of theirs was in use; all others had been passed by often enough
+abbrev pub WasFree : (waiting n : ℕ) (old : WorldView) (line : LineView) (events : List Event) (new : WorldView) (line' : LineView)
+    → Admits waiting n old line events new line' → ℕ → Type 0
+WasFree waiting zero old line events new line' none k = ⊥
+WasFree waiting (suc n) old line events new line' (mid, there, before, set, last, earlier, next, is) k =
+    WasFree waiting n old line before mid there earlier k ⊎ (Has set k × NobodyIsDue (Passed there.most) next.lets.ready there.places)
+
+-- one that is left outside was passed by fewer than `most` times, and a job in a session needs one of its instruments
+pub record StandsOutside (w : WorldView) (line : LineView) (j : ℕ) (a : Asker) : Type 0 where
+  pub passed : a.passed < line.most
+  pub instrument : ℕ
+  pub wanted : session_names w.plan j (session w.state j + 1) instrument ≡ true
+  pub user : ℕ
+  pub is_job : IsJob w.plan user
+  pub used : Needs w.plan w.state user instrument
+
+-- so it is with each that is waited for and may begin
+abbrev pub EachStandsOutside : ℕ → WorldView → LineView → Type 0
+EachStandsOutside waiting w line =
+    (j : ℕ) (a : Asker) → IsJob w.plan j → MayAsk waiting w j → place line.places j ≡ Some a → StandsOutside w line j a
+
+-- Until nobody is due to be let in any more. Whoever was let in because it was free holds then, and whoever is left outside has a reason
 pub record AdmitsAll (waiting : ℕ) (old : WorldView) (line : LineView) (events : List Event) (new : WorldView) (line' : LineView) : Type 0 where
   pub times : ℕ
   pub one_by_one : Admits waiting times old line events new line'
   pub over : LetsInNext waiting new line' 0 line'
+  pub free_hold : (k : ℕ) → IsJob new.plan k → WasFree waiting times old line events new line' one_by_one k → IsDrinking (phase new.state k)
+  pub outside : EachStandsOutside waiting new line'
+
+-- nobody is outside
+abbrev pub NobodyIsOutside : LineView → Type 0
+NobodyIsOutside line = (j : ℕ) → place line.places j ≡ None
 
 -- ---- what is read
 

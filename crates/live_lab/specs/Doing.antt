@@ -1,12 +1,12 @@
 -- What is done in a world: acts, turns and service of one job, and words of owners.
-use Rattle.std.specs.Prelude.{◌≡◌, ℕ, ◌+◌, ◌≤◌, Bool, true, ◌↔◌, List, [], ◌++◌, map}
+use Rattle.std.specs.Prelude.{◌≡◌, ℕ, ◌+◌, ◌≤◌, Bool, true, ◌↔◌, List, [], ◌++◌, length, map}
 use Rattle.std.specs.List.{count_by}
 use Rattle.lab_plan.specs.LabPlan.{edges_of}
 use Rattle.legal_steps.specs.declared.event.Event.{Event}
 use Rattle.legal_steps.specs.declared.event.Event.TheVariants.{Thirst, Withdraw}
 use Rattle.legal_steps.specs.declared.phase.Drinking.TheVariants.{Drinking as Drinks}
-use Rattle.legal_steps.specs.State.{drinking}
-use Rattle.legal_steps.specs.Legal.{May}
+use Rattle.legal_steps.specs.State.{IsDrinking, phase, drinking}
+use Rattle.legal_steps.specs.Legal.{May, IsJob}
 use Rattle.legal_steps.specs.Run.{after_all}
 use Rattle.interleaving.specs.World.{WorldView, LeadsTo}
 use Rattle.edge_word.specs.Moves.{on}
@@ -19,7 +19,7 @@ use Rattle.live_lab.specs.Calls.{IsMealDue}
 use Rattle.late_thirst.specs.Outside.{LineView}
 use Rattle.live_lab.specs.Labs.{IsLineOf}
 use Rattle.live_lab.specs.Rests.{IsAtRest, ComesToRest, DoAndRest}
-use Rattle.live_lab.specs.Admitting.{AdmitsAll}
+use Rattle.live_lab.specs.Admitting.{AdmitsAll, AreAskers}
 use Rattle.live_lab.specs.Ends.{in_hand, rest_of_session}
 
 -- the phase act was done that was due, and it is said whether there was one
@@ -89,6 +89,7 @@ pub record RestsIn (old : WorldView) (n : ℕ) (new : WorldView) : Type 0 where
 pub record DoesAndRests (word : Word) (set : ℕ) (old : WorldView) (n : ℕ) (new : WorldView) : Type 0 where
   pub events : List Event
   pub does : DoAndRest (said word) set old events new
+  pub seats : length old.state.seats ≡ length old.plan.jobs
   pub leads : LeadsTo old events new
   pub deeds : n ≡ count_by is_deed events
 
@@ -99,4 +100,6 @@ pub record AdmitsIn (waiting : ℕ) (old : WorldView) (line : LineView) (n : ℕ
   pub leads : LeadsTo old events new
   pub at_rest : IsAtRest old → IsAtRest new
   pub line_of : IsLineOf new line'
+  pub askers : AreAskers new line'
+  pub stay : (k : ℕ) → IsJob old.plan k → IsDrinking (phase old.state k) → IsDrinking (phase new.state k)
   pub deeds : n ≡ count_by is_deed events

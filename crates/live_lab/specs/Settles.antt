@@ -1,5 +1,5 @@
 -- For readers: what a settle does, and what holds after it.
-use Rattle.std.specs.Prelude.{◌≡◌, ℕ, ◌≤◌, ◌||◌, List, ◌++◌, length, slice_index_or, if◌then◌else◌}
+use Rattle.std.specs.Prelude.{◌≡◌, ◌⊎◌, ℕ, ◌≤◌, ◌||◌, List, ◌++◌, length, slice_index_or, if◌then◌else◌}
 use Rattle.std.specs.List.{count_by}
 use Rattle.lab_plan.specs.LabPlan.{LabPlan, sessions}
 use Rattle.lab_plan.specs.InstrumentSets.{holds}
@@ -19,7 +19,7 @@ use Rattle.live_lab.specs.Labs.{LabView, clock_at}
 use Rattle.late_thirst.specs.Outside.{LineView}
 use Rattle.live_lab.specs.Sets.{AreJobs}
 use Rattle.live_lab.specs.Rests.{IsAtRest, ComesToRest, DoAndRest}
-use Rattle.live_lab.specs.Admitting.{Asks, AdmitsAll}
+use Rattle.live_lab.specs.Admitting.{MayAsk, Asks, NobodyIsOutside, AdmitsAll, WasFree, EachStandsOutside}
 
 -- the job is in no session, and has none left
 abbrev pub IsThrough : LabPlan → State → ℕ → Type 0
@@ -36,6 +36,26 @@ pub record AreCounted (waiting : ℕ) (old new : LabView) : Type 0 where
   pub each : (j : ℕ) → IsJob old.world.plan j
       → clock_at new j ≡ (if holds waiting j || is_waiting (drinking old.world.state j)
       then after_turn (is_waiting (drinking old.world.state j)) (phase new.world.state j) (clock_at old j) else clock_at old j)
+
+-- What a settle does where nobody has to wait outside, in this order
+pub record SettlesAtOnce (waiting : ℕ) (old : LabView) (came : Came) (new : WorldView) : Type 0 where
+  -- all was done that was due
+  pub rested : WorldView
+  pub first : List Event
+  pub rests : ComesToRest old.world first rested
+  -- each job of `waiting` that might begin its next session began it, and no other; and all was done that this made due
+  pub begun : ℕ
+  pub begins : AreJobs rested.plan begun (MayAsk waiting rested)
+  pub joined : WorldView
+  pub second : List Event
+  pub joins : DoAndRest (λ j. Thirst j) begun rested second joined
+  -- each job that is still thirsty and out of patience gave its session up, and no other; and all was done that this made due
+  pub gives_up : AreJobs joined.plan came.given_up (IsOutOfPatience old.clocks joined)
+  pub third : List Event
+  pub leaves : DoAndRest (λ j. Withdraw j) came.given_up joined third new
+  -- all these are legal events one after another, and it is told how many they are, looks aside
+  pub leads : LeadsTo old.world (first ++ second ++ third) new
+  pub deeds : came.deeds ≡ count_by is_deed (first ++ second ++ third)
 
 -- What a settle does, in this order
 pub record Settles (waiting : ℕ) (old : LabView) (came : Came) (new : LabView) : Type 0 where
@@ -59,9 +79,18 @@ pub record Settles (waiting : ℕ) (old : LabView) (came : Came) (new : LabView)
   -- those who are due by that are let in, as above
   pub fourth : List Event
   pub rejoins : AdmitsAll waiting left left_out fourth new.world new.line
+  -- whoever was let in because its instruments were free holds now
+  pub free_hold : (k : ℕ) → IsJob new.world.plan k
+      → WasFree waiting joins.times rested asking second joined left_out joins.one_by_one k
+      ⊎ WasFree waiting rejoins.times left left_out fourth new.world new.line rejoins.one_by_one k → IsDrinking (phase new.world.state k)
+  -- whoever is left outside, though it is waited for and may begin, was passed by fewer than `most` times, and a job in a session needs one of its
+  -- instruments
+  pub outside : EachStandsOutside waiting new.world new.line
   -- all these are legal events one after another, and it is told how many they are, looks aside
   pub leads : LeadsTo old.world (first ++ second ++ third ++ fourth) new.world
   pub deeds : came.deeds ≡ count_by is_deed (first ++ second ++ third ++ fourth)
+  -- if nobody has to wait outside, all that may begin do so at once
+  pub at_once : old.line.most ≡ 0 → NobodyIsOutside old.line → SettlesAtOnce waiting old came new.world × NobodyIsOutside new.line
   -- it is told who holds now, and who of `waiting` is in no session and has none left
   pub holds : AreJobs new.world.plan came.holds (λ j. IsDrinking (phase new.world.state j))
   pub none_left : AreJobs new.world.plan came.none_left (λ j. Has waiting j × IsThrough new.world.plan new.world.state j)

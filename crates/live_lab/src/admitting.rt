@@ -8,7 +8,7 @@ ghost use Rattle.reasons.specs.Deeds.{is_deed};
 ghost use Rattle.settling.specs.Left.{AreMarked};
 ghost use Rattle.live_lab.specs.Labs.{IsLineOf};
 ghost use Rattle.live_lab.specs.Doing.{said, DoesAndRests, AdmitsIn};
-ghost use Rattle.live_lab.specs.Admitting.{AreInUse, LetsInNext};
+ghost use Rattle.live_lab.specs.Admitting.{AreInUse, AreAskers, LetsInNext};
 
 use crate::clock::Clock;
 use crate::keeping::named;
@@ -66,6 +66,8 @@ pub(crate) fn say_and_rest<A: Allocator>(
     ensures marked { AreMarked world.new.plan world.new.state due.new }
     ensures few { result ≤ 129616 }
 {
+    // Each job has a seat, since the world is reached.
+    let _ = world.plan();
     let said = say_each(world, due, set, word);
     said + come_to_rest(world, due)
 }
@@ -80,6 +82,7 @@ pub(crate) fn admit<A: Allocator>(
 ) -> u32
     requires clocks { length clocks.now ≡ length world.old.plan.jobs }
     requires line { IsLineOf world.old line.old }
+    requires askers { AreAskers world.old line.old }
     requires marked { AreMarked world.old.plan world.old.state due.old }
     ensures admits { AdmitsIn waiting world.old line.old result world.new line.new }
     ensures marked { AreMarked world.new.plan world.new.state due.new }

@@ -11,7 +11,7 @@ rounds-init g c =
     let w = c.args.world.now in
     let few : length c.plan.result.now.jobs ≤ 32 = c.jobs.ensures.plan.draft.few_jobs in
     nobody_yet c.args.waiting w c.args.line.now c.args.due.now (omega (arith, few, ap (λ (p : LabPlan). length p.jobs) c.plan.ensures.plan)) c.requires.line
-    (leads_none w) c.requires.marked
+    c.requires.askers (leads_none w) c.requires.marked
 
 pub say_and_rest-deeds-requires-clause-may : goal.say_and_rest-deeds-requires-clause-may
 say_and_rest-deeds-requires-clause-may g c =

@@ -1,4 +1,4 @@
-use Rattle.std.proofs.Common.{◌≡◌, ℕ, ◌+◌, List, ◌++◌, length, refl, sym, ap, ◌∙◌, subst, arith}
+use Rattle.std.proofs.Common.{◌≡◌, inl, inr, ℕ, ◌+◌, List, ◌++◌, append-nil, length, refl, sym, ap, ◌∙◌, subst, arith}
 use Rattle.std.proofs.lemmas.List.{with_items_is}
 use Rattle.std.specs.List.{count_by}
 use Rattle.std.specs.Vec.{with_items}
@@ -13,9 +13,19 @@ use Rattle.live_lab.specs.declared.settle.Came.{Came}
 use Rattle.live_lab.specs.Labs.{LabView, IsLineOf}
 use Rattle.live_lab.specs.Sets.{AreJobs}
 use Rattle.live_lab.specs.Counting.{AreTurnsCounted}
-use Rattle.live_lab.specs.Settles.{IsOutOfPatience, Settles}
+use Rattle.live_lab.specs.Settles.{IsOutOfPatience, SettlesAtOnce, Settles}
+use Rattle.live_lab.specs.Admitting.{NobodyIsOutside}
+use Rattle.live_lab.proofs.AtOnce.{all_ask, in_at_once, never}
 use Rattle.live_lab.proofs.Clocks.{are_counted}
 use Rattle.live_lab.proofs.InLab.{lab_on, line_on, both_on}
+use Rattle.lab_plan.specs.LabPlan.{LabPlan}
+use Rattle.lab_plan.specs.InstrumentSets.{holds}
+use Rattle.legal_steps.specs.declared.phase.Drinking.TheVariants.{Thirsty}
+use Rattle.legal_steps.specs.State.{Has, phase, drinking}
+use Rattle.legal_steps.specs.Legal.{IsJob}
+use Rattle.live_lab.specs.declared.words.Word.TheVariants.{GivesUp}
+use Rattle.live_lab.proofs.Bits.{holds_has}
+use Rattle.live_lab.proofs.Lawful.{not_true, others_go, holding_goes, thirsty_holds_nothing, asked_right, askers_after}
 use Rattle.live_lab.proofs.lab.Lab.settle.Goals as goal
 
 -- the sum of the counts of four lists
@@ -31,6 +41,19 @@ pub admit-fourth-requires-clause-line : goal.admit-fourth-requires-clause-line
 admit-fourth-requires-clause-line c =
     let third = c.say_and_rest-third.ensures.does in
     line_on c.admit-second.new.world c.say_and_rest-third.new.world c.admit-second.new.line (third.events, third.leads) c.admit-second.ensures.admits.line_of
+
+thirsty_ones : (clocks : List Clock) (w : WorldView) (set j : ℕ) → AreJobs w.plan set (IsOutOfPatience clocks w) → IsJob w.plan j → Has set j
+    → drinking w.state j ≡ Thirsty
+thirsty_ones clocks w set j are job has = ((are.just j job).0 has).0.1
+
+pub admit-second-requires-clause-askers : goal.admit-second-requires-clause-askers
+admit-second-requires-clause-askers c = asked_right c.args.waiting c.come_to_rest-first.new.world c.self.inside.line c.ask.new.line c.ask.ensures
+
+pub admit-fourth-requires-clause-askers : goal.admit-fourth-requires-clause-askers
+admit-fourth-requires-clause-askers c =
+    let third = c.say_and_rest-third.ensures.does in let w3 = c.admit-second.new.world in let given = c.jobs_of-given_up.result in
+    askers_after w3 c.admit-second.new.line given third.events c.say_and_rest-third.new.world third.does
+    (λ j job has. thirsty_ones c.deref-3.result.now w3 given j c.jobs_of-given_up.ensures job has) c.admit-second.ensures.admits.askers
 
 pub invariant_of-self : goal.invariant_of-self
 invariant_of-self c =
@@ -81,9 +104,47 @@ returns c =
       leaves = d3.does;
       fourth = a4.events;
       rejoins = a4.admits;
+      free_hold = λ k job was.
+          let at4 = subst (λ (p : LabPlan). IsJob p k) a4.leads.same_plan job in
+          let at3 = subst (λ (p : LabPlan). IsJob p k) d3.leads.same_plan at4 in
+          elim was [
+            | inl first ↦
+                let holding = a2.admits.free_hold k at3 first in
+                a4.stay k at4 (holding_goes (phase w3.state k) (phase w4.state k) (others_go GivesUp given w3 d3.events w4 d3.does k
+                (not_true (holds given k) (λ h. thirsty_holds_nothing (phase w3.state k)
+                (thirsty_ones c.deref-3.result.now w3 given k c.jobs_of-given_up.ensures at3 (holds_has given k h)) holding))) holding)
+            | inr later ↦ a4.admits.free_hold k job later
+          ];
+      outside = a4.admits.outside;
       leads = all;
       deeds = sum_of r1.events a2.events d3.events a4.events c.come_to_rest-first.result c.admit-second.result c.say_and_rest-third.result c.admit-fourth.result
           r1.deeds a2.deeds d3.deeds a4.deeds;
+      at_once = λ most nobody.
+          let long : length x.line.places ≡ length w1.plan.jobs = c.self.invariant.2 ∙ ap (λ (p : LabPlan). length p.jobs) (sym r1.rests.leads.same_plan) in
+          let waiters = all_ask c.args.waiting w1 x.line c.ask.new.line long most nobody c.ask.ensures in
+          let in_now = in_at_once c.args.waiting a2.admits.times w1 c.ask.new.line a2.events w3 c.admit-second.new.line r1.rests.at_rest
+          (c.ask.ensures.as_many ∙ long) waiters a2.admits.over a2.admits.one_by_one in
+          let later = never c.args.waiting a4.admits.times w4 c.admit-second.new.line a4.events w5 c.admit-fourth.new.line in_now.3 a4.admits.one_by_one in
+          let given_up = subst (λ (l : List Clock). AreJobs w3.plan given (IsOutOfPatience l w3)) c.deref-3.ensures.value c.jobs_of-given_up.ensures in
+          let leads = leads_both w0 w3 w4 (r1.events ++ a2.events) d3.events (leads_both w0 w1 w3 r1.events a2.events r1.rests.leads a2.leads) d3.leads in (
+            subst (λ (z : WorldView). SettlesAtOnce c.args.waiting (record { world = w0; clocks = x.clocks.items; line = x.line }) came z) (sym later.1) (record {
+              rested = w1;
+              first = r1.events;
+              rests = r1.rests;
+              begun = in_now.0;
+              begins = in_now.1;
+              joined = w3;
+              second = a2.events;
+              joins = in_now.2;
+              gives_up = given_up;
+              third = d3.events;
+              leaves = d3.does;
+              leads = leads;
+              deeds = sum_of r1.events a2.events d3.events a4.events c.come_to_rest-first.result c.admit-second.result c.say_and_rest-third.result c.admit-fourth.result
+                  r1.deeds a2.deeds d3.deeds a4.deeds ∙ ap (count_by is_deed) ((λ i. r1.events ++ a2.events ++ d3.events ++ later.0 i) ∙ append-nil (r1.events ++ a2.events ++ d3.events));
+            }),
+            subst (λ (l : LineView). NobodyIsOutside l) (sym later.2) in_now.3,
+          );
       holds = c.jobs_of.ensures;
       none_left = c.jobs_of-2.ensures;
       at_rest = a4.at_rest d3.does.rests.at_rest;
