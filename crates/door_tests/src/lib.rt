@@ -12,4 +12,6 @@ mod journals;
 #[cfg(test)]
 mod live;
 #[cfg(test)]
+mod resumed_halls;
+#[cfg(test)]
 mod runs;
