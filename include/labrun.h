@@ -352,8 +352,9 @@ uint32_t lab_bench_resume(const uint8_t *journal, size_t length, struct lab_benc
        its own turns): sleep a little and call again, or wait on a condition variable of yours that each thread signals after a call
        that told `what` 2, and after `lab_desk_withdraw`.
      - What the script has (names, sessions, commands) is told by a bench that `lab_bench_open` opens for the same script.
+     - Such a bench may begin where a journal ends (`lab_shared_resume`). It keeps no steps of its own: the journal isn't gone on with.
      - At each status but 0 nothing has changed and nothing is written, but for: `turned` and the turns taken, at 8 and 9 of
-       `lab_desk_begin`, 8 and 10 of `lab_desk_retire`; `written` at 6; `told` at 1, 4 and 5 of the open and at 0, 3, 5 and 6 of the close. */
+       `lab_desk_begin`, 8 and 10 of `lab_desk_retire`; `written` at 6; `told` at 1, 4 and 5 of an open and at 0, 3, 5 and 6 of the close. */
 
 /* What C keeps of a desk. */
 struct lab_desk {
@@ -363,6 +364,11 @@ struct lab_desk {
 
 /* Opens a bench for a script, with each desk at its place. 0; 1 with `told->line` and `told->cause`; 4; 5; 11 if the handle is in use. */
 uint32_t lab_shared_open(const uint8_t *script, size_t length, struct lab_bench *shared, struct lab_told *told);
+
+/* Opens the bench that a journal tells of, with each desk at its place: who held, holds. The steps are done again, then a command that was in
+   hand, and then each job looks at its edges; all patience counts anew. 0, with `told->written` as the length of what was read, up to the
+   last line end; 1, 5 and 11 as `lab_bench_resume`. */
+uint32_t lab_shared_resume(const uint8_t *journal, size_t length, struct lab_bench *shared, struct lab_told *told);
 
 /* How many jobs and instruments there are. 0, 7. */
 uint32_t lab_shared_size(struct lab_bench *shared, struct lab_size *size);

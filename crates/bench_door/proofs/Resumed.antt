@@ -7,14 +7,12 @@ use Rattle.legal_steps.specs.State.{State, drinking}
 use Rattle.legal_steps.specs.Legal.{IsJob}
 use Rattle.legal_steps.specs.Opening.{the_opening}
 use Rattle.legal_steps.specs.Run.{after_all}
-use Rattle.turns.specs.History.{IsHistory, state_after}
+use Rattle.turns.specs.History.{state_after}
 use Rattle.interleaving.specs.World.{WorldView, IsReachedBy}
 use Rattle.script_reader.specs.Steps.{StepsMean}
 use Rattle.explaining.specs.Explanations.{events_from_opening}
-use Rattle.edge_rule.specs.DeskView.{BenchView, DeskView, desks_after}
 use Rattle.lab_journal.specs.Finishing.{Finishes, IsReplayed}
-use Rattle.resuming.specs.Resuming.{after_looks}
-use Rattle.bench_door.specs.Resumed.{IsPastOf, StandsAfterText}
+use Rattle.bench_door.specs.Resumed.{IsPastOf}
 
 module _ (text : List ℕ) (w v : WorldView) (re : IsReplayed text w) (fin : Finishes 32 w v) where
   pub began : v.opening ≡ the_opening v.plan
@@ -35,18 +33,3 @@ module _ (text : List ℕ) (w v : WorldView) (re : IsReplayed text w) (fin : Fin
         past_is = fin.goes_on.past ∙ ap (λ (l : List Event). l ++ fin.acts) (re.past ∙ ap (λ (p : LabPlan). events_from_opening p re.steps) same);
         none_in_hand = λ j job. subst (λ (s : State). drinking s j ≢ Reaching) there (none j (subst (λ (p : LabPlan). IsJob p j) (sym now) job));
       }
-
--- a bench that opens there
-pub stands_after : (text : List ℕ) (plan : LabPlan) (b : BenchView) (desks : List DeskView) (past looked : List Event) → b.plan ≡ plan
-    → IsPastOf text plan past → looked ≡ after_looks plan past → IsHistory plan looked → desks ≡ desks_after b.table plan looked (length plan.jobs)
-    → StandsAfterText text b desks
-stands_after text plan b desks past looked same tell are legal stands = record {
-  past = past;
-  tells = subst (λ (p : LabPlan). IsPastOf text p past) (sym same) tell;
-  legal = subst (λ (l : List Event). IsHistory b.plan l) here (subst (λ (p : LabPlan). IsHistory p looked) (sym same) legal);
-  stands = stands ∙ (ap (λ (l : List Event). desks_after b.table plan l (length plan.jobs)) are
-      ∙ ap (λ (p : LabPlan). desks_after b.table p (after_looks p past) (length p.jobs)) (sym same));
-}
-  where
-    here : looked ≡ after_looks b.plan past
-    here = are ∙ ap (λ (p : LabPlan). after_looks p past) (sym same)

@@ -5,19 +5,13 @@ ghost use Rattle.std.proofs.Props.{props};
 ghost use Rattle.turns.specs.Lists.{Each};
 ghost use Rattle.edge_rule.specs.DeskView.{Owns};
 ghost use Rattle.edge_rule.specs.Company.{jobs_of};
-ghost use Rattle.script_reader.specs.Script.{ScriptMeans};
-ghost use Rattle.live_lab.specs.Labs.{IsWhyNot};
 ghost use Rattle.bench_door.specs.Own.{each_prop, rising};
-ghost use Rattle.lab_program.specs.declared.faults.RunFault.TheVariants.{NoMemory};
-ghost use Rattle.lab_journal.specs.Resumed.{IsNotResumed};
 ghost use Rattle.bench_hall.specs.Rows.{HasEachPlace, firsts};
-ghost use Rattle.bench_hall.specs.Resumed.{IsResumedHall};
 
 use crate::place::{is_home, put_back, take_out};
 use crate::spot::{Spot, spot_with};
 use bench_door::Lab;
 use edge_rule::{Bench, Desk};
-use lab_program::RunFault;
 use std::alloc::Global;
 use std::sync::Arc;
 
@@ -26,7 +20,7 @@ use std::sync::Arc;
 pub struct Hall {
     pub bench: Bench<'static, Global>,
     /// The last job's first.
-    spots: Vec<Spot, Global>,
+    pub(crate) spots: Vec<Spot, Global>,
     ghost own: { Each (λ s. Owns bench s.place.value) spots.items } by { each_prop (λ s. Owns bench s.place.value) (λ s. Prim.hlevel props) spots.items },
     ghost each: { HasEachPlace bench.plan spots.items },
 }
@@ -42,7 +36,7 @@ fn spots_with(
     requires all { jobs_of desks.items ≡ rising (length bench.now.plan.jobs) }
     ensures own { IfSome result (λ spots. Each (λ s. Owns bench.now s.place.value) spots.items) }
     ensures each { IfSome result (λ spots. HasEachPlace bench.now.plan spots.items) }
-    ensures first { IfSome result (λ spots. firsts spots.items ≡ reverse desks.entry.items) }
+    ensures first { IfSome result (λ spots. firsts spots.items ≡ reverse desks.items) }
 {
     let mut spots = Vec::new(alloc);
     while let Some(desk) = desks.pop() {
@@ -67,40 +61,6 @@ impl Hall {
             Some(spots) => Some(Hall { bench, spots }),
             None => None,
         }
-    }
-
-    /// The same, to be shared.
-    fn shared(alloc: Global, lab: Lab) -> Result<Arc<Hall, Global>, RunFault>
-        ensures bench { IfOk result (λ h. (arc_value h).bench ≡ lab.bench) }
-        ensures first { IfOk result (λ h. firsts (arc_value h).spots.items ≡ reverse lab.desks.items) }
-        ensures refused { IfErr result (λ fault. fault ≡ NoMemory) }
-    {
-        let Some(hall) = Hall::of(alloc, lab) else {
-            return Err(RunFault::NoMemory);
-        };
-        match Arc::new(alloc, hall) {
-            Ok(hall) => Ok(hall),
-            Err(_) => Err(RunFault::NoMemory),
-        }
-    }
-
-    /// A hall for the plan of a script. The plan's memory is never given back.
-    pub fn open(alloc: Global, script: &[u8]) -> Result<Arc<Hall, Global>, RunFault>
-        ensures opened { IfOk result (λ h. (length script.now ≤ 16777216) × ScriptMeans script.now (arc_value h).bench.plan) }
-        ensures refused { IfErr result (λ fault. IsWhyNot script.now fault) }
-    {
-        let lab = Lab::open(alloc, script)?;
-        Hall::shared(alloc, lab)
-    }
-
-    /// A hall that goes on where a journal ends, and how many bytes of the journal were taken. The plan's memory is never given back.
-    pub fn resume(alloc: Global, journal: &[u8]) -> Result<(Arc<Hall, Global>, usize), RunFault>
-        ensures resumed { IfOk result (λ r. IsResumedHall journal.now r.1 (arc_value r.0)) }
-        ensures refused { IfErr result (IsNotResumed journal.now) }
-    {
-        let (lab, n) = Lab::resume(alloc, journal)?;
-        let hall = Hall::shared(alloc, lab)?;
-        Ok((hall, n))
     }
 
     fn spot(&self, job: u32) -> Option<&Spot>

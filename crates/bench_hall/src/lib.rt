@@ -4,6 +4,7 @@
 
 mod alone;
 mod hall;
+mod opening;
 mod place;
 mod seat;
 mod seated;

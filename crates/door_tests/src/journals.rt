@@ -21,7 +21,7 @@ const SECOND: &[u8] =
     b"#steps\nthirst b\naskbottles b a scale\nhunger b\naskfork b a\nlook a b\ngivefork a b\nlook b a\nsit b\nsoil b a\n#sum ce94601336c7a604\n";
 
 /// The script, and both.
-const BOTH: &[u8] =
+pub(crate) const BOTH: &[u8] =
     b"lab 2\njob a\nsession\nscale add 1\nscale read\nend\njob b\nsession patience 1\nscale set 5\nend\nsteps\n#steps\nlook a b\nthirst a\ndrink a\n#sum 4604f7d28fdeb577\n#steps\nthirst b\naskbottles b a scale\nhunger b\naskfork b a\nlook a b\ngivefork a b\nlook b a\nsit b\nsoil b a\n#sum ce94601336c7a604\n";
 
 /// A line was torn, behind 127 whole bytes.

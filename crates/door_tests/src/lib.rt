@@ -16,4 +16,6 @@ mod late;
 #[cfg(test)]
 mod live;
 #[cfg(test)]
+mod resumed_halls;
+#[cfg(test)]
 mod runs;

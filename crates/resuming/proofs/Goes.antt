@@ -98,9 +98,6 @@ one_taken l n x inside is = subst (λ y. take (n + 1) l ≡ take n l ++ y ∷ []
 
 -- ---- looks
 
-pub no_looks : (w : WorldView) → Looked w [] w
-no_looks w = record { same_plan = refl; goes_on = record { same_opening = refl; past = sym (append-nil w.past); kept = refl }; same_edges = refl }
-
 pub looks_on : (u v w : WorldView) (a b : List Event) → Looked u a v → Looked v b w → Looked u (a ++ b) w
 looks_on u v w a b f g = record {
   same_plan = g.same_plan ∙ f.same_plan;

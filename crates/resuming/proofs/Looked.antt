@@ -28,20 +28,6 @@ all_each : {A : Type 0} (P : A → Type 0) (l : List A) → All P l → Each P l
 all_each P [] all = tt
 all_each P (x ∷ l) all = (all 0 x (omega arith), all_each P l (λ k d inside. all (suc k) d (omega arith)))
 
-each_in : (P : ℕ → Type 0) (l : List ℕ) → Each P l → (e : ℕ) → In e l → P e
-each_in P [] each e h = absurd h
-each_in P (x ∷ l) each e h = elim h [ inl is ↦ subst P is each.0 | inr later ↦ each_in P l each.1 e later ]
-
-is_in : (e : ℕ) (l : List ℕ) → In e l ⊎ (¬ In e l)
-is_in e [] = inr (λ h. h)
-is_in e (x ∷ l) = elim (cases_eq x e) [
-  | inl is ↦ inl (inl is)
-  | inr other ↦ elim (is_in e l) [
-    | inl later ↦ inl (inr later)
-    | inr none ↦ inr (λ h. elim h [ inl is ↦ other is | inr later ↦ none later ])
-  ]
-]
-
 own_each : (p : LabPlan) (j : ℕ) → Each (IsOwn p j) (edges_of p j)
 own_each p j = all_each (IsOwn p j) (edges_of p j) (own_edges p j)
 
