@@ -266,12 +266,16 @@ def main():
         found = {way: sorted(runs[way], key=lambda it: it["rate"])[len(runs[way]) // 2] for way in ways}
         kept[bay] = found
         tell(bay, found)
-    table("sessions a second", kept, lambda one: f"{one['rate']:.0f}")
-    table("wait in ms: median; 99 of 100; longest", kept, lambda one: "; ".join(short(one[it]) for it in ("median", "p99", "longest")))
-    table("an instrument free though wanted; somebody could work", kept, lambda one: f"{100 * one['free']:.0f}; {100 * one['idle']:.0f} %")
+    tables(kept)
     if given.json:
         with open(given.json, "w", encoding="ascii") as file:
             json.dump({"bays": kept, "load": os.getloadavg()}, file)
+
+
+def tables(kept):
+    table("sessions a second", kept, lambda one: f"{one['rate']:.0f}")
+    table("wait in ms: median; 99 of 100; longest", kept, lambda one: "; ".join(short(one[it]) for it in ("median", "p99", "longest")))
+    table("an instrument free though wanted; somebody could work", kept, lambda one: f"{100 * one['free']:.0f}; {100 * one['idle']:.0f} %")
 
 
 def short(milliseconds):
