@@ -3,7 +3,7 @@
 
 usage: bench/late/reckon.py [--seconds S] [--bays NAME,..] [--json FILE]
 
-A session that holds begins its work after 80 microseconds, as a thread that is woken, and asks again 40 after its end. The bench's calls are done
+A session begins its work 80 microseconds after it came to hold, as a thread that is woken, and asks again 40 after its end. The bench's calls are done
 by `bench/simulate.py` (as the package's tests call it, `bindings/python/tests/simulated.py`), so nothing depends on the library or the
 machine, and each call of this prints the same. Beside them `at once`: all at once, who asked first before others, and `FIFO`, as in `late.py`.
 It reckons S seconds of each bay (0.5; of `mixed` 8 times as long, of `thirty-two` a third), in some minutes."""
@@ -101,8 +101,8 @@ def one_run(way, bay, seconds):
             if done[at] < len(plan[at]):
                 heapq.heappush(events, (now + AGAIN, count, at, True))
         for one in bench.came_to_hold():
-            began[one] = now + WOKEN
-            heapq.heappush(events, (began[one] + plan[one][done[one]][1], count, one, False))
+            began[one] = now
+            heapq.heappush(events, (now + WOKEN + plan[one][done[one]][1], count, one, False))
     for at, since in enumerate(asked):
         if since is not None:
             told.append((at, since, seconds if began[at] is None else began[at], seconds + 1e-9, plan[at][done[at]][0]))
