@@ -53,7 +53,7 @@ def panel(way, run, top, span):
 
     held, wanted = spans(near, instruments, begin, begin + span)
     idle = f"somebody waits who could work: {100 * run['idle']:.0f} % of the time"
-    title = f"{way}: {run['rate']:.0f} sessions a second, longest wait {run['longest']:.0f} ms; {idle}"
+    title = f"{way.replace('labrun ', 'overtakes=')}: {run['rate']:.0f} sessions a second, longest wait {run['longest']:.0f} ms; {idle}"
     parts = [f'<text x="{LEFT}" y="{top - 10}" class="head">{title}</text>']
     for instrument in range(instruments):
         y = top + instrument * ROW

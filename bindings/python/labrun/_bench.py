@@ -1046,6 +1046,8 @@ class Bench:
             self._tell()
             if holds and unless_held:
                 return False
+            if job._in != session.number:  # a patience of no turns was used up by that
+                return True
             self._torn = True
         is_outside = session.patience is None and self._outside_of(job) is not None
         if self._call("lab_withdraw", job.index) == NOT_NOW:

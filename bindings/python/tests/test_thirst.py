@@ -164,10 +164,12 @@ class Outside(unittest.TestCase):
 
     def test_patience_in_turns(self) -> None:
         """It runs out outside, too."""
-        bench, first, second = self.holding(SOON)
-        with self.assertRaises(labrun.Withdrawn):
-            second.acquire(timeout=LIMIT)
-        self.assertEqual(second.state, "withdrawn")
+        for script in (SOON, SOON.replace("patience 2", "patience 0")):
+            bench, first, second = self.holding(script)
+            with self.assertRaises(labrun.Withdrawn):
+                second.acquire(timeout=LIMIT)
+            self.assertEqual((second.state, asked(bench, "b").number), ("withdrawn", 2))
+            self.assertEqual(bench.close().job("b").withdrawn, 1)
 
     def test_stop(self) -> None:
         for script, state in ((TWO, "new"), (PATIENT, "withdrawn")):
