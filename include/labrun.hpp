@@ -66,6 +66,12 @@ struct withdrawn : error {
     withdrawn() : error("the session was withdrawn") {}
 };
 
+// The session was ended for its owner, by take_away() or because it had held for longer than it may (desk::limit): its instruments are somebody
+// else's by now. It is told once; the next begin() is about the session after it.
+struct taken_away : error {
+    taken_away() : error("the session was taken away") {}
+};
+
 // The bench is closed.
 struct closed : error {
     closed() : error("the bench is closed") {}
@@ -87,12 +93,37 @@ struct journal_error : error {
 // Where a journal is before a call returns: on the disk, or in the system's memory, which outlives the process and not the machine.
 enum class sync { data, none };
 
-// A job that keeps an instrument from a waiting session: it holds it, or, where nobody does, it waits itself and comes first. Then `behind` is
-// why: the keeper that it waits for, whose own is the next, and the last of them holds.
+// A job that keeps an instrument from a waiting session: it holds it, and `held_for` says for how long; or, where nobody does, it waits itself
+// and comes first. Then `behind` is why: the keeper that it waits for, whose own is the next, and the last of them holds. `passed` is there if
+// the waiting session isn't in line yet: by how many sessions the other was passed before it came to stand there.
 struct keeper {
     std::string instrument, job;
     bool holds;
+    std::chrono::milliseconds held_for;
+    std::optional<std::uint32_t> passed;
     std::shared_ptr<const keeper> behind;
+
+    // The end of the chain: who holds.
+    const keeper &end() const { return behind ? behind->end() : *this; }
+
+    // In words: supply is kept for board, which waits for scope, held by radio for 125 s.
+    std::string text() const {
+        std::string all = instrument + " is ";
+        for (const keeper *it = this;; it = it->behind.get()) {
+            all += (it->holds ? "held by " : "kept for ") + it->job;
+            if (it->holds) all += " for " + seconds(it->held_for) + " s";
+            if (it->passed) all += ", passed " + std::to_string(*it->passed) + " times";
+            if (!it->behind) return all;
+            all += ", which waits for " + it->behind->instrument + ", ";
+        }
+    }
+
+  private:
+    // With one decimal below ten seconds.
+    static std::string seconds(std::chrono::milliseconds span) {
+        const long long tenths = span.count() / 100;
+        return std::to_string(tenths / 10) + (tenths < 100 ? "." + std::to_string(tenths % 10) : "");
+    }
 };
 
 // The time limit passed. The session keeps its place in the line, and may come to its instruments meanwhile: begin again, or give_up().
