@@ -131,8 +131,8 @@ struct keeper {
     }
 };
 
-// The time limit passed. The session keeps its place in the line, and may come to its instruments meanwhile: begin again, or give_up(). It says
-// first for whom it waits in the end: those are the ones to look after.
+// The time limit passed. The session keeps its place, and may come to its instruments meanwhile if it stands in line: begin again, or give_up().
+// It says first for whom it waits in the end: those are the ones to look after.
 struct timed_out : error {
     explicit timed_out(std::vector<keeper> by) : error("still waits" + because(by)), keepers(std::move(by)) {}
     std::vector<keeper> keepers;
@@ -632,7 +632,12 @@ struct core {
     void holds(std::uint32_t job) {
         if (seats[job].since) return;
         seats[job].since = seat::clock::now();
-        if (seats[job].limit) each(waiting, [this](std::uint32_t other) { seats[other].woken.notify_one(); });
+        if (seats[job].limit) rouse();
+    }
+
+    // Those that wait reckon anew how long they sleep.
+    void rouse() {
+        each(waiting, [this](std::uint32_t job) { seats[job].woken.notify_one(); });
     }
 
     // Whether a job has asked, and its session isn't begun yet.
@@ -899,6 +904,7 @@ class desk {
         me.how = detail::asked::waits;
         me.limit = limit_;
         if (patience_ && !me.asked_at) me.asked_at = clock::now();
+        if (me.limit && me.since) core_->rouse();
         core_->left &= ~bit;
         core_->waiting |= bit;
         core_->settle();

@@ -83,8 +83,8 @@ pub enum Error {
     NoMemory,
     /// The file can't be read.
     Unread(String),
-    /// The time limit passed. The session keeps its place in the line, and may come to its instruments meanwhile: begin again, or
-    /// [`Desk::give_up`].
+    /// The time limit passed. The session keeps its place, and may come to its instruments meanwhile if it stands in line: begin again, or
+    /// [`Desk::give_up`]. The text says first for whom it waits in the end: those are the ones to look after.
     TimedOut(Vec<Keeper>),
     /// The session was given up, because its patience ran out. The next [`Desk::begin`] is about the one after it.
     Withdrawn,
@@ -443,10 +443,15 @@ impl Inner {
             if seat.since.is_none() {
                 seat.since = Some(Instant::now());
                 if seat.limit.is_some() {
-                    members(core.waiting).for_each(|other| self.woken[other as usize].notify_one());
+                    self.rouse(core);
                 }
             }
         }
+    }
+
+    /// Those that wait reckon anew how long they sleep.
+    fn rouse(&self, core: &Core) {
+        members(core.waiting).for_each(|job| self.woken[job as usize].notify_one());
     }
 
     /// Counts a settle of those that waited outside the line, where the bench itself counts none, and gives up whose patience is used up.
@@ -857,6 +862,9 @@ impl Desk {
         let Some(&what) = seat.sessions.get(number as usize - 1) else { return Ok(None) };
         (seat.now, seat.last, seat.came, seat.limit) = (number, number, Came::Waits, self.limit);
         let gives_up = self.patience.and_then(|it| seat.asked.get_or_insert_with(Instant::now).checked_add(it));
+        if seat.limit.is_some() && seat.since.is_some() {
+            inner.rouse(&core);
+        }
         core.left &= !bit;
         core.waiting |= bit;
         inner.settle(&mut core)?;
