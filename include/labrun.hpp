@@ -661,11 +661,14 @@ struct core {
     bool give_up(std::uint32_t job) {
         seat &it = seats[job];
         const bool may = it.is_patient();
-        // (so that it is over, and not only asked for no longer, it begins first; a meal may have to end before)
-        for (int tries = 0; may && tries < 8 && is_outside(job); tries++) {
-            lab_turned turned{};
-            lab_turn(&handle, job, &turned);
-            told();
+        if (may && is_outside(job)) {
+            // (so that it is over, and not only asked for no longer, it leaves its place and begins; a meal may have to end before)
+            lab_withdraw(&handle, job);
+            for (int tries = 0; tries < 8 && !state(job).drinking; tries++) {
+                lab_turned turned{};
+                lab_turn(&handle, job, &turned);
+                told();
+            }
         }
         const bool is_gone = lab_withdraw(&handle, job) == 0;
         told();

@@ -537,18 +537,20 @@ impl Inner {
     /// Gives up the session that a job asked for; whether it was withdrawn.
     fn give_up(&self, core: &mut Core, job: u32) -> Result<bool, Error> {
         let may = core.seats[job as usize].patience().is_some();
+        // SAFETY: the handle is open, and the mutex is held; so below.
+        let withdraw = |core: &mut Core| unsafe { ffi::lab_withdraw(&mut core.handle, job) == 0 };
         if may && core.is_outside(job) {
-            // (so that it is over, and not only asked for no longer, it begins first; a meal may have to end before)
+            // (so that it is over, and not only asked for no longer, it leaves its place and begins; a meal may have to end before)
+            withdraw(core);
             for _ in 0..8 {
                 if core.state(job).drinking == TRANQUIL {
                     let mut turned = ffi::Turned::default();
-                    // SAFETY: the handle is open, and the mutex is held; so below.
                     unsafe { ffi::lab_turn(&mut core.handle, job, &mut turned) };
                     self.told(core)?;
                 }
             }
         }
-        let gone = unsafe { ffi::lab_withdraw(&mut core.handle, job) } == 0;
+        let gone = withdraw(core);
         self.told(core)?;
         if gone && may {
             self.comes_to(core, job, Came::Withdrawn);
