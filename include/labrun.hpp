@@ -163,7 +163,7 @@ struct report {
 };
 
 // By how many sessions one is passed at most before it stands in line, unless said otherwise.
-inline constexpr std::uint32_t OVERTAKES = 16;
+inline constexpr std::uint32_t OVERTAKES = 64;
 
 namespace detail {
 
@@ -807,6 +807,13 @@ class session {
     // Whether it held before this process asked for it, by the journal; and how many of its commands are done.
     bool resumed() const { return resumed_; }
     std::uint32_t done() const { return done_; }
+
+    // Whether it still holds: no if it was taken away. (Its owner is told by the next call, even if it asked this.)
+    bool is_held() const {
+        if (!core_ || is_gone_ || !core_->is_here()) return false;
+        std::lock_guard<std::mutex> guard(core_->mutex);
+        return !core_->is_closed && core_->seats[job_].in == number_;
+    }
 
     // The names of the instruments that it holds.
     std::vector<std::string> instruments() const {

@@ -3,7 +3,7 @@
      cc -O2 -pthread -I include bench/broker/soak.c FOLDER/liblabrun.a -o soak
      ./soak SESSIONS [THREADS [OVERTAKES]]
                                    by so many threads (32) on 20 instruments, each session of one to three of them, bench after bench until
-                                   so many are done; OVERTAKES (16) is for lab_overtakes. Whoever holds goes to its instruments one by one, and
+                                   so many are done; OVERTAKES (64) is for lab_overtakes. Whoever holds goes to its instruments one by one, and
                                    each refuses whoever comes while another is there. The status is 0 if nobody was refused and each bench
                                    came to its end
      ./soak opens TIMES            a bench is opened, used and freed so often, with 64 MiB of memory to spare after the first */
@@ -24,7 +24,7 @@
 static struct lab_bench bench;
 static pthread_mutex_t mutex = PTHREAD_MUTEX_INITIALIZER;
 static pthread_cond_t came[MOST];
-static uint32_t waiting, overtakes = 16;
+static uint32_t waiting, overtakes = 64;
 static atomic_int clients[INSTRUMENTS]; /* at each instrument now */
 static atomic_long refused, talks, done;
 

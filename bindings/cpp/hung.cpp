@@ -119,7 +119,8 @@ static void taken_away() {
     expect("no such job", throws<labrun::error>([&] { bench.take_away("rodeo"); }));
     std::thread waits([&] { bench.desks()[1].begin(); });
     until([&] { return !bench.waits_for("board").empty(); });
-    expect("taken", bench.take_away("radio"));
+    expect("held", hangs->is_held());
+    expect("taken", bench.take_away("radio") && !hangs->is_held());
     waits.join();
     expect("nothing more", !bench.take_away("radio"));
     expect("command", throws<labrun::taken_away>([&] { hangs->command(); }));

@@ -9,7 +9,7 @@
      ./broker --how sorted [SCRIPT]                the same locks, all taken in one order
      ./broker --threads N --seconds S              a load test: N stations (2 to 32) on six instruments, for S seconds (1 to 3600), no pause
      ./broker --threads N --sessions M             the same until M sessions are done, or a few more
-     ./broker --overtakes N ..                     by how many sessions a station may be passed before it stands in line (lab_overtakes); 16
+     ./broker --overtakes N ..                     by how many sessions a station may be passed before it stands in line (lab_overtakes); 64
 
    Each instrument is a small server on 127.0.0.1 that speaks a line at a time (*IDN?, CONF N, ADD N, MEAS?, BYE). It refuses a second
    client while one talks to it, and counts that: so a broker that lets two stations at one instrument is seen from outside. The
@@ -251,7 +251,7 @@ static pthread_mutex_t locks[MOST_INSTRUMENTS];
 static int holder[MOST_INSTRUMENTS]; /* by locks: who holds it, for the message alone; -1 if nobody */
 static enum how how = BY_BENCH;
 static struct journal journal;
-static uint32_t overtakes = 16;
+static uint32_t overtakes = 64;
 static const char *journal_path;
 static int has_journal, is_resumed;
 static int is_load, gave_up;

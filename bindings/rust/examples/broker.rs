@@ -2,7 +2,7 @@
 //!
 //! usage: cargo run --release --example broker -- FOLDER        FOLDER is examples/broker; python3 runs its instruments
 //!        ... broker -- FOLDER --threads N --sessions M         M short sessions, or a few more, by N stations (1 to 32)
-//!        ... --overtakes N                                     by how many sessions a station may be passed before it stands in line; 16
+//!        ... --overtakes N                                     by how many sessions a station may be passed before it stands in line; 64
 use labrun::{Bench, Desk, Options, Report, Session};
 use std::collections::HashMap;
 use std::error::Error;

@@ -937,6 +937,12 @@ impl Session<'_> {
         self.resumed
     }
 
+    /// Whether it still holds: no if it was taken away. (Its owner is told by the next call, even if it asked this.)
+    pub fn is_held(&self) -> bool {
+        let seat = |core: MutexGuard<'_, Core>| core.seats[self.desk.job as usize].now == self.number;
+        !self.gone && self.desk.inner.open().is_ok_and(seat)
+    }
+
     /// How many of its commands are done.
     pub fn done(&self) -> u32 {
         self.done

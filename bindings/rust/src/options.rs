@@ -18,7 +18,7 @@ pub struct Options {
 
 impl Options {
     /// By how many sessions one is passed at most, unless said otherwise.
-    pub const OVERTAKES: u32 = 16;
+    pub const OVERTAKES: u32 = 64;
 
     /// Without a journal, and with [`Options::OVERTAKES`].
     pub fn new() -> Options {

@@ -138,8 +138,10 @@ fn taken_away() {
     thread::scope(|threads| {
         threads.spawn(|| drop(board.begin().unwrap().unwrap()));
         until(|| !bench.waits_for("board").unwrap().is_empty());
+        assert!(hangs.is_held());
         assert_eq!(bench.take_away("radio"), Ok(true));
     });
+    assert!(!hangs.is_held());
     assert_eq!(bench.take_away("radio"), Ok(false));
     assert_eq!(hangs.command(), Err(Error::TakenAway));
     assert_eq!(hangs.note("4.998 V"), Err(Error::TakenAway));
