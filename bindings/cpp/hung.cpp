@@ -3,6 +3,7 @@
 #include <atomic>
 #include <functional>
 #include <iostream>
+#include <random>
 #include <thread>
 
 using namespace std::chrono_literals;
@@ -242,6 +243,77 @@ static void with_a_journal(const std::string &path) {
     expect("finished", bench.close().finished);
 }
 
+// Jobs of 20 sessions, some of which have a patience, long or short.
+static std::string script_by_chance(std::mt19937 &chance, unsigned jobs) {
+    const unsigned instruments = 2 + chance() % 5;
+    std::string script = "lab 2\n";
+    for (unsigned job = 0; job < jobs; job++) {
+        script += "job j-" + std::to_string(job) + "\n";
+        for (int number = 0; number < 20; number++) {
+            static const char *const heads[] = {"session\n", "session patience 999999\n", "session patience 3\n"};
+            script += heads[chance() % 3];
+            for (unsigned left = 1 + chance() % 3; left; left--) script += "i-" + std::to_string(chance() % instruments) + " add 1\n";
+            script += "end\n";
+        }
+    }
+    return script;
+}
+
+// The sessions of a desk, with limits, patience and time-outs by chance. How often it was told that one was taken away.
+static std::size_t drive_by_chance(labrun::desk &desk, unsigned seed) {
+    std::mt19937 chance(seed);
+    const auto micros = [&](unsigned below) { return std::chrono::microseconds(chance() % below); };
+    for (std::size_t told = 0;;) {
+        desk.limit(chance() % 2 ? labrun::desk::span(micros(1000)) : std::nullopt);
+        desk.patience(chance() % 2 ? labrun::desk::span(micros(3000)) : std::nullopt);
+        try {
+            auto session = chance() % 2 ? desk.begin() : desk.begin(std::chrono::milliseconds(chance() % 3));
+            if (!session) return told;
+            if (chance() % 2) session->command();
+            std::this_thread::sleep_for(micros(1500));
+            if (chance() % 2) session->finish();
+        } catch (const labrun::timed_out &) {
+            if (chance() % 4 == 0) desk.give_up();
+        } catch (const labrun::taken_away &) {
+            told++;
+        } catch (const labrun::withdrawn &) {
+        }
+    }
+}
+
+// Limits, patience, time-outs, and one who takes away, all at once: everybody comes to the end of its sessions.
+static void all_at_once(const std::string &path) {
+    for (unsigned seed = 0; seed < 10; seed++) {
+        std::mt19937 chance(seed);
+        const unsigned jobs = 2 + chance() % 7;
+        const std::string script = script_by_chance(chance, jobs);
+        const std::uint32_t overtakes[] = {0, 1, 4, 64, UINT32_MAX};
+        std::remove(path.c_str());
+        labrun::report report;
+        std::atomic<std::size_t> told{0};
+        {
+            labrun::bench bench(script, path, labrun::sync::none, overtakes[seed % 5]);
+            std::atomic<unsigned> back{0};
+            std::vector<std::thread> threads;
+            for (labrun::desk &desk : bench.desks())
+                threads.emplace_back([&, own = seed * 100 + static_cast<unsigned>(threads.size())] {
+                    told += drive_by_chance(desk, own);
+                    back++;
+                });
+            while (back < jobs) {
+                const std::string job = "j-" + std::to_string(chance() % jobs);
+                bench.take_away(job);
+                bench.waits_for(job);
+                std::this_thread::sleep_for(1ms);
+            }
+            for (std::thread &thread : threads) thread.join();
+            report = bench.close();
+        }
+        expect("all at once", report.finished && told <= report.taken.size());
+        expect("its journal", labrun::bench(script, path).close().text == report.text);
+    }
+}
+
 int main(int, char **words) {
     the_convoy_goes_on();
     who_is_before_it();
@@ -253,6 +325,7 @@ int main(int, char **words) {
     patience_in_seconds();
     left_outside();
     with_a_journal(std::string(words[1]) + "/hung.journal");
+    all_at_once(std::string(words[1]) + "/all.journal");
     std::cout << passed << " passed, " << failed << " failed\n";
     return failed != 0;
 }

@@ -301,3 +301,87 @@ fn with_a_journal() {
     assert!(report.finished && report.taken.is_empty());
     std::fs::remove_file(file).unwrap();
 }
+
+/// Numbers below a limit, by chance.
+fn chance(seed: u64) -> impl FnMut(u32) -> u32 {
+    let mut state = seed * 2 + 1;
+    move |limit| {
+        state = state.wrapping_mul(6364136223846793005).wrapping_add(1442695040888963407);
+        (state >> 33) as u32 % limit
+    }
+}
+
+/// Jobs of 20 sessions, some of which have a patience, long or short.
+fn script_by_chance(below: &mut impl FnMut(u32) -> u32, jobs: u32) -> String {
+    let instruments = 2 + below(5);
+    let mut script = "lab 2\n".to_string();
+    for job in 0..jobs {
+        script += &format!("job j-{job}\n");
+        for _ in 0..20 {
+            script += ["session\n", "session patience 999999\n", "session patience 3\n"][below(3) as usize];
+            for _ in 0..=below(3) {
+                script += &format!("i-{} add 1\n", below(instruments));
+            }
+            script += "end\n";
+        }
+    }
+    script
+}
+
+/// The sessions of a desk, with limits, patience and time-outs by chance. How often it was told that one was taken away.
+fn drive_by_chance(mut desk: Desk, mut below: impl FnMut(u32) -> u32) -> usize {
+    let mut told = 0;
+    loop {
+        let micros = |below: u32| Duration::from_micros(below.into());
+        desk.set_limit((below(2) == 0).then(|| micros(below(1000))));
+        desk.set_patience((below(2) == 0).then(|| micros(below(3000))));
+        let span = micros(below(2000));
+        let gives_up = match if below(2) == 0 { desk.begin() } else { desk.begin_within(span) } {
+            Ok(Some(mut session)) => {
+                let _ = session.command();
+                thread::sleep(micros(below(1500)));
+                told += usize::from(session.finish() == Err(Error::TakenAway));
+                false
+            }
+            Ok(None) => return told,
+            Err(Error::TakenAway) => {
+                told += 1;
+                false
+            }
+            Err(Error::TimedOut(_)) => below(4) == 0,
+            Err(Error::Withdrawn) => false,
+            Err(fault) => panic!("{fault}"),
+        };
+        if gives_up {
+            desk.give_up();
+        }
+    }
+}
+
+/// Limits, patience, time-outs, and one who takes away, all at once: everybody comes to the end of its sessions.
+#[test]
+fn all_at_once() {
+    let file = std::env::temp_dir().join(format!("labrun-{}-all", std::process::id()));
+    for seed in 0..10 {
+        let mut below = chance(seed);
+        let jobs = 2 + below(7);
+        let script = script_by_chance(&mut below, jobs);
+        let options = Options::new().overtakes([0, 1, 4, 64, u32::MAX][seed as usize % 5]).journal(&file, SyncTo::Memory);
+        let (bench, desks) = options.from_text(script.as_bytes()).unwrap();
+        let told: usize = thread::scope(|threads| {
+            let each: Vec<_> =
+                (100..).zip(desks).map(|(at, desk)| threads.spawn(move || drive_by_chance(desk, chance(seed * 100 + at)))).collect();
+            while each.iter().any(|it| !it.is_finished()) {
+                let job = format!("j-{}", below(jobs));
+                bench.take_away(&job).unwrap();
+                bench.waits_for(&job).unwrap();
+                thread::sleep(Duration::from_millis(1));
+            }
+            each.into_iter().map(|it| it.join().unwrap()).sum()
+        });
+        let report = bench.close().unwrap();
+        assert!(report.finished && told <= report.taken.len(), "{}", report.text);
+        assert_eq!(options.from_text(script.as_bytes()).unwrap().0.close().unwrap().text, report.text);
+        std::fs::remove_file(&file).unwrap();
+    }
+}
