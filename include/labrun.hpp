@@ -19,6 +19,7 @@
 #ifndef LABRUN_HPP
 #define LABRUN_HPP
 #include "labrun.h"
+#include <algorithm>
 #include <atomic>
 #include <cerrno>
 #include <chrono>
@@ -66,6 +67,12 @@ struct withdrawn : error {
     withdrawn() : error("the session was withdrawn") {}
 };
 
+// The session was ended for its owner, by take_away() or because it had held for longer than it may (desk::limit): its instruments are somebody
+// else's by now. It is told once; the next begin() is about the session after it.
+struct taken_away : error {
+    taken_away() : error("the session was taken away") {}
+};
+
 // The bench is closed.
 struct closed : error {
     closed() : error("the bench is closed") {}
@@ -87,38 +94,76 @@ struct journal_error : error {
 // Where a journal is before a call returns: on the disk, or in the system's memory, which outlives the process and not the machine.
 enum class sync { data, none };
 
-// A job that keeps an instrument from a waiting session: it holds it, or, where nobody does, it waits itself and comes first. Then `behind` is
-// why: the keeper that it waits for, whose own is the next, and the last of them holds.
+// A job that keeps an instrument from a waiting session: it holds it, and `held_for` says for how long; or, where nobody does, it waits itself
+// and comes first. Then `behind` is why: the keeper that it waits for, whose own is the next, and the last of them holds. `passed` is there if
+// the waiting session isn't in line yet: by how many sessions the other was passed before it came to stand there.
 struct keeper {
     std::string instrument, job;
-    bool holds;
+    bool holds = false;
+    std::chrono::duration<double> held_for{};
+    std::optional<std::uint32_t> passed;
     std::shared_ptr<const keeper> behind;
+
+    // The end of the chain: who holds.
+    const keeper &end() const { return behind ? behind->end() : *this; }
+
+    // In words: `held`; `in line before you`; or, to one that isn't in line yet, `kept for board, passed 16 times`.
+    std::string why() const {
+        if (holds) return "held";
+        return passed ? "kept for " + job + ", passed " + std::to_string(*passed) + " times" : "in line before you";
+    }
+
+    // supply is kept for board, which waits for scope, held by radio for 125 s
+    std::string text() const {
+        std::string all = instrument + " is ";
+        for (const keeper *it = this;; it = it->behind.get()) {
+            all += (it->holds ? "held by " : "kept for ") + it->job + it->for_long();
+            if (!it->behind) return all;
+            all += ", which waits for " + it->behind->instrument + ", ";
+        }
+    }
+
+    // As ` for 125 s`, of one that holds; with one decimal below ten seconds.
+    std::string for_long() const {
+        char told[40] = "";
+        if (holds) std::snprintf(told, sizeof told, " for %.*f s", held_for.count() < 10 ? 1 : 0, held_for.count());
+        return told;
+    }
 };
 
-// The time limit passed. The session keeps its place in the line, and may come to its instruments meanwhile: begin again, or give_up().
+// The time limit passed. The session keeps its place, and may come to its instruments meanwhile if it stands in line: begin again, or give_up().
+// It says first for whom it waits in the end: those are the ones to look after.
 struct timed_out : error {
-    explicit timed_out(std::vector<keeper> by) : error("still waits" + named(by)), keepers(std::move(by)) {}
+    explicit timed_out(std::vector<keeper> by) : error("still waits" + because(by)), keepers(std::move(by)) {}
     std::vector<keeper> keepers;
 
   private:
-    static std::string named(const std::vector<keeper> &by) {
-        std::string text;
+    static std::string because(const std::vector<keeper> &by) {
+        std::vector<std::string> ends;
+        std::string all, last;
+        bool is_chain = false;
         for (const keeper &it : by) {
-            text += ", " + it.instrument + (it.holds ? " is held by " : " is kept by ") + it.job;
-            for (const keeper *why = it.behind.get(); why; why = why->behind.get())
-                text += ", which waits for " + why->instrument + (why->holds ? ", held by " : ", kept by ") + why->job;
+            all += (all.empty() ? "" : ", ") + it.text();
+            is_chain = is_chain || it.behind;
+            const std::string end = it.end().job + ", at " + it.end().instrument + it.end().for_long();
+            if (std::find(ends.begin(), ends.end(), end) == ends.end()) ends.push_back(end);
         }
-        return text;
+        for (const std::string &end : ends) last += (last.empty() ? " for " : " and ") + end;
+        return (is_chain ? last : "") + ": " + (all.empty() ? "it holds by now, or is over" : all);
     }
 };
 
 // A report: whether every job is retired, and the text as labrun prints it. `lapsed` has the sessions, by job and number, that were given up
-// without a patience and whose turn came: their commands are in the logs, and nobody did their work.
+// without a patience and whose turn came: their commands are in the logs, and nobody did their work. `taken` has those that were taken away from
+// their owners: their commands are in the logs, and their work may not be done.
 struct report {
     bool finished;
     std::string text;
-    std::vector<std::pair<std::string, std::uint32_t>> lapsed;
+    std::vector<std::pair<std::string, std::uint32_t>> lapsed, taken;
 };
+
+// By how many sessions one is passed at most before it stands in line, unless said otherwise.
+inline constexpr std::uint32_t OVERTAKES = 64;
 
 namespace detail {
 
@@ -138,7 +183,7 @@ template <class Call> report told_text(Call call) {
         if (status == 6) {
             room.resize(told.written);
         } else if (status == 0 || status == 3) {
-            return {status == 0, std::string(room.begin(), room.begin() + static_cast<std::ptrdiff_t>(told.written)), {}};
+            return {status == 0, std::string(room.begin(), room.begin() + static_cast<std::ptrdiff_t>(told.written)), {}, {}};
         } else {
             fail(status, told);
         }
@@ -171,7 +216,43 @@ struct seat {
     asked how = asked::waits;
     std::uint32_t held = 0, done = 0; // a session that held before it was asked for, by a journal, and how many of its commands are done
     std::exception_ptr fault;         // why a session that went could not let go
+    using clock = std::chrono::steady_clock;
+    std::optional<clock::time_point> asked_at, since; // when the session was asked for, and since when it holds
+    std::optional<clock::duration> limit;             // for how long it may
+    std::uint32_t outside = 0;                        // in how many settles it waited outside the line
+    bool is_old = false;                              // it comes from a journal: then it was in line
+    std::uint32_t taken = 0;                          // a session that was taken away, of which its owner doesn't know yet, or 0
     std::condition_variable woken;
+
+    // The job is in no session any more; the number of the one that it was in.
+    std::uint32_t leaves() {
+        asked_at = since = std::nullopt;
+        held = outside = 0;
+        is_old = false;
+        return std::exchange(in, 0);
+    }
+
+    // The session that it is in, or none.
+    const lab_session *what() const { return in ? &sessions[in - 1] : nullptr; }
+    std::uint64_t needs() const { return in ? what()->needs : 0; }
+    bool is_patient() const { return in && what()->has_patience; }
+
+    // When it has held for as long as it may.
+    std::optional<clock::time_point> ends() const { return since ? later(*since, limit) : std::nullopt; }
+
+    static std::optional<clock::time_point> later(clock::time_point from, std::optional<clock::duration> span) {
+        if (!span) return std::nullopt;
+        return *span > clock::time_point::max() - from ? clock::time_point::max() : from + *span;
+    }
+
+    // Whether its owner still holds this session. That it was taken away is told once.
+    void is_held_yet(std::uint32_t number, bool &gone) {
+        if (taken == number) {
+            taken = 0;
+            gone = true;
+        }
+        if (gone) throw taken_away();
+    }
 };
 
 // The journal of a bench: its script, a line `steps`, and what each call did. What a call did is added with the bench's mutex held, so in the
@@ -441,7 +522,8 @@ struct core {
     std::deque<seat> seats;
     std::chrono::steady_clock::time_point ticked;
     std::uint32_t waiting = 0, left = 0; // the jobs whose threads wait, and those whose sessions were given up and can't be withdrawn
-    std::vector<std::pair<std::string, std::uint32_t>> lapsed;
+    std::uint32_t overtakes = OVERTAKES;
+    std::vector<std::pair<std::string, std::uint32_t>> lapsed, taken;
 
     core() = default;
     core(const core &) = delete;
@@ -482,11 +564,15 @@ struct core {
             const struct lab_state found = state(job);
             const bool holds = found.drinking == 2 || found.drinking == 3;
             seat &it = seats[job];
+            it.leaves();
             it.last = found.session;
             it.in = holds || found.drinking == 1 ? found.session : 0;
             it.held = holds ? found.session : 0;
             it.done = found.position;
+            if (holds) it.since = seat::clock::now();
+            it.is_old = it.in;
         }
+        lab_overtakes(&handle, overtakes); // (no journal has this number)
     }
 
     // A write failed: the bench is as the file has it, and whoever waits is told so. No if that can't be had: it is closed then.
@@ -502,16 +588,21 @@ struct core {
         comes_back();
         for (std::uint32_t job = 0; job < seats.size(); job++) {
             seat &it = seats[job];
-            for (std::size_t at = lapsed.size(); at-- > 0;)
-                if (lapsed[at].first == jobs[job] && lapsed[at].second == it.in) {
-                    lapsed.erase(lapsed.begin() + static_cast<std::ptrdiff_t>(at));
-                    left |= bit(job);
-                }
+            if (undone(lapsed, job)) left |= bit(job);
+            if (undone(taken, job)) it.taken = 0;
             if (!it.in) left &= ~bit(job);
             it.how = asked::failed;
             it.woken.notify_one();
         }
         waiting = 0;
+        return true;
+    }
+
+    // Whether the session that the job is in stood there; it doesn't any more.
+    bool undone(std::vector<std::pair<std::string, std::uint32_t>> &told, std::uint32_t job) {
+        const auto at = std::find(told.begin(), told.end(), std::make_pair(jobs[job], seats[job].in));
+        if (at == told.end()) return false;
+        told.erase(at);
         return true;
     }
 
@@ -532,9 +623,95 @@ struct core {
     void comes_to(std::uint32_t job, asked how) {
         seat &it = seats[job];
         it.how = how;
-        if (how == asked::withdrawn) it.in = 0;
+        if (how == asked::withdrawn) it.leaves();
         waiting &= ~bit(job);
         it.woken.notify_one();
+    }
+
+    // One that came to hold does so from now on. Whoever waits for one that may hold for so long only is to know.
+    void holds(std::uint32_t job) {
+        if (seats[job].since) return;
+        seats[job].since = seat::clock::now();
+        if (seats[job].limit) rouse();
+    }
+
+    // Those that wait reckon anew how long they sleep.
+    void rouse() {
+        each(waiting, [this](std::uint32_t job) { seats[job].woken.notify_one(); });
+    }
+
+    // Whether a job has asked, and its session isn't begun yet.
+    bool is_outside(std::uint32_t job) {
+        struct lab_outside found {};
+        ::lab_outside(&handle, job, &found);
+        return found.is_outside;
+    }
+
+    // Counts a settle of those that waited outside the line, where the bench itself counts none, and gives up whose patience is used up.
+    bool wait_outside() {
+        bool is_gone = false;
+        each(waiting, [&](std::uint32_t job) {
+            seat &it = seats[job];
+            if (it.is_patient() && is_outside(job) && ++it.outside > it.what()->patience) is_gone = give_up(job) || is_gone;
+        });
+        return is_gone;
+    }
+
+    // Gives up the session that a job asked for; whether it was withdrawn.
+    bool give_up(std::uint32_t job) {
+        seat &it = seats[job];
+        const bool may = it.is_patient();
+        if (may && is_outside(job)) {
+            // (so that it is over, and not only asked for no longer, it leaves its place and begins; a meal may have to end before)
+            lab_withdraw(&handle, job);
+            for (int tries = 0; tries < 8 && !state(job).drinking; tries++) {
+                lab_turned turned{};
+                lab_turn(&handle, job, &turned);
+                told();
+            }
+        }
+        const bool is_gone = lab_withdraw(&handle, job) == 0;
+        told();
+        if (is_gone && may) comes_to(job, asked::withdrawn);
+        else if (is_gone) it.last = it.leaves() - 1; // it wasn't begun, and is the next again
+        else left |= bit(job);
+        return is_gone && may;
+    }
+
+    // Ends the session that a job holds, for its owner, who learns of it by its next call.
+    void take(std::uint32_t job) {
+        lab_turned turned{};
+        lab_end(&handle, job, &turned);
+        seats[job].taken = seats[job].leaves();
+        left &= ~bit(job);
+        taken.emplace_back(jobs[job], seats[job].taken);
+        told();
+    }
+
+    // Takes away what has been held for too long, if somebody waits for an instrument of it.
+    void take_overdue() {
+        const seat::clock::time_point now = seat::clock::now();
+        bool is_any = false;
+        for (std::uint32_t job = 0; job < seats.size(); job++) {
+            const std::optional<seat::clock::time_point> ends = seats[job].ends();
+            if (!ends || *ends > now) continue;
+            std::uint64_t wanted = 0;
+            for (std::uint32_t other = 0; other < seats.size(); other++) wanted |= other == job ? 0 : seats[other].needs();
+            if (!(wanted & seats[job].needs())) continue;
+            take(job);
+            is_any = true;
+        }
+        if (is_any) settle();
+    }
+
+    // When the first of those that hold has held for as long as it may.
+    std::optional<seat::clock::time_point> limit_ends() const {
+        std::optional<seat::clock::time_point> first;
+        for (const seat &it : seats) first = earlier(first, it.ends());
+        return first;
+    }
+    static std::optional<seat::clock::time_point> earlier(std::optional<seat::clock::time_point> one, std::optional<seat::clock::time_point> other) {
+        return one && other ? std::min(one, other) : one ? one : other;
     }
 
     // All that can be done is done, and those are woken whom that concerns. If somebody waits, those that were left and hold let go.
@@ -545,6 +722,8 @@ struct core {
             told();
             each(came.given_up, [this](std::uint32_t job) { comes_to(job, asked::withdrawn); });
             each(came.holds & waiting, [this](std::uint32_t job) { comes_to(job, asked::holds); });
+            each(came.holds, [this](std::uint32_t job) { holds(job); });
+            if (wait_outside()) continue;
             const std::uint32_t letting_go = waiting ? came.holds & left : 0;
             if (!letting_go) return;
             each(letting_go, [this](std::uint32_t job) {
@@ -552,7 +731,7 @@ struct core {
                 lab_end(&handle, job, &turned);
                 told();
                 left &= ~bit(job);
-                lapsed.emplace_back(jobs[job], std::exchange(seats[job].in, 0));
+                lapsed.emplace_back(jobs[job], seats[job].leaves());
             });
         }
     }
@@ -564,14 +743,26 @@ struct core {
         return kept;
     }
 
+    keeper holder(std::uint32_t at, std::uint32_t job) {
+        const seat::clock::time_point now = seat::clock::now();
+        return {instruments[at], jobs[job], true, now - seats[job].since.value_or(now), std::nullopt, nullptr};
+    }
+
+    // Those come first whose chain ends at who has held longest.
     std::vector<keeper> keepers(std::uint32_t job) {
         std::vector<keeper> found;
+        // (who is in line and doesn't hold, was let in because it had been passed as often as may be)
+        const std::optional<std::uint32_t> passed = is_outside(job) ? std::optional(overtakes) : std::nullopt;
         for (std::uint32_t at = 0; at < instruments.size(); at++) {
             const struct lab_keepers it = kept(job, at);
             each(it.holding ? it.holding : it.jobs, [&](std::uint32_t other) {
-                found.push_back({instruments[at], jobs[other], it.holding != 0, it.holding ? nullptr : behind(other, it.jobs | bit(job))});
+                if (it.holding) found.push_back(holder(at, other));
+                else
+                    found.push_back({instruments[at], jobs[other], false, {}, seats[other].is_old ? std::nullopt : passed,
+                                     behind(other, it.jobs | bit(job))});
             });
         }
+        std::stable_sort(found.begin(), found.end(), [](const keeper &one, const keeper &other) { return one.end().held_for > other.end().held_for; });
         return found;
     }
 
@@ -579,11 +770,11 @@ struct core {
     std::shared_ptr<const keeper> behind(std::uint32_t job, std::uint32_t seen) {
         seen |= bit(job);
         for (std::uint32_t at = 0; at < instruments.size(); at++)
-            if (const std::uint32_t holding = kept(job, at).holding)
-                return std::make_shared<const keeper>(keeper{instruments[at], jobs[lowest(holding)], true, nullptr});
+            if (const std::uint32_t holding = kept(job, at).holding) return std::make_shared<const keeper>(holder(at, lowest(holding)));
         for (std::uint32_t at = 0; at < instruments.size(); at++)
             if (const std::uint32_t others = kept(job, at).jobs & ~seen)
-                return std::make_shared<const keeper>(keeper{instruments[at], jobs[lowest(others)], false, behind(lowest(others), seen)});
+                return std::make_shared<const keeper>(
+                    keeper{instruments[at], jobs[lowest(others)], false, {}, std::nullopt, behind(lowest(others), seen)});
         return nullptr;
     }
 };
@@ -598,10 +789,11 @@ class session {
   public:
     session(session &&other) noexcept
         : core_(std::exchange(other.core_, nullptr)), job_(other.job_), number_(other.number_), needs_(other.needs_), done_(other.done_),
-          resumed_(other.resumed_) {}
+          resumed_(other.resumed_), is_gone_(other.is_gone_) {}
     session &operator=(session &&) = delete;
     ~session() {
         detail::core *core = core_;
+        if (is_gone_) return;
         try {
             finish();
         } catch (...) {
@@ -615,6 +807,13 @@ class session {
     // Whether it held before this process asked for it, by the journal; and how many of its commands are done.
     bool resumed() const { return resumed_; }
     std::uint32_t done() const { return done_; }
+
+    // Whether it still holds: no if it was taken away. (Its owner is told by the next call, even if it asked this.)
+    bool is_held() const {
+        if (!core_ || is_gone_ || !core_->is_here()) return false;
+        std::lock_guard<std::mutex> guard(core_->mutex);
+        return !core_->is_closed && core_->seats[job_].in == number_;
+    }
 
     // The names of the instruments that it holds.
     std::vector<std::string> instruments() const {
@@ -630,6 +829,7 @@ class session {
         core_->belongs_here();
         std::unique_lock<std::mutex> guard(core_->mutex);
         if (core_->is_closed) throw closed();
+        core_->seats[job_].is_held_yet(number_, is_gone_);
         lab_entry entry{};
         if (lab_command(&core_->handle, job_, &entry)) return std::nullopt;
         core_->told();
@@ -646,6 +846,7 @@ class session {
         core_->belongs_here();
         std::unique_lock<std::mutex> guard(core_->mutex);
         if (core_->is_closed) throw closed();
+        core_->seats[job_].is_held_yet(number_, is_gone_);
         if (!core_->log) throw error("the bench has no journal");
         core_->log->note(core_->jobs[job_], number_, said);
         const detail::journal::ticket ticket = core_->ticket();
@@ -658,10 +859,11 @@ class session {
         if (!core_ || !core_->is_here()) return;
         std::unique_lock<std::mutex> guard(core_->mutex);
         if (core_->is_closed) return;
+        core_->seats[job_].is_held_yet(number_, is_gone_);
         lab_turned turned{};
         lab_end(&core_->handle, job_, &turned);
         core_->told();
-        core_->seats[job_].in = core_->seats[job_].held = 0;
+        core_->seats[job_].leaves();
         if (core_->waiting) core_->settle();
         const detail::journal::ticket ticket = core_->ticket();
         guard.unlock();
@@ -678,6 +880,7 @@ class session {
     std::uint64_t needs_;
     std::uint32_t done_;
     bool resumed_;
+    bool is_gone_ = false; // it was taken away, and its owner knows
 };
 
 // What the owner of a job calls, from whatever thread it is on.
@@ -687,42 +890,35 @@ class desk {
 
     const std::string &job() const { return core_->jobs[job_]; }
 
-    // Begins the next session, and blocks until it holds all its instruments; nothing if no session is left. With a limit, timed_out says
+    // For how long each session that is begun from now on may hold; after that it is taken away once somebody waits for it, as by
+    // bench::take_away. And for how long it waits: then it is given up, and withdrawn if it has a patience in the script. (If it has none, it can't
+    // be withdrawn: see give_up(). It timed out then.)
+    using span = std::optional<std::chrono::nanoseconds>;
+    void limit(span most) { limit_ = most; }
+    void patience(span most) { patience_ = most; }
+
+    // Begins the next session, and blocks until it holds all its instruments; nothing if no session is left. With a time-out, timed_out says
     // who keeps it waiting.
-    std::optional<session> begin(std::optional<std::chrono::milliseconds> limit = std::nullopt) {
-        using clock = std::chrono::steady_clock;
-        const clock::time_point until = clock::now() + limit.value_or(std::chrono::milliseconds(0));
+    std::optional<session> begin(std::optional<std::chrono::milliseconds> timeout = std::nullopt) {
+        const std::optional<time> until = detail::seat::later(clock::now(), timeout);
         core_->belongs_here();
         std::unique_lock<std::mutex> guard(core_->mutex);
         if (core_->is_closed) throw closed();
         detail::seat &me = core_->seats[job_];
         if (me.fault) std::rethrow_exception(std::exchange(me.fault, nullptr));
+        if (std::exchange(me.taken, 0)) throw taken_away();
         const std::uint32_t number = me.in ? me.in : me.last + 1, bit = detail::core::bit(job_);
         if (number > me.sessions.size()) return std::nullopt;
         const lab_session what = me.sessions[number - 1];
         me.in = me.last = number;
         me.how = detail::asked::waits;
+        me.limit = limit_;
+        if (patience_ && !me.asked_at) me.asked_at = clock::now();
+        if (me.limit && me.since) core_->rouse();
         core_->left &= ~bit;
         core_->waiting |= bit;
         core_->settle();
-        while (me.how == detail::asked::waits && !core_->is_closed) {
-            if (!limit && !what.has_patience) {
-                me.woken.wait(guard);
-                continue;
-            }
-            // (a patience runs out by the calls of `lab_settle`, so one of those that wait makes one now and then)
-            const clock::time_point tick = clock::now() + std::chrono::milliseconds(100);
-            const bool is_tick = what.has_patience && (!limit || tick < until);
-            if (me.woken.wait_until(guard, is_tick ? tick : until) == std::cv_status::no_timeout || core_->is_closed) continue;
-            if (what.has_patience && clock::now() - core_->ticked >= std::chrono::milliseconds(50)) {
-                core_->ticked = clock::now();
-                core_->settle();
-            }
-            if (limit && me.how == detail::asked::waits && clock::now() >= until) {
-                core_->waiting &= ~bit;
-                throw timed_out(core_->keepers(job_));
-            }
-        }
+        sleep(guard, me, until, detail::seat::later(me.asked_at.value_or(time()), patience_));
         core_->waiting &= ~bit;
         if (me.how == detail::asked::withdrawn) throw withdrawn();
         if (me.how == detail::asked::failed) throw journal_error(core_->log->path(), "a write failed while it waited");
@@ -747,12 +943,7 @@ class desk {
         core_->belongs_here();
         std::unique_lock<std::mutex> guard(core_->mutex);
         if (core_->is_closed || !core_->seats[job_].in) return false;
-        const bool gone = lab_withdraw(&core_->handle, job_) == 0;
-        core_->told();
-        if (gone)
-            core_->comes_to(job_, detail::asked::withdrawn);
-        else
-            core_->left |= detail::core::bit(job_);
+        const bool gone = core_->give_up(job_);
         core_->settle();
         const detail::journal::ticket ticket = core_->ticket();
         guard.unlock();
@@ -761,24 +952,76 @@ class desk {
     }
 
   private:
+    using clock = detail::seat::clock;
+    using time = clock::time_point;
+    static constexpr std::chrono::milliseconds TICK{100};
+
+    // Sleeps until the session has come to something, or one of these times has.
+    void sleep(std::unique_lock<std::mutex> &guard, detail::seat &me, std::optional<time> until, std::optional<time> gives_up) {
+        // (a patience runs out by the calls of `lab_settle`, so one of those that wait makes one now and then)
+        const bool ticks = me.is_patient();
+        time looked = clock::now();
+        while (me.how == detail::asked::waits && !core_->is_closed) {
+            // (what nobody waits for is not taken away: it is looked at again later)
+            std::optional<time> wakes = core_->limit_ends();
+            if (wakes) wakes = std::max(*wakes, looked);
+            wakes = detail::core::earlier(detail::core::earlier(wakes, until), gives_up);
+            if (ticks) wakes = detail::core::earlier(wakes, clock::now() + TICK);
+            if (!wakes) {
+                me.woken.wait(guard);
+                continue;
+            }
+            if (me.woken.wait_until(guard, *wakes) == std::cv_status::no_timeout || core_->is_closed) continue;
+            look(me, ticks, until, gives_up);
+            looked = clock::now() + TICK;
+        }
+    }
+
+    // What one that waits does at such a time.
+    void look(detail::seat &me, bool ticks, std::optional<time> until, std::optional<time> gives_up) {
+        const time now = clock::now();
+        core_->take_overdue();
+        if (ticks && now - core_->ticked >= TICK / 2) {
+            core_->ticked = now;
+            core_->settle();
+        }
+        if (me.how != detail::asked::waits) return;
+        const bool is_over = gives_up && now >= *gives_up;
+        if (!is_over && !(until && now >= *until)) return;
+        std::vector<keeper> keepers = core_->keepers(job_);
+        core_->waiting &= ~detail::core::bit(job_);
+        if (is_over) {
+            const bool gone = core_->give_up(job_);
+            core_->settle();
+            if (gone) return;
+        }
+        throw timed_out(std::move(keepers));
+    }
+
     detail::core *core_;
     std::uint32_t job_;
+    span limit_, patience_;
 };
 
 // The bench of a script.
 class bench {
   public:
     // The bench of the script in a file. With a journal, the path of a file, all that is done is there before a call returns. If the file is
-    // there, the bench goes on where it ends: what was held is held still, and offered first, with resumed().
-    static bench open(const std::string &path, const std::string &journal = "", labrun::sync how = labrun::sync::data) {
+    // there, the bench goes on where it ends: what was held is held still, and offered first, with resumed(). A session that was asked for
+    // keeps no instrument from anybody until `overtakes` sessions that use one of its instruments have passed it: then it stands in line. 0: it
+    // stands there at once; a large number: whoever finds all its instruments free goes first.
+    static bench open(const std::string &path, const std::string &journal = "", labrun::sync how = labrun::sync::data,
+                      std::uint32_t overtakes = OVERTAKES) {
         std::ifstream file(path, std::ios::binary);
         if (!file) throw error("can't read " + path);
-        return bench(std::string(std::istreambuf_iterator<char>(file), std::istreambuf_iterator<char>()), journal, how);
+        return bench(std::string(std::istreambuf_iterator<char>(file), std::istreambuf_iterator<char>()), journal, how, overtakes);
     }
 
     // The bench of a script in memory, else as open().
-    explicit bench(std::string_view script, const std::string &journal = "", labrun::sync how = labrun::sync::data)
+    explicit bench(std::string_view script, const std::string &journal = "", labrun::sync how = labrun::sync::data,
+                   std::uint32_t overtakes = OVERTAKES)
         : core_(std::make_unique<detail::core>()) {
+        core_->overtakes = overtakes;
         if (journal.empty()) {
             lab_told told{};
             const std::uint32_t status = lab_bench_open(detail::bytes(script), script.size(), &core_->handle, &told);
@@ -809,6 +1052,34 @@ class bench {
     const std::vector<std::string> &jobs() const { return core_->jobs; }
     const std::vector<std::string> &instruments() const { return core_->instruments; }
 
+    // Ends the session that a job holds, from any thread: for a station that hangs, and keeps others waiting. Its commands are logged, though its
+    // work may not be done, and `taken` of the report names it. Its owner's next call throws taken_away; see to it that it stays away from the
+    // instruments until then. No if the job holds nothing.
+    bool take_away(const std::string &job) {
+        const std::uint32_t at = number_of(job);
+        core_->belongs_here();
+        std::unique_lock<std::mutex> guard(core_->mutex);
+        if (core_->is_closed) throw closed();
+        const std::uint32_t drinking = core_->state(at).drinking;
+        if (drinking != 2 && drinking != 3) return false;
+        core_->take(at);
+        if (core_->waiting) core_->settle();
+        const detail::journal::ticket ticket = core_->ticket();
+        guard.unlock();
+        core_->commit(ticket);
+        return true;
+    }
+
+    // Who keeps the session that a job asked for waiting now, from any thread: for each instrument that it lacks who holds it, or who comes first,
+    // and what that one waits for. None if it doesn't wait.
+    std::vector<keeper> waits_for(const std::string &job) {
+        const std::uint32_t at = number_of(job);
+        core_->belongs_here();
+        std::unique_lock<std::mutex> guard(core_->mutex);
+        if (core_->is_closed) throw closed();
+        return core_->seats[at].in ? core_->keepers(at) : std::vector<keeper>();
+    }
+
     // Closes the bench, and gives its report; a second call gives it again. Who calls a desk afterwards gets closed; a session that is held
     // stays unfinished in the report.
     report close() {
@@ -826,10 +1097,17 @@ class bench {
         for (detail::seat &it : core_->seats) it.woken.notify_all();
         report told = detail::told_text([this](auto... given) { return lab_bench_close(&core_->handle, given...); });
         told.lapsed = core_->lapsed;
+        told.taken = core_->taken;
         return told;
     }
 
   private:
+    std::uint32_t number_of(const std::string &job) const {
+        const auto at = std::find(core_->jobs.begin(), core_->jobs.end(), job);
+        if (at == core_->jobs.end()) throw error("there is no job " + job);
+        return static_cast<std::uint32_t>(at - core_->jobs.begin());
+    }
+
     template <class Call> std::string name(Call call, std::uint32_t at) {
         std::uint8_t bytes[16];
         std::size_t written = 0;

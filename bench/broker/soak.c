@@ -1,9 +1,11 @@
 /* Many sessions, at instruments that count a second client, and many opens.
 
      cc -O2 -pthread -I include bench/broker/soak.c FOLDER/liblabrun.a -o soak
-     ./soak SESSIONS [THREADS]     by so many threads (32) on 20 instruments, each session of one to three of them, bench after bench until
-                                   so many are done. Whoever holds goes to its instruments one by one, and each refuses whoever comes while
-                                   another is there. The status is 0 if nobody was refused and each bench came to its end
+     ./soak SESSIONS [THREADS [OVERTAKES]]
+                                   by so many threads (32) on 20 instruments, each session of one to three of them, bench after bench until
+                                   so many are done; OVERTAKES (64) is for lab_overtakes. Whoever holds goes to its instruments one by one, and
+                                   each refuses whoever comes while another is there. The status is 0 if nobody was refused and each bench
+                                   came to its end
      ./soak opens TIMES            a bench is opened, used and freed so often, with 64 MiB of memory to spare after the first */
 #define _GNU_SOURCE
 #include "labrun.h"
@@ -22,7 +24,7 @@
 static struct lab_bench bench;
 static pthread_mutex_t mutex = PTHREAD_MUTEX_INITIALIZER;
 static pthread_cond_t came[MOST];
-static uint32_t waiting;
+static uint32_t waiting, overtakes = 64;
 static atomic_int clients[INSTRUMENTS]; /* at each instrument now */
 static atomic_long refused, talks, done;
 
@@ -103,6 +105,7 @@ static void open_bench(const char *script, size_t length) {
     struct lab_told told;
     uint32_t status = lab_bench_open((const uint8_t *)script, length, &bench, &told);
     if (status != LAB_DONE) stop("lab_bench_open", status);
+    if ((status = lab_overtakes(&bench, overtakes)) != LAB_DONE) stop("lab_overtakes", status);
 }
 
 /* The status of the report. */
@@ -177,6 +180,7 @@ static int opens(long times) {
 int main(int count, char **words) {
     if (count == 3 && strcmp(words[1], "opens") == 0 && atol(words[2]) > 0) return opens(atol(words[2]));
     long sessions = count > 1 ? atol(words[1]) : 0, threads = count > 2 ? atol(words[2]) : MOST;
-    if (sessions < 1 || threads < 2 || threads > MOST) return fputs("soak SESSIONS [THREADS] | soak opens TIMES\n", stderr), 2;
+    if (count > 3) overtakes = (uint32_t)atol(words[3]);
+    if (sessions < 1 || threads < 2 || threads > MOST) return fputs("soak SESSIONS [THREADS [OVERTAKES]] | soak opens TIMES\n", stderr), 2;
     return soak(sessions, (uint32_t)threads);
 }

@@ -9,6 +9,7 @@
      ./broker --how sorted [SCRIPT]                the same locks, all taken in one order
      ./broker --threads N --seconds S              a load test: N stations (2 to 32) on six instruments, for S seconds (1 to 3600), no pause
      ./broker --threads N --sessions M             the same until M sessions are done, or a few more
+     ./broker --overtakes N ..                     by how many sessions a station may be passed before it stands in line (lab_overtakes); 64
 
    Each instrument is a small server on 127.0.0.1 that speaks a line at a time (*IDN?, CONF N, ADD N, MEAS?, BYE). It refuses a second
    client while one talks to it, and counts that: so a broker that lets two stations at one instrument is seen from outside. The
@@ -250,6 +251,7 @@ static pthread_mutex_t locks[MOST_INSTRUMENTS];
 static int holder[MOST_INSTRUMENTS]; /* by locks: who holds it, for the message alone; -1 if nobody */
 static enum how how = BY_BENCH;
 static struct journal journal;
+static uint32_t overtakes = 64;
 static const char *journal_path;
 static int has_journal, is_resumed;
 static int is_load, gave_up;
@@ -323,7 +325,7 @@ static void say_who_keeps(struct station *me) {
         uint32_t those = keepers.holding ? keepers.holding : keepers.jobs;
         for (uint32_t job = 0; those >> job; job++)
             if (those >> job & 1)
-                printf("%s waits for %s, %s by %s\n", me->name, instruments[at].name, keepers.holding ? "held" : "kept", stations[job].name);
+                printf("%s waits for %s, %s %s\n", me->name, instruments[at].name, keepers.holding ? "held by" : "kept for", stations[job].name);
     }
 }
 
@@ -529,6 +531,7 @@ static void open_bench(const char *script) {
         fprintf(stderr, "the script: status %u, line %zu, cause %u\n", status, told.line, told.cause);
         exit((int)status);
     }
+    lab_overtakes(&bench, overtakes); /* (no journal has it) */
     lab_bench_size(&bench, &size);
     station_count = (uint32_t)size.jobs;
     instrument_count = (uint32_t)size.instruments;
@@ -585,7 +588,7 @@ static long sessions_done(void) {
 }
 
 static int usage(void) {
-    fputs("broker [--how bench|locks|sorted] [--journal FILE | --threads N --seconds S | --threads N --sessions M] [SCRIPT]\n", stderr);
+    fputs("broker [--how bench|locks|sorted] [--overtakes N] [--journal FILE | --threads N --seconds S | --threads N --sessions M] [SCRIPT]\n", stderr);
     return 2;
 }
 
@@ -598,6 +601,7 @@ int main(int count, char **words) {
         else if (strcmp(words[at], "--how") == 0 && strcmp(next, "locks") == 0) how = BY_LOCKS, at++;
         else if (strcmp(words[at], "--how") == 0 && strcmp(next, "sorted") == 0) how = BY_SORTED_LOCKS, at++;
         else if (strcmp(words[at], "--journal") == 0 && *next) journal_path = next, at++;
+        else if (strcmp(words[at], "--overtakes") == 0) overtakes = (uint32_t)atol(next), at++;
         else if (strcmp(words[at], "--threads") == 0) threads = atol(next), at++;
         else if (strcmp(words[at], "--seconds") == 0) seconds = atol(next), at++;
         else if (strcmp(words[at], "--sessions") == 0) wanted = atol(next), at++;

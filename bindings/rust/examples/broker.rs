@@ -2,7 +2,8 @@
 //!
 //! usage: cargo run --release --example broker -- FOLDER        FOLDER is examples/broker; python3 runs its instruments
 //!        ... broker -- FOLDER --threads N --sessions M         M short sessions, or a few more, by N stations (1 to 32)
-use labrun::{Bench, Desk, Report, Session};
+//!        ... --overtakes N                                     by how many sessions a station may be passed before it stands in line; 64
+use labrun::{Bench, Desk, Options, Report, Session};
 use std::collections::HashMap;
 use std::error::Error;
 use std::io::{BufRead, BufReader, Write};
@@ -117,7 +118,7 @@ fn load_script(names: &[String], stations: u32, sessions: u32, seed: u64) -> Str
 }
 
 /// Bench after bench, each of as many sessions as a script may have, until this many are done.
-fn load(bay: &Bay, names: &[String], stations: u32, wanted: u32) -> Result<(bool, u32), labrun::Error> {
+fn load(options: &Options, bay: &Bay, names: &[String], stations: u32, wanted: u32) -> Result<(bool, u32), labrun::Error> {
     let (begun, mut done, mut finished, mut refused) = (Instant::now(), 0, true, 0);
     for seed in 0.. {
         if done >= wanted {
@@ -125,7 +126,7 @@ fn load(bay: &Bay, names: &[String], stations: u32, wanted: u32) -> Result<(bool
         }
         let each = ((wanted - done - 1) / stations + 1).min(1000);
         let script = load_script(names, stations, each, seed);
-        let (report, no) = run(Bench::from_text(script.as_bytes())?, |session| work(bay, session.instruments(), Duration::ZERO).unwrap())?;
+        let (report, no) = run(options.from_text(script.as_bytes())?, |session| work(bay, session.instruments(), Duration::ZERO).unwrap())?;
         (done, finished, refused) = (done + stations * each, finished && report.finished, refused + no);
     }
     println!("{done} sessions by {stations} threads in {:.1} s", begun.elapsed().as_secs_f64());
@@ -145,11 +146,12 @@ fn main() -> Result<ExitCode, Box<dyn Error>> {
     let words: Vec<String> = std::env::args().skip(1).collect();
     let number_after = |word: &str| words.iter().position(|it| it == word).and_then(|at| words.get(at + 1)?.parse().ok());
     let folder = words.first().ok_or("usage: broker FOLDER [--threads N --sessions M]")?;
-    let opened = Bench::open(format!("{folder}/bay.lab"))?;
+    let options = Options::new().overtakes(number_after("--overtakes").unwrap_or(Options::OVERTAKES));
+    let opened = options.open(format!("{folder}/bay.lab"))?;
     let names = opened.0.instruments().to_vec();
     let bay = Bay::start(folder, &names)?;
     let (finished, refused) = match (number_after("--threads"), number_after("--sessions")) {
-        (Some(stations @ 1..=32), Some(sessions)) => load(&bay, &names, stations, sessions)?,
+        (Some(stations @ 1..=32), Some(sessions)) => load(&options, &bay, &names, stations, sessions)?,
         _ => each_once(&bay, opened)?,
     };
     print!("{}", bay.stop()?);

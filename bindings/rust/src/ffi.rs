@@ -56,6 +56,13 @@ pub struct Keepers {
 
 #[repr(C)]
 #[derive(Clone, Copy, Default)]
+pub struct Outside {
+    pub is_outside: u32,
+    pub passed: u32,
+}
+
+#[repr(C)]
+#[derive(Clone, Copy, Default)]
 pub struct State {
     pub turns: u64,
     pub dining: u32,
@@ -92,7 +99,10 @@ extern "C" {
     pub fn lab_session_of(bench: *mut Handle, job: u32, session: u32, what: *mut SessionOf) -> u32;
     pub fn lab_state(bench: *mut Handle, job: u32, state: *mut State) -> u32;
     pub fn lab_keepers(bench: *mut Handle, job: u32, instrument: u32, keepers: *mut Keepers) -> u32;
+    pub fn lab_overtakes(bench: *mut Handle, most: u32) -> u32;
     pub fn lab_settle(bench: *mut Handle, waiting: u32, came: *mut Came) -> u32;
+    pub fn lab_outside(bench: *mut Handle, job: u32, outside: *mut Outside) -> u32;
+    pub fn lab_turn(bench: *mut Handle, job: u32, turned: *mut Turned) -> u32;
     pub fn lab_command(bench: *mut Handle, job: u32, entry: *mut Entered) -> u32;
     pub fn lab_end(bench: *mut Handle, job: u32, turned: *mut Turned) -> u32;
     pub fn lab_withdraw(bench: *mut Handle, job: u32) -> u32;

@@ -26,10 +26,15 @@
 #![deny(missing_docs)]
 
 mod ffi;
+mod hung;
 mod journal;
+mod keepers;
+mod options;
 
 pub use journal::SyncTo;
 use journal::{Journal, Ticket};
+pub use keepers::Keeper;
+pub use options::Options;
 use std::fmt;
 use std::path::Path;
 use std::ptr;
@@ -45,6 +50,7 @@ const NO_ROOM: u32 = 6;
 const NOT_NOW: u32 = 8;
 
 /// How drinking stands.
+const TRANQUIL: u32 = 0;
 const THIRSTY: u32 = 1;
 const HOLDS: [u32; 2] = [2, 3];
 const RETIRED: u32 = 4;
@@ -77,11 +83,16 @@ pub enum Error {
     NoMemory,
     /// The file can't be read.
     Unread(String),
-    /// The time limit passed. The session keeps its place in the line, and may come to its instruments meanwhile: begin again, or
-    /// [`Desk::give_up`].
+    /// The time limit passed. The session keeps its place, and may come to its instruments meanwhile if it stands in line: begin again, or
+    /// [`Desk::give_up`]. The text says first for whom it waits in the end: those are the ones to look after.
     TimedOut(Vec<Keeper>),
     /// The session was given up, because its patience ran out. The next [`Desk::begin`] is about the one after it.
     Withdrawn,
+    /// The session was ended for its owner, by [`Bench::take_away`] or because it had held for longer than it may ([`Desk::set_limit`]): its
+    /// instruments are somebody else's by now. It is told once; the next [`Desk::begin`] is about the session after it.
+    TakenAway,
+    /// The script has no job of this name.
+    NoSuchJob(String),
     /// The bench is closed.
     Closed,
     /// This is the child of a fork, and what it has is a copy of the bench of the process with this number: what it would hold, that one
@@ -109,11 +120,10 @@ impl fmt::Display for Error {
             Error::TooLong => write!(out, "script longer than 16777216 bytes"),
             Error::NoMemory => write!(out, "no memory"),
             Error::Unread(why) => write!(out, "{why}"),
-            Error::TimedOut(keepers) => {
-                write!(out, "still waits")?;
-                keepers.iter().try_for_each(|it| write!(out, ", {it}"))
-            }
+            Error::TimedOut(keepers) => write!(out, "still waits{}", keepers::because(keepers)),
             Error::Withdrawn => write!(out, "the session was withdrawn"),
+            Error::TakenAway => write!(out, "the session was taken away"),
+            Error::NoSuchJob(name) => write!(out, "there is no job {name}"),
             Error::Closed => write!(out, "the bench is closed"),
             Error::OtherProcess(number) => write!(out, "this bench belongs to process {number}"),
             Error::Journal { path, why, .. } => write!(out, "{path}: {why}"),
@@ -123,32 +133,6 @@ impl fmt::Display for Error {
 }
 
 impl std::error::Error for Error {}
-
-/// A job that keeps an instrument from a waiting session: it has it and needs it, too, and holds it or comes first.
-#[derive(Clone, Debug, PartialEq, Eq)]
-pub struct Keeper {
-    /// The instrument.
-    pub instrument: String,
-    /// The other job.
-    pub job: String,
-    /// Whether it holds the instrument; if nobody does, it waits itself, and comes first.
-    pub holds: bool,
-    /// If it waits itself, why: the keeper that it waits for, whose own is the next, and the last of them holds.
-    pub behind: Option<Box<Keeper>>,
-}
-
-impl fmt::Display for Keeper {
-    fn fmt(&self, out: &mut fmt::Formatter<'_>) -> fmt::Result {
-        let how = |it: &Keeper| if it.holds { "held" } else { "kept" };
-        write!(out, "{} is {} by {}", self.instrument, how(self), self.job)?;
-        let mut next = &self.behind;
-        while let Some(it) = next {
-            write!(out, ", which waits for {}, {} by {}", it.instrument, how(it), it.job)?;
-            next = &it.behind;
-        }
-        Ok(())
-    }
-}
 
 /// A command that was done.
 #[derive(Clone, Copy, Debug, PartialEq, Eq)]
@@ -171,9 +155,15 @@ pub struct Report {
     /// The sessions, by job and number, that were given up without a patience and whose turn came: their commands are in the logs, and
     /// nobody did their work.
     pub lapsed: Vec<(String, u32)>,
+    /// The sessions, by job and number, that were taken away from their owners: their commands are in the logs, and their work may not be done.
+    pub taken: Vec<(String, u32)>,
 }
 
 impl Report {
+    fn of((status, text): (u32, String)) -> Report {
+        Report { finished: status == 0, text, lapsed: Vec::new(), taken: Vec::new() }
+    }
+
     /// The lines of an instrument's log, in the order in which it took the commands; none if there is no such instrument.
     pub fn log(&self, instrument: &str) -> Vec<&str> {
         let head = format!("instrument {instrument} ");
@@ -216,18 +206,13 @@ fn told_text(mut call: impl FnMut(*mut u8, usize, *mut ffi::Told) -> u32) -> Res
 /// ```
 pub fn run(script: &[u8], limit: u32) -> Result<Report, Error> {
     // SAFETY: each pointer and length are those of one slice, all are apart, and none is null.
-    told_text(|text, room, told| unsafe { ffi::lab_rounds(script.as_ptr(), script.len(), limit, text, room, told) })
-        .map(|(status, text)| Report { finished: status == 0, text, lapsed: Vec::new() })
+    told_text(|text, room, told| unsafe { ffi::lab_rounds(script.as_ptr(), script.len(), limit, text, room, told) }).map(Report::of)
 }
 
 /// Takes the steps that follow the script, as `labrun replay`.
 pub fn replay(script: &[u8]) -> Result<Report, Error> {
     // SAFETY: as in `run`.
-    told_text(|text, room, told| unsafe { ffi::lab_replay(script.as_ptr(), script.len(), text, room, told) }).map(|(status, text)| Report {
-        finished: status == 0,
-        text,
-        lapsed: Vec::new(),
-    })
+    told_text(|text, room, told| unsafe { ffi::lab_replay(script.as_ptr(), script.len(), text, room, told) }).map(Report::of)
 }
 
 /// The line of a script's counts, as `labrun check`.
@@ -267,6 +252,67 @@ struct Seat {
     done: u32,
     /// Why a session that was dropped could not let go.
     fault: Option<Error>,
+    /// When the session was asked for; in how many settles it has waited outside the line; since when it holds, and for how long it may.
+    asked: Option<Instant>,
+    outside: u32,
+    since: Option<Instant>,
+    limit: Option<Duration>,
+    /// Whether it comes from a journal: then it was in line.
+    is_old: bool,
+    /// A session that was taken away, of which its owner doesn't know yet, or 0.
+    taken: u32,
+}
+
+impl Seat {
+    fn new(sessions: Vec<ffi::SessionOf>) -> Seat {
+        Seat {
+            sessions,
+            now: 0,
+            last: 0,
+            came: Came::Waits,
+            held: 0,
+            done: 0,
+            fault: None,
+            asked: None,
+            outside: 0,
+            since: None,
+            limit: None,
+            is_old: false,
+            taken: 0,
+        }
+    }
+
+    /// The job is in no session any more; the number of the one that it was in.
+    fn leaves(&mut self) -> u32 {
+        (self.held, self.outside, self.asked, self.since, self.is_old) = (0, 0, None, None, false);
+        std::mem::take(&mut self.now)
+    }
+
+    /// Whether its owner still holds this session. That it was taken away is told once.
+    fn is_held_yet(&mut self, number: u32, gone: &mut bool) -> Result<(), Error> {
+        if self.taken == number {
+            (self.taken, *gone) = (0, true);
+        }
+        if *gone {
+            Err(Error::TakenAway)
+        } else {
+            Ok(())
+        }
+    }
+
+    /// Its patience as the script has it, if the session that it is in has one.
+    fn patience(&self) -> Option<u32> {
+        self.what().filter(|it| it.has_patience == 1).map(|it| it.patience)
+    }
+
+    /// The instruments of the session that it is in, or none.
+    fn needs(&self) -> u64 {
+        self.what().map_or(0, |it| it.needs)
+    }
+
+    fn what(&self) -> Option<&ffi::SessionOf> {
+        self.sessions.get(self.now.checked_sub(1)? as usize)
+    }
 }
 
 /// What the mutex guards: the handle, and who waits.
@@ -280,6 +326,10 @@ struct Core {
     /// The jobs whose sessions were given up and can't be withdrawn, and those sessions that lapsed.
     left: u32,
     lapsed: Vec<(String, u32)>,
+    /// Those that were taken away.
+    taken: Vec<(String, u32)>,
+    /// By how many a session that is outside the line is passed at most.
+    overtakes: u32,
     /// The forks before it was opened.
     born: u32,
 }
@@ -297,6 +347,9 @@ struct Inner {
     born: u32,
     process: u32,
 }
+
+/// The mutex after a sleep, and why the session doesn't hold, if so.
+type Woken<'c> = (MutexGuard<'c, Core>, Result<(), Error>);
 
 /// The members of a set of bits, lowest first.
 fn members(mut set: u32) -> impl Iterator<Item = u32> {
@@ -352,10 +405,14 @@ impl Inner {
             core.comes_back();
             for (job, seat) in core.seats.iter_mut().enumerate() {
                 seat.came = Came::Failed;
-                let lapsed = (self.jobs[job].clone(), seat.now);
-                if core.lapsed.contains(&lapsed) {
-                    core.lapsed.retain(|it| *it != lapsed);
+                let session = (self.jobs[job].clone(), seat.now);
+                if core.lapsed.contains(&session) {
+                    core.lapsed.retain(|it| *it != session);
                     core.left |= 1 << job;
+                }
+                if core.taken.contains(&session) {
+                    core.taken.retain(|it| *it != session);
+                    seat.taken = 0;
                 }
                 if seat.now == 0 {
                     core.left &= !(1 << job);
@@ -373,10 +430,138 @@ impl Inner {
         let seat = &mut core.seats[job as usize];
         seat.came = came;
         if came == Came::Withdrawn {
-            seat.now = 0;
+            seat.leaves();
         }
         core.waiting &= !(1 << job);
         self.woken[job as usize].notify_one();
+    }
+
+    /// Those that came to hold do so from now on. Whoever waits for one that may hold for so long only is to know.
+    fn hold(&self, core: &mut Core, holds: u32) {
+        for job in members(holds) {
+            let seat = &mut core.seats[job as usize];
+            if seat.since.is_none() {
+                seat.since = Some(Instant::now());
+                if seat.limit.is_some() {
+                    self.rouse(core);
+                }
+            }
+        }
+    }
+
+    /// Those that wait reckon anew how long they sleep.
+    fn rouse(&self, core: &Core) {
+        members(core.waiting).for_each(|job| self.woken[job as usize].notify_one());
+    }
+
+    /// Counts a settle of those that waited outside the line, where the bench itself counts none, and gives up whose patience is used up.
+    fn wait_outside(&self, core: &mut Core) -> Result<bool, Error> {
+        let mut gone = false;
+        for job in members(core.waiting) {
+            let Some(patience) = core.seats[job as usize].patience() else { continue };
+            if core.is_outside(job) {
+                let seat = &mut core.seats[job as usize];
+                seat.outside += 1;
+                if seat.outside > patience {
+                    gone |= self.give_up(core, job)?;
+                }
+            }
+        }
+        Ok(gone)
+    }
+
+    /// Sleeps until the session of a job has come to something, or one of these times has. Why it doesn't hold, if so.
+    fn sleep<'c>(&self, mut core: MutexGuard<'c, Core>, job: u32, until: Option<Instant>, gives_up: Option<Instant>) -> Woken<'c> {
+        // (a patience runs out by the calls of `lab_settle`, so one of those that wait makes one now and then)
+        let tick = core.seats[job as usize].patience().map(|_| TICK);
+        let mut looked = Instant::now();
+        loop {
+            match core.seats[job as usize].came {
+                Came::Holds => return (core, Ok(())),
+                Came::Withdrawn => return (core, Err(Error::Withdrawn)),
+                Came::Failed => return (core, Err(self.log.as_ref().map_or(Error::Closed, Journal::failed))),
+                Came::Waits if core.closed => return (core, Err(Error::Closed)),
+                Came::Waits => {}
+            }
+            let now = Instant::now();
+            // (what nobody waits for is not taken away: it is looked at again later)
+            let limit = core.limit_ends().map(|it| it.max(looked));
+            let wakes = [until, gives_up, limit, tick.map(|it| now + it)].into_iter().flatten().min();
+            let woken = &self.woken[job as usize];
+            let Some(wakes) = wakes else {
+                core = woken.wait(core).unwrap_or_else(|poisoned| poisoned.into_inner());
+                continue;
+            };
+            let over;
+            (core, over) = woken.wait_timeout(core, wakes - now.min(wakes)).unwrap_or_else(|poisoned| poisoned.into_inner());
+            if !over.timed_out() || core.closed {
+                continue;
+            }
+            if let Err(fault) = self.look(&mut core, job, tick, until, gives_up) {
+                return (core, Err(fault));
+            }
+            looked = Instant::now() + TICK;
+        }
+    }
+
+    /// What one that waits does at such a time.
+    fn look(
+        &self,
+        core: &mut Core,
+        job: u32,
+        tick: Option<Duration>,
+        until: Option<Instant>,
+        gives_up: Option<Instant>,
+    ) -> Result<(), Error> {
+        let now = Instant::now();
+        self.take_overdue(core)?;
+        if tick.is_some() && core.ticked.map_or(true, |it| it.elapsed() >= TICK / 2) {
+            core.ticked = Some(now);
+            self.settle(core)?;
+        }
+        if core.seats[job as usize].came != Came::Waits {
+            return Ok(());
+        }
+        if gives_up.is_some_and(|it| now >= it) {
+            let keepers = self.keepers(core, job);
+            if !self.give_up(core, job)? {
+                return Err(Error::TimedOut(keepers));
+            }
+            self.settle(core)?;
+        } else if until.is_some_and(|it| now >= it) {
+            return Err(Error::TimedOut(self.keepers(core, job)));
+        }
+        Ok(())
+    }
+
+    /// Gives up the session that a job asked for; whether it was withdrawn.
+    fn give_up(&self, core: &mut Core, job: u32) -> Result<bool, Error> {
+        let may = core.seats[job as usize].patience().is_some();
+        // SAFETY: the handle is open, and the mutex is held; so below.
+        let withdraw = |core: &mut Core| unsafe { ffi::lab_withdraw(&mut core.handle, job) == 0 };
+        if may && core.is_outside(job) {
+            // (so that it is over, and not only asked for no longer, it leaves its place and begins; a meal may have to end before)
+            withdraw(core);
+            for _ in 0..8 {
+                if core.state(job).drinking == TRANQUIL {
+                    let mut turned = ffi::Turned::default();
+                    unsafe { ffi::lab_turn(&mut core.handle, job, &mut turned) };
+                    self.told(core)?;
+                }
+            }
+        }
+        let gone = withdraw(core);
+        self.told(core)?;
+        if gone && may {
+            self.comes_to(core, job, Came::Withdrawn);
+        } else if gone {
+            // it wasn't begun, and is the next again
+            let seat = &mut core.seats[job as usize];
+            seat.last = seat.leaves() - 1;
+        } else {
+            core.left |= 1 << job;
+        }
+        Ok(gone && may)
     }
 
     /// All that can be done is done, and those are woken whom that concerns. If somebody waits, those that were left and hold let go.
@@ -388,6 +573,10 @@ impl Inner {
             self.told(core)?;
             members(told.given_up).for_each(|job| self.comes_to(core, job, Came::Withdrawn));
             members(told.holds & core.waiting).for_each(|job| self.comes_to(core, job, Came::Holds));
+            self.hold(core, told.holds);
+            if self.wait_outside(core)? {
+                continue;
+            }
             let letting_go = told.holds & core.left;
             if core.waiting == 0 || letting_go == 0 {
                 return Ok(());
@@ -397,57 +586,30 @@ impl Inner {
                 unsafe { ffi::lab_end(&mut core.handle, job, &mut turned) };
                 self.told(core)?;
                 core.left &= !(1 << job);
-                let session = std::mem::take(&mut core.seats[job as usize].now);
+                let session = core.seats[job as usize].leaves();
                 core.lapsed.push((self.jobs[job as usize].clone(), session));
             }
         }
     }
-
-    /// What keeps each instrument that a job lacks: its number, the jobs that keep it, and those of them that hold it.
-    fn kept(&self, core: &mut Core, job: u32) -> Vec<(usize, ffi::Keepers)> {
-        let mut found = Vec::new();
-        for at in 0..self.instruments.len() {
-            let mut kept = ffi::Keepers::default();
-            // SAFETY: the handle is open, and the mutex is held.
-            unsafe { ffi::lab_keepers(&mut core.handle, job, at as u32, &mut kept) };
-            if kept.jobs != 0 {
-                found.push((at, kept));
-            }
-        }
-        found
-    }
-
-    fn keeper(&self, at: usize, job: u32, holds: bool, behind: Option<Keeper>) -> Keeper {
-        let (instrument, job) = (self.instruments[at].clone(), self.jobs[job as usize].clone());
-        Keeper { instrument, job, holds, behind: behind.map(Box::new) }
-    }
-
-    /// Who keeps an instrument from a job: who holds it, or, where nobody does, who comes first, and why that one waits.
-    fn keepers(&self, core: &mut Core, job: u32) -> Vec<Keeper> {
-        let mut found = Vec::new();
-        for (at, kept) in self.kept(core, job) {
-            let holds = kept.holding != 0;
-            for other in members(if holds { kept.holding } else { kept.jobs }) {
-                let behind = if holds { None } else { self.behind(core, other, kept.jobs | 1 << job) };
-                found.push(self.keeper(at, other, holds, behind));
-            }
-        }
-        found
-    }
-
-    /// The keeper that a job waits for, with those behind it: one chain of perhaps several, to a holder.
-    fn behind(&self, core: &mut Core, job: u32, seen: u32) -> Option<Keeper> {
-        let (seen, kept) = (seen | 1 << job, self.kept(core, job));
-        if let Some((at, it)) = kept.iter().find(|(_, it)| it.holding != 0) {
-            return Some(self.keeper(*at, it.holding.trailing_zeros(), true, None));
-        }
-        let (at, other) = kept.iter().find_map(|(at, it)| members(it.jobs & !seen).next().map(|other| (*at, other)))?;
-        let behind = self.behind(core, other, seen);
-        Some(self.keeper(at, other, false, behind))
-    }
 }
 
 impl Core {
+    /// With an empty handle.
+    fn new(overtakes: u32) -> Core {
+        Core {
+            handle: ffi::Handle { at: ptr::null_mut(), live: 0 },
+            closed: false,
+            seats: Vec::new(),
+            waiting: 0,
+            ticked: None,
+            left: 0,
+            lapsed: Vec::new(),
+            taken: Vec::new(),
+            overtakes,
+            born: FORKS.load(Relaxed),
+        }
+    }
+
     fn state(&mut self, job: u32) -> ffi::State {
         let mut state = ffi::State::default();
         // SAFETY: the handle is open, and nobody else has it.
@@ -460,10 +622,23 @@ impl Core {
         for job in 0..self.seats.len() {
             let state = self.state(job as u32);
             let (holds, seat) = (HOLDS.contains(&state.drinking), &mut self.seats[job]);
+            seat.leaves();
             seat.last = state.session;
             seat.now = if holds || state.drinking == THIRSTY { state.session } else { 0 };
             (seat.held, seat.done) = (if holds { state.session } else { 0 }, state.position);
+            (seat.since, seat.is_old) = (holds.then(Instant::now), seat.now != 0);
         }
+        // (no journal has this number)
+        // SAFETY: as in `state`.
+        unsafe { ffi::lab_overtakes(&mut self.handle, self.overtakes) };
+    }
+
+    /// Whether a job has asked, and its session isn't begun yet.
+    fn is_outside(&mut self, job: u32) -> bool {
+        let mut found = ffi::Outside::default();
+        // SAFETY: as in `state`.
+        unsafe { ffi::lab_outside(&mut self.handle, job, &mut found) };
+        found.is_outside == 1
     }
 
     fn session_of(&mut self, job: u32, number: u32) -> ffi::SessionOf {
@@ -502,12 +677,12 @@ pub struct Bench {
 impl Bench {
     /// The bench of the script in a file, and a desk for each job.
     pub fn open(path: impl AsRef<Path>) -> Result<(Bench, Vec<Desk>), Error> {
-        Bench::from_text(&read(path)?)
+        Options::new().open(path)
     }
 
     /// The bench of a script in memory, and a desk for each job, in the order of the script.
     pub fn from_text(script: &[u8]) -> Result<(Bench, Vec<Desk>), Error> {
-        Bench::of(script, None)
+        Options::new().from_text(script)
     }
 
     /// The same with a journal: all that is done is in that file before a call returns. If the file is there, the bench goes on where it
@@ -529,25 +704,22 @@ impl Bench {
     /// # Ok::<(), labrun::Error>(())
     /// ```
     pub fn open_with_journal(path: impl AsRef<Path>, journal: impl AsRef<Path>, to: SyncTo) -> Result<(Bench, Vec<Desk>), Error> {
-        Bench::of(&read(path)?, Some((journal.as_ref(), to)))
+        Options::new().journal(journal, to).open(path)
     }
 
     /// The same for a script in memory.
     pub fn from_text_with_journal(script: &[u8], journal: impl AsRef<Path>, to: SyncTo) -> Result<(Bench, Vec<Desk>), Error> {
-        Bench::of(script, Some((journal.as_ref(), to)))
+        Options::new().journal(journal, to).from_text(script)
     }
 
-    fn of(script: &[u8], journal: Option<(&Path, SyncTo)>) -> Result<(Bench, Vec<Desk>), Error> {
+    fn of(script: &[u8], options: &Options) -> Result<(Bench, Vec<Desk>), Error> {
         static AT_FORKS: Once = Once::new();
         // SAFETY: the function does nothing but count.
         AT_FORKS.call_once(|| assert_eq!(unsafe { ffi::pthread_atfork(None, None, Some(after_fork)) }, 0));
-        let handle = ffi::Handle { at: ptr::null_mut(), live: 0 };
-        let born = FORKS.load(Relaxed);
-        let mut core = Core { handle, closed: false, seats: Vec::new(), waiting: 0, ticked: None, left: 0, lapsed: Vec::new(), born };
-        let (mut told, mut size) = (ffi::Told::default(), ffi::Size::default());
+        let (mut core, mut told, mut size) = (Core::new(options.overtakes), ffi::Told::default(), ffi::Size::default());
         let (mut log, mut resumed) = (None, false);
-        if let Some((path, to)) = journal {
-            let it = Journal::open(path, to)?;
+        if let Some((path, to)) = &options.journal {
+            let it = Journal::open(path, *to)?;
             resumed = it.begin(script, &mut core.handle)?;
             log = Some(it);
         } else {
@@ -567,12 +739,13 @@ impl Bench {
             .collect();
         for job in 0..size.jobs as u32 {
             let sessions = (1..=core.state(job).sessions).map(|number| core.session_of(job, number)).collect();
-            core.seats.push(Seat { sessions, now: 0, last: 0, came: Came::Waits, held: 0, done: 0, fault: None });
+            core.seats.push(Seat::new(sessions));
         }
         core.comes_back();
         let woken = jobs.iter().map(|_| Condvar::new()).collect();
-        let inner = Arc::new(Inner { core: Mutex::new(core), log, resumed, woken, jobs, instruments, born, process: std::process::id() });
-        let desks = (0..size.jobs as u32).map(|job| Desk { inner: Arc::clone(&inner), job }).collect();
+        let (born, process) = (core.born, std::process::id());
+        let inner = Arc::new(Inner { core: Mutex::new(core), log, resumed, woken, jobs, instruments, born, process });
+        let desks = (0..size.jobs as u32).map(|job| Desk { inner: Arc::clone(&inner), job, limit: None, patience: None }).collect();
         Ok((Bench { inner }, desks))
     }
 
@@ -621,7 +794,8 @@ impl Bench {
         let handle = &mut core.handle;
         // SAFETY: the room is that of one slice, and the mutex is held.
         let (status, text) = told_text(|text, room, told| unsafe { ffi::lab_bench_close(handle, text, room, told) })?;
-        Ok(Report { finished: status == 0, text, lapsed: std::mem::take(&mut core.lapsed) })
+        let (lapsed, taken) = (std::mem::take(&mut core.lapsed), std::mem::take(&mut core.taken));
+        Ok(Report { lapsed, taken, ..Report::of((status, text)) })
     }
 }
 
@@ -629,12 +803,26 @@ impl Bench {
 pub struct Desk {
     inner: Arc<Inner>,
     job: u32,
+    limit: Option<Duration>,
+    patience: Option<Duration>,
 }
 
 impl Desk {
     /// The job's name.
     pub fn job(&self) -> &str {
         &self.inner.jobs[self.job as usize]
+    }
+
+    /// For how long each session that is begun from now on may hold. After that it is taken away once somebody waits for it, as by
+    /// [`Bench::take_away`].
+    pub fn set_limit(&mut self, limit: Option<Duration>) {
+        self.limit = limit;
+    }
+
+    /// For how long each session that is begun from now on waits; then it is given up, and withdrawn if it has a patience in the script
+    /// ([`Error::Withdrawn`]). If it has none, it can't be withdrawn: see [`Desk::give_up`].
+    pub fn set_patience(&mut self, patience: Option<Duration>) {
+        self.patience = patience;
     }
 
     /// Begins the next session, and blocks until it holds all its instruments. None if no session is left.
@@ -669,42 +857,21 @@ impl Desk {
         if let Some(fault) = seat.fault.take() {
             return Err(fault);
         }
+        if std::mem::take(&mut seat.taken) != 0 {
+            return Err(Error::TakenAway);
+        }
         let number = if seat.now == 0 { seat.last + 1 } else { seat.now };
         let Some(&what) = seat.sessions.get(number as usize - 1) else { return Ok(None) };
-        (seat.now, seat.last, seat.came) = (number, number, Came::Waits);
+        (seat.now, seat.last, seat.came, seat.limit) = (number, number, Came::Waits, self.limit);
+        let gives_up = self.patience.and_then(|it| seat.asked.get_or_insert_with(Instant::now).checked_add(it));
+        if seat.limit.is_some() && seat.since.is_some() {
+            inner.rouse(&core);
+        }
         core.left &= !bit;
         core.waiting |= bit;
         inner.settle(&mut core)?;
-        // (a patience runs out by the calls of `lab_settle`, so one of those that wait makes one now and then)
-        let tick = (what.has_patience == 1).then_some(TICK);
-        let ended = loop {
-            match core.seats[job as usize].came {
-                Came::Holds => break Ok(()),
-                Came::Withdrawn => break Err(Error::Withdrawn),
-                Came::Failed => break Err(inner.log.as_ref().map_or(Error::Closed, Journal::failed)),
-                Came::Waits if core.closed => break Err(Error::Closed),
-                Came::Waits => {}
-            }
-            let left = until.map(|until| until.saturating_duration_since(Instant::now()));
-            let span = left.into_iter().chain(tick).min();
-            let woken = &inner.woken[job as usize];
-            let Some(span) = span else {
-                core = woken.wait(core).unwrap_or_else(|poisoned| poisoned.into_inner());
-                continue;
-            };
-            let over;
-            (core, over) = woken.wait_timeout(core, span).unwrap_or_else(|poisoned| poisoned.into_inner());
-            if !over.timed_out() || core.closed {
-                continue;
-            }
-            if tick.is_some() && core.ticked.map_or(true, |it| it.elapsed() >= TICK / 2) {
-                core.ticked = Some(Instant::now());
-                inner.settle(&mut core)?;
-            }
-            if core.seats[job as usize].came == Came::Waits && until.is_some_and(|until| Instant::now() >= until) {
-                break Err(Error::TimedOut(inner.keepers(&mut core, job)));
-            }
-        };
+        let ended;
+        (core, ended) = inner.sleep(core, job, until, gives_up);
         core.waiting &= !bit;
         let (seat, ticket) = (&core.seats[job as usize], inner.ticket());
         let resumed = seat.held == number;
@@ -712,7 +879,7 @@ impl Desk {
         drop(core);
         ended?;
         inner.commit(ticket)?;
-        Ok(Some(Session { desk: self, number, needs: what.needs, done, resumed }))
+        Ok(Some(Session { desk: self, number, needs: what.needs, done, resumed, gone: false }))
     }
 
     /// Gives up the session that timed out; whether it was withdrawn, as it is if it has a patience: then it logs nothing.
@@ -726,17 +893,11 @@ impl Desk {
         if core.seats[job as usize].now == 0 {
             return false;
         }
-        // SAFETY: the handle is open, and the mutex is held.
-        let gone = unsafe { ffi::lab_withdraw(&mut core.handle, job) } == 0;
-        if gone {
-            inner.comes_to(&mut core, job, Came::Withdrawn);
-        } else {
-            core.left |= 1 << job;
-        }
-        let settled = inner.told(&mut core).and_then(|()| inner.settle(&mut core));
+        let gone = inner.give_up(&mut core, job);
+        let settled = inner.settle(&mut core);
         let ticket = inner.ticket();
         drop(core);
-        gone && settled.and_then(|()| inner.commit(ticket)).is_ok()
+        gone == Ok(true) && settled.and_then(|()| inner.commit(ticket)).is_ok()
     }
 }
 
@@ -756,6 +917,8 @@ pub struct Session<'d> {
     needs: u64,
     done: u32,
     resumed: bool,
+    /// It was taken away, and its owner knows.
+    gone: bool,
 }
 
 impl Session<'_> {
@@ -772,6 +935,12 @@ impl Session<'_> {
     /// Whether it held before it was asked for, by the journal: when the process died that had it before.
     pub fn resumed(&self) -> bool {
         self.resumed
+    }
+
+    /// Whether it still holds: no if it was taken away. (Its owner is told by the next call, even if it asked this.)
+    pub fn is_held(&self) -> bool {
+        let seat = |core: MutexGuard<'_, Core>| core.seats[self.desk.job as usize].now == self.number;
+        !self.gone && self.desk.inner.open().is_ok_and(seat)
     }
 
     /// How many of its commands are done.
@@ -798,6 +967,7 @@ impl Session<'_> {
     pub fn command(&mut self) -> Result<Option<Entry>, Error> {
         let (inner, job) = (&*self.desk.inner, self.desk.job);
         let mut core = inner.open()?;
+        core.seats[job as usize].is_held_yet(self.number, &mut self.gone)?;
         let mut entry = ffi::Entered::default();
         // SAFETY: the handle is open, and the mutex is held.
         match unsafe { ffi::lab_command(&mut core.handle, job, &mut entry) } {
@@ -816,8 +986,9 @@ impl Session<'_> {
     /// Writes a comment of one line to the journal, as a reading; control characters are escaped. Nothing without a journal.
     pub fn note(&mut self, said: &str) -> Result<(), Error> {
         let inner = &*self.desk.inner;
+        let mut core = inner.open()?;
+        core.seats[self.desk.job as usize].is_held_yet(self.number, &mut self.gone)?;
         let Some(log) = &inner.log else { return Ok(()) };
-        let core = inner.open()?;
         log.note(self.job(), self.number, said);
         let ticket = inner.ticket();
         drop(core);
@@ -832,10 +1003,11 @@ impl Session<'_> {
     fn end(&mut self) -> Result<(), Error> {
         let (inner, job) = (&*self.desk.inner, self.desk.job);
         let Ok(mut core) = inner.open() else { return Ok(()) };
+        core.seats[job as usize].is_held_yet(self.number, &mut self.gone)?;
         let mut turned = ffi::Turned::default();
         // SAFETY: the handle is open, and the mutex is held.
         unsafe { ffi::lab_end(&mut core.handle, job, &mut turned) };
-        (core.seats[job as usize].now, core.seats[job as usize].held) = (0, 0);
+        core.seats[job as usize].leaves();
         inner.told(&mut core)?;
         if core.waiting != 0 {
             inner.settle(&mut core)?;
@@ -848,6 +1020,9 @@ impl Session<'_> {
 
 impl Drop for Session<'_> {
     fn drop(&mut self) {
+        if self.gone {
+            return;
+        }
         if let Err(fault) = self.end() {
             if let Ok(mut core) = self.desk.inner.open() {
                 core.seats[self.desk.job as usize].fault = Some(fault);

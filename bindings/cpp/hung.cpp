@@ -1,0 +1,331 @@
+// Tests late thirst and stations that hang in labrun.hpp: c++ -std=c++17 -I include bindings/cpp/hung.cpp -L FOLDER -llabrun -pthread
+#include "labrun.hpp"
+#include <atomic>
+#include <functional>
+#include <iostream>
+#include <random>
+#include <thread>
+
+using namespace std::chrono_literals;
+using clock_type = std::chrono::steady_clock;
+
+static int passed = 0, failed = 0;
+
+static void expect(const char *what, bool is_so) {
+    (is_so ? passed : failed)++;
+    if (!is_so) std::cout << "WRONG " << what << '\n';
+}
+
+template <class Fault, class Call> static bool throws(Call call) {
+    try {
+        call();
+    } catch (const Fault &) {
+        return true;
+    }
+    return false;
+}
+
+static const std::string radio = "job radio\nsession\nscope read\nend\nsession\nscope read\nend\n";
+static const std::string board = "job board\nsession\nscope read\nsupply read\nend\n";
+static const std::string drive = "job drive\nsession\nsupply read\nend\nsession\nsupply read\nend\n";
+static const std::string other = "job other\nsession\nscope read\nend\n";
+static const std::string patient = "job board\nsession patience 999999\nscope read\nend\nsession\nscope read\nend\n";
+
+static labrun::bench opened(std::uint32_t overtakes, const std::string &jobs) {
+    return labrun::bench("lab 2\n" + jobs, "", labrun::sync::data, overtakes);
+}
+
+// Sleeps until this is so.
+static void until(const std::function<bool()> &is_so) {
+    while (!is_so()) std::this_thread::sleep_for(1ms);
+}
+
+// What a time-out tells, with each number of seconds left out.
+static std::string told_late(labrun::desk &desk, std::vector<labrun::keeper> *keepers = nullptr) {
+    try {
+        desk.begin(20ms);
+    } catch (const labrun::timed_out &late) {
+        if (keepers) *keepers = late.keepers;
+        std::string text;
+        for (const char *at = late.what(); *at;) {
+            const bool is_number = *at >= '0' && *at <= '9';
+            text += is_number ? '_' : *at;
+            while (is_number && ((*at >= '0' && *at <= '9') || *at == '.')) at++;
+            at += !is_number;
+        }
+        return text;
+    }
+    return "";
+}
+
+// radio hangs with the scope, and board waits for scope and supply: drive works at the supply, in whatever order they stand in the script.
+static void the_convoy_goes_on() {
+    const std::string jobs[] = {radio, board, drive};
+    const int orders[][3] = {{0, 1, 2}, {0, 2, 1}, {1, 0, 2}, {1, 2, 0}, {2, 0, 1}, {2, 1, 0}};
+    for (const auto &order : orders) {
+        labrun::bench bench = opened(labrun::OVERTAKES, jobs[order[0]] + jobs[order[1]] + jobs[order[2]]);
+        const auto desk = [&](int job) -> labrun::desk & {
+            return bench.desks()[order[0] == job ? 0 : order[1] == job ? 1 : 2];
+        };
+        auto hangs = desk(0).begin();
+        std::thread waits([&] { desk(1).begin(); });
+        until([&] { return !bench.waits_for("board").empty(); });
+        for (const std::uint32_t number : {1u, 2u}) expect("drive works", desk(2).begin(300s)->number() == number);
+        hangs.reset();
+        waits.join();
+    }
+}
+
+static void who_is_before_it() {
+    labrun::bench bench = opened(0, radio + board + drive);
+    auto held = bench.desks()[0].begin();
+    expect("board waits", throws<labrun::timed_out>([&] { bench.desks()[1].begin(0ms); }));
+    std::vector<labrun::keeper> keepers;
+    expect("who is before it", told_late(bench.desks()[2], &keepers) ==
+                                   "still waits for radio, at scope for _ s: supply is kept for board, which waits for scope, held by radio for _ s");
+    expect("why", keepers.size() == 1 && keepers[0].why() == "in line before you" && keepers[0].end().why() == "held");
+    expect("waits for", bench.waits_for("drive").at(0).end().job == "radio" && bench.waits_for("radio").empty());
+    expect("no such job", throws<labrun::error>([&] { bench.waits_for("rodeo"); }));
+    held.reset();
+    expect("board", bench.desks()[1].begin(300s).has_value());
+    expect("drive", bench.desks()[2].begin(300s).has_value());
+}
+
+// Two sessions pass board, so that it never finds both free; then it stands in line, and the third waits.
+static void passed_so_often_and_no_more() {
+    labrun::bench bench = opened(2, radio + board + drive + other);
+    auto first = bench.desks()[0].begin();
+    std::atomic<bool> came{false};
+    std::thread waits([&] {
+        auto session = bench.desks()[1].begin();
+        came = true;
+    });
+    until([&] { return !bench.waits_for("board").empty(); });
+    auto second = bench.desks()[2].begin(300s);
+    first.reset();
+    auto third = bench.desks()[3].begin(300s);
+    second.reset();
+    std::vector<labrun::keeper> keepers;
+    expect("the third waits", told_late(bench.desks()[2], &keepers).find("still waits for other, at scope for _ s: supply is kept for board") == 0);
+    expect("passed", keepers.size() == 1 && keepers[0].why() == "kept for board, passed 2 times" && !came);
+    third.reset();
+    waits.join();
+    expect("drive", bench.desks()[2].begin(300s).has_value());
+}
+
+static void taken_away() {
+    labrun::bench bench = opened(labrun::OVERTAKES, radio + board + drive);
+    auto hangs = bench.desks()[0].begin();
+    expect("it holds nothing", !bench.take_away("board"));
+    expect("no such job", throws<labrun::error>([&] { bench.take_away("rodeo"); }));
+    std::thread waits([&] { bench.desks()[1].begin(); });
+    until([&] { return !bench.waits_for("board").empty(); });
+    expect("held", hangs->is_held());
+    expect("taken", bench.take_away("radio") && !hangs->is_held());
+    waits.join();
+    expect("nothing more", !bench.take_away("radio"));
+    expect("command", throws<labrun::taken_away>([&] { hangs->command(); }));
+    expect("note", throws<labrun::taken_away>([&] { hangs->note("4.998 V"); }));
+    expect("finish", throws<labrun::taken_away>([&] { hangs->finish(); }));
+    hangs.reset();
+    {
+        auto second = bench.desks()[0].begin(300s);
+        expect("it was told", second && second->number() == 2 && bench.take_away("radio"));
+    }
+    expect("the next begin tells it", throws<labrun::taken_away>([&] { bench.desks()[0].begin(); }));
+    expect("none left", !bench.desks()[0].begin());
+    const labrun::report report = bench.close();
+    expect("report", report.taken.size() == 2 && report.taken[0] == std::make_pair(std::string("radio"), std::uint32_t(1)) &&
+                         report.taken[1].second == 2);
+}
+
+// Nobody is there for a session that timed out, and came to hold when the other let go.
+static void taken_away_from_nobody() {
+    labrun::bench bench = opened(0, radio + board + drive);
+    auto held = bench.desks()[0].begin();
+    expect("board waits", throws<labrun::timed_out>([&] { bench.desks()[1].begin(0ms); }));
+    held.reset();
+    expect("drive waits", told_late(bench.desks()[2]) == "still waits: supply is held by board for _ s");
+    expect("taken", bench.take_away("board"));
+    expect("drive", bench.desks()[2].begin(300s)->number() == 1);
+    expect("board is told", throws<labrun::taken_away>([&] { bench.desks()[1].begin(); }));
+    expect("none left", !bench.desks()[1].begin());
+}
+
+static void a_limit_on_holding() {
+    labrun::bench bench = opened(labrun::OVERTAKES, radio + board + drive);
+    bench.desks()[0].limit(20ms);
+    {
+        auto alone = bench.desks()[0].begin();
+        std::this_thread::sleep_for(40ms);
+        alone->finish();
+    }
+    auto hangs = bench.desks()[0].begin();
+    expect("board", bench.desks()[1].begin(300s).has_value());
+    expect("taken", throws<labrun::taken_away>([&] { hangs->finish(); }));
+    hangs.reset();
+    const labrun::report report = bench.close();
+    expect("report", report.taken.size() == 1 && report.taken[0].second == 2);
+}
+
+// One who waits already learns of a limit that comes later.
+static void a_limit_comes_later() {
+    for (const std::uint32_t overtakes : {0u, 16u}) {
+        labrun::bench bench =
+            opened(overtakes, "job a\nsession\nscope read\nend\njob b\nsession\nscope read\nend\njob c\nsession\nscope read\nsupply read\nend\n");
+        std::atomic<int> held{0};
+        auto first = bench.desks()[0].begin();
+        std::vector<std::thread> threads;
+        for (const int job : {1, 2}) {
+            bench.desks()[static_cast<std::size_t>(job)].limit(20ms);
+            threads.emplace_back([&, job] {
+                auto session = bench.desks()[static_cast<std::size_t>(job)].begin();
+                held++;
+                until([&] { return held == 2; });
+            });
+        }
+        until([&] { return !bench.waits_for("b").empty() && !bench.waits_for("c").empty(); });
+        first.reset();
+        for (std::thread &thread : threads) thread.join();
+        expect("one is taken", bench.close().taken.size() == 1);
+    }
+}
+
+static void patience_in_seconds() {
+    for (const std::uint32_t overtakes : {0u, 16u}) {
+        labrun::bench bench = opened(overtakes, radio + patient);
+        labrun::desk &desk = bench.desks()[1];
+        auto held = bench.desks()[0].begin();
+        desk.patience(20ms);
+        const clock_type::time_point begun = clock_type::now();
+        expect("withdrawn", throws<labrun::withdrawn>([&] { desk.begin(); }) && clock_type::now() - begun >= 20ms);
+        // the second has none in the script: it isn't withdrawn, and comes again
+        expect("not withdrawn", throws<labrun::timed_out>([&] { desk.begin(); }));
+        desk.patience(std::nullopt);
+        held.reset();
+        expect("it comes again", desk.begin(300s)->number() == 2);
+        expect("radio", bench.desks()[0].begin(300s).has_value());
+        const labrun::report report = bench.close();
+        expect("report", report.finished && report.lapsed.empty() && report.text.find("withdrawn 1") != std::string::npos);
+    }
+}
+
+// Outside the line a session that is given up goes away, and comes again: its turn doesn't come without it.
+static void left_outside() {
+    labrun::bench bench = opened(labrun::OVERTAKES, radio + board + drive);
+    auto held = bench.desks()[0].begin();
+    expect("board waits", throws<labrun::timed_out>([&] { bench.desks()[1].begin(20ms); }));
+    expect("given up", !bench.desks()[1].give_up() && bench.waits_for("board").empty());
+    held.reset();
+    expect("others", bench.desks()[2].begin(300s) && bench.desks()[0].begin(300s));
+    expect("again", bench.desks()[1].begin(300s)->number() == 1);
+    expect("none lapsed", bench.close().lapsed.empty());
+}
+
+static void with_a_journal(const std::string &path) {
+    const std::string script = "lab 2\n" + radio + board + drive;
+    {
+        labrun::bench bench(script, path, labrun::sync::none, 1);
+        auto hangs = bench.desks()[0].begin();
+        expect("taken", bench.take_away("radio"));
+        hangs.reset();
+        expect("told", throws<labrun::taken_away>([&] { bench.desks()[0].begin(); }));
+        expect("second", bench.desks()[0].begin()->number() == 2);
+    }
+    labrun::bench bench(script, path, labrun::sync::none, 1);
+    expect("resumed", bench.resumed() && !bench.desks()[0].begin());
+    auto first = bench.desks()[2].begin();
+    std::thread waits([&] { bench.desks()[1].begin(); });
+    until([&] { return !bench.waits_for("board").empty(); });
+    first.reset();
+    waits.join();
+    expect("drive", bench.desks()[2].begin(300s).has_value());
+    expect("finished", bench.close().finished);
+}
+
+// Jobs of 20 sessions, some of which have a patience, long or short.
+static std::string script_by_chance(std::mt19937 &chance, unsigned jobs) {
+    const unsigned instruments = 2 + chance() % 5;
+    std::string script = "lab 2\n";
+    for (unsigned job = 0; job < jobs; job++) {
+        script += "job j-" + std::to_string(job) + "\n";
+        for (int number = 0; number < 20; number++) {
+            static const char *const heads[] = {"session\n", "session patience 999999\n", "session patience 3\n"};
+            script += heads[chance() % 3];
+            for (unsigned left = 1 + chance() % 3; left; left--) script += "i-" + std::to_string(chance() % instruments) + " add 1\n";
+            script += "end\n";
+        }
+    }
+    return script;
+}
+
+// The sessions of a desk, with limits, patience and time-outs by chance. How often it was told that one was taken away.
+static std::size_t drive_by_chance(labrun::desk &desk, unsigned seed) {
+    std::mt19937 chance(seed);
+    const auto micros = [&](unsigned below) { return std::chrono::microseconds(chance() % below); };
+    for (std::size_t told = 0;;) {
+        desk.limit(chance() % 2 ? labrun::desk::span(micros(1000)) : std::nullopt);
+        desk.patience(chance() % 2 ? labrun::desk::span(micros(3000)) : std::nullopt);
+        try {
+            auto session = chance() % 2 ? desk.begin() : desk.begin(std::chrono::milliseconds(chance() % 3));
+            if (!session) return told;
+            if (chance() % 2) session->command();
+            std::this_thread::sleep_for(micros(1500));
+            if (chance() % 2) session->finish();
+        } catch (const labrun::timed_out &) {
+            if (chance() % 4 == 0) desk.give_up();
+        } catch (const labrun::taken_away &) {
+            told++;
+        } catch (const labrun::withdrawn &) {
+        }
+    }
+}
+
+// Limits, patience, time-outs, and one who takes away, all at once: everybody comes to the end of its sessions.
+static void all_at_once(const std::string &path) {
+    for (unsigned seed = 0; seed < 10; seed++) {
+        std::mt19937 chance(seed);
+        const unsigned jobs = 2 + chance() % 7;
+        const std::string script = script_by_chance(chance, jobs);
+        const std::uint32_t overtakes[] = {0, 1, 4, 64, UINT32_MAX};
+        std::remove(path.c_str());
+        labrun::report report;
+        std::atomic<std::size_t> told{0};
+        {
+            labrun::bench bench(script, path, labrun::sync::none, overtakes[seed % 5]);
+            std::atomic<unsigned> back{0};
+            std::vector<std::thread> threads;
+            for (labrun::desk &desk : bench.desks())
+                threads.emplace_back([&, own = seed * 100 + static_cast<unsigned>(threads.size())] {
+                    told += drive_by_chance(desk, own);
+                    back++;
+                });
+            while (back < jobs) {
+                const std::string job = "j-" + std::to_string(chance() % jobs);
+                bench.take_away(job);
+                bench.waits_for(job);
+                std::this_thread::sleep_for(1ms);
+            }
+            for (std::thread &thread : threads) thread.join();
+            report = bench.close();
+        }
+        expect("all at once", report.finished && told <= report.taken.size());
+        expect("its journal", labrun::bench(script, path).close().text == report.text);
+    }
+}
+
+int main(int, char **words) {
+    the_convoy_goes_on();
+    who_is_before_it();
+    passed_so_often_and_no_more();
+    taken_away();
+    taken_away_from_nobody();
+    a_limit_on_holding();
+    a_limit_comes_later();
+    patience_in_seconds();
+    left_outside();
+    with_a_journal(std::string(words[1]) + "/hung.journal");
+    all_at_once(std::string(words[1]) + "/all.journal");
+    std::cout << passed << " passed, " << failed << " failed\n";
+    return failed != 0;
+}
