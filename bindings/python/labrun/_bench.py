@@ -623,10 +623,10 @@ class Job:
         added. With a journal none can, yet."""
         return _holding.hold(self, instruments, commands, any_of, timeout, patience, limit)
 
-    def add(self, *instruments: str, commands: Iterable[Asked] = ()) -> int:
-        """Adds a session, as `hold` has it, behind the job's others, and gives its number: whoever takes the job's sessions (`sessions`,
-        `next_session`) comes to it. While a page is turned this waits."""
-        return _holding.add(self, instruments, commands)
+    def add(self, *instruments: str, commands: Iterable[Asked] = ()) -> None:
+        """Adds a session, as `hold` has it, behind the job's others: whoever takes the job's sessions (`sessions`, `next_session`) comes to it.
+        While a page is turned, it is one of the new page."""
+        _holding.add(self, instruments, commands)
 
     def retire(self) -> None:
         """The job begins no further session; whoever waits in its `sessions()` is through. LabrunError if it is in a session or has one left.
@@ -720,6 +720,7 @@ class Bench:
         # what waits for more than its turn: sessions that aren't added yet, and whoever turns the page; each with what wakes it
         self._others: dict[_holding.Waiter, Callable[[], None]] = {}
         self._turns_page = False
+        self._later: list[tuple[Job, _holding.Kind]] = []
         # whether it is one of `new`, whose jobs go on to get sessions
         self._is_endless = False
         # from a call that changes something until what it told is noted: an exception there leaves it, and then all is looked at anew
@@ -764,6 +765,12 @@ class Bench:
         return _holding.new(cls, jobs, journal, sync, overtakes)
 
     @property
+    def script(self) -> str:
+        """The script that the bench has become, with the sessions that came; `labrun` reads it. It is there after the close, too."""
+        with self._mutex:
+            return _holding.script_of(self)
+
+    @property
     def room(self) -> Room:
         """How much may still come before the bench is full: see Room, and `turn_page`."""
         with self._mutex:
@@ -775,8 +782,8 @@ class Bench:
         same jobs, of which each may use what it could before. What is to be added meanwhile waits, and comes to the new page. So a broker
         goes on for months; all that is counted, and `lapsed`, `raised` and `taken`, begins anew, and the Page has how it was.
 
-        Whoever calls this mustn't hold a session, and a session of a script that nobody takes keeps it waiting: after `timeout` seconds
-        NotBack names the jobs that are in one or have one left, and the page isn't turned. With a journal the new page has a new file, and
+        Whoever calls this mustn't hold a session; one that nobody takes keeps it waiting, and so does one who holds and waits for another:
+        after `timeout` seconds NotBack names the jobs that are in one or have one left, and the page isn't turned. With a journal the new page has a new file, and
         the old one is kept under its name with a number: `bay.journal.1`. In a program of asyncio use `turn_page_async`."""
         return _holding.turn_page(self, timeout)
 
@@ -1079,8 +1086,6 @@ class Bench:
         if self._lab_settle(self._at, self._waiting, self._came_at):
             raise LabrunError("lab_settle: a status that it doesn't have")
         self._tell()
-        if self._others:
-            self._rouse_others()
 
     def _tell(self) -> None:
         """Notes what the last `lab_settle` told, and wakes whom that concerns. Sessions that were left and hold end, if somebody waits."""
@@ -1099,6 +1104,8 @@ class Bench:
             if self._lab_settle(self._at, self._waiting, self._came_at):
                 raise LabrunError("lab_settle: a status that it doesn't have")
         self._torn = False
+        if self._others:
+            self._rouse_others()
 
     def _comes_to(self, job: Job, holds: bool, how: str = "") -> None:
         """A session that somebody may wait for holds, or has the end that `how` says. Whoever waits for it is woken."""

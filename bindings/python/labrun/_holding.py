@@ -13,7 +13,7 @@ import ctypes
 import os
 import time
 import weakref
-from dataclasses import dataclass
+from dataclasses import dataclass, field
 from typing import Any, Callable, Iterable, Mapping, NamedTuple, Optional, TypeVar, Union
 
 from . import _bench
@@ -49,9 +49,11 @@ class Room:
 
 @dataclass(frozen=True)
 class Page:
-    """A page that was closed: its `report`; the `lapsed`, `raised` and `taken` of its sessions; and where its `journal` is, if there is one."""
+    """A page that was closed: its `report`; the `script` that it became; the `lapsed`, `raised` and `taken` of its sessions; and where its
+    `journal` is, if there is one."""
 
     report: Report
+    script: str = field(repr=False)
     lapsed: tuple[tuple[str, int], ...]
     raised: tuple[tuple[str, int], ...]
     taken: tuple[tuple[str, int], ...]
@@ -195,7 +197,8 @@ class Hold(Session, Waiter):
             return self._choices[0]
         used: set[str] = set()
         for job in bench._jobs:
-            if job._in and job is not self.job and bench._outside_of(job) is None:
+            # (one that was left and holds lets go as soon as somebody waits)
+            if job._in and job is not self.job and bench._outside_of(job) is None and not (bench._left & job._bit and bench._holds(job)):
                 used.update(job._plan[job._in - 1][0])
         for kind in self._choices:
             if used.isdisjoint(kind.plan[0]):
@@ -264,9 +267,14 @@ class Hold(Session, Waiter):
             if bench._stands > _STOPPED:
                 return
             bench._look_over()
-            if job._in and job._in == self.number and self.state != "held":
-                bench._leaves(job, self, False)
-            elif not job._in and job._last + 1 == self._adds == len(job._plan):
+            number = self._adds
+            if job._in and job._in == number and self.state != "held":
+                if bench._outside_of(job) is not None or bench._state_of(job.index).session == number:
+                    bench._leaves(job, self, False)
+                else:  # it was about to ask
+                    bench._waiting &= ~job._bit
+                    job._in, job._last = 0, number - 1
+            if not job._in and job._last + 1 == number == len(job._plan):
                 _skip(bench, job)
                 self.state = "withdrawn"
 
@@ -279,13 +287,6 @@ class _More(Waiter):
 
     def is_ready(self, bench: Bench) -> bool:
         return self.job._last < len(self.job._plan) or self.job._is_over or bench._stands != 0
-
-
-class _Gate(Waiter):
-    """Whoever adds a session, while the page is turned."""
-
-    def is_ready(self, bench: Bench) -> bool:
-        return not bench._turns_page or bench._stands != 0
 
 
 class _Turner(Waiter):
@@ -371,8 +372,7 @@ def _kind(job: Job, instruments: tuple[str, ...], commands: tuple[Asked, ...]) -
             raise ValueError(f"no command: {command} (set or add with a number from 0 to {LARGEST}, or read)")
     if not given:
         raise ValueError("a session needs an instrument")
-    lines = [" ".join(str(it) for it in (one.instrument, one.verb, one.number) if it is not None) for one in given]
-    text = "\n".join([f"session patience {_FOREVER}", *lines, "end", ""]).encode("ascii")
+    text = "\n".join([f"session patience {_FOREVER}", *(_line(command) for command in given), "end", ""]).encode("ascii")
     names = tuple(sorted({it.instrument for it in given}, key=job.bench._number.__getitem__))
     kind = Kind(text, ctypes.c_size_t(len(text)), (names, given, _FOREVER))
     if not commands:
@@ -389,18 +389,20 @@ def _command(given: Asked) -> Command:
     return Command(name, verb, number[0] if number else None)
 
 
-def add(job: Job, instruments: tuple[str, ...], commands: Iterable[Asked]) -> int:
+def add(job: Job, instruments: tuple[str, ...], commands: Iterable[Asked]) -> None:
     bench, kind = job.bench, _kind(job, instruments, tuple(commands))
-
-    def act() -> int:
+    with bench._mutex, bench._mending:
+        bench._look_over()
         bench._may_go_on()
-        number = _append(bench, job, kind)
-        bench._rouse_others()
-        return number
-
-    number = _waits(bench, _Gate(), act)
-    assert number is not None
-    return number
+        if not bench._turns_page:
+            _append(bench, job, kind)
+            bench._rouse_others()
+        elif job._is_over or bench._journal is not None:
+            raise _why_not(bench, job, RETIRED if job._is_over else NOT_NOW)
+        elif sum(other is job for other, _ in bench._later) >= MOST_SESSIONS - 1:
+            raise Full(job.name)
+        else:
+            bench._later.append((job, kind))
 
 
 def _append(bench: Bench, job: Job, kind: Kind) -> int:
@@ -422,7 +424,7 @@ def _append(bench: Bench, job: Job, kind: Kind) -> int:
 
 
 def _adder(bench: Bench) -> Callable[..., int]:
-    if bench._script.replace(b"\t", b" ").split(b"job", 1)[0].split()[-2:] == [b"lab", b"1"]:
+    if _first_line(bench._script) == "lab 1":
         raise LabrunError("a session that comes has a patience, which a script of version 1 doesn't know: begin it with `lab 2`")
     return bench._calls.quick("lab_add")
 
@@ -487,6 +489,8 @@ def retire(job: Job) -> None:
         bench._look_over()
         if job._in or job._last < len(job._plan):
             _comes_next(job, bench)
+        if any(other is job for other, _ in bench._later):
+            raise LabrunError(f"{job.name} has a session that comes when the page is turned")
         job._is_over = True
         # (if it is in a meal, that lasts until others let go, and the close sees to it)
         bench._retire(job)
@@ -546,6 +550,28 @@ def _begin_and_give_up(bench: Bench, job: Job) -> None:
     bench._call("lab_withdraw", job.index)
 
 
+def script_of(bench: Bench) -> str:
+    """The script that the bench has become."""
+    lines = [_first_line(bench._script)]
+    for job in bench._jobs:
+        lines.append(f"job {job.name}")
+        for _, commands, patience in job._plan:
+            lines.append("session" if patience is None else f"session patience {patience}")
+            lines += [_line(command) for command in commands]
+            lines.append("end")
+    return "\n".join(lines) + "\n"
+
+
+def _line(command: Command) -> str:
+    return f"{command.instrument} {command.verb}" + ("" if command.number is None else f" {command.number}")
+
+
+def _first_line(script: bytes) -> str:
+    """(The lines before it are empty, or comments.)"""
+    words = [line.split() for line in script.replace(b"\t", b" ").split(b"\n")]
+    return next((b" ".join(it).decode("ascii") for it in words if it and not it[0].startswith(b"#")), "")
+
+
 def room_of(bench: Bench) -> Room:
     commands = sum(len(planned[1]) for job in bench._jobs for planned in job._plan)
     steps = None if bench._journal is None else MOST_STEPS - bench._journal.steps()
@@ -576,7 +602,11 @@ def turn_page(bench: Bench, timeout: Optional[float]) -> Page:
     finally:
         with bench._mutex:
             bench._turns_page = False
-            bench._rouse_others()
+            later, bench._later = bench._later, []
+            if bench._stands <= _STOPPED:
+                for job, kind in later:
+                    _append(bench, job, kind)
+            bench._rouse_others(bench._stands > _STOPPED)
 
 
 def _turned(bench: Bench) -> Union[Page, tuple[int, int]]:
@@ -588,7 +618,7 @@ def _turned(bench: Bench) -> Union[Page, tuple[int, int]]:
     ticket = bench._ticket()
     if ticket is not None and not bench._is_written():
         return ticket
-    uses = {job.name: uses_of(job) for job in bench._jobs}
+    became, uses = script_of(bench), {job.name: uses_of(job) for job in bench._jobs}
     script = bench._script if bench._is_endless else "".join(line + "\n" for line in _lines(uses)).encode("ascii")
     report, kept = None, None
     if bench._journal is None:
@@ -596,7 +626,7 @@ def _turned(bench: Bench) -> Union[Page, tuple[int, int]]:
         handle = _opened(script)
         report = _closed(bench, handle)
     else:
-        report, path = _closed(bench), bench._journal.path
+        report, path, stands = _closed(bench), bench._journal.path, bench._stands
         bench._stands, bench._report = _bench._CLOSED, report
         bench._finalizer()
         kept = _kept_aside(path)
@@ -604,8 +634,8 @@ def _turned(bench: Bench) -> Union[Page, tuple[int, int]]:
         handle = Handle()
         bench._journal = Journal(path, script, bench._sync, _bench._new_lock)
         calls, _ = bench._journal.open(library(), handle)
-        bench._stands, bench._report = _bench._OPEN, None
-    page = Page(report, tuple(bench._lapsed), tuple(bench._raised), tuple(bench._taken), kept)
+        bench._stands, bench._report = stands, None
+    page = Page(report, became, tuple(bench._lapsed), tuple(bench._raised), tuple(bench._taken), kept)
     _begins_anew(bench, calls, handle, script)
     return page
 

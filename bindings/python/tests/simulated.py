@@ -140,6 +140,15 @@ class Simulated:
         at(handle).at, at(handle).live = len(self.runs) - 1, 1
         return 0
 
+    def lab_check(self, script: bytes, length: int, report: Any, room: int, told: Any) -> int:
+        plan = simulate.read_script(script)
+        counts = len(plan.job_names), len(plan.instrument_names), len(plan.edges), sum(map(len, plan.sessions))
+        commands = sum(len(one.commands) for sessions in plan.sessions for one in sessions)
+        text = b"ok jobs %d instruments %d edges %d sessions %d commands %d\n" % (*counts, commands)
+        ctypes.memmove(report, text, len(text))
+        at(told).written = len(text)
+        return 0
+
     def lab_bench_free(self, handle: Any) -> None:
         self.runs[at(handle).at] = None
         self.kept.pop(at(handle).at, None)
