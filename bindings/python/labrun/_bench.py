@@ -39,13 +39,15 @@ _TICK = 0.1
 _FOREVER = 999999
 
 # by how many sessions one that asks may be overtaken before it stands in line, if nothing else is said (docs/PERFORMANCE.md, Fair and fast)
-OVERTAKES = 16
+OVERTAKES = 64
 
 # how a bench stands: no further session; no call at all
 _OPEN, _STOPPED, _CLOSED, _ELSEWHERE = range(4)
 
 # (a name of its own, so that a test can put gates there)
 _new_lock = threading.Lock
+
+_now = time.monotonic
 
 
 @dataclass(frozen=True)
@@ -175,9 +177,9 @@ class Session:
         job = self.job
         bench = job.bench
         try:
-            until = None if timeout is None else time.monotonic() + timeout
+            until = None if timeout is None else _now() + timeout
             with bench._mutex:
-                holds = bench._ask(job, self, job._sleep.release)
+                holds = bench._ask(job, self, job._get_up)
                 ticket = None if bench._journal is None else bench._journal.ticket
             if not holds:
                 ticket = self._sleep(job, bench, until, timeout)
@@ -210,7 +212,7 @@ class Session:
         KeyboardInterrupt does."""
         job = self.job
         bench = job.bench
-        until = None if timeout is None else time.monotonic() + timeout
+        until = None if timeout is None else _now() + timeout
         loop, event = asyncio.get_running_loop(), asyncio.Event()
 
         def wake() -> None:
@@ -249,7 +251,7 @@ class Session:
         ticks = self.patience is not None and self.patience < _FOREVER
         if until is None and not ticks and job._patience is None and not job.bench._limited:
             return -1
-        now = time.monotonic()
+        now = _now()
         ends = [threading.TIMEOUT_MAX, *(() if until is None else (until - now,)), *((_TICK,) if ticks else ())]
         if job._patience is not None:
             ends.append(job._asked + job._patience - now)
@@ -265,7 +267,7 @@ class Session:
             return True
         bench._may_go_on()
         if self.patience is not None and self.patience < _FOREVER:
-            now = time.monotonic()
+            now = _now()
             if now - bench._ticked >= _TICK / 2:
                 bench._ticked = now
                 bench._settle()
@@ -277,12 +279,12 @@ class Session:
                 return self._came(job)
         if bench._limited and bench._takes_overdue() and self._came(job):
             return True
-        if job._patience is not None and time.monotonic() >= job._asked + job._patience:
+        if job._patience is not None and _now() >= job._asked + job._patience:
             keepers = bench._keepers(job)
             if not bench._leaves(job, self, True):
                 return self._came(job)
             raise Withdrawn(self, job._patience, keepers)
-        if until is not None and time.monotonic() >= until:
+        if until is not None and _now() >= until:
             keepers = bench._keepers(job)
             if not self._asked(job):
                 return self._came(job)
@@ -519,6 +521,7 @@ class Job:
         # it is locked but for the moment between a wake-up and the thread that is woken
         self._sleep: threading.Lock = _new_lock()
         self._sleep.acquire()
+        self._get_up = self._sleep.release
 
     def __repr__(self) -> str:
         return f"<Job {self.name}>"
@@ -550,7 +553,8 @@ class Job:
         without: `timeout` is the limit of `with session:`; `limit` is one on holding: once it has held so long and others wait for it, it is
         taken away; after `patience` seconds of waiting it is given up (`Session.give_up`), and Withdrawn is raised."""
         bench = self.bench
-        self._limit, self._patience = limit, patience
+        self._limit = limit
+        self._patience = patience
         if self._untold is not None:
             raise self._untold._taken_away()
         if bench._stands or bench._torn:
@@ -876,13 +880,13 @@ class Bench:
                 ends.gone(job)
                 back[job.index].set()
 
-        until = None if timeout is None else time.monotonic() + timeout
+        until = None if timeout is None else _now() + timeout
         try:
             for job in self.jobs:
                 threading.Thread(target=work, args=(job,), name=job.name, daemon=True).start()
             all_there.set()
             for event in back:
-                event.wait(None if until is None else max(0.0, until - time.monotonic()))
+                event.wait(None if until is None else max(0.0, until - _now()))
         except BaseException:
             self.stop()
             begun = back if all_there.is_set() else []
@@ -891,7 +895,7 @@ class Bench:
             # (again, because an interrupt may have come in the midst of it)
             all_there.set()
             for event in begun:
-                event.wait(None if until is None else max(0.0, until - time.monotonic()))
+                event.wait(None if until is None else max(0.0, until - _now()))
             raise
         late = tuple(job for job, event in zip(self.jobs, back) if not event.is_set())
         if late:
@@ -1031,9 +1035,10 @@ class Bench:
         if self._lab_settle(self._at, self._waiting | job._bit, self._came_at):
             raise LabrunError("lab_settle: a status that it doesn't have")
         holds = self._came.holds
+        self._settles += 1
         if holds & job._bit and not (holds & (self._waiting | self._left) or self._has_patience and self._came.given_up):
             session.state = "held"
-            job._since = time.monotonic()
+            job._since = _now()
             if job._limit is not None:
                 self._may_hold(job, job._limit)
             self._torn = False
@@ -1045,7 +1050,7 @@ class Bench:
         job._sleep.acquire(False)
         session.state = "waiting"
         if job._asked_for != session.number:
-            job._asked_for, job._asked, job._settles, job._is_old = session.number, time.monotonic(), self._settles, False
+            job._asked_for, job._asked, job._settles, job._is_old = session.number, _now(), self._settles, False
         self._waiting |= job._bit
         self._tell()
         if self._limited:
@@ -1058,8 +1063,13 @@ class Bench:
         self._look_over()
         number = session.number
         if job._in == number:
-            if job._session is not None and job._session.state == "held" or self._state_of(job.index).drinking in _HOLDS:
+            is_held = job._session is not None and job._session.state == "held"
+            if is_held or self._state_of(job.index).drinking in _HOLDS:
                 self._left &= ~job._bit
+                if not is_held:
+                    job._since = _now()
+                if job._limit is not None and not self._limited & job._bit:
+                    self._may_hold(job, job._limit)
                 job._session, session.state = session, "held"
                 return True
             self._may_go_on()
@@ -1112,7 +1122,7 @@ class Bench:
         job._outcome = holds
         self._waiting &= ~job._bit
         if holds:
-            job._since = time.monotonic()
+            job._since = _now()
             if job._limit is not None:
                 self._may_hold(job, job._limit)
             if self._others:
@@ -1152,6 +1162,8 @@ class Bench:
             self._tell()
             if holds and unless_held:
                 return False
+            if job._in != session.number:  # a patience of no turns was used up by that
+                return True
             self._torn = True
         is_outside = session.patience is None and self._outside_of(job) is not None
         if self._call("lab_withdraw", job.index) == NOT_NOW:
@@ -1187,7 +1199,7 @@ class Bench:
 
     def _takes_overdue(self) -> bool:
         """Takes away each session that has held for longer than its limit while somebody asks for an instrument of it. Whether it did."""
-        now = time.monotonic()
+        now = _now()
         found = [it for it in self._members(self._limited) if it._due <= now and any(self._needs_of(by, it) for by in self._jobs if by is not it)]
         for job in found:
             self._take_away(job)
@@ -1265,7 +1277,7 @@ class Bench:
                 job._session.resumed = state.drinking != _THIRSTY
                 job._session.state = "held" if job._session.resumed else "asked"
                 job._session.done = state.position
-                job._since, job._asked_for, job._is_old = time.monotonic(), state.session, True
+                job._since, job._asked_for, job._is_old = _now(), state.session, True
 
     def _went_back(self, fault: JournalError) -> None:
         """The bench is an earlier one: each session is what it was, and whoever waits gets this fault."""
@@ -1305,7 +1317,9 @@ class Bench:
         return tuple(found)
 
     def _holder(self, instrument: str, job: Job) -> Keeper:
-        return Keeper(instrument, job.name, True, seconds=time.monotonic() - job._since)
+        # (if nobody waited for that, nobody knows since when)
+        is_known = job._session is not None and job._session.state not in ("asked", "left")
+        return Keeper(instrument, job.name, True, seconds=_now() - job._since if is_known else None)
 
     def _behind(self, job: Job, seen: int) -> Optional[Keeper]:
         """The keeper that this job waits for, with those behind it: one chain of perhaps several, to a holder."""

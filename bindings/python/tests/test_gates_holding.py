@@ -1,8 +1,8 @@
 """Sessions that come, and pages, with a gate at every line of the package (tests/gates.py): no wake-up is lost, and no interrupt loses one."""
 
 import random
-from typing import Any, Callable, Optional
 import unittest
+from typing import Any, Callable, Optional
 from unittest import mock
 
 import labrun
@@ -141,9 +141,9 @@ class Interrupts(Gated):
         """A KeyboardInterrupt comes to the first station: the others do all that is theirs, and its job can hold again."""
 
         def station(job: labrun.Job, counting: Counting) -> None:
-            one: dict[str, Any] = {"any_of": job.instruments} if jobs is EITHER else {}
             session: Optional[labrun.Session] = None
             try:
+                one: dict[str, Any] = {"any_of": job.instruments} if jobs is EITHER else {}
                 for _ in range(2):
                     session = job.hold(*(() if one else job.instruments), **one)
                     self.holds(session, counting)

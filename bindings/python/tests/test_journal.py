@@ -506,7 +506,10 @@ class Failing(Journals):
         self.assertIn("No space left on device", str(caught.exception))
         self.assertGreater(done, 2)
         before, state = self.text(), bench.jobs["a"].state
-        self.assertEqual((state.done, state.session - state.holds), (done, done))
+        # (where a note found no room, the end of its session may still have)
+        self.assertIn(state.done, (done, done + 1))
+        self.assertEqual(state.session - state.holds, state.done)
+        done = state.done
         self.dropped(bench)
         # another process comes as far
         again = self.opened(script)

@@ -164,10 +164,12 @@ class Outside(unittest.TestCase):
 
     def test_patience_in_turns(self) -> None:
         """It runs out outside, too."""
-        bench, first, second = self.holding(SOON)
-        with self.assertRaises(labrun.Withdrawn):
-            second.acquire(timeout=LIMIT)
-        self.assertEqual(second.state, "withdrawn")
+        for script in (SOON, SOON.replace("patience 2", "patience 0")):
+            bench, first, second = self.holding(script)
+            with self.assertRaises(labrun.Withdrawn):
+                second.acquire(timeout=LIMIT)
+            self.assertEqual((second.state, asked(bench, "b").number), ("withdrawn", 2))
+            self.assertEqual(bench.close().job("b").withdrawn, 1)
 
     def test_stop(self) -> None:
         for script, state in ((TWO, "new"), (PATIENT, "withdrawn")):
@@ -401,6 +403,20 @@ class Limits(unittest.TestCase):
         first.release()
         back(thread)
         self.assertEqual((bench.taken, bench._limited), ((), 0))
+
+    def test_limit_of_one_that_came_back(self) -> None:
+        """Held when its process died, and offered first: the limit counts from then."""
+        with tempfile.TemporaryDirectory() as folder:
+            path = os.path.join(folder, "bay.journal")
+            bench = labrun.Bench.from_text(TWO, journal=path)
+            asked(bench, "a").acquire()
+            bench.close()
+            bench = labrun.Bench.from_text(TWO, journal=path)
+            first = asked(bench, "a", limit=0.05)
+            first.acquire()
+            asked(bench, "b").acquire(timeout=LIMIT)
+            self.assertEqual((first.state, bench.taken), ("taken", (("a", 1),)))
+            bench.close()
 
     def test_limit_in_a_loop(self) -> None:
         async def main() -> str:
