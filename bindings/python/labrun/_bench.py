@@ -511,9 +511,10 @@ class Job:
         # which session that is, how often the bench was settled before, and whether it comes from a journal: then it was in line
         self._asked_for = self._settles = 0
         self._is_old = False
-        # what is being added to its sessions; those of that kind that were added before; and whether it is to have no more
+        # what is being added to its sessions; those that were asked for before, by their instruments; and whether it is to have no more
         self._adds: Optional[_Planned] = None
-        self._known: dict[Any, Any] = {}
+        self._known: dict[tuple[str, ...], tuple[_holding.Kind, ...]] = {}
+        self._uses: Optional[tuple[str, ...]] = None
         self._is_over = False
         self._outcome: Optional[bool] = None
         self._fault: Optional[JournalError] = None
@@ -625,6 +626,9 @@ class Job:
 
         A job is in one session at a time: threads that hold at once need a job each. MayNotUse, Retired and Full say why a session can't be
         added. With a journal none can, yet."""
+        known = None if commands or any_of else self._known.get(instruments)
+        if known is not None:
+            return Hold(self, known, timeout, patience, limit)
         return _holding.hold(self, instruments, commands, any_of, timeout, patience, limit)
 
     def add(self, *instruments: str, commands: Iterable[Asked] = ()) -> None:
