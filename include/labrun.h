@@ -18,6 +18,7 @@
     11  LAB_IN_USE      the handle that is to be filled isn't empty: it is open, or closed and not freed, or it wasn't zeroed
     12  LAB_JOURNAL_FULL  the bench keeps its steps and has no room for those of this call: take its journal (`lab_journal`), and call again
     13  LAB_BUSY        another call on the handle is under way
+    14  LAB_RETIRED     the job is retired, and gets no further session
 
    At 1, 4, 5 and 6 the room for a report or a name stays as it was. No call starts a thread, waits or sleeps, and none asks
    for anything but malloc, realloc and free.
@@ -54,6 +55,7 @@ extern "C" {
 #define LAB_IN_USE 11u
 #define LAB_JOURNAL_FULL 12u
 #define LAB_BUSY 13u
+#define LAB_RETIRED 14u
 
 struct lab_told {
     size_t written; /* how many bytes the report has; 0 where there is none */
@@ -245,6 +247,11 @@ struct lab_outside {
     uint32_t passed;     /* how often it has been passed by; 0 if it isn't outside */
 };
 uint32_t lab_outside(struct lab_bench *bench, uint32_t job, struct lab_outside *outside);
+
+/* Adds the lines of one or more sessions (`session [patience N]`, commands, `end`) at the end of a job's: of instruments that the job names already.
+   0; 1 with line (of this text, from 1) and cause; 2; 5 (the bench is as it was); 7; 8 if the bench keeps a journal (not yet); 14 LAB_RETIRED if
+   the job has retired. */
+uint32_t lab_add(struct lab_bench *bench, uint32_t job, const uint8_t *session, size_t length, struct lab_told *told);
 
 /* One turn of a job: it gives and asks at each of its edges, and does the first act that is due, also a command of a session
    that it holds, or its end. 0, 2, 7. */

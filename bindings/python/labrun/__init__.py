@@ -12,8 +12,9 @@ What is proved ends at the calls of the C library: that no two sessions hold an 
 that nobody waits for nothing: who waits, waits in the end for somebody who holds. This package, which calls it, is tested."""
 
 from ._bench import OVERTAKES, Bench, Command, Job, Jobs, JobState, Keeper, NotBack, Session
-from ._faults import Closed, JournalError, LabrunError, NotHeld, OtherProcess, Refused, StillHeld, Stopped, TakenAway, TimeoutError, TooLong
-from ._faults import Withdrawn, WouldBlock
+from ._faults import Closed, Full, JournalError, LabrunError, MayNotUse, NotHeld, OtherProcess, Refused, Retired, StillHeld, Stopped, TakenAway
+from ._faults import TimeoutError, TooLong, Withdrawn, WouldBlock
+from ._holding import Hold, Page, Room
 from ._library import library_path
 from ._report import Counts, Entry, JobReport, Report, check, replay, run, upgrade
 
@@ -24,6 +25,8 @@ __all__ = [
     "Command",
     "Counts",
     "Entry",
+    "Full",
+    "Hold",
     "Job",
     "JobReport",
     "JobState",
@@ -31,11 +34,15 @@ __all__ = [
     "JournalError",
     "Keeper",
     "LabrunError",
+    "MayNotUse",
     "NotBack",
     "NotHeld",
     "OtherProcess",
+    "Page",
     "Refused",
     "Report",
+    "Retired",
+    "Room",
     "Session",
     "StillHeld",
     "Stopped",

@@ -18,7 +18,7 @@ import time
 import weakref
 from dataclasses import dataclass, field
 from types import TracebackType
-from typing import Any, Awaitable, Callable, Iterator, Optional, SupportsIndex, Union, overload
+from typing import Any, Awaitable, Callable, Iterable, Iterator, Mapping, Optional, SupportsIndex, Union, overload
 
 from ._faults import Closed, JournalError, LabrunError, NotHeld, OtherProcess, StillHeld, Stopped, TakenAway, TimeoutError, Withdrawn, WouldBlock
 from ._journal import Journal, Kept, Path, Ticket
@@ -34,6 +34,9 @@ _HOLDS = (_DRINKING, _REACHING)
 # While sessions with a patience wait, one of them settles the bench after so many seconds, so that it does run out. Patience is in these,
 # and those of all who begin or let go: it is no measure of time.
 _TICK = 0.1
+
+# as a patience in turns: the largest that a script may have, which nobody counts to
+_FOREVER = 999999
 
 # by how many sessions one that asks may be overtaken before it stands in line, if nothing else is said (docs/PERFORMANCE.md, Fair and fast)
 OVERTAKES = 64
@@ -190,8 +193,7 @@ class Session:
         """Sleeps until the session holds, or has an end in another way."""
         if asyncio._get_running_loop() is not None and timeout != 0:
             with bench._mutex:
-                if not self._came(job):
-                    self._asked(job)
+                if not self._came(job) and self._asked(job):
                     raise WouldBlock(self)
                 return bench._ticket()
         while True:
@@ -246,10 +248,11 @@ class Session:
         """For how long it may sleep; -1 for without limit. Only who has a time limit or a patience looks again without being woken, and who
         waits for a session that has a limit on holding."""
         job = self.job
-        if until is None and self.patience is None and job._patience is None and not job.bench._limited:
+        ticks = self.patience is not None and self.patience < _FOREVER
+        if until is None and not ticks and job._patience is None and not job.bench._limited:
             return -1
         now = _now()
-        ends = [threading.TIMEOUT_MAX, *(() if until is None else (until - now,)), *(() if self.patience is None else (_TICK,))]
+        ends = [threading.TIMEOUT_MAX, *(() if until is None else (until - now,)), *((_TICK,) if ticks else ())]
         if job._patience is not None:
             ends.append(job._asked + job._patience - now)
         ends += [it._due - now for it in job.bench._members(job.bench._limited)]
@@ -263,7 +266,7 @@ class Session:
         if self._came(job):
             return True
         bench._may_go_on()
-        if self.patience is not None:
+        if self.patience is not None and self.patience < _FOREVER:
             now = _now()
             if now - bench._ticked >= _TICK / 2:
                 bench._ticked = now
@@ -282,8 +285,10 @@ class Session:
                 return self._came(job)
             raise Withdrawn(self, job._patience, keepers)
         if until is not None and _now() >= until:
-            self._asked(job)
-            raise TimeoutError(self, bench._keepers(job))
+            keepers = bench._keepers(job)
+            if not self._asked(job):
+                return self._came(job)
+            raise TimeoutError(self, keepers)
         return False
 
     def _came(self, job: Job) -> bool:
@@ -301,10 +306,12 @@ class Session:
         self.state = "withdrawn"
         raise Withdrawn(self)
 
-    def _asked(self, job: Job) -> None:
-        """It waits no longer, and keeps its place in the line."""
+    def _asked(self, job: Job) -> bool:
+        """It waits no longer, and keeps its place in the line. Whether it waits no longer: one of a kind that is given up may come to hold by
+        that."""
         self.state = "asked"
         job.bench._waiting &= ~job._bit
+        return True
 
     def _left_by(self, fault: BaseException) -> None:
         """Gives the session up, but for a fault that says itself what became of it."""
@@ -320,7 +327,7 @@ class Session:
                 try:
                     if bench._stands > _STOPPED or bench._torn:
                         bench._look_over()
-                    if job._in != self.number:
+                    if job._in != self.number or self.state == "finished":
                         raise self._not_held()
                     bench._torn = True
                     if bench._lab_end(bench._at, job.index, bench._turned_at):
@@ -336,6 +343,8 @@ class Session:
                         bench._settle()
                     else:
                         bench._torn = False
+                        if bench._others:
+                            bench._rouse_others()
                 except BaseException:
                     if bench._torn:
                         bench._mend()
@@ -502,6 +511,11 @@ class Job:
         # which session that is, how often the bench was settled before, and whether it comes from a journal: then it was in line
         self._asked_for = self._settles = 0
         self._is_old = False
+        # what is being added to its sessions; those that were asked for before, by their instruments; and whether it is to have no more
+        self._adds: Optional[_Planned] = None
+        self._known: dict[tuple[str, ...], tuple[_holding.Kind, ...]] = {}
+        self._uses: Optional[tuple[str, ...]] = None
+        self._is_over = False
         self._outcome: Optional[bool] = None
         self._fault: Optional[JournalError] = None
         self._wake: Optional[Callable[[], None]] = None
@@ -557,18 +571,23 @@ class Job:
         else:
             number = self._last + 1
             if number > len(self._plan):
-                with bench._mutex:
-                    bench._retire(self)
+                if not bench._is_endless:
+                    with bench._mutex:
+                        bench._retire(self)
                 return None
         return Session(self, number, timeout)
 
     def sessions(self, timeout: Optional[float] = None, limit: Optional[float] = None, patience: Optional[float] = None) -> Iterator[Session]:
         """The job's sessions, one after another. Each is yet to be entered: `with session:` blocks until it holds its instruments. `timeout`,
         `limit` and `patience` are as in `next_session`. One that was neither held nor withdrawn comes again, and one that is still held when
-        the next is asked for is finished. If the loop is left, a session that timed out is given up."""
+        the next is asked for is finished. If the loop is left, a session that timed out is given up.
+
+        Those that are added meanwhile (`add`) come, too. On a bench of `Bench.new` the loop waits for them, until the job is retired."""
         while True:
             session = self.next_session(timeout, limit, patience)
             if session is None:
+                if _holding.waits_for_more(self):
+                    continue
                 return
             try:
                 yield session
@@ -577,6 +596,50 @@ class Job:
                 raise
             if session.state == "held":
                 session.release()
+
+
+    @property
+    def instruments(self) -> tuple[str, ...]:
+        """The instruments that the job may use: those of its sessions when the bench was opened."""
+        return _holding.uses_of(self)
+
+    def hold(
+        self,
+        *instruments: str,
+        timeout: Optional[float] = None,
+        patience: Optional[float] = None,
+        limit: Optional[float] = None,
+        commands: Iterable[Asked] = (),
+        any_of: Iterable[Union[str, Iterable[str]]] = (),
+    ) -> Hold:
+        """A session that comes now, of instruments that the job may use: `with job.hold("scope", "supply"):`, or `async with`. It is added
+        behind the job's others once it is entered, or acquired, and has one `read` of each instrument, or the `commands`, as in
+        `commands=[("scope", "set", 5), ("supply", "read")]`; instruments that these don't name are read.
+
+        It waits as any session does. After `timeout` seconds TimeoutError says who keeps it waiting, after `patience` seconds Withdrawn does;
+        in both cases, and by any other exception while it waits, it is given up: it is `withdrawn`, and logs nothing. `limit` is one on
+        holding, as in `next_session`.
+
+        `any_of=[("load-1",), ("load-2",)]` takes the first of these that is free, and its `instruments` say which it took. If none is free it
+        waits until one is; and once so many sessions as `Bench.overtakes` says have come to hold instruments of one of them meanwhile, it
+        asks for that one alone.
+
+        A job is in one session at a time: threads that hold at once need a job each. MayNotUse, Retired and Full say why a session can't be
+        added. With a journal none can, yet."""
+        known = None if commands or any_of else self._known.get(instruments)
+        if known is not None:
+            return Hold(self, known, timeout, patience, limit)
+        return _holding.hold(self, instruments, commands, any_of, timeout, patience, limit)
+
+    def add(self, *instruments: str, commands: Iterable[Asked] = ()) -> None:
+        """Adds a session, as `hold` has it, behind the job's others: whoever takes the job's sessions (`sessions`, `next_session`) comes to it.
+        While a page is turned, it is one of the new page."""
+        _holding.add(self, instruments, commands)
+
+    def retire(self) -> None:
+        """The job begins no further session; whoever waits in its `sessions()` is through. LabrunError if it is in a session or has one left.
+        (`with bench:` retires all at its end, and so does `Bench.close`.)"""
+        _holding.retire(self)
 
 
 class Jobs(tuple[Job, ...]):
@@ -644,7 +707,11 @@ class Bench:
         self._mending = _Mending(self)
         self._turned, self._came, self._state, self._outside = Turned(), Came(), State(), Outside()
         self._turned_at, self._came_at, self._state_at = ctypes.byref(self._turned), ctypes.byref(self._came), ctypes.byref(self._state)
+        self._told = told
+        self._told_at = ctypes.byref(told)
         self._lab_settle, self._lab_end = calls.quick("lab_settle"), calls.quick("lab_end")
+        # (looked up when the first session comes: an older library has none)
+        self._lab_add: Optional[Callable[..., int]] = None
         self._report: Optional[Report] = None
         self._stands = _OPEN
         # the jobs whose owners wait, and those whose sessions were given up and can't be withdrawn, as sets of bits
@@ -658,6 +725,12 @@ class Bench:
         self._taken: list[tuple[str, int]] = []
         # the sessions whose body raised while they held
         self._raised: list[tuple[str, int]] = []
+        # what waits for more than its turn: sessions that aren't added yet, and whoever turns the page; each with what wakes it
+        self._others: dict[_holding.Waiter, Callable[[], None]] = {}
+        self._turns_page = False
+        self._later: list[tuple[Job, _holding.Kind]] = []
+        # whether it is one of `new`, whose jobs go on to get sessions
+        self._is_endless = False
         # from a call that changes something until what it told is noted: an exception there leaves it, and then all is looked at anew
         self._torn = False
         self._overtakes = overtakes
@@ -666,6 +739,7 @@ class Bench:
         self._call("lab_bench_size", ctypes.byref(size))
         self.instruments: tuple[str, ...] = tuple(self._name("lab_instrument_name", at) for at in range(size.instruments))
         self._number = {name: at for at, name in enumerate(self.instruments)}
+        self._script, self._sync = given, sync
         plans = _plans(given, self.instruments)
         self._has_patience = any(patience is not None for plan in plans for _, _, patience in plan)
         self._jobs: tuple[Job, ...] = tuple(Job(self, at, self._name("lab_job_name", at), plans[at]) for at in range(size.jobs))
@@ -686,6 +760,44 @@ class Bench:
     def from_text(cls, text: Text, journal: Optional[Path] = None, sync: str = "data", overtakes: int = OVERTAKES) -> Bench:
         """The bench of a script in memory, else as `open`."""
         return cls(text, journal, sync, overtakes)
+
+    @classmethod
+    def new(cls, jobs: Mapping[str, Iterable[str]], journal: Optional[Path] = None, sync: str = "data", overtakes: int = OVERTAKES) -> Bench:
+        """A bench without a script: the jobs by their names, each with the instruments that it may use. Their sessions come by `Job.hold`
+        and `Job.add`. ValueError says what is wrong with a name, or how much is too much.
+
+        How a job may use instruments that no session of its names yet: the script that this writes has a first session for each job,
+        `session patience 0` with one `read` of each of its instruments, and right after the open it is begun (`lab_turn`) and given up
+        (`lab_withdraw`). Both are legal steps and nothing is logged; the report says `withdrawn 1` of each job, and a job's sessions
+        count from 2. So what became of the bench is a script with steps that `labrun` reads as it is."""
+        return _holding.new(cls, jobs, journal, sync, overtakes)
+
+    @property
+    def script(self) -> str:
+        """The script that the bench has become, with the sessions that came; `labrun` reads it. It is there after the close, too."""
+        with self._mutex:
+            return _holding.script_of(self)
+
+    @property
+    def room(self) -> Room:
+        """How much may still come before the bench is full: see Room, and `turn_page`."""
+        with self._mutex:
+            self._look_over()
+            return _holding.room_of(self)
+
+    def turn_page(self, timeout: Optional[float] = None) -> Page:
+        """Begins a new page of the same bay: waits until all sessions that were added are over, closes the bench, and opens it anew, with the
+        same jobs, of which each may use what it could before. What is to be added meanwhile waits, and comes to the new page. So a broker
+        goes on for months; all that is counted, and `lapsed`, `raised` and `taken`, begins anew, and the Page has how it was.
+
+        Whoever calls this mustn't hold a session; one that nobody takes keeps it waiting, and so does one who holds and waits for another:
+        after `timeout` seconds NotBack names the jobs that are in one or have one left, and the page isn't turned. With a journal the new page has a new file, and
+        the old one is kept under its name with a number: `bay.journal.1`. In a program of asyncio use `turn_page_async`."""
+        return _holding.turn_page(self, timeout)
+
+    async def turn_page_async(self, timeout: Optional[float] = None) -> Page:
+        """As `turn_page`; other tasks go on meanwhile."""
+        return await asyncio.get_running_loop().run_in_executor(None, _holding.turn_page, self, timeout)
 
     def job(self, name: str) -> Job:
         """The job of this name, as `jobs[name]`; KeyError if there is none."""
@@ -825,6 +937,7 @@ class Bench:
             for job in self._members(self._waiting):
                 self._rouse(job)
             self._torn = False
+            self._rouse_others(True)
 
     def close(self) -> Report:
         """Closes the bench, and gives its report. A session that is held then stays unfinished in it, and held in the journal, if there is
@@ -846,6 +959,7 @@ class Bench:
                         self._journal.close()
                     for job in self._members(self._waiting):
                         self._rouse(job)
+                    self._rouse_others(True)
                     return self._report
             self._commit(ticket)
 
@@ -932,6 +1046,8 @@ class Bench:
             if job._limit is not None:
                 self._may_hold(job, job._limit)
             self._torn = False
+            if self._others:
+                self._goes_before(session.instruments)
             return True
         # it waits, or others are to be told something as well
         job._outcome, job._wake, job._fault = None, None, None
@@ -1002,6 +1118,8 @@ class Bench:
             if self._lab_settle(self._at, self._waiting, self._came_at):
                 raise LabrunError("lab_settle: a status that it doesn't have")
         self._torn = False
+        if self._others:
+            self._rouse_others()
 
     def _comes_to(self, job: Job, holds: bool, how: str = "") -> None:
         """A session that somebody may wait for holds, or has the end that `how` says. Whoever waits for it is woken."""
@@ -1011,6 +1129,8 @@ class Bench:
             job._since = _now()
             if job._limit is not None:
                 self._may_hold(job, job._limit)
+            if self._others:
+                self._goes_before(job._plan[job._in - 1][0])
         if how == "left":
             self._left |= job._bit
         elif how:
@@ -1099,6 +1219,20 @@ class Bench:
             except RuntimeError:  # it is awake already
                 pass
 
+    def _rouse_others(self, all_of_them: bool = False) -> None:
+        """Wakes those of the others that can go on."""
+        for other, wake in list(self._others.items()):
+            if all_of_them or other.is_ready(self):
+                try:
+                    wake()
+                except RuntimeError:  # it is awake already
+                    pass
+
+    def _goes_before(self, instruments: tuple[str, ...]) -> None:
+        """A session of these came to hold before the others."""
+        for other in self._others:
+            other.passed_by(instruments)
+
     def _mend(self) -> None:
         """An exception came between a call and the note of what it told: so the library is asked how each job is."""
         self._torn = True
@@ -1111,6 +1245,8 @@ class Bench:
         for job in self._jobs:
             is_outside = self._outside_of(job) is not None
             state, session = self._state_of(job.index), job._session
+            if job._adds is not None and state.sessions > len(job._plan):
+                job._plan.append(job._adds)
             holds = state.drinking in _HOLDS
             job._last = state.session + is_outside
             job._in = job._last if holds or is_outside or state.drinking == _THIRSTY else 0
@@ -1346,3 +1482,7 @@ def _after_fork() -> None:
 
 
 os.register_at_fork(after_in_child=_after_fork)
+
+# (at the end: what it has are kinds of the above)
+from . import _holding  # noqa: E402
+from ._holding import Asked, Hold, Page, Room  # noqa: E402

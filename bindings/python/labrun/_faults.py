@@ -48,18 +48,24 @@ class TooLong(LabrunError, ValueError):
 
 
 class TimeoutError(LabrunError, builtins.TimeoutError):  # noqa: A001 (a kind of the builtin, and caught as such)
-    """The time limit of an `acquire` passed. The session keeps its place in the line: acquire it again, or `give_up`. `keepers` says who
-    kept it waiting, the text also for whom it waits in the end."""
+    """The time limit of an `acquire` passed. The session keeps its place in the line: acquire it again, or `give_up`; one of `Job.hold` is
+    given up. `keepers` says who kept it waiting, the text also for whom it waits in the end."""
 
     def __init__(self, session: Session, keepers: tuple[Keeper, ...]) -> None:
-        super().__init__(f"session {session.number} of {session.job.name} still waits{_because(keepers)}")
+        is_over = session.state == "withdrawn"
+        super().__init__(f"{_called(session)} {'was given up when its time was over' if is_over else 'still waits'}{_because(keepers)}")
         self.session = session
         self.keepers = keepers
 
 
+def _called(session: Session) -> str:
+    """One that was never added has no number."""
+    return f"session {session.number} of {session.job.name}" if session.number else f"a session of {session.job.name}"
+
+
 def _because(keepers: tuple[Keeper, ...]) -> str:
     """Who keeps one waiting, behind `waits`. Those at the ends of the chains come first: they are the ones to look after."""
-    by = ", ".join(str(keeper) for keeper in keepers) or "it holds by now, or is over"
+    by = ", ".join(str(keeper) for keeper in keepers) or "it holds by now, or is over, or a page is being turned"
     ends = {end.job: end for end in (keeper.end for keeper in keepers)}
     if all(keeper.behind is None for keeper in keepers):
         return f": {by}"
@@ -72,7 +78,7 @@ class Withdrawn(LabrunError):
 
     def __init__(self, session: Session, seconds: Optional[float] = None, keepers: tuple[Keeper, ...] = ()) -> None:
         how = "was withdrawn" if seconds is None else f"was given up after {seconds:g} s{_because(keepers)}"
-        super().__init__(f"session {session.number} of {session.job.name} {how}")
+        super().__init__(f"{_called(session)} {how}")
         self.session = session
 
 
@@ -91,10 +97,10 @@ class TakenAway(NotHeld):
 
 class WouldBlock(LabrunError, RuntimeError):
     """`with session:` on a thread whose asyncio loop runs, where it would have to wait and keep every task from going on: use
-    `async with`. The session keeps its place in the line: acquire it again, or `give_up`."""
+    `async with`. The session keeps its place in the line: acquire it again, or `give_up`; one of `Job.hold` is given up."""
 
     def __init__(self, session: Session) -> None:
-        super().__init__(f"session {session.number} of {session.job.name} has to wait, and a loop runs on this thread: use `async with`")
+        super().__init__(f"{_called(session)} has to wait, and a loop runs on this thread: use `async with`")
         self.session = session
 
 
@@ -129,6 +135,39 @@ class JournalError(LabrunError):
 
     def __reduce__(self) -> tuple[type[JournalError], tuple[str, str, Optional[int]]]:
         return JournalError, (self.path, self.why, self.line)
+
+
+class MayNotUse(LabrunError, ValueError):
+    """A session can't be added, because the job may not use one of its instruments: the edges between jobs stay as they were opened."""
+
+    def __init__(self, job: str, wrong: str, may: tuple[str, ...]) -> None:
+        super().__init__(f"{job} may not use {wrong}: it may use {', '.join(may) or 'nothing'}")
+        self.job, self.wrong, self.may = job, wrong, may
+
+    def __reduce__(self) -> tuple[type[MayNotUse], tuple[str, str, tuple[str, ...]]]:
+        return MayNotUse, (self.job, self.wrong, self.may)
+
+
+class Retired(LabrunError):
+    """A session can't be added: the job is retired."""
+
+    def __init__(self, job: str) -> None:
+        super().__init__(f"{job} is retired, and gets no further session")
+        self.job = job
+
+    def __reduce__(self) -> tuple[type[Retired], tuple[str]]:
+        return Retired, (self.job,)
+
+
+class Full(LabrunError):
+    """A session can't be added: the job has 1000, or the bench has 100000 commands. `Bench.room` tells before, and `Bench.turn_page` helps."""
+
+    def __init__(self, job: str) -> None:
+        super().__init__(f"no room for another session of {job}: turn_page() begins a new page")
+        self.job = job
+
+    def __reduce__(self) -> tuple[type[Full], tuple[str]]:
+        return Full, (self.job,)
 
 
 class Closed(LabrunError):

@@ -25,7 +25,7 @@ Ticket = tuple[int, int]
 # no journal that has more bytes, or more steps, is read again
 MOST, MOST_STEPS = 16777216, 1000000
 
-_STEPS = ("lab_settle", "lab_command", "lab_end", "lab_withdraw", "lab_retire")
+_STEPS = ("lab_turn", "lab_settle", "lab_command", "lab_end", "lab_withdraw", "lab_retire")
 
 
 class Journal:
@@ -143,6 +143,10 @@ class Journal:
         """Adds a comment of one line."""
         one = "".join(it if it.isprintable() else it.encode("unicode_escape").decode() for it in text)
         self._add(self._stamp() + f"# note {one}\n".encode("utf-8", "backslashreplace"))
+
+    def steps(self) -> int:
+        """How many steps it has, with those that aren't written yet."""
+        return self._steps + sum(_steps(text) for end, text in self._added if end > self._stands[1] > 0)
 
     def _stamp(self) -> bytes:
         """A comment that says the time, if that is another than the last one's."""

@@ -8,6 +8,7 @@ import os
 from typing import Any, Callable, Optional
 
 REFUSED, NO_SUCH, WAITS, TOO_LONG, NO_MEMORY, NO_ROOM, NOT_OPEN, NOT_NOW, NO_SESSION, SESSIONS_LEFT, IN_USE = range(1, 12)
+RETIRED = 14
 ACTED = 2
 
 
@@ -140,6 +141,8 @@ _SHORT: dict[str, list[Any]] = {
     "lab_keepers": [_HANDLE, _WORD, _WORD, ctypes.POINTER(Keepers)],
     "lab_overtakes": [_HANDLE, _WORD],
     "lab_outside": [_HANDLE, _WORD, ctypes.POINTER(Outside)],
+    "lab_add": [_HANDLE, _WORD, _BYTES, _SIZE, _TOLD],
+    "lab_turn": [_HANDLE, _WORD, _TURNED],
     "lab_settle": [_HANDLE, _WORD, ctypes.POINTER(Came)],
     "lab_command": [_HANDLE, _WORD, ctypes.POINTER(Entered)],
     "lab_end": [_HANDLE, _WORD, _TURNED],

@@ -10,9 +10,9 @@ import threading
 from types import FrameType
 from typing import Any, Callable, Optional
 
-from labrun import _bench
+from labrun import _bench, _holding
 
-FILE = _bench.__file__
+FILES = (_bench.__file__, _holding.__file__)
 
 
 class Stuck(BaseException):
@@ -103,7 +103,7 @@ class Gates:
             self._leave()
 
     def _trace(self, frame: FrameType, event: str, given: Any) -> Any:
-        return self._at_line if frame.f_code.co_filename == FILE else None
+        return self._at_line if frame.f_code.co_filename in FILES else None
 
     def _at_line(self, frame: FrameType, event: str, given: Any) -> Any:
         me = self.now
@@ -171,4 +171,4 @@ class Gates:
 def _has_no_signal(frame: FrameType) -> bool:
     """At these lines the interpreter sees no signal while a mutex is held: between the last of a block and the end of its `with`, whose line
     comes again then, and at a mere `try`."""
-    return linecache.getline(FILE, frame.f_lineno).lstrip().startswith(("with ", "try:"))
+    return linecache.getline(frame.f_code.co_filename, frame.f_lineno).lstrip().startswith(("with ", "try:"))

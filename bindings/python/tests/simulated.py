@@ -18,7 +18,7 @@ sys.path.insert(0, os.path.join(TOP, "bench"))
 import simulate  # type: ignore[import]  # noqa: E402
 
 # the calls that take steps
-KEPT = ("lab_settle", "lab_command", "lab_end", "lab_withdraw", "lab_retire", "lab_overtakes", "lab_nobody_outside")
+KEPT = ("lab_turn", "lab_settle", "lab_command", "lab_end", "lab_withdraw", "lab_retire", "lab_overtakes", "lab_nobody_outside")
 
 DINING = (simulate.THINKING, simulate.HUNGRY, simulate.EATING)
 DRINKING = (simulate.TRANQUIL, simulate.THIRSTY, simulate.DRINKING, simulate.REACHING, simulate.RETIRED)
@@ -138,6 +138,15 @@ class Simulated:
             at(told).line, at(told).cause = int(line), int(cause)
             return 1
         at(handle).at, at(handle).live = len(self.runs) - 1, 1
+        return 0
+
+    def lab_check(self, script: bytes, length: int, report: Any, room: int, told: Any) -> int:
+        plan = simulate.read_script(script)
+        counts = len(plan.job_names), len(plan.instrument_names), len(plan.edges), sum(map(len, plan.sessions))
+        commands = sum(len(one.commands) for sessions in plan.sessions for one in sessions)
+        text = b"ok jobs %d instruments %d edges %d sessions %d commands %d\n" % (*counts, commands)
+        ctypes.memmove(report, text, len(text))
+        at(told).written = len(text)
         return 0
 
     def lab_bench_free(self, handle: Any) -> None:
@@ -304,6 +313,42 @@ class Simulated:
             if run.needed(its) >> instrument & 1 and (holds or seen.fork != end):
                 told.jobs |= 1 << other
                 told.holding |= holds << other
+        return 0
+
+    def lab_turn(self, handle: Any, job: int, turned: Any) -> int:
+        run = self.run(handle)
+        return self.told(turned, run.whole_turn(run.jobs[job])[0])
+
+    def lab_add(self, handle: Any, job: int, session: bytes, length: Any, told: Any) -> int:
+        """A refusal has its line, from 1; cause 0 if an instrument isn't the job's own."""
+        if at(handle).at in self.kept:
+            return 8
+        run = self.run(handle)
+        one, plan = run.jobs[job], run.plan
+        if one.is_retired():
+            return 14
+        its_own = {instrument for planned in plan.sessions[job] for instrument, _, _ in planned.commands}
+        at(told).line = at(told).cause = 0
+        try:
+            more = simulate.read_script(b"lab %d\njob x\n%b" % (plan.version, session))
+            numbers = [plan.instrument_names.index(name) for name in more.instrument_names]
+            if not its_own.issuperset(numbers):
+                raise ValueError
+        except simulate.Fault as fault:
+            line, at(told).cause = map(int, re.findall(r"\d+", str(fault))[:2])
+            at(told).line = line - 2
+            return 1
+        except ValueError:
+            return 1
+        commands = sum(len(planned.commands) for sessions in [*plan.sessions, *more.sessions] for planned in sessions)
+        if len(plan.sessions[job]) + len(more.sessions[0]) > 1000 or commands > 100000:
+            at(told).line, at(told).cause = 1, 10
+            return 1
+        for planned in more.sessions[0]:
+            commands = [(numbers[instrument], verb, number) for instrument, verb, number in planned.commands]
+            plan.sessions[job].append(simulate.Session(planned.patience, commands))
+            run.needs[job].append(plan.needs(job, len(plan.sessions[job])))
+            one.total += 1
         return 0
 
     def lab_command(self, handle: Any, job: int, entry: Any) -> int:

@@ -6,7 +6,7 @@ from unittest import mock
 
 import labrun
 from labrun import _library
-from tests import test_bench, test_journal, test_thirst
+from tests import test_bench, test_holding, test_journal, test_thirst
 from tests.load import Counting, load_script
 from tests.simulated import Simulated
 
@@ -73,6 +73,28 @@ class Taken(OnDefinitions, test_thirst.Taken):
 
 class Limits(OnDefinitions, test_thirst.Limits):
     """Limits on holding, and patience in seconds."""
+
+
+class Coming(OnDefinitions, test_holding.Coming):
+    """Sessions that come."""
+
+
+class AnyOf(OnDefinitions, test_holding.AnyOf):
+    """One of several."""
+
+
+class New(OnDefinitions, test_holding.New):
+    """A bench without a script."""
+
+
+class Pages(OnDefinitions, test_holding.Pages):
+    """Pages that are turned."""
+
+
+class Holding(OnDefinitions, test_holding.Loads):
+    """Threads that add and hold at random."""
+
+    test_threads = None  # type: ignore[assignment]  # (32 are for the built library)
 
 
 class Files(OnDefinitions, test_journal.Files):

@@ -1,0 +1,705 @@
+"""Sessions that come while the bench is open, and pages.
+
+Which jobs there are and which instruments each may use stays as the bench was opened; only sessions come, each behind its job's others. What
+was proved of the bench is then so of the longer script. A session is added at the moment that it asks: before, nobody knows of it.
+
+The `_others` of a bench are those that wait for more than their turn: for a choice to be free, for a session that somebody adds, for a page
+to be turned. Each of them looks itself, with the mutex held, and is woken when it may go on."""
+
+from __future__ import annotations
+
+import asyncio
+import ctypes
+import os
+import weakref
+from dataclasses import dataclass, field
+from typing import Any, Callable, Iterable, Mapping, NamedTuple, Optional, TypeVar, Union
+
+from . import _bench
+from ._bench import _ELSEWHERE, _FOREVER, _HOLDS, _STOPPED, _THIRSTY, VERBS, Bench, Command, Job, Keeper, NotBack, Session, _freed, _now, _Planned, _plans
+from ._faults import Full, LabrunError, MayNotUse, Refused, Retired, TimeoutError, Withdrawn, WouldBlock
+from ._journal import MOST_STEPS, Journal, Kept, Path
+from ._library import NO_MEMORY, NOT_NOW, REFUSED, RETIRED, Handle, Library, Told, library
+from ._report import Report, told_fault, told_text
+
+# a command as `Job.hold` takes it
+Asked = Union[Command, tuple[str, str], tuple[str, str, int]]
+
+MOST_SESSIONS, MOST_COMMANDS, LARGEST = 1000, 100000, 999999
+_LIMIT_PASSED = 10  # the cause S10
+
+Result = TypeVar("Result")
+
+
+@dataclass(frozen=True)
+class Room:
+    """How much may still come to the page that is open: `sessions` of each job by its name, `commands` of all, and, with a journal, `steps`.
+    `is_low` says that less than a tenth of one of them is left: it is time to turn the page."""
+
+    sessions: Mapping[str, int]
+    commands: int
+    steps: Optional[int]
+
+    @property
+    def is_low(self) -> bool:
+        steps = MOST_STEPS if self.steps is None else self.steps
+        return 10 * min(self.sessions.values(), default=MOST_SESSIONS) < MOST_SESSIONS or 10 * self.commands < MOST_COMMANDS or 10 * steps < MOST_STEPS
+
+
+@dataclass(frozen=True)
+class Page:
+    """A page that was closed: its `report`; the `script` that it became; the `lapsed`, `raised` and `taken` of its sessions; and where its
+    `journal` is, if there is one."""
+
+    report: Report
+    script: str = field(repr=False)
+    lapsed: tuple[tuple[str, int], ...]
+    raised: tuple[tuple[str, int], ...]
+    taken: tuple[tuple[str, int], ...]
+    journal: Optional[str]
+
+
+class Kind(NamedTuple):
+    """A session as it is added: its lines, how many bytes these have, and what the job notes of it."""
+
+    text: bytes
+    size: Any
+    plan: _Planned
+
+
+class Waiter:
+    """One of `Bench._others`."""
+
+    __slots__ = ()
+
+    def is_ready(self, bench: Bench) -> bool:
+        """Whether it can go on."""
+        raise NotImplementedError
+
+    def passed_by(self, instruments: tuple[str, ...]) -> None:
+        """A session of these came to hold meanwhile."""
+
+
+class Hold(Session, Waiter):
+    """A session of `Job.hold`: it is added when it is entered, or acquired. Before, `number` is 0; with `any_of`, `instruments` are then none. One
+    whose time is over is given up. Else it is as any session."""
+
+    __slots__ = ("_choices", "_limit", "_seconds", "_passed", "_since", "_adds")
+
+    def __init__(self, job: Job, choices: tuple[Kind, ...], timeout: Optional[float], patience: Optional[float], limit: Optional[float]) -> None:
+        self.job = job
+        # (the number that it has, or is being given, stands in `_adds` first)
+        self.number = self.done = self._adds = 0
+        self.timeout = timeout
+        self.state = "new"
+        self.resumed = False
+        self._choices = choices
+        self._limit = limit
+        self._seconds = patience
+        self._since = 0.0
+        if len(choices) == 1:
+            self.instruments, self.commands, self.patience = choices[0][2]
+        else:
+            self.instruments, self.commands, self.patience = (), (), _FOREVER
+            self._passed = [0] * len(choices)
+
+    def __repr__(self) -> str:
+        return super().__repr__() if self.number else f"<Session of {self.job.name}: not added>"
+
+    def acquire(self, timeout: Optional[float] = None) -> None:
+        """Adds the session, and blocks until it holds all its instruments. After `timeout` seconds TimeoutError says who keeps it waiting, and it
+        is given up; so it is by any other exception that comes while it waits."""
+        if self.number:
+            return super().acquire(timeout)
+        job = self.job
+        bench = job.bench
+        try:
+            until = None if timeout is None else _now() + timeout
+            while True:
+                with bench._mutex:
+                    if self._is_added_at_once(job, bench) or self._is_added(job, bench, job._get_up):
+                        holds = bench._ask(job, self, job._get_up)
+                        break
+                    span = self._span_before(bench, until)
+                if asyncio._get_running_loop() is not None:
+                    raise WouldBlock(self)
+                job._sleep.acquire(True, span)
+            if not holds:
+                self._sleep(job, bench, until, timeout)
+        except BaseException as fault:
+            self._left_by(fault)
+            raise
+
+    async def acquire_async(self, timeout: Optional[float] = None) -> None:
+        """As `acquire`, for a task of asyncio: other tasks go on meanwhile."""
+        job = self.job
+        bench = job.bench
+        until = None if timeout is None else _now() + timeout
+        loop, event = asyncio.get_running_loop(), asyncio.Event()
+
+        def wake() -> None:
+            try:
+                loop.call_soon_threadsafe(event.set)
+            except RuntimeError:  # the loop is closed: nobody waits any more
+                pass
+
+        try:
+            while not self.number:
+                with bench._mutex:
+                    if self._is_added(job, bench, wake):
+                        break
+                    span = self._span_before(bench, until)
+                timer = None if span < 0 else loop.call_later(span, event.set)
+                try:
+                    await event.wait()
+                finally:
+                    if timer is not None:
+                        timer.cancel()
+                event.clear()
+        except BaseException as fault:
+            self._left_by(fault)
+            raise
+        await super().acquire_async(None if until is None else max(0.0, until - _now()))
+
+    # what follows is called with the mutex held
+
+    def _is_added_at_once(self, job: Job, bench: Bench) -> bool:
+        """Adds the session, where nothing is to be thought of. (It does what `_is_added` does, in a third of the time.)"""
+        plan, call, choices = job._plan, bench._lab_add, self._choices
+        if bench._stands or bench._torn or bench._turns_page or self._since or len(choices) != 1 or call is None:
+            return False
+        if job._in or job._last != len(plan) or job._is_over or job._untold is not None:
+            return False
+        text, size, job._adds = choices[0]
+        self._adds = job._last + 1
+        bench._torn = True
+        if call(bench._at, job.index, text, size, bench._told_at):
+            bench._torn = False
+            return False
+        plan.append(job._adds)
+        bench._torn, bench._has_patience = False, True
+        self.number = self._adds
+        job._limit = self._limit
+        job._patience = self._seconds
+        return True
+
+    def _is_added(self, job: Job, bench: Bench, wake: Callable[[], None]) -> bool:
+        """Adds the session, if it is known which, and may be. If not, it is one of the others, to be woken."""
+        if job._untold is not None:
+            raise job._untold._taken_away()
+        if bench._stands or bench._torn:
+            bench._look_over()
+            bench._may_go_on()
+        if job._in or job._last < len(job._plan):
+            _comes_next(job, bench)
+        kind = self._choice(bench)
+        if kind is None:
+            if any(isinstance(other, Hold) and other is not self and other.job is job for other in bench._others):
+                raise LabrunError(f"another thread waits for a session of {job.name}")
+            self._since = self._since or _now()
+            job._sleep.acquire(False)
+            bench._others[self] = wake
+            return False
+        if self in bench._others:
+            del bench._others[self]
+        job._limit, job._patience = self._limit, self._seconds
+        self._adds = len(job._plan) + 1
+        self.number = _append(bench, job, kind)
+        self.instruments, self.commands, _ = kind.plan
+        if self._since:
+            job._asked_for, job._asked, job._settles, job._is_old = self.number, self._since, bench._settles, False
+        return True
+
+    def _choice(self, bench: Bench) -> Optional[Kind]:
+        """Which it is to be, if that is known now: the first that is free; else the one at which it was passed by as often as may be."""
+        if bench._turns_page:
+            return None
+        if len(self._choices) == 1:
+            return self._choices[0]
+        used: set[str] = set()
+        for job in bench._jobs:
+            # (one that was left and holds lets go as soon as somebody waits)
+            if job._in and job is not self.job and bench._outside_of(job) is None and not (bench._left & job._bit and bench._holds(job)):
+                used.update(job._plan[job._in - 1][0])
+        for kind in self._choices:
+            if used.isdisjoint(kind.plan[0]):
+                return kind
+        most = max(self._passed)
+        return self._choices[self._passed.index(most)] if most >= bench._overtakes else None
+
+    def is_ready(self, bench: Bench) -> bool:
+        return self._choice(bench) is not None
+
+    def passed_by(self, instruments: tuple[str, ...]) -> None:
+        if len(self._choices) > 1:
+            for at, kind in enumerate(self._choices):
+                self._passed[at] += not set(instruments).isdisjoint(kind.plan[0])
+
+    def _span_before(self, bench: Bench, until: Optional[float]) -> float:
+        """For how long it may sleep, not added yet; -1 for without limit. It raises what keeps it from that."""
+        now = _now()
+        if self._seconds is not None and now >= self._since + self._seconds:
+            raise Withdrawn(self, self._seconds, self._kept(bench))
+        if until is not None and now >= until:
+            raise TimeoutError(self, self._kept(bench))
+        ends = [it for it in (until, None if self._seconds is None else self._since + self._seconds) if it is not None]
+        return min(ends) - now if ends else -1
+
+    def _kept(self, bench: Bench) -> tuple[Keeper, ...]:
+        """Who keeps its choices from it."""
+        found: list[Keeper] = []
+        if bench._turns_page:
+            return ()
+        for instrument in dict.fromkeys(name for kind in self._choices for name in kind.plan[0]):
+            users = [it for it in bench._jobs if it._in and instrument in it._plan[it._in - 1][0] and bench._outside_of(it) is None]
+            holders = [it for it in users if bench._holds(it)]
+            found += [bench._holder(instrument, it) for it in holders]
+            found += [Keeper(instrument, it.name, False, bench._behind(it, self.job._bit)) for it in users if not holders]
+        return tuple(found)
+
+    def _asked(self, job: Job) -> bool:
+        return job.bench._leaves(job, self, True)
+
+    # without it
+
+    def waits_for(self) -> tuple[Keeper, ...]:
+        bench = self.job.bench
+        if self.number:
+            return super().waits_for()
+        with bench._mutex:
+            bench._look_over()
+            return self._kept(bench) if self in bench._others else ()
+
+    def give_up(self) -> None:
+        if self.number:
+            super().give_up()
+
+    def withdraw(self) -> None:
+        if not self.number:
+            raise LabrunError("the session isn't added yet")
+        super().withdraw()
+
+    def _left_by(self, fault: BaseException) -> None:
+        """It is given up, also where it was just being added."""
+        job = self.job
+        bench = job.bench
+        with bench._mutex, bench._mending:
+            bench._others.pop(self, None)
+            if bench._stands > _STOPPED:
+                return
+            bench._look_over()
+            number = self._adds
+            if job._in and job._in == number and self.state != "held":
+                if bench._outside_of(job) is not None or bench._state_of(job.index).session == number:
+                    bench._leaves(job, self, False)
+                else:  # it was about to ask
+                    bench._waiting &= ~job._bit
+                    job._in, job._last = 0, number - 1
+            if not job._in and job._last + 1 == number == len(job._plan):
+                _skip(bench, job)
+                self.state = "withdrawn"
+
+
+class _More(Waiter):
+    """Whoever goes through a job's sessions waits for one."""
+
+    def __init__(self, job: Job) -> None:
+        self.job = job
+
+    def is_ready(self, bench: Bench) -> bool:
+        return self.job._last < len(self.job._plan) or self.job._is_over or bench._stands != 0
+
+
+class _Turner(Waiter):
+    """Whoever turns the page: all sessions are over."""
+
+    def is_ready(self, bench: Bench) -> bool:
+        return not _busy(bench) or bench._stands > _STOPPED
+
+
+def _busy(bench: Bench) -> tuple[Job, ...]:
+    """The jobs that are in a session or have one left, those aside whose session was left and holds."""
+    return tuple(job for job in bench._jobs if (job._in or job._last < len(job._plan)) and not (bench._left & job._bit and bench._holds(job)))
+
+
+def _waits(bench: Bench, waiter: Waiter, act: Callable[[], Result], timeout: Optional[float] = None) -> Optional[Result]:
+    """Sleeps until the waiter can go on, and acts with the mutex held. None if its time is over."""
+    lock = _bench._new_lock()
+    lock.acquire()
+    until = None if timeout is None else _now() + timeout
+    try:
+        while True:
+            with bench._mutex, bench._mending:
+                bench._look_over()
+                if waiter.is_ready(bench):
+                    return act()
+                bench._others[waiter] = lock.release
+            span = -1 if until is None else max(0.0, until - _now())
+            if span == 0:
+                return None
+            if asyncio._get_running_loop() is not None:
+                raise LabrunError("this has to wait, and a loop of asyncio runs on this thread")
+            lock.acquire(True, span)
+    finally:
+        with bench._mutex:
+            bench._others.pop(waiter, None)
+
+
+# ---- a job's further sessions
+
+
+def uses_of(job: Job) -> tuple[str, ...]:
+    """(Kept by the job: its sessions never name others.)"""
+    if job._uses is None:
+        names = {name for planned in job._plan for name in planned[0]}
+        job._uses = tuple(sorted(names, key=job.bench._number.__getitem__))
+    return job._uses
+
+
+def hold(
+    job: Job,
+    instruments: tuple[str, ...],
+    commands: Iterable[Asked],
+    any_of: Iterable[Union[str, Iterable[str]]],
+    timeout: Optional[float],
+    patience: Optional[float],
+    limit: Optional[float],
+) -> Hold:
+    if any_of and (instruments or commands):
+        raise ValueError("any_of says the instruments, and no others or commands stand beside it")
+    kinds = tuple(_kind(job, (it,) if isinstance(it, str) else tuple(it), ()) for it in any_of) or (_kind(job, instruments, tuple(commands)),)
+    return Hold(job, kinds, timeout, patience, limit)
+
+
+def _kind(job: Job, instruments: tuple[str, ...], commands: tuple[Asked, ...]) -> Kind:
+    """What is added for these commands, and a read of each of these instruments that they don't name."""
+    known: Optional[tuple[Kind, ...]] = None if commands else job._known.get(instruments)
+    if known is not None:
+        return known[0]
+    given = tuple(_command(it) for it in commands)
+    named = {it.instrument for it in given}
+    given += tuple(Command(name, "read", None) for name in dict.fromkeys(instruments) if name not in named)
+    may = uses_of(job)
+    for command in given:
+        if command.instrument not in may:
+            raise MayNotUse(job.name, str(command.instrument), may)
+        is_number = isinstance(command.number, int) and 0 <= command.number <= LARGEST
+        if command.verb not in VERBS or (command.number is not None if command.verb == "read" else not is_number):
+            raise ValueError(f"no command: {command} (set or add with a number from 0 to {LARGEST}, or read)")
+    if not given:
+        raise ValueError("a session needs an instrument")
+    text = "\n".join([f"session patience {_FOREVER}", *(_line(command) for command in given), "end", ""]).encode("ascii")
+    names = tuple(sorted({it.instrument for it in given}, key=job.bench._number.__getitem__))
+    kind = Kind(text, ctypes.c_size_t(len(text)), (names, given, _FOREVER))
+    if not commands:
+        if len(job._known) > 1000:
+            job._known.clear()
+        job._known[instruments] = (kind,)
+    return kind
+
+
+def _command(given: Asked) -> Command:
+    if isinstance(given, Command):
+        return given
+    name, verb, *number = given
+    return Command(name, verb, number[0] if number else None)
+
+
+def add(job: Job, instruments: tuple[str, ...], commands: Iterable[Asked]) -> None:
+    bench, kind = job.bench, _kind(job, instruments, tuple(commands))
+    with bench._mutex, bench._mending:
+        bench._look_over()
+        bench._may_go_on()
+        if not bench._turns_page:
+            _append(bench, job, kind)
+            bench._rouse_others()
+        elif job._is_over or bench._journal is not None:
+            raise _why_not(bench, job, RETIRED if job._is_over else NOT_NOW)
+        elif sum(other is job for other, _ in bench._later) >= MOST_SESSIONS - 1:
+            raise Full(job.name)
+        else:
+            bench._later.append((job, kind))
+
+
+def _append(bench: Bench, job: Job, kind: Kind) -> int:
+    """Adds a session; its number. (With the mutex held.)"""
+    if job._is_over:
+        raise Retired(job.name)
+    call = bench._lab_add
+    if call is None:
+        call = bench._lab_add = _adder(bench)
+    job._adds = kind.plan
+    bench._torn = True
+    status = call(bench._at, job.index, kind.text, kind.size, bench._told_at)
+    if status:
+        bench._torn = False
+        raise _why_not(bench, job, status)
+    job._plan.append(kind.plan)
+    bench._torn, bench._has_patience = False, True
+    return len(job._plan)
+
+
+def _adder(bench: Bench) -> Callable[..., int]:
+    if _first_line(bench._script) == "lab 1":
+        raise LabrunError("a session that comes has a patience, which a script of version 1 doesn't know: begin it with `lab 2`")
+    return bench._calls.quick("lab_add")
+
+
+def _why_not(bench: Bench, job: Job, status: int) -> Exception:
+    if status == RETIRED:
+        return Retired(job.name)
+    if status == NOT_NOW:
+        return LabrunError("a bench that keeps a journal takes no sessions that come, yet")
+    if status == NO_MEMORY:
+        return MemoryError()
+    if status == REFUSED and bench._told.cause == _LIMIT_PASSED:
+        return Full(job.name)
+    return told_fault(status, bench._told)
+
+
+def _comes_next(job: Job, bench: Bench) -> None:
+    """A job that is in a session, or has one to begin: one that was left is over now; else this raises. (With the mutex held.)"""
+    if job._in and bench._left & job._bit and bench._holds(job):
+        _lapse(bench, job)
+        bench._settle()
+    if job._in:
+        raise LabrunError(f"{job.name} is in a session, its {job._in}, and is in one at a time: threads that hold at once need a job each")
+    if job._last < len(job._plan):
+        raise LabrunError(f"{job.name} has sessions left to begin, from {job._last + 1} to {len(job._plan)}: they come first")
+
+
+def _lapse(bench: Bench, job: Job) -> None:
+    bench._torn = True
+    bench._call("lab_end", job.index, bench._turned_at)
+    bench._comes_to(job, False, "lapsed")
+
+
+def _skip(bench: Bench, job: Job) -> None:
+    """Gives up a session that is the next to begin: single turns begin it, and don't let it hold. (With the mutex held.)"""
+    bench._torn = True
+    number = job._last + 1
+    # (one turn, but for a meal that ends first)
+    while bench._state_of(job.index).session < number:
+        bench._call("lab_turn", job.index, bench._turned_at)
+    bench._call("lab_withdraw", job.index)
+    job._last = number
+    bench._settle()
+
+
+def waits_for_more(job: Job) -> bool:
+    """Whether a job whose sessions are all begun has another one to begin; on a bench of `new` it is waited for."""
+    bench = job.bench
+    if not bench._is_endless:
+        return False
+
+    def act() -> bool:
+        bench._may_go_on()
+        return job._last < len(job._plan)
+
+    return bool(_waits(bench, _More(job), act))
+
+
+def retire(job: Job) -> None:
+    bench = job.bench
+    with bench._mutex, bench._mending:
+        bench._look_over()
+        if job._in or job._last < len(job._plan):
+            _comes_next(job, bench)
+        if any(other is job for other, _ in bench._later):
+            raise LabrunError(f"{job.name} has a session that comes when the page is turned")
+        job._is_over = True
+        # (if it is in a meal, that lasts until others let go, and the close sees to it)
+        bench._retire(job)
+        ticket = bench._ticket()
+        bench._settle()
+    if ticket is not None:
+        bench._commit(ticket)
+
+
+# ---- a bench without a script, and its pages
+
+
+def new(kind: type[Bench], jobs: Mapping[str, Iterable[str]], journal: Optional[Path], sync: str, overtakes: int) -> Bench:
+    lines = _lines({name: tuple(dict.fromkeys(uses)) for name, uses in jobs.items()})
+    try:
+        bench = kind("".join(line + "\n" for line in lines), journal, sync, overtakes)
+    except Refused as fault:
+        at = lines[fault.line - 1] if fault.line <= len(lines) else "the jobs as they are"
+        raise ValueError(f"{at}: {str(fault).split(': ', 1)[-1]}") from fault
+    bench._is_endless = True
+    with bench._mutex:
+        _give_up_first(bench)
+        ticket = bench._ticket()
+    if ticket is not None:
+        bench._commit(ticket)
+    if bench.resumed and bench._jobs and all(job._is_retired for job in bench._jobs):
+        # (the process ended when the page was over, and before the next one was begun)
+        bench.turn_page()
+    return bench
+
+
+def _lines(jobs: Mapping[str, tuple[str, ...]]) -> list[str]:
+    """The script of a bench whose jobs may use these. (An instrument is read by the job that names it first before all that come later: so
+    they have the numbers that they had.)"""
+    lines = ["lab 2"]
+    for name, uses in jobs.items():
+        lines.append(f"job {name}")
+        if uses:
+            lines += ["session patience 0", *(f"{it} read" for it in uses), "end"]
+    return lines
+
+
+def _give_up_first(bench: Bench) -> None:
+    """The first session of each job is begun by one turn, and given up, unless a journal says that it was. (With the mutex held.)"""
+    for job in bench._jobs:
+        if job._plan and job._last == 0:
+            _begin_and_give_up(bench, job)
+        elif job._in == 1 and bench._state_of(job.index).drinking == _THIRSTY:
+            bench._call("lab_withdraw", job.index)
+        else:
+            continue
+        job._in, job._last, job._session = 0, 1, None
+
+
+def _begin_and_give_up(bench: Bench, job: Job) -> None:
+    bench._call("lab_turn", job.index, bench._turned_at)
+    bench._call("lab_withdraw", job.index)
+
+
+def script_of(bench: Bench) -> str:
+    """The script that the bench has become."""
+    lines = [_first_line(bench._script)]
+    for job in bench._jobs:
+        lines.append(f"job {job.name}")
+        for _, commands, patience in job._plan:
+            lines.append("session" if patience is None else f"session patience {patience}")
+            lines += [_line(command) for command in commands]
+            lines.append("end")
+    return "\n".join(lines) + "\n"
+
+
+def _line(command: Command) -> str:
+    return f"{command.instrument} {command.verb}" + ("" if command.number is None else f" {command.number}")
+
+
+def _first_line(script: bytes) -> str:
+    """(The lines before it are empty, or comments.)"""
+    words = [line.split() for line in script.replace(b"\t", b" ").split(b"\n")]
+    return next((b" ".join(it).decode("ascii") for it in words if it and not it[0].startswith(b"#")), "")
+
+
+def room_of(bench: Bench) -> Room:
+    commands = sum(len(planned[1]) for job in bench._jobs for planned in job._plan)
+    steps = None if bench._journal is None else MOST_STEPS - bench._journal.steps()
+    return Room({job.name: MOST_SESSIONS - len(job._plan) for job in bench._jobs}, MOST_COMMANDS - commands, steps)
+
+
+def turn_page(bench: Bench, timeout: Optional[float]) -> Page:
+    with bench._mutex:
+        bench._look_over()
+        bench._may_go_on()
+        if bench._turns_page:
+            raise LabrunError("another thread turns the page")
+        if bench._journal is not None and not bench._is_endless:
+            raise LabrunError("a bench of a script keeps its journal to the end: Bench.new is for one that turns pages")
+        bench._turns_page = True
+    try:
+        until = None if timeout is None else _now() + timeout
+        while True:
+            page = _waits(bench, _Turner(), lambda: _turned(bench), None if until is None else max(0.0, until - _now()))
+            if page is None:
+                with bench._mutex:
+                    busy = _busy(bench)
+                busy, at = bench._what_they_are_at(busy)
+                raise NotBack(tuple(job.name for job in busy), tuple(it or "has sessions left to begin" for it in at))
+            if isinstance(page, Page):
+                return page
+            bench._commit(page)
+    finally:
+        with bench._mutex:
+            bench._turns_page = False
+            later, bench._later = bench._later, []
+            if bench._stands <= _STOPPED:
+                for job, kind in later:
+                    _append(bench, job, kind)
+            bench._rouse_others(bench._stands > _STOPPED)
+
+
+def _turned(bench: Bench) -> Union[Page, tuple[int, int]]:
+    """Turns the page, unless the journal is to be written before: then that ticket. (With the mutex held.)"""
+    for job in bench._members(bench._left):
+        _lapse(bench, job)
+    while any([bench._retire(job) for job in bench._jobs]):
+        pass
+    ticket = bench._ticket()
+    if ticket is not None and not bench._is_written():
+        return ticket
+    became, uses = script_of(bench), {job.name: uses_of(job) for job in bench._jobs}
+    script = bench._script if bench._is_endless else "".join(line + "\n" for line in _lines(uses)).encode("ascii")
+    report, kept = None, None
+    if bench._journal is None:
+        calls: Union[Library, Kept] = library()
+        handle = _opened(script)
+        report = _closed(bench, handle)
+    else:
+        report, path, stands = _closed(bench), bench._journal.path, bench._stands
+        bench._stands, bench._report = _bench._CLOSED, report
+        bench._finalizer()
+        kept = _kept_aside(path)
+        bench._journal.close()
+        handle = Handle()
+        bench._journal = Journal(path, script, bench._sync, _bench._new_lock)
+        calls, _ = bench._journal.open(library(), handle)
+        bench._stands, bench._report = stands, None
+    page = Page(report, became, tuple(bench._lapsed), tuple(bench._raised), tuple(bench._taken), kept)
+    _begins_anew(bench, calls, handle, script)
+    return page
+
+
+def _opened(script: bytes) -> Handle:
+    handle, told = Handle(), Told()
+    status = library()["lab_bench_open"](script, len(script), ctypes.byref(handle), ctypes.byref(told))
+    if status:
+        raise told_fault(status, told)
+    return handle
+
+
+def _closed(bench: Bench, handle: Optional[Handle] = None) -> Report:
+    """The report of the page that is over. If it can't be had, nothing is lost, and the next page (`handle`) isn't begun."""
+    try:
+        report = Report.from_text(told_text(bench._calls["lab_bench_close"], bench._at))
+    except BaseException:
+        if handle is not None:
+            _freed(library(), handle)
+        raise
+    if handle is not None:
+        bench._finalizer()
+    return report
+
+
+def _kept_aside(path: str) -> str:
+    """Gives the journal's file its name with a number, one more than the last."""
+    number = 1
+    while os.path.exists(f"{path}.{number}"):
+        number += 1
+    os.rename(path, f"{path}.{number}")
+    return f"{path}.{number}"
+
+
+def _begins_anew(bench: Bench, calls: Union[Library, Kept], handle: Handle, script: bytes) -> None:
+    bench._finalizer = weakref.finalize(bench, _freed, calls, handle)
+    bench._calls, bench._at, bench._script = calls, ctypes.byref(handle), script
+    bench._lab_settle, bench._lab_end, bench._lab_add = calls.quick("lab_settle"), calls.quick("lab_end"), None
+    bench._call("lab_overtakes", bench._overtakes)
+    bench._waiting = bench._left = bench._limited = 0
+    bench._lapsed, bench._raised, bench._taken = [], [], []
+    bench._has_patience, bench._torn = True, False
+    for job, plan in zip(bench._jobs, _plans(script, bench.instruments)):
+        job._plan, job._session, job._outcome, job._fault, job._wake = plan, None, None, None, None
+        job._in = job._last = job._asked_for = 0
+        # (one that was retired by its owner stays so)
+        job._is_retired = job._is_old = False
+    _give_up_first(bench)
+    for job in bench._jobs:
+        if job._is_over:
+            bench._retire(job)
