@@ -18,7 +18,7 @@
     11  LAB_IN_USE      the handle that is to be filled isn't empty: it is open, or closed and not freed, or it wasn't zeroed
     12  LAB_JOURNAL_FULL  the bench keeps its steps and has no room for those of this call: take its journal (`lab_journal`), and call again
     13  LAB_BUSY        another call on the handle is under way
-    14  LAB_RETIRED     the job is retired, and gets no further session
+    14  LAB_RETIRED     the job has retired, and takes no further session
 
    At 1, 4, 5 and 6 the room for a report or a name stays as it was. No call starts a thread, waits or sleeps, and none asks
    for anything but malloc, realloc and free.
@@ -120,7 +120,7 @@ uint32_t lab_upgrade(const uint8_t *script, size_t length, uint8_t *report, size
        instrument from one, and which of these hold it. Any thread may finish the session by `lab_end` for it. Nothing is lost if
        nobody does: the close then answers 3.
      - Who comes to hold though nobody waits for it any more is told in `came`, too. End such a session, or it keeps its instruments.
-     - No call between the open and the close asks for memory.
+     - No call between the open and the close asks for memory, but `lab_add`.
      - A job or an instrument is a number from 0, in the order of the script; sessions are counted from 1.
      - At each status but 0 nothing has changed and nothing is written, but for: `turned` and what was done, at 8 and 9 of `lab_begin`
        and at 8 and 10 of `lab_retire`; `written` at 6; `told` at 1, 4 and 5 of the open (at 4 all three are 0; at 5 `line` may be how
@@ -248,9 +248,11 @@ struct lab_outside {
 };
 uint32_t lab_outside(struct lab_bench *bench, uint32_t job, struct lab_outside *outside);
 
-/* Adds the lines of one or more sessions (`session [patience N]`, commands, `end`) at the end of a job's: of instruments that the job names already.
-   0; 1 with line (of this text, from 1) and cause; 2; 5 (the bench is as it was); 7; 8 if the bench keeps a journal (not yet); 14 LAB_RETIRED if
-   the job has retired. */
+/* Adds one or more sessions behind the others of a job: lines `session` or `session patience N`, commands, `end`, as a script has them, of
+   instruments that the job's sessions name already. From then on the bench is one of the longer script: the job has sessions left again, and
+   all that is said of a bench is true of it. This call alone, and the opens, ask for memory. 0; 1 with the line of this text, counted from 1,
+   and the cause (14: an instrument that the job doesn't name); 2; 5 with `told->written`, how many of the sessions were added before there
+   was no memory; 7; 8 if the bench keeps its steps (a journal has no word for a session that comes); 14 if the job has retired. */
 uint32_t lab_add(struct lab_bench *bench, uint32_t job, const uint8_t *session, size_t length, struct lab_told *told);
 
 /* One turn of a job: it gives and asks at each of its edges, and does the first act that is due, also a command of a session

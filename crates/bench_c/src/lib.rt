@@ -5,6 +5,7 @@ ghost use Rattle.std.specs.Prelude.{◌≡◌};
 ghost use Rattle.lab_journal.specs.Taking.{IsOpenedKept};
 ghost use Rattle.bench_calls.specs.Journals.{TellsJournal, Resumes};
 ghost use Rattle.bench_calls.specs.Closing.{Closes, Frees, is_of_a_lab};
+ghost use Rattle.bench_calls.specs.Coming.{Comes};
 ghost use Rattle.bench_calls.specs.Calls.{Opens, IsFresh, InLab, InRoom};
 ghost use Rattle.bench_calls.specs.Calls.{Turns, Serves, ServesRest, SettlesAll, GoesToHold, DoesNext, LetsGo, GivesUp, GoesToEnd, SetsOvertakes};
 ghost use Rattle.bench_calls.specs.Calls.{TellsSize, TellsSession, TellsPlanned, TellsState, TellsKeepers, TellsOutside, TellsJobName, TellsInstrumentName};
@@ -265,6 +266,20 @@ pub extern "C" fn lab_end(
     ensures { InLab (InRoom (LetsGo job)) bench.old.slot.held bench.new.slot.held turned.old turned.new result }
 {
     bench_calls::end(alloc, bench, job, turned)
+}
+
+/// Adds the sessions of a text behind the others of a job.
+#[unsafe(no_mangle)]
+pub extern "C" fn lab_add(
+    alloc: Global,
+    bench: &mut Handle,
+    job: u32,
+    session: &[u8],
+    told: &mut Told,
+) -> u32
+    ensures { InLab (Comes session.now job) bench.old.slot.held bench.new.slot.held told.old told.new result }
+{
+    bench_calls::add(alloc, bench, job, session, told)
 }
 
 /// Jobs are let in after so many sessions that pass them by, from now on.

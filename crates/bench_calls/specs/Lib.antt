@@ -2,3 +2,4 @@ pub mod Telling
 pub mod Closing
 pub mod Calls
 pub mod Journals
+pub mod Coming

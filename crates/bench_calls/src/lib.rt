@@ -1,6 +1,7 @@
 //! The calls for C on the lab of one handle: what each does to it, what it tells, as structs that C has too, and its status.
 #![tactic(auto)]
 
+mod coming;
 mod doing;
 mod ending;
 mod journals;
@@ -9,6 +10,7 @@ mod reading;
 mod statuses;
 mod told;
 
+pub use coming::add;
 pub use doing::{begin, command, end, overtakes, retire, serve, serve_others, settle, turn, withdraw};
 pub use ending::{close, free};
 pub use journals::{journal, open_kept, resume};

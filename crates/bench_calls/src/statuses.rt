@@ -28,6 +28,9 @@ const SESSIONS_LEFT: u32 = 10;
 /// The status if a lab keeps its steps and has no room for those of one more call.
 pub(crate) const JOURNAL_FULL: u32 = 12;
 
+/// The status if the job has retired.
+pub(crate) const RETIRED: u32 = 14;
+
 /// Whether a session was given up.
 pub fn withdrew(did: bool) -> u32
     ensures { result ≡ (if did then 0 else 8) }

@@ -1,5 +1,5 @@
--- A lab whose plan is longer: it began in that plan's initial state too, and all is marked.
-use Rattle.std.proofs.Common.{ℕ, ◌<◌, List, length, sym, ap, ◌∙◌, subst}
+-- A lab whose plan is longer: it began in that plan's initial state too, all is marked, and each job has its place in the line.
+use Rattle.std.proofs.Common.{◌≡◌, ℕ, ◌<◌, List, [], ◌∷◌, ◌++◌, length, refl, sym, ap, ◌∙◌, subst, length-set}
 use Rattle.std.specs.Prelude.{Result, Ok, Err}
 use Rattle.lab_plan.specs.LabPlan.{LabPlan, SessionPlan}
 use Rattle.lab_plan.specs.Longer.{with_one_more}
@@ -14,24 +14,38 @@ use Rattle.interleaving.proofs.LongerWorlds.{refused_same}
 use Rattle.settling.specs.Left.{DueView, AreMarked}
 use Rattle.settling.proofs.MarkedOn.{stays_marked}
 use Rattle.live_lab.specs.declared.clock.Clock.{Clock}
-use Rattle.live_lab.specs.Labs.{IsLab}
+use Rattle.late_thirst.specs.Outside.{LineView}
+use Rattle.live_lab.specs.Labs.{LabView, IsLab, IsLineOf}
+use Rattle.live_lab.specs.Adding.{with_all}
 
 -- what is kept of a lab by its type
-abbrev pub Keeps : WorldView → List Clock → DueView → Type 0
-Keeps w clocks due = IsLab (record { world = w; clocks = clocks }) × AreMarked w.plan w.state due
+abbrev pub Keeps : WorldView → List Clock → DueView → LineView → Type 0
+Keeps w clocks due line = IsLab w clocks × AreMarked w.plan w.state due × IsLineOf w line
 
-longer : (w : WorldView) (clocks : List Clock) (due : DueView) (j : ℕ) (q : LabPlan) → IsLonger w.plan q j → Fits w.plan w.state
-    → Keeps w clocks due → Keeps (record w { plan = q }) clocks due
-longer w clocks due j q more fit keeps = (
+longer : (w : WorldView) (clocks : List Clock) (due : DueView) (line : LineView) (j : ℕ) (q : LabPlan) → IsLonger w.plan q j → Fits w.plan w.state
+    → Keeps w clocks due line → Keeps (record w { plan = q }) clocks due line
+longer w clocks due line j q more fit keeps = (
   record { opening = keeps.0.opening ∙ sym (opens_the_same w.plan q j more); one_each = keeps.0.one_each ∙ sym more.jobs_same },
   stays_marked w.plan q j more w.state due fit keeps.1,
+  keeps.2 ∙ sym more.jobs_same,
 )
 
-pub added : (w : WorldView) (clocks : List Clock) (due : DueView) (j : ℕ) (session : SessionPlan) (answer : Result (Unit {0}) AddRefusal) (new : WorldView)
-    → j < length w.plan.jobs → Fits w.plan w.state → WorldAdds w j session answer new → Keeps w clocks due → Keeps new clocks due
-added w clocks due j session (Ok done) new job fit adds keeps =
+pub added : (w : WorldView) (clocks : List Clock) (due : DueView) (line : LineView) (j : ℕ) (session : SessionPlan)
+    (answer : Result (Unit {0}) AddRefusal) (new : WorldView)
+    → j < length w.plan.jobs → Fits w.plan w.state → WorldAdds w j session answer new → Keeps w clocks due line → Keeps new clocks due line
+added w clocks due line j session (Ok done) new job fit adds keeps =
     let q : LabPlan = with_one_more w.plan j session in
-    subst (λ (z : WorldView). Keeps z clocks due) (sym (adds.2 ∙ ap (λ (p : LabPlan). record w { plan = p }) adds.1.1))
-    (longer w clocks due j q (taken_is_longer w.plan j session job adds.1.0) fit keeps)
-added w clocks due j session (Err refusal) new job fit adds keeps =
-    subst (λ (z : WorldView). Keeps z clocks due) (sym (refused_same w j session refusal new adds)) keeps
+    subst (λ (z : WorldView). Keeps z clocks due line) (sym (adds.2 ∙ ap (λ (p : LabPlan). record w { plan = p }) adds.1.1))
+    (longer w clocks due line j q (taken_is_longer w.plan j session job adds.1.0) fit keeps)
+added w clocks due line j session (Err refusal) new job fit adds keeps =
+    subst (λ (z : WorldView). Keeps z clocks due line) (sym (refused_same w j session refusal new adds)) keeps
+
+-- one more behind those that were added
+pub all_and_one : (p : LabPlan) (j : ℕ) (some : List SessionPlan) (session : SessionPlan)
+    → with_all p j (some ++ session ∷ []) ≡ with_one_more (with_all p j some) j session
+all_and_one p j [] session = refl
+all_and_one p j (first ∷ some) session = all_and_one (with_one_more p j first) j some session
+
+pub jobs_with_all : (p : LabPlan) (j : ℕ) (some : List SessionPlan) → length (with_all p j some).jobs ≡ length p.jobs
+jobs_with_all p j [] = refl
+jobs_with_all p j (first ∷ some) = jobs_with_all (with_one_more p j first) j some ∙ length-set p.jobs j _

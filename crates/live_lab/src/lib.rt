@@ -28,6 +28,7 @@ mod stepping;
 mod turning;
 mod words;
 
+pub use coming::NotAdded;
 pub use ending::Ended;
 pub use interleaving::AddRefusal;
 pub use keeping::Keepers;

@@ -1,0 +1,74 @@
+//! Sessions that come while a lab is open.
+ghost use Rattle.std.specs.Prelude.{◌≡◌, Err};
+ghost use Rattle.bench_calls.specs.Calls.{InLab};
+ghost use Rattle.bench_calls.specs.Telling.{IfTold};
+ghost use Rattle.bench_calls.specs.Coming.{keeps, TellsAdded, Comes};
+
+use crate::statuses::{NO_JOB, NO_MEMORY, NOT_NOW, RETIRED};
+use c_handles::{Handle, Inside, NOT_OPEN, put, take};
+use c_tells::{Told, fail};
+use lab_program::RunFault;
+use live_lab::{Lab, NotAdded};
+use std::alloc::Global;
+
+/// Whether the lab keeps its steps for a journal.
+fn keeps(lab: &Lab) -> bool
+    ensures { result ≡ keeps lab.now.world.kept }
+{
+    let world = lab.world();
+    world.kept_room() > 0 || !world.kept().is_empty()
+}
+
+/// Tells why not all sessions were added.
+fn tell_why(why: NotAdded, told: &mut Told) -> u32
+    ensures { TellsAdded (Err why) told.old told.new result }
+{
+    match why {
+        NotAdded::HasRetired => RETIRED,
+        NotAdded::Fault(fault) => fail(RunFault::Script(fault), told),
+        NotAdded::NoMemory(added) => {
+            *told = Told {
+                written: added,
+                line: 0,
+                cause: 0,
+            };
+            NO_MEMORY
+        }
+    }
+}
+
+fn tell_added(answer: Option<Result<(), NotAdded>>, told: &mut Told) -> u32
+    ensures { IfTold TellsAdded answer told.old told.new result }
+{
+    match answer {
+        None => NO_JOB,
+        Some(Ok(())) => 0,
+        Some(Err(why)) => tell_why(why, told),
+    }
+}
+
+fn add_in(alloc: Global, lab: &mut Lab, job: u32, text: &[u8], told: &mut Told) -> u32
+    ensures { Comes text.now job lab.old lab.new told.old told.new result }
+{
+    // A journal has no word for a session that comes.
+    if keeps(lab) {
+        return NOT_NOW;
+    }
+    tell_added(lab.add(alloc, job as usize, text), told)
+}
+
+/// Adds the sessions of a text behind the others of a job. It takes memory.
+pub fn add(alloc: Global, bench: &mut Handle, job: u32, text: &[u8], told: &mut Told) -> u32
+    ensures { InLab (Comes text.now job) bench.old.slot.held bench.new.slot.held told.old told.new result }
+{
+    let mut inside = match take(&mut bench.slot, &mut bench.live, alloc) {
+        Ok(inside) => inside,
+        Err(status) => return status,
+    };
+    let status = match &mut *inside {
+        Inside::Open(lab) => add_in(alloc, lab, job, text, told),
+        _ => NOT_OPEN,
+    };
+    put(&mut bench.slot, &mut bench.live, inside);
+    status
+}
