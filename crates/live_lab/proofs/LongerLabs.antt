@@ -1,17 +1,13 @@
 -- A lab whose plan is longer: it began in that plan's initial state too, and all is marked.
-use Rattle.std.proofs.Common.{◌≡◌, ℕ, ◌<◌, List, length, sym, ap, ◌∙◌, subst}
+use Rattle.std.proofs.Common.{ℕ, ◌<◌, List, length, sym, ap, ◌∙◌, subst}
 use Rattle.std.specs.Prelude.{Result, Ok, Err}
 use Rattle.lab_plan.specs.LabPlan.{LabPlan, SessionPlan}
 use Rattle.lab_plan.specs.Longer.{with_one_more}
-use Rattle.lab_plan.specs.declared.refusal.MoreRefusal.{MoreRefusal}
-use Rattle.legal_steps.specs.State.{State}
 use Rattle.legal_steps.specs.Fitting.{Fits}
-use Rattle.legal_steps.specs.Opening.{the_opening}
 use Rattle.longer_plans.specs.Longer.{IsLonger}
 use Rattle.longer_plans.proofs.Once.{taken_is_longer}
 use Rattle.longer_plans.proofs.States.{opens_the_same}
 use Rattle.interleaving.specs.declared.adding.AddRefusal.{AddRefusal}
-use Rattle.interleaving.specs.declared.adding.AddRefusal.TheVariants.{HasRetired, IsLent, Refused}
 use Rattle.interleaving.specs.Adding.{WorldAdds}
 use Rattle.interleaving.specs.World.{WorldView}
 use Rattle.interleaving.proofs.LongerWorlds.{refused_same}
@@ -21,7 +17,7 @@ use Rattle.live_lab.specs.declared.clock.Clock.{Clock}
 use Rattle.live_lab.specs.Labs.{IsLab}
 
 -- what is kept of a lab by its type
-abbrev Keeps : WorldView → List Clock → DueView → Type 0
+abbrev pub Keeps : WorldView → List Clock → DueView → Type 0
 Keeps w clocks due = IsLab (record { world = w; clocks = clocks }) × AreMarked w.plan w.state due
 
 longer : (w : WorldView) (clocks : List Clock) (due : DueView) (j : ℕ) (q : LabPlan) → IsLonger w.plan q j → Fits w.plan w.state

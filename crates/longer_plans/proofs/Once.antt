@@ -6,7 +6,6 @@ use Rattle.std.proofs.lemmas.List.Folds.{list_any-append}
 use Rattle.lab_plan.specs.LabPlan.{LabPlan, SessionPlan, JobPlan, no_job, job_at, sessions, any_on, is_named_by, names, pairs, edges, ends, common}
 use Rattle.longer_plans.specs.Longer.{IsLonger}
 use Rattle.lab_plan.specs.declared.verb.Verb.{Verb}
-use Rattle.lab_plan.specs.declared.refusal.MoreRefusal.{MoreRefusal}
 use Rattle.lab_plan.specs.declared.refusal.MoreRefusal.TheVariants.{Empty, LimitPassed, NotItsOwn, NotPatient, TooLarge}
 use Rattle.lab_plan.specs.Longer.{with_session, with_one_more, IsOfItsOwn, is_past_limit, are_its_own, may_be_patient, all_fit, more_refusal}
 use Rattle.longer_plans.specs.OneMore.{IsLongerByOne, TakenIsLonger}

@@ -1,6 +1,5 @@
 -- For readers: what is noted of a plan's jobs stays true of them if the plan gets longer.
 use Rattle.std.specs.Prelude.{ℕ}
-use Rattle.lab_plan.specs.LabPlan.{LabPlan}
 use Rattle.legal_steps.specs.State.{State}
 use Rattle.legal_steps.specs.Fitting.{Fits}
 use Rattle.longer_plans.specs.Longer.{ForLonger}
