@@ -8,7 +8,7 @@ use script_reader::ScriptCause::{
     BadName, BadNumber, BadStep, EmptySession, JobTwice, NoHeader, NotInJob, NotInSession,
     SessionNotClosed, UnknownWord,
 };
-use script_reader::laws::{one_meaning, one_meaning_with_steps};
+use script_reader::laws::{one_meaning, one_meaning_with_steps, sessions_are_granted};
 use script_reader::upgrade_law::{upgrade_is_short, upgrade_means_plan};
 use script_reader::{ScriptCause, ScriptFault, read_plan, read_steps};
 use std::alloc::{Allocator, Global};
@@ -456,4 +456,5 @@ fn laws_of_scripts() {
     one_meaning_with_steps();
     upgrade_means_plan();
     upgrade_is_short();
+    sessions_are_granted();
 }

@@ -28,3 +28,4 @@ pub mod OneList
 pub mod OwnSteps
 pub mod StepForms
 pub mod FurtherLines
+pub mod Granted

@@ -4,10 +4,11 @@ use Rattle.std.specs.Prelude.{Option, None, Some, Result, Ok, Err, length, slice
 use Rattle.lab_plan.specs.declared.verb.Verb.{Verb}
 use Rattle.lab_plan.specs.Limits.{most_sessions, most_commands}
 use Rattle.lab_plan.specs.LabPlan.{LabPlan, SessionPlan, no_session, sessions, names, all_commands}
+use Rattle.lab_plan.specs.IsPlan.{IsPlan}
 use Rattle.lab_plan.specs.Names.{is_name}
 use Rattle.lab_plan.specs.Cuts.{commands_of}
 use Rattle.lab_plan.specs.Building.{on_last, and_command, is_instrument, instrument_number}
-use Rattle.lab_plan.specs.Longer.{session_of}
+use Rattle.lab_plan.specs.Longer.{session_of, with_one_more, more_refusal}
 use Rattle.script_reader.specs.declared.fault.ScriptFault.{ScriptFault}
 use Rattle.script_reader.specs.declared.fault.ScriptCause.{ScriptCause}
 use Rattle.script_reader.specs.declared.fault.ScriptCause.TheVariants.{UnknownWord, SessionNotClosed, NotInSession, BadName, BadNumber}
@@ -105,6 +106,16 @@ IsCleanThrough plan j text number = (fault : ScriptFault) → sessions_in plan j
 abbrev pub AnswersMore : LabPlan → ℕ → List ℕ → Result (List SessionPlan) ScriptFault → Type 0
 AnswersMore plan j text (Ok further) = sessions_in plan j text ≡ Ok further
 AnswersMore plan j text (Err fault) = ((fault.cause ≡ NoMemory) × IsCleanThrough plan j text fault.line) ⊎ (sessions_in plan j text ≡ Err fault)
+
+-- the plan takes each of the sessions behind those before it, if there is memory
+abbrev pub AreGranted : LabPlan → ℕ → List SessionPlan → Type 0
+AreGranted plan j [] = Unit {0}
+AreGranted plan j (session ∷ further) = (more_refusal plan j session ≡ None) × AreGranted (with_one_more plan j session) j further
+
+-- the sessions that a text has for a job are taken one behind the other
+abbrev pub SessionsAreGranted : Type 0
+SessionsAreGranted = (plan : LabPlan) (j : ℕ) (text : List ℕ) (further : List SessionPlan) → IsPlan plan → j < length plan.jobs
+    → sessions_in plan j text ≡ Ok further → AreGranted plan j further
 
 -- what a reader answers at a line, and what it knows then
 abbrev pub TakesMore : LabPlan → ℕ → SessionsSoFar → Option Line → Result (Unit {0}) ScriptCause → SessionsSoFar → Type 0
