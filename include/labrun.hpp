@@ -831,6 +831,7 @@ class session {
         if (core_->is_closed) throw closed();
         core_->seats[job_].is_held_yet(number_, is_gone_);
         lab_entry entry{};
+        if (core_->seats[job_].in != number_) return std::nullopt;
         if (lab_command(&core_->handle, job_, &entry)) return std::nullopt;
         core_->told();
         const detail::journal::ticket ticket = core_->ticket();
@@ -860,6 +861,11 @@ class session {
         std::unique_lock<std::mutex> guard(core_->mutex);
         if (core_->is_closed) return;
         core_->seats[job_].is_held_yet(number_, is_gone_);
+        // (it may be over, and another one begun, if the desk was told that it was taken away)
+        if (core_->seats[job_].in != number_) {
+            core_ = nullptr;
+            return;
+        }
         lab_turned turned{};
         lab_end(&core_->handle, job_, &turned);
         core_->told();

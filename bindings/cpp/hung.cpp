@@ -139,6 +139,18 @@ static void taken_away() {
                          report.taken[1].second == 2);
 }
 
+// What is left of a session that was taken away lets go of nothing that the next one holds.
+static void taken_away_and_kept() {
+    labrun::bench bench = opened(labrun::OVERTAKES, radio);
+    auto first = bench.desks()[0].begin();
+    expect("taken", bench.take_away("radio"));
+    expect("the desk is told", throws<labrun::taken_away>([&] { bench.desks()[0].begin(); }));
+    auto second = bench.desks()[0].begin();
+    expect("not held", second->is_held() && !first->is_held() && !first->command());
+    first.reset();
+    expect("held", second->is_held() && second->command());
+}
+
 // Nobody is there for a session that timed out, and came to hold when the other let go.
 static void taken_away_from_nobody() {
     labrun::bench bench = opened(0, radio + board + drive);
@@ -319,6 +331,7 @@ int main(int, char **words) {
     who_is_before_it();
     passed_so_often_and_no_more();
     taken_away();
+    taken_away_and_kept();
     taken_away_from_nobody();
     a_limit_on_holding();
     a_limit_comes_later();
