@@ -3,6 +3,8 @@
 import asyncio
 import os
 import re
+import subprocess
+import sys
 import tempfile
 import threading
 import unittest
@@ -10,7 +12,8 @@ from typing import Any, Optional
 
 import labrun
 from tests.holders import Holders
-from tests.test_bench import LIMIT, TWO, back, in_thread, until
+from tests.test_bench import LIMIT, TWO, back, child, in_thread, until
+from tests.test_runs import TOP
 
 BAY = {"board": ["scope", "supply"], "guest": ["scope"], "drive": ["supply", "load-1", "load-2"], "host": ["load-1", "load-2"]}
 
@@ -808,6 +811,15 @@ class Loads(OnBay):
 
     def test_few(self) -> None:
         self.loaded(4, 0.5, 2)
+
+    def test_guide(self) -> None:
+        """The broker of docs/GUIDE.md, as it stands there."""
+        with open(os.path.join(TOP, "docs", "GUIDE.md"), encoding="utf-8") as file:
+            lines = file.read().split("\n")
+        first, last = lines.index("    import queue"), lines.index("    $ python3 shelf.py")
+        program = "\n".join(line[4:] for line in lines[first:last])
+        ran = subprocess.run([sys.executable, "-c", program], env=child(), capture_output=True, text=True, timeout=LIMIT)
+        self.assertEqual((ran.stdout, ran.stderr), (lines[last + 1][4:] + "\n", ""))
 
 
 if __name__ == "__main__":
