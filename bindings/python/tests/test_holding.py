@@ -258,12 +258,14 @@ class Coming(OnBay):
 
     def test_patience_and_limit(self) -> None:
         with self.bay() as bench:
-            board = self.held(bench, "board", "scope", limit=0.05)
+            board = self.held(bench, "board", "scope")
             with self.assertRaisesRegex(labrun.Withdrawn, "session 2 of guest was given up after 0.01 s: scope is held by board"):
                 with bench.job("guest").hold("scope", patience=0.01):
                     pass
+            board.release()
+            board = self.held(bench, "board", "scope", limit=0.01)
             with bench.job("guest").hold("scope") as session:
-                self.assertEqual((session.number, board.state, bench.taken), (3, "taken", (("board", 2),)))
+                self.assertEqual((session.number, board.state, bench.taken), (3, "taken", (("board", 3),)))
             with self.assertRaises(labrun.TakenAway):
                 board.release()
 
@@ -728,7 +730,7 @@ class Pages(OnBay):
 
     def test_of_those_who_choose(self) -> None:
         with self.bay() as bench:
-            drive, pages = self.held(bench, "drive", "load-1", "load-2"), []  # type: ignore[var-annotated]
+            drive, pages = self.held(bench, "drive", "load-1", "load-2"), []
             session = bench.job("host").hold(any_of=["load-1", "load-2"])
             thread = self.waits(session)
             turner = in_thread(lambda: pages.append(bench.turn_page()))
@@ -748,7 +750,7 @@ class Pages(OnBay):
 
     def test_close_and_stop(self) -> None:
         with self.bay() as bench:
-            board, faults = self.held(bench, "board", "scope"), []  # type: ignore[var-annotated]
+            board, faults = self.held(bench, "board", "scope"), []
 
             def turn() -> None:
                 try:
