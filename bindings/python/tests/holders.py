@@ -84,7 +84,7 @@ class Holders:
             self.done, self.clashes = self.done + 1, self.clashes + clashes
 
 
-def times(rounds: int = 200, each: int = 999) -> None:
+def times(rounds: int = 200, each: int = 999) -> int:
     """One round of each kind after the other; the medians of all rounds."""
     script = "lab 2\njob a\n" + "session patience 999999\nx read\ny read\nend\n" * each
     took: dict[str, list[float]] = {"with session": [], "with job.hold(..)": []}
@@ -103,6 +103,7 @@ def times(rounds: int = 200, each: int = 999) -> None:
             took["with job.hold(..)"].append(time.perf_counter() - begun)
     one, other = (sorted(it)[rounds // 2] / each * 1e6 for it in took.values())
     print(f"with session: {one:.2f} us; with job.hold(..): {other:.2f} us, {other / one:.2f} times that")
+    return 0
 
 
 def main(seconds: float, threads: int = 32, instruments: int = 20) -> int:

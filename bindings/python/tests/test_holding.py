@@ -9,6 +9,7 @@ import tempfile
 import threading
 import unittest
 from typing import Any, Optional
+from unittest import mock
 
 import labrun
 from tests.holders import Holders
@@ -42,7 +43,7 @@ class OnBay(unittest.TestCase):
                 plan.setdefault((words[0], f"{job} {sessions}"), []).append(words[1:])
         for name, log in report.logs.items():
             at = dial = 0
-            seen = set()
+            seen: set[str] = set()
             while at < len(log):
                 whose = f"{log[at].job} {log[at].session}"
                 wanted = plan[name, whose]
@@ -114,7 +115,7 @@ class OnBay(unittest.TestCase):
                 faults.append(fault)
 
         thread = in_thread(wait)
-        until(lambda: session.state == "waiting" or session in session.job.bench._others)
+        until(lambda: session.state == "waiting" or any(it is session for it in list(session.job.bench._others)))
         return thread
 
 
@@ -384,14 +385,14 @@ class AnyOf(OnBay):
         with bench:
             first, second = self.held(bench, "a", "load-1"), self.held(bench, "b", "load-2")
             session = bench.job("host").hold(any_of=self.either)
-            with mock_ready(labrun.Hold):
+            with mock.patch.object(labrun.Hold, "is_ready", lambda session, bench: False):
                 # (it is slow to wake, and others come first)
                 thread = self.waits(session)
                 for name in ("c", "b"):
                     second.release()
                     self.assertEqual(session.number, 0)
                     second = self.held(bench, name, "load-2")
-            self.assertEqual(session._passed, [0, 2])  # type: ignore[attr-defined]
+            self.assertEqual(session._passed, [0, 2])
             bench._rouse_others(True)
             until(lambda: session.state == "waiting")
             self.assertEqual((session.instruments, bench.job("host").state.outside), (("load-2",), True))
@@ -438,10 +439,10 @@ class AnyOf(OnBay):
             first = self.held(bench, "a", "x")
             waits = bench.job("b").hold("x", "y", timeout=0.2)
             thread = self.waits(waits, [])
-            with mock_ready(labrun.Hold, False):
-                chooses = bench.job("c").hold(any_of=["y", "y"])
-                with unchosen(bench):
-                    other = self.waits(chooses)
+            # (from here on the package lets those wait that choose)
+            bench._overtakes = 5
+            chooses = bench.job("c").hold(any_of=["y", "y"])
+            other = self.waits(chooses)
             back(thread)
             back(other)
             self.assertEqual((waits.state, chooses.state), ("withdrawn", "finished"))
@@ -469,34 +470,6 @@ class AnyOf(OnBay):
             first.release()
             back(thread)
             self.assertEqual(bench.lapsed, (("b", 1),))
-
-
-class mock_ready:
-    """Within it, those that choose aren't woken."""
-
-    def __init__(self, kind: Any, is_ready: bool = False) -> None:
-        self.kind, self.answer = kind, is_ready
-
-    def __enter__(self) -> None:
-        self.was = self.kind.is_ready
-        if not self.answer:
-            self.kind.is_ready = lambda session, bench: False
-
-    def __exit__(self, *fault: object) -> None:
-        self.kind.is_ready = self.was
-
-
-class unchosen:
-    """Within it, a bench that lets nobody be overtaken lets those wait that choose."""
-
-    def __init__(self, bench: labrun.Bench) -> None:
-        self.bench = bench
-
-    def __enter__(self) -> None:
-        self.was, self.bench._overtakes = self.bench._overtakes, 5
-
-    def __exit__(self, *fault: object) -> None:
-        pass
 
 
 class New(OnBay):
