@@ -115,7 +115,7 @@ class OnBay(unittest.TestCase):
                 faults.append(fault)
 
         thread = in_thread(wait)
-        until(lambda: session.state == "waiting" or any(it is session for it in list(session.job.bench._others)))
+        until(lambda: session.state == "waiting" or id(session) in [id(it) for it in list(session.job.bench._others)])
         return thread
 
 
@@ -520,9 +520,10 @@ class New(OnBay):
             drive.retire()
             back(thread)
             self.assertEqual(done, [(2, ("supply",)), (3, ("load-1",)), (4, ("load-2",))])
-            for add in (drive.add, lambda name: drive.hold(name).acquire()):
-                with self.assertRaises(labrun.Retired):
-                    add("supply")
+            with self.assertRaises(labrun.Retired):
+                drive.add("supply")
+            with self.assertRaises(labrun.Retired):
+                drive.hold("supply").acquire()
             self.assertIsNone(drive.next_session())
             with bench.job("board").hold("supply"):
                 pass
@@ -678,7 +679,7 @@ class Pages(OnBay):
     def test_waits_for_who_holds(self) -> None:
         """Meanwhile nobody begins, but who asked before comes to his end; what comes is of the new page."""
         with self.bay() as bench:
-            board, pages = self.held(bench, "board", "scope", "supply"), []  # type: ignore[var-annotated]
+            board, pages = self.held(bench, "board", "scope", "supply"), []
             asked = self.waits(bench.job("guest").hold("scope"))
             with self.assertRaisesRegex(labrun.NotBack, r"not back: board \(holds scope, supply for .* s\), guest \(waits: scope is held by board"):
                 bench.turn_page(timeout=0.01)
