@@ -727,6 +727,7 @@ class Bench:
         self._raised: list[tuple[str, int]] = []
         # what waits for more than its turn: sessions that aren't added yet, and whoever turns the page; each with what wakes it
         self._others: dict[_holding.Waiter, Callable[[], None]] = {}
+        self._used: Optional[set[str]] = None
         self._turns_page = False
         self._later: list[tuple[Job, _holding.Kind]] = []
         # whether it is one of `new`, whose jobs go on to get sessions
@@ -1221,6 +1222,7 @@ class Bench:
 
     def _rouse_others(self, all_of_them: bool = False) -> None:
         """Wakes those of the others that can go on."""
+        self._used = None
         for other, wake in list(self._others.items()):
             if all_of_them or other.is_ready(self):
                 try:

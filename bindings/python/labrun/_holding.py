@@ -210,17 +210,14 @@ class Hold(Session, Waiter):
             job._asked_for, job._asked, job._settles, job._is_old = self.number, self._since, bench._settles, False
         return True
 
-    def _choice(self, bench: Bench) -> Optional[Kind]:
+    def _choice(self, bench: Bench, used: Optional[set[str]] = None) -> Optional[Kind]:
         """Which it is to be, if that is known now: the first that is free; else the one at which it was passed by as often as may be."""
         if bench._turns_page:
             return None
         if len(self._choices) == 1:
             return self._choices[0]
-        used: set[str] = set()
-        for job in bench._jobs:
-            # (one that was left and holds lets go as soon as somebody waits)
-            if job._in and job is not self.job and bench._outside_of(job) is None and not (bench._left & job._bit and bench._holds(job)):
-                used.update(job._plan[job._in - 1][0])
+        if used is None:
+            used = _used(bench)
         for kind in self._choices:
             if used.isdisjoint(kind.plan[0]):
                 return kind
@@ -228,7 +225,9 @@ class Hold(Session, Waiter):
         return self._choices[self._passed.index(most)] if most >= bench._overtakes else None
 
     def is_ready(self, bench: Bench) -> bool:
-        return self._choice(bench) is not None
+        if bench._used is None:
+            bench._used = _used(bench)
+        return self._choice(bench, bench._used) is not None
 
     def passed_by(self, instruments: tuple[str, ...]) -> None:
         if len(self._choices) > 1:
@@ -298,6 +297,16 @@ class Hold(Session, Waiter):
             if not job._in and job._last + 1 == number == len(job._plan):
                 _skip(bench, job)
                 self.state = "withdrawn"
+
+
+def _used(bench: Bench) -> set[str]:
+    """The instruments that aren't free: those of jobs that are in line, or hold. (With the mutex held.)"""
+    used: set[str] = set()
+    for job in bench._jobs:
+        # (one that was left and holds lets go as soon as somebody waits)
+        if job._in and bench._outside_of(job) is None and not (bench._left & job._bit and bench._holds(job)):
+            used.update(job._plan[job._in - 1][0])
+    return used
 
 
 class _More(Waiter):

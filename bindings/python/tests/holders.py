@@ -1,7 +1,9 @@
 """Threads that add and hold at random, with a counter for each instrument that sees two holders, and pages that are turned meanwhile.
 
 usage, in bindings/python:  python3 -m tests.holders SECONDS [THREADS] [INSTRUMENTS]
-                            then how many sessions were held, how many pages were turned, and how many two held at once"""
+                            then how many sessions were held, how many pages were turned, and how many two held at once
+                            python3 -m tests.holders times
+                            what a session of a script costs, and one that comes, of two instruments, where nobody waits"""
 
 from __future__ import annotations
 
@@ -82,6 +84,28 @@ class Holders:
             self.done, self.clashes = self.done + 1, self.clashes + clashes
 
 
+def times(rounds: int = 200, each: int = 999) -> int:
+    """One round of each kind after the other; the medians of all rounds."""
+    script = "lab 2\njob a\n" + "session patience 999999\nx read\ny read\nend\n" * each
+    took: dict[str, list[float]] = {"with session": [], "with job.hold(..)": []}
+    for _ in range(rounds):
+        with labrun.Bench.from_text(script) as bench:
+            begun = time.perf_counter()
+            for session in bench.jobs[0].sessions():
+                with session:
+                    pass
+            took["with session"].append(time.perf_counter() - begun)
+        with labrun.Bench.new({"a": ["x", "y"]}) as bench:
+            job, begun = bench.jobs[0], time.perf_counter()
+            for _ in range(each):
+                with job.hold("x", "y"):
+                    pass
+            took["with job.hold(..)"].append(time.perf_counter() - begun)
+    one, other = (sorted(it)[rounds // 2] / each * 1e6 for it in took.values())
+    print(f"with session: {one:.2f} us; with job.hold(..): {other:.2f} us, {other / one:.2f} times that")
+    return 0
+
+
 def main(seconds: float, threads: int = 32, instruments: int = 20) -> int:
     holders = Holders(threads, instruments)
     pages = holders.run(seconds, max(2, int(4 * seconds)))
@@ -91,4 +115,4 @@ def main(seconds: float, threads: int = 32, instruments: int = 20) -> int:
 
 
 if __name__ == "__main__":
-    sys.exit(main(float(sys.argv[1]), *(int(word) for word in sys.argv[2:])))
+    sys.exit(times() if sys.argv[1:] == ["times"] else main(float(sys.argv[1]), *(int(word) for word in sys.argv[2:])))

@@ -3,14 +3,18 @@
 import asyncio
 import os
 import re
+import subprocess
+import sys
 import tempfile
 import threading
 import unittest
 from typing import Any, Optional
+from unittest import mock
 
 import labrun
 from tests.holders import Holders
-from tests.test_bench import LIMIT, TWO, back, in_thread, until
+from tests.test_bench import LIMIT, TWO, back, child, in_thread, until
+from tests.test_runs import TOP
 
 BAY = {"board": ["scope", "supply"], "guest": ["scope"], "drive": ["supply", "load-1", "load-2"], "host": ["load-1", "load-2"]}
 
@@ -39,7 +43,7 @@ class OnBay(unittest.TestCase):
                 plan.setdefault((words[0], f"{job} {sessions}"), []).append(words[1:])
         for name, log in report.logs.items():
             at = dial = 0
-            seen = set()
+            seen: set[str] = set()
             while at < len(log):
                 whose = f"{log[at].job} {log[at].session}"
                 wanted = plan[name, whose]
@@ -111,7 +115,7 @@ class OnBay(unittest.TestCase):
                 faults.append(fault)
 
         thread = in_thread(wait)
-        until(lambda: session.state == "waiting" or session in session.job.bench._others)
+        until(lambda: session.state == "waiting" or id(session) in [id(it) for it in list(session.job.bench._others)])
         return thread
 
 
@@ -255,12 +259,14 @@ class Coming(OnBay):
 
     def test_patience_and_limit(self) -> None:
         with self.bay() as bench:
-            board = self.held(bench, "board", "scope", limit=0.05)
+            board = self.held(bench, "board", "scope")
             with self.assertRaisesRegex(labrun.Withdrawn, "session 2 of guest was given up after 0.01 s: scope is held by board"):
                 with bench.job("guest").hold("scope", patience=0.01):
                     pass
+            board.release()
+            board = self.held(bench, "board", "scope", limit=0.01)
             with bench.job("guest").hold("scope") as session:
-                self.assertEqual((session.number, board.state, bench.taken), (3, "taken", (("board", 2),)))
+                self.assertEqual((session.number, board.state, bench.taken), (3, "taken", (("board", 3),)))
             with self.assertRaises(labrun.TakenAway):
                 board.release()
 
@@ -379,14 +385,14 @@ class AnyOf(OnBay):
         with bench:
             first, second = self.held(bench, "a", "load-1"), self.held(bench, "b", "load-2")
             session = bench.job("host").hold(any_of=self.either)
-            with mock_ready(labrun.Hold):
+            with mock.patch.object(labrun.Hold, "is_ready", lambda session, bench: False):
                 # (it is slow to wake, and others come first)
                 thread = self.waits(session)
                 for name in ("c", "b"):
                     second.release()
                     self.assertEqual(session.number, 0)
                     second = self.held(bench, name, "load-2")
-            self.assertEqual(session._passed, [0, 2])  # type: ignore[attr-defined]
+            self.assertEqual(session._passed, [0, 2])
             bench._rouse_others(True)
             until(lambda: session.state == "waiting")
             self.assertEqual((session.instruments, bench.job("host").state.outside), (("load-2",), True))
@@ -433,10 +439,10 @@ class AnyOf(OnBay):
             first = self.held(bench, "a", "x")
             waits = bench.job("b").hold("x", "y", timeout=0.2)
             thread = self.waits(waits, [])
-            with mock_ready(labrun.Hold, False):
-                chooses = bench.job("c").hold(any_of=["y", "y"])
-                with unchosen(bench):
-                    other = self.waits(chooses)
+            # (from here on the package lets those wait that choose)
+            bench._overtakes = 5
+            chooses = bench.job("c").hold(any_of=["y", "y"])
+            other = self.waits(chooses)
             back(thread)
             back(other)
             self.assertEqual((waits.state, chooses.state), ("withdrawn", "finished"))
@@ -464,34 +470,6 @@ class AnyOf(OnBay):
             first.release()
             back(thread)
             self.assertEqual(bench.lapsed, (("b", 1),))
-
-
-class mock_ready:
-    """Within it, those that choose aren't woken."""
-
-    def __init__(self, kind: Any, is_ready: bool = False) -> None:
-        self.kind, self.answer = kind, is_ready
-
-    def __enter__(self) -> None:
-        self.was = self.kind.is_ready
-        if not self.answer:
-            self.kind.is_ready = lambda session, bench: False
-
-    def __exit__(self, *fault: object) -> None:
-        self.kind.is_ready = self.was
-
-
-class unchosen:
-    """Within it, a bench that lets nobody be overtaken lets those wait that choose."""
-
-    def __init__(self, bench: labrun.Bench) -> None:
-        self.bench = bench
-
-    def __enter__(self) -> None:
-        self.was, self.bench._overtakes = self.bench._overtakes, 5
-
-    def __exit__(self, *fault: object) -> None:
-        pass
 
 
 class New(OnBay):
@@ -542,9 +520,10 @@ class New(OnBay):
             drive.retire()
             back(thread)
             self.assertEqual(done, [(2, ("supply",)), (3, ("load-1",)), (4, ("load-2",))])
-            for add in (drive.add, lambda name: drive.hold(name).acquire()):
-                with self.assertRaises(labrun.Retired):
-                    add("supply")
+            with self.assertRaises(labrun.Retired):
+                drive.add("supply")
+            with self.assertRaises(labrun.Retired):
+                drive.hold("supply").acquire()
             self.assertIsNone(drive.next_session())
             with bench.job("board").hold("supply"):
                 pass
@@ -700,7 +679,7 @@ class Pages(OnBay):
     def test_waits_for_who_holds(self) -> None:
         """Meanwhile nobody begins, but who asked before comes to his end; what comes is of the new page."""
         with self.bay() as bench:
-            board, pages = self.held(bench, "board", "scope", "supply"), []  # type: ignore[var-annotated]
+            board, pages = self.held(bench, "board", "scope", "supply"), []
             asked = self.waits(bench.job("guest").hold("scope"))
             with self.assertRaisesRegex(labrun.NotBack, r"not back: board \(holds scope, supply for .* s\), guest \(waits: scope is held by board"):
                 bench.turn_page(timeout=0.01)
@@ -725,7 +704,7 @@ class Pages(OnBay):
 
     def test_of_those_who_choose(self) -> None:
         with self.bay() as bench:
-            drive, pages = self.held(bench, "drive", "load-1", "load-2"), []  # type: ignore[var-annotated]
+            drive, pages = self.held(bench, "drive", "load-1", "load-2"), []
             session = bench.job("host").hold(any_of=["load-1", "load-2"])
             thread = self.waits(session)
             turner = in_thread(lambda: pages.append(bench.turn_page()))
@@ -745,7 +724,7 @@ class Pages(OnBay):
 
     def test_close_and_stop(self) -> None:
         with self.bay() as bench:
-            board, faults = self.held(bench, "board", "scope"), []  # type: ignore[var-annotated]
+            board, faults = self.held(bench, "board", "scope"), []
 
             def turn() -> None:
                 try:
@@ -808,6 +787,15 @@ class Loads(OnBay):
 
     def test_few(self) -> None:
         self.loaded(4, 0.5, 2)
+
+    def test_guide(self) -> None:
+        """The broker of docs/GUIDE.md, as it stands there."""
+        with open(os.path.join(TOP, "docs", "GUIDE.md"), encoding="utf-8") as file:
+            lines = file.read().split("\n")
+        first, last = lines.index("    import queue"), lines.index("    $ python3 shelf.py")
+        program = "\n".join(line[4:] for line in lines[first:last])
+        ran = subprocess.run([sys.executable, "-c", program], env=child(), capture_output=True, text=True, timeout=LIMIT)
+        self.assertEqual((ran.stdout, ran.stderr), (lines[last + 1][4:] + "\n", ""))
 
 
 if __name__ == "__main__":

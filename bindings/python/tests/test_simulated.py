@@ -94,7 +94,7 @@ class Pages(OnDefinitions, test_holding.Pages):
 class Holding(OnDefinitions, test_holding.Loads):
     """Threads that add and hold at random."""
 
-    test_threads = None  # type: ignore[assignment]  # (32 are for the built library)
+    test_threads = test_guide = None  # type: ignore[assignment]  # (these are for the built library)
 
 
 class Files(OnDefinitions, test_journal.Files):
