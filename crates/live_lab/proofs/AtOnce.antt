@@ -1,14 +1,12 @@
 -- If nobody has to wait outside, all who ask are let in at once.
-use Rattle.std.proofs.Common.{◌≡◌, ◌≢◌, ◌⊎◌, ◌↔◌, ℕ, zero, suc, ◌+◌, ◌<◌, ◌≤◌, ◌^◌, Bool, true, false, if◌then◌else◌, List, [], ◌∷◌, ◌++◌, length, Option, Some, None, refl, sym, ap, ◌∙◌, subst, inl, inr, arith}
+use Rattle.std.proofs.Common.{◌≡◌, ◌≢◌, ℕ, zero, suc, ◌+◌, ◌<◌, if◌then◌else◌, List, [], ◌∷◌, ◌++◌, length, Option, Some, None, refl, sym, ◌∙◌, subst, inl, inr, arith}
 use Rattle.std.proofs.lemmas.Bool.{false≢true}
 use Rattle.std.proofs.lemmas.List.{get_or_past}
 use Rattle.std.proofs.lemmas.Nat.{pow_pos}
-use Rattle.lab_plan.specs.LabPlan.{LabPlan, sessions}
 use Rattle.lab_plan.specs.InstrumentSets.{holds}
 use Rattle.lab_plan.proofs.Bits.{holds_none}
 use Rattle.legal_steps.specs.declared.event.Event.{Event}
 use Rattle.legal_steps.specs.declared.event.Event.TheVariants.{Thirst}
-use Rattle.legal_steps.specs.State.{Has, session}
 use Rattle.legal_steps.specs.Legal.{IsJob}
 use Rattle.interleaving.specs.World.{WorldView, LeadsTo}
 use Rattle.settling.proofs.Nothing.{leads_none}
@@ -18,7 +16,7 @@ use Rattle.late_thirst.specs.Outside.{LineView, place, IsOutside, IsDue, IsDueAt
 use Rattle.late_thirst.specs.LettingIn.{LetsIn}
 use Rattle.late_thirst.proofs.Gone.{not_both, nobody_in, somebody_in, before_in, as_many_after, were_ready, due_is_outside}
 use Rattle.live_lab.specs.Sets.{AreJobs, events_below, events_of_jobs}
-use Rattle.live_lab.specs.Rests.{IsAtRest, ComesToRest, DoAndRest}
+use Rattle.live_lab.specs.Rests.{IsAtRest, DoAndRest}
 use Rattle.live_lab.specs.Admitting.{MayAsk, IsNext, IsPlaceFrom, Asks, LetsInNext, AdmitsNext, Admits, NobodyIsOutside}
 use Rattle.live_lab.proofs.Bits.{holds_has, has_holds, same_test}
 use Rattle.live_lab.proofs.Frames.{below_or}
