@@ -157,8 +157,7 @@ AreInAtOnce waiting w events new line' =
 nobody_in_at_once : (waiting : ℕ) (w : WorldView) (line : LineView) → IsAtRest w → AreWaiters waiting w line → NobodyIsOutside line
     → AreInAtOnce waiting w [] w line
 nobody_in_at_once waiting w line rest x nobody =
-    let none = events_none (λ j. Thirst j) (length w.plan.jobs) in
-    (
+    let none = events_none (λ j. Thirst j) (length w.plan.jobs) in (
       0,
       record {
         of_plan = pow_pos (length w.plan.jobs);
@@ -183,8 +182,7 @@ some_in_at_once waiting w line set last new line' of x next =
     let n = next.lets in let d = next.begins in
     let all = all_in waiting w line set line' next.some n of x n.lets.places in
     let same : events_of_jobs (λ j. Thirst j) w.plan set ≡ events_of_jobs (λ j. Thirst j) w.plan n.ready =
-    events_same (λ j. Thirst j) set n.ready (length w.plan.jobs) (λ j below. all.0 j below) in
-    (
+    events_same (λ j. Thirst j) set n.ready (length w.plan.jobs) (λ j below. all.0 j below) in (
       n.ready,
       n.may,
       record {

@@ -110,9 +110,11 @@ pub askers_after : (w : WorldView) (line : LineView) (set : ℕ) (events : List 
     → ((j : ℕ) → IsJob w.plan j → Has set j → drinking w.state j ≡ Thirsty) → AreAskers w line → AreAskers new line
 askers_after w line set events new d thirsty askers = askers_on w new line (plan_stays (said GivesUp) set w events new d)
     (λ j a job at.
-    let asks = askers j a job at in
-    (asks, others_go GivesUp set w events new d j
-    (not_true (holds set j) (λ h. not_tranquil (inl (sym asks.tranquil ∙ thirsty j job (holds_has set j h)))))))
+    let asks = askers j a job at in (
+      asks,
+      others_go GivesUp set w events new d j
+          (not_true (holds set j) (λ h. not_tranquil (inl (sym asks.tranquil ∙ thirsty j job (holds_has set j h))))),
+    ))
 
 place_needs : (o : Option Asker) (a : Asker) (needs : ℕ) → IsPlaceFor needs o → o ≡ Some a → needs ≡ a.needs
 place_needs (Some b) a needs for same = let e : b ≡ a = cc in sym for ∙ ap (λ (x : Asker). x.needs) e
