@@ -1,6 +1,7 @@
 //! Calls that do something in the lab of a handle.
 ghost use Rattle.std.specs.Prelude.{◌≡◌};
-ghost use Rattle.bench_calls.specs.Calls.{InLab, InRoom, settles_of, Turns, Serves, ServesRest, SettlesAll, GoesToHold, DoesNext, LetsGo, GivesUp, GoesToEnd, SetsOvertakes};
+ghost use Rattle.bench_calls.specs.Calls.{InLab, InRoom, settles_of, Turns, Serves, ServesRest, SettlesAll, GoesToHold};
+ghost use Rattle.bench_calls.specs.Calls.{DoesNext, LetsGo, GivesUp, GoesToEnd, SetsOvertakes};
 
 use crate::statuses::{
     JOURNAL_FULL, tell_begun, tell_came, tell_command, tell_ended, tell_retired, tell_turned,

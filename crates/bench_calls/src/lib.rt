@@ -11,13 +11,15 @@ mod statuses;
 mod told;
 
 pub use coming::add;
-pub use doing::{begin, command, end, overtakes, retire, serve, serve_others, settle, turn, withdraw};
+pub use doing::{
+    begin, command, end, overtakes, retire, serve, serve_others, settle, turn, withdraw,
+};
 pub use ending::{close, free};
 pub use journals::{journal, open_kept, resume};
 pub use opening::open;
 pub use reading::{instrument_name, job_name, keepers, outside, planned, session, size, state};
 pub use statuses::{NO_JOB, NOT_NOW, stage_status, tell_entry, withdrew};
 pub use told::{
-    LabCame, LabEntry, LabKeepers, LabOutside, LabPlanned, LabSession, LabSize, LabState, LabTurned,
-    entry_of, state_of, turned_of,
+    LabCame, LabEntry, LabKeepers, LabOutside, LabPlanned, LabSession, LabSize, LabState,
+    LabTurned, entry_of, state_of, turned_of,
 };

@@ -1,7 +1,10 @@
 //! Calls that tell of the lab of a handle and change nothing in it.
-ghost use Rattle.bench_calls.specs.Calls.{InLab, TellsSize, TellsSession, TellsPlanned, TellsState, TellsKeepers, TellsOutside, TellsJobName, TellsInstrumentName};
+ghost use Rattle.bench_calls.specs.Calls.{InLab, TellsSize, TellsSession, TellsPlanned, TellsState, TellsKeepers};
+ghost use Rattle.bench_calls.specs.Calls.{TellsOutside, TellsJobName, TellsInstrumentName};
 
-use crate::statuses::{NO_JOB, tell_keepers, tell_name, tell_outside, tell_planned, tell_session, tell_standing};
+use crate::statuses::{
+    NO_JOB, tell_keepers, tell_name, tell_outside, tell_planned, tell_session, tell_standing,
+};
 use crate::told::{LabKeepers, LabOutside, LabPlanned, LabSession, LabSize, LabState};
 use c_handles::{Handle, Inside, NOT_OPEN, put, take};
 use std::alloc::Global;

@@ -5,8 +5,8 @@ ghost use Rattle.bench_calls.specs.Telling.{stage_status, TellsEntry, TellsDid, 
 ghost use Rattle.bench_calls.specs.Telling.{turned_of, came_of, session_of, state_of, planned_of, keepers_of, outside_of};
 
 use crate::told::{
-    LabCame, LabEntry, LabKeepers, LabOutside, LabPlanned, LabSession, LabState, LabTurned, came_of, entry_of,
-    keepers_of, outside_of, planned_of, session_of, state_of, turned_of,
+    LabCame, LabEntry, LabKeepers, LabOutside, LabPlanned, LabSession, LabState, LabTurned,
+    came_of, entry_of, keepers_of, outside_of, planned_of, session_of, state_of, turned_of,
 };
 use c_tells::put;
 use instrument_log::Entry;

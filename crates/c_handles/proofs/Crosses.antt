@@ -24,6 +24,7 @@ use Rattle.live_lab.specs.contracts.lab.Lab.TheInside as InLab
 use Rattle.live_lab.specs.contracts.clock.Clock as Clock
 use Rattle.live_lab.proofs.clock.Clock.TheSendSync as clocks
 use Rattle.settling.proofs.due.Due.TheSendSync as dues
+use Rattle.late_thirst.proofs.line.Line.TheSendSync as lines
 use Rattle.live_lab.proofs.printing.Printed.TheSendSync as printed
 use Rattle.bench_hall.specs.contracts.hall.Hall as Hall
 use Rattle.bench_hall.proofs.hall.Hall.TheSendSync as halls
@@ -53,7 +54,7 @@ clocks_send = any.Vec-send Clock.the_row Heap.the_row ghosts clocks.the_send hea
 
 lab_send : IsSend Lab.the_row
 lab_send = view_send _ _ _ _ _ (declared_send InLab.the_type
-    (world_send _, (as_row_send (Vec.the_field Clock.the_row Heap.the_row ghosts) clocks_send, (dues.the_send Heap.the_row ghosts heap.send heap.frees, tt))))
+    (world_send _, (as_row_send (Vec.the_field Clock.the_row Heap.the_row ghosts) clocks_send, (dues.the_send Heap.the_row ghosts heap.send heap.frees, (lines.the_send, tt)))))
 
 pub inside_send : IsSend Inside.the_row
 inside_send = variants_send Inside.enum

@@ -1,5 +1,5 @@
 -- How many are outside.
-use Rattle.std.proofs.Common.{◌≡◌, ◌≢◌, ℕ, zero, suc, ◌+◌, ◌<◌, ◌≤◌, List, [], ◌∷◌, length, Option, Some, None, refl, sym, ap, ◌∙◌, arith}
+use Rattle.std.proofs.Common.{◌≡◌, ◌≢◌, ℕ, zero, suc, ◌+◌, ◌<◌, ◌≤◌, List, [], ◌∷◌, length, Option, Some, None, refl, arith}
 use Rattle.late_thirst.specs.declared.asker.Asker.{Asker}
 use Rattle.late_thirst.specs.Outside.{place, IsOutside}
 use Rattle.late_thirst.specs.LettingIn.{LetsIn}

@@ -1,13 +1,12 @@
 -- Those who went in, as a set.
 use Rattle.std.proofs.Common.{◌≡◌, ◌≢◌, ℕ, zero, suc, ◌+◌, ◌*◌, ◌-◌, ◌%◌, ◌^◌, ◌<◌, ◌≤◌, ◌↔◌, bit_or, bit_and, Bool, true, false, ◌||◌, nat_eq, List, length, Option, Some, None, w32, arith, refl, sym, ap, inl, inr, subst, ◌∙◌, add-one}
-use native.Mathlib.Numerals.{unary_clauses}
 use Rattle.std.proofs.Math.Bool.{or-false, or-true}
 use Rattle.std.proofs.lemmas.Bool.{cases_eq, eq-eqb, ne_eqb, false≢true}
 use Rattle.std.specs.Int.{bit_at}
 use Rattle.std.specs.Int.Bits.{or_add_and}
 use Rattle.std.proofs.Math.Pow.{pow-lt}
 use Rattle.std.proofs.lemmas.Nat.{pow_pos}
-use Rattle.std.proofs.lemmas.Nat.Bits.{bit_at_set_same, bit_at_set_other, and_pow, bit_at-zero, bit_at-lt}
+use Rattle.std.proofs.lemmas.Nat.Bits.{bit_at_set_same, bit_at_set_other, and_pow, bit_at-lt}
 use Rattle.lab_plan.specs.InstrumentSets.{holds}
 use Rattle.lab_plan.proofs.Bits.{holds_none}
 use Rattle.late_thirst.specs.declared.asker.Asker.{Asker}
@@ -99,10 +98,6 @@ only_one most ready k old new g j other none =
     some_case (place old j) (λ a is.
     let stays = one_stays most ready (needs_of (place old k)) j a in
     not_both (place new j) stays.0 (g.others j other ∙ (ap (passed_at most ready (needs_of (place old k)) j) is ∙ stays.1)) none)
-
-in_first : (a b : Bool) → a ≡ true → (a || b) ≡ true
-in_first true b h = refl
-in_first false b h = absurd (false≢true h)
 
 in_second : (a b : Bool) → b ≡ true → (a || b) ≡ true
 in_second true b h = refl

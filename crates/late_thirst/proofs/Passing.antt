@@ -3,8 +3,7 @@ use Rattle.std.proofs.Common.{◌≡◌, ◌≢◌, ℕ, ◌+◌, ◌<◌, ◌�
 use Rattle.std.proofs.lemmas.Bool.{cases_eq}
 use Rattle.lab_plan.specs.InstrumentSets.{holds}
 use Rattle.late_thirst.specs.declared.asker.Asker.{Asker}
-use Rattle.late_thirst.specs.Outside.{place, apart, needs_of, passed_by, passed_at}
-use Rattle.late_thirst.specs.LettingIn.{GoesIn}
+use Rattle.late_thirst.specs.Outside.{place, apart, passed_by, passed_at}
 
 either : (P : Option Asker → Type 0) (b : Bool) (x y : Option Asker) → P x → P y → P (if b then x else y)
 either P true x y p q = p
@@ -30,14 +29,6 @@ pub record ArePassedTo (most ready needs k : ℕ) (old : List (Option Asker)) (n
   pub inside : place new k ≡ None
   pub done : (j : ℕ) → j < n → j ≢ k → place new j ≡ passed_at most ready needs j (place old j)
   pub left : (j : ℕ) → n ≤ j → j ≢ k → place new j ≡ place old j
-
-pub begins : (most ready needs k : ℕ) (old : List (Option Asker)) → k < length old → ArePassedTo most ready needs k old 0 (set old k None)
-begins most ready needs k old inside = record {
-  as_many = length-set old k None;
-  inside = get_or-set_same old k None None inside;
-  done = λ j below other. absurd (omega (arith, below));
-  left = λ j above other. get_or-set_other old k j None None other;
-}
 
 pub one_more : (most ready needs k : ℕ) (old : List (Option Asker)) (n : ℕ) (mid : List (Option Asker)) (x : Option Asker) → n < length mid
     → x ≡ passed_at most ready needs n (place mid n) → ArePassedTo most ready needs k old n mid → ArePassedTo most ready needs k old (n + 1) (set mid n x)

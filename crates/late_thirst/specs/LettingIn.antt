@@ -3,7 +3,7 @@ use Rattle.std.specs.Prelude.{◌≡◌, ◌≢◌, ◌⊎◌, ◌↔◌, ℕ, z
 use Rattle.lab_plan.specs.InstrumentSets.{holds}
 use Rattle.late_thirst.specs.declared.asker.Asker.{Asker}
 use Rattle.late_thirst.specs.declared.asker.Reason.TheVariants.{Passed, Free}
-use Rattle.late_thirst.specs.Outside.{LineView, place, IsOutside, needs_of, passed_at, IsDueAt, NobodyIsDue, IsFirst}
+use Rattle.late_thirst.specs.Outside.{place, IsOutside, needs_of, passed_at, IsDueAt, NobodyIsDue, IsFirst}
 
 -- job k goes in, and those of `ready` that stay and need one of its instruments are passed by once more
 pub record GoesIn (most ready k : ℕ) (old new : List (Option Asker)) : Type 0 where

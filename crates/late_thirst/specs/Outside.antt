@@ -1,5 +1,6 @@
 -- For readers: who waits outside, and who is due to be let in.
-use Rattle.std.specs.Prelude.{◌≡◌, ◌⊎◌, ℕ, ◌+◌, ◌<◌, ◌≤◌, true, Bool, ◌||◌, ◌==◌, nat_le, if◌then◌else◌, List, length, replicate, Option, Some, None, slice_index_or}
+use Rattle.std.specs.Prelude.{◌≡◌, ◌⊎◌, ℕ, ◌+◌, ◌<◌, ◌≤◌, true, Bool, ◌||◌, ◌==◌, nat_le, if◌then◌else◌}
+use Rattle.std.specs.Prelude.{List, length, replicate, Option, Some, None, slice_index_or}
 use Rattle.std.specs.Int.Bits.{bit_and}
 use Rattle.lab_plan.specs.InstrumentSets.{holds}
 use Rattle.late_thirst.specs.declared.asker.Asker.{Asker}
@@ -66,7 +67,8 @@ IsFirst reason ready places n None = (k : ℕ) → k < n → IsDueAt reason read
 -- A session with these needs is let in: one more for who needs one of its instruments. Who was passed by often enough isn't counted any further, since
 -- it is let in at once
 abbrev pub passed_by : ℕ → ℕ → Option Asker → Option Asker
-passed_by most needs (Some a) = if apart a.needs needs || nat_le most a.passed then Some a else Some (record { since = a.since; needs = a.needs; passed = a.passed + 1 })
+passed_by most needs (Some a) =
+    if apart a.needs needs || nat_le most a.passed then Some a else Some (record { since = a.since; needs = a.needs; passed = a.passed + 1 })
 passed_by most needs None = None
 
 -- only who might be let in now is passed by

@@ -1,5 +1,5 @@
 -- Those who are let in, round after round.
-use Rattle.std.proofs.Common.{◌≡◌, ◌≢◌, ℕ, suc, Bool, ◌+◌, ◌*◌, ◌<◌, ◌≤◌, true, false, List, [], ◌++◌, length, Option, refl, sym, ap, ◌∙◌, subst, inl, inr, arith}
+use Rattle.std.proofs.Common.{◌≡◌, ◌≢◌, ℕ, suc, ◌+◌, ◌*◌, ◌≤◌, false, List, [], ◌++◌, length, refl, sym, ap, ◌∙◌, subst, inl, inr, arith}
 use Rattle.std.specs.List.{count_by}
 use Rattle.lab_plan.specs.LabPlan.{LabPlan}
 use Rattle.lab_plan.specs.InstrumentSets.{holds}
@@ -12,18 +12,16 @@ use Rattle.reasons.specs.Deeds.{is_deed}
 use Rattle.settling.specs.Left.{DueView, AreMarked}
 use Rattle.settling.proofs.Worlds.{leads_both}
 use Rattle.settling.proofs.Deeds.{deeds_both}
-use Rattle.late_thirst.specs.declared.asker.Asker.{Asker}
 use Rattle.late_thirst.specs.Outside.{LineView}
-use Rattle.late_thirst.specs.LettingIn.{LetsIn}
 use Rattle.late_thirst.proofs.Gone.{were_ready, nobody_in, as_many_after}
 use Rattle.late_thirst.proofs.Fewer.{count, at_most_all, fewer_after}
 use Rattle.live_lab.specs.declared.words.Word.{Word}
 use Rattle.live_lab.specs.declared.words.Word.TheVariants.{Begins}
 use Rattle.live_lab.specs.Labs.{IsLineOf}
 use Rattle.live_lab.specs.Sets.{events_of_jobs}
-use Rattle.live_lab.specs.Rests.{IsAtRest, DoAndRest}
+use Rattle.live_lab.specs.Rests.{IsAtRest}
 use Rattle.live_lab.specs.Doing.{said, RestsIn, DoesAndRests, AdmitsIn}
-use Rattle.live_lab.specs.Admitting.{AreAskers, LetsInNext, AdmitsNext, Admits, WasFree, AdmitsAll}
+use Rattle.live_lab.specs.Admitting.{AreAskers, LetsInNext, Admits, WasFree}
 use Rattle.live_lab.proofs.Bits.{holds_has, has_holds}
 use Rattle.live_lab.proofs.Lawful.{not_true, others_go, holding_goes, tranquil_holds_nothing, still_askers, free_holds, stands_outside}
 

@@ -1,12 +1,11 @@
 -- Who asks, job after job.
-use Rattle.std.proofs.Common.{◌≡◌, ◌≢◌, ℕ, ◌+◌, ◌<◌, ◌≤◌, min, List, Option, None, length, set, get_or-set_same, get_or-set_other, length-set, refl, sym, ap, ◌∙◌, subst, inl, inr, arith}
+use Rattle.std.proofs.Common.{◌≡◌, ℕ, ◌+◌, ◌<◌, ◌≤◌, min, Option, None, length, get_or-set_same, get_or-set_other, length-set, refl, sym, ◌∙◌, subst, inl, inr, arith}
 use Rattle.std.proofs.lemmas.Bool.{cases_eq}
 use Rattle.interleaving.specs.World.{WorldView}
-use Rattle.legal_steps.specs.Legal.{IsJob}
 use Rattle.late_thirst.specs.declared.asker.Asker.{Asker}
 use Rattle.late_thirst.specs.Outside.{LineView, place}
 use Rattle.late_thirst.specs.Lines.{with_place, counted}
-use Rattle.live_lab.specs.Admitting.{IsPlaceThen, Attends, Asks}
+use Rattle.live_lab.specs.Admitting.{IsPlaceThen, Attends}
 
 -- those of the first n jobs are done
 pub record AskedTo (waiting : ℕ) (w : WorldView) (old : LineView) (n : ℕ) (new : LineView) : Type 0 where
@@ -15,9 +14,6 @@ pub record AskedTo (waiting : ℕ) (w : WorldView) (old : LineView) (n : ℕ) (n
   pub most : new.most ≡ old.most
   pub done : (j : ℕ) → j < n → IsPlaceThen waiting w new.calls j (place old.places j) (place new.places j)
   pub left : (j : ℕ) → n ≤ j → place new.places j ≡ place old.places j
-
-pub begins : (waiting : ℕ) (w : WorldView) (old : LineView) → AskedTo waiting w old 0 (counted old)
-begins waiting w old = record { as_many = refl; calls = refl; most = refl; done = λ j below. absurd (omega (arith, below)); left = λ j above. refl }
 
 pub one_more : (waiting : ℕ) (w : WorldView) (old : LineView) (n : ℕ) (mid new : LineView) → Attends waiting w n mid new → AskedTo waiting w old n mid
     → AskedTo waiting w old (n + 1) new
@@ -32,15 +28,4 @@ one_more waiting w old n mid new a x = record {
         (x.done j (omega (arith, below, other)))
   ];
   left = λ j above. a.others j (λ is. omega (arith, above, is)) ∙ x.left j (omega (arith, above));
-}
-
--- the place of one job changes
-pub attended : (waiting : ℕ) (w : WorldView) (j : ℕ) (old : LineView) (b : Option Asker) → j < length old.places
-    → IsPlaceThen waiting w old.calls j (place old.places j) b → Attends waiting w j old (with_place old j b)
-attended waiting w j old b inside is = record {
-  as_many = length-set old.places j b;
-  calls = refl;
-  most = refl;
-  here = subst (IsPlaceThen waiting w old.calls j (place old.places j)) (sym (get_or-set_same old.places j b None inside)) is;
-  others = λ k other. get_or-set_other old.places j k b None other;
 }

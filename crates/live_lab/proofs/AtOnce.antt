@@ -1,14 +1,12 @@
 -- If nobody has to wait outside, all who ask are let in at once.
-use Rattle.std.proofs.Common.{◌≡◌, ◌≢◌, ◌⊎◌, ◌↔◌, ℕ, zero, suc, ◌+◌, ◌<◌, ◌≤◌, ◌^◌, Bool, true, false, if◌then◌else◌, List, [], ◌∷◌, ◌++◌, length, Option, Some, None, refl, sym, ap, ◌∙◌, subst, inl, inr, arith}
+use Rattle.std.proofs.Common.{◌≡◌, ◌≢◌, ℕ, zero, suc, ◌+◌, ◌<◌, if◌then◌else◌, List, [], ◌∷◌, ◌++◌, length, Option, Some, None, refl, sym, ◌∙◌, subst, inl, inr, arith}
 use Rattle.std.proofs.lemmas.Bool.{false≢true}
 use Rattle.std.proofs.lemmas.List.{get_or_past}
 use Rattle.std.proofs.lemmas.Nat.{pow_pos}
-use Rattle.lab_plan.specs.LabPlan.{LabPlan, sessions}
 use Rattle.lab_plan.specs.InstrumentSets.{holds}
 use Rattle.lab_plan.proofs.Bits.{holds_none}
 use Rattle.legal_steps.specs.declared.event.Event.{Event}
 use Rattle.legal_steps.specs.declared.event.Event.TheVariants.{Thirst}
-use Rattle.legal_steps.specs.State.{Has, session}
 use Rattle.legal_steps.specs.Legal.{IsJob}
 use Rattle.interleaving.specs.World.{WorldView, LeadsTo}
 use Rattle.settling.proofs.Nothing.{leads_none}
@@ -18,7 +16,7 @@ use Rattle.late_thirst.specs.Outside.{LineView, place, IsOutside, IsDue, IsDueAt
 use Rattle.late_thirst.specs.LettingIn.{LetsIn}
 use Rattle.late_thirst.proofs.Gone.{not_both, nobody_in, somebody_in, before_in, as_many_after, were_ready, due_is_outside}
 use Rattle.live_lab.specs.Sets.{AreJobs, events_below, events_of_jobs}
-use Rattle.live_lab.specs.Rests.{IsAtRest, ComesToRest, DoAndRest}
+use Rattle.live_lab.specs.Rests.{IsAtRest, DoAndRest}
 use Rattle.live_lab.specs.Admitting.{MayAsk, IsNext, IsPlaceFrom, Asks, LetsInNext, AdmitsNext, Admits, NobodyIsOutside}
 use Rattle.live_lab.proofs.Bits.{holds_has, has_holds, same_test}
 use Rattle.live_lab.proofs.Frames.{below_or}
@@ -159,8 +157,7 @@ AreInAtOnce waiting w events new line' =
 nobody_in_at_once : (waiting : ℕ) (w : WorldView) (line : LineView) → IsAtRest w → AreWaiters waiting w line → NobodyIsOutside line
     → AreInAtOnce waiting w [] w line
 nobody_in_at_once waiting w line rest x nobody =
-    let none = events_none (λ j. Thirst j) (length w.plan.jobs) in
-    (
+    let none = events_none (λ j. Thirst j) (length w.plan.jobs) in (
       0,
       record {
         of_plan = pow_pos (length w.plan.jobs);
@@ -185,8 +182,7 @@ some_in_at_once waiting w line set last new line' of x next =
     let n = next.lets in let d = next.begins in
     let all = all_in waiting w line set line' next.some n of x n.lets.places in
     let same : events_of_jobs (λ j. Thirst j) w.plan set ≡ events_of_jobs (λ j. Thirst j) w.plan n.ready =
-    events_same (λ j. Thirst j) set n.ready (length w.plan.jobs) (λ j below. all.0 j below) in
-    (
+    events_same (λ j. Thirst j) set n.ready (length w.plan.jobs) (λ j below. all.0 j below) in (
       n.ready,
       n.may,
       record {

@@ -1,5 +1,5 @@
 -- Who is let in because its instruments are free holds them; and who stays outside has a reason.
-use Rattle.std.proofs.Common.{◌≡◌, ◌≢◌, ◌⊎◌, ℕ, zero, suc, ◌+◌, ◌<◌, ◌≤◌, ◌^◌, min, bit_and, Bool, true, false, List, [], ◌∷◌, length, Option, Some, None, w64, refl, sym, ap, ◌∙◌, subst, inl, inr, arith}
+use Rattle.std.proofs.Common.{◌≡◌, ◌≢◌, ℕ, zero, suc, ◌+◌, ◌<◌, ◌^◌, min, bit_and, Bool, true, false, List, [], ◌∷◌, length, Option, Some, None, w64, refl, sym, ap, ◌∙◌, subst, inl, inr, arith}
 use Rattle.std.proofs.lemmas.Bool.{cases_eq, false≢true}
 use Rattle.std.proofs.lemmas.List.{get_or_past}
 use Rattle.std.proofs.lemmas.Nat.{and_le_r}
@@ -9,15 +9,13 @@ use Rattle.lab_plan.specs.LabPlan.{LabPlan, sessions, session_names}
 use Rattle.lab_plan.specs.InstrumentSets.{holds}
 use Rattle.lab_plan.proofs.Bits.{holds_none}
 use Rattle.legal_steps.specs.declared.event.Event.{Event}
-use Rattle.legal_steps.specs.declared.event.Event.TheVariants.{Thirst, Withdraw}
 use Rattle.legal_steps.specs.declared.phase.JobState.{JobState}
-use Rattle.legal_steps.specs.declared.phase.Drinking.{Drinking}
-use Rattle.legal_steps.specs.declared.phase.Drinking.TheVariants.{Tranquil, Thirsty, Drinking as Drinks, Reaching}
-use Rattle.legal_steps.specs.State.{State, Seat, Has, IsDrinking, IsInSession, no_seat, seat, phase, drinking, session, end_of}
-use Rattle.legal_steps.specs.Legal.{May, IsJob, Needs, instrument_of}
+use Rattle.legal_steps.specs.declared.phase.Drinking.TheVariants.{Tranquil, Thirsty, Drinking as Drinks}
+use Rattle.legal_steps.specs.State.{State, Seat, Has, IsDrinking, IsInSession, no_seat, phase, drinking, session, end_of}
+use Rattle.legal_steps.specs.Legal.{IsJob, Needs, instrument_of}
 use Rattle.legal_steps.proofs.FitsLaw.{not_tranquil}
-use Rattle.interleaving.specs.World.{WorldView, LeadsTo}
-use Rattle.reasons.specs.Reasons.{Lacks, Keeps, WaitsOn, LeadsToHolder}
+use Rattle.interleaving.specs.World.{WorldView}
+use Rattle.reasons.specs.Reasons.{WaitsOn, LeadsToHolder}
 use Rattle.late_thirst.specs.declared.asker.Asker.{Asker}
 use Rattle.late_thirst.specs.declared.asker.Reason.TheVariants.{Passed, Free}
 use Rattle.late_thirst.specs.Outside.{LineView, place, IsDue, IsDueAt, NobodyIsDue}
@@ -25,10 +23,9 @@ use Rattle.late_thirst.specs.LettingIn.{GoInPassed, LetsIn}
 use Rattle.late_thirst.proofs.Gone.{not_both, are_gone, like_before, only_one, due_is_outside}
 use Rattle.live_lab.specs.declared.words.Word.{Word}
 use Rattle.live_lab.specs.declared.words.Word.TheVariants.{Begins, GivesUp}
-use Rattle.live_lab.specs.Sets.{events_of_jobs}
 use Rattle.live_lab.specs.Rests.{DoAndRest}
 use Rattle.live_lab.specs.Doing.{said}
-use Rattle.live_lab.specs.Admitting.{AsksFor, AreAskers, MayAsk, AreInUse, LetsInNext, StandsOutside, EachStandsOutside, Asks, IsNext, IsPlaceFor, IsPlaceFrom}
+use Rattle.live_lab.specs.Admitting.{AsksFor, AreAskers, LetsInNext, EachStandsOutside, Asks, IsNext, IsPlaceFor, IsPlaceFrom}
 use Rattle.live_lab.proofs.Bits.{holds_has, has_holds}
 use Rattle.live_lab.proofs.Frames.{Goes, goes_same, goes_both, goes_all, others_said, Began, they_began, below_or}
 
@@ -113,9 +110,11 @@ pub askers_after : (w : WorldView) (line : LineView) (set : ℕ) (events : List 
     → ((j : ℕ) → IsJob w.plan j → Has set j → drinking w.state j ≡ Thirsty) → AreAskers w line → AreAskers new line
 askers_after w line set events new d thirsty askers = askers_on w new line (plan_stays (said GivesUp) set w events new d)
     (λ j a job at.
-    let asks = askers j a job at in
-    (asks, others_go GivesUp set w events new d j
-    (not_true (holds set j) (λ h. not_tranquil (inl (sym asks.tranquil ∙ thirsty j job (holds_has set j h)))))))
+    let asks = askers j a job at in (
+      asks,
+      others_go GivesUp set w events new d j
+          (not_true (holds set j) (λ h. not_tranquil (inl (sym asks.tranquil ∙ thirsty j job (holds_has set j h))))),
+    ))
 
 place_needs : (o : Option Asker) (a : Asker) (needs : ℕ) → IsPlaceFor needs o → o ≡ Some a → needs ≡ a.needs
 place_needs (Some b) a needs for same = let e : b ≡ a = cc in sym for ∙ ap (λ (x : Asker). x.needs) e

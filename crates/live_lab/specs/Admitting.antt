@@ -9,7 +9,7 @@ use Rattle.legal_steps.specs.State.{State, Has, IsInSession, IsDrinking, phase, 
 use Rattle.legal_steps.specs.Legal.{May, IsJob, Needs}
 use Rattle.interleaving.specs.World.{WorldView}
 use Rattle.late_thirst.specs.declared.asker.Asker.{Asker}
-use Rattle.late_thirst.specs.declared.asker.Reason.TheVariants.{Passed, Free}
+use Rattle.late_thirst.specs.declared.asker.Reason.TheVariants.{Passed}
 use Rattle.late_thirst.specs.Outside.{LineView, place, NobodyIsDue}
 use Rattle.late_thirst.specs.Lines.{LineLetsIn}
 use Rattle.live_lab.specs.Labs.{LabView}

@@ -31,4 +31,3 @@ pub record DoAndRest (event : ℕ → Event) (set : ℕ) (old : WorldView) (even
   pub each : LeadsTo old (events_of_jobs event old.plan set) mid
   pub rests : ComesToRest mid later new
   pub events_are : events ≡ events_of_jobs event old.plan set ++ later
-

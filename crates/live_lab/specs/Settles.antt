@@ -5,7 +5,6 @@ use Rattle.lab_plan.specs.LabPlan.{LabPlan, sessions}
 use Rattle.lab_plan.specs.InstrumentSets.{holds}
 use Rattle.legal_steps.specs.declared.event.Event.{Event}
 use Rattle.legal_steps.specs.declared.event.Event.TheVariants.{Thirst, Withdraw}
-use Rattle.legal_steps.specs.declared.phase.Drinking.TheVariants.{Thirsty}
 use Rattle.legal_steps.specs.State.{State, Has, IsDrinking, IsInSession, phase, drinking, session}
 use Rattle.legal_steps.specs.Legal.{May, IsJob}
 use Rattle.interleaving.specs.World.{WorldView, LeadsTo}

@@ -1,6 +1,6 @@
-use Rattle.std.proofs.Common.{◌∙◌, ap, arith, length, sym, subst}
-use Rattle.late_thirst.specs.Outside.{needs_of, passed_at, place}
-use Rattle.late_thirst.proofs.Passing.{begins, one_more}
+use Rattle.std.proofs.Common.{arith}
+use Rattle.late_thirst.specs.Outside.{passed_at}
+use Rattle.late_thirst.proofs.Passing.{one_more}
 use Rattle.late_thirst.proofs.entering.go_in.Goals as goal
 
 pub loop-other-preserved : goal.loop-other-preserved

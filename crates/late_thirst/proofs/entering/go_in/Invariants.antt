@@ -1,5 +1,3 @@
-use Rattle.std.proofs.Common.{◌≡◌}
-use Rattle.late_thirst.specs.Outside.{place, needs_of}
 use Rattle.late_thirst.proofs.Passing.{ArePassedTo}
 use Rattle.late_thirst.proofs.entering.go_in.Given as goal
 

@@ -1,4 +1,4 @@
-use Rattle.std.proofs.Common.{◌≡◌, ◌<◌, length, List, Option, Some, None, inl, inr, refl, sym, subst, arith}
+use Rattle.std.proofs.Common.{◌≡◌, ◌<◌, length, List, Option, Some, inl, inr, refl, subst, arith}
 use Rattle.late_thirst.specs.declared.asker.Asker.{Asker}
 use Rattle.late_thirst.specs.declared.asker.Reason.TheVariants.{Passed, Free}
 use Rattle.late_thirst.specs.Outside.{place, IsFirst, NobodyIsDue}

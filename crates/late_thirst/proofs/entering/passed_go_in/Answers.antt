@@ -1,4 +1,4 @@
-use Rattle.std.proofs.Common.{◌≡◌, ◌+◌, ◌<◌, length, bit_or, false, sym, subst, ap, ◌∙◌, arith, Some, ◌≤◌}
+use Rattle.std.proofs.Common.{◌≡◌, ◌<◌, length, false, arith, Some}
 use Rattle.lab_plan.specs.InstrumentSets.{holds}
 use Rattle.late_thirst.specs.declared.asker.Reason.TheVariants.{Passed}
 use Rattle.late_thirst.specs.Outside.{place, IsFirst}

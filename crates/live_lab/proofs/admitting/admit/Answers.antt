@@ -1,4 +1,4 @@
-use Rattle.std.proofs.Common.{◌≡◌, ◌≤◌, length, arith, sym, ap, ◌∙◌, subst}
+use Rattle.std.proofs.Common.{◌≤◌, length, arith, ap, subst}
 use Rattle.lab_plan.specs.LabPlan.{LabPlan}
 use Rattle.settling.proofs.Nothing.{leads_none}
 use Rattle.late_thirst.proofs.Fewer.{fewer_after}

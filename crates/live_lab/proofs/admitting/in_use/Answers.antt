@@ -1,7 +1,6 @@
-use Rattle.std.proofs.Common.{ap, length, ◌≡◌, ◌⊎◌, ◌+◌, ◌<◌, ℕ, sym, ◌∙◌, subst, inl, inr, arith, true}
+use Rattle.std.proofs.Common.{ap, length, ◌≡◌, ◌<◌, sym, ◌∙◌, subst, inl, inr, arith}
 use Rattle.std.proofs.lemmas.Bool.{cases_eq, false≢true}
 use Rattle.lab_plan.specs.LabPlan.{LabPlan}
-use Rattle.lab_plan.specs.InstrumentSets.{holds}
 use Rattle.lab_plan.proofs.Bits.{holds_none}
 use Rattle.legal_steps.specs.Legal.{Needs}
 use Rattle.live_lab.proofs.Bits.{in_either, either_in}

@@ -1,4 +1,4 @@
-use Rattle.std.proofs.Common.{◌≡◌, ◌∙◌, List, Option, refl, sym, subst}
+use Rattle.std.proofs.Common.{◌∙◌, List, Option, refl, sym, subst}
 use Rattle.std.proofs.lemmas.List.{with_items_is}
 use Rattle.std.specs.Vec.{with_items}
 use Rattle.late_thirst.specs.declared.asker.Asker.{Asker}

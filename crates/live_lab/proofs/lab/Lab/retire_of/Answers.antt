@@ -11,9 +11,11 @@ invariant_of-self c =
     let x = c.self.inside in let j = c.args.job in let r = c.come_to_rest-done.ensures.rests in let mid = c.come_to_rest-done.new.world in
     let did = c.attempt-did.result in
     in_lab mid c.attempt-did.new.world x.clocks.items x.clocks.items x.line (on did (Retire j) []) (IsBySelf j) c.plan.result.now c.come_to_rest-done.new.due
-    c.wake_self.new.due c.attempt-did.ensures.leads (self_on j did (Retire j) (refl, tt)) c.wake_self.ensures.keeps c.plan.ensures.plan refl
-    (lab_on x.world x.clocks.items x.clocks.items mid (r.events, r.rests.leads) refl c.self.invariant.0, c.come_to_rest-done.ensures.marked,
-    line_on x.world mid x.line (r.events, r.rests.leads) c.self.invariant.2)
+    c.wake_self.new.due c.attempt-did.ensures.leads (self_on j did (Retire j) (refl, tt)) c.wake_self.ensures.keeps c.plan.ensures.plan refl (
+      lab_on x.world x.clocks.items x.clocks.items mid (r.events, r.rests.leads) refl c.self.invariant.0,
+      c.come_to_rest-done.ensures.marked,
+      line_on x.world mid x.line (r.events, r.rests.leads) c.self.invariant.2,
+    )
 
 pub invariant_of-self-else-did : goal.invariant_of-self-else-did
 invariant_of-self-else-did c =

@@ -1,4 +1,4 @@
-use Rattle.std.proofs.Common.{◌≡◌, inl, inr, ℕ, ◌+◌, List, ◌++◌, append-nil, length, refl, sym, ap, ◌∙◌, subst, arith}
+use Rattle.std.proofs.Common.{◌≡◌, inl, inr, ℕ, ◌+◌, List, ◌++◌, append-nil, length, sym, ap, ◌∙◌, subst, arith}
 use Rattle.std.proofs.lemmas.List.{with_items_is}
 use Rattle.std.specs.List.{count_by}
 use Rattle.std.specs.Vec.{with_items}
@@ -10,7 +10,7 @@ use Rattle.settling.proofs.Deeds.{deeds_both}
 use Rattle.late_thirst.specs.Outside.{LineView}
 use Rattle.live_lab.specs.declared.clock.Clock.{Clock}
 use Rattle.live_lab.specs.declared.settle.Came.{Came}
-use Rattle.live_lab.specs.Labs.{LabView, IsLineOf}
+use Rattle.live_lab.specs.Labs.{LabView}
 use Rattle.live_lab.specs.Sets.{AreJobs}
 use Rattle.live_lab.specs.Counting.{AreTurnsCounted}
 use Rattle.live_lab.specs.Settles.{IsOutOfPatience, SettlesAtOnce, Settles}
