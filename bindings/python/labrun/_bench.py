@@ -728,7 +728,9 @@ class Bench:
         # what waits for more than its turn: sessions that aren't added yet, and whoever turns the page; each with what wakes it
         self._others: dict[_holding.Waiter, Callable[[], None]] = {}
         self._used: Optional[set[str]] = None
-        self._turns_page = False
+        self._turner: Optional[_holding.Waiter] = None
+        self._turning: Optional[_holding.Turning] = None
+        self._last_page: Optional[Page] = None
         self._later: list[tuple[Job, _holding.Kind]] = []
         # whether it is one of `new`, whose jobs go on to get sessions
         self._is_endless = False
@@ -795,6 +797,11 @@ class Bench:
         after `timeout` seconds NotBack names the jobs that are in one or have one left, and the page isn't turned. With a journal the new page has a new file, and
         the old one is kept under its name with a number: `bay.journal.1`. In a program of asyncio use `turn_page_async`."""
         return _holding.turn_page(self, timeout)
+
+    @property
+    def last_page(self) -> Optional[Page]:
+        """The page that was turned last, also where an interrupt came to `turn_page`."""
+        return self._last_page
 
     async def turn_page_async(self, timeout: Optional[float] = None) -> Page:
         """As `turn_page`; other tasks go on meanwhile."""
@@ -1238,6 +1245,9 @@ class Bench:
     def _mend(self) -> None:
         """An exception came between a call and the note of what it told: so the library is asked how each job is."""
         self._torn = True
+        if self._turning is not None:
+            _holding.finish(self, self._turning)
+            return
         if self._journal is not None and self._journal.fault is not None:
             self._journal.goes_back()
             self._call("lab_overtakes", self._overtakes)

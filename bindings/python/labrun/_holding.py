@@ -166,7 +166,7 @@ class Hold(Session, Waiter):
     def _is_added_at_once(self, job: Job, bench: Bench) -> bool:
         """Adds the session, where nothing is to be thought of. (It does what `_is_added` does, in a third of the time.)"""
         plan, call, choices = job._plan, bench._lab_add, self._choices
-        if bench._stands or bench._torn or bench._turns_page or self._since or len(choices) != 1 or call is None:
+        if bench._stands or bench._torn or bench._turner is not None or self._since or len(choices) != 1 or call is None:
             return False
         if job._in or job._last != len(plan) or job._is_over or job._untold is not None:
             return False
@@ -212,7 +212,7 @@ class Hold(Session, Waiter):
 
     def _choice(self, bench: Bench, used: Optional[set[str]] = None) -> Optional[Kind]:
         """Which it is to be, if that is known now: the first that is free; else the one at which it was passed by as often as may be."""
-        if bench._turns_page:
+        if bench._turner is not None:
             return None
         if len(self._choices) == 1:
             return self._choices[0]
@@ -247,7 +247,7 @@ class Hold(Session, Waiter):
     def _kept(self, bench: Bench) -> tuple[Keeper, ...]:
         """Who keeps its choices from it."""
         found: list[Keeper] = []
-        if bench._turns_page:
+        if bench._turner is not None:
             return ()
         for instrument in dict.fromkeys(name for kind in self._choices for name in kind.plan[0]):
             users = [it for it in bench._jobs if it._in and instrument in it._plan[it._in - 1][0] and bench._outside_of(it) is None]
@@ -419,7 +419,7 @@ def add(job: Job, instruments: tuple[str, ...], commands: Iterable[Asked]) -> No
     with bench._mutex, bench._mending:
         bench._look_over()
         bench._may_go_on()
-        if not bench._turns_page:
+        if bench._turner is None:
             _append(bench, job, kind)
             bench._rouse_others()
         elif job._is_over or bench._journal is not None:
@@ -559,20 +559,15 @@ def _lines(jobs: Mapping[str, tuple[str, ...]]) -> list[str]:
 
 
 def _give_up_first(bench: Bench) -> None:
-    """The first session of each job is begun by one turn, and given up, unless a journal says that it was. (With the mutex held.)"""
+    """The first session of each job is begun by one turn, and given up, unless that was done before. (With the mutex held.)"""
     for job in bench._jobs:
-        if job._plan and job._last == 0:
-            _begin_and_give_up(bench, job)
-        elif job._in == 1 and bench._state_of(job.index).drinking == _THIRSTY:
+        if job._plan and bench._state_of(job.index).session == 0:
+            bench._call("lab_turn", job.index, bench._turned_at)
+        state = bench._state_of(job.index)
+        if state.session == 1 and state.drinking == _THIRSTY:
             bench._call("lab_withdraw", job.index)
-        else:
-            continue
-        job._in, job._last, job._session = 0, 1, None
-
-
-def _begin_and_give_up(bench: Bench, job: Job) -> None:
-    bench._call("lab_turn", job.index, bench._turned_at)
-    bench._call("lab_withdraw", job.index)
+            job._in, job._session = 0, None
+        job._last = state.session
 
 
 def script_of(bench: Bench) -> str:
@@ -604,65 +599,120 @@ def room_of(bench: Bench) -> Room:
 
 
 def turn_page(bench: Bench, timeout: Optional[float]) -> Page:
-    with bench._mutex:
-        bench._look_over()
-        bench._may_go_on()
-        if bench._turns_page:
-            raise LabrunError("another thread turns the page")
-        if bench._journal is not None and not bench._is_endless:
-            raise LabrunError("a bench of a script keeps its journal to the end: Bench.new is for one that turns pages")
-        bench._turns_page = True
+    me, until = _Turner(), None if timeout is None else _now() + timeout
     try:
-        until = None if timeout is None else _now() + timeout
+        with bench._mutex:
+            bench._look_over()
+            bench._may_go_on()
+            if bench._turner is not None:
+                raise LabrunError("another thread turns the page")
+            if bench._journal is not None and not bench._is_endless:
+                raise LabrunError("a bench of a script keeps its journal to the end: Bench.new is for one that turns pages")
+            bench._turner = me
         while True:
-            page = _waits(bench, _Turner(), lambda: _turned(bench), None if until is None else max(0.0, until - _now()))
+            page = _waits(bench, me, lambda: _turned(bench), None if until is None else max(0.0, until - _now()))
+            if isinstance(page, Page):
+                return page
             if page is None:
                 with bench._mutex:
                     busy = _busy(bench)
                 busy, at = bench._what_they_are_at(busy)
                 raise NotBack(tuple(job.name for job in busy), tuple(it or "has sessions left to begin" for it in at))
-            if isinstance(page, Page):
-                return page
             bench._commit(page)
-    finally:
+    except BaseException:
         with bench._mutex:
-            bench._turns_page = False
-            later, bench._later = bench._later, []
-            if bench._stands <= _STOPPED:
-                for job, kind in later:
-                    _append(bench, job, kind)
-            bench._rouse_others(bench._stands > _STOPPED)
+            if bench._turner is me:
+                _is_over(bench)
+        raise
+
+
+def _is_over(bench: Bench) -> None:
+    """Nobody turns the page any more: what waited for that may come. (With the mutex held.)"""
+    bench._turner = None
+    later, bench._later = bench._later, []
+    if bench._stands <= _STOPPED:
+        for job, kind in later:
+            _append(bench, job, kind)
+    bench._rouse_others(bench._stands > _STOPPED)
 
 
 def _turned(bench: Bench) -> Union[Page, tuple[int, int]]:
     """Turns the page, unless the journal is to be written before: then that ticket. (With the mutex held.)"""
     for job in bench._members(bench._left):
         _lapse(bench, job)
+    if bench._journal is not None:
+        _retires_all(bench)
+        if not bench._is_written():
+            return bench._journal.ticket
+    uses = {job.name: uses_of(job) for job in bench._jobs}
+    script = bench._script if bench._is_endless else "".join(line + "\n" for line in _lines(uses)).encode("ascii")
+    turning = Turning(bench, script)
+    if bench._journal is None:
+        turning.handle = _opened(script)
+    bench._torn, bench._turning = True, turning
+    return finish(bench, turning)
+
+
+def _retires_all(bench: Bench) -> None:
+    """(One may be in a meal, which lasts until another has left its own.)"""
     while any([bench._retire(job) for job in bench._jobs]):
         pass
-    ticket = bench._ticket()
-    if ticket is not None and not bench._is_written():
-        return ticket
-    became, uses = script_of(bench), {job.name: uses_of(job) for job in bench._jobs}
-    script = bench._script if bench._is_endless else "".join(line + "\n" for line in _lines(uses)).encode("ascii")
-    report, kept = None, None
-    if bench._journal is None:
-        calls: Union[Library, Kept] = library()
-        handle = _opened(script)
-        report = _closed(bench, handle)
-    else:
-        report, path, stands = _closed(bench), bench._journal.path, bench._stands
-        bench._stands, bench._report = _bench._CLOSED, report
-        bench._finalizer()
-        kept = _kept_aside(path)
-        bench._journal.close()
-        handle = Handle()
-        bench._journal = Journal(path, script, bench._sync, _bench._new_lock)
-        calls, _ = bench._journal.open(library(), handle)
-        bench._stands, bench._report = stands, None
-    page = Page(report, became, tuple(bench._lapsed), tuple(bench._raised), tuple(bench._taken), kept)
-    _begins_anew(bench, calls, handle, script)
+
+
+class Turning:
+    """A page that is being turned, from the moment that the old one is closed: whatever comes between, it is finished (`Bench._mend`)."""
+
+    def __init__(self, bench: Bench, script: bytes) -> None:
+        self.script = script
+        self.became = script_of(bench)
+        self.told = tuple(bench._lapsed), tuple(bench._raised), tuple(bench._taken)
+        self.finalizer, self.old, self.old_calls = bench._finalizer, bench._at, bench._calls
+        self.old_journal = bench._journal
+        self.journal: Optional[Journal] = None
+        self.report: Optional[Report] = None
+        self.handle: Optional[Handle] = None
+        self.calls: Union[Library, Kept] = library()
+        self.kept: Optional[str] = None
+        self.is_renamed = False
+
+
+def finish(bench: Bench, turning: Turning) -> Page:
+    """(Each line may have been done before. With the mutex held.)"""
+    if turning.report is None:
+        if bench._journal is None:
+            _retires_all(bench)
+        turning.report = Report.from_text(told_text(turning.old_calls["lab_bench_close"], turning.old))
+    if bench._journal is not None and turning.handle is None:
+        _sets_aside(bench, turning, turning.old_journal or bench._journal)
+    assert turning.handle is not None
+    page = Page(turning.report, turning.became, *turning.told, turning.kept)
+    bench._last_page = page
+    _begins_anew(bench, turning.calls, turning.handle, turning.script)
+    turning.finalizer()
+    _is_over(bench)
+    bench._torn, bench._turning = False, None
     return page
+
+
+def _sets_aside(bench: Bench, turning: Turning, old: Journal) -> None:
+    """The journal's file gets a name with a number, one more than the last, and the new page begins one of the old name."""
+    path = old.path
+    if turning.kept is None:
+        number = 1
+        while os.path.exists(f"{path}.{number}"):
+            number += 1
+        turning.kept = f"{path}.{number}"
+    if not turning.is_renamed:
+        if os.path.exists(path):
+            os.rename(path, turning.kept)
+        turning.is_renamed = True
+    if turning.journal is not None:
+        turning.journal.close()
+    handle = Handle()
+    turning.journal = Journal(path, turning.script, bench._sync, _bench._new_lock)
+    turning.calls, _ = turning.journal.open(library(), handle)
+    bench._journal, turning.handle = turning.journal, handle
+    old.close()
 
 
 def _opened(script: bytes) -> Handle:
@@ -673,36 +723,15 @@ def _opened(script: bytes) -> Handle:
     return handle
 
 
-def _closed(bench: Bench, handle: Optional[Handle] = None) -> Report:
-    """The report of the page that is over. If it can't be had, nothing is lost, and the next page (`handle`) isn't begun."""
-    try:
-        report = Report.from_text(told_text(bench._calls["lab_bench_close"], bench._at))
-    except BaseException:
-        if handle is not None:
-            _freed(library(), handle)
-        raise
-    if handle is not None:
-        bench._finalizer()
-    return report
-
-
-def _kept_aside(path: str) -> str:
-    """Gives the journal's file its name with a number, one more than the last."""
-    number = 1
-    while os.path.exists(f"{path}.{number}"):
-        number += 1
-    os.rename(path, f"{path}.{number}")
-    return f"{path}.{number}"
-
-
 def _begins_anew(bench: Bench, calls: Union[Library, Kept], handle: Handle, script: bytes) -> None:
+    # (should it be freed twice, the second call finds it empty)
     bench._finalizer = weakref.finalize(bench, _freed, calls, handle)
     bench._calls, bench._at, bench._script = calls, ctypes.byref(handle), script
     bench._lab_settle, bench._lab_end, bench._lab_add = calls.quick("lab_settle"), calls.quick("lab_end"), None
     bench._call("lab_overtakes", bench._overtakes)
     bench._waiting = bench._left = bench._limited = 0
     bench._lapsed, bench._raised, bench._taken = [], [], []
-    bench._has_patience, bench._torn = True, False
+    bench._has_patience = True
     for job, plan in zip(bench._jobs, _plans(script, bench.instruments)):
         job._plan, job._session, job._outcome, job._fault, job._wake = plan, None, None, None, None
         job._in = job._last = job._asked_for = 0

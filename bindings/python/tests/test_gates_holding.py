@@ -1,6 +1,8 @@
 """Sessions that come, and pages, with a gate at every line of the package (tests/gates.py): no wake-up is lost, and no interrupt loses one."""
 
+import os
 import random
+import tempfile
 import unittest
 from typing import Any, Callable, Optional
 from unittest import mock
@@ -166,6 +168,51 @@ class Interrupts(Gated):
             for at in range(most):
                 with self.subTest(at=at):
                     self.interrupted(jobs, at, sometimes(at % 5, 0.05))
+
+
+    def test_pages(self) -> None:
+        """One comes to whoever turns the page: it is turned, or it isn't; and the bench goes on."""
+        for journal in (None, self.journal()):
+            at = 0
+            while True:
+                gates = Gates(sometimes(at % 5, 0.05), at)
+                if journal:
+                    for name in os.listdir(os.path.dirname(journal)):
+                        os.remove(os.path.join(os.path.dirname(journal), name))
+                with self.subTest(journal=bool(journal), at=at), mock.patch.object(_bench, "_new_lock", gates.lock):
+                    bench = labrun.Bench.new(RING, journal=journal, sync="none")
+                    counting, came = Counting(bench), []
+
+                    def turn() -> None:
+                        try:
+                            bench.turn_page()
+                            came.append(False)
+                        except KeyboardInterrupt:
+                            came.append(True)
+
+                    gates.run([turn, *([] if journal else [lambda job=job: self.plain(job, counting) for job in bench.jobs[1:]])], LIMIT)
+                    self.assertTrue(came[0] or bench.last_page)
+                    first = bench.last_page
+                    second = bench.turn_page()
+                    pages = [second] if first is None else [first, second]
+                    self.assertTrue(all(page.report.finished for page in pages))
+                    self.assertEqual(sum(job.done for page in pages for job in page.report.jobs), 0 if journal else 4)
+                    self.assertEqual((bench._others, bench._torn, bench._turner), ({}, False, None))
+                    if journal:
+                        self.assertEqual([page.journal for page in pages], [f"{journal}.{number}" for number in range(1, len(pages) + 1)])
+                        for page in pages:
+                            with open(str(page.journal), "rb") as file:
+                                self.assertIn(b"lab_retire", file.read())
+                    self.assertTrue(bench.close().finished)
+                if not came[0]:
+                    break
+                at += 3 if journal else 1
+            self.assertGreater(at, 60)
+
+    def journal(self) -> str:
+        folder = tempfile.TemporaryDirectory()
+        self.addCleanup(folder.cleanup)
+        return os.path.join(folder.name, "bay.journal")
 
 
 if __name__ == "__main__":

@@ -684,7 +684,7 @@ class Pages(OnBay):
             with self.assertRaisesRegex(labrun.NotBack, r"not back: board \(holds scope, supply for .* s\), guest \(waits: scope is held by board"):
                 bench.turn_page(timeout=0.01)
             turner = in_thread(lambda: pages.append(bench.turn_page()))
-            until(lambda: bench._turns_page)
+            until(lambda: bench._turner is not None)
             with self.assertRaises(labrun.LabrunError):
                 bench.turn_page()
             self.assertEqual(self.in_vain(bench, "host", "load-1"), "a session of host still waits: it holds by now, or is over, or a page is being turned")
@@ -708,7 +708,7 @@ class Pages(OnBay):
             session = bench.job("host").hold(any_of=["load-1", "load-2"])
             thread = self.waits(session)
             turner = in_thread(lambda: pages.append(bench.turn_page()))
-            until(lambda: bench._turns_page)
+            until(lambda: bench._turner is not None)
             drive.release()
             back(turner)
             back(thread)
@@ -745,7 +745,7 @@ class Pages(OnBay):
         async def main() -> None:
             async with bench.job("board").hold("scope"):
                 turner = asyncio.ensure_future(bench.turn_page_async())
-                while not bench._turns_page:
+                while bench._turner is None:
                     await asyncio.sleep(0.001)
             self.assertTrue((await turner).report.finished)
 
