@@ -42,6 +42,14 @@ import labrun
 MOST = 1000  # sessions of a job that a script may have
 BOUNDS = (0, 4, 16, 64, 999999)
 WAYS = (*(f"labrun {it}" for it in BOUNDS), "Condition", "locks", "FIFO")
+NAMES = {
+    "six": "6 stations, 5 instruments",
+    "thirty-two": "32 stations, 20 instruments",
+    "greedy": "greedy: 11 need one of 6, one all",
+    "ring": "ring of 12",
+    "one": "8 at the same one",
+    "mixed": "12 at 8, 1 to 100 ms",
+}
 BAYS = {"six": (6, 5), "thirty-two": (32, 20), "greedy": (12, 6), "ring": (12, 12), "one": (8, 1), "mixed": (12, 8)}
 
 
@@ -275,7 +283,10 @@ def main():
 def tables(kept):
     table("sessions a second", kept, lambda one: f"{one['rate']:.0f}")
     table("wait in ms: median; 99 of 100; longest", kept, lambda one: "; ".join(short(one[it]) for it in ("median", "p99", "longest")))
-    table("an instrument free though wanted; somebody could work", kept, lambda one: f"{100 * one['free']:.0f}; {100 * one['idle']:.0f} %")
+    table("% of the time: free though wanted; somebody could work", kept, lambda one: f"{100 * one['free']:.0f}; {100 * one['idle']:.0f}")
+    if all("Condition" in found for found in kept.values()):
+        beside = {bay: {way: {it: one[it] / found["Condition"][it] for it in ("rate", "longest")} for way, one in found.items()} for bay, found in kept.items()}
+        table("beside Condition: sessions; longest wait", beside, lambda one: f"{one['rate']:.2f}; {one['longest']:.2f}")
 
 
 def short(milliseconds):
@@ -284,9 +295,10 @@ def short(milliseconds):
 
 def table(head, kept, cell):
     ways = list(next(iter(kept.values())))
-    print(f"\n| {head} | " + " | ".join(ways) + " |\n" + "|---" * (len(ways) + 1) + "|")
+    heads = [way.replace("labrun 999999", "without bound").replace("labrun", "overtakes") for way in ways]
+    print(f"\n| {head} | " + " | ".join(heads) + " |\n" + "|---" * (len(ways) + 1) + "|")
     for bay, found in kept.items():
-        print(f"| {bay} | " + " | ".join(cell(found[way]) for way in ways) + " |", flush=True)
+        print(f"| {NAMES[bay]} | " + " | ".join(cell(found[way]) for way in ways) + " |", flush=True)
 
 
 def tell(bay, found):

@@ -1263,6 +1263,9 @@ class Bench:
             job._last = state.session + is_outside
             job._in = job._last if holds or is_outside or state.drinking == _THIRSTY else 0
             job._is_retired = state.drinking == _RETIRED
+            if not job._in and session is not None and session.state in ("waiting", "asked") and session.number == job._last + 1:
+                # it is in a meal still, and can't begin yet
+                job._in = job._last = session.number
             if not holds:
                 self._limited &= ~job._bit
             if session is None:

@@ -801,7 +801,7 @@ import signal, sys, time, threading, labrun
 # (what a shell runs in the background ignores the signal, and so do its children)
 signal.signal(signal.SIGINT, signal.default_int_handler)
 WHERE, SCRIPT = sys.argv[1], sys.argv[2]
-bench = labrun.Bench.from_text(SCRIPT)
+bench = labrun.Bench.from_text(SCRIPT, overtakes=int(sys.argv[3]))
 def tell_once_it_waits():
     while not bench.jobs[1].state.waits:
         time.sleep(0.01)
@@ -842,8 +842,8 @@ def child() -> dict[str, str]:
 class Interrupted(unittest.TestCase):
     """KeyboardInterrupt, sent to a child process."""
 
-    def interrupted(self, where: str, script: str) -> str:
-        words = [sys.executable, "-c", INTERRUPTED, where, script]
+    def interrupted(self, where: str, script: str, overtakes: int = labrun.OVERTAKES) -> str:
+        words = [sys.executable, "-c", INTERRUPTED, where, script, str(overtakes)]
         ran = subprocess.Popen(words, env=child(), stdout=subprocess.PIPE, stderr=subprocess.PIPE, text=True)
         try:
             assert ran.stdout
@@ -860,8 +860,10 @@ class Interrupted(unittest.TestCase):
         self.assertEqual(self.interrupted("body", TWO), "finished new 1 0 False")
 
     def test_while_it_waits(self) -> None:
-        self.assertEqual(self.interrupted("waiting", TWO), "held left 0 0 False")
-        self.assertEqual(self.interrupted("waiting", PATIENT), "held withdrawn 0 0 False")
+        self.assertEqual(self.interrupted("waiting", TWO, 0), "held left 0 0 False")
+        self.assertEqual(self.interrupted("waiting", TWO), "held new 0 0 False")
+        for overtakes in (0, 9):
+            self.assertEqual(self.interrupted("waiting", PATIENT, overtakes), "held withdrawn 0 0 False")
 
     def test_in_run(self) -> None:
         # a works at its first session until the bench is stopped: it ends that, and begins no other; b gave up, or had its session before
