@@ -1,5 +1,5 @@
 -- Those who went in, as a set.
-use Rattle.std.proofs.Common.{◌≡◌, ◌≢◌, ℕ, zero, suc, ◌+◌, ◌*◌, ◌-◌, ◌%◌, ◌^◌, ◌<◌, ◌≤◌, ◌↔◌, bit_or, bit_and, Bool, true, false, ◌||◌, nat_eq, List, length, Option, Some, None, w32, arith, refl, sym, ap, inl, inr, subst, ◌∙◌, add-one}
+use Rattle.std.proofs.Common.{◌≡◌, ◌≢◌, ℕ, zero, suc, ◌+◌, ◌*◌, ◌%◌, ◌^◌, ◌<◌, ◌≤◌, ◌↔◌, bit_or, bit_and, Bool, true, false, ◌||◌, nat_eq, List, length, Option, Some, None, w32, arith, refl, sym, ap, inl, inr, subst, ◌∙◌, add-one}
 use Rattle.std.proofs.Math.Bool.{or-false, or-true}
 use Rattle.std.proofs.lemmas.Bool.{cases_eq, eq-eqb, ne_eqb, false≢true}
 use Rattle.std.specs.Int.{bit_at}

@@ -1,10 +1,9 @@
 -- Who asks, job after job.
-use Rattle.std.proofs.Common.{◌≡◌, ℕ, ◌+◌, ◌<◌, ◌≤◌, min, Option, None, length, get_or-set_same, get_or-set_other, length-set, refl, sym, ◌∙◌, subst, inl, inr, arith}
+use Rattle.std.proofs.Common.{◌≡◌, ℕ, ◌+◌, ◌<◌, ◌≤◌, min, Option, length, sym, ◌∙◌, subst, inl, inr, arith}
 use Rattle.std.proofs.lemmas.Bool.{cases_eq}
 use Rattle.interleaving.specs.World.{WorldView}
 use Rattle.late_thirst.specs.declared.asker.Asker.{Asker}
 use Rattle.late_thirst.specs.Outside.{LineView, place}
-use Rattle.late_thirst.specs.Lines.{with_place, counted}
 use Rattle.live_lab.specs.Admitting.{IsPlaceThen, Attends}
 
 -- those of the first n jobs are done

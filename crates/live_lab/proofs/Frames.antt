@@ -8,7 +8,7 @@ use Rattle.legal_steps.specs.declared.event.Event.{Event}
 use Rattle.legal_steps.specs.declared.event.Event.TheVariants.{Look, AskFork, GiveFork, Soil, AskBottles, GiveBottles, Thirst, Hunger, Sit, Leave, Drink, Reach, Act, Quit, Retire, Glance, Withdraw}
 use Rattle.legal_steps.specs.declared.phase.JobState.{JobState}
 use Rattle.legal_steps.specs.declared.phase.Drinking.TheVariants.{Thirsty, Drinking as Drinks}
-use Rattle.legal_steps.specs.State.{State, Seat, no_seat, seat, phase, drinking, session}
+use Rattle.legal_steps.specs.State.{State, Seat, no_seat, seat, phase}
 use Rattle.legal_steps.specs.Legal.{May, after}
 use Rattle.legal_steps.specs.Run.{IsLegalFrom, after_all, actor}
 use Rattle.reasons.specs.Deeds.{IsBetween, AreBetween}

@@ -10,7 +10,7 @@ use Rattle.lab_plan.specs.InstrumentSets.{holds}
 use Rattle.lab_plan.proofs.Bits.{holds_none}
 use Rattle.legal_steps.specs.declared.event.Event.{Event}
 use Rattle.legal_steps.specs.declared.phase.JobState.{JobState}
-use Rattle.legal_steps.specs.declared.phase.Drinking.TheVariants.{Tranquil, Thirsty, Drinking as Drinks}
+use Rattle.legal_steps.specs.declared.phase.Drinking.TheVariants.{Tranquil, Thirsty}
 use Rattle.legal_steps.specs.State.{State, Seat, Has, IsDrinking, IsInSession, no_seat, phase, drinking, session, end_of}
 use Rattle.legal_steps.specs.Legal.{IsJob, Needs, instrument_of}
 use Rattle.legal_steps.proofs.FitsLaw.{not_tranquil}

@@ -1,5 +1,4 @@
 use Rattle.std.proofs.Common.{arith}
-use Rattle.late_thirst.specs.Outside.{passed_at}
 use Rattle.late_thirst.proofs.Passing.{one_more}
 use Rattle.late_thirst.proofs.entering.go_in.Goals as goal
 
