@@ -1,10 +1,10 @@
 //! One more session of a plan's job, while the plan is in use: what it has then, the refusals in their order, and memory that runs out.
-use super::{EXAMPLE, FIRST, Line, check_example, counts, name_of, plan_of};
+use super::memory::fill;
+use super::{EXAMPLE, FIRST, Line, check_example, counts, plan_of};
 use crate::asking::{ends_of, job_of, place_of, session_of};
 use crate::pairs::heap_of;
 use crate::rows::check;
 use lab_plan::{EdgeNo, InstrumentNo, JobNo, MoreRefusal, Place, Plan, PlanBuilder, Verb};
-use linked_list_allocator::LocalHeap;
 use std::alloc::{Allocator, Global};
 use std::process::Abort;
 
@@ -195,40 +195,36 @@ fn knows_names(rt: HostRuntime) {
     );
 }
 
-/// Adds a session twice with so much room, and tells how often that was refused. A refused one goes through once there is room.
-fn add_with_room(rt: &impl Abort, alloc: Global, room: usize) -> bool {
-    let heap = heap_of(rt, alloc, 65536);
+/// Adds a session while so many blocks of a heap are free, and tells whether that was refused. A refused one goes through once
+/// there is room.
+fn add_with_room(rt: &impl Abort, alloc: Global, free: usize) -> bool {
+    let heap = heap_of(rt, alloc, 32768);
     let mut plan = plan_of(rt, PlanBuilder::new(&heap), &EXAMPLE);
-    let ballast = ballast_of(rt, &heap, room);
+    let mut blocks = fill(rt, alloc, &heap);
+    for _ in 0..free {
+        let _ = blocks.pop();
+    }
     let refused = add(rt, &mut plan, 0, None, &THIRD);
     if refused.is_some() {
-        check(rt, room, refused, Some(MoreRefusal::NoMemory));
+        check(rt, free, refused, Some(MoreRefusal::NoMemory));
         check_example(rt, &plan);
     }
-    drop(ballast);
+    drop(blocks);
     if refused.is_some() {
-        check(rt, room, add(rt, &mut plan, 0, None, &THIRD), None);
+        check(rt, free, add(rt, &mut plan, 0, None, &THIRD), None);
     }
-    check(rt, room, session_of(rt, &plan, 0, 3), (None, 0b101, &THIRD));
+    let third = session_of(rt, &plan, 0, 3);
+    check(rt, free, third, (None, 0b101, &THIRD));
     refused.is_some()
 }
 
-/// Blocks of a heap, the largest first, until only so much room is left.
-fn ballast_of<'a>(rt: &impl Abort, heap: &'a LocalHeap, room: usize) -> Vec<u8, &'a LocalHeap> {
-    assert!(rt; room <= 60000);
-    match Vec::with_capacity(heap, 60000 - room) {
-        Ok(ballast) => ballast,
-        Err(_) => panic!(rt; "no ballast"),
-    }
-}
-
-/// Each allocation in turn is the first that is refused.
+/// One block more is free each time, so that each allocation in turn is the first that is refused.
 #[test]
 fn one_more_session_without_memory(rt: HostRuntime) {
     let mut refused = 0u32;
-    for room in 0..100usize {
-        let was = add_with_room(&rt, rt.alloc(), 16 * room);
+    for free in 0..60usize {
+        let was = add_with_room(&rt, rt.alloc(), free);
         refused = refused.saturating_add(was as u32);
     }
-    assert!(rt; refused > 0);
+    assert!(rt; refused > 0 && refused < 60);
 }
