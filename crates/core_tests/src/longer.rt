@@ -1,7 +1,7 @@
 //! A world whose plan gets longer while it goes on: what it says then, worked out by hand.
-use crate::benches::{A, AB, B, TWO, plan_of};
-use interleaving::{AddRefusal, Event, World};
-use lab_plan::{EdgeNo, InstrumentNo, JobNo, MoreRefusal, Verb};
+use crate::benches::{A, AB, B, Do, TWO, event_of, plan_of};
+use interleaving::{AddRefusal, World};
+use lab_plan::{InstrumentNo, JobNo, MoreRefusal, Verb};
 use std::alloc::Allocator;
 use std::process::Abort;
 
@@ -37,10 +37,11 @@ fn adds<T: Allocator>(
     adds_all(rt, world, job, None, &[(SCALE, verb)])
 }
 
-/// Does events that are legal.
-fn does<T: Allocator>(rt: &impl Abort, world: &mut World<T>, events: &[Event]) {
-    for event in events {
-        assert!(rt; world.step(*event).is_ok());
+/// Does steps that are legal.
+fn does<T: Allocator>(rt: &impl Abort, world: &mut World<T>, steps: &[Do]) {
+    for it in steps {
+        let event = event_of(rt, world, *it);
+        assert!(rt; world.step(event).is_ok());
     }
 }
 
@@ -50,64 +51,43 @@ fn sizes<T: Allocator>(rt: &impl Abort, world: &World<T>, job: u8) -> (u32, usiz
     (world.plan().sessions(JobNo(job)), world.log(SCALE).room())
 }
 
-/// From the first session of a job to its end.
-fn one_session(job: u8) -> [Event; 5] {
-    let job = JobNo(job);
-    [
-        Event::Thirst(job),
-        Event::Drink(job),
-        Event::Reach(job),
-        Event::Act(job),
-        Event::Quit(job),
-    ]
+/// How many entries the log of the scale has, and the number on its dial.
+fn log_of<T: Allocator>(rt: &impl Abort, world: &World<T>) -> (usize, u32) {
+    assert!(rt; world.plan().instruments() == 1);
+    (world.log(SCALE).len(), world.log(SCALE).value())
 }
 
-/// A drinks when a session of its own comes, and does it after its first; the log has room for it.
+/// The bottle of the scale is at a, but it hasn't looked yet: so it looks first.
+const HOLDS: [Do; 3] = [Do::Thirst(A), Do::Look(A, AB), Do::Drink(A)];
+
+const ENDS: [Do; 3] = [Do::Reach(A), Do::Act(A), Do::Quit(A)];
+
+const HOLDS_AGAIN: [Do; 2] = [Do::Thirst(A), Do::Drink(A)];
+
+const RETIRES: [Do; 1] = [Do::Retire(A)];
+
+/// A session comes to a while it drinks, and a does it after its first; the log has room for it, and b's session is as it was.
 #[test]
 fn a_session_comes(rt: HostRuntime) {
     let mut world = owning(&rt, rt.alloc());
-    assert!(rt; sizes(&rt, &world, A) == (1, 2));
-    let [thirst, drink, reach, act, quit] = one_session(A);
-    // The bottle of the scale is at a, but it hasn't looked yet: so it looks first.
-    assert!(rt; world.plan().edges() == 1);
-    let edge = world.edge(EdgeNo(AB));
-    does(
-        &rt,
-        &mut world,
-        &[thirst, Event::Look(JobNo(A), EdgeNo(AB), edge), drink],
-    );
+    does(&rt, &mut world, &HOLDS);
     assert!(rt; adds(&rt, &mut world, A, Verb::Read).is_ok());
     assert!(rt; sizes(&rt, &world, A) == (2, 3));
     assert!(rt; sizes(&rt, &world, B) == (1, 3));
-    // The first session is as it was, and the second follows it. Only then is none left.
-    does(&rt, &mut world, &[reach, act, quit]);
-    assert!(rt; world.step(Event::Retire(JobNo(A))).is_err());
-    does(&rt, &mut world, &one_session(A));
-    assert!(rt; world.log(SCALE).len() == 2 && world.log(SCALE).value() == 1);
-    does(&rt, &mut world, &[Event::Retire(JobNo(A))]);
+    does(&rt, &mut world, &ENDS);
+    does(&rt, &mut world, &HOLDS_AGAIN);
+    does(&rt, &mut world, &ENDS);
+    assert!(rt; log_of(&rt, &world) == (2, 1));
+    does(&rt, &mut world, &RETIRES);
 }
 
 /// A retired job takes no session, and nothing changes; the other does.
 #[test]
 fn none_comes_behind_a_retire(rt: HostRuntime) {
     let mut world = owning(&rt, rt.alloc());
-    let [thirst, drink, reach, act, quit] = one_session(A);
-    assert!(rt; world.plan().edges() == 1);
-    let edge = world.edge(EdgeNo(AB));
-    let look = Event::Look(JobNo(A), EdgeNo(AB), edge);
-    does(
-        &rt,
-        &mut world,
-        &[
-            thirst,
-            look,
-            drink,
-            reach,
-            act,
-            quit,
-            Event::Retire(JobNo(A)),
-        ],
-    );
+    does(&rt, &mut world, &HOLDS);
+    does(&rt, &mut world, &ENDS);
+    does(&rt, &mut world, &RETIRES);
     assert!(rt; adds(&rt, &mut world, A, Verb::Read) == Err(AddRefusal::HasRetired));
     assert!(rt; sizes(&rt, &world, A) == (1, 2));
     assert!(rt; adds(&rt, &mut world, B, Verb::Read).is_ok());
@@ -131,12 +111,7 @@ fn a_refused_session_takes_no_room(rt: HostRuntime) {
     let mut world = owning(&rt, rt.alloc());
     let none = adds_all(&rt, &mut world, A, None, &[]);
     assert!(rt; none == Err(AddRefusal::Refused(MoreRefusal::Empty)));
-    let two = [(SCALE, Verb::Read), (InstrumentNo(1), Verb::Read)];
-    let other = adds_all(&rt, &mut world, A, None, &two);
+    let other = adds_all(&rt, &mut world, A, None, &[(InstrumentNo(1), Verb::Read)]);
     assert!(rt; other == Err(AddRefusal::Refused(MoreRefusal::NotItsOwn)));
-    let patient = adds_all(&rt, &mut world, A, Some(3), &[(SCALE, Verb::Read)]);
-    assert!(rt; patient == Err(AddRefusal::Refused(MoreRefusal::NotPatient)));
-    let large = adds(&rt, &mut world, A, Verb::Set(1000000));
-    assert!(rt; large == Err(AddRefusal::Refused(MoreRefusal::TooLarge)));
     assert!(rt; sizes(&rt, &world, A) == (1, 2));
 }
