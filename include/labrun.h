@@ -58,7 +58,7 @@ extern "C" {
 struct lab_told {
     size_t written; /* how many bytes the report has; 0 where there is none */
     size_t line;    /* the line that a fault names, counted from 1; 0 where none does */
-    uint32_t cause; /* why it is refused: 1 to 13 for S1 to S13; 0 for a step that isn't legal, or no fault of a line */
+    uint32_t cause; /* why it is refused: 1 to 14 for S1 to S14; 0 for a step that isn't legal, or no fault of a line */
 };
 
 /* ---- Whole runs. Nothing is kept between these calls, and several threads may call at once. At 6 the run is done and thrown

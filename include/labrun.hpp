@@ -53,7 +53,7 @@ struct error : std::runtime_error {
     using std::runtime_error::runtime_error;
 };
 
-// A script or a step is refused: its line, from 1, and 1 to 13 for S1 to S13, or 0 for a step that isn't legal.
+// A script or a step is refused: its line, from 1, and 1 to 14 for S1 to S14, or 0 for a step that isn't legal.
 struct refused : error {
     refused(std::size_t at, std::uint32_t why)
         : error("line " + std::to_string(at) + (why ? ": S" + std::to_string(why) : ": step is not legal")), line(at), cause(why) {}

@@ -23,6 +23,7 @@ CAUSES = {
     11: "S11 more than 28 instruments in common",
     12: "S12 no memory",
     13: "S13 bad step",
+    14: "S14 not an instrument of the job",
 }
 
 
@@ -31,7 +32,7 @@ class LabrunError(Exception):
 
 
 class Refused(LabrunError, ValueError):
-    """A script or a step is refused. `line` counts from 1; `cause` is 1 to 13 for S1 to S13, 0 for a step that isn't legal."""
+    """A script or a step is refused. `line` counts from 1; `cause` is 1 to 14 for S1 to S14, 0 for a step that isn't legal."""
 
     def __init__(self, line: int, cause: int) -> None:
         super().__init__(f"line {line}: {CAUSES.get(cause, f'S{cause}')}")

@@ -64,7 +64,7 @@ extern "C" fn after_fork() {
 #[derive(Clone, Debug, PartialEq, Eq)]
 #[non_exhaustive]
 pub enum Error {
-    /// A script or a step is refused: its line, from 1, and 1 to 13 for S1 to S13, or 0 for a step that isn't legal.
+    /// A script or a step is refused: its line, from 1, and 1 to 14 for S1 to S14, or 0 for a step that isn't legal.
     Refused {
         /// The line.
         line: usize,

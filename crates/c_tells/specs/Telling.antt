@@ -24,6 +24,7 @@ cause_number causes.LimitPassed = 10
 cause_number causes.TooManyInCommon = 11
 cause_number causes.NoMemory = 12
 cause_number causes.BadStep = 13
+cause_number causes.NotItsOwn = 14
 
 -- the line that the fault names, and why; 0 if it names none
 abbrev pub told_of : RunFault → Told

@@ -17,7 +17,7 @@ pub struct Told {
     pub written: usize,
     /// The line that a fault names, counted from 1, and 0 if none does.
     pub line: usize,
-    /// Why this line is refused: 1 to 13 for S1 to S13, and 0 for a step that isn't legal or no fault of a line.
+    /// Why this line is refused: 1 to 14 for S1 to S14, and 0 for a step that isn't legal or no fault of a line.
     pub cause: u32,
 }
 
@@ -38,6 +38,7 @@ fn cause_number(cause: ScriptCause) -> u32
         ScriptCause::TooManyInCommon => 11,
         ScriptCause::NoMemory => 12,
         ScriptCause::BadStep => 13,
+        ScriptCause::NotItsOwn => 14,
     }
 }
 

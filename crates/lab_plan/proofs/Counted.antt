@@ -12,9 +12,6 @@ abbrev pub counted : List JobPlan → ℕ
 counted jobs = length (flat_map (λ (job : JobPlan). commands_of job.sessions) jobs)
 
 module _ (jobs : List JobPlan) (k : ℕ) (job : JobPlan) (within : k < length jobs) (is : job ≡ slice_index_or jobs k job) where
-  f : JobPlan → ℕ
-  f x = length (commands_of x.sessions)
-
   read : length (commands_of job.sessions) ≡ length (commands_of (slice_index_or jobs k no_job).sessions)
   read = ap (λ (x : JobPlan). length (commands_of x.sessions)) (get_or_read jobs k job within is no_job)
 

@@ -1,8 +1,8 @@
 -- What a plan and its tables keep with one more session of instruments that its job names already.
-use Rattle.std.proofs.Common.{◌≡◌, ◌≢◌, ℕ, zero, suc, ◌+◌, ◌-◌, ◌<◌, ◌≤◌, Bool, true, false, ◌&&◌, ◌||◌, ◌==◌, nat_eq, nat_lt, if◌then◌else◌, List, [], ◌∷◌, ◌++◌, filter, map, length, get_or, set, arith, refl, sym, ap, ◌∙◌, subst, inl, inr, length-set, get_or-set_same, get_or-set_other, append_assoc, append-nil, length-append}
-use Rattle.std.specs.Prelude.{Option, None, Some, not, slice_index_or, nat_le, take, unwrap_or}
+use Rattle.std.proofs.Common.{◌≡◌, ◌≢◌, ℕ, zero, suc, ◌+◌, ◌-◌, ◌<◌, ◌≤◌, Bool, true, false, ◌&&◌, ◌||◌, ◌==◌, nat_lt, if◌then◌else◌, List, [], ◌∷◌, ◌++◌, filter, map, length, get_or, set, arith, refl, sym, ap, ◌∙◌, subst, inl, inr, length-set, get_or-set_same, get_or-set_other, append_assoc, append-nil, length-append}
+use Rattle.std.specs.Prelude.{Option, None, Some, not, nat_le, take, unwrap_or}
 use Rattle.std.specs.Option.{ForSome}
-use Rattle.std.specs.List.{All, AllPairs, list_all, list_any, flat_map, range_with_len}
+use Rattle.std.specs.List.{All, list_all, list_any, flat_map, range_with_len}
 use Rattle.std.proofs.Math.Bool.{or-true}
 use Rattle.std.proofs.lemmas.Bool.{cases_Bool, cases_eq, cases_lt, leb-true}
 use Rattle.std.proofs.lemmas.Bool.Decides.{nat_tests}
@@ -16,9 +16,9 @@ use Rattle.lab_plan.specs.declared.verb.Verb.TheVariants.{Read}
 use Rattle.lab_plan.specs.declared.refusal.MoreRefusal.TheVariants.{Empty, LimitPassed, NotItsOwn, NotPatient, TooLarge}
 use Rattle.lab_plan.specs.Names.{IsName}
 use Rattle.lab_plan.specs.Verbs.{Fits, verb_number}
-use Rattle.lab_plan.specs.LabPlan.{LabPlan, SessionPlan, JobPlan, no_job, no_session, job_at, sessions, session_at, commands, any_on, is_named_by, names, session_names, pairs, edges, ends, common, bottles, all_commands, firsts}
+use Rattle.lab_plan.specs.LabPlan.{LabPlan, SessionPlan, JobPlan, no_job, no_session, job_at, sessions, commands, any_on, is_named_by, names, pairs, edges, ends, common, bottles, all_commands, firsts}
 use Rattle.lab_plan.specs.IsPlan.{IsNamed, IsDraft, IsPlan}
-use Rattle.lab_plan.specs.SessionTables.{JobTable, Related, AreNeeds, AreNamedBy, IsSessionNeeds, AreAllNeeds, IsJobTable, AreJobTables, place_of, places_of, all_places, table_with, table_without, no_table}
+use Rattle.lab_plan.specs.SessionTables.{JobTable, Related, AreNeeds, IsSessionNeeds, IsJobTable, place_of, places_of, all_places, table_with, table_without, no_table}
 use Rattle.lab_plan.specs.Tables.{PlanTables, AreTablesOf, tables_with, tables_without}
 use Rattle.lab_plan.specs.Longer.{with_session, with_one_more, IsOfItsOwn, is_past_limit, are_its_own, may_be_patient, all_fit, more_refusal}
 use Rattle.lab_plan.proofs.Drafts.{EachSession, OfJob, everywhere_push, each, firsts_push, NamesBelow, FitsAll, IsPatient}
@@ -299,8 +299,11 @@ module _ (p : LabPlan) (j : ℕ) (session : SessionPlan) (there : j < length p.j
     few_instruments = draft.few_instruments;
     few_sessions = each_job p j session there (λ (x : JobPlan). length x.sessions ≤ 1000) draft.few_sessions
         (omega (arith, length_push (sessions p j) session, may.few_sessions));
-    few_commands = omega (arith, may.few_commands,
-        length_more p.jobs j (with_session (job_at p j) session) session.commands there (commands_more (job_at p j) session));
+    few_commands = omega (
+      arith,
+      may.few_commands,
+      length_more p.jobs j (with_session (job_at p j) session) session.commands there (commands_more (job_at p j) session),
+    );
     job_names = λ k d inside. subst IsName (sym (name_same p j session there k d)) (draft.job_names k d (omega (arith, inside, many p j session there)));
     jobs_distinct = λ a b d first second.
         subst (λ (n : List ℕ). n ≢ (get_or longer.jobs b d).name) (sym (name_same p j session there a d))

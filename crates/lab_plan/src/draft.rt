@@ -29,7 +29,8 @@ impl<A: Allocator> Model for Draft<A> {
 impl<A: Allocator> Draft<A> {
     ghost use Rattle.lab_plan.specs.LabPlan.{sessions, commands, patience, job_at, all_commands};
     ghost use Rattle.lab_plan.specs.Cuts.{commands_before};
-    ghost use Rattle.lab_plan.specs.Building.{is_job, job_number, is_bare, has_session, last_job, with_job, with_session, with_command, on_last, in_last_session, IsPlace};
+    ghost use Rattle.lab_plan.specs.Building.{is_job, job_number, is_bare, has_session, last_job, IsPlace};
+    ghost use Rattle.lab_plan.specs.Building.{with_job, with_session, with_command, on_last, in_last_session};
 
     pub(crate) fn new(alloc: A, version: u8) -> Draft<A>
     where

@@ -331,3 +331,40 @@ fn refuses_room_where_memory_is_refused(rt: HostRuntime) {
     }
     assert!(rt; made > 0 && made < 19);
 }
+
+fn make_room<A: Allocator>(rt: &impl Abort, log: &mut InstrumentLog<A>, more: usize) {
+    check(rt, more, log.make_room(more).is_ok(), true);
+}
+
+/// A log without room gets some, gives one entry's back, and gets more.
+fn gets_room<A: Allocator>(rt: &impl Abort, log: &mut InstrumentLog<A>) {
+    offer_all(rt, log, &[(1, 1, 1, Verb::Read, Err(LogRefusal::NoRoom))]);
+    make_room(rt, log, 3);
+    offer_all(
+        rt,
+        log,
+        &[
+            (1, 1, 2, Verb::Set(5), Ok(())),
+            (1, 2, 2, Verb::Read, Ok(())),
+        ],
+    );
+    assert!(rt; log.len() < log.room());
+    log.give_back_room(1);
+    check(rt, "given back", (log.room(), log.value()), (2, 5));
+    offer_all(rt, log, &[(2, 1, 1, Verb::Read, Err(LogRefusal::NoRoom))]);
+    make_room(rt, log, 1);
+    offer_all(rt, log, &[(2, 1, 1, Verb::Add(1), Ok(()))]);
+    check(rt, "made", (log.room(), log.value()), (3, 6));
+}
+
+#[test]
+fn room_is_made_and_given_back(rt: HostRuntime) {
+    match InstrumentLog::with_room(rt.alloc(), 0) {
+        Ok(mut log) => {
+            gets_room(&rt, &mut log);
+            check(&rt, "too much", log.make_room(usize::MAX).is_ok(), false);
+            check(&rt, "unchanged", (log.room(), log.len()), (3, 3));
+        }
+        Err(_) => panic!(rt; "no log"),
+    }
+}

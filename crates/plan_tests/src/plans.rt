@@ -9,6 +9,7 @@ use std::process::Abort;
 
 mod limits;
 mod logged;
+mod longer;
 mod memory;
 mod reading;
 

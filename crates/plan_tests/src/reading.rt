@@ -8,13 +8,14 @@ use script_reader::ScriptCause::{
     BadName, BadNumber, BadStep, EmptySession, JobTwice, NoHeader, NotInJob, NotInSession,
     SessionNotClosed, UnknownWord,
 };
-use script_reader::laws::{one_meaning, one_meaning_with_steps};
+use script_reader::laws::{one_meaning, one_meaning_with_steps, sessions_are_granted};
 use script_reader::upgrade_law::{upgrade_is_short, upgrade_means_plan};
 use script_reader::{ScriptCause, ScriptFault, read_plan, read_steps};
 use std::alloc::{Allocator, Global};
 use std::fmt::Display;
 use std::process::Abort;
 
+mod further;
 pub(crate) mod limits;
 mod memory;
 
@@ -35,7 +36,7 @@ pub(crate) fn plan_of<A: Allocator + Copy>(rt: &impl Abort, alloc: A, script: &[
 }
 
 /// What is wanted of the text of a cause, and of a fault.
-const PRINTED: [(ScriptCause, &str); 13] = [
+const PRINTED: [(ScriptCause, &str); 14] = [
     (NoHeader, "S1 no lab header"),
     (UnknownWord, "S2 unknown word"),
     (BadName, "S3 bad name"),
@@ -52,6 +53,7 @@ const PRINTED: [(ScriptCause, &str); 13] = [
     ),
     (ScriptCause::NoMemory, "S12 no memory"),
     (BadStep, "S13 bad step"),
+    (ScriptCause::NotItsOwn, "S14 not an instrument of the job"),
 ];
 
 fn check_printed<T: Copy + Display>(rt: &impl Abort, alloc: Global, value: T, text: &str) {
@@ -454,4 +456,5 @@ fn laws_of_scripts() {
     one_meaning_with_steps();
     upgrade_means_plan();
     upgrade_is_short();
+    sessions_are_granted();
 }

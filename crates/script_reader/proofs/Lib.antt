@@ -27,3 +27,5 @@ pub mod EdgeNumbers
 pub mod OneList
 pub mod OwnSteps
 pub mod StepForms
+pub mod FurtherLines
+pub mod Granted

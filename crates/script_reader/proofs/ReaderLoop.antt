@@ -7,7 +7,7 @@ use Rattle.std.proofs.lemmas.List.{reverse-append, map-append}
 use Rattle.lab_plan.specs.LabPlan.{LabPlan, all_commands}
 use Rattle.script_reader.specs.declared.fault.ScriptFault.{ScriptFault}
 use Rattle.script_reader.specs.declared.fault.ScriptCause.{ScriptCause}
-use Rattle.script_reader.specs.declared.fault.ScriptCause.TheVariants.{NoHeader, UnknownWord, BadName, BadNumber, JobTwice, NotInSession, NotInJob, EmptySession, SessionNotClosed, LimitPassed, TooManyInCommon, NoMemory, BadStep}
+use Rattle.script_reader.specs.declared.fault.ScriptCause.TheVariants.{NoHeader, UnknownWord, BadName, BadNumber, JobTwice, NotInSession, NotInJob, EmptySession, SessionNotClosed, LimitPassed, TooManyInCommon, NoMemory, BadStep, NotItsOwn}
 use Rattle.script_reader.specs.Line.{Line, form_of, is_command}
 use Rattle.script_reader.specs.Plan.{plan_of}
 use Rattle.script_reader.specs.Script.{numbered, text_lines, script_of, backwards, AreSound, cause_at_end, count, LinesMean, IsFaultAtLine, IsFaultOfLines, IsCleanUpTo, IsCleanUpToLine, Refuses, Answers}
@@ -154,6 +154,7 @@ stops lines line done rest n s s' (Some form) SessionNotClosed is h e = inr (inl
 stops lines line done rest n s s' (Some form) LimitPassed is h e = inr (inl (faults lines line done rest n s form LimitPassed h is e))
 stops lines line done rest n s s' (Some form) TooManyInCommon is h e = inr (inl (faults lines line done rest n s form TooManyInCommon h is e))
 stops lines line done rest n s s' (Some form) BadStep is h e = inr (inl (faults lines line done rest n s form BadStep h is e))
+stops lines line done rest n s s' (Some form) NotItsOwn is h e = inr (inl (faults lines line done rest n s form NotItsOwn h is e))
 
 -- ---- the end
 
@@ -205,6 +206,7 @@ stops_at_end lines done n s SessionNotClosed h e = inr (ends_badly lines done n 
 stops_at_end lines done n s LimitPassed h e = inr (ends_badly lines done n s LimitPassed h e)
 stops_at_end lines done n s TooManyInCommon h e = inr (ends_badly lines done n s TooManyInCommon h e)
 stops_at_end lines done n s BadStep h e = inr (ends_badly lines done n s BadStep h e)
+stops_at_end lines done n s NotItsOwn h e = inr (ends_badly lines done n s NotItsOwn h e)
 
 pub answers_at_end : (text : List ℕ) (done : List (List ℕ)) (n : ℕ) (s : State) (given : Result LabPlan ScriptCause) (result : Result LabPlan ScriptFault)
     → IsReading (text_lines text) done [] n s → Ends s given

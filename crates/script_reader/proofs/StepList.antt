@@ -7,7 +7,7 @@ use Rattle.lab_plan.specs.LabPlan.{LabPlan}
 use Rattle.legal_steps.specs.declared.event.Step.{Step}
 use Rattle.legal_steps.specs.declared.event.StepLine.{StepLine}
 use Rattle.script_reader.specs.declared.fault.ScriptCause.{ScriptCause}
-use Rattle.script_reader.specs.declared.fault.ScriptCause.TheVariants.{NoHeader, UnknownWord, BadName, BadNumber, JobTwice, NotInSession, NotInJob, EmptySession, SessionNotClosed, LimitPassed, TooManyInCommon, NoMemory, BadStep}
+use Rattle.script_reader.specs.declared.fault.ScriptCause.TheVariants.{NoHeader, UnknownWord, BadName, BadNumber, JobTwice, NotInSession, NotInJob, EmptySession, SessionNotClosed, LimitPassed, TooManyInCommon, NoMemory, BadStep, NotItsOwn}
 use Rattle.script_reader.specs.Steps.{step_in, list_of, placed, step_cause, IsFaultInSteps, AreCleanUpTo, ReadsStep}
 use Rattle.script_reader.proofs.ReaderLoop.{numbered-append, one_line, no_line, counts}
 
@@ -97,3 +97,4 @@ stops plan first lines line done rest n steps steps' (Some found) LimitPassed is
 stops plan first lines line done rest n steps steps' (Some found) TooManyInCommon is h e =
     faulty plan first lines line done rest n steps found TooManyInCommon h is e
 stops plan first lines line done rest n steps steps' (Some found) BadStep is h e = faulty plan first lines line done rest n steps found BadStep h is e
+stops plan first lines line done rest n steps steps' (Some found) NotItsOwn is h e = faulty plan first lines line done rest n steps found NotItsOwn h is e

@@ -9,3 +9,4 @@ pub mod State
 pub mod Laws
 pub mod Steps
 pub mod UpgradeLaw
+pub mod More

@@ -46,6 +46,9 @@ pub enum ScriptCause {
     /// A line after `steps` that is no step of the script's plan.
     #[error("S13 bad step")]
     BadStep,
+    /// A command of a further session on an instrument that no session of its job names.
+    #[error("S14 not an instrument of the job")]
+    NotItsOwn,
 }
 
 /// The fault of a text: the number of a line, counted from 1, and why it is refused. A fault at the

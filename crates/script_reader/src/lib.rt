@@ -8,6 +8,7 @@ pub mod fault;
 mod field;
 mod form;
 pub mod laws;
+pub mod more;
 mod number;
 pub mod plan;
 mod reader;
@@ -16,5 +17,6 @@ pub mod steps;
 pub mod upgrade_law;
 
 pub use fault::{ScriptCause, ScriptFault};
+pub use more::{FurtherSession, read_sessions};
 pub use plan::read_plan;
 pub use steps::read_steps;

@@ -236,7 +236,7 @@ impl<A: Allocator + Copy> Reader<A> {
 }
 
 /// The number, if the bytes spell one.
-fn checked_number(bytes: &[u8]) -> Result<u32, ScriptCause>
+pub(crate) fn checked_number(bytes: &[u8]) -> Result<u32, ScriptCause>
     ensures { MatchResult result (λ n. (is_number bytes.now ≡ true) × (n ≡ number_of bytes.now) × (n ≤ largest_number))
         (λ cause. (is_number bytes.now ≡ false) × (cause ≡ BadNumber)) }
 {
@@ -247,7 +247,7 @@ fn checked_number(bytes: &[u8]) -> Result<u32, ScriptCause>
 }
 
 /// The verb, if its number is spelled as a number.
-fn verb_of(verb: VerbField) -> Result<Verb, ScriptCause>
+pub(crate) fn verb_of(verb: VerbField) -> Result<Verb, ScriptCause>
     ensures number { (has (λ number. not (is_number number)) (verb_number (verb_text verb.entry)) ≡ false) ↔ IsOk result }
     ensures ok { IfOk result (λ v. (v ≡ verb_of (verb_text verb.entry)) × Fits v) }
     ensures err { IfErr result (λ cause. cause ≡ BadNumber) }

@@ -13,7 +13,7 @@ use std::process::Abort;
 const HEAP: usize = 65536;
 
 /// What is left of a heap, in its smallest blocks.
-type Blocks<'a> = Vec<Vec<u8, &'a LocalHeap>>;
+pub(super) type Blocks<'a> = Vec<Vec<u8, &'a LocalHeap>>;
 
 fn blocks_of<'a>(alloc: Global, heap: &'a LocalHeap) -> Result<Blocks<'a>, AllocError> {
     let mut blocks = Vec::new(alloc);
@@ -27,7 +27,7 @@ fn blocks_of<'a>(alloc: Global, heap: &'a LocalHeap) -> Result<Blocks<'a>, Alloc
 }
 
 /// Takes what is left of a heap.
-fn fill<'a>(rt: &impl Abort, alloc: Global, heap: &'a LocalHeap) -> Blocks<'a> {
+pub(super) fn fill<'a>(rt: &impl Abort, alloc: Global, heap: &'a LocalHeap) -> Blocks<'a> {
     match blocks_of(alloc, heap) {
         Ok(blocks) => blocks,
         Err(_) => panic!(rt; "no memory for the blocks"),

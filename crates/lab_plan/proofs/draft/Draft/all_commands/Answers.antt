@@ -1,4 +1,4 @@
-use Rattle.std.proofs.Common.{◌≡◌, ◌<◌, List, length, slice_index_or, arith, sym, ap, ◌∙◌, subst}
+use Rattle.std.proofs.Common.{◌≡◌, ◌<◌, List, length, slice_index_or, arith, ap, ◌∙◌, subst}
 use Rattle.lab_plan.specs.LabPlan.{JobPlan, LabPlan}
 use Rattle.lab_plan.proofs.Counted.{count_fits, count_more, count_all}
 use Rattle.lab_plan.proofs.draft.Draft.all_commands.Goals as goal

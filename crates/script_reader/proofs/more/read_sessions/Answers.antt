@@ -1,0 +1,21 @@
+use Rattle.std.proofs.Common.{List, ℕ, sym, subst, Bor}
+use Rattle.std.specs.Prelude.{map, Err}
+use Rattle.std.proofs.lemmas.Result.{err_from_is_err_and}
+use Rattle.script_reader.specs.Line.{form_of}
+use Rattle.script_reader.specs.More.{AnswersMore, TakesMore}
+use Rattle.script_reader.proofs.FurtherLines.{IsReadingMore, stops_more}
+use Rattle.script_reader.proofs.more.read_sessions.Goals as goal
+
+pub returns-in_err-at_line-clause-err : goal.returns-in_err-at_line-clause-err
+returns-in_err-at_line-clause-err g c =
+    let plan = c.args.plan.now in
+    let j = c.args.job in
+    let text = c.args.text.now in
+    let line = c.in-Some.line.now in
+    let done = map (λ (l : Bor (List ℕ)). l.now) c.loop-line.yielded in
+    let before = subst (λ rest. IsReadingMore plan j text done rest c.loop-line.number c.loop-line.reader) c.in-Some.ensures.steps c.loop-line.invariant in
+    let fault = c.in_err-at_line.field-0.0 in
+    let read = subst (λ r. TakesMore plan j c.loop-line.reader (form_of line) r c.read.new.self) c.in_err-at_line.ensures.0 c.read.ensures in
+    let bad = stops_more plan j text line done c.next.new.self c.loop-line.number c.loop-line.reader c.read.new.self fault.cause before read in
+    let p = err_from_is_err_and c.from_residual.result c.from_residual.ensures.1 in
+    rw (p.1, p.2) (subst (λ n. AnswersMore plan j text (Err (record { line = n; cause = fault.cause }))) (sym c.in_err-at_line.ensures.1) bad)
