@@ -239,7 +239,7 @@ class Simulated:
         return one.drinking == simulate.TRANQUIL and one.dining != simulate.EATING and one.session < one.total
 
     def let_in(self, run: Any, waiting: int) -> list[Any]:
-        """One after another: first whoever was passed by often enough, then whoever needs nothing that one in a session needs."""
+        """First whoever was passed by often enough; then one that needs nothing that one in a session needs, and all that is due by that."""
         done: list[Any] = []
         while True:
             named = [it for it in run.line if waiting >> it[0].number & 1 and self.may_begin(it[0])]
@@ -247,7 +247,8 @@ class Simulated:
             for one in run.jobs:
                 if one.drinking in (simulate.THIRSTY, simulate.DRINKING, simulate.REACHING):
                     used |= run.needed(one)
-            due = [it for it in named if it[2] >= run.overtakes] + [it for it in named if not it[1] & used]
+            often = [it for it in named if it[2] >= run.overtakes]
+            due = often or [it for it in named if not it[1] & used]
             if not due:
                 return done
             one, needs, _ = due[0]
@@ -256,6 +257,8 @@ class Simulated:
             done.append("thirst")
             for it in run.line:
                 it[2] += it in named and bool(it[1] & needs)
+            if not often:
+                done += self.rest(run)
 
     def lab_settle(self, handle: Any, waiting: int, came: Any) -> int:
         run, told = self.run(handle), at(came)
