@@ -1,6 +1,9 @@
 //! Sessions that come while a lab is open, with answers that were reckoned by hand.
+use c_handles::Handle;
+use c_tells::Told;
 use lab_plan::{InstrumentNo, Verb};
-use live_lab::{AddRefusal, Ended, Lab, Stage};
+use live_lab::{AddRefusal, Ended, Lab, NotAdded, Stage};
+use script_reader::{ScriptCause, ScriptFault};
 use session_layer::Turned;
 use std::alloc::Global;
 use std::process::Abort;
@@ -67,4 +70,66 @@ fn none_comes_behind_a_retire(rt: HostRuntime) {
     assert!(rt; lab.retire(0, 9) == Some((Stage::There, Turned::Acted(1))));
     assert!(rt; adds(&mut lab, 0) == Some(Err(AddRefusal::HasRetired)));
     assert!(rt; adds(&mut lab, 2).is_none());
+}
+
+/// Two sessions on the scale.
+const TWO_MORE: &[u8] = b"session\nscale add 1\nend\nsession patience 3\nscale read\nend\n";
+
+/// The lamp is no instrument of job b.
+const NOT_ITS_OWN: &[u8] = b"# later\nsession\nlamp read\nend\n";
+
+/// Sessions of a text come; a text with a fault and one for a job that isn't there change nothing.
+#[test]
+fn sessions_of_a_text_come(rt: HostRuntime) {
+    let mut lab = opened(&rt, rt.alloc());
+    assert!(rt; lab.add(rt.alloc(), 1, TWO_MORE) == Some(Ok(())));
+    assert!(rt; lab.session(1, 3).is_some() && lab.session(1, 4).is_none());
+    let fault = ScriptFault {
+        line: 3,
+        cause: ScriptCause::NotItsOwn,
+    };
+    assert!(rt; lab.add(rt.alloc(), 1, NOT_ITS_OWN) == Some(Err(NotAdded::Fault(fault))));
+    assert!(rt; lab.add(rt.alloc(), 2, TWO_MORE).is_none());
+    assert!(rt; lab.session(1, 4).is_none() && lab.session(0, 2).is_none());
+}
+
+/// The status of a text for a job of a handle, and what is told.
+fn comes(alloc: Global, bench: &mut Handle, job: u32, text: &[u8]) -> (u32, usize, u32) {
+    let mut told = Told {
+        written: 9,
+        line: 9,
+        cause: 9,
+    };
+    let status = bench_calls::add(alloc, bench, job, text, &mut told);
+    (status, told.line, told.cause)
+}
+
+fn opens(rt: &impl Abort, alloc: Global, is_kept: bool) -> Handle {
+    let mut bench = Handle::vacant();
+    let mut told = Told {
+        written: 9,
+        line: 9,
+        cause: 9,
+    };
+    let status = if is_kept {
+        bench_calls::open_kept(alloc, SHARED, &mut bench, &mut told)
+    } else {
+        bench_calls::open(alloc, SHARED, &mut bench, &mut told)
+    };
+    assert!(rt; status == 0);
+    bench
+}
+
+/// What a caller in C is told: done; the line and the cause of a fault; no such job; no lab. A lab that keeps its steps takes none.
+#[test]
+fn sessions_come_to_a_handle(rt: HostRuntime) {
+    let mut bench = opens(&rt, rt.alloc(), false);
+    assert!(rt; comes(rt.alloc(), &mut bench, 0, TWO_MORE) == (0, 9, 9));
+    assert!(rt; comes(rt.alloc(), &mut bench, 1, NOT_ITS_OWN) == (1, 3, 14));
+    assert!(rt; comes(rt.alloc(), &mut bench, 2, TWO_MORE) == (2, 9, 9));
+    assert!(rt; bench_calls::free(rt.alloc(), &mut bench) == 0);
+    assert!(rt; comes(rt.alloc(), &mut bench, 0, TWO_MORE) == (7, 9, 9));
+    let mut kept = opens(&rt, rt.alloc(), true);
+    assert!(rt; comes(rt.alloc(), &mut kept, 0, TWO_MORE) == (8, 9, 9));
+    assert!(rt; bench_calls::free(rt.alloc(), &mut kept) == 0);
 }
