@@ -2,7 +2,6 @@
 use Rattle.std.specs.Prelude.{◌≡◌, ℕ, ◌-◌, ◌||◌, nat_lt, Bool, true, false, List, length, Result, Ok, Err}
 use Rattle.lab_program.specs.declared.faults.RunFault.TheVariants.{Script}
 use Rattle.lab_program.specs.Faults.{status_of}
-use Rattle.interleaving.specs.Kept.{Kept}
 use Rattle.live_lab.specs.declared.coming.NotAdded.{NotAdded}
 use Rattle.live_lab.specs.declared.coming.NotAdded.TheVariants.{HasRetired, Fault, NoMemory}
 use Rattle.live_lab.specs.Labs.{LabView}
@@ -12,8 +11,8 @@ use Rattle.c_tells.specs.Telling.{told_of, told_length}
 use Rattle.bench_calls.specs.Calls.{ByJob}
 
 -- the lab keeps its steps: there is room for one, or one is kept
-abbrev pub keeps : Kept → Bool
-keeps kept = nat_lt 0 (kept.room - length kept.events) || nat_lt 0 (length kept.events)
+abbrev pub keeps : LabView → Bool
+keeps x = nat_lt 0 (x.world.kept.room - length x.world.kept.events) || nat_lt 0 (length x.world.kept.events)
 
 -- all were added (0); the job has retired (14); the text has a fault, which is told (1, 5); or there was no memory behind so many, which is told (5)
 abbrev pub TellsAdded : Result (Unit {0}) NotAdded → Told → Told → ℕ → Type 0
@@ -28,4 +27,4 @@ IfUnkept false Did a b told told' status = Did a b told told' status
 
 -- the sessions of the text came, behind the others of the job; but a lab that keeps its steps stays as it is (8)
 abbrev pub Comes : List ℕ → ℕ → LabView → LabView → Told → Told → ℕ → Type 0
-Comes text job a b told told' status = IfUnkept (keeps a.world.kept) (λ a b. ByJob (AddsText text) TellsAdded job a b) a b told told' status
+Comes text job a b told told' status = IfUnkept (keeps a) (λ a b. ByJob (AddsText text) TellsAdded job a b) a b told told' status

@@ -13,7 +13,7 @@ use std::alloc::Global;
 
 /// Whether the lab keeps its steps for a journal.
 fn keeps(lab: &Lab) -> bool
-    ensures { result ≡ keeps lab.now.world.kept }
+    ensures { result ≡ keeps lab.now }
 {
     let world = lab.world();
     world.kept_room() > 0 || !world.kept().is_empty()
