@@ -2,12 +2,12 @@
 #![tactic(auto)]
 
 mod closing;
+mod coming_back;
 mod driving;
 mod ending;
 mod going;
 mod lab;
 mod readers;
-mod resuming;
 
 pub use closing::{LabEnd, print};
 pub use driving::{give_up, next_command};

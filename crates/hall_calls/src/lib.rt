@@ -2,14 +2,14 @@
 //! run beside one another.
 #![tactic(auto)]
 
+mod coming_back;
 mod driving;
 mod ending;
-mod resuming;
 mod seats;
 mod sharing;
 
+pub use coming_back::resume;
 pub use driving::{begin, command, end, retire, serve, state, turn, withdraw};
 pub use ending::{close, free};
-pub use resuming::resume;
 pub use seats::{give, take_desk};
 pub use sharing::{open, size};

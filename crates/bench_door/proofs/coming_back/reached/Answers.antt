@@ -3,7 +3,7 @@ use Rattle.lab_plan.specs.LabPlan.{LabPlan}
 use Rattle.interleaving.specs.World.{WorldView}
 use Rattle.resuming.specs.Resuming.{after_looks}
 use Rattle.bench_door.proofs.Resumed.{tells}
-use Rattle.bench_door.proofs.resuming.reached.Goals as goal
+use Rattle.bench_door.proofs.coming_back.reached.Goals as goal
 
 pub returns-clause-tells : goal.returns-clause-tells
 returns-clause-tells c =

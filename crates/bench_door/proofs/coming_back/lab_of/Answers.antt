@@ -1,6 +1,6 @@
 use Rattle.edge_rule.specs.DeskView.{BenchView}
 use Rattle.bench_door.proofs.Desks.{own_there, rise_there}
-use Rattle.bench_door.proofs.resuming.lab_of.Goals as goal
+use Rattle.bench_door.proofs.coming_back.lab_of.Goals as goal
 
 pub invariant_of-result : goal.invariant_of-result
 invariant_of-result c =
