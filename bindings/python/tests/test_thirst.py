@@ -1,6 +1,7 @@
 """Sessions that are outside until it is worth it; instruments that are taken away; limits on holding, and patience in seconds."""
 
 import asyncio
+import contextlib
 import itertools
 import os
 import re
@@ -120,6 +121,51 @@ class Outside(unittest.TestCase):
             self.assertEqual((faults, board.held), ([], True))
             board.release()
             third.acquire(timeout=LIMIT)
+
+    def overtaken(self, overtakes: int, most: int) -> tuple[int, bool]:
+        """By how many sessions of k and m, which overlap, j is overtaken while h works, at most so many; and whether it holds then. It needs
+        an instrument of each of them. l eats while it waits for h; so its neighbours k and m can't eat, and keep their forks from j."""
+        faults: list[BaseException] = []
+        bench = labrun.Bench.from_text(
+            "lab 2\njob h\nsession\na read\nend\njob l\nsession\na read\nend\nsession\np read\nq read\nend\njob j\nsession\nx read\nz read\nend\n"
+            + "job k\n" + "session\nx read\nend\n" * most + "session\np read\nend\n"
+            + "job m\n" + "session\nz read\nend\n" * most + "session\nq read\nend\n",
+            overtakes=overtakes,
+        )
+        self.addCleanup(bench.close)
+        works, waits, wants = asked(bench, "h"), asked(bench, "l"), asked(bench, "j")
+        works.acquire()
+        threads = [waiting(waits, faults)]
+        held = {"k": asked(bench, "k"), "m": asked(bench, "m")}
+        held["k"].acquire()
+        threads.append(waiting(wants, faults))
+        held["m"].acquire()
+        count = 0
+        for name in itertools.cycle(held):
+            if wants.state == "held" or count == most:
+                break
+            if held[name].state == "held":
+                held[name].release()
+                count += 1
+                held[name] = asked(bench, name)
+            with contextlib.suppress(labrun.TimeoutError):
+                held[name].acquire(timeout=0)
+        came = wants.state == "held"
+        for it in (*held.values(), works):
+            if it.state == "held":
+                it.release()
+        for thread in threads:
+            thread.join(LIMIT)
+        self.assertEqual(faults, [])
+        return count, came
+
+    def test_in_line_nobody_counts(self) -> None:
+        """One in line may be overtaken for as long as somebody works elsewhere. From outside it is let in behind so many, and then only those go
+        before it that are in a session already."""
+        self.assertEqual(self.overtaken(0, 200), (200, False))
+        for overtakes in (1, 4, 16):
+            with self.subTest(overtakes):
+                self.assertEqual(self.overtaken(overtakes, 200), (overtakes + 1, True))
 
     def test_given_up_outside(self) -> None:
         """Without a patience it is as if it had never asked; with one it is withdrawn."""
