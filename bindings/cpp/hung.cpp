@@ -236,6 +236,7 @@ static void left_outside() {
 
 static void with_a_journal(const std::string &path) {
     const std::string script = "lab 2\n" + radio + board + drive;
+    std::remove(path.c_str());
     {
         labrun::bench bench(script, path, labrun::sync::none, 1);
         auto hangs = bench.desks()[0].begin();
