@@ -7,14 +7,6 @@ use std::process::Abort;
 
 const SCALE: InstrumentNo = InstrumentNo(0);
 
-/// A world of two jobs that owns its plan.
-fn owning<T: Allocator + Copy>(rt: &impl Abort, alloc: T) -> World<'static, T> {
-    match World::of_plan(alloc, plan_of(rt, alloc, TWO)) {
-        Ok(world) => world,
-        Err(_) => panic!(rt; "no memory"),
-    }
-}
-
 /// Adds a session to the job.
 fn adds_all<T: Allocator>(
     rt: &impl Abort,
@@ -69,7 +61,9 @@ const RETIRES: [Do; 1] = [Do::Retire(A)];
 /// A session comes to a while it drinks, and a does it after its first; the log has room for it, and b's session is as it was.
 #[test]
 fn a_session_comes(rt: HostRuntime) {
-    let mut world = owning(&rt, rt.alloc());
+    let Ok(mut world) = World::of_plan(rt.alloc(), plan_of(&rt, rt.alloc(), TWO)) else {
+        panic!(rt; "no memory")
+    };
     does(&rt, &mut world, &HOLDS);
     assert!(rt; adds(&rt, &mut world, A, Verb::Read).is_ok());
     assert!(rt; sizes(&rt, &world, A) == (2, 3));
@@ -84,7 +78,9 @@ fn a_session_comes(rt: HostRuntime) {
 /// A retired job takes no session, and nothing changes; the other does.
 #[test]
 fn none_comes_behind_a_retire(rt: HostRuntime) {
-    let mut world = owning(&rt, rt.alloc());
+    let Ok(mut world) = World::of_plan(rt.alloc(), plan_of(&rt, rt.alloc(), TWO)) else {
+        panic!(rt; "no memory")
+    };
     does(&rt, &mut world, &HOLDS);
     does(&rt, &mut world, &ENDS);
     does(&rt, &mut world, &RETIRES);
@@ -108,7 +104,9 @@ fn a_lent_plan_stays(rt: HostRuntime) {
 /// What the plan refuses changes no room.
 #[test]
 fn a_refused_session_takes_no_room(rt: HostRuntime) {
-    let mut world = owning(&rt, rt.alloc());
+    let Ok(mut world) = World::of_plan(rt.alloc(), plan_of(&rt, rt.alloc(), TWO)) else {
+        panic!(rt; "no memory")
+    };
     let none = adds_all(&rt, &mut world, A, None, &[]);
     assert!(rt; none == Err(AddRefusal::Refused(MoreRefusal::Empty)));
     let other = adds_all(&rt, &mut world, A, None, &[(InstrumentNo(1), Verb::Read)]);
