@@ -1,3 +1,4 @@
 pub mod Passing
 pub mod Gone
 pub mod Fewer
+pub mod Overtaken

@@ -1,3 +1,4 @@
 pub mod Outside
 pub mod LettingIn
 pub mod Lines
+pub mod Overtaking

@@ -6,6 +6,7 @@
 
 mod asker;
 mod entering;
+pub mod laws;
 mod line;
 mod picking;
 

@@ -14,4 +14,5 @@ mod Admitted
 mod Frames
 mod Lawful
 mod AtOnce
+mod Waited
 pub mod LongerLabs

@@ -8,6 +8,7 @@ pub mod Counting
 pub mod Rests
 pub mod Admitting
 pub mod Settles
+pub mod Waited
 pub mod Stages
 pub mod Ends
 pub mod Readers

@@ -15,6 +15,7 @@ mod ending;
 mod keeping;
 mod kinds;
 mod lab;
+pub mod laws;
 mod outside;
 mod planned;
 mod printing;
