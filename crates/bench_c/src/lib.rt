@@ -5,7 +5,7 @@ ghost use Rattle.std.specs.Prelude.{◌≡◌};
 ghost use Rattle.lab_journal.specs.Taking.{IsOpenedKept};
 ghost use Rattle.bench_calls.specs.Journals.{TellsJournal, Resumes};
 ghost use Rattle.bench_calls.specs.Closing.{Closes, Frees, is_of_a_lab};
-ghost use Rattle.bench_calls.specs.Coming.{Comes};
+ghost use Rattle.bench_calls.specs.Coming.{Comes, TellsMore};
 ghost use Rattle.bench_calls.specs.Calls.{Opens, IsFresh, InLab, InRoom};
 ghost use Rattle.bench_calls.specs.Calls.{Turns, Serves, ServesRest, SettlesAll, GoesToHold, DoesNext, LetsGo, GivesUp, GoesToEnd, SetsOvertakes};
 ghost use Rattle.bench_calls.specs.Calls.{TellsSize, TellsSession, TellsPlanned, TellsState, TellsKeepers, TellsOutside, TellsJobName, TellsInstrumentName};
@@ -280,6 +280,21 @@ pub extern "C" fn lab_add(
     ensures { InLab (Comes session.now job) bench.old.slot.held bench.new.slot.held told.old told.new result }
 {
     bench_calls::add(alloc, bench, job, session, told)
+}
+
+/// Puts the lines of a session of a job into the room, for the journal, and tells their length.
+#[unsafe(no_mangle)]
+pub extern "C" fn lab_more(
+    alloc: Global,
+    bench: &mut Handle,
+    job: u32,
+    session: u32,
+    text: &mut [u8],
+    written: &mut usize,
+) -> u32
+    ensures { InLab (TellsMore job session) bench.old.slot.held bench.new.slot.held (text.old, written.old) (text.new, written.new) result }
+{
+    bench_calls::more(alloc, bench, job, session, text, written)
 }
 
 /// Jobs are let in after so many sessions that pass them by, from now on.

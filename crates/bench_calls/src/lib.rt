@@ -10,7 +10,7 @@ mod reading;
 mod statuses;
 mod told;
 
-pub use coming::add;
+pub use coming::{add, more};
 pub use doing::{
     begin, command, end, overtakes, retire, serve, serve_others, settle, turn, withdraw,
 };

@@ -9,8 +9,8 @@ use Rattle.legal_steps.specs.Opening.{the_opening}
 use Rattle.legal_steps.specs.Run.{after_all}
 use Rattle.turns.specs.History.{state_after}
 use Rattle.interleaving.specs.World.{WorldView, IsReachedBy}
-use Rattle.script_reader.specs.Steps.{StepsMean}
 use Rattle.explaining.specs.Explanations.{events_from_opening}
+use Rattle.lab_journal.specs.Meaning.{JournalMeans}
 use Rattle.lab_journal.specs.Finishing.{Finishes, IsReplayed}
 use Rattle.bench_door.specs.Resumed.{IsPastOf}
 
@@ -26,7 +26,7 @@ module _ (text : List ℕ) (w v : WorldView) (re : IsReplayed text w) (fin : Fin
       by.run.leads ∙ (ap (λ (o : State). after_all v.plan o v.past) began ∙ ap (λ (p : LabPlan). state_after p v.past) now) in
       record {
         steps = re.steps;
-        means = subst (λ (p : LabPlan). StepsMean text p re.steps) same re.means;
+        means = subst (λ (p : LabPlan). JournalMeans text p re.steps) same re.means;
         sums = re.sums;
         acts = fin.acts;
         are_acts = fin.are_acts;

@@ -8,18 +8,19 @@ use Rattle.legal_steps.specs.declared.phase.Drinking.TheVariants.{Reaching}
 use Rattle.legal_steps.specs.State.{drinking}
 use Rattle.legal_steps.specs.Legal.{IsJob}
 use Rattle.turns.specs.History.{IsHistory, state_after}
-use Rattle.script_reader.specs.Steps.{StepsMean}
 use Rattle.explaining.specs.Explanations.{events_from_opening}
 use Rattle.edge_rule.specs.DeskView.{BenchView, DeskView, desks_after}
 use Rattle.journal_texts.specs.Lines.{AreWholeLines}
 use Rattle.journal_texts.specs.Sums.{wrong_sum}
+use Rattle.lab_journal.specs.Meaning.{JournalMeans}
 use Rattle.lab_journal.specs.Resumed.{IsAct}
 use Rattle.resuming.specs.Resuming.{after_looks}
 
--- the text is a script of this plan with steps, whose sums are right, and the past is those steps, and then the commands that were in hand
+-- the text is a script with steps, whose sums are right, by this plan with all sessions that came, and the past is those steps, and then the commands that were
+-- in hand
 pub record IsPastOf (text : List ℕ) (plan : LabPlan) (past : List Event) : Type 0 where
   pub steps : List StepLine
-  pub means : StepsMean text plan steps
+  pub means : JournalMeans text plan steps
   pub sums : wrong_sum text ≡ None
   pub acts : List Event
   pub are_acts : All IsAct acts

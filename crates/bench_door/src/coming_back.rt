@@ -3,9 +3,9 @@ ghost use Rattle.std.specs.Prelude.{◌≡◌, List, length, IfOk, IfErr};
 ghost use Rattle.std.specs.List.{All};
 ghost use Rattle.legal_steps.specs.declared.event.Event.{Event};
 ghost use Rattle.legal_steps.specs.Steps.{IsStepOf};
-ghost use Rattle.script_reader.specs.Steps.{StepsMean};
 ghost use Rattle.edge_rule.specs.DeskView.{desks_after};
 ghost use Rattle.edge_rule.specs.Standing.{StandsAfter};
+ghost use Rattle.lab_journal.specs.Meaning.{JournalMeans};
 ghost use Rattle.lab_journal.specs.Resumed.{IsRefused, IsNotResumed};
 ghost use Rattle.resuming.specs.Resuming.{after_looks};
 ghost use Rattle.bench_door.specs.Resumed.{IsPastOf, StandsAfterText, IsResumedBench};
@@ -15,11 +15,10 @@ use desk_user::open;
 use edge_rule::OpenError;
 use interleaving::{StepLine, World};
 use journal_texts::whole_lines;
-use lab_journal::{finish, replay_text};
+use lab_journal::{finish, read_journal, replay_text};
 use lab_plan::Plan;
 use lab_program::RunFault;
 use resuming::Reached;
-use script_reader::read_steps;
 use std::alloc::Global;
 
 /// Where the steps of a text lead, and then the commands in hand.
@@ -29,7 +28,7 @@ fn reached(
     plan: &Plan<Global>,
     steps: &[StepLine],
 ) -> Result<Reached<Global>, RunFault>
-    requires means { StepsMean text.now plan.now steps.now }
+    requires means { JournalMeans text.now plan.now steps.now }
     requires own { All (λ line. IsStepOf plan.now line.step) steps.now }
     ensures tells { IfOk result (λ r. (past : List Event) × IsPastOf text.now plan.now past × (r.past.events ≡ after_looks plan.now past)) }
     ensures stands { IfOk result (λ r. StandsAfter plan.now r.past.events r.there.items r.known.items r.logs.items) }
@@ -64,7 +63,7 @@ fn standing_after(alloc: Global, text: &[u8]) -> Result<Lab, RunFault>
     ensures stands { IfOk result (λ l. StandsAfterText text.now l.bench l.desks.items) }
     ensures refused { IfErr result (IsRefused text.now) }
 {
-    let (plan, steps) = read_steps(alloc, text)?;
+    let (plan, steps) = read_journal(alloc, text)?;
     let Ok(held) = Box::new(alloc, plan) else {
         return Err(RunFault::NoMemory);
     };
@@ -81,9 +80,9 @@ fn standing_after(alloc: Global, text: &[u8]) -> Result<Lab, RunFault>
 }
 
 impl Lab {
-    /// The lab that a journal tells of, as far as the journal has whole lines, and how many bytes these are. Its steps are done again from the
-    /// start, then the commands in hand, and then each job looks at each of its edges; all patience counts anew. The plan's memory is never given
-    /// back, as with [`open`](Lab::open).
+    /// The lab that a journal tells of, as far as the journal has whole lines, and how many bytes these are. All sessions that came are added to its
+    /// plan. Then its steps are done again from the start, then the commands in hand, and then each job looks at each of its edges; all patience
+    /// counts anew. The plan's memory is never given back, as with [`open`](Lab::open).
     pub fn resume(alloc: Global, journal: &[u8]) -> Result<(Lab, usize), RunFault>
         ensures resumed { IfOk result (λ r. IsResumedBench journal.now r.1 r.0.bench r.0.desks.items) }
         ensures refused { IfErr result (IsNotResumed journal.now) }

@@ -14,7 +14,11 @@ mod journals;
 #[cfg(test)]
 mod late;
 #[cfg(test)]
+mod lines;
+#[cfg(test)]
 mod live;
+#[cfg(test)]
+mod more;
 #[cfg(test)]
 mod resumed_halls;
 #[cfg(test)]

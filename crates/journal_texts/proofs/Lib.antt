@@ -3,3 +3,7 @@ pub mod PieceLines
 pub mod Read
 pub mod Pieces
 pub mod Beginnings
+pub mod SessionBack
+pub mod MoreLines
+pub mod SamePlans
+pub mod Parts

@@ -87,7 +87,7 @@ steps_then plan (step ∷ steps) rest is all =
     ∙ one_more_line (step_text plan step) (step_lines plan steps ++ rest) (step_shown plan step is all.0)
     ∙ ap (λ l. step_text plan step ∷ l) (steps_then plan steps rest is all.1)
 
-sum_then : (text rest : List ℕ) → text_lines ((sum_line text ++ codes "\n") ++ rest) ≡ sum_line text ∷ text_lines rest
+pub sum_then : (text rest : List ℕ) → text_lines ((sum_line text ++ codes "\n") ++ rest) ≡ sum_line text ∷ text_lines rest
 sum_then text rest =
     let line = sum_line text in
     ap text_lines (append_assoc line (codes "\n") rest) ∙ first_line line rest (plain_one line (sum_plain text))
@@ -98,7 +98,7 @@ end_then : (plan : LabPlan) (events : List Event) (ended : Bool) (rest : List �
 end_then plan events true rest = sum_then (lines_text plan events) rest
 end_then plan events false rest = refl
 
-piece_then : (plan : LabPlan) (piece : Piece) (rest : List ℕ) → IsPlan plan → AllByRecursion (IsNameable plan) (map step_of piece.events)
+pub piece_then : (plan : LabPlan) (piece : Piece) (rest : List ℕ) → IsPlan plan → AllByRecursion (IsNameable plan) (map step_of piece.events)
     → text_lines (piece_text plan piece ++ rest) ≡ piece_lines plan piece ++ text_lines rest
 piece_then plan piece rest is all =
     let lines = lines_text plan piece.events in

@@ -19,9 +19,13 @@ sum_line text = codes "#sum " ++ encode_lower (take 8 (sha256 text))
 abbrev pub end_text : LabPlan → List Event → List ℕ
 end_text plan events = sum_line (lines_text plan events) ++ codes "\n"
 
--- a line `#steps`, the events, and their sum
+-- a line `#steps`, some lines, and their sum
+abbrev pub summed : List ℕ → List ℕ
+summed lines = codes "#steps\n" ++ lines ++ (sum_line lines ++ codes "\n")
+
+-- so are events told
 abbrev pub batch_text : LabPlan → List Event → List ℕ
-batch_text plan events = codes "#steps\n" ++ lines_text plan events ++ end_text plan events
+batch_text plan events = summed (lines_text plan events)
 
 -- what is told of the events that are kept: of none, nothing
 abbrev pub journal_text : LabPlan → List Event → List ℕ

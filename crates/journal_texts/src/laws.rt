@@ -1,5 +1,5 @@
 //! What holds of journals' texts. Each law is the contract of a function that does nothing.
-ghost use Rattle.journal_texts.specs.Reading.{FilesAreRead, BeginningsAreRead, TextsArePieces};
+ghost use Rattle.journal_texts.specs.Reading.{FilesAreRead, BeginningsAreRead, TextsArePieces, SessionsAreReadBack, TextsStay};
 
 use round_trace::laws::steps_give_events;
 
@@ -20,4 +20,14 @@ pub fn beginnings_are_read()
 /// Texts that were taken one after another make such a journal.
 pub fn texts_are_pieces()
     ensures { TextsArePieces }
+{}
+
+/// The lines of a session that came are read as that session.
+pub fn sessions_are_read_back()
+    ensures { SessionsAreReadBack }
+{}
+
+/// What is told of a session stays the same, whatever sessions come behind it.
+pub fn texts_stay()
+    ensures { TextsStay }
 {}

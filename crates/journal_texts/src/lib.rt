@@ -2,12 +2,16 @@
 //! passes over both, since they are comments.
 #![tactic(auto)]
 
+mod added;
 mod digits;
 pub mod laws;
 mod lines;
+mod more;
 mod sums;
 mod writing;
 
+pub use added::{Addition, additions};
 pub use lines::whole_lines;
+pub use more::more_text;
 pub use sums::wrong_sum;
 pub use writing::journal_text;

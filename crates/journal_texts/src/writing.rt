@@ -4,7 +4,7 @@ ghost use Rattle.std.specs.List.{All};
 ghost use Rattle.legal_steps.specs.Steps.{IsStepOf};
 ghost use Rattle.round_trace.specs.StepsOf.{step_of};
 ghost use Rattle.written_steps.specs.StepLists.{step_line};
-ghost use Rattle.journal_texts.specs.Texts.{lines_text, sum_line, batch_text, journal_text};
+ghost use Rattle.journal_texts.specs.Texts.{lines_text, sum_line, summed, batch_text, journal_text};
 
 use crate::digits::digits_of;
 use lab_plan::Plan;
@@ -55,6 +55,17 @@ fn add_sum<A: Allocator>(out: &mut Vec<u8, A>, text: &[u8]) -> Result<(), AllocE
     out.extend_from_slice(b"\n")
 }
 
+/// Lines between a line `#steps` and the line with their sum.
+pub(crate) fn summed<A: Allocator>(alloc: A, lines: &[u8]) -> Result<Vec<u8, A>, AllocError>
+    ensures { IfOk result (λ out. out.items ≡ summed lines.now) }
+{
+    let mut out = Vec::new(alloc);
+    out.extend_from_slice(b"#steps\n")?;
+    out.extend_from_slice(lines)?;
+    add_sum(&mut out, lines)?;
+    Ok(out)
+}
+
 /// The text of some events.
 fn batch<A: Allocator, B: Allocator + Copy>(
     alloc: B,
@@ -65,11 +76,7 @@ fn batch<A: Allocator, B: Allocator + Copy>(
     ensures { IfOk result (λ out. out.items ≡ batch_text plan.now events.now) }
 {
     let lines = lines_of(alloc, plan, events)?;
-    let mut out = Vec::new(alloc);
-    out.extend_from_slice(b"#steps\n")?;
-    out.extend_from_slice(&lines)?;
-    add_sum(&mut out, &lines)?;
-    Ok(out)
+    summed(alloc, &lines)
 }
 
 /// The text that a journal gets of these events: none, if there are none.

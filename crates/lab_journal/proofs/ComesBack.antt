@@ -1,12 +1,13 @@
 -- A lab that is resumed from a journal stands where its events lead.
 use Rattle.std.proofs.Common.{◌≡◌, ◌≢◌, ◌⊎◌, ℕ, ◌+◌, ◌<◌, ◌≤◌, Bool, true, false, if◌then◌else◌, List, [], ◌∷◌, ◌++◌, length, take, get_or, refl, sym, ap, ◌∙◌, subst, inl, inr, arith, append_assoc, append-nil, length-append}
-use Rattle.std.specs.Prelude.{codes, map, slice_index}
+use Rattle.std.specs.Prelude.{codes, map, slice_index, Result, Ok, Err}
 use Rattle.std.specs.List.{All, flat_map}
 use Rattle.std.proofs.lemmas.List.{ext_get_or, get_or-append-add, take_all}
 use Rattle.lab_plan.specs.LabPlan.{LabPlan}
 use Rattle.legal_steps.specs.declared.event.Event.{Event}
 use Rattle.legal_steps.specs.declared.event.Event.TheVariants.{Act}
 use Rattle.legal_steps.specs.declared.event.Step.{Step}
+use Rattle.legal_steps.specs.declared.event.StepLine.{StepLine}
 use Rattle.legal_steps.specs.declared.phase.Drinking.TheVariants.{Reaching}
 use Rattle.legal_steps.specs.declared.counts.Counts.{Counts}
 use Rattle.legal_steps.specs.State.{State, drinking}
@@ -17,31 +18,34 @@ use Rattle.legal_steps.specs.Counting.{no_counts}
 use Rattle.interleaving.specs.Counting.{AreCountsOf}
 use Rattle.interleaving.specs.World.{IsReachedBy}
 use Rattle.turns.proofs.Runs.{legal-goes_on}
+use Rattle.script_reader.specs.declared.fault.ScriptFault.{ScriptFault}
 use Rattle.script_reader.specs.Laws.{HasOneList}
 use Rattle.script_reader.specs.Steps.{StepsMean}
 use Rattle.explaining.specs.Explanations.{events_from_opening}
 use Rattle.round_trace.specs.StepsOf.{step_of}
 use Rattle.written_steps.specs.StepLists.{script_head, step_line, step_lines, lacking_end}
 use Rattle.journal_texts.specs.Lines.{AreWholeLines}
+use Rattle.journal_texts.specs.Additions.{additions}
 use Rattle.journal_texts.specs.Reading.{IsRead, FilesAreRead, BeginningsAreRead}
 use Rattle.journal_texts.proofs.Beginnings.{ends_whole}
 use Rattle.journal_texts.specs.Texts.{Piece, events_of, lines_text, sum_line, end_text, piece_text, file_text}
+use Rattle.lab_journal.specs.Meaning.{with_additions}
 use Rattle.lab_journal.specs.Resumed.{IsAct}
 use Rattle.lab_journal.specs.Laws.{ResumesAt, JournalComesBack, BeginningsComeBack}
 
 -- ---- a journal ends with a line feed
 
-abbrev Fed : List ℕ → Type 0
+abbrev pub Fed : List ℕ → Type 0
 Fed l = (front : List ℕ) × (l ≡ front ++ 10 ∷ [])
 
-fed_behind : (a b : List ℕ) → Fed b → Fed (a ++ b)
+pub fed_behind : (a b : List ℕ) → Fed b → Fed (a ++ b)
 fed_behind a b fed = (a ++ fed.0, ap (λ (l : List ℕ). a ++ l) fed.1 ∙ sym (append_assoc a fed.0 (10 ∷ [])))
 
 -- what is nothing, or fed, keeps a text fed
-abbrev Keeps : List ℕ → Type 0
+abbrev pub Keeps : List ℕ → Type 0
 Keeps l = (l ≡ []) ⊎ Fed l
 
-fed_kept : (a b : List ℕ) → Fed a → Keeps b → Fed (a ++ b)
+pub fed_kept : (a b : List ℕ) → Fed a → Keeps b → Fed (a ++ b)
 fed_kept a b fed (inl none) = subst (λ (l : List ℕ). Fed (a ++ l)) (sym none) (subst Fed (sym (append-nil a)) fed)
 fed_kept a b fed (inr more) = fed_behind a b more
 
@@ -57,7 +61,7 @@ keeps_end : (plan : LabPlan) (events : List Event) (ended : Bool) → Keeps (if 
 keeps_end plan events true = inr (sum_line (lines_text plan events), refl)
 keeps_end plan events false = inl refl
 
-fed_piece : (plan : LabPlan) (piece : Piece) → Fed (piece_text plan piece)
+pub fed_piece : (plan : LabPlan) (piece : Piece) → Fed (piece_text plan piece)
 fed_piece plan piece =
     let begin = codes "#steps\n" in
     let lines = lines_text plan piece.events in
@@ -67,7 +71,7 @@ keeps_pieces : (plan : LabPlan) (pieces : List Piece) → Keeps (flat_map (piece
 keeps_pieces plan [] = inl refl
 keeps_pieces plan (piece ∷ pieces) = inr (fed_kept (piece_text plan piece) (flat_map (piece_text plan) pieces) (fed_piece plan piece) (keeps_pieces plan pieces))
 
-fed_head : (script : List ℕ) → Fed (script_head script)
+pub fed_head : (script : List ℕ) → Fed (script_head script)
 unfolding script_head
 fed_head script = fed_behind (script ++ lacking_end script) (codes "steps\n") (codes "steps", refl)
 
@@ -105,14 +109,22 @@ same_way : (plan : LabPlan) (o : State) (events : List Event) (s t : State) (a b
     → (s ≡ t) × (a ≡ b)
 same_way plan o events s t a b p q = (p.run.leads ∙ sym q.run.leads, same_counts plan events a b p.counted q.counted)
 
-stands_there : HasOneList → (plan : LabPlan) (file : List ℕ) (events : List Event) (s : State) (counts : List Counts) → Fed file → IsRead plan file events
+-- the plan of an answer
+abbrev plan_or : LabPlan → Result LabPlan ScriptFault → LabPlan
+plan_or other (Ok plan) = plan
+plan_or other (Err fault) = other
+
+-- whatever lab is resumed from a file of this script and these steps, with the sessions that came
+pub stands_by : HasOneList → (script plan : LabPlan) (file : List ℕ) (steps : List StepLine) (events : List Event) (s : State) (counts : List Counts) → Fed file
+    → StepsMean file script steps → with_additions script (additions file) ≡ Ok plan → events_from_opening plan steps ≡ events
     → IsReachedBy plan (the_opening plan) events s counts → ((j : ℕ) → IsJob plan j → drinking s j ≢ Reaching) → ResumesAt file plan s counts
-stands_there one plan file events s counts fed read by none n x is =
+stands_by one script plan file steps events s counts fed means came events_are by none n x is =
     let all : n ≡ length file = all_of_it file n fed is.lines in
     let whole : take n file ≡ file = ap (λ k. take k file) all ∙ take_all (length file) file (omega arith) in
-    let both = one file x.world.plan plan is.steps read.steps (subst (λ l. StepsMean l x.world.plan is.steps) whole is.means) read.means in
-    let same : x.world.plan ≡ plan = both.0 in
-    let told : events_from_opening x.world.plan is.steps ≡ events = (λ i. events_from_opening (both.0 i) (both.1 i)) ∙ read.events_are in
+    let both = one file is.means.script script is.steps steps (subst (λ l. StepsMean l is.means.script is.steps) whole is.means.means) means in
+    let longer : Ok x.world.plan ≡ Ok plan = sym is.means.came ∙ ((λ i. with_additions (both.0 i) (additions (whole i))) ∙ came) in
+    let same : x.world.plan ≡ plan = ap (plan_or script) longer in
+    let told : events_from_opening x.world.plan is.steps ≡ events = (λ i. events_from_opening (same i) (both.1 i)) ∙ events_are in
     let past : x.world.past ≡ events ++ is.acts = is.past ∙ ap (λ (l : List Event). l ++ is.acts) told in
     let reached : IsReachedBy plan (the_opening plan) (events ++ is.acts) x.world.state x.world.counts =
     subst (λ (z : LabPlan × State × List Event). IsReachedBy z.0 z.1 z.2 x.world.state x.world.counts)
@@ -124,6 +136,11 @@ stands_there one plan file events s counts fed read by none n x is =
     (subst (λ (l : List Event). IsReachedBy plan (the_opening plan) l x.world.state x.world.counts)
     (ap (λ (l : List Event). events ++ l) none_left ∙ append-nil events) reached) by in
     (all, same, there.0, there.1)
+
+stands_there : HasOneList → (plan : LabPlan) (file : List ℕ) (events : List Event) (s : State) (counts : List Counts) → Fed file → IsRead plan file events
+    → IsReachedBy plan (the_opening plan) events s counts → ((j : ℕ) → IsJob plan j → drinking s j ≢ Reaching) → ResumesAt file plan s counts
+stands_there one plan file events s counts fed read by none =
+    stands_by one plan plan file read.steps events s counts fed read.means (ap (with_additions plan) read.none_came) read.events_are by none
 
 pub journal_comes_back : FilesAreRead → HasOneList → JournalComesBack
 journal_comes_back read one plan script pieces s counts means by few =

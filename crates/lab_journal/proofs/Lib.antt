@@ -3,3 +3,5 @@ pub mod ComesBack
 pub mod Finished
 pub mod OfPlan
 pub mod Replayed
+pub mod Longer
+pub mod SessionsComeBack

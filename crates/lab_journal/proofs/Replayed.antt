@@ -11,11 +11,11 @@ use Rattle.legal_steps.specs.Opening.{the_opening}
 use Rattle.interleaving.specs.Kept.{Kept, after_kept}
 use Rattle.interleaving.specs.Start.{at_start}
 use Rattle.interleaving.specs.World.{WorldView, IsReachedBy}
-use Rattle.script_reader.specs.Steps.{StepsMean}
 use Rattle.explaining.specs.Explanations.{events_from_opening}
 use Rattle.live_lab.specs.Labs.{LabView, lab_in}
 use Rattle.journal_texts.specs.Lines.{AreWholeLines}
 use Rattle.journal_texts.specs.Sums.{wrong_sum}
+use Rattle.lab_journal.specs.Meaning.{JournalMeans}
 use Rattle.lab_journal.specs.Resumed.{HasIllegalStep, IsResumed}
 use Rattle.lab_journal.specs.Finishing.{Finishes, TakesSteps, IsReplayed, IsKeptIn}
 use Rattle.lab_journal.proofs.Taken.{few_kept}
@@ -29,19 +29,19 @@ line_at (step ∷ steps) (suc k) d inside = line_at steps k d (omega (arith, ins
 
 -- a step wasn't legal
 pub stopped : (text : List ℕ) (plan : LabPlan) (steps seen : List StepLine) (old new : WorldView) (line : ℕ) → seen ≡ steps
-    → old ≡ at_start plan (the_opening plan) → StepsMean text plan steps → TakesSteps old seen (Err line) new → HasIllegalStep text line
+    → old ≡ at_start plan (the_opening plan) → JournalMeans text plan steps → TakesSteps old seen (Err line) new → HasIllegalStep text line
 stopped text plan steps seen old new line same start means takes =
     let t = subst (λ (z : WorldView × List StepLine). TakesSteps z.0 z.1 (Err line) new) (λ i. (start i, same i)) takes in
     record { plan = plan; steps = steps; means = means; place = t.0; state = new.state; stops = t.1; at_line = t.2 }
 
 -- all were
 pub replayed : (text : List ℕ) (plan : LabPlan) (steps seen : List StepLine) (old new : WorldView) → seen ≡ steps
-    → old ≡ at_start plan (the_opening plan) → StepsMean text plan steps → TakesSteps old seen (Ok tt) new → wrong_sum text ≡ None → IsReplayed text new
+    → old ≡ at_start plan (the_opening plan) → JournalMeans text plan steps → TakesSteps old seen (Ok tt) new → wrong_sum text ≡ None → IsReplayed text new
 replayed text plan steps seen old new same start means takes sums =
     let t = subst (λ (z : WorldView × List StepLine). TakesSteps z.0 z.1 (Ok tt) new) (λ i. (start i, same i)) takes in
     record {
       steps = steps;
-      means = subst (λ (p : LabPlan). StepsMean text p steps) (sym t.0) means;
+      means = subst (λ (p : LabPlan). JournalMeans text p steps) (sym t.0) means;
       sums = sums;
       opening = t.1.same_opening ∙ ap the_opening (sym t.0);
       past = t.1.past ∙ ap (λ (p : LabPlan). events_from_opening p steps) (sym t.0);
@@ -75,7 +75,7 @@ pub resumed : (journal text : List ℕ) (n : ℕ) (w : WorldView) (x : LabView) 
 resumed journal text n w x lines is re kept by = record {
   lines = lines;
   steps = re.steps;
-  means = subst (λ (z : List ℕ × LabPlan). StepsMean z.0 z.1 re.steps) (λ i. (is i, sym kept.same_plan i)) re.means;
+  means = subst (λ (z : List ℕ × LabPlan). JournalMeans z.0 z.1 re.steps) (λ i. (is i, sym kept.same_plan i)) re.means;
   sums = subst (λ (l : List ℕ). wrong_sum l ≡ None) is re.sums;
   acts = kept.acts;
   are_acts = kept.are_acts;

@@ -1,21 +1,27 @@
 -- What comes of a journal: the world after its steps, and the lab after the commands in hand.
 use Rattle.std.specs.Prelude.{◌≡◌, ◌≢◌, ℕ, ◌≤◌, true, List, ◌++◌, length, map, replicate, slice_get, Result, Ok, Err, None, Some}
 use Rattle.std.specs.List.{All}
+use Rattle.lab_plan.specs.LabPlan.{LabPlan}
 use Rattle.legal_steps.specs.declared.event.Event.{Event}
+use Rattle.legal_steps.specs.declared.event.Step.{Step}
 use Rattle.legal_steps.specs.declared.event.StepLine.{StepLine}
 use Rattle.legal_steps.specs.declared.phase.Drinking.TheVariants.{Reaching}
 use Rattle.legal_steps.specs.State.{drinking}
 use Rattle.legal_steps.specs.Legal.{IsJob}
 use Rattle.legal_steps.specs.Opening.{the_opening}
 use Rattle.legal_steps.specs.Run.{StopsAt}
-use Rattle.legal_steps.specs.Steps.{step_events}
+use Rattle.legal_steps.specs.Steps.{IsStepOf, step_events}
 use Rattle.interleaving.specs.World.{WorldView, GoesOnBy}
-use Rattle.script_reader.specs.Steps.{StepsMean}
 use Rattle.explaining.specs.Explanations.{events_from_opening}
 use Rattle.live_lab.specs.Clocks.{no_clock}
 use Rattle.live_lab.specs.Labs.{LabView}
 use Rattle.journal_texts.specs.Sums.{wrong_sum}
+use Rattle.lab_journal.specs.Meaning.{JournalMeans}
 use Rattle.lab_journal.specs.Resumed.{IsAct}
+
+-- each step of the one plan is one of the other
+abbrev pub KeepsSteps : LabPlan → LabPlan → Type 0
+KeepsSteps plan longer = (step : Step) → IsStepOf plan step → IsStepOf longer step
 
 -- at most n commands in hand were done
 pub record Finishes (n : ℕ) (old new : WorldView) : Type 0 where
@@ -36,7 +42,7 @@ TakesSteps old steps (Err line) new =
 -- the world after the steps of a text, whose sums are right
 pub record IsReplayed (text : List ℕ) (w : WorldView) : Type 0 where
   pub steps : List StepLine
-  pub means : StepsMean text w.plan steps
+  pub means : JournalMeans text w.plan steps
   pub sums : wrong_sum text ≡ None
   pub opening : w.opening ≡ the_opening w.plan
   pub past : w.past ≡ events_from_opening w.plan steps

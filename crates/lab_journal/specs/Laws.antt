@@ -17,6 +17,7 @@ use Rattle.live_lab.specs.Labs.{LabView}
 use Rattle.written_steps.specs.StepLists.{script_head}
 use Rattle.journal_texts.specs.Lines.{AreWholeLines}
 use Rattle.journal_texts.specs.Texts.{Piece, events_of, piece_text, file_text}
+use Rattle.journal_texts.specs.Parts.{Part, plan_after, events_in, parts_text, AreTaken}
 use Rattle.journal_texts.specs.Reading.{IsRead}
 use Rattle.lab_journal.specs.Taking.{taken}
 use Rattle.lab_journal.specs.Resumed.{IsResumed}
@@ -53,3 +54,14 @@ BeginningsComeBack =
     → (n : ℕ) × IsRead plan (script_head script ++ front) (take n (events_of pieces))
     × ((s : State) (counts : List Counts) → IsReachedBy plan (the_opening plan) (take n (events_of pieces)) s counts
     → ((j : ℕ) → IsJob plan j → drinking s j ≢ Reaching) → ResumesAt (script_head script ++ front) plan s counts)
+
+-- ---- sessions that came
+
+-- A file of a script, texts of events and texts of sessions, in the order in which they were written, comes back too: the lab that is resumed from it has the
+-- plan with all these sessions, each of which the plan took when it came, and stands where the events lead by this plan, if no command is in hand there
+abbrev pub SessionsComeBack : Type 0
+SessionsComeBack =
+    (plan : LabPlan) (script : List ℕ) (parts : List Part) (s : State) (counts : List Counts) → IsPlan plan → ScriptMeans script plan → AreTaken plan parts
+    → (let longer = plan_after plan parts in
+    IsReachedBy longer (the_opening longer) (events_in parts) s counts → length (events_in parts) ≤ 1000000
+    → ((j : ℕ) → IsJob longer j → drinking s j ≢ Reaching) → ResumesAt (script_head script ++ parts_text plan parts) longer s counts)

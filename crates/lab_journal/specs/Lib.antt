@@ -1,4 +1,6 @@
 pub mod Taking
+pub mod Room
+pub mod Meaning
 pub mod Resumed
 pub mod Finishing
 pub mod Laws

@@ -12,7 +12,7 @@ use Rattle.legal_steps.specs.Run.{StopsAt}
 use Rattle.lab_plan.specs.LabPlan.{LabPlan}
 use Rattle.interleaving.specs.World.{IsReachedBy}
 use Rattle.script_reader.specs.declared.fault.ScriptCause.TheVariants.{BadStep}
-use Rattle.script_reader.specs.Steps.{StepsMean, StepsRefuse}
+use Rattle.script_reader.specs.Steps.{StepsRefuse}
 use Rattle.explaining.specs.Explanations.{events_from_opening}
 use Rattle.lab_program.specs.declared.faults.RunFault.{RunFault}
 use Rattle.lab_program.specs.declared.faults.RunFault.TheVariants.{Script, Step, NoMemory}
@@ -20,18 +20,20 @@ use Rattle.live_lab.specs.Clocks.{no_clock}
 use Rattle.live_lab.specs.Labs.{LabView}
 use Rattle.journal_texts.specs.Lines.{AreWholeLines}
 use Rattle.journal_texts.specs.Sums.{wrong_sum}
+use Rattle.lab_journal.specs.Meaning.{JournalMeans, HasBadAddition}
 
 -- ---- the lab
 
 abbrev pub IsAct : Event → Type 0
 IsAct event = (j : ℕ) × (event ≡ Act j)
 
--- The first n bytes of the journal were taken: a script with steps, whose sums are right. The steps were done, one after another, from the initial state
--- on, and then the commands in hand. Only these are kept, since the journal has the others; and each clock is new
+-- The first n bytes of the journal were taken: a script with steps and sessions that came, whose sums are right. The steps were done, one after another, from
+-- the initial state on, by the plan with these sessions, and then the commands in hand. Only these are kept, since the journal has the others; and each clock
+-- is new
 pub record IsResumed (journal : List ℕ) (n : ℕ) (x : LabView) : Type 0 where
   pub lines : AreWholeLines journal n
   pub steps : List StepLine
-  pub means : StepsMean (take n journal) x.world.plan steps
+  pub means : JournalMeans (take n journal) x.world.plan steps
   pub sums : wrong_sum (take n journal) ≡ None
   pub acts : List Event
   pub are_acts : All IsAct acts
@@ -45,19 +47,20 @@ pub record IsResumed (journal : List ℕ) (n : ℕ) (x : LabView) : Type 0 where
 
 -- ---- or the reason
 
--- a script with steps, of which this line's is the first that isn't legal
+-- a script with steps and sessions that came, and this line's step is the first that isn't legal
 pub record HasIllegalStep (text : List ℕ) (line : ℕ) : Type 0 where
   pub plan : LabPlan
   pub steps : List StepLine
-  pub means : StepsMean text plan steps
+  pub means : JournalMeans text plan steps
   pub place : ℕ
   pub state : State
   pub stops : StopsAt plan (the_opening plan) (events_from_opening plan steps) place state
   pub at_line : slice_get (map (λ (step : StepLine). step.line) steps) place ≡ Some line
 
--- the text has this fault as a script with steps, or all is legal and this sum is wrong; or this line's step isn't legal; or there was no memory
+-- the text has this fault as a script with steps, or in what came, or all is legal and this sum is wrong; or this line's step isn't legal; or there was no
+-- memory
 abbrev pub IsRefused : List ℕ → RunFault → Type 0
-IsRefused text (Script fault) = StepsRefuse text fault ⊎ ((fault.cause ≡ BadStep) × (wrong_sum text ≡ Some fault.line))
+IsRefused text (Script fault) = StepsRefuse text fault ⊎ HasBadAddition text fault ⊎ ((fault.cause ≡ BadStep) × (wrong_sum text ≡ Some fault.line))
 IsRefused text (Step line) = HasIllegalStep text line
 IsRefused text NoMemory = Unit {0}
 IsRefused text _ = ⊥

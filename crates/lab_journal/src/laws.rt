@@ -1,7 +1,8 @@
 //! What holds of journals. Each law is the contract of a function that does nothing.
-ghost use Rattle.lab_journal.specs.Laws.{JournalsFollow, JournalComesBack, BeginningsComeBack};
+ghost use Rattle.lab_journal.specs.Laws.{JournalsFollow, JournalComesBack, BeginningsComeBack, SessionsComeBack};
 
 use journal_texts::laws::{beginnings_are_read, files_are_read};
+use round_trace::laws::steps_give_events;
 use script_reader::laws::one_meaning_with_steps;
 
 /// What was taken stays taken, whatever calls do, as long as no event is missed for want of room.
@@ -22,5 +23,13 @@ pub fn beginnings_come_back()
     ensures { BeginningsComeBack }
 {
     beginnings_are_read();
+    one_meaning_with_steps();
+}
+
+/// So does a journal with sessions that came: a lab that is resumed from it has all of them, and stands where the events lead.
+pub fn sessions_come_back()
+    ensures { SessionsComeBack }
+{
+    steps_give_events();
     one_meaning_with_steps();
 }

@@ -6,11 +6,15 @@
 mod finishing;
 pub mod laws;
 mod opening;
+mod reading;
 mod resuming;
 mod room;
 mod taking;
+mod widening;
 
 pub use finishing::finish;
 pub use opening::{has_room, open_kept};
+pub use reading::read_journal;
 pub use resuming::{replay_text, resume};
 pub use taking::{NotTaken, journal, take_journal};
+pub use widening::{NoRoom, make_room};

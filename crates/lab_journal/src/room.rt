@@ -40,12 +40,19 @@ fn longest_session<A: Allocator>(plan: &Plan<A>) -> usize {
 pub(crate) fn room_of<A: Allocator>(plan: &Plan<A>) -> usize
     ensures { 64 ≤ result }
 {
+    room_with(plan, 0)
+}
+
+/// The same, with sessions of at most so many commands besides.
+pub(crate) fn room_with<A: Allocator>(plan: &Plan<A>, further: usize) -> usize
+    ensures { 64 ≤ result }
+{
     let deeds = plan
         .jobs()
         .saturating_mul(8)
         .saturating_add((plan.edges() as usize).saturating_mul(28))
         .saturating_add(all_bottles(plan).saturating_mul(18));
-    let commands = longest_session(plan).saturating_mul(2);
+    let commands = longest_session(plan).max(further).saturating_mul(2);
     deeds
         .saturating_mul(5)
         .saturating_add(commands)

@@ -1,0 +1,263 @@
+-- The lines of a session that came, and what is read of them.
+use Rattle.std.proofs.Common.{◌≡◌, ℕ, suc, ◌+◌, ◌<◌, Bool, true, false, not, ◌&&◌, ◌==◌, ◌||◌, if◌then◌else◌, List, [], ◌∷◌, ◌++◌, length, map, drop, subst, refl, sym, ap, ◌∙◌, arith, append_assoc, append-nil}
+use Rattle.std.specs.Prelude.{Option, None, Some, codes, decimal, nat_le}
+use Rattle.std.specs.List.{AllByRecursion, flat_map, list_all, cons_option}
+use Rattle.std.specs.Option.{option_map}
+use Rattle.std.specs.Str.{bytes_eq}
+use Rattle.std.proofs.lemmas.Bool.Decides.{nat_tests}
+use Rattle.std.proofs.lemmas.List.{map-append}
+use Rattle.lab_plan.specs.declared.verb.Verb.{Verb}
+use Rattle.lab_plan.specs.LabPlan.{LabPlan, SessionPlan, no_job}
+use Rattle.lab_plan.specs.IsPlan.{IsPlan}
+use Rattle.lab_plan.specs.Texts.{job_name, instrument_name, verb_text}
+use Rattle.lab_plan.specs.Upgrade.{session_line, command_text, session_text}
+use Rattle.lab_plan.proofs.OneMore.{IsGranted, below}
+use Rattle.script_reader.specs.Script.{text_lines}
+use Rattle.script_reader.specs.Steps.{step_in, step_among, list_of}
+use Rattle.script_reader.proofs.UpgradeText.{is_shown, is_dark, dark_shown, one_more_line, fields_one, fields_more}
+use Rattle.script_reader.proofs.UpgradeForms.{name_parts, shown_behind}
+use Rattle.journal_texts.specs.Texts.{sum_line, summed}
+use Rattle.journal_texts.specs.Sums.{is_begin, is_sum, wrong_from}
+use Rattle.journal_texts.specs.More.{more_command, more_lines}
+use Rattle.journal_texts.specs.Additions.{Addition, is_more, is_inner, session_in, addition_of, additions_from}
+use Rattle.journal_texts.proofs.SessionBack.{begin_line, command_line, session_lines, closed_all, session_closed, CanSay, can_say, AreShown, session_shown, lines_closed, closed_both}
+use Rattle.journal_texts.proofs.PieceLines.{sum_then}
+use Rattle.journal_texts.proofs.Read.{sum_skipped, sum_isnt_more, not_wrong, end_right}
+
+-- a line of the session, as the journal has it
+abbrev pub plus : List ℕ → List ℕ
+plus line = codes "#+" ++ line
+
+abbrev pub first_of : LabPlan → ℕ → List ℕ
+first_of plan j = codes "#more " ++ job_name plan j
+
+-- the lines between `#steps` and the sum
+abbrev pub more_all : LabPlan → ℕ → SessionPlan → List (List ℕ)
+more_all plan j session = first_of plan j ∷ map plus (session_lines plan session)
+
+-- ---- the text is these lines, each with its end
+
+begin_plus : (patience : Option ℕ) (rest : List ℕ) → (codes "\n#+" ++ session_line patience) ++ rest ≡ 10 ∷ (plus (begin_line patience) ++ 10 ∷ rest)
+begin_plus None rest = refl
+begin_plus (Some n) rest = ap (λ l. codes "\n#+session patience " ++ l) (append_assoc (decimal n) (codes "\n") rest)
+
+commands_plus : (plan : LabPlan) (commands : List (ℕ × Verb)) (rest : List (List ℕ))
+    → flat_map (more_command plan) commands ++ closed_all rest ≡ closed_all (map plus (map (command_line plan) commands) ++ rest)
+commands_plus plan [] rest = refl
+commands_plus plan (c ∷ commands) rest =
+    let line = plus (command_line plan c) in
+    append_assoc (more_command plan c) (flat_map (more_command plan) commands) (closed_all rest)
+    ∙ ap (λ l. (codes "#+" ++ l) ++ (flat_map (more_command plan) commands ++ closed_all rest)) (command_ends c)
+    ∙ append_assoc line (10 ∷ []) (flat_map (more_command plan) commands ++ closed_all rest)
+    ∙ ap (λ l. line ++ 10 ∷ l) (commands_plus plan commands rest)
+  where
+    command_ends : (c : ℕ × Verb) → command_text plan c ≡ command_line plan c ++ 10 ∷ []
+    command_ends c = ap (λ l. l ++ 10 ∷ []) (append_assoc (instrument_name plan c.0) (codes " ") (verb_text c.1))
+
+pub more_closed : (plan : LabPlan) (j : ℕ) (session : SessionPlan) → more_lines plan j session ≡ closed_all (more_all plan j session)
+more_closed plan j session =
+    let front = codes "#more " ++ job_name plan j in
+    let begin = session_line session.patience in
+    let inner = flat_map (more_command plan) session.commands in
+    let end = codes "#+end\n" in
+    append_assoc ((front ++ codes "\n#+") ++ begin) inner end
+    ∙ ap (λ l. l ++ (inner ++ end)) (append_assoc front (codes "\n#+") begin)
+    ∙ append_assoc front (codes "\n#+" ++ begin) (inner ++ end)
+    ∙ ap (λ l. front ++ l) (begin_plus session.patience (inner ++ end)
+    ∙ ap (λ l. 10 ∷ (plus (begin_line session.patience) ++ 10 ∷ l)) (commands_plus plan session.commands (codes "#+end" ∷ [])
+    ∙ ap closed_all (sym (map-append plus (map (command_line plan) session.commands) (codes "end" ∷ [])))))
+
+-- ---- its lines are shown
+
+plus_shown : (lines : List (List ℕ)) → AreShown lines
+    → AreShown (map plus lines)
+plus_shown [] all = tt
+plus_shown (line ∷ lines) all = (all.0, plus_shown lines all.1)
+
+first_shown : (plan : LabPlan) (j : ℕ) → IsPlan plan → j < length plan.jobs → list_all is_shown (first_of plan j) ≡ true
+first_shown plan j is there =
+    let parts = name_parts (job_name plan j) (is.draft.job_names j no_job there) in
+    shown_behind (codes "#more ") (job_name plan j) refl (dark_shown (job_name plan j) parts.dark)
+
+-- the lines of the text, with its begin and its sum
+abbrev pub more_part : LabPlan → ℕ → SessionPlan → List (List ℕ)
+more_part plan j session = codes "#steps" ∷ (more_all plan j session ++ sum_line (more_lines plan j session) ∷ [])
+
+pub part_then : (plan : LabPlan) (j : ℕ) (session : SessionPlan) (rest : List ℕ) → IsPlan plan → j < length plan.jobs → IsGranted plan j session
+    → text_lines (summed (more_lines plan j session) ++ rest) ≡ more_part plan j session ++ text_lines rest
+part_then plan j session rest is there may =
+    let lines = more_lines plan j session in
+    let all = more_all plan j session in
+    let end : List ℕ = sum_line lines ++ codes "\n" in
+    ap text_lines (append_assoc (codes "#steps\n" ++ lines) end rest ∙ append_assoc (codes "#steps\n") lines (end ++ rest))
+    ∙ one_more_line (codes "#steps") (lines ++ (end ++ rest)) refl
+    ∙ ap (λ l. codes "#steps" ∷ l) (ap (λ l. text_lines (l ++ (end ++ rest))) (more_closed plan j session)
+    ∙ lines_closed all (end ++ rest) (first_shown plan j is there, plus_shown (session_lines plan session) (session_shown plan j session is may))
+    ∙ ap (λ l. all ++ l) (sum_then lines rest)
+    ∙ sym (append_assoc all (sum_line lines ∷ []) (text_lines rest)))
+
+-- ---- no step is among them
+
+hash_skipped : (plan : LabPlan) (word rest : List ℕ) → list_all is_dark (35 ∷ word) ≡ true → step_in plan ((35 ∷ word) ++ 32 ∷ rest) ≡ None
+hash_skipped plan word rest dark = ap (step_among plan) (fields_more (35 ∷ word) rest dark (omega arith))
+
+word_skipped : (plan : LabPlan) (word : List ℕ) → list_all is_dark (35 ∷ word) ≡ true → step_in plan (35 ∷ word) ≡ None
+word_skipped plan word dark = ap (step_among plan) (fields_one (35 ∷ word) dark (omega arith))
+
+abbrev AreSkipped : LabPlan → List (List ℕ) → Type 0
+AreSkipped plan lines = AllByRecursion (λ (line : List ℕ). step_in plan line ≡ None) lines
+
+commands_skipped : (plan of : LabPlan) (j : ℕ) (commands : List (ℕ × Verb)) (end : List (List ℕ)) → IsPlan of → AllByRecursion (CanSay of j) commands → AreSkipped plan end
+    → AreSkipped plan (map plus (map (command_line of) commands) ++ end)
+commands_skipped plan of j [] end is can skipped = skipped
+commands_skipped plan of j (c ∷ commands) end is can skipped =
+    let name = instrument_name of c.0 in
+    let parts = name_parts name (is.draft.instrument_names c.0 [] can.0.there) in
+    (hash_skipped plan (43 ∷ name) (verb_text c.1) parts.dark, commands_skipped plan of j commands end is can.1 skipped)
+
+begin_skipped : (plan : LabPlan) (patience : Option ℕ) → step_in plan (plus (begin_line patience)) ≡ None
+begin_skipped plan None = word_skipped plan (codes "+session") refl
+begin_skipped plan (Some n) = hash_skipped plan (codes "+session") (codes "patience " ++ decimal n) refl
+
+pub all_skipped : (plan of : LabPlan) (j : ℕ) (session : SessionPlan) → IsPlan of → IsGranted of j session → AreSkipped plan (more_part of j session)
+all_skipped plan of j session is may =
+    let can = can_say of j session.commands (below of j session is.draft.named may.own) may.own may.fit in
+    let inner = map plus (map (command_line of) session.commands) in
+    let sum = sum_line (more_lines of j session) in
+    let cut : inner ++ codes "#+end" ∷ sum ∷ [] ≡ map plus (map (command_line of) session.commands ++ codes "end" ∷ []) ++ sum ∷ [] =
+    sym (append_assoc inner (codes "#+end" ∷ []) (sum ∷ []))
+    ∙ ap (λ l. l ++ sum ∷ []) (sym (map-append plus (map (command_line of) session.commands) (codes "end" ∷ []))) in
+    let rest = subst (AreSkipped plan) cut (commands_skipped plan of j session.commands (codes "#+end" ∷ sum ∷ []) is can
+    (word_skipped plan (codes "+end") refl, (sum_skipped plan (more_lines of j session), tt))) in
+    (word_skipped plan (codes "steps") refl, (hash_skipped plan (codes "more") (job_name of j) refl, (begin_skipped plan session.patience, rest)))
+
+pub none_listed : (plan : LabPlan) (n : ℕ) (lines rest : List (List ℕ)) → AreSkipped plan lines → list_of plan n (lines ++ rest) ≡ list_of plan (n + length lines) rest
+none_listed plan n [] rest all = let same : n ≡ n + 0 = omega arith in ap (λ k. list_of plan k rest) same
+none_listed plan n (line ∷ lines) rest all =
+    let same : n + 1 + length lines ≡ n + suc (length lines) = omega arith in
+    ap (λ found. cons_option (option_map (λ it. (n, it)) found) (list_of plan (n + 1) (lines ++ rest))) all.0
+    ∙ none_listed plan (n + 1) lines rest all.1 ∙ ap (λ k. list_of plan k rest) same
+
+-- ---- they are one addition
+
+and_no : (a : Bool) → (a && false) ≡ false
+and_no true = refl
+and_no false = refl
+
+not_end : (name rest : List ℕ) → bytes_eq (name ++ 32 ∷ rest) (codes "end") ≡ false
+not_end [] rest = refl
+not_end (a ∷ []) rest = and_no (a == 101)
+not_end (a ∷ b ∷ []) rest = ap (λ t. (a == 101) && t) (and_no (b == 110)) ∙ and_no (a == 101)
+not_end (a ∷ b ∷ c ∷ []) rest = ap (λ t. (a == 101) && ((b == 110) && t)) (and_no (c == 100)) ∙ ap (λ t. (a == 101) && t) (and_no (b == 110)) ∙ and_no (a == 101)
+not_end (a ∷ b ∷ c ∷ d ∷ name) rest =
+    ap (λ t. (a == 101) && ((b == 110) && t)) (and_no (c == 100)) ∙ ap (λ t. (a == 101) && t) (and_no (b == 110)) ∙ and_no (a == 101)
+
+two_more : (n : ℕ) → nat_le 2 (suc (suc n)) ≡ true
+two_more n = grind (arith, nat_tests)
+
+plus_inner : (line : List ℕ) → is_inner (plus line) ≡ true
+plus_inner line = ap (λ t. t && true) (two_more (length line))
+
+one_inner : (line : List ℕ) (lines : List (List ℕ)) (text : List ℕ) → bytes_eq line (codes "end") ≡ false → session_in lines ≡ Some text
+    → session_in (plus line ∷ lines) ≡ Some (line ++ 10 ∷ text)
+one_inner line lines text other is =
+    (λ i. if other i then Some (codes "end\n") else (if plus_inner line i then option_map (λ l. line ++ codes "\n" ++ l) (is i) else None))
+    ∙ ap Some (append_assoc line (codes "\n") text)
+
+commands_inner : (plan : LabPlan) (commands : List (ℕ × Verb)) (rest : List (List ℕ)) (text : List ℕ) → session_in rest ≡ Some text
+    → session_in (map plus (map (command_line plan) commands) ++ rest) ≡ Some (closed_all (map (command_line plan) commands) ++ text)
+commands_inner plan [] rest text is = is
+commands_inner plan (c ∷ commands) rest text is =
+    let line = command_line plan c in
+    let all = closed_all (map (command_line plan) commands) in
+    one_inner line (map plus (map (command_line plan) commands) ++ rest) (all ++ text) (not_end (instrument_name plan c.0) (verb_text c.1))
+    (commands_inner plan commands rest text is) ∙ ap Some (sym (append_assoc line (10 ∷ all) text))
+
+begin_isnt_end : (patience : Option ℕ) → bytes_eq (begin_line patience) (codes "end") ≡ false
+begin_isnt_end None = refl
+begin_isnt_end (Some n) = refl
+
+session_whole : (plan : LabPlan) (session : SessionPlan) (rest : List (List ℕ))
+    → session_in (map plus (session_lines plan session) ++ rest) ≡ Some (session_text plan session)
+session_whole plan session rest =
+    let begin = begin_line session.patience in
+    let inner = map (command_line plan) session.commands in
+    let cut : map plus (inner ++ codes "end" ∷ []) ++ rest ≡ map plus inner ++ codes "#+end" ∷ rest =
+    ap (λ l. l ++ rest) (map-append plus inner (codes "end" ∷ [])) ∙ append_assoc (map plus inner) (codes "#+end" ∷ []) rest in
+    let own = commands_inner plan session.commands (codes "#+end" ∷ rest) (codes "end\n") refl in
+    one_inner begin (map plus (inner ++ codes "end" ∷ []) ++ rest) (closed_all inner ++ codes "end\n") (begin_isnt_end session.patience) (ap session_in cut ∙ own)
+    ∙ ap Some (ap (λ l. begin ++ 10 ∷ l) (sym (closed_both inner (codes "end" ∷ []))) ∙ sym (session_closed plan session))
+
+-- lines that begin no addition
+pub none_added : (n : ℕ) (lines rest : List (List ℕ)) → AllByRecursion (λ (line : List ℕ). is_more line ≡ false) lines
+    → additions_from n (lines ++ rest) ≡ additions_from (n + length lines) rest
+none_added n [] rest all = let same : n ≡ n + 0 = omega arith in ap (λ k. additions_from k rest) same
+none_added n (line ∷ lines) rest all =
+    let same : n + 1 + length lines ≡ n + suc (length lines) = omega arith in
+    ap (λ t. (if t then addition_of n (drop 6 line) (session_in (lines ++ rest)) else []) ++ additions_from (n + 1) (lines ++ rest)) all.0
+    ∙ none_added (n + 1) lines rest all.1 ∙ ap (λ k. additions_from k rest) same
+
+more_first : (name : List ℕ) → is_more (codes "#more " ++ name) ≡ true
+more_first name = ap (λ t. t && true) (six_more (length name))
+  where
+    six_more : (n : ℕ) → nat_le 6 (suc (suc (suc (suc (suc (suc n)))))) ≡ true
+    six_more n = grind (arith, nat_tests)
+
+plus_no_more : (line : List ℕ) → is_more (plus line) ≡ false
+plus_no_more line = and_no (nat_le 6 (length (plus line)))
+
+all_no_more : (lines end : List (List ℕ)) → AllByRecursion (λ (line : List ℕ). is_more line ≡ false) end → AllByRecursion (λ (line : List ℕ). is_more line ≡ false) (map plus lines ++ end)
+all_no_more [] end none = none
+all_no_more (line ∷ lines) end none = (plus_no_more line, all_no_more lines end none)
+
+-- the addition of the text whose first line has this number
+abbrev pub addition_at : ℕ → LabPlan → ℕ → SessionPlan → Addition
+addition_at n plan j session = record { line = n + 1; job = job_name plan j; session = session_text plan session }
+
+pub part_added : (n : ℕ) (plan : LabPlan) (j : ℕ) (session : SessionPlan) (rest : List (List ℕ))
+    → additions_from n (more_part plan j session ++ rest) ≡ addition_at n plan j session ∷ additions_from (n + length (more_part plan j session)) rest
+part_added n plan j session rest =
+    let lines = session_lines plan session in
+    let name = job_name plan j in
+    let sum = sum_line (more_lines plan j session) in
+    let behind = (map plus lines ++ sum ∷ []) ++ rest in
+    let cut = append_assoc (map plus lines) (sum ∷ []) rest in
+    let same : n + 1 + 1 + length (map plus lines ++ sum ∷ []) ≡ n + suc (suc (length (map plus lines ++ sum ∷ []))) = omega arith in
+    ap (λ t. (if t then addition_of (n + 1) name (session_in behind) else []) ++ additions_from (n + 1 + 1) behind) (more_first name)
+    ∙ (λ i. addition_of (n + 1) name ((ap session_in cut ∙ session_whole plan session (sum ∷ rest)) i)
+    ++ (none_added (n + 1 + 1) (map plus lines ++ sum ∷ []) rest (all_no_more lines (sum ∷ []) (sum_isnt_more (more_lines plan j session), tt))
+    ∙ ap (λ k. additions_from k rest) same) i)
+
+-- ---- their sum is right
+
+-- a line of these is no mark
+line_added : (n : ℕ) (text line : List ℕ) (lines : List (List ℕ)) → is_begin line ≡ false → is_sum line ≡ false
+    → wrong_from n text (line ∷ lines) ≡ wrong_from (n + 1) (text ++ line ++ codes "\n") lines
+line_added n text line lines begin sum =
+    not_wrong n text line lines (ap (λ b. b && not (bytes_eq line (sum_line text))) sum)
+    ∙ ap (λ t. wrong_from (n + 1) t lines) (λ i. if begin i || sum i then [] else text ++ line ++ codes "\n")
+
+abbrev AreNoMarks : List (List ℕ) → Type 0
+AreNoMarks lines = AllByRecursion (λ (line : List ℕ). (is_begin line ≡ false) × (is_sum line ≡ false)) lines
+
+lines_added : (n : ℕ) (text : List ℕ) (own lines : List (List ℕ)) → AreNoMarks own
+    → wrong_from n text (own ++ lines) ≡ wrong_from (n + length own) (text ++ closed_all own) lines
+lines_added n text [] lines none = (let same : n ≡ n + 0 = omega arith in λ i. wrong_from (same i) (sym (append-nil text) i) lines)
+lines_added n text (line ∷ own) lines none =
+    let one : n + 1 + length own ≡ n + suc (length own) = omega arith in
+    line_added n text line (own ++ lines) none.0.0 none.0.1 ∙ lines_added (n + 1) (text ++ line ++ codes "\n") own lines none.1
+    ∙ (λ i. wrong_from (one i) ((append_assoc (text ++ line) (codes "\n") (closed_all own) ∙ append_assoc text line (10 ∷ closed_all own)) i) lines)
+
+plus_no_mark : (lines : List (List ℕ)) → AreNoMarks (map plus lines)
+plus_no_mark [] = tt
+plus_no_mark (line ∷ lines) = ((refl, and_no (nat_le 5 (length (plus line)))), plus_no_mark lines)
+
+pub more_right : (n : ℕ) (text : List ℕ) (plan : LabPlan) (j : ℕ) (session : SessionPlan) (lines : List (List ℕ))
+    → ((m : ℕ) (t : List ℕ) → wrong_from m t lines ≡ None) → wrong_from n text (more_part plan j session ++ lines) ≡ None
+more_right n text plan j session lines more =
+    let all = more_all plan j session in
+    let sum = sum_line (more_lines plan j session) in
+    ap (λ (z : List (List ℕ)). wrong_from (n + 1) [] z) (append_assoc all (sum ∷ []) lines)
+    ∙ lines_added (n + 1) [] all (sum ∷ lines) ((refl, and_no (nat_le 5 (length (first_of plan j)))), plus_no_mark (session_lines plan session))
+    ∙ ap (λ t. wrong_from (n + 1 + length all) t (sum ∷ lines)) (sym (more_closed plan j session))
+    ∙ end_right (n + 1 + length all) (more_lines plan j session) true lines more
