@@ -120,7 +120,7 @@ uint32_t lab_upgrade(const uint8_t *script, size_t length, uint8_t *report, size
        instrument from one, and which of these hold it. Any thread may finish the session by `lab_end` for it. Nothing is lost if
        nobody does: the close then answers 3.
      - Who comes to hold though nobody waits for it any more is told in `came`, too. End such a session, or it keeps its instruments.
-     - No call between the open and the close asks for memory, but `lab_add`.
+     - No call between the open and the close asks for memory, but `lab_add`, and `lab_journal` and `lab_more`.
      - A job or an instrument is a number from 0, in the order of the script; sessions are counted from 1.
      - At each status but 0 nothing has changed and nothing is written, but for: `turned` and what was done, at 8 and 9 of `lab_begin`
        and at 8 and 10 of `lab_retire`; `written` at 6; `told` at 1, 4 and 5 of the open (at 4 all three are 0; at 5 `line` may be how
@@ -250,9 +250,10 @@ uint32_t lab_outside(struct lab_bench *bench, uint32_t job, struct lab_outside *
 
 /* Adds one or more sessions behind the others of a job: lines `session` or `session patience N`, commands, `end`, as a script has them, of
    instruments that the job's sessions name already. From then on the bench is one of the longer script: the job has sessions left again, and
-   all that is said of a bench is true of it. This call alone, and the opens, ask for memory. 0; 1 with the line of this text, counted from 1,
+   all that is said of a bench is true of it. The call asks for memory. 0; 1 with the line of this text, counted from 1,
    and the cause (14: an instrument that the job doesn't name); 2; 5 with `told->written`, how many of the sessions were added before there
-   was no memory; 7; 8 if the bench keeps its steps (a journal has no word for a session that comes); 14 if the job has retired. */
+   was no memory; 7; 14 if the job has retired. On a bench that keeps its steps see `lab_more`; there also 12: the sessions need more room for
+   steps than there is, and there can be more only once those that are kept were taken by `lab_journal`. */
 uint32_t lab_add(struct lab_bench *bench, uint32_t job, const uint8_t *session, size_t length, struct lab_told *told);
 
 /* One turn of a job: it gives and asks at each of its edges, and does the first act that is due, also a command of a session
@@ -322,8 +323,15 @@ uint32_t lab_bench_open_kept(const uint8_t *script, size_t length, struct lab_be
    `written`, and nothing is taken; 7; 8 if the bench doesn't keep its steps; 12, see above. */
 uint32_t lab_journal(struct lab_bench *bench, uint8_t *text, size_t room, size_t *written);
 
+/* The lines of a session of a job, for the journal, as text; `written` tells its length. A session that `lab_add` added isn't in the journal until
+   its lines are: write them before the next text of `lab_journal`, for each session that was added. `lab_bench_resume` adds it then, before it does
+   the steps; lines that break off before their last are passed over. `labrun replay` knows the script alone: it refuses the first step of such a
+   session. 0; 2 if there is no such job or session; 5; 6 with `written`; 7; 8 if the bench doesn't keep its steps. */
+uint32_t lab_more(struct lab_bench *bench, uint32_t job, uint32_t session, uint8_t *text, size_t room, size_t *written);
+
 /* Opens the bench that a journal tells of; it keeps its steps. 0, with `told->written` as the length of what was read, up to the last line
-   end; 1 with `told->line` and `told->cause`, as `lab_replay`, also (13) for a line `#sum` that doesn't fit the steps above it; 5; 11. */
+   end; 1 with `told->line` and `told->cause`, as `lab_replay`, also (13) for a line `#sum` that doesn't fit the lines above it, and for the lines of a
+   session that its job can't take (the line is that of `#more`; 7: there is no such job; else as `lab_add`); 5; 11. */
 uint32_t lab_bench_resume(const uint8_t *journal, size_t length, struct lab_bench *bench, struct lab_told *told);
 
 /* ---- A bench with a desk for each thread.

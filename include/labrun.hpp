@@ -13,6 +13,11 @@
 // With a journal, `bench::open("bay.lab", "bay.journal")`, all that is done is on the disk before a call returns, and a process that is killed
 // goes on where it was: a session that held is offered first, with resumed().
 //
+// Without a script, sessions come while the bench is open (`job`):
+//
+//     labrun::bench bench = labrun::bench::create({{"guest-1", {"scope", "supply"}}, {"guest-2", {"scope"}}});
+//     auto session = bench.job("guest-1").hold({"scope", "supply"});
+//
 // What is proved ends at the calls of the library: that no two sessions hold an instrument at once, that each log is whole sessions, and that
 // who waits, waits in the end for somebody who holds: so nobody looks from time to time, and nobody sleeps for nothing. This file is
 // tested. A bench and its desks stay where they are while threads use them; one thread at a time acts for a desk.
@@ -23,12 +28,14 @@
 #include <atomic>
 #include <cerrno>
 #include <chrono>
+#include <cinttypes>
 #include <condition_variable>
 #include <cstdint>
 #include <cstdio>
 #include <cstring>
 #include <ctime>
 #include <deque>
+#include <dirent.h>
 #include <exception>
 #include <fcntl.h>
 #include <fstream>
@@ -37,12 +44,14 @@
 #include <mutex>
 #include <new>
 #include <optional>
+#include <map>
 #include <pthread.h>
 #include <stdexcept>
 #include <string>
 #include <string_view>
 #include <sys/file.h>
 #include <sys/stat.h>
+#include <tuple>
 #include <unistd.h>
 #include <utility>
 #include <vector>
@@ -71,6 +80,49 @@ struct withdrawn : error {
 // else's by now. It is told once; the next begin() is about the session after it.
 struct taken_away : error {
     taken_away() : error("the session was taken away") {}
+};
+
+// A session can't be added, because the job may not use one of its instruments: the edges between jobs stay as they were opened.
+struct may_not_use : error {
+    may_not_use(const std::string &job, const std::string &wrong, const std::vector<std::string> &may) : error(text(job, wrong, may)) {}
+
+  private:
+    static std::string text(const std::string &job, const std::string &wrong, const std::vector<std::string> &may) {
+        std::string all;
+        for (const std::string &it : may) all += (all.empty() ? "" : ", ") + it;
+        return job + " may not use " + wrong + ": it may use " + (may.empty() ? "nothing" : all);
+    }
+};
+
+// A session can't be added: the job is retired.
+struct retired : error {
+    explicit retired(const std::string &job) : error(job + " is retired, and gets no further session") {}
+};
+
+// A session can't be added: the job has 1000, or the bench has 100000 commands. bench::room() tells before, and bench::turn_page() helps.
+struct full : error {
+    explicit full(const std::string &job) : error("no room for another session of " + job + ": turn_page() begins a new page") {}
+};
+
+// What was asked for is no session, no job or no command; or it may not be now. The text says why.
+struct invalid : error {
+    using error::error;
+};
+struct not_now : error {
+    using error::error;
+};
+
+// The page isn't turned, because these jobs are in a session or have one left; each with what it is at.
+struct not_back : error {
+    explicit not_back(std::vector<std::pair<std::string, std::string>> those) : error(text(those)), jobs(std::move(those)) {}
+    std::vector<std::pair<std::string, std::string>> jobs;
+
+  private:
+    static std::string text(const std::vector<std::pair<std::string, std::string>> &those) {
+        std::string all;
+        for (const auto &[job, what] : those) all += (all.empty() ? "not back: " : ", ") + job + " (" + what + ")";
+        return all;
+    }
 };
 
 // The bench is closed.
@@ -132,6 +184,7 @@ struct keeper {
 };
 
 // The time limit passed. The session keeps its place, and may come to its instruments meanwhile if it stands in line: begin again, or give_up().
+// One of job::hold is given up.
 // It says first for whom it waits in the end: those are the ones to look after.
 struct timed_out : error {
     explicit timed_out(std::vector<keeper> by) : error("still waits" + because(by)), keepers(std::move(by)) {}
@@ -149,7 +202,7 @@ struct timed_out : error {
             if (std::find(ends.begin(), ends.end(), end) == ends.end()) ends.push_back(end);
         }
         for (const std::string &end : ends) last += (last.empty() ? " for " : " and ") + end;
-        return (is_chain ? last : "") + ": " + (all.empty() ? "it holds by now, or is over" : all);
+        return (is_chain ? last : "") + ": " + (all.empty() ? "it holds by now, or is over, or a page is being turned" : all);
     }
 };
 
@@ -161,6 +214,43 @@ struct report {
     std::string text;
     std::vector<std::pair<std::string, std::uint32_t>> lapsed, taken;
 };
+
+// A command of a session, as a script has it. A number is 999999 at most.
+struct command {
+    std::string instrument, verb;
+    std::optional<std::uint32_t> number;
+
+    static command set(std::string instrument, std::uint32_t number) { return {std::move(instrument), "set", number}; }
+    static command add(std::string instrument, std::uint32_t number) { return {std::move(instrument), "add", number}; }
+    static command read(std::string instrument) { return {std::move(instrument), "read", std::nullopt}; }
+
+    std::string line() const { return instrument + " " + verb + (number ? " " + std::to_string(*number) : "") + "\n"; }
+};
+
+// How much may still come to the page that is open: so many sessions of each job, by its name, and so many commands of all; with a journal, so
+// many steps and bytes of it.
+struct room {
+    std::vector<std::pair<std::string, std::size_t>> sessions;
+    std::size_t commands;
+    std::optional<std::size_t> steps, bytes;
+
+    // Whether less than a tenth of something is left: it is time to turn the page.
+    bool is_low() const {
+        std::size_t least = 1000;
+        for (const auto &[job, left] : sessions) least = std::min(least, left);
+        return 10 * least < 1000 || 10 * commands < 100000 || 10 * steps.value_or(1000000) < 1000000 || 10 * bytes.value_or(16777216) < 16777216;
+    }
+};
+
+// A page that was closed: its report, the script that it became, and where its journal is, if there is one.
+struct page {
+    labrun::report report;
+    std::string script;
+    std::optional<std::string> journal;
+};
+
+// The jobs of a bench without a script, each with the instruments that it may use.
+using jobs = std::vector<std::pair<std::string, std::vector<std::string>>>;
 
 // By how many sessions one is passed at most before it stands in line, unless said otherwise.
 inline constexpr std::uint32_t OVERTAKES = 64;
@@ -224,6 +314,19 @@ struct seat {
     std::uint32_t taken = 0;                          // a session that was taken away, of which its owner doesn't know yet, or 0
     std::condition_variable woken;
 
+    bool is_over = false; // its owner said that it gets no further session
+
+    // A new page has come, with these sessions. (One that was retired by its owner stays so.)
+    void begins_anew(std::vector<lab_session> those) {
+        sessions = std::move(those);
+        leaves();
+        last = taken = done = 0;
+        how = asked::waits;
+        limit = std::nullopt;
+    }
+
+    bool has_more() const { return in || last < sessions.size(); }
+
     // The job is in no session any more; the number of the one that it was in.
     std::uint32_t leaves() {
         asked_at = since = std::nullopt;
@@ -255,6 +358,29 @@ struct seat {
     }
 };
 
+// When a session that asks is to have come to something: its time limit; for how long it waits, and for how long it may hold.
+struct times {
+    std::optional<seat::clock::time_point> until;
+    std::optional<std::chrono::nanoseconds> patience, limit;
+};
+
+// A session as it is added: its lines, and its instruments.
+struct kind {
+    std::string text;
+    std::uint64_t needs;
+};
+
+// One that waits until one of several sessions is free: their instruments, and how many sessions that need one of these went before it.
+struct chooser {
+    std::uint32_t job;
+    std::vector<std::uint64_t> needs;
+    std::vector<std::uint32_t> passed;
+
+    void passed_by(std::uint64_t those) {
+        for (std::size_t at = 0; at < needs.size(); at++) passed[at] += (needs[at] & those) != 0;
+    }
+};
+
 // The journal of a bench: its script, a line `steps`, and what each call did. What a call did is added with the bench's mutex held, so in the
 // order of the calls. It is written without that mutex, by whoever comes first, with all that others have added by then; they find it written.
 // A write that fails leaves the bench as the file has it.
@@ -265,25 +391,18 @@ class journal {
         std::size_t failures, length;
     };
 
-    journal(std::string path, labrun::sync how) : path_(std::move(path)), syncs_(how == labrun::sync::data), room_(1 << 16) {
-        file_ = ::open(path_.c_str(), O_RDWR | O_CREAT | O_CLOEXEC, 0666);
-        if (file_ < 0) throw journal_error(path_, std::strerror(errno));
-        if (flock(file_, LOCK_EX | LOCK_NB)) {
-            const bool is_open = errno == EWOULDBLOCK;
-            ::close(file_);
-            throw journal_error(path_, is_open ? "another process has it open" : std::strerror(errno));
-        }
-        for (std::atomic<int> &it : files)
-            if (int none = 0; it.compare_exchange_strong(none, file_ + 1)) break;
-    }
+    // The sessions that came, by job and number: whether it is one of `hold`, for which nobody comes after the process has died, or of `add`.
+    using came_by = std::map<std::pair<std::string, std::uint32_t>, bool>;
+
+    journal(std::string path, labrun::sync how) : path_(std::move(path)), syncs_(how == labrun::sync::data), room_(1 << 16) { file_ = locked(); }
     journal(const journal &) = delete;
     journal &operator=(const journal &) = delete;
     ~journal() { close(); }
 
-    // Opens the bench: for its script, or as the file has it; whether it has one.
-    bool open(std::string_view script, lab_bench *handle) {
-        std::string head(script);
-        head += head.empty() || head.back() != '\n' ? "\nsteps\n" : "steps\n";
+    // Opens the bench: for its script, or as the file has it; whether it has one, and then what came to it.
+    std::optional<came_by> open(std::string_view script, lab_bench *handle) {
+        const std::string head = head_of(script);
+        std::optional<came_by> came;
         struct stat found_size {};
         if (fstat(file_, &found_size)) throw journal_error(path_, std::strerror(errno));
         const std::string found = text(static_cast<std::size_t>(found_size.st_size));
@@ -295,6 +414,7 @@ class journal {
         const bool is_there = same == head.size();
         if (is_there) {
             stands_.length = given_ = resume(found, handle);
+            came = came_of(found.substr(head.size(), given_ - head.size()));
             steps_ = steps(found.substr(head.size(), given_ - head.size()));
             take(handle);
         } else {
@@ -307,19 +427,52 @@ class journal {
             throw journal_error(path_, "a write failed: " + std::string(std::strerror(errno)));
         stands_.length += added_.size();
         added_.clear();
-        return is_there;
+        return came;
+    }
+
+    // The journal's page is over, and all of it is written: its file gets a name with a number, one more than the last, and the next page begins one
+    // of the old name. What the file is called now. If that fails, all is as before.
+    std::string turn(std::string_view script, lab_bench *handle) {
+        const std::string kept = path_ + "." + std::to_string(last_page() + 1), head = head_of(script);
+        if (std::rename(path_.c_str(), kept.c_str())) throw journal_error(path_, std::strerror(errno));
+        int file = -1;
+        try {
+            file = begin_page(head);
+            lab_told told{};
+            if (const std::uint32_t status = lab_bench_open_kept(bytes(script), script.size(), handle, &told)) fail(status, told);
+        } catch (...) {
+            forget(file);
+            if (std::rename(kept.c_str(), path_.c_str())) throw journal_error(path_, kept + " can't be named so again: " + std::strerror(errno));
+            throw;
+        }
+        std::lock_guard<std::mutex> guard(lock_);
+        ends_.push_back(stands_.length);
+        stands_ = {stands_.failures + 1, head.size()};
+        given_ = head.size();
+        steps_ = 0;
+        is_torn_ = false;
+        forget(std::exchange(file_, file));
+        return kept;
+    }
+
+    // How many steps, and how many bytes, it may still get.
+    std::pair<std::size_t, std::size_t> left() {
+        std::lock_guard<std::mutex> guard(lock_);
+        return {1000000 - steps_ - steps(added_), 16777216 - given_};
     }
 
     // with the bench's mutex held
 
     // What the last call did is added.
     void take(lab_bench *handle) {
-        std::size_t written = 0;
-        std::uint32_t status;
-        while ((status = lab_journal(handle, room_.data(), room_.size(), &written)) == LAB_NO_ROOM) room_.resize(2 * written);
-        if (status == LAB_NO_MEMORY) throw std::bad_alloc();
-        if (status) throw journal_error(path_, "lab_journal: status " + std::to_string(status));
-        if (written) add(stamp() + std::string(room_.begin(), room_.begin() + static_cast<std::ptrdiff_t>(written)));
+        const std::string text = told_by([&](auto... room) { return lab_journal(handle, room...); });
+        if (!text.empty()) add(stamp() + text);
+    }
+
+    // A session that was added to a job is added, and before it whether it is one of `hold` or of `add`.
+    void more(lab_bench *handle, std::uint32_t job, std::uint32_t number, const std::string &name, bool by_hold) {
+        const std::string text = told_by([&](auto... room) { return lab_more(handle, job, number, room...); });
+        add(stamp() + (by_hold ? "# hold " : "# add ") + name + " " + std::to_string(number) + "\n" + text);
     }
 
     // A comment of one line.
@@ -388,12 +541,7 @@ class journal {
         return given_ == stands_.length && !is_writing_;
     }
 
-    void close() {
-        if (file_ < 0) return;
-        for (std::atomic<int> &it : files)
-            if (int mine = file_ + 1; it.compare_exchange_strong(mine, 0)) ::close(std::exchange(file_, -1));
-        if (file_ >= 0) ::close(std::exchange(file_, -1));
-    }
+    void close() { forget(std::exchange(file_, -1)); }
 
     // (in a child of a fork, where the file is closed already)
     void leave() { file_ = -1; }
@@ -406,6 +554,98 @@ class journal {
         if (wanted.length <= (is_now ? stands_.length : ends_[wanted.failures])) return true;
         if (!is_now || is_lost_) throw journal_error(path_, "a write failed (" + why_ + "), and the bench has gone back to what the file has");
         return false;
+    }
+
+    // The file, for this process alone, which a child of a fork will close.
+    int locked() const {
+        const int file = ::open(path_.c_str(), O_RDWR | O_CREAT | O_CLOEXEC, 0666);
+        if (file < 0) throw journal_error(path_, std::strerror(errno));
+        struct stat mine {}, there {};
+        std::string why;
+        if (flock(file, LOCK_EX | LOCK_NB)) why = errno == EWOULDBLOCK ? "another process has it open" : std::strerror(errno);
+        else if (fstat(file, &mine) || ::stat(path_.c_str(), &there) || mine.st_ino != there.st_ino || mine.st_dev != there.st_dev)
+            why = "another process turned its page just now";
+        if (!why.empty()) {
+            ::close(file);
+            throw journal_error(path_, why);
+        }
+        for (std::atomic<int> &it : files)
+            if (int none = 0; it.compare_exchange_strong(none, file + 1)) break;
+        return file;
+    }
+
+    // The file is closed.
+    static void forget(int file) {
+        if (file < 0) return;
+        for (std::atomic<int> &it : files)
+            if (int mine = file + 1; it.compare_exchange_strong(mine, 0)) break;
+        ::close(file);
+    }
+
+    // The file of a new page, with the page's script in it.
+    int begin_page(const std::string &head) const {
+        const int file = locked();
+        bool is_good = !ftruncate(file, 0);
+        for (std::size_t at = 0; is_good && at < head.size();) {
+            const ssize_t wrote = pwrite(file, &head[at], head.size() - at, static_cast<off_t>(at));
+            if (wrote > 0) at += static_cast<std::size_t>(wrote);
+            else if (wrote == 0 || errno != EINTR) is_good = false;
+        }
+        if (is_good && syncs_) is_good = !fdatasync(file) && sync_folder();
+        const int why = errno;
+        if (!is_good) forget(file);
+        if (!is_good) throw journal_error(path_, "a write failed: " + std::string(std::strerror(why)));
+        return file;
+    }
+
+    std::string folder() const {
+        const std::size_t slash = path_.rfind('/');
+        return slash == std::string::npos ? "." : path_.substr(0, slash + 1);
+    }
+
+    // The largest number of the pages that are set aside.
+    std::uint64_t last_page() const {
+        const std::string name = path_.substr(path_.rfind('/') + 1) + ".";
+        std::uint64_t last = 0;
+        DIR *const all = opendir(folder().c_str());
+        if (!all) throw journal_error(path_, std::strerror(errno));
+        while (const dirent *it = readdir(all)) {
+            const std::string found = it->d_name;
+            const bool is_page = found.size() > name.size() && found.size() < name.size() + 19 && !found.compare(0, name.size(), name) &&
+                                 found.find_first_not_of("0123456789", name.size()) == std::string::npos;
+            if (is_page) last = std::max<std::uint64_t>(last, std::stoull(found.substr(name.size())));
+        }
+        closedir(all);
+        return last;
+    }
+
+    static std::string head_of(std::string_view script) {
+        return std::string(script) + (script.empty() || script.back() != '\n' ? "\nsteps\n" : "steps\n");
+    }
+
+    // What the comments of a journal say of the sessions that came; the last of a session is right.
+    static came_by came_of(const std::string &text) {
+        came_by came;
+        for (std::size_t at = 0, end; at < text.size(); at = end + 1) {
+            end = std::min(text.find('\n', at), text.size());
+            char how[6], job[17];
+            std::uint32_t number;
+            int length = 0;
+            const std::string line = text.substr(at, end - at);
+            if (std::sscanf(line.c_str(), "# %5s %16s %9" SCNu32 "%n", how, job, &number, &length) == 3 && static_cast<std::size_t>(length) == line.size())
+                if (const std::string word = how; word == "hold" || word == "add") came[{job, number}] = word == "hold";
+        }
+        return came;
+    }
+
+    // The text that a call tells, with ever more room, until it fits.
+    template <class Call> std::string told_by(Call call) {
+        std::size_t written = 0;
+        std::uint32_t status;
+        while ((status = call(room_.data(), room_.size(), &written)) == LAB_NO_ROOM) room_.resize(2 * written);
+        if (status == LAB_NO_MEMORY) throw std::bad_alloc();
+        if (status) throw journal_error(path_, "the journal's text: status " + std::to_string(status));
+        return {room_.begin(), room_.begin() + static_cast<std::ptrdiff_t>(written)};
     }
 
     std::size_t resume(const std::string &text, lab_bench *handle) {
@@ -482,9 +722,8 @@ class journal {
     }
 
     // So that the file's name is on the disk, too.
-    bool sync_folder() {
-        const std::size_t slash = path_.rfind('/');
-        const int folder = ::open(slash == std::string::npos ? "." : path_.substr(0, slash + 1).c_str(), O_RDONLY | O_CLOEXEC);
+    bool sync_folder() const {
+        const int folder = ::open(this->folder().c_str(), O_RDONLY | O_CLOEXEC);
         const bool is_good = folder >= 0 && !fsync(folder);
         if (folder >= 0) ::close(folder);
         return is_good;
@@ -524,6 +763,18 @@ struct core {
     std::uint32_t waiting = 0, left = 0; // the jobs whose threads wait, and those whose sessions were given up and can't be withdrawn
     std::uint32_t overtakes = OVERTAKES;
     std::vector<std::pair<std::string, std::uint32_t>> lapsed, taken;
+    std::vector<std::uint64_t> uses; // the instruments that each job's sessions named at the open: no other may name more
+    std::string head;                // the first line of the script, without comments
+    bool is_endless = false;         // one of create(), whose jobs go on to get sessions
+    std::uint64_t page = 0;          // which page it is; whether somebody turns it; and the sessions that are to come to the next one
+    bool is_turning = false;
+    std::vector<std::pair<std::uint32_t, kind>> later;
+    // those that wait for more than their turn: for a choice to be free, a session that somebody adds, a page to be turned
+    std::vector<chooser> choosers;
+    std::condition_variable others;
+    // with a journal, the sessions that came, by job and number: whether it is one of `hold`; and those that aren't told to the journal yet
+    std::map<std::pair<std::uint32_t, std::uint32_t>, bool> by_hold;
+    std::deque<std::pair<std::uint32_t, std::uint32_t>> owed;
 
     core() = default;
     core(const core &) = delete;
@@ -547,9 +798,11 @@ struct core {
         return found;
     }
 
-    // What the last call did goes to the journal.
+    // What the last call did goes to the journal, and sessions that came before that.
     void told() {
-        if (log) log->take(&handle);
+        if (!log) return;
+        for (; !owed.empty(); owed.pop_front()) log->more(&handle, owed[0].first, owed[0].second, jobs[owed[0].first], by_hold[owed[0]]);
+        log->take(&handle);
     }
 
     // With the mutex held: of all that was done. Without it: returns once that is written.
@@ -560,11 +813,13 @@ struct core {
 
     // The bench is one that a journal had: who holds, and who waits, does still.
     void comes_back() {
+        owed.clear();
         for (std::uint32_t job = 0; job < seats.size(); job++) {
             const struct lab_state found = state(job);
             const bool holds = found.drinking == 2 || found.drinking == 3;
             seat &it = seats[job];
             it.leaves();
+            it.sessions.resize(found.sessions);
             it.last = found.session;
             it.in = holds || found.drinking == 1 ? found.session : 0;
             it.held = holds ? found.session : 0;
@@ -583,6 +838,7 @@ struct core {
         } catch (const std::exception &) {
             is_closed = true;
             for (seat &it : seats) it.woken.notify_all();
+            others.notify_all();
             return false;
         }
         comes_back();
@@ -595,7 +851,13 @@ struct core {
             it.woken.notify_one();
         }
         waiting = 0;
-        return true;
+        try {
+            give_up_unheld();
+        } catch (const std::exception &) {
+            is_closed = true;
+        }
+        others.notify_all();
+        return !is_closed;
     }
 
     // Whether the session that the job is in stood there; it doesn't any more.
@@ -632,6 +894,7 @@ struct core {
     void holds(std::uint32_t job) {
         if (seats[job].since) return;
         seats[job].since = seat::clock::now();
+        for (chooser &it : choosers) it.passed_by(seats[job].needs());
         if (seats[job].limit) rouse();
     }
 
@@ -725,15 +988,73 @@ struct core {
             each(came.holds, [this](std::uint32_t job) { holds(job); });
             if (wait_outside()) continue;
             const std::uint32_t letting_go = waiting ? came.holds & left : 0;
-            if (!letting_go) return;
-            each(letting_go, [this](std::uint32_t job) {
-                lab_turned turned{};
-                lab_end(&handle, job, &turned);
-                told();
-                left &= ~bit(job);
-                lapsed.emplace_back(jobs[job], seats[job].leaves());
-            });
+            if (!letting_go) break;
+            each(letting_go, [this](std::uint32_t job) { lapse(job); });
         }
+        others.notify_all();
+    }
+
+    // A session that was left and holds is over.
+    void lapse(std::uint32_t job) {
+        lab_turned turned{};
+        lab_end(&handle, job, &turned);
+        told();
+        left &= ~bit(job);
+        lapsed.emplace_back(jobs[job], seats[job].leaves());
+    }
+
+    // Sleeps until the session of a job has come to something, or one of these times has.
+    void sleep(std::unique_lock<std::mutex> &guard, std::uint32_t job, std::optional<seat::clock::time_point> until,
+               std::optional<seat::clock::time_point> gives_up) {
+        using clock = seat::clock;
+        seat &me = seats[job];
+        // (a patience runs out by the calls of `lab_settle`, so one of those that wait makes one now and then)
+        const bool ticks = me.is_patient();
+        clock::time_point looked = clock::now();
+        while (me.how == asked::waits && !is_closed) {
+            // (what nobody waits for is not taken away: it is looked at again later)
+            std::optional<clock::time_point> wakes = limit_ends();
+            if (wakes) wakes = std::max(*wakes, looked);
+            wakes = earlier(earlier(wakes, until), gives_up);
+            if (ticks) wakes = earlier(wakes, clock::now() + TICK);
+            if (!wakes) {
+                me.woken.wait(guard);
+                continue;
+            }
+            if (me.woken.wait_until(guard, *wakes) == std::cv_status::no_timeout || is_closed) continue;
+            look(job, ticks, until, gives_up);
+            looked = clock::now() + TICK;
+        }
+    }
+
+    // What one that waits does at such a time.
+    void look(std::uint32_t job, bool ticks, std::optional<seat::clock::time_point> until, std::optional<seat::clock::time_point> gives_up) {
+        const seat::clock::time_point now = seat::clock::now();
+        take_overdue();
+        if (ticks && now - ticked >= TICK / 2) {
+            ticked = now;
+            settle();
+        }
+        if (seats[job].how != asked::waits) return;
+        const bool is_over = gives_up && now >= *gives_up;
+        if (!is_over && !(until && now >= *until)) return;
+        std::vector<keeper> keepers = this->keepers(job);
+        waiting &= ~bit(job);
+        if (is_over) {
+            const bool gone = give_up(job);
+            settle();
+            if (gone) return;
+        }
+        throw timed_out(std::move(keepers));
+    }
+
+    // The session that comes next, or the one that the job is in; 0 if none is left. What its owner doesn't know yet is told first.
+    std::uint32_t next_of(std::uint32_t job) {
+        seat &me = seats[job];
+        if (me.fault) std::rethrow_exception(std::exchange(me.fault, nullptr));
+        if (std::exchange(me.taken, 0)) throw taken_away();
+        const std::uint32_t number = me.in ? me.in : me.last + 1;
+        return number > me.sessions.size() ? 0 : number;
     }
 
     // What keeps an instrument from a job.
@@ -777,6 +1098,389 @@ struct core {
                     keeper{instruments[at], jobs[lowest(others)], false, {}, std::nullopt, behind(lowest(others), seen)});
         return nullptr;
     }
+
+    // ---- sessions that come
+
+    static constexpr std::size_t MOST_SESSIONS = 1000, MOST_COMMANDS = 100000;
+    static constexpr std::uint32_t FOREVER = 999999, LARGEST = 999999; // a patience that nobody counts to, and the largest number of a command
+    static constexpr std::chrono::milliseconds TICK{100};
+
+    std::vector<std::string> names(std::uint64_t set) const {
+        std::vector<std::string> found;
+        for (std::size_t at = 0; at < instruments.size(); at++)
+            if (set >> at & 1) found.push_back(instruments[at]);
+        return found;
+    }
+
+    // The session of these commands, and a read of each of these instruments that they don't name.
+    kind kind_of(std::uint32_t job, const std::vector<std::string> &asked, std::vector<command> commands) const {
+        for (const std::string &name : asked)
+            if (std::none_of(commands.begin(), commands.end(), [&](const command &it) { return it.instrument == name; }))
+                commands.push_back(command::read(name));
+        if (commands.empty()) throw invalid("a session needs an instrument");
+        kind it{"session patience " + std::to_string(FOREVER) + "\n", 0};
+        for (const command &each : commands) {
+            const std::size_t at = static_cast<std::size_t>(std::find(instruments.begin(), instruments.end(), each.instrument) - instruments.begin());
+            if (at == instruments.size() || !(uses[job] >> at & 1)) throw may_not_use(jobs[job], each.instrument, names(uses[job]));
+            if (each.number.value_or(0) > LARGEST) throw invalid("no command: " + each.line() + "(a number is " + std::to_string(LARGEST) + " at most)");
+            it.needs |= std::uint64_t(1) << at;
+            it.text += each.line();
+        }
+        it.text += "end\n";
+        return it;
+    }
+
+    bool does_hold(std::uint32_t job) {
+        const std::uint32_t drinking = state(job).drinking;
+        return drinking == 2 || drinking == 3;
+    }
+
+    // Whether a job holds for nobody, because its session was given up.
+    bool is_left(std::uint32_t job) { return left & bit(job) && does_hold(job); }
+
+    // Whether its instruments aren't free: it is in line, or holds. (One that was left and holds lets go as soon as somebody waits.)
+    bool is_in_use(std::uint32_t job) { return seats[job].in && !is_outside(job) && !is_left(job); }
+
+    // A job has no session to begin, and is in none, but for one that was left and is over now; else this says why another can't come.
+    void comes_next(std::uint32_t job) {
+        next_of(job);
+        const seat &me = seats[job];
+        if (me.in && is_left(job)) {
+            lapse(job);
+            settle();
+        }
+        if (me.in)
+            throw not_now(jobs[job] + " is in a session, its " + std::to_string(me.in) + ", and is in one at a time: threads that hold at once need a job each");
+        if (me.has_more())
+            throw not_now(jobs[job] + " has sessions left to begin, from " + std::to_string(me.last + 1) + " to " + std::to_string(me.sessions.size()) +
+                          ": they come first");
+    }
+
+    // Sleeps until something has changed for those that wait for more than their turn, or that time has come.
+    void doze(std::unique_lock<std::mutex> &guard, std::optional<seat::clock::time_point> until) {
+        if (until) others.wait_until(guard, *until);
+        else others.wait(guard);
+        if (is_closed) throw closed();
+    }
+
+    // Sleeps until it is known which of these it is to be: the first that is free; else the one at which it was passed by as often as may be.
+    std::size_t chosen(std::unique_lock<std::mutex> &guard, std::uint32_t job, const std::vector<kind> &kinds,
+                       std::optional<seat::clock::time_point> until, std::optional<seat::clock::time_point> gives_up) {
+        const auto is_mine = [job](const chooser &it) { return it.job == job; };
+        if (std::any_of(choosers.begin(), choosers.end(), is_mine)) throw not_now("another thread waits for a session of " + jobs[job]);
+        chooser &me = choosers.emplace_back(chooser{job, {}, std::vector<std::uint32_t>(kinds.size())});
+        for (const kind &it : kinds) me.needs.push_back(it.needs);
+        // (it leaves also by an exception)
+        const auto leaves = [&](void *) { choosers.erase(std::find_if(choosers.begin(), choosers.end(), is_mine)); };
+        const std::unique_ptr<void, decltype(leaves)> at_the_end(this, leaves);
+        for (;;) {
+            comes_next(job);
+            if (const std::optional<std::size_t> at = choice(job)) return *at;
+            const seat::clock::time_point now = seat::clock::now();
+            if (gives_up && now >= *gives_up) throw withdrawn();
+            if (until && now >= *until) throw timed_out(chooser_keepers(job));
+            doze(guard, earlier(until, gives_up));
+        }
+    }
+
+    const chooser *chooser_of(std::uint32_t job) const {
+        for (const chooser &it : choosers)
+            if (it.job == job) return &it;
+        return nullptr;
+    }
+
+    std::optional<std::size_t> choice(std::uint32_t job) {
+        const chooser &me = *chooser_of(job);
+        if (is_turning) return std::nullopt;
+        if (me.needs.size() == 1) return 0;
+        std::uint64_t used = 0;
+        for (std::uint32_t other = 0; other < seats.size(); other++)
+            if (is_in_use(other)) used |= seats[other].needs();
+        for (std::size_t at = 0; at < me.needs.size(); at++)
+            if (!(me.needs[at] & used)) return at;
+        const auto most = std::max_element(me.passed.begin(), me.passed.end());
+        return *most >= overtakes ? std::optional<std::size_t>(most - me.passed.begin()) : std::nullopt;
+    }
+
+    // Who keeps the choices of a job that waits for one of several from it.
+    std::vector<keeper> chooser_keepers(std::uint32_t job) {
+        std::vector<keeper> found;
+        const chooser *me = chooser_of(job);
+        if (!me || is_turning) return found;
+        std::uint64_t mine = 0;
+        for (const std::uint64_t it : me->needs) mine |= it;
+        for (std::uint32_t at = 0; at < instruments.size(); at++) {
+            if (!(mine >> at & 1)) continue;
+            std::uint32_t users = 0, holders = 0;
+            for (std::uint32_t other = 0; other < seats.size(); other++) {
+                if (!(seats[other].needs() >> at & 1) || !is_in_use(other)) continue;
+                users |= bit(other);
+                if (does_hold(other)) holders |= bit(other);
+            }
+            each(holders ? holders : users, [&](std::uint32_t other) {
+                found.push_back(holders ? holder(at, other) : keeper{instruments[at], jobs[other], false, {}, std::nullopt, behind(other, bit(job))});
+            });
+        }
+        return found;
+    }
+
+    // Adds a session behind the job's others; its number.
+    std::uint32_t append(std::uint32_t job, const kind &it, bool is_hold) {
+        if (seats[job].is_over) throw retired(jobs[job]);
+        if (head == "lab 1")
+            throw not_now("a session that comes has a patience, which a script of version 1 doesn't know: begin it with `lab 2`");
+        lab_told told{};
+        std::uint32_t status = lab_add(&handle, job, bytes(it.text), it.text.size(), &told);
+        if (status == LAB_JOURNAL_FULL) {
+            this->told();
+            status = lab_add(&handle, job, bytes(it.text), it.text.size(), &told);
+        }
+        if (status == LAB_RETIRED) throw retired(jobs[job]);
+        if (status == LAB_REFUSED && told.cause == 10) throw full(jobs[job]);
+        if (status) fail(status, told);
+        const std::uint32_t number = static_cast<std::uint32_t>(seats[job].sessions.size()) + 1;
+        lab_session_of(&handle, job, number, &seats[job].sessions.emplace_back());
+        if (log) {
+            by_hold[{job, number}] = is_hold;
+            owed.push_back({job, number});
+        }
+        this->told();
+        return number;
+    }
+
+    // A session of `hold` that didn't come to hold is over. Whether it holds after all, where a write failed and the file has that.
+    bool pass(std::uint32_t job, std::uint32_t number) {
+        if (is_closed || seats[job].in != number) return false;
+        if (does_hold(job)) {
+            seats[job].held = 0;
+            return true;
+        }
+        give_up(job);
+        settle();
+        return false;
+    }
+
+    // Gives up a session that is the next to begin: single turns begin it, and don't let it hold.
+    void skip(std::uint32_t job) {
+        const std::uint32_t number = seats[job].last + 1;
+        // (one turn, but for a meal that ends first)
+        while (state(job).session < number) {
+            lab_turned turned{};
+            lab_turn(&handle, job, &turned);
+            told();
+        }
+        lab_withdraw(&handle, job);
+        seats[job].last = number;
+        told();
+        settle();
+    }
+
+    bool is_by_hold(std::uint32_t job, std::uint32_t number) const {
+        const auto at = by_hold.find({job, number});
+        return at != by_hold.end() && at->second;
+    }
+
+    // The bench has come back as its journal has it, and these sessions came to it.
+    void resume(const journal::came_by &came) {
+        for (std::uint32_t job = 0; job < jobs.size(); job++)
+            for (auto it = came.lower_bound({jobs[job], 0}); it != came.end() && it->first.first == jobs[job]; ++it)
+                by_hold[{job, it->first.second}] = it->second;
+        give_up_unheld();
+    }
+
+    // After that, or after a write that failed, sessions of `hold` that don't hold are over: nobody was told of them, and nobody comes for them.
+    void give_up_unheld() {
+        for (std::uint32_t job = 0; job < seats.size(); job++) {
+            const struct lab_state found = state(job);
+            if (found.drinking != 1 || !is_by_hold(job, found.session)) continue;
+            lab_withdraw(&handle, job);
+            seats[job].leaves();
+            told();
+        }
+        // (only now: by a settle those that wait may come to hold)
+        for (std::uint32_t job = 0; job < seats.size(); job++)
+            while (!seats[job].in && seats[job].has_more() && is_by_hold(job, seats[job].last + 1)) skip(job);
+    }
+
+    std::vector<lab_session> sessions_of(std::uint32_t job) {
+        std::vector<lab_session> all(state(job).sessions);
+        for (std::uint32_t number = 1; number <= all.size(); number++) lab_session_of(&handle, job, number, &all[number - 1]);
+        return all;
+    }
+
+    // A job that has no session left retires, unless it is in a meal still. Whether it did.
+    bool retire(std::uint32_t job) {
+        lab_turned turned{};
+        if (seats[job].has_more() || state(job).drinking == 4) return false;
+        const bool did = lab_retire(&handle, job, 1, &turned) == LAB_DONE;
+        told();
+        return did;
+    }
+
+    // ---- pages
+
+    // The script of a bench whose jobs may use these. (An instrument is read by the job that names it first before all that come later: so they
+    // have the numbers that they had.)
+    static std::vector<std::string> lines(const labrun::jobs &bay) {
+        std::vector<std::string> all{"lab 2"};
+        for (const auto &[job, uses] : bay) {
+            all.push_back("job " + job);
+            if (uses.empty()) continue;
+            all.push_back("session patience 0");
+            for (auto it = uses.begin(); it != uses.end(); ++it)
+                if (std::find(uses.begin(), it, *it) == it) all.push_back(*it + " read");
+            all.push_back("end");
+        }
+        return all;
+    }
+    static std::string text_of(const labrun::jobs &bay) {
+        std::string text;
+        for (const std::string &line : lines(bay)) text += line + "\n";
+        return text;
+    }
+
+    // The first line of a script that is neither empty nor a comment, its words with one space between.
+    static std::string first_line(std::string_view script) {
+        std::string text(script), words;
+        for (std::size_t at = 0; at < text.size() && words.empty(); at = text.find('\n', at) == std::string::npos ? text.size() : text.find('\n', at) + 1) {
+            const std::string line = text.substr(at, text.find_first_of("\r\n", at) - at);
+            for (std::size_t from = line.find_first_not_of(" \t"); from < line.size() && line[line.find_first_not_of(" \t")] != '#';) {
+                const std::size_t to = std::min(line.find_first_of(" \t", from), line.size());
+                words += (words.empty() ? "" : " ") + line.substr(from, to - from);
+                from = line.find_first_not_of(" \t", to);
+            }
+        }
+        return words;
+    }
+
+    // The script that the bench has become.
+    std::string script() {
+        std::string text = head + "\n";
+        for (std::uint32_t job = 0; job < seats.size(); job++) {
+            text += "job " + jobs[job] + "\n";
+            for (std::uint32_t number = 1; number <= seats[job].sessions.size(); number++) {
+                const lab_session &what = seats[job].sessions[number - 1];
+                text += what.has_patience ? "session patience " + std::to_string(what.patience) + "\n" : "session\n";
+                for (std::uint32_t place = 0; place < what.commands; place++) {
+                    struct lab_planned it {};
+                    ::lab_planned(&handle, job, number, place, &it);
+                    static const char *const verbs[] = {"set", "add", "read"};
+                    text += command{instruments[it.instrument], verbs[it.verb], it.verb == 2 ? std::nullopt : std::optional(it.number)}.line();
+                }
+                text += "end\n";
+            }
+        }
+        return text;
+    }
+
+    // The first session of each job is begun by one turn, and given up, unless that was done before.
+    void give_up_first() {
+        for (std::uint32_t job = 0; job < seats.size(); job++) {
+            lab_turned turned{};
+            if (state(job).session == 0 && !seats[job].sessions.empty()) lab_turn(&handle, job, &turned);
+            told();
+            const struct lab_state found = state(job);
+            if (found.session == 1 && found.drinking == 1) {
+                lab_withdraw(&handle, job);
+                told();
+                seats[job].leaves();
+            }
+            seats[job].last = found.session;
+        }
+    }
+
+    // The jobs that are in a session or have one left, but for those whose session was left and holds.
+    std::uint32_t busy() {
+        std::uint32_t found = 0;
+        for (std::uint32_t job = 0; job < seats.size(); job++)
+            if (seats[job].has_more() && !is_left(job)) found |= bit(job);
+        return found;
+    }
+
+    // What a job is at, in words.
+    std::string is_at(std::uint32_t job) {
+        if (!seats[job].in) return "has sessions left to begin";
+        std::string all;
+        if (does_hold(job)) {
+            for (const std::string &name : names(seats[job].needs())) all += (all.empty() ? "holds " : ", ") + name;
+            return all + holder(0, job).for_long();
+        }
+        for (const keeper &it : keepers(job)) all += (all.empty() ? "waits: " : ", ") + it.text();
+        return all;
+    }
+
+    // Sleeps until nobody is in a session or has one left.
+    void is_quiet(std::unique_lock<std::mutex> &guard, std::optional<seat::clock::time_point> until) {
+        while (const std::uint32_t those = busy()) {
+            if (until && seat::clock::now() >= *until) {
+                std::vector<std::pair<std::string, std::string>> at;
+                each(those, [&](std::uint32_t job) { at.emplace_back(jobs[job], is_at(job)); });
+                throw not_back(std::move(at));
+            }
+            doze(guard, until);
+        }
+        each(left, [this](std::uint32_t job) { lapse(job); });
+    }
+
+    // (One may be in a meal, which lasts until another has left its own.)
+    void retire_all() {
+        for (bool is_any = true; is_any;) {
+            is_any = false;
+            for (std::uint32_t job = 0; job < seats.size(); job++) is_any = retire(job) || is_any;
+        }
+    }
+
+    // The new page, and where the old one's journal is.
+    std::optional<std::string> open_page(const std::string &script, lab_bench *opened) {
+        if (log) return log->turn(script, opened);
+        lab_told told{};
+        if (const std::uint32_t status = lab_bench_open(bytes(script), script.size(), opened, &told)) fail(status, told);
+        return std::nullopt;
+    }
+
+    // Turns the page of a bench that is quiet, and whose journal is written.
+    labrun::page turned() {
+        labrun::jobs bay;
+        for (std::uint32_t job = 0; job < seats.size(); job++) bay.emplace_back(jobs[job], names(uses[job]));
+        labrun::page page{{}, script(), std::nullopt};
+        lab_bench opened{};
+        page.journal = open_page(text_of(bay), &opened);
+        std::exception_ptr fault;
+        try {
+            page.report = told_text([this](auto... given) { return lab_bench_close(&handle, given...); });
+        } catch (...) {
+            // (the old page stays, with its jobs retired, and may be turned once there is memory; or its journal has the report)
+            fault = std::current_exception();
+        }
+        if (!fault || page.journal) std::swap(handle, opened);
+        lab_bench_free(&opened);
+        if (!fault || page.journal) begins_anew();
+        if (fault) std::rethrow_exception(fault);
+        page.report.lapsed = std::exchange(lapsed, {});
+        page.report.taken = std::exchange(taken, {});
+        return page;
+    }
+
+    // The new page is open, and nothing has come to it yet.
+    void begins_anew() {
+        waiting = left = 0;
+        by_hold.clear();
+        page++;
+        head = "lab 2";
+        for (std::uint32_t job = 0; job < seats.size(); job++) seats[job].begins_anew(sessions_of(job));
+        comes_back();
+        give_up_first();
+        for (std::uint32_t job = 0; job < seats.size(); job++)
+            if (seats[job].is_over) retire(job);
+    }
+
+    // Nobody turns the page any more: what waited for that may come.
+    void turns_no_more() {
+        is_turning = false;
+        if (!is_closed)
+            for (const auto &[job, it] : std::exchange(later, {})) append(job, it, false);
+        others.notify_all();
+    }
 };
 
 } // namespace detail
@@ -789,7 +1493,7 @@ class session {
   public:
     session(session &&other) noexcept
         : core_(std::exchange(other.core_, nullptr)), job_(other.job_), number_(other.number_), needs_(other.needs_), done_(other.done_),
-          resumed_(other.resumed_), is_gone_(other.is_gone_) {}
+          resumed_(other.resumed_), page_(other.page_), is_gone_(other.is_gone_) {}
     session &operator=(session &&) = delete;
     ~session() {
         detail::core *core = core_;
@@ -812,7 +1516,7 @@ class session {
     bool is_held() const {
         if (!core_ || is_gone_ || !core_->is_here()) return false;
         std::lock_guard<std::mutex> guard(core_->mutex);
-        return !core_->is_closed && core_->seats[job_].in == number_;
+        return !core_->is_closed && core_->page == page_ && core_->seats[job_].in == number_;
     }
 
     // The names of the instruments that it holds.
@@ -829,7 +1533,7 @@ class session {
         core_->belongs_here();
         std::unique_lock<std::mutex> guard(core_->mutex);
         if (core_->is_closed) throw closed();
-        core_->seats[job_].is_held_yet(number_, is_gone_);
+        is_held_yet();
         lab_entry entry{};
         if (core_->seats[job_].in != number_) return std::nullopt;
         if (lab_command(&core_->handle, job_, &entry)) return std::nullopt;
@@ -847,7 +1551,7 @@ class session {
         core_->belongs_here();
         std::unique_lock<std::mutex> guard(core_->mutex);
         if (core_->is_closed) throw closed();
-        core_->seats[job_].is_held_yet(number_, is_gone_);
+        is_held_yet();
         if (!core_->log) throw error("the bench has no journal");
         core_->log->note(core_->jobs[job_], number_, said);
         const detail::journal::ticket ticket = core_->ticket();
@@ -860,8 +1564,8 @@ class session {
         if (!core_ || !core_->is_here()) return;
         std::unique_lock<std::mutex> guard(core_->mutex);
         if (core_->is_closed) return;
-        core_->seats[job_].is_held_yet(number_, is_gone_);
-        // (it may be over, and another one begun, if the desk was told that it was taken away)
+        is_held_yet();
+        // (it may be over, and another one begun, if the job was told that it was taken away)
         if (core_->seats[job_].in != number_) {
             core_ = nullptr;
             return;
@@ -870,8 +1574,10 @@ class session {
         lab_end(&core_->handle, job_, &turned);
         core_->told();
         core_->seats[job_].leaves();
-        if (core_->waiting) core_->settle();
+        // (before the settle: that it let go may be in the file already, and what others come to by it not yet)
         const detail::journal::ticket ticket = core_->ticket();
+        if (core_->waiting) core_->settle();
+        else core_->others.notify_all();
         guard.unlock();
         core_->commit(ticket);
         core_ = nullptr;
@@ -879,13 +1585,65 @@ class session {
 
   private:
     friend class desk;
+    friend class job;
     session(detail::core *core, std::uint32_t job, std::uint32_t number, std::uint64_t needs, std::uint32_t done, bool resumed)
-        : core_(core), job_(job), number_(number), needs_(needs), done_(done), resumed_(resumed) {}
+        : core_(core), job_(job), number_(number), needs_(needs), done_(done), resumed_(resumed), page_(core->page) {}
+
+    // Asks for this session, which is the next one or the one that the job is in, and sleeps until it holds. One that `passes` is given up when its
+    // time is over.
+    static session ask(detail::core *core, std::unique_lock<std::mutex> &guard, std::uint32_t job, std::uint32_t number, const detail::times &times,
+                       bool passes) {
+        detail::seat &me = core->seats[job];
+        const lab_session what = me.sessions[number - 1];
+        const std::uint32_t bit = detail::core::bit(job);
+        me.in = me.last = number;
+        me.how = detail::asked::waits;
+        me.limit = times.limit;
+        if (times.patience && !me.asked_at) me.asked_at = detail::seat::clock::now();
+        if (me.limit && me.since) core->rouse();
+        core->left &= ~bit;
+        core->waiting |= bit;
+        core->settle();
+        try {
+            core->sleep(guard, job, times.until, detail::seat::later(me.asked_at.value_or(detail::seat::clock::time_point()), times.patience));
+        } catch (const timed_out &) {
+            if (passes) core->pass(job, number);
+            throw;
+        }
+        core->waiting &= ~bit;
+        if (me.how == detail::asked::withdrawn) throw withdrawn();
+        if (me.how == detail::asked::failed && !(passes && core->pass(job, number)))
+            throw journal_error(core->log->path(), "a write failed while it waited");
+        if (me.how == detail::asked::waits) throw closed();
+        const bool is_resumed = !passes && me.held == number;
+        session begun(core, job, number, what.needs, is_resumed ? me.done : 0, is_resumed);
+        const detail::journal::ticket ticket = core->ticket();
+        guard.unlock();
+        try {
+            core->commit(ticket);
+        } catch (...) {
+            guard.lock();
+            // (what others added behind it may be what couldn't be written)
+            if (passes && core->pass(job, number)) return begun;
+            begun.core_ = nullptr;
+            throw;
+        }
+        return begun;
+    }
+
+    // Whether it holds still, for a call of its owner, who is told once that it was taken away. (A page is only turned when no other is held.)
+    void is_held_yet() {
+        is_gone_ = is_gone_ || core_->page != page_;
+        if (is_gone_) throw taken_away();
+        core_->seats[job_].is_held_yet(number_, is_gone_);
+    }
+
     detail::core *core_;
     std::uint32_t job_, number_;
     std::uint64_t needs_;
     std::uint32_t done_;
     bool resumed_;
+    std::uint64_t page_; // the page that it is of
     bool is_gone_ = false; // it was taken away, and its owner knows
 };
 
@@ -906,40 +1664,13 @@ class desk {
     // Begins the next session, and blocks until it holds all its instruments; nothing if no session is left. With a time-out, timed_out says
     // who keeps it waiting.
     std::optional<session> begin(std::optional<std::chrono::milliseconds> timeout = std::nullopt) {
-        const std::optional<time> until = detail::seat::later(clock::now(), timeout);
+        const std::optional<detail::seat::clock::time_point> until = detail::seat::later(detail::seat::clock::now(), timeout);
         core_->belongs_here();
         std::unique_lock<std::mutex> guard(core_->mutex);
         if (core_->is_closed) throw closed();
-        detail::seat &me = core_->seats[job_];
-        if (me.fault) std::rethrow_exception(std::exchange(me.fault, nullptr));
-        if (std::exchange(me.taken, 0)) throw taken_away();
-        const std::uint32_t number = me.in ? me.in : me.last + 1, bit = detail::core::bit(job_);
-        if (number > me.sessions.size()) return std::nullopt;
-        const lab_session what = me.sessions[number - 1];
-        me.in = me.last = number;
-        me.how = detail::asked::waits;
-        me.limit = limit_;
-        if (patience_ && !me.asked_at) me.asked_at = clock::now();
-        if (me.limit && me.since) core_->rouse();
-        core_->left &= ~bit;
-        core_->waiting |= bit;
-        core_->settle();
-        sleep(guard, me, until, detail::seat::later(me.asked_at.value_or(time()), patience_));
-        core_->waiting &= ~bit;
-        if (me.how == detail::asked::withdrawn) throw withdrawn();
-        if (me.how == detail::asked::failed) throw journal_error(core_->log->path(), "a write failed while it waited");
-        if (me.how != detail::asked::holds) throw closed();
-        const bool is_resumed = me.held == number;
-        session begun(core_, job_, number, what.needs, is_resumed ? me.done : 0, is_resumed);
-        const detail::journal::ticket ticket = core_->ticket();
-        guard.unlock();
-        try {
-            core_->commit(ticket);
-        } catch (...) {
-            begun.core_ = nullptr;
-            throw;
-        }
-        return begun;
+        const std::uint32_t number = core_->next_of(job_);
+        if (!number) return std::nullopt;
+        return session::ask(core_, guard, job_, number, {until, patience_, limit_}, false);
     }
 
     // Gives up the session that timed out; whether it was withdrawn, as it is if it has a patience: then it logs nothing. A session without
@@ -958,55 +1689,139 @@ class desk {
     }
 
   private:
-    using clock = detail::seat::clock;
-    using time = clock::time_point;
-    static constexpr std::chrono::milliseconds TICK{100};
+    detail::core *core_;
+    std::uint32_t job_;
+    span limit_, patience_;
+};
 
-    // Sleeps until the session has come to something, or one of these times has.
-    void sleep(std::unique_lock<std::mutex> &guard, detail::seat &me, std::optional<time> until, std::optional<time> gives_up) {
-        // (a patience runs out by the calls of `lab_settle`, so one of those that wait makes one now and then)
-        const bool ticks = me.is_patient();
-        time looked = clock::now();
-        while (me.how == detail::asked::waits && !core_->is_closed) {
-            // (what nobody waits for is not taken away: it is looked at again later)
-            std::optional<time> wakes = core_->limit_ends();
-            if (wakes) wakes = std::max(*wakes, looked);
-            wakes = detail::core::earlier(detail::core::earlier(wakes, until), gives_up);
-            if (ticks) wakes = detail::core::earlier(wakes, clock::now() + TICK);
-            if (!wakes) {
-                me.woken.wait(guard);
-                continue;
-            }
-            if (me.woken.wait_until(guard, *wakes) == std::cv_status::no_timeout || core_->is_closed) continue;
-            look(me, ticks, until, gives_up);
-            looked = clock::now() + TICK;
+// How a session of job::hold is asked for: `asking().timeout(2s).limit(30s)`.
+class asking {
+  public:
+    using span = std::chrono::nanoseconds;
+
+    // The commands of the session, in their order; instruments that these don't name are read behind them.
+    asking &commands(std::vector<command> those) {
+        commands_ = std::move(those);
+        return *this;
+    }
+    // After so long timed_out says who keeps it waiting. It is given up then, and logs nothing.
+    asking &timeout(span most) {
+        timeout_ = most;
+        return *this;
+    }
+    // After so long it is given up: withdrawn is thrown, and it logs nothing.
+    asking &patience(span most) {
+        patience_ = most;
+        return *this;
+    }
+    // For how long it may hold: after that it is taken away once somebody waits for it, as by bench::take_away.
+    asking &limit(span most) {
+        limit_ = most;
+        return *this;
+    }
+
+  private:
+    friend class job;
+    std::vector<command> commands_;
+    std::optional<span> timeout_, patience_, limit_;
+};
+
+// A job of a bench, for sessions that come: see bench::job. Any thread may use it, and copies of it.
+class job {
+  public:
+    job(detail::core *core, std::uint32_t number) : core_(core), job_(number) {}
+
+    const std::string &name() const { return core_->jobs[job_]; }
+
+    // The instruments that it may use: those of its sessions when the bench was opened.
+    std::vector<std::string> instruments() const { return core_->names(core_->uses[job_]); }
+
+    // A session that comes now, of instruments that the job may use, with one read of each: it is added behind the job's others, and this blocks
+    // until it holds them. A job is in one session at a time: threads that hold at once need a job each.
+    session hold(const std::vector<std::string> &instruments, const asking &how = asking()) const { return any_of({instruments}, how); }
+
+    // The first of these that is free; its instruments() say which. If none is, it waits until one is, and asks for none of them yet. Once so many
+    // sessions as `overtakes` says have come to hold instruments of one of them meanwhile, it asks for that one alone.
+    session any_of(const std::vector<std::vector<std::string>> &choices, const asking &how = asking()) const {
+        using clock = detail::seat::clock;
+        if (choices.empty()) throw invalid("there is nothing to choose from");
+        if (choices.size() > 1 && !how.commands_.empty()) throw invalid("one of several says its instruments, and no commands stand beside it");
+        std::vector<detail::kind> kinds;
+        for (const std::vector<std::string> &it : choices) kinds.push_back(core_->kind_of(job_, it, how.commands_));
+        const clock::time_point begun = clock::now();
+        const std::optional<clock::time_point> until = detail::seat::later(begun, how.timeout_);
+        std::unique_lock<std::mutex> guard = open();
+        const std::size_t which = core_->chosen(guard, job_, kinds, until, detail::seat::later(begun, how.patience_));
+        const std::uint32_t number = core_->append(job_, kinds[which], true);
+        if (how.patience_) core_->seats[job_].asked_at = begun;
+        return session::ask(core_, guard, job_, number, {until, how.patience_, how.limit_}, true);
+    }
+
+    // Adds a session behind the job's others: whoever takes the job's sessions (begin(), or that of its desk) comes to it. While a page is turned,
+    // it is one of the new page. (Of `how`, the times are those of whoever takes it.)
+    void add(const std::vector<std::string> &instruments, const asking &how = asking()) const {
+        detail::kind kind = core_->kind_of(job_, instruments, how.commands_);
+        std::unique_lock<std::mutex> guard = open();
+        // (what comes while a page is turned is in no journal before that is over)
+        while (core_->is_turning && core_->log) core_->doze(guard, std::nullopt);
+        if (!core_->is_turning) {
+            core_->append(job_, kind, false);
+            core_->others.notify_all();
+            const detail::journal::ticket ticket = core_->ticket();
+            guard.unlock();
+            core_->commit(ticket);
+            return;
+        }
+        if (core_->seats[job_].is_over) throw retired(name());
+        std::size_t mine = 0;
+        for (const auto &it : core_->later) mine += it.first == job_;
+        if (mine >= detail::core::MOST_SESSIONS - 1) throw full(name());
+        core_->later.emplace_back(job_, std::move(kind));
+    }
+
+    // Begins the job's next session, and blocks until it holds. Nothing if no session is left; on a bench of create() it waits for one that is
+    // added, until the job is retired.
+    std::optional<session> begin() const {
+        std::unique_lock<std::mutex> guard = open();
+        for (;;) {
+            if (const std::uint32_t number = core_->next_of(job_)) return session::ask(core_, guard, job_, number, {}, false);
+            if (!core_->is_endless || core_->seats[job_].is_over) return std::nullopt;
+            core_->doze(guard, std::nullopt);
         }
     }
 
-    // What one that waits does at such a time.
-    void look(detail::seat &me, bool ticks, std::optional<time> until, std::optional<time> gives_up) {
-        const time now = clock::now();
-        core_->take_overdue();
-        if (ticks && now - core_->ticked >= TICK / 2) {
-            core_->ticked = now;
-            core_->settle();
-        }
-        if (me.how != detail::asked::waits) return;
-        const bool is_over = gives_up && now >= *gives_up;
-        if (!is_over && !(until && now >= *until)) return;
-        std::vector<keeper> keepers = core_->keepers(job_);
-        core_->waiting &= ~detail::core::bit(job_);
-        if (is_over) {
-            const bool gone = core_->give_up(job_);
-            core_->settle();
-            if (gone) return;
-        }
-        throw timed_out(std::move(keepers));
+    // The session that the job held when the process died that had the journal before; it holds still. Nothing if there is none.
+    std::optional<session> resumed() const {
+        std::unique_lock<std::mutex> guard = open();
+        const std::uint32_t number = core_->seats[job_].held;
+        return number ? std::optional(session::ask(core_, guard, job_, number, {}, false)) : std::nullopt;
+    }
+
+    // The job gets no further session, and who waits in begin() gets none; not_now if it is in a session or has one left. (The close retires all.)
+    void retire() const {
+        std::unique_lock<std::mutex> guard = open();
+        core_->comes_next(job_);
+        for (const auto &it : core_->later)
+            if (it.first == job_) throw not_now(name() + " has a session that comes when the page is turned");
+        core_->seats[job_].is_over = true;
+        // (if it is in a meal, that lasts until others let go, and the close sees to it)
+        core_->retire(job_);
+        core_->settle();
+        const detail::journal::ticket ticket = core_->ticket();
+        guard.unlock();
+        core_->commit(ticket);
+    }
+
+  private:
+    std::unique_lock<std::mutex> open() const {
+        core_->belongs_here();
+        std::unique_lock<std::mutex> guard(core_->mutex);
+        if (core_->is_closed) throw closed();
+        return guard;
     }
 
     detail::core *core_;
     std::uint32_t job_;
-    span limit_, patience_;
 };
 
 // The bench of a script.
@@ -1028,26 +1843,96 @@ class bench {
                    std::uint32_t overtakes = OVERTAKES)
         : core_(std::make_unique<detail::core>()) {
         core_->overtakes = overtakes;
+        std::optional<detail::journal::came_by> came;
         if (journal.empty()) {
             lab_told told{};
             const std::uint32_t status = lab_bench_open(detail::bytes(script), script.size(), &core_->handle, &told);
             if (status) detail::fail(status, told);
         } else {
             core_->log = std::make_unique<detail::journal>(journal, how);
-            resumed_ = core_->log->open(script, &core_->handle);
+            came = core_->log->open(script, &core_->handle);
+            resumed_ = came.has_value();
         }
         lab_size size{};
         lab_bench_size(&core_->handle, &size);
         for (std::uint32_t job = 0; job < size.jobs; job++) core_->jobs.push_back(name(lab_job_name, job));
         for (std::uint32_t at = 0; at < size.instruments; at++) core_->instruments.push_back(name(lab_instrument_name, at));
         for (std::uint32_t job = 0; job < size.jobs; job++) {
-            detail::seat &seat = core_->seats.emplace_back();
-            seat.sessions.resize(core_->state(job).sessions);
-            for (std::uint32_t number = 1; number <= seat.sessions.size(); number++)
-                lab_session_of(&core_->handle, job, number, &seat.sessions[number - 1]);
+            core_->seats.emplace_back().sessions = core_->sessions_of(job);
+            std::uint64_t &uses = core_->uses.emplace_back(0);
+            for (const lab_session &it : core_->seats[job].sessions) uses |= it.needs;
             desks_.emplace_back(core_.get(), job);
         }
+        core_->head = detail::core::first_line(script);
         core_->comes_back();
+        if (came) core_->resume(*came);
+        core_->commit(core_->ticket());
+    }
+
+    // A bench without a script: the jobs by their names, each with the instruments that it may use. Their sessions come by job::hold and job::add.
+    //
+    // How a job may use instruments that no session of its names yet: the script that this writes has a first session for each job, `session patience
+    // 0` with one `read` of each of its instruments, and right after the open it is begun and given up. Both are legal steps and nothing is logged;
+    // the report says `withdrawn 1` of each job, and a job's sessions count from 2.
+    static bench create(const labrun::jobs &jobs, const std::string &journal = "", labrun::sync how = labrun::sync::data,
+                        std::uint32_t overtakes = OVERTAKES) {
+        try {
+            bench made(detail::core::text_of(jobs), journal, how, overtakes);
+            made.begins_endless();
+            return made;
+        } catch (const refused &fault) {
+            const std::vector<std::string> lines = detail::core::lines(jobs);
+            const std::string at = fault.line && fault.line <= lines.size() ? lines[fault.line - 1] : "the jobs as they are";
+            throw invalid(at + ": S" + std::to_string(fault.cause));
+        }
+    }
+
+    // A job by its name, for sessions that come.
+    labrun::job job(const std::string &name) { return {core_.get(), number_of(name)}; }
+
+    // The script that the bench has become, with the sessions that came; `labrun` reads it.
+    std::string script() {
+        const std::unique_lock<std::mutex> guard = open();
+        return core_->script();
+    }
+
+    // How much may still come before the bench is full: see turn_page().
+    labrun::room room() {
+        const std::unique_lock<std::mutex> guard = open();
+        labrun::room left{{}, detail::core::MOST_COMMANDS, std::nullopt, std::nullopt};
+        if (core_->log) std::tie(left.steps, left.bytes) = core_->log->left();
+        for (std::uint32_t job = 0; job < core_->jobs.size(); job++) {
+            left.sessions.emplace_back(core_->jobs[job], detail::core::MOST_SESSIONS - core_->seats[job].sessions.size());
+            for (const lab_session &it : core_->seats[job].sessions) left.commands -= it.commands;
+        }
+        return left;
+    }
+
+    // Begins a new page of the same bay: waits until all sessions that were added are over, closes the bench, and opens it anew, with the same jobs,
+    // of which each may use what it could before. What is to be added meanwhile waits, and comes to the new page. So a broker goes on for months;
+    // all that is counted begins anew, and the page has how it was.
+    //
+    // Whoever calls this mustn't hold a session, and one that nobody takes keeps it waiting: after `timeout` not_back says which jobs are in one or
+    // have one left, and the page isn't turned.
+    labrun::page turn_page(std::optional<std::chrono::nanoseconds> timeout = std::nullopt) {
+        std::unique_lock<std::mutex> guard = open();
+        if (core_->is_turning) throw not_now("another thread turns the page");
+        if (core_->log && !core_->is_endless)
+            throw not_now("a bench of a script keeps its journal to the end: bench::create() is for one that turns pages");
+        core_->is_turning = true;
+        labrun::page page;
+        try {
+            page = turns(guard, detail::seat::later(detail::seat::clock::now(), timeout));
+        } catch (...) {
+            if (!guard.owns_lock()) guard.lock();
+            core_->turns_no_more();
+            throw;
+        }
+        core_->turns_no_more();
+        const detail::journal::ticket ticket = core_->ticket();
+        guard.unlock();
+        core_->commit(ticket);
+        return page;
     }
 
     // Whether its journal was there.
@@ -1070,6 +1955,7 @@ class bench {
         if (drinking != 2 && drinking != 3) return false;
         core_->take(at);
         if (core_->waiting) core_->settle();
+        else core_->others.notify_all();
         const detail::journal::ticket ticket = core_->ticket();
         guard.unlock();
         core_->commit(ticket);
@@ -1083,7 +1969,7 @@ class bench {
         core_->belongs_here();
         std::unique_lock<std::mutex> guard(core_->mutex);
         if (core_->is_closed) throw closed();
-        return core_->seats[at].in ? core_->keepers(at) : std::vector<keeper>();
+        return core_->seats[at].in ? core_->keepers(at) : core_->chooser_keepers(at);
     }
 
     // Closes the bench, and gives its report; a second call gives it again. Who calls a desk afterwards gets closed; a session that is held
@@ -1091,7 +1977,7 @@ class bench {
     report close() {
         core_->belongs_here();
         std::unique_lock<std::mutex> guard(core_->mutex);
-        while (!core_->is_closed && retires_some()) continue;
+        if (!core_->is_closed) core_->retire_all();
         while (core_->log && !core_->log->is_written()) {
             const detail::journal::ticket ticket = core_->ticket();
             guard.unlock();
@@ -1101,6 +1987,7 @@ class bench {
         core_->is_closed = true;
         if (core_->log) core_->log->close();
         for (detail::seat &it : core_->seats) it.woken.notify_all();
+        core_->others.notify_all();
         report told = detail::told_text([this](auto... given) { return lab_bench_close(&core_->handle, given...); });
         told.lapsed = core_->lapsed;
         told.taken = core_->taken;
@@ -1121,16 +2008,40 @@ class bench {
         return std::string(bytes, bytes + written);
     }
 
-    // One may be in a meal, which lasts until another has left its own.
-    bool retires_some() {
-        bool did = false;
-        for (std::uint32_t job = 0; job < core_->jobs.size(); job++) {
-            lab_turned turned{};
-            if (core_->state(job).drinking == 4) continue;
-            if (lab_retire(&core_->handle, job, 1, &turned) == LAB_DONE) did = true;
-            core_->told();
+    std::unique_lock<std::mutex> open() {
+        core_->belongs_here();
+        std::unique_lock<std::mutex> guard(core_->mutex);
+        if (core_->is_closed) throw closed();
+        return guard;
+    }
+
+    // Waits until the page may be turned, and turns it.
+    labrun::page turns(std::unique_lock<std::mutex> &guard, std::optional<detail::seat::clock::time_point> until) {
+        for (;;) {
+            core_->is_quiet(guard, until);
+            core_->retire_all();
+            if (!core_->log || core_->log->is_written()) return core_->turned();
+            const detail::journal::ticket ticket = core_->ticket();
+            guard.unlock();
+            core_->commit(ticket);
+            guard.lock();
+            if (core_->is_closed) throw closed();
         }
-        return did;
+    }
+
+    // It is a bench without a script, or the page of one that a journal has.
+    void begins_endless() {
+        std::unique_lock<std::mutex> guard = open();
+        core_->is_endless = true;
+        core_->give_up_first();
+        bool is_over = false;
+        for (std::uint32_t job = 0; job < core_->seats.size(); job++) is_over = is_over || core_->state(job).drinking == 4;
+        is_over = is_over && resumed_ && !core_->busy();
+        const detail::journal::ticket ticket = core_->ticket();
+        guard.unlock();
+        core_->commit(ticket);
+        // (the process ended when the page was over, and before the next one was begun)
+        if (is_over) turn_page();
     }
 
     std::unique_ptr<detail::core> core_;

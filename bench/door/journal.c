@@ -64,6 +64,16 @@ static void resumes(void) {
            told.line, told.cause);
 }
 
+static struct lab_bench shared;
+static struct lab_desk desks[3];
+
+static void shares(size_t cut) {
+    struct lab_told told = {77, 77, 77};
+    uint32_t status = lab_shared_resume(file, cut, &shared, &told);
+    expect(status == LAB_DONE && told.written == whole_lines(cut) && told.line == 0 && told.cause == 0, "with desks: status %u, line %zu, cause %u",
+           status, told.line, told.cause);
+}
+
 static void not_kept(void) {
     uint8_t text[8] = {1, 2, 3, 4, 5, 6, 7, 8};
     REFUSED(LAB_NOT_OPEN, lab_journal(&bench, text, sizeof text, &out.name.written));
@@ -162,6 +172,129 @@ static void changed(void) {
     IS(refused > 100);
 }
 
+/* The lines of a session of a job, behind the file. */
+static void take_more(struct lab_bench *from, uint32_t job, uint32_t session, const char *wanted) {
+    size_t written = 77;
+    uint8_t none[4] = {1, 2, 3, 4};
+    IS(lab_more(from, job, session, none, sizeof none, &written) == LAB_NO_ROOM && written == strlen(wanted) && none[0] == 1 && none[3] == 4);
+    uint32_t status = lab_more(from, job, session, file + length, sizeof file - length, &written);
+    expect(status == LAB_DONE && written == strlen(wanted) && memcmp(file + length, wanted, written) == 0, "lab_more: status %u, %zu bytes", status, written);
+    if (status == LAB_DONE) length += written;
+}
+
+static uint32_t adds(uint32_t job, const char *session) {
+    return lab_add(&bench, job, (const uint8_t *)session, strlen(session), &out.told);
+}
+
+/* What is told of sessions, and of which. */
+static void told_of_sessions(void) {
+    uint8_t text[8] = {1, 2, 3, 4, 5, 6, 7, 8};
+    REFUSED(LAB_NOT_OPEN, lab_more(&bench, 0, 1, text, sizeof text, &out.name.written));
+    IS(lab_bench_open((const uint8_t *)two, sizeof two - 1, &bench, &out.told) == LAB_DONE);
+    REFUSED(LAB_NOT_YET, lab_more(&bench, 0, 1, text, sizeof text, &out.name.written));
+    lab_bench_free(&bench);
+    IS(lab_bench_open_kept((const uint8_t *)two, sizeof two - 1, &bench, &out.told) == LAB_DONE);
+    REFUSED(LAB_NOT_THERE, lab_more(&bench, 3, 1, text, sizeof text, &out.name.written));
+    REFUSED(LAB_NOT_THERE, lab_more(&bench, 1, 0, text, sizeof text, &out.name.written));
+    REFUSED(LAB_NOT_THERE, lab_more(&bench, 1, 2, text, sizeof text, &out.name.written));
+    IS(text[0] == 1 && text[7] == 8);
+    lab_bench_free(&bench);
+}
+
+static const char more_of_b[] = "#steps\n#more b\n#+session patience 5\n#+scale read\n#+end\n#sum f573d6f1d5b8db51\n";
+static const char more_of_a[] = "#steps\n#more a\n#+session\n#+scale add 1\n#+lamp set 3\n#+lamp add 999999\n#+scale read\n#+scale set 0\n"
+                                "#+lamp read\n#+scale add 2\n#+end\n#sum fec8353e1614782f\n";
+static const char of_a[] = "session\nscale add 1\nlamp set 3\nlamp add 999999\nscale read\nscale set 0\nlamp read\nscale add 2\nend\n";
+
+/* Sessions come, and their lines are written. */
+static void come(void) {
+    struct lab_state state;
+    struct lab_came who;
+    begin_file(two);
+    IS(lab_bench_open_kept((const uint8_t *)two, sizeof two - 1, &bench, &out.told) == LAB_DONE);
+    IS(lab_settle(&bench, 3, &who) == LAB_DONE && who.holds == 1);
+    /* a short one finds room while steps are kept, a longer one doesn't */
+    IS(adds(1, "session patience 5\nscale read\nend\n") == LAB_DONE);
+    REFUSED(LAB_JOURNAL_FULL, adds(0, of_a));
+    IS(lab_state(&bench, 0, &state) == LAB_DONE && state.sessions == 2);
+    take_more(&bench, 1, 2, more_of_b);
+    IS(take(&bench) > 0 && adds(0, of_a) == LAB_DONE);
+    take_more(&bench, 0, 3, more_of_a);
+    IS(adds(0, "session\nscale read\n") == LAB_REFUSED && out.told.line == 3 && out.told.cause == 9);
+    IS(adds(3, of_a) == LAB_NOT_THERE);
+}
+
+/* Each job with a session holds, lets go, and gets its next one, until all are done; after each call the journal comes back. */
+static void goes_on(void) {
+    struct lab_came who;
+    struct lab_state state;
+    for (int round = 0; round < 5; round++) {
+        for (uint32_t job = 0; job < 2; job++) {
+            IS(lab_state(&bench, job, &state) == LAB_DONE);
+            if (state.drinking == 2) IS(lab_end(&bench, job, &out.turned) == LAB_DONE);
+        }
+        IS(lab_settle(&bench, 3, &who) == LAB_DONE && (take(&bench) > 0 || who.none_left == 3));
+        resumes();
+        IS(same_lab(&bench, &other));
+        lab_bench_free(&other);
+    }
+    IS(lab_state(&bench, 0, &state) == LAB_DONE && state.sessions == 3 && state.sessions_done == 3);
+    IS(lab_state(&bench, 1, &state) == LAB_DONE && state.sessions == 2 && state.sessions_done == 2);
+}
+
+/* The bench that comes back has them, from each prefix of the file; and so has a bench of desks. */
+static void come_back(void) {
+    struct lab_session session;
+    struct lab_state state;
+    resumes();
+    IS(same_lab(&bench, &other) && take(&other) == 0);
+    IS(lab_session_of(&other, 1, 2, &session) == LAB_DONE && session.commands == 1 && session.patience == 5 && session.has_patience == 1);
+    IS(lab_session_of(&other, 0, 3, &session) == LAB_DONE && session.commands == 7 && session.has_patience == 0);
+    lab_bench_free(&other);
+    goes_on();
+    torn();
+    shares(length);
+    IS(lab_take_desk(&shared, 0, &desks[0]) == LAB_DONE && lab_desk_state(&desks[0], &state) == LAB_DONE);
+    IS(state.sessions == 3 && state.sessions_done == 3 && lab_give_desk(&desks[0]) == LAB_DONE);
+    IS(lab_shared_free(&shared) == LAB_DONE);
+    lab_bench_free(&bench);
+}
+
+/* What a job can't take is refused with the line where it begins; what breaks off is passed over. */
+static void come_wrong(void) {
+    static const struct {
+        const char *lines;
+        uint32_t status, cause;
+        size_t line;
+        uint32_t sessions; /* of job b, which has one in the script; its line `steps` is line 16 */
+    } rows[] = {
+        {"#more b\n#+session\n#+scale read\n#+end\n", LAB_DONE, 0, 0, 2},
+        {"#more b\n#+session\n#+scale read\n#steps\n#+end\n", LAB_DONE, 0, 0, 1},
+        {"#more b\n#+session\n#+scale read\nlook a b\n#+end\n", LAB_DONE, 0, 0, 1},
+        {"#more b\n#+session\n#+scale read\n#more b\n#+session patience 0\n#+scale set 3\n#+end\n", LAB_DONE, 0, 0, 2},
+        {"#more b\n#+session\n#+scale read\n#+en", LAB_DONE, 0, 0, 1},
+        {"#+session\n#+scale read\n#+end\n", LAB_DONE, 0, 0, 1},
+        {"# more b\n#session\n#scale read\n#end\n", LAB_DONE, 0, 0, 1},
+        {"look a b\n#more d\n#+session\n#+scale read\n#+end\n", LAB_REFUSED, 7, 18, 0},
+        {"#more b\n#+session\n#+lamp read\n#+end\n", LAB_REFUSED, 14, 17, 0},
+        {"#more b\n#+end\n", LAB_REFUSED, 6, 17, 0},
+        {"#more b\n#+session\n#+end\n", LAB_REFUSED, 8, 17, 0},
+        {"#more c\n#+session\n#+scale read\n#+end\n", LAB_REFUSED, 14, 17, 0},
+        {"#more b\n#+session\n#+scale read\n#+end\n#sum 0123456789abcdef\n", LAB_REFUSED, 13, 21, 0},
+    };
+    struct lab_state state;
+    struct lab_told told;
+    for (size_t row = 0; row < sizeof rows / sizeof *rows; row++) {
+        size_t size = strlen(rows[row].lines);
+        begin_file(two);
+        memcpy(file + length, rows[row].lines, size);
+        uint32_t status = lab_bench_resume(file, length + size, &other, &told);
+        expect(status == rows[row].status && told.line == rows[row].line && told.cause == rows[row].cause, "row %zu: status %u, line %zu, cause %u", row, status,
+               told.line, told.cause);
+        if (status == LAB_DONE) IS(lab_state(&other, 1, &state) == LAB_DONE && state.sessions == rows[row].sessions && lab_bench_free(&other) == LAB_DONE);
+    }
+}
+
 /* A job has a command in hand, as no call of this library leaves it: it is done on the way back, and the next journal tells it. */
 static void in_hand(void) {
     static const char steps[] = "look a b\nthirst a\ndrink a\nreach a\n";
@@ -181,16 +314,6 @@ static void in_hand(void) {
 }
 
 /* ---- with desks */
-
-static struct lab_bench shared;
-static struct lab_desk desks[3];
-
-static void shares(size_t cut) {
-    struct lab_told told = {77, 77, 77};
-    uint32_t status = lab_shared_resume(file, cut, &shared, &told);
-    expect(status == LAB_DONE && told.written == whole_lines(cut) && told.line == 0 && told.cause == 0, "with desks: status %u, line %zu, cause %u",
-           status, told.line, told.cause);
-}
 
 /* The report of a bench of desks that was resumed is that of a replay, if nothing is done at its desks: from some lengths of the file. */
 static void closes_as_replayed(void) {
@@ -290,6 +413,10 @@ int main(void) {
     piece_by_piece();
     torn();
     changed();
+    told_of_sessions();
+    come();
+    come_back();
+    come_wrong();
     in_hand();
     with_desks();
     full();

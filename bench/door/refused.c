@@ -81,7 +81,58 @@ static void closed_at_once(struct text script) {
     if (at_call == 0) expect(kept == 0, "%s: a close at once: %ld blocks are left", name, kept);
 }
 
+/* A session of job 0 that is longer than its first one, on an instrument of it. */
+static void longer_session(char *text, size_t room, const char *instrument, size_t commands) {
+    size_t at = (size_t)snprintf(text, room, "session\n");
+    for (size_t k = 0; k < commands + 1; k++) at += (size_t)snprintf(text + at, room - at, "%s add 1\n", instrument);
+    snprintf(text + at, room - at, "end\n");
+}
+
+/* A bench that keeps its steps: a session comes, its lines and the steps are taken, and the bench comes back from them. */
+static void kept_life(struct text script) {
+    static char text[65536];
+    static uint8_t lines[65536];
+    char word[17] = {0};
+    struct lab_told told = {0, 0, 0};
+    struct lab_session session;
+    struct lab_planned planned;
+    struct lab_came came;
+    uint32_t status;
+    size_t written, length;
+    begin_life();
+    CALL(status, lab_bench_open_kept(script.bytes, script.length, &bench, &told));
+    expect(status == LAB_DONE, "%s: open: status %u", name, status);
+    CALL(status, lab_planned(&bench, 0, 1, 0, &planned));
+    CALL(status, lab_instrument_name(&bench, planned.instrument, (uint8_t *)word, 16, &written));
+    CALL(status, lab_session_of(&bench, 0, 1, &session));
+    longer_session(text, sizeof text, word, session.commands);
+    CALL(status, lab_add(&bench, 0, (const uint8_t *)text, strlen(text), &told));
+    expect(status == LAB_DONE, "%s: add: status %u", name, status);
+    for (uint32_t last = 1; lab_session_of(&bench, 0, last + 1, &session) == LAB_DONE; last++) written = last + 1;
+    uint32_t came_last = (uint32_t)written;
+    memcpy(report, script.bytes, length = script.length);
+    if (length && report[length - 1] != '\n') report[length++] = '\n';
+    memcpy(report + length, "steps\n", 6);
+    length += 6;
+    CALL(status, lab_more(&bench, 0, came_last, lines, sizeof lines, &written));
+    expect(status == LAB_DONE, "%s: more: status %u", name, status);
+    memcpy(report + length, lines, written);
+    length += written;
+    CALL(status, lab_settle(&bench, 0xffffffffu, &came));
+    CALL(status, lab_journal(&bench, lines, sizeof lines, &written));
+    memcpy(report + length, lines, written);
+    length += written;
+    lab_bench_free(&bench);
+    CALL(status, lab_bench_resume(report, length, &bench, &told));
+    expect(status == LAB_DONE && told.written == length, "%s: resume: status %u, line %zu", name, status, told.line);
+    expect(lab_session_of(&bench, 0, came_last, &session) == LAB_DONE, "%s: the session that came isn't there", name);
+    compare_report(length);
+    lab_bench_free(&bench);
+    end_life("a kept life");
+    if (at_call == 0) expect(kept == 0, "%s: a kept life: %ld blocks are left", name, kept);
+}
+
 int main(int count, char **words) {
-    static void (*const lives[])(struct text) = {life, closed_at_once};
-    return live_through(count, words, lives, 2);
+    static void (*const lives[])(struct text) = {life, closed_at_once, kept_life};
+    return live_through(count, words, lives, 3);
 }
