@@ -9,6 +9,7 @@ import os
 import re
 import sysconfig
 import zipfile
+from typing import Optional
 
 HERE = os.path.dirname(os.path.realpath(__file__))
 
@@ -23,10 +24,11 @@ def facts() -> dict[str, str]:
     return dict(re.findall(r'(?m)^([\w-]+) = "(.*)"$', read("pyproject.toml").decode()))
 
 
-def build_wheel(wheel_directory: str, config_settings: object = None, metadata_directory: object = None) -> str:
-    """Writes the wheel into a folder, and returns its name."""
+def build_wheel(wheel_directory: str, config_settings: Optional[dict[str, str]] = None, metadata_directory: object = None) -> str:
+    """Writes the wheel into a folder, and returns its name. The setting `platform` says for which systems the library in it is; without: as this one."""
     of, names = facts(), sorted(it for it in os.listdir(os.path.join(HERE, "labrun")) if it.endswith((".py", ".typed", ".so")))
-    platform = re.sub(r"\W", "_", sysconfig.get_platform()) if "liblabrun.so" in names else "any"
+    here = re.sub(r"\W", "_", sysconfig.get_platform())
+    platform = (config_settings or {}).get("platform", here) if "liblabrun.so" in names else "any"
     tag, about = f"py3-none-{platform}", f"{of['name']}-{of['version']}.dist-info"
     head = f"Metadata-Version: 2.1\nName: {of['name']}\nVersion: {of['version']}\nSummary: {of['description']}\n"
     head += f"Requires-Python: {of['requires-python']}\nDescription-Content-Type: text/markdown\n\n"

@@ -15,6 +15,7 @@ from ._bench import OVERTAKES, Bench, Command, Job, Jobs, JobState, Keeper, NotB
 from ._faults import Closed, Full, JournalError, LabrunError, MayNotUse, NotHeld, OtherProcess, Refused, Retired, StillHeld, Stopped, TakenAway
 from ._faults import TimeoutError, TooLong, Withdrawn, WouldBlock
 from ._holding import Hold, Page, Room
+from ._journal_texts import journal_script, journal_steps
 from ._library import library_path
 from ._report import Counts, Entry, JobReport, Report, check, replay, run, upgrade
 
@@ -52,6 +53,8 @@ __all__ = [
     "Withdrawn",
     "WouldBlock",
     "check",
+    "journal_script",
+    "journal_steps",
     "library_path",
     "replay",
     "run",

@@ -22,7 +22,8 @@ from typing import Any, Awaitable, Callable, Iterable, Iterator, Mapping, Option
 
 from ._faults import Closed, JournalError, LabrunError, NotHeld, OtherProcess, StillHeld, Stopped, TakenAway, TimeoutError, Withdrawn, WouldBlock
 from ._journal import Journal, Kept, Path, Ticket
-from ._library import NO_SUCH, NOT_NOW, SESSIONS_LEFT, Came, Entered, Handle, Keepers, Library, Outside, Size, State, Told, Turned, library
+from ._library import NO_SUCH, NOT_NOW, SESSIONS_LEFT, Came, Entered, Handle, Keepers, Library, Outside, Planned, SessionOf, Size, State, Told, Turned
+from ._library import library
 from ._report import Entry, Report, Text, as_bytes, told_fault, told_text
 
 VERBS = ("set", "add", "read")
@@ -184,10 +185,14 @@ class Session:
             if not holds:
                 ticket = self._sleep(job, bench, until, timeout)
             if ticket is not None:
-                bench._commit(ticket)
+                self._is_kept(ticket)
         except BaseException as fault:
             self._left_by(fault)
             raise
+
+    def _is_kept(self, ticket: Ticket) -> None:
+        """That it holds is in the journal."""
+        self.job.bench._commit(ticket)
 
     def _sleep(self, job: Job, bench: Bench, until: Optional[float], timeout: Optional[float]) -> Optional[Ticket]:
         """Sleeps until the session holds, or has an end in another way."""
@@ -239,7 +244,7 @@ class Session:
                     holds = self._is_over(job, until)
                     ticket = bench._ticket()
             if ticket is not None:
-                bench._commit(ticket)
+                self._is_kept(ticket)
         except BaseException as fault:
             self._left_by(fault)
             raise
@@ -511,8 +516,10 @@ class Job:
         # which session that is, how often the bench was settled before, and whether it comes from a journal: then it was in line
         self._asked_for = self._settles = 0
         self._is_old = False
-        # what is being added to its sessions; those that were asked for before, by their instruments; and whether it is to have no more
+        # what is being added to its sessions, by `hold` or `add`; those that were asked for before, by their instruments; and whether it is to
+        # have no more
         self._adds: Optional[_Planned] = None
+        self._how = ""
         self._known: dict[tuple[str, ...], tuple[_holding.Kind, ...]] = {}
         self._uses: Optional[tuple[str, ...]] = None
         self._is_over = False
@@ -625,7 +632,10 @@ class Job:
         asks for that one alone.
 
         A job is in one session at a time: threads that hold at once need a job each. MayNotUse, Retired and Full say why a session can't be
-        added. With a journal none can, yet."""
+        added.
+
+        With a journal it holds once that is in the file. Where the process died before, it is given up when the bench comes back, since nobody
+        was told; one that held is offered by `next_session`, `resumed`."""
         known = None if commands or any_of else self._known.get(instruments)
         if known is not None:
             return Hold(self, known, timeout, patience, limit)
@@ -749,7 +759,13 @@ class Bench:
         self.jobs = Jobs(self._jobs)
         if self.resumed:
             self._comes_back()
+        self._counts_sessions()
         _benches.add(self)
+        if self._journal is not None and self._journal.came:
+            with self._mutex:
+                _holding.give_up_unheld(self, self._journal.came)
+                ticket = self._journal.ticket
+            self._commit(ticket)
 
     @classmethod
     def open(cls, path: Path, journal: Optional[Path] = None, sync: str = "data", overtakes: int = OVERTAKES) -> Bench:
@@ -1259,6 +1275,7 @@ class Bench:
             state, session = self._state_of(job.index), job._session
             if job._adds is not None and state.sessions > len(job._plan):
                 job._plan.append(job._adds)
+            _holding.tell_journal(self, job)
             holds = state.drinking in _HOLDS
             job._last = state.session + is_outside
             job._in = job._last if holds or is_outside or state.drinking == _THIRSTY else 0
@@ -1291,6 +1308,8 @@ class Bench:
         for job in self._jobs:
             state = self._state_of(job.index)
             job._last, job._is_retired = state.session, state.drinking == _RETIRED
+            job._plan += [self._planned(job.index, number) for number in range(len(job._plan) + 1, state.sessions + 1)]
+            state = self._state_of(job.index)
             if state.drinking in _HOLDS or state.drinking == _THIRSTY:
                 job._in, job._session = state.session, Session(job, state.session, None)
                 job._session.resumed = state.drinking != _THIRSTY
@@ -1304,6 +1323,7 @@ class Bench:
         for job in self._jobs:
             state, session = self._state_of(job.index), job._session
             holds = state.drinking in _HOLDS
+            del job._plan[state.sessions :]
             job._last, job._is_retired = state.session, state.drinking == _RETIRED
             job._in = state.session if holds or state.drinking == _THIRSTY else 0
             self._lapsed = [it for it in self._lapsed if it != (job.name, job._in)]
@@ -1319,8 +1339,28 @@ class Bench:
             self._left |= job._bit if is_left else 0
             session.state = "new" if session.number != job._in else "left" if is_left else "held" if holds else "asked"
             session.done = state.position if session.number == job._in else 0
+        self._counts_sessions()
         self._waiting = 0
         self._torn = False
+        if self._journal is not None:
+            _holding.give_up_unheld(self, self._journal.came)
+        self._rouse_others(True)
+
+    def _counts_sessions(self) -> None:
+        """The journal has those that the jobs have now."""
+        if self._journal is not None:
+            self._journal.sessions = [len(job._plan) for job in self._jobs]
+
+    def _planned(self, job: int, number: int) -> _Planned:
+        """What the library has of a session."""
+        what, planned = SessionOf(), Planned()
+        self._call("lab_session_of", job, number, ctypes.byref(what))
+        commands = []
+        for place in range(what.commands):
+            self._call("lab_planned", job, number, place, ctypes.byref(planned))
+            verb = VERBS[planned.verb]
+            commands.append(Command(self.instruments[planned.instrument], verb, None if verb == "read" else planned.number))
+        return tuple(self.instruments[at] for at in _members(what.needs)), tuple(commands), what.patience if what.has_patience else None
 
     def _keepers(self, job: Job) -> tuple[Keeper, ...]:
         """Who keeps an instrument from this job: who holds it, and where nobody does, who is before it."""

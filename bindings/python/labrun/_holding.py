@@ -17,9 +17,9 @@ from typing import Any, Callable, Iterable, Mapping, NamedTuple, Optional, TypeV
 
 from . import _bench
 from ._bench import _ELSEWHERE, _FOREVER, _HOLDS, _STOPPED, _THIRSTY, VERBS, Bench, Command, Job, Keeper, NotBack, Session, _freed, _now, _Planned, _plans
-from ._faults import Full, LabrunError, MayNotUse, Refused, Retired, TimeoutError, Withdrawn, WouldBlock
-from ._journal import MOST_STEPS, Journal, Kept, Path
-from ._library import NO_MEMORY, NOT_NOW, REFUSED, RETIRED, Handle, Library, Told, library
+from ._faults import Full, JournalError, LabrunError, MayNotUse, Refused, Retired, TimeoutError, Withdrawn, WouldBlock
+from ._journal import MOST, MOST_STEPS, Journal, Kept, Path, Ticket
+from ._library import NO_MEMORY, REFUSED, RETIRED, Handle, Library, Told, library
 from ._report import Report, told_fault, told_text
 
 # a command as `Job.hold` takes it
@@ -33,17 +33,19 @@ Result = TypeVar("Result")
 
 @dataclass(frozen=True)
 class Room:
-    """How much may still come to the page that is open: `sessions` of each job by its name, `commands` of all, and, with a journal, `steps`.
-    `is_low` says that less than a tenth of one of them is left: it is time to turn the page."""
+    """How much may still come to the page that is open: `sessions` of each job by its name, `commands` of all, and, with a journal, its `steps`
+    and `bytes`. `is_low` says that less than a tenth of one of them is left: it is time to turn the page."""
 
     sessions: Mapping[str, int]
     commands: int
     steps: Optional[int]
+    bytes: Optional[int]
 
     @property
     def is_low(self) -> bool:
-        steps = MOST_STEPS if self.steps is None else self.steps
-        return 10 * min(self.sessions.values(), default=MOST_SESSIONS) < MOST_SESSIONS or 10 * self.commands < MOST_COMMANDS or 10 * steps < MOST_STEPS
+        least = min(self.sessions.values(), default=MOST_SESSIONS)
+        left = ((least, MOST_SESSIONS), (self.commands, MOST_COMMANDS), (self.steps, MOST_STEPS), (self.bytes, MOST))
+        return any(10 * it < most for it, most in left if it is not None)
 
 
 @dataclass(frozen=True)
@@ -116,19 +118,36 @@ class Hold(Session, Waiter):
         try:
             until = None if timeout is None else _now() + timeout
             while True:
+                if bench._turner is _LEFT_OFF:
+                    go_on_turning(bench)
                 with bench._mutex:
                     if self._is_added_at_once(job, bench) or self._is_added(job, bench, job._get_up):
                         holds = bench._ask(job, self, job._get_up)
+                        ticket = None if bench._journal is None else bench._journal.ticket
                         break
                     span = self._span_before(bench, until)
                 if asyncio._get_running_loop() is not None:
                     raise WouldBlock(self)
                 job._sleep.acquire(True, span)
             if not holds:
-                self._sleep(job, bench, until, timeout)
+                ticket = self._sleep(job, bench, until, timeout)
+            if ticket is not None:
+                self._is_kept(ticket)
         except BaseException as fault:
             self._left_by(fault)
             raise
+
+    def _is_kept(self, ticket: Ticket) -> None:
+        bench, job = self.job.bench, self.job
+        try:
+            bench._commit(ticket)
+        except JournalError:
+            with bench._mutex:
+                bench._look_over()
+                # (what others added behind it may be what couldn't be written)
+                if job._in != self.number or not bench._holds(job):
+                    raise
+                self.state = "held"
 
     async def acquire_async(self, timeout: Optional[float] = None) -> None:
         """As `acquire`, for a task of asyncio: other tasks go on meanwhile."""
@@ -145,6 +164,8 @@ class Hold(Session, Waiter):
 
         try:
             while not self.number:
+                if bench._turner is _LEFT_OFF:
+                    go_on_turning(bench)
                 with bench._mutex:
                     if self._is_added(job, bench, wake):
                         break
@@ -171,12 +192,14 @@ class Hold(Session, Waiter):
         if job._in or job._last != len(plan) or job._is_over or job._untold is not None:
             return False
         text, size, job._adds = choices[0]
-        self._adds = job._last + 1
+        job._how, self._adds = "hold", job._last + 1
         bench._torn = True
         if call(bench._at, job.index, text, size, bench._told_at):
             bench._torn = False
             return False
         plan.append(job._adds)
+        if bench._journal is not None:
+            tell_journal(bench, job)
         bench._torn, bench._has_patience = False, True
         self.number = self._adds
         job._limit = self._limit
@@ -204,7 +227,7 @@ class Hold(Session, Waiter):
             del bench._others[self]
         job._limit, job._patience = self._limit, self._seconds
         self._adds = len(job._plan) + 1
-        self.number = _append(bench, job, kind)
+        self.number = _append(bench, job, kind, "hold")
         self.instruments, self.commands, _ = kind.plan
         if self._since:
             job._asked_for, job._asked, job._settles, job._is_old = self.number, self._since, bench._settles, False
@@ -225,6 +248,8 @@ class Hold(Session, Waiter):
         return self._choices[self._passed.index(most)] if most >= bench._overtakes else None
 
     def is_ready(self, bench: Bench) -> bool:
+        if bench._turner is _LEFT_OFF:
+            return True
         if bench._used is None:
             bench._used = _used(bench)
         return self._choice(bench, bench._used) is not None
@@ -237,6 +262,8 @@ class Hold(Session, Waiter):
     def _span_before(self, bench: Bench, until: Optional[float]) -> float:
         """For how long it may sleep, not added yet; -1 for without limit. It raises what keeps it from that."""
         now = _now()
+        if bench._turner is _LEFT_OFF:
+            return 0
         if self._seconds is not None and now >= self._since + self._seconds:
             raise Withdrawn(self, self._seconds, self._kept(bench))
         if until is not None and now >= until:
@@ -288,6 +315,8 @@ class Hold(Session, Waiter):
                 return
             bench._look_over()
             number = self._adds
+            if number > len(job._plan) or number and job._in != number and self.state != "finished":  # (a write failed, and it is over)
+                self.state = "withdrawn"
             if job._in and job._in == number and self.state != "held":
                 if bench._outside_of(job) is not None or bench._state_of(job.index).session == number:
                     bench._leaves(job, self, False)
@@ -319,11 +348,25 @@ class _More(Waiter):
         return self.job._last < len(self.job._plan) or self.job._is_over or bench._stands != 0
 
 
+class _NewPage(Waiter):
+    """Whoever adds a session while a page is turned."""
+
+    def is_ready(self, bench: Bench) -> bool:
+        return bench._turner in (None, _LEFT_OFF) or bench._stands != 0
+
+
 class _Turner(Waiter):
-    """Whoever turns the page: all sessions are over."""
+    """Whoever turns the page: all sessions are over. With a journal it retires all jobs but those that `were_retired`, and that is written, before
+    it can turn."""
+
+    were_retired: Optional[tuple[Job, ...]] = None
 
     def is_ready(self, bench: Bench) -> bool:
         return not _busy(bench) or bench._stands > _STOPPED
+
+
+# turns the page in place of one who left off when jobs were retired for that: whoever is the next to add a session turns it
+_LEFT_OFF = _Turner()
 
 
 def _busy(bench: Bench) -> tuple[Job, ...]:
@@ -416,36 +459,60 @@ def _command(given: Asked) -> Command:
 
 def add(job: Job, instruments: tuple[str, ...], commands: Iterable[Asked]) -> None:
     bench, kind = job.bench, _kind(job, instruments, tuple(commands))
+
+    def act() -> Optional[Ticket]:
+        bench._may_go_on()
+        if bench._turner is _LEFT_OFF:
+            return None
+        _append(bench, job, kind, "add")
+        bench._rouse_others()
+        return bench._ticket()
+
+    ticket: Optional[Ticket] = None
+    while bench._journal is not None and ticket is None:
+        # (what comes while a page is turned is in no journal before that is over)
+        if bench._turner is _LEFT_OFF:
+            go_on_turning(bench)
+        ticket = _waits(bench, _NewPage(), act)
+    if ticket is not None:
+        return bench._commit(ticket)
     with bench._mutex, bench._mending:
         bench._look_over()
         bench._may_go_on()
         if bench._turner is None:
-            _append(bench, job, kind)
-            bench._rouse_others()
-        elif job._is_over or bench._journal is not None:
-            raise _why_not(bench, job, RETIRED if job._is_over else NOT_NOW)
+            act()
+        elif job._is_over:
+            raise Retired(job.name)
         elif sum(other is job for other, _ in bench._later) >= MOST_SESSIONS - 1:
             raise Full(job.name)
         else:
             bench._later.append((job, kind))
 
 
-def _append(bench: Bench, job: Job, kind: Kind) -> int:
-    """Adds a session; its number. (With the mutex held.)"""
+def _append(bench: Bench, job: Job, kind: Kind, how: str) -> int:
+    """Adds a session, by `hold` or `add`; its number. (With the mutex held.)"""
     if job._is_over:
         raise Retired(job.name)
     call = bench._lab_add
     if call is None:
         call = bench._lab_add = _adder(bench)
-    job._adds = kind.plan
+    job._adds, job._how = kind.plan, how
     bench._torn = True
     status = call(bench._at, job.index, kind.text, kind.size, bench._told_at)
     if status:
         bench._torn = False
         raise _why_not(bench, job, status)
     job._plan.append(kind.plan)
+    tell_journal(bench, job)
     bench._torn, bench._has_patience = False, True
     return len(job._plan)
+
+
+def tell_journal(bench: Bench, job: Job) -> None:
+    """The journal gets the sessions of a job that it hasn't, before any step that comes later. (With the mutex held.)"""
+    if bench._journal is not None:
+        while bench._journal.sessions[job.index] < len(job._plan):
+            bench._journal.more(job.index, job.name, job._how)
 
 
 def _adder(bench: Bench) -> Callable[..., int]:
@@ -457,8 +524,6 @@ def _adder(bench: Bench) -> Callable[..., int]:
 def _why_not(bench: Bench, job: Job, status: int) -> Exception:
     if status == RETIRED:
         return Retired(job.name)
-    if status == NOT_NOW:
-        return LabrunError("a bench that keeps a journal takes no sessions that come, yet")
     if status == NO_MEMORY:
         return MemoryError()
     if status == REFUSED and bench._told.cause == _LIMIT_PASSED:
@@ -493,6 +558,21 @@ def _skip(bench: Bench, job: Job) -> None:
     bench._call("lab_withdraw", job.index)
     job._last = number
     bench._settle()
+
+
+def give_up_unheld(bench: Bench, came: Mapping[tuple[str, int], str]) -> None:
+    """The bench has come back: sessions of `hold` that don't hold are over, because nobody was told of them and nobody comes for them. (With the
+    mutex held.)"""
+    for job in bench._jobs:
+        if job._in and not bench._holds(job) and came.get((job.name, job._in)) == "hold":
+            bench._call("lab_withdraw", job.index)
+            if job._session is not None:
+                job._session.state = "withdrawn"
+            job._in, job._session = 0, None
+    # (only now: by a settle those that wait may come to hold)
+    for job in bench._jobs:
+        while not job._in and came.get((job.name, job._last + 1)) == "hold" and job._last < len(job._plan):
+            _skip(bench, job)
 
 
 def waits_for_more(job: Job) -> bool:
@@ -541,7 +621,7 @@ def new(kind: type[Bench], jobs: Mapping[str, Iterable[str]], journal: Optional[
         ticket = bench._ticket()
     if ticket is not None:
         bench._commit(ticket)
-    if bench.resumed and bench._jobs and all(job._is_retired for job in bench._jobs):
+    if bench.resumed and any(job._is_retired for job in bench._jobs) and not _busy(bench):
         # (the process ended when the page was over, and before the next one was begun)
         bench.turn_page()
     return bench
@@ -594,20 +674,39 @@ def _first_line(script: bytes) -> str:
 
 def room_of(bench: Bench) -> Room:
     commands = sum(len(planned[1]) for job in bench._jobs for planned in job._plan)
-    steps = None if bench._journal is None else MOST_STEPS - bench._journal.steps()
-    return Room({job.name: MOST_SESSIONS - len(job._plan) for job in bench._jobs}, MOST_COMMANDS - commands, steps)
+    journal = bench._journal
+    steps, left = (None, None) if journal is None else (MOST_STEPS - journal.steps(), MOST - journal.length())
+    return Room({job.name: MOST_SESSIONS - len(job._plan) for job in bench._jobs}, MOST_COMMANDS - commands, steps, left)
 
 
 def turn_page(bench: Bench, timeout: Optional[float]) -> Page:
-    me, until = _Turner(), None if timeout is None else _now() + timeout
+    page = _turns(bench, _may_turn, None if timeout is None else _now() + timeout)
+    assert page is not None
+    return page
+
+
+def _may_turn(bench: Bench) -> bool:
+    bench._may_go_on()
+    if bench._turner not in (None, _LEFT_OFF):
+        raise LabrunError("another thread turns the page")
+    if bench._journal is not None and not bench._is_endless:
+        raise LabrunError("a bench of a script keeps its journal to the end: Bench.new is for one that turns pages")
+    return True
+
+
+def go_on_turning(bench: Bench) -> None:
+    """The page is turned, if somebody left off turning it."""
+    _turns(bench, lambda bench: bench._turner is _LEFT_OFF, None)
+
+
+def _turns(bench: Bench, may: Callable[[Bench], bool], until: Optional[float]) -> Optional[Page]:
+    """Turns the page, if that may be."""
+    me = _Turner()
     try:
         with bench._mutex:
             bench._look_over()
-            bench._may_go_on()
-            if bench._turner is not None:
-                raise LabrunError("another thread turns the page")
-            if bench._journal is not None and not bench._is_endless:
-                raise LabrunError("a bench of a script keeps its journal to the end: Bench.new is for one that turns pages")
+            if not may(bench):
+                return None
             bench._turner = me
         while True:
             page = _waits(bench, me, lambda: _turned(bench), None if until is None else max(0.0, until - _now()))
@@ -628,12 +727,14 @@ def turn_page(bench: Bench, timeout: Optional[float]) -> Page:
 
 def _is_over(bench: Bench) -> None:
     """Nobody turns the page any more: what waited for that may come. (With the mutex held.)"""
-    bench._turner = None
+    me = bench._turner
+    was_left_off = isinstance(me, _Turner) and me.were_retired is not None and any(it._is_retired and it not in me.were_retired for it in bench._jobs)
+    bench._turner = _LEFT_OFF if was_left_off and bench._stands == 0 else None
     later, bench._later = bench._later, []
     if bench._stands <= _STOPPED:
         for job, kind in later:
-            _append(bench, job, kind)
-    bench._rouse_others(bench._stands > _STOPPED)
+            _append(bench, job, kind, "add")
+    bench._rouse_others(bench._stands > _STOPPED or was_left_off)
 
 
 def _turned(bench: Bench) -> Union[Page, tuple[int, int]]:
@@ -641,6 +742,8 @@ def _turned(bench: Bench) -> Union[Page, tuple[int, int]]:
     for job in bench._members(bench._left):
         _lapse(bench, job)
     if bench._journal is not None:
+        if isinstance(bench._turner, _Turner):
+            bench._turner.were_retired = tuple(job for job in bench._jobs if job._is_over)
         _retires_all(bench)
         if not bench._is_written():
             return bench._journal.ticket
@@ -698,10 +801,7 @@ def _sets_aside(bench: Bench, turning: Turning, old: Journal) -> None:
     """The journal's file gets a name with a number, one more than the last, and the new page begins one of the old name."""
     path = old.path
     if turning.kept is None:
-        number = 1
-        while os.path.exists(f"{path}.{number}"):
-            number += 1
-        turning.kept = f"{path}.{number}"
+        turning.kept = f"{path}.{1 + _last_page(path)}"
     if not turning.is_renamed:
         if os.path.exists(path):
             os.rename(path, turning.kept)
@@ -709,10 +809,17 @@ def _sets_aside(bench: Bench, turning: Turning, old: Journal) -> None:
     if turning.journal is not None:
         turning.journal.close()
     handle = Handle()
-    turning.journal = Journal(path, turning.script, bench._sync, _bench._new_lock)
+    turning.journal = Journal(path, turning.script, bench._sync, _bench._new_lock, old)
     turning.calls, _ = turning.journal.open(library(), handle)
     bench._journal, turning.handle = turning.journal, handle
     old.close()
+
+
+def _last_page(path: str) -> int:
+    """The largest number of a journal's pages that are set aside."""
+    folder, name = os.path.split(os.path.abspath(path))
+    numbers = [it[len(name) + 1 :] for it in os.listdir(folder) if it.startswith(name + ".")]
+    return max((int(it) for it in numbers if it.isascii() and it.isdigit()), default=0)
 
 
 def _opened(script: bytes) -> Handle:
@@ -737,6 +844,7 @@ def _begins_anew(bench: Bench, calls: Union[Library, Kept], handle: Handle, scri
         job._in = job._last = job._asked_for = 0
         # (one that was retired by its owner stays so)
         job._is_retired = job._is_old = False
+    bench._counts_sessions()
     _give_up_first(bench)
     for job in bench._jobs:
         if job._is_over:

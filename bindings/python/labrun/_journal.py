@@ -9,12 +9,13 @@ import ctypes
 import errno
 import fcntl
 import os
+import re
 import time
 import weakref
 from typing import Any, Callable, Optional, Union
 
 from ._faults import CAUSES, JournalError
-from ._library import NO_MEMORY, NO_ROOM, REFUSED, Handle, Library, Told
+from ._library import JOURNAL_FULL, NO_MEMORY, NO_ROOM, REFUSED, Handle, Library, Told
 from ._report import told_fault
 
 Path = Union[str, "os.PathLike[str]"]
@@ -25,13 +26,17 @@ Ticket = tuple[int, int]
 # no journal that has more bytes, or more steps, is read again
 MOST, MOST_STEPS = 16777216, 1000000
 
+# a comment before the lines of a session that came: whether it is one of `hold`, for which nobody comes after the process has died
+_CAME = re.compile(rb"^# (hold|add) (\S+) (\d+)$", re.MULTILINE)
+
 _STEPS = ("lab_turn", "lab_settle", "lab_command", "lab_end", "lab_withdraw", "lab_retire")
 
 
 class Journal:
     """`ticket` is of all that was added. `fault` is a write that failed, until the bench has gone back to what the file has."""
 
-    def __init__(self, path: Path, script: bytes, sync: str, new_lock: Callable[[], Any]) -> None:
+    def __init__(self, path: Path, script: bytes, sync: str, new_lock: Callable[[], Any], before: Optional[Journal] = None) -> None:
+        """`before` is the journal of the page before: whatever that had told is kept."""
         if sync not in ("data", "none"):
             raise ValueError('sync is "data" or "none"')
         self.path = os.fspath(path)
@@ -49,13 +54,20 @@ class Journal:
         except BlockingIOError:
             self.close()
             raise JournalError(self.path, "another process has it open") from None
+        if not _is_at(path, self._file):
+            self.close()
+            raise JournalError(self.path, "another process turned its page just now")
         # the file is `_stands[1]` bytes long on the disk, after `_stands[0]` writes that failed, each of which left it as long as `_ends` says
-        self._stands: Ticket = (0, 0)
-        self._ends: list[int] = []
+        self._ends: list[int] = [] if before is None else [*before._ends, before._stands[1]]
+        self._stands: Ticket = (len(self._ends), 0)
+        # the sessions that came, by job and number: `hold` or `add`
+        self.came: dict[tuple[str, int], str] = {}
+        # how many sessions of each job it has
+        self.sessions: list[int] = []
         # what was added and isn't written, each with the length of the file behind it; some in front may be written already
         self._added: list[tuple[int, bytes]] = []
         self._given = self._steps = 0
-        self.ticket: Ticket = (0, 0)
+        self.ticket: Ticket = self._stands
         self._is_torn = True  # what is behind may be anything
         self._is_quick: Optional[bool] = None  # whether a sync takes microseconds, once one was timed
         self._written = ctypes.c_size_t()
@@ -79,14 +91,16 @@ class Journal:
         is_there = len(found) >= len(head)
         self._calls, self._handle, self._at = calls, handle, ctypes.byref(handle)
         self._takes = calls.quick("lab_journal")
+        self._gives: Optional[Callable[..., int]] = None  # looked up when the first session comes: an older library has none
         if found[: len(head)] != head[: len(found)]:
             line = 1 + head.count(b"\n", 0, len(os.path.commonprefix([found, head])))
             raise JournalError(self.path, f"it is the journal of another script, which differs in line {line}", line)
         if is_there:
             self._resume(found, handle, told)
             self._steps = _steps(found[len(head) : told.written])
-            self._stands = self.ticket = (0, told.written)
+            self._stands = self.ticket = (self._stands[0], told.written)
             self._given = told.written
+            self.came = {(it[2].decode(), int(it[3])): it[1].decode() for it in _CAME.finditer(found, len(head), told.written)}
             self._take()
         else:
             status = calls["lab_bench_open_kept"](script, len(script), ctypes.byref(handle), ctypes.byref(told))
@@ -128,16 +142,30 @@ class Journal:
 
     def _take(self) -> None:
         """What the last call did is added."""
+        text = self._told(self._takes)
+        if text:
+            self._add(self._stamp() + text)
+
+    def more(self, job: int, name: str, how: str) -> None:
+        """The next session of a job is added, and before it whether it is one of `hold` or of `add`."""
+        if self._gives is None:
+            self._gives = self._calls.quick("lab_more")
+        number = self.sessions[job] + 1
+        text = self._told(self._gives, job, number)
+        self._add(self._stamp() + f"# {how} {name} {number}\n".encode() + text)
+        self.came[name, number] = how
+        self.sessions[job] = number
+
+    def _told(self, call: Callable[..., int], *given: int) -> bytes:
+        """The text that a call tells, with ever more room, until it fits."""
         while True:
-            status = self._takes(self._at, self._room_at, self._size, self._written_at)
+            status = call(self._at, *given, self._room_at, self._size, self._written_at)
             if status != NO_ROOM:
                 break
             self._room_of(2 * self._written.value)
         if status:
-            raise MemoryError() if status == NO_MEMORY else JournalError(self.path, f"lab_journal: status {status}")
-        length = self._written.value
-        if length:
-            self._add(self._stamp() + ctypes.string_at(self._room_at, length))
+            raise MemoryError() if status == NO_MEMORY else JournalError(self.path, f"the journal's text: status {status}")
+        return ctypes.string_at(self._room_at, self._written.value)
 
     def note(self, text: str) -> None:
         """Adds a comment of one line."""
@@ -147,6 +175,10 @@ class Journal:
     def steps(self) -> int:
         """How many steps it has, with those that aren't written yet."""
         return self._steps + sum(_steps(text) for end, text in self._added if end > self._stands[1] > 0)
+
+    def length(self) -> int:
+        """How many bytes it has, in the same way."""
+        return self._given
 
     def _stamp(self) -> bytes:
         """A comment that says the time, if that is another than the last one's."""
@@ -284,9 +316,11 @@ class Kept:
         return self._kept(name, self._calls.quick(name))
 
     def _kept(self, name: str, call: Callable[..., Any]) -> Callable[..., Any]:
+        take = self._take
+        if name == "lab_add":
+            return lambda *given: self._added(call, given)
         if name not in _STEPS:
             return call
-        take = self._take
 
         def kept(*given: Any) -> Any:
             status = call(*given)
@@ -294,6 +328,13 @@ class Kept:
             return status
 
         return kept
+
+    def _added(self, call: Callable[..., Any], given: tuple[Any, ...]) -> Any:
+        status = call(*given)
+        if status == JOURNAL_FULL:
+            self._take()
+            status = call(*given)
+        return status
 
 
 # Calls of the system that don't let go of the interpreter's lock: a write goes to the system's memory, which takes a microsecond.
@@ -312,6 +353,14 @@ def _pwrite(file: int, text: bytes, place: int) -> int:
 def _steps(text: bytes) -> int:
     """How many lines are no comments."""
     return text.count(b"\n") - text.count(b"\n#") - text.startswith(b"#")
+
+
+def _is_at(path: Path, file: int) -> bool:
+    """Whether the file is still at its path: another process may have turned its page before that let go of it."""
+    try:
+        return os.path.samestat(os.stat(path), os.fstat(file))
+    except FileNotFoundError:
+        return False
 
 
 def _sync_folder(path: str) -> None:

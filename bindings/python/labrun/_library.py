@@ -8,6 +8,7 @@ import os
 from typing import Any, Callable, Optional
 
 REFUSED, NO_SUCH, WAITS, TOO_LONG, NO_MEMORY, NO_ROOM, NOT_OPEN, NOT_NOW, NO_SESSION, SESSIONS_LEFT, IN_USE = range(1, 12)
+JOURNAL_FULL = 12
 RETIRED = 14
 ACTED = 2
 
@@ -48,6 +49,15 @@ class SessionOf(ctypes.Structure):
     commands: int
     patience: int
     has_patience: int
+
+
+class Planned(ctypes.Structure):
+    """`struct lab_planned`."""
+
+    _fields_ = [(name, ctypes.c_uint32) for name in ("instrument", "verb", "number")]
+    instrument: int
+    verb: int
+    number: int
 
 
 class Turned(ctypes.Structure):
@@ -137,6 +147,7 @@ _SHORT: dict[str, list[Any]] = {
     "lab_job_name": [_HANDLE, _WORD, _ROOM, _SIZE, ctypes.POINTER(_SIZE)],
     "lab_instrument_name": [_HANDLE, _WORD, _ROOM, _SIZE, ctypes.POINTER(_SIZE)],
     "lab_session_of": [_HANDLE, _WORD, _WORD, ctypes.POINTER(SessionOf)],
+    "lab_planned": [_HANDLE, _WORD, _WORD, _WORD, ctypes.POINTER(Planned)],
     "lab_state": [_HANDLE, _WORD, ctypes.POINTER(State)],
     "lab_keepers": [_HANDLE, _WORD, _WORD, ctypes.POINTER(Keepers)],
     "lab_overtakes": [_HANDLE, _WORD],
@@ -148,6 +159,7 @@ _SHORT: dict[str, list[Any]] = {
     "lab_end": [_HANDLE, _WORD, _TURNED],
     "lab_withdraw": [_HANDLE, _WORD],
     "lab_retire": [_HANDLE, _WORD, _WORD, _TURNED],
+    "lab_more": [_HANDLE, _WORD, _WORD, _ROOM, _SIZE, ctypes.POINTER(_SIZE)],
     "lab_journal": [_HANDLE, _ROOM, _SIZE, ctypes.POINTER(_SIZE)],
     "lab_bench_free": [_HANDLE],
 }

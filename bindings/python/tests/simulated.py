@@ -4,6 +4,7 @@ wakes it is tested on what the definitions say, one call at a time, without a bu
 from __future__ import annotations
 
 import ctypes
+import hashlib
 import os
 import re
 import sys
@@ -74,21 +75,42 @@ class Simulated:
         kept = self.kept[at(handle).at]
         text = "".join(line + "\n" for line in kept).encode()
         text += b"# sum %08x\n" % zlib.crc32(text) if kept else b""
+        status = self.in_room(text, room, size, written)
+        if status == 0:
+            kept.clear()
+        return status
+
+    def lab_more(self, handle: Any, job: int, session: int, room: Any, size: Any, written: Any) -> int:
+        plan = self.run(handle).plan
+        it = plan.sessions[job][session - 1]
+        commands = [(plan.instrument_names[instrument], verb, number) for instrument, verb, number in it.commands]
+        lines = [f"more {plan.job_names[job]}", "session" if it.patience is None else f"session patience {it.patience}"]
+        lines += [f"{name} {verb}" + (f" {number}" if verb != "read" else "") for name, verb, number in commands] + ["end"]
+        text = "".join(f"#{line}\n" for line in [lines[0], *("+" + line for line in lines[1:])]).encode()
+        return self.in_room(b"#steps\n%b#sum %b\n" % (text, hashlib.sha256(text).hexdigest()[:16].encode()), room, size, written)
+
+    def in_room(self, text: bytes, room: Any, size: Any, written: Any) -> int:
         at(written).value = len(text)
         if len(text) > size.value:
             return 6
         ctypes.memmove(room, text, len(text))
-        kept.clear()
         return 0
 
     def lab_bench_resume(self, journal: bytes, length: int, handle: Any, told: Any) -> int:
         whole = journal[: journal.rfind(b"\n") + 1]
         script, steps = whole.split(b"\nsteps\n", 1)
         status = self.lab_bench_open_kept(script + b"\n", len(script) + 1, handle, told)
-        since = b""
+        since, more = b"", []
         for number, line in enumerate(steps.split(b"\n")[:-1], script.count(b"\n") + 3):
             words = line.decode("ascii", "replace").split()
-            if words[:2] == ["#", "sum"]:
+            if line.startswith(b"#more ") or more and line.startswith(b"#+") and line != b"#+end":
+                more = [line[6:]] if line.startswith(b"#more ") else [*more, line[2:] + b"\n"]
+                continue
+            if more and line == b"#+end":
+                job, text = self.run(handle).plan.job_names.index(more[0].decode()), b"".join([*more[1:], b"end\n"])
+                is_good = self.lab_add(handle, job, text, ctypes.c_size_t(len(text)), told) == 0
+                more = []
+            elif words[:2] == ["#", "sum"]:
                 is_good, since = words[2:] == ["%08x" % zlib.crc32(since)], b""
             elif words and not words[0].startswith("#"):
                 is_good, since = self.is_done_again(handle, words), since + line + b"\n"
@@ -174,6 +196,12 @@ class Simulated:
         session = plan.sessions[job][number - 1]
         it.needs, it.commands = plan.needs(job, number), len(session.commands)
         it.has_patience, it.patience = int(session.patience is not None), session.patience or 0
+        return 0
+
+    def lab_planned(self, handle: Any, job: int, number: int, place: int, planned: Any) -> int:
+        it = at(planned)
+        it.instrument, verb, number = self.run(handle).plan.sessions[job][number - 1].commands[place]
+        it.verb, it.number = VERBS.index(verb), number or 0
         return 0
 
     def lab_state(self, handle: Any, job: int, state: Any) -> int:
@@ -324,8 +352,6 @@ class Simulated:
 
     def lab_add(self, handle: Any, job: int, session: bytes, length: Any, told: Any) -> int:
         """A refusal has its line, from 1; cause 0 if an instrument isn't the job's own."""
-        if at(handle).at in self.kept:
-            return 8
         run = self.run(handle)
         one, plan = run.jobs[job], run.plan
         if one.is_retired():

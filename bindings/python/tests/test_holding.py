@@ -609,8 +609,8 @@ class New(OnBay):
                     self.assertEqual({it.name for it in os.scandir(folder)}, {"bay.journal", "bay.journal.1"} if resumed else {"bay.journal"})
                     assert bench.room.steps
                     self.assertTrue(999000 < bench.room.steps < 1000000)
-                    with self.assertRaisesRegex(labrun.LabrunError, "a bench that keeps a journal takes no sessions that come, yet"):
-                        bench.job("guest").hold("scope").acquire()
+                    with bench.job("guest").hold("scope") as session:
+                        self.assertEqual(session.number, 2)
                     if not resumed:
                         # (as a process that is killed leaves it)
                         bench.job("board").retire()

@@ -87,6 +87,14 @@ pub struct Entered {
     pub value: u32,
 }
 
+#[repr(C)]
+#[derive(Clone, Copy, Default)]
+pub struct Planned {
+    pub instrument: u32,
+    pub verb: u32,
+    pub number: u32,
+}
+
 extern "C" {
     pub fn lab_rounds(script: *const u8, length: usize, limit: u32, report: *mut u8, room: usize, told: *mut Told) -> u32;
     pub fn lab_replay(script: *const u8, length: usize, report: *mut u8, room: usize, told: *mut Told) -> u32;
@@ -97,11 +105,13 @@ extern "C" {
     pub fn lab_job_name(bench: *mut Handle, job: u32, name: *mut u8, room: usize, written: *mut usize) -> u32;
     pub fn lab_instrument_name(bench: *mut Handle, instrument: u32, name: *mut u8, room: usize, written: *mut usize) -> u32;
     pub fn lab_session_of(bench: *mut Handle, job: u32, session: u32, what: *mut SessionOf) -> u32;
+    pub fn lab_planned(bench: *mut Handle, job: u32, session: u32, place: u32, command: *mut Planned) -> u32;
     pub fn lab_state(bench: *mut Handle, job: u32, state: *mut State) -> u32;
     pub fn lab_keepers(bench: *mut Handle, job: u32, instrument: u32, keepers: *mut Keepers) -> u32;
     pub fn lab_overtakes(bench: *mut Handle, most: u32) -> u32;
     pub fn lab_settle(bench: *mut Handle, waiting: u32, came: *mut Came) -> u32;
     pub fn lab_outside(bench: *mut Handle, job: u32, outside: *mut Outside) -> u32;
+    pub fn lab_add(bench: *mut Handle, job: u32, session: *const u8, length: usize, told: *mut Told) -> u32;
     pub fn lab_turn(bench: *mut Handle, job: u32, turned: *mut Turned) -> u32;
     pub fn lab_command(bench: *mut Handle, job: u32, entry: *mut Entered) -> u32;
     pub fn lab_end(bench: *mut Handle, job: u32, turned: *mut Turned) -> u32;
@@ -109,6 +119,7 @@ extern "C" {
     pub fn lab_retire(bench: *mut Handle, job: u32, turns: u32, turned: *mut Turned) -> u32;
     pub fn lab_bench_open_kept(script: *const u8, length: usize, bench: *mut Handle, told: *mut Told) -> u32;
     pub fn lab_bench_resume(journal: *const u8, length: usize, bench: *mut Handle, told: *mut Told) -> u32;
+    pub fn lab_more(bench: *mut Handle, job: u32, session: u32, text: *mut u8, room: usize, written: *mut usize) -> u32;
     pub fn lab_journal(bench: *mut Handle, text: *mut u8, room: usize, written: *mut usize) -> u32;
     pub fn lab_bench_close(bench: *mut Handle, report: *mut u8, room: usize, told: *mut Told) -> u32;
     pub fn lab_bench_free(bench: *mut Handle) -> u32;

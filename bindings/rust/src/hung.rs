@@ -51,7 +51,7 @@ impl Inner {
         }
     }
 
-    fn number_of(&self, job: &str) -> Result<u32, Error> {
+    pub(crate) fn number_of(&self, job: &str) -> Result<u32, Error> {
         self.jobs.iter().position(|it| it == job).map(|at| at as u32).ok_or_else(|| Error::NoSuchJob(job.to_string()))
     }
 }
@@ -81,6 +81,8 @@ impl Bench {
         inner.take(&mut core, job)?;
         if core.waiting != 0 {
             inner.settle(&mut core)?;
+        } else {
+            inner.rouse_others(&core);
         }
         let ticket = inner.ticket();
         drop(core);
@@ -94,6 +96,6 @@ impl Bench {
         let job = self.inner.number_of(job)?;
         let mut core = self.inner.open()?;
         let asked = core.seats[job as usize].now != 0;
-        Ok(if asked { self.inner.keepers(&mut core, job) } else { Vec::new() })
+        Ok(if asked { self.inner.keepers(&mut core, job) } else { self.inner.chooser_keepers(&mut core, job) })
     }
 }

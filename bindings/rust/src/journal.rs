@@ -3,19 +3,21 @@
 //! What a call did is added with the bench's mutex held, so in the order of the calls. It is written without that mutex, by whoever comes
 //! first, with all that others have added by then; they find it written. A write that fails leaves the bench as the file has it.
 use crate::{fault, ffi, Error, FORKS, NO_ROOM, REFUSED};
+use std::collections::HashMap;
 use std::fs::{File, OpenOptions};
 use std::io;
 use std::mem::ManuallyDrop;
 use std::os::fd::AsRawFd;
-use std::os::unix::fs::FileExt;
+use std::os::unix::fs::{FileExt, MetadataExt};
 use std::path::Path;
 use std::sync::atomic::{AtomicI32, Ordering::Relaxed};
 use std::sync::{Condvar, Mutex, MutexGuard};
-use std::time::{SystemTime, UNIX_EPOCH};
+use std::thread::sleep;
+use std::time::{Duration, SystemTime, UNIX_EPOCH};
 
 /// No journal that has more bytes, or more steps, is read again.
-const MOST: u64 = 16777216;
-const MOST_STEPS: usize = 1000000;
+pub(crate) const MOST: u64 = 16777216;
+pub(crate) const MOST_STEPS: usize = 1000000;
 
 /// The files of journals, each plus 1; a child of a fork closes its copies, so that it keeps nobody from them.
 static FILES: [AtomicI32; 64] = {
@@ -83,10 +85,14 @@ impl Written {
     }
 }
 
+/// The sessions that came, of the file that was there, by job and number: whether it is one of `hold`, for which nobody comes after the process
+/// has died, or of `add`.
+pub(crate) type CameBy = HashMap<(String, u32), bool>;
+
 pub(crate) struct Journal {
     path: String,
     syncs: bool,
-    file: ManuallyDrop<File>,
+    file: Mutex<ManuallyDrop<File>>,
     born: u32,
     written: Mutex<Written>,
     changed: Condvar,
@@ -95,27 +101,16 @@ pub(crate) struct Journal {
 impl Journal {
     pub(crate) fn open(path: &Path, to: SyncTo) -> Result<Journal, Error> {
         let name = path.display().to_string();
-        let opened = OpenOptions::new().read(true).write(true).create(true).open(path);
-        let file = opened.map_err(|why| Error::Journal { path: name.clone(), why: why.to_string(), line: 0 })?;
-        // SAFETY: the file is open.
-        if unsafe { flock(file.as_raw_fd(), ALONE_AT_ONCE) } != 0 {
-            let why = io::Error::last_os_error();
-            let is_open = why.kind() == io::ErrorKind::WouldBlock;
-            let why = if is_open { "another process has it open".into() } else { why.to_string() };
-            return Err(Error::Journal { path: name, why, line: 0 });
-        }
-        let number = file.as_raw_fd() + 1;
-        let _ = FILES.iter().any(|it| it.compare_exchange(0, number, Relaxed, Relaxed).is_ok());
+        let file = locked(path).map_err(|why| Error::Journal { path: name.clone(), why, line: 0 })?;
         let written = Written { torn: true, ..Written::default() };
-        let (file, syncs, born) = (ManuallyDrop::new(file), to == SyncTo::Disk, FORKS.load(Relaxed));
+        let (file, syncs, born) = (Mutex::new(ManuallyDrop::new(file)), to == SyncTo::Disk, FORKS.load(Relaxed));
         Ok(Journal { path: name, syncs, file, born, written: Mutex::new(written), changed: Condvar::new() })
     }
 
-    /// Opens the bench: for its script, or as the file has it; whether it has one.
-    pub(crate) fn begin(&self, script: &[u8], handle: &mut ffi::Handle) -> Result<bool, Error> {
-        let mut head = script.to_vec();
-        head.extend_from_slice(if script.ends_with(b"\n") { b"steps\n" } else { b"\nsteps\n" });
-        let length = self.file.metadata().map_err(|why| self.fault(&why.to_string(), 0))?.len();
+    /// Opens the bench: for its script, or as the file has it; whether it has one, and then what came to it.
+    pub(crate) fn begin(&self, script: &[u8], handle: &mut ffi::Handle) -> Result<Option<CameBy>, Error> {
+        let head = head(script);
+        let length = self.file().metadata().map_err(|why| self.fault(&why.to_string(), 0))?.len();
         let found = self.text(length)?;
         let same = found.iter().zip(&head).take_while(|(one, other)| one == other).count();
         if same < found.len() && same < head.len() {
@@ -123,8 +118,10 @@ impl Journal {
             return Err(self.fault(&format!("it is the journal of another script, which differs in line {line}"), line));
         }
         let is_there = same == head.len();
+        let mut came = None;
         if is_there {
             let length = self.resume(&found, handle)?;
+            came = Some(came_by(&found[head.len()..length as usize]));
             let mut written = self.lock();
             (written.stands.1, written.given, written.steps) = (length, length, steps(&found[head.len()..length as usize]));
             drop(written);
@@ -145,7 +142,77 @@ impl Journal {
             .map_err(|why| self.fault(&format!("a write failed: {why}"), 0))?;
         written.stands.1 += text.len() as u64;
         written.torn = false;
-        Ok(is_there)
+        Ok(came)
+    }
+
+    /// The journal's page is over, and all of it is written: its file gets a name with a number, one more than the last, and the next page begins one
+    /// of the old name. What the file is called now. If that fails, all is as before.
+    pub(crate) fn turn(&self, script: &[u8], handle: &mut ffi::Handle) -> Result<String, Error> {
+        let kept = format!("{}.{}", self.path, self.last_page().map_err(|why| self.fault(&why.to_string(), 0))? + 1);
+        std::fs::rename(&self.path, &kept).map_err(|why| self.fault(&why.to_string(), 0))?;
+        let head = head(script);
+        let opened = self.begin_page(&head).and_then(|file| {
+            let mut told = ffi::Told::default();
+            // SAFETY: the slice's pointer and length, an empty handle, and all apart.
+            let status = unsafe { ffi::lab_bench_open_kept(script.as_ptr(), script.len(), handle, &mut told) };
+            if status == 0 {
+                Ok(file)
+            } else {
+                Err(fault(status, &told))
+            }
+        });
+        let file = match opened {
+            Ok(file) => file,
+            Err(fault) => {
+                std::fs::rename(&kept, &self.path)
+                    .map_err(|why| self.fault(&format!("{fault}; and {kept} can't be named so again: {why}"), 0))?;
+                return Err(fault);
+            }
+        };
+        let mut written = self.lock();
+        let length = written.stands.1;
+        written.ends.push(length);
+        (written.stands, written.given) = ((written.stands.0 + 1, head.len() as u64), head.len() as u64);
+        (written.steps, written.torn) = (0, false);
+        let old = std::mem::replace(&mut *self.file(), ManuallyDrop::new(file));
+        forget(old);
+        Ok(kept)
+    }
+
+    /// The file of a new page, with the page's script in it.
+    fn begin_page(&self, head: &[u8]) -> Result<File, Error> {
+        let file = locked(Path::new(&self.path)).map_err(|why| self.fault(&why, 0))?;
+        let done = file.set_len(0).and_then(|()| file.write_all_at(head, 0));
+        let done = if self.syncs { done.and_then(|()| file.sync_data()).and_then(|()| self.sync_folder()) } else { done };
+        match done {
+            Ok(()) => Ok(file),
+            Err(why) => {
+                forget(ManuallyDrop::new(file));
+                Err(self.fault(&format!("a write failed: {why}"), 0))
+            }
+        }
+    }
+
+    /// The largest number of the pages that are set aside.
+    fn last_page(&self) -> io::Result<u64> {
+        let path = Path::new(&self.path);
+        let name = format!("{}.", path.file_name().unwrap_or_default().to_string_lossy());
+        let names = std::fs::read_dir(self.folder())?.filter_map(|it| it.ok()?.file_name().into_string().ok());
+        Ok(names.filter_map(|it| it.strip_prefix(&name)?.parse().ok()).max().unwrap_or(0))
+    }
+
+    fn folder(&self) -> &Path {
+        Path::new(&self.path).parent().filter(|it| !it.as_os_str().is_empty()).unwrap_or(Path::new("."))
+    }
+
+    fn file(&self) -> MutexGuard<'_, ManuallyDrop<File>> {
+        self.file.lock().unwrap_or_else(|poisoned| poisoned.into_inner())
+    }
+
+    /// How many steps, and how many bytes, it may still get.
+    pub(crate) fn left(&self) -> (usize, usize) {
+        let written = self.lock();
+        (MOST_STEPS - written.steps - steps(&written.added), (MOST - written.given) as usize)
     }
 
     fn lock(&self) -> MutexGuard<'_, Written> {
@@ -163,7 +230,7 @@ impl Journal {
 
     fn text(&self, length: u64) -> Result<Vec<u8>, Error> {
         let mut all = vec![0; length as usize];
-        self.file.read_exact_at(&mut all, 0).map_err(|why| self.fault(&why.to_string(), 0))?;
+        self.file().read_exact_at(&mut all, 0).map_err(|why| self.fault(&why.to_string(), 0))?;
         Ok(all)
     }
 
@@ -182,19 +249,21 @@ impl Journal {
 
     /// What the last call did is added.
     pub(crate) fn take(&self, handle: &mut ffi::Handle) -> Result<(), Error> {
-        let (mut text, mut length) = (vec![0; 4096], 0);
-        loop {
-            // SAFETY: the room is that of one slice, and nobody else has the handle.
-            match unsafe { ffi::lab_journal(handle, text.as_mut_ptr(), text.len(), &mut length) } {
-                0 => break,
-                NO_ROOM => text.resize(length, 0),
-                status => return Err(fault(status, &ffi::Told::default())),
-            }
-        }
-        if length != 0 {
+        // SAFETY: the room is that of one slice, and nobody else has the handle.
+        let text = told_text(|text, room, length| unsafe { ffi::lab_journal(handle, text, room, length) })?;
+        if !text.is_empty() {
             self.stamp();
-            self.add(&text[..length]);
+            self.add(&text);
         }
+        Ok(())
+    }
+
+    /// A session that was added to a job is added, and before it whether it is one of `hold` or of `add`.
+    pub(crate) fn more(&self, handle: &mut ffi::Handle, job: u32, number: u32, name: &str, by_hold: bool) -> Result<(), Error> {
+        // SAFETY: the room is that of one slice, and nobody else has the handle.
+        let text = told_text(|text, room, length| unsafe { ffi::lab_more(handle, job, number, text, room, length) })?;
+        self.stamp();
+        self.add(&[format!("# {} {name} {number}\n", if by_hold { "hold" } else { "add" }).as_bytes(), &text].concat());
         Ok(())
     }
 
@@ -292,42 +361,111 @@ impl Journal {
 
     /// Writes this behind the file's end. An error leaves the file as it was, or at least torn.
     fn write(&self, end: u64, text: &[u8], torn: bool) -> io::Result<()> {
+        let file = self.file();
         if torn {
-            self.file.set_len(end)?;
+            file.set_len(end)?;
         }
         if end + text.len() as u64 > MOST {
             return Err(io::Error::new(io::ErrorKind::Other, TOO_LONG));
         }
-        let written = self.file.write_all_at(text, end);
-        let done = if self.syncs { written.and_then(|()| self.file.sync_data()) } else { written };
+        let written = file.write_all_at(text, end);
+        let done = if self.syncs { written.and_then(|()| file.sync_data()) } else { written };
         if done.is_err() {
-            let _ = self.file.set_len(end);
+            let _ = file.set_len(end);
         }
         done
     }
 
     /// So that the file's name is on the disk, too.
     fn sync_folder(&self) -> io::Result<()> {
-        let folder = Path::new(&self.path).parent().filter(|it| !it.as_os_str().is_empty()).unwrap_or(Path::new("."));
-        File::open(folder)?.sync_all()
+        File::open(self.folder())?.sync_all()
     }
 
     /// Others may open it from now on.
     pub(crate) fn close(&self) {
         // SAFETY: the file is open.
-        unsafe { flock(self.file.as_raw_fd(), LET_GO) };
+        unsafe { flock(self.file().as_raw_fd(), LET_GO) };
     }
 }
 
 impl Drop for Journal {
     fn drop(&mut self) {
-        let number = self.file.as_raw_fd() + 1;
+        // (in the child of a fork it is closed)
         if self.born == FORKS.load(Relaxed) {
-            let _ = FILES.iter().any(|it| it.compare_exchange(number, 0, Relaxed, Relaxed).is_ok());
-            // SAFETY: it is dropped here alone. (In the child of a fork it is closed.)
-            unsafe { ManuallyDrop::drop(&mut self.file) };
+            let file = self.file.get_mut().unwrap_or_else(|poisoned| poisoned.into_inner());
+            // SAFETY: it is taken out here alone.
+            forget(ManuallyDrop::new(unsafe { ManuallyDrop::take(file) }));
         }
     }
+}
+
+/// How often a lock is tried again that somebody has, and after how long.
+const TRIES: u32 = 10;
+const PAUSE: Duration = Duration::from_millis(10);
+
+/// The file of a journal, for this process alone, which a child of a fork will close; or why not.
+fn locked(path: &Path) -> Result<File, String> {
+    let file = OpenOptions::new().read(true).write(true).create(true).truncate(false).open(path).map_err(|why| why.to_string())?;
+    // (a child that another thread began just now has the lock too, until it runs its program)
+    let mut tries = TRIES;
+    // SAFETY: the file is open.
+    while unsafe { flock(file.as_raw_fd(), ALONE_AT_ONCE) } != 0 {
+        let why = io::Error::last_os_error();
+        if why.kind() != io::ErrorKind::WouldBlock {
+            return Err(why.to_string());
+        }
+        if tries == 0 {
+            return Err("another process has it open".into());
+        }
+        tries -= 1;
+        sleep(PAUSE);
+    }
+    let same = |one: std::fs::Metadata, other: std::fs::Metadata| one.ino() == other.ino() && one.dev() == other.dev();
+    if !std::fs::metadata(path).and_then(|it| Ok(same(it, file.metadata()?))).unwrap_or(false) {
+        return Err("another process turned its page just now".into());
+    }
+    let number = file.as_raw_fd() + 1;
+    let _ = FILES.iter().any(|it| it.compare_exchange(0, number, Relaxed, Relaxed).is_ok());
+    Ok(file)
+}
+
+/// The file is closed.
+fn forget(file: ManuallyDrop<File>) {
+    let number = file.as_raw_fd() + 1;
+    let _ = FILES.iter().any(|it| it.compare_exchange(number, 0, Relaxed, Relaxed).is_ok());
+    drop(ManuallyDrop::into_inner(file));
+}
+
+/// What a journal begins with.
+fn head(script: &[u8]) -> Vec<u8> {
+    [script, if script.ends_with(b"\n") { b"steps\n" } else { b"\nsteps\n" }].concat()
+}
+
+/// Calls with ever more room, until the text fits.
+fn told_text(mut call: impl FnMut(*mut u8, usize, *mut usize) -> u32) -> Result<Vec<u8>, Error> {
+    let (mut text, mut length) = (vec![0; 4096], 0);
+    loop {
+        match call(text.as_mut_ptr(), text.len(), &mut length) {
+            0 => break,
+            NO_ROOM => text.resize(length, 0),
+            status => return Err(fault(status, &ffi::Told::default())),
+        }
+    }
+    text.truncate(length);
+    Ok(text)
+}
+
+/// What the comments of a journal say of the sessions that came; the last of a session is right.
+fn came_by(text: &[u8]) -> CameBy {
+    let mut came = HashMap::new();
+    for line in String::from_utf8_lossy(text).lines() {
+        if let ["#", how @ ("hold" | "add"), job, number] = line.split(' ').collect::<Vec<_>>()[..] {
+            if let Ok(number) = number.parse() {
+                came.insert((job.to_string(), number), how == "hold");
+            }
+        }
+    }
+    came
 }
 
 const TOO_LONG: &str = "it would have more than 16777216 bytes, or than 1000000 steps";

@@ -36,7 +36,7 @@ impl Keeper {
     }
 
     /// As ` for 125 s`, of one that holds; with one decimal below ten seconds.
-    fn for_long(&self) -> String {
+    pub(crate) fn for_long(&self) -> String {
         let span = self.held_for.map(|it| it.as_secs_f64());
         span.map_or(String::new(), |it| format!(" for {it:.0$} s", usize::from(it < 10.0)))
     }
@@ -53,7 +53,10 @@ pub(crate) fn because(keepers: &[Keeper]) -> String {
     }
     let ends = if keepers.iter().any(|it| it.behind.is_some()) { format!(" for {}", ends.join(" and ")) } else { String::new() };
     let all: Vec<String> = keepers.iter().map(Keeper::to_string).collect();
-    format!("{ends}: {}", if all.is_empty() { "it holds by now, or is over".to_string() } else { all.join(", ") })
+    format!(
+        "{ends}: {}",
+        if all.is_empty() { "it holds by now, or is over, or a page is being turned".to_string() } else { all.join(", ") }
+    )
 }
 
 impl fmt::Display for Keeper {
@@ -84,14 +87,14 @@ impl Inner {
     }
 
     /// A keeper that holds.
-    fn holder(&self, core: &Core, at: usize, job: u32) -> Keeper {
+    pub(crate) fn holder(&self, core: &Core, at: usize, job: u32) -> Keeper {
         let held_for = core.seats[job as usize].since.map(|it| it.elapsed());
         let (instrument, job) = (self.instruments[at].clone(), self.jobs[job as usize].clone());
         Keeper { instrument, job, holds: true, held_for, passed: None, behind: None }
     }
 
     /// One that waits itself; `seen` are those who don't wait for it.
-    fn earlier(&self, core: &mut Core, at: usize, job: u32, seen: u32, passed: Option<u32>) -> Keeper {
+    pub(crate) fn earlier(&self, core: &mut Core, at: usize, job: u32, seen: u32, passed: Option<u32>) -> Keeper {
         let passed = passed.filter(|_| !core.seats[job as usize].is_old);
         let behind = self.behind(core, job, seen).map(Box::new);
         let (instrument, job) = (self.instruments[at].clone(), self.jobs[job as usize].clone());

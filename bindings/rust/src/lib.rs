@@ -26,16 +26,22 @@
 #![deny(missing_docs)]
 
 mod ffi;
+mod holding;
 mod hung;
 mod journal;
 mod keepers;
 mod options;
+mod pages;
 
+pub use holding::{Hold, Job, Verb};
 pub use journal::SyncTo;
 use journal::{Journal, Ticket};
 pub use keepers::Keeper;
 pub use options::Options;
+pub use pages::{Page, Room};
+use std::collections::HashMap;
 use std::fmt;
+use std::marker::PhantomData;
 use std::path::Path;
 use std::ptr;
 use std::sync::atomic::{AtomicU32, Ordering::Relaxed};
@@ -48,6 +54,8 @@ const TOO_LONG: u32 = 4;
 const NO_MEMORY: u32 = 5;
 const NO_ROOM: u32 = 6;
 const NOT_NOW: u32 = 8;
+const JOURNAL_FULL: u32 = 12;
+const IS_RETIRED: u32 = 14;
 
 /// How drinking stands.
 const TRANQUIL: u32 = 0;
@@ -84,7 +92,7 @@ pub enum Error {
     /// The file can't be read.
     Unread(String),
     /// The time limit passed. The session keeps its place, and may come to its instruments meanwhile if it stands in line: begin again, or
-    /// [`Desk::give_up`]. The text says first for whom it waits in the end: those are the ones to look after.
+    /// [`Desk::give_up`]. One of [`Job::hold`] is given up. The text says first for whom it waits in the end: those are the ones to look after.
     TimedOut(Vec<Keeper>),
     /// The session was given up, because its patience ran out. The next [`Desk::begin`] is about the one after it.
     Withdrawn,
@@ -93,6 +101,26 @@ pub enum Error {
     TakenAway,
     /// The script has no job of this name.
     NoSuchJob(String),
+    /// A session can't be added, because the job may not use this instrument: the edges between jobs stay as they were opened.
+    MayNotUse {
+        /// The job.
+        job: String,
+        /// The instrument.
+        instrument: String,
+        /// What the job may use.
+        may: Vec<String>,
+    },
+    /// A session can't be added: this job is retired.
+    Retired(String),
+    /// A session can't be added: this job has 1000, or the bench has 100000 commands. [`Bench::room`] tells before, and
+    /// [`Bench::turn_page`] helps.
+    Full(String),
+    /// What was asked for is no session, no job or no command; the text says why.
+    Invalid(String),
+    /// What was asked for may not be now; the text says why.
+    NotNow(String),
+    /// The page isn't turned, because these jobs are in a session or have one left, with what each is at.
+    NotBack(Vec<(String, String)>),
     /// The bench is closed.
     Closed,
     /// This is the child of a fork, and what it has is a copy of the bench of the process with this number: what it would hold, that one
@@ -124,6 +152,17 @@ impl fmt::Display for Error {
             Error::Withdrawn => write!(out, "the session was withdrawn"),
             Error::TakenAway => write!(out, "the session was taken away"),
             Error::NoSuchJob(name) => write!(out, "there is no job {name}"),
+            Error::MayNotUse { job, instrument, may } if may.is_empty() => {
+                write!(out, "{job} may not use {instrument}: it may use nothing")
+            }
+            Error::MayNotUse { job, instrument, may } => write!(out, "{job} may not use {instrument}: it may use {}", may.join(", ")),
+            Error::Retired(job) => write!(out, "{job} is retired, and gets no further session"),
+            Error::Full(job) => write!(out, "no room for another session of {job}: turn_page() begins a new page"),
+            Error::Invalid(why) | Error::NotNow(why) => write!(out, "{why}"),
+            Error::NotBack(jobs) => {
+                let all: Vec<String> = jobs.iter().map(|(job, what)| format!("{job} ({what})")).collect();
+                write!(out, "not back: {}", all.join(", "))
+            }
             Error::Closed => write!(out, "the bench is closed"),
             Error::OtherProcess(number) => write!(out, "this bench belongs to process {number}"),
             Error::Journal { path, why, .. } => write!(out, "{path}: {why}"),
@@ -261,11 +300,14 @@ struct Seat {
     is_old: bool,
     /// A session that was taken away, of which its owner doesn't know yet, or 0.
     taken: u32,
+    /// Whether its owner said that it gets no further session.
+    over: bool,
 }
 
 impl Seat {
     fn new(sessions: Vec<ffi::SessionOf>) -> Seat {
         Seat {
+            over: false,
             sessions,
             now: 0,
             last: 0,
@@ -291,8 +333,10 @@ impl Seat {
     /// Whether its owner still holds this session. That it was taken away is told once.
     fn is_held_yet(&mut self, number: u32, gone: &mut bool) -> Result<(), Error> {
         if self.taken == number {
-            (self.taken, *gone) = (0, true);
+            self.taken = 0;
         }
+        // (it may be over, and another one begun, if somebody else was told that)
+        *gone |= self.now != number;
         if *gone {
             Err(Error::TakenAway)
         } else {
@@ -332,6 +376,19 @@ struct Core {
     overtakes: u32,
     /// The forks before it was opened.
     born: u32,
+    /// The first line of its script, without comments, and whether it is a bench of [`Bench::new`], whose jobs go on to get sessions.
+    head: String,
+    endless: bool,
+    /// Which page it is, whether somebody turns it, and the sessions that are to come to the next one.
+    page: u64,
+    turning: bool,
+    later: Vec<(u32, holding::Kind)>,
+    /// Those that wait until one of several sessions is free, and how many threads wait on `others`.
+    choosers: Vec<holding::Chooser>,
+    sleepers: u32,
+    /// With a journal, the sessions that came, by job and number: whether it is one of `hold`; and those that aren't told to the journal yet.
+    by_hold: HashMap<(u32, u32), bool>,
+    owed: Vec<(u32, u32)>,
 }
 
 // SAFETY: the handle may be used by any thread, one call at a time; it is reached by the mutex alone.
@@ -342,8 +399,12 @@ struct Inner {
     log: Option<Journal>,
     resumed: bool,
     woken: Vec<Condvar>,
+    /// Wakes those that wait for more than their turn: for a choice to be free, a session that somebody adds, a page to be turned.
+    others: Condvar,
     jobs: Vec<String>,
     instruments: Vec<String>,
+    /// The instruments that each job's sessions named when the bench was opened: no other may name more.
+    uses: Vec<u64>,
     born: u32,
     process: u32,
 }
@@ -381,9 +442,14 @@ impl Inner {
         }
     }
 
-    /// What the last call did goes to the journal.
+    /// What the last call did goes to the journal, and sessions that came before that.
     fn told(&self, core: &mut Core) -> Result<(), Error> {
-        self.log.as_ref().map_or(Ok(()), |log| log.take(&mut core.handle))
+        let Some(log) = &self.log else { return Ok(()) };
+        while let Some(&(job, number)) = core.owed.first() {
+            log.more(&mut core.handle, job, number, &self.jobs[job as usize], core.by_hold[&(job, number)])?;
+            core.owed.remove(0);
+        }
+        log.take(&mut core.handle)
     }
 
     /// Of all that was done.
@@ -400,7 +466,7 @@ impl Inner {
     fn goes_back(&self, log: &Journal) -> bool {
         let mut core = self.core.lock().unwrap_or_else(|poisoned| poisoned.into_inner());
         let core = &mut *core;
-        let is_back = log.goes_back(&mut core.handle).is_ok();
+        let mut is_back = log.goes_back(&mut core.handle).is_ok();
         if is_back {
             core.comes_back();
             for (job, seat) in core.seats.iter_mut().enumerate() {
@@ -419,9 +485,11 @@ impl Inner {
                 }
             }
             core.waiting = 0;
+            is_back = self.give_up_unheld(core).is_ok();
         }
         core.closed |= !is_back;
         self.woken.iter().for_each(Condvar::notify_all);
+        self.others.notify_all();
         is_back
     }
 
@@ -442,7 +510,9 @@ impl Inner {
             let seat = &mut core.seats[job as usize];
             if seat.since.is_none() {
                 seat.since = Some(Instant::now());
-                if seat.limit.is_some() {
+                let (needs, has_limit) = (seat.needs(), seat.limit.is_some());
+                core.choosers.iter_mut().for_each(|it| it.passed_by(needs));
+                if has_limit {
                     self.rouse(core);
                 }
             }
@@ -452,6 +522,13 @@ impl Inner {
     /// Those that wait reckon anew how long they sleep.
     fn rouse(&self, core: &Core) {
         members(core.waiting).for_each(|job| self.woken[job as usize].notify_one());
+    }
+
+    /// Those that wait for more than their turn look again.
+    fn rouse_others(&self, core: &Core) {
+        if core.sleepers != 0 {
+            self.others.notify_all();
+        }
     }
 
     /// Counts a settle of those that waited outside the line, where the bench itself counts none, and gives up whose patience is used up.
@@ -579,18 +656,85 @@ impl Inner {
             }
             let letting_go = told.holds & core.left;
             if core.waiting == 0 || letting_go == 0 {
+                self.rouse_others(core);
                 return Ok(());
             }
-            for job in members(letting_go) {
-                let mut turned = ffi::Turned::default();
-                unsafe { ffi::lab_end(&mut core.handle, job, &mut turned) };
-                self.told(core)?;
-                core.left &= !(1 << job);
-                let session = core.seats[job as usize].leaves();
-                core.lapsed.push((self.jobs[job as usize].clone(), session));
-            }
+            members(letting_go).try_for_each(|job| self.lapse(core, job))?;
         }
     }
+
+    /// A session that was left and holds is over.
+    fn lapse(&self, core: &mut Core, job: u32) -> Result<(), Error> {
+        let mut turned = ffi::Turned::default();
+        // SAFETY: the handle is open, and the mutex is held.
+        unsafe { ffi::lab_end(&mut core.handle, job, &mut turned) };
+        core.left &= !(1 << job);
+        let session = core.seats[job as usize].leaves();
+        core.lapsed.push((self.jobs[job as usize].clone(), session));
+        self.told(core)
+    }
+
+    /// The session that comes next, or the one that the job is in; None if none is left. What its owner doesn't know yet is told first.
+    fn next_of(&self, core: &mut Core, job: u32) -> Result<Option<u32>, Error> {
+        let seat = &mut core.seats[job as usize];
+        if let Some(fault) = seat.fault.take() {
+            return Err(fault);
+        }
+        if std::mem::take(&mut seat.taken) != 0 {
+            return Err(Error::TakenAway);
+        }
+        let number = if seat.now == 0 { seat.last + 1 } else { seat.now };
+        Ok((number as usize <= seat.sessions.len()).then_some(number))
+    }
+
+    /// Asks for this session, which is the next one or the one that the job is in, and sleeps until it holds. One that `passes` is given up
+    /// when its time is over.
+    fn ask<'d>(
+        self: &Arc<Inner>,
+        mut core: MutexGuard<'_, Core>,
+        job: u32,
+        number: u32,
+        times: &Times,
+        passes: bool,
+    ) -> Result<Session<'d>, Error> {
+        let bit = 1 << job;
+        let seat = &mut core.seats[job as usize];
+        let needs = seat.sessions[number as usize - 1].needs;
+        (seat.now, seat.last, seat.came, seat.limit) = (number, number, Came::Waits, times.limit);
+        let gives_up = times.patience.and_then(|it| seat.asked.get_or_insert_with(Instant::now).checked_add(it));
+        if seat.limit.is_some() && seat.since.is_some() {
+            self.rouse(&core);
+        }
+        core.left &= !bit;
+        core.waiting |= bit;
+        self.settle(&mut core)?;
+        let mut ended;
+        (core, ended) = self.sleep(core, job, times.until, gives_up);
+        core.waiting &= !bit;
+        if passes && ended.is_err() && self.pass(&mut core, job, number)? {
+            ended = Ok(());
+        }
+        let (seat, ticket, page) = (&core.seats[job as usize], self.ticket(), core.page);
+        let resumed = !passes && seat.held == number;
+        let done = if resumed { seat.done } else { 0 };
+        drop(core);
+        ended?;
+        if let Err(fault) = self.commit(ticket) {
+            // (what others added behind it may be what couldn't be written)
+            if !passes || !self.pass(&mut *self.open()?, job, number)? {
+                return Err(fault);
+            }
+        }
+        Ok(Session { inner: Arc::clone(self), job, number, needs, done, resumed, page, gone: false, desk: PhantomData })
+    }
+}
+
+/// When a session that asks is to have come to something: its time limit; for how long it waits, and for how long it may hold.
+#[derive(Clone, Copy, Default)]
+struct Times {
+    until: Option<Instant>,
+    patience: Option<Duration>,
+    limit: Option<Duration>,
 }
 
 impl Core {
@@ -607,6 +751,15 @@ impl Core {
             taken: Vec::new(),
             overtakes,
             born: FORKS.load(Relaxed),
+            head: String::new(),
+            endless: false,
+            page: 0,
+            turning: false,
+            later: Vec::new(),
+            choosers: Vec::new(),
+            sleepers: 0,
+            by_hold: HashMap::new(),
+            owed: Vec::new(),
         }
     }
 
@@ -619,10 +772,12 @@ impl Core {
 
     /// The bench is one that a journal had: who holds, and who waits, does still.
     fn comes_back(&mut self) {
+        self.owed.clear();
         for job in 0..self.seats.len() {
             let state = self.state(job as u32);
             let (holds, seat) = (HOLDS.contains(&state.drinking), &mut self.seats[job]);
             seat.leaves();
+            seat.sessions.truncate(state.sessions as usize);
             seat.last = state.session;
             seat.now = if holds || state.drinking == THIRSTY { state.session } else { 0 };
             (seat.held, seat.done) = (if holds { state.session } else { 0 }, state.position);
@@ -712,15 +867,15 @@ impl Bench {
         Options::new().journal(journal, to).from_text(script)
     }
 
-    fn of(script: &[u8], options: &Options) -> Result<(Bench, Vec<Desk>), Error> {
+    fn of(script: &[u8], options: &Options) -> Result<Arc<Inner>, Error> {
         static AT_FORKS: Once = Once::new();
         // SAFETY: the function does nothing but count.
         AT_FORKS.call_once(|| assert_eq!(unsafe { ffi::pthread_atfork(None, None, Some(after_fork)) }, 0));
         let (mut core, mut told, mut size) = (Core::new(options.overtakes), ffi::Told::default(), ffi::Size::default());
-        let (mut log, mut resumed) = (None, false);
+        let (mut log, mut came) = (None, None);
         if let Some((path, to)) = &options.journal {
             let it = Journal::open(path, *to)?;
-            resumed = it.begin(script, &mut core.handle)?;
+            came = it.begin(script, &mut core.handle)?;
             log = Some(it);
         } else {
             // SAFETY: the slice's pointer and length, an empty handle, and all apart.
@@ -742,11 +897,15 @@ impl Bench {
             core.seats.push(Seat::new(sessions));
         }
         core.comes_back();
+        core.head = pages::first_line(script);
         let woken = jobs.iter().map(|_| Condvar::new()).collect();
-        let (born, process) = (core.born, std::process::id());
-        let inner = Arc::new(Inner { core: Mutex::new(core), log, resumed, woken, jobs, instruments, born, process });
-        let desks = (0..size.jobs as u32).map(|job| Desk { inner: Arc::clone(&inner), job, limit: None, patience: None }).collect();
-        Ok((Bench { inner }, desks))
+        let uses = core.seats.iter().map(|seat| seat.sessions.iter().fold(0, |all, it| all | it.needs)).collect();
+        let (born, process, others, resumed) = (core.born, std::process::id(), Condvar::new(), came.is_some());
+        let inner = Arc::new(Inner { core: Mutex::new(core), log, resumed, woken, others, jobs, instruments, uses, born, process });
+        if let Some(came) = came {
+            inner.resume(came)?;
+        }
+        Ok(inner)
     }
 
     /// Whether its journal was there.
@@ -768,19 +927,7 @@ impl Bench {
     /// unfinished in the report.
     pub fn close(self) -> Result<Report, Error> {
         let mut core = self.inner.open()?;
-        // (one may be in a meal, which lasts until another has left its own)
-        loop {
-            let mut retired = false;
-            for job in 0..self.inner.jobs.len() as u32 {
-                let mut turned = ffi::Turned::default();
-                // SAFETY: the handle is open, and the mutex is held.
-                retired |= core.state(job).drinking != RETIRED && unsafe { ffi::lab_retire(&mut core.handle, job, 1, &mut turned) } == 0;
-                self.inner.told(&mut core)?;
-            }
-            if !retired {
-                break;
-            }
-        }
+        self.inner.retire_all(&mut core)?;
         while !self.inner.log.as_ref().map_or(true, Journal::is_written) {
             let ticket = self.inner.ticket();
             drop(core);
@@ -791,6 +938,7 @@ impl Bench {
         core.closed = true;
         self.inner.log.iter().for_each(Journal::close);
         self.inner.woken.iter().for_each(Condvar::notify_all);
+        self.inner.others.notify_all();
         let handle = &mut core.handle;
         // SAFETY: the room is that of one slice, and the mutex is held.
         let (status, text) = told_text(|text, room, told| unsafe { ffi::lab_bench_close(handle, text, room, told) })?;
@@ -851,35 +999,11 @@ impl Desk {
     }
 
     fn begin_until(&mut self, until: Option<Instant>) -> Result<Option<Session<'_>>, Error> {
-        let (inner, job, bit) = (&*self.inner, self.job, 1 << self.job);
+        let (inner, job) = (&self.inner, self.job);
         let mut core = inner.open()?;
-        let seat = &mut core.seats[job as usize];
-        if let Some(fault) = seat.fault.take() {
-            return Err(fault);
-        }
-        if std::mem::take(&mut seat.taken) != 0 {
-            return Err(Error::TakenAway);
-        }
-        let number = if seat.now == 0 { seat.last + 1 } else { seat.now };
-        let Some(&what) = seat.sessions.get(number as usize - 1) else { return Ok(None) };
-        (seat.now, seat.last, seat.came, seat.limit) = (number, number, Came::Waits, self.limit);
-        let gives_up = self.patience.and_then(|it| seat.asked.get_or_insert_with(Instant::now).checked_add(it));
-        if seat.limit.is_some() && seat.since.is_some() {
-            inner.rouse(&core);
-        }
-        core.left &= !bit;
-        core.waiting |= bit;
-        inner.settle(&mut core)?;
-        let ended;
-        (core, ended) = inner.sleep(core, job, until, gives_up);
-        core.waiting &= !bit;
-        let (seat, ticket) = (&core.seats[job as usize], inner.ticket());
-        let resumed = seat.held == number;
-        let done = if resumed { seat.done } else { 0 };
-        drop(core);
-        ended?;
-        inner.commit(ticket)?;
-        Ok(Some(Session { desk: self, number, needs: what.needs, done, resumed, gone: false }))
+        let Some(number) = inner.next_of(&mut core, job)? else { return Ok(None) };
+        let times = Times { until, patience: self.patience, limit: self.limit };
+        inner.ask(core, job, number, &times, false).map(Some)
     }
 
     /// Gives up the session that timed out; whether it was withdrawn, as it is if it has a patience: then it logs nothing.
@@ -912,13 +1036,18 @@ impl Drop for Desk {
 /// If the journal can't be written then, the next [`Desk::begin`] gives that error, and the one after it the session again;
 /// [`Session::finish`] gives it at once.
 pub struct Session<'d> {
-    desk: &'d mut Desk,
+    inner: Arc<Inner>,
+    job: u32,
     number: u32,
     needs: u64,
     done: u32,
     resumed: bool,
+    /// The page that it is of.
+    page: u64,
     /// It was taken away, and its owner knows.
     gone: bool,
+    /// A desk begins no other meanwhile.
+    desk: PhantomData<&'d mut Desk>,
 }
 
 impl Session<'_> {
@@ -929,7 +1058,7 @@ impl Session<'_> {
 
     /// The job's name.
     pub fn job(&self) -> &str {
-        self.desk.job()
+        &self.inner.jobs[self.job as usize]
     }
 
     /// Whether it held before it was asked for, by the journal: when the process died that had it before.
@@ -939,8 +1068,17 @@ impl Session<'_> {
 
     /// Whether it still holds: no if it was taken away. (Its owner is told by the next call, even if it asked this.)
     pub fn is_held(&self) -> bool {
-        let seat = |core: MutexGuard<'_, Core>| core.seats[self.desk.job as usize].now == self.number;
-        !self.gone && self.desk.inner.open().is_ok_and(seat)
+        let seat = |core: MutexGuard<'_, Core>| core.page == self.page && core.seats[self.job as usize].now == self.number;
+        !self.gone && self.inner.open().is_ok_and(seat)
+    }
+
+    /// Whether it holds still, for a call of its owner, who is told once that it was taken away. (A page is only turned when no other is held.)
+    fn is_held_yet(&mut self, core: &mut Core) -> Result<(), Error> {
+        self.gone |= core.page != self.page;
+        if self.gone {
+            return Err(Error::TakenAway);
+        }
+        core.seats[self.job as usize].is_held_yet(self.number, &mut self.gone)
     }
 
     /// How many of its commands are done.
@@ -950,7 +1088,7 @@ impl Session<'_> {
 
     /// The instruments that it holds.
     pub fn instruments(&self) -> impl Iterator<Item = &str> + '_ {
-        let names = self.desk.inner.instruments.iter().enumerate();
+        let names = self.inner.instruments.iter().enumerate();
         names.filter(|(at, _)| self.needs >> at & 1 == 1).map(|(_, name)| name.as_str())
     }
 
@@ -965,9 +1103,9 @@ impl Session<'_> {
     /// # Ok::<(), labrun::Error>(())
     /// ```
     pub fn command(&mut self) -> Result<Option<Entry>, Error> {
-        let (inner, job) = (&*self.desk.inner, self.desk.job);
+        let (inner, job) = (&*Arc::clone(&self.inner), self.job);
         let mut core = inner.open()?;
-        core.seats[job as usize].is_held_yet(self.number, &mut self.gone)?;
+        self.is_held_yet(&mut core)?;
         let mut entry = ffi::Entered::default();
         // SAFETY: the handle is open, and the mutex is held.
         match unsafe { ffi::lab_command(&mut core.handle, job, &mut entry) } {
@@ -985,9 +1123,9 @@ impl Session<'_> {
 
     /// Writes a comment of one line to the journal, as a reading; control characters are escaped. Nothing without a journal.
     pub fn note(&mut self, said: &str) -> Result<(), Error> {
-        let inner = &*self.desk.inner;
+        let inner = &*Arc::clone(&self.inner);
         let mut core = inner.open()?;
-        core.seats[self.desk.job as usize].is_held_yet(self.number, &mut self.gone)?;
+        self.is_held_yet(&mut core)?;
         let Some(log) = &inner.log else { return Ok(()) };
         log.note(self.job(), self.number, said);
         let ticket = inner.ticket();
@@ -997,22 +1135,28 @@ impl Session<'_> {
 
     /// Lets go, as a drop does, and says whether the journal has it. If not, the next [`Desk::begin`] gives the session again.
     pub fn finish(self) -> Result<(), Error> {
-        std::mem::ManuallyDrop::new(self).end()
+        let mut me = self;
+        let ended = me.end();
+        me.gone = true; // (it has no more to do when it is dropped)
+        ended
     }
 
     fn end(&mut self) -> Result<(), Error> {
-        let (inner, job) = (&*self.desk.inner, self.desk.job);
+        let (inner, job) = (&*Arc::clone(&self.inner), self.job);
         let Ok(mut core) = inner.open() else { return Ok(()) };
-        core.seats[job as usize].is_held_yet(self.number, &mut self.gone)?;
+        self.is_held_yet(&mut core)?;
         let mut turned = ffi::Turned::default();
         // SAFETY: the handle is open, and the mutex is held.
         unsafe { ffi::lab_end(&mut core.handle, job, &mut turned) };
         core.seats[job as usize].leaves();
         inner.told(&mut core)?;
+        // (before the settle: that it let go may be in the file already, and what others come to by it not yet)
+        let ticket = inner.ticket();
         if core.waiting != 0 {
             inner.settle(&mut core)?;
+        } else {
+            inner.rouse_others(&core);
         }
-        let ticket = inner.ticket();
         drop(core);
         inner.commit(ticket)
     }
@@ -1024,8 +1168,8 @@ impl Drop for Session<'_> {
             return;
         }
         if let Err(fault) = self.end() {
-            if let Ok(mut core) = self.desk.inner.open() {
-                core.seats[self.desk.job as usize].fault = Some(fault);
+            if let Ok(mut core) = self.inner.open() {
+                core.seats[self.job as usize].fault = Some(fault);
             }
         }
     }

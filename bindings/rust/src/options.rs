@@ -1,6 +1,7 @@
 //! How a bench is opened.
-use crate::{read, Bench, Desk, Error, SyncTo};
+use crate::{pages, read, Bench, Desk, Error, SyncTo};
 use std::path::{Path, PathBuf};
+use std::sync::Arc;
 
 /// How a bench is opened: whether with a journal, and how often a session may be passed.
 ///
@@ -47,7 +48,22 @@ impl Options {
     /// The bench of a script in memory, else the same.
     #[allow(clippy::wrong_self_convention)]
     pub fn from_text(&self, script: &[u8]) -> Result<(Bench, Vec<Desk>), Error> {
-        Bench::of(script, self)
+        let inner = Bench::of(script, self)?;
+        let desks = (0..inner.jobs.len() as u32).map(|job| Desk { inner: Arc::clone(&inner), job, limit: None, patience: None }).collect();
+        Ok((Bench { inner }, desks))
+    }
+
+    /// A bench without a script, as [`Bench::new`].
+    pub fn for_jobs(
+        &self,
+        jobs: impl IntoIterator<Item = (impl AsRef<str>, impl IntoIterator<Item = impl AsRef<str>>)>,
+    ) -> Result<Bench, Error> {
+        let listed = |uses: &mut dyn Iterator<Item = String>| pages::once_each(uses);
+        let jobs: Vec<_> = jobs
+            .into_iter()
+            .map(|(job, uses)| (job.as_ref().to_string(), listed(&mut uses.into_iter().map(|it| it.as_ref().to_string()))))
+            .collect();
+        pages::new(&jobs, self)
     }
 }
 

@@ -1,0 +1,415 @@
+//! Sessions that come, with a journal: what comes back, what a write that fails leaves, and pages.
+use labrun::Verb::{Add, Set};
+use labrun::{Bench, Error, Job, Options, Report, Session, SyncTo};
+use std::collections::HashMap;
+use std::path::{Path, PathBuf};
+use std::sync::atomic::{AtomicBool, AtomicUsize, Ordering::SeqCst};
+use std::thread;
+use std::time::{Duration, Instant};
+
+const BAY: [(&str, &[&str]); 3] = [("board", &["scope", "supply"]), ("guest", &["scope"]), ("host", &["load-1", "load-2"])];
+
+/// A folder of a test's own, in memory if there is such a place.
+struct Folder(PathBuf);
+
+impl Folder {
+    fn new(name: &str) -> Folder {
+        let shared = Path::new("/dev/shm");
+        let top = if shared.is_dir() { shared.to_path_buf() } else { std::env::temp_dir() };
+        let it = top.join(format!("labrun-{}-hold-{name}", std::process::id()));
+        std::fs::create_dir(&it).unwrap();
+        Folder(it)
+    }
+
+    fn file(&self) -> PathBuf {
+        self.0.join("bay.journal")
+    }
+
+    fn text(&self) -> String {
+        std::fs::read_to_string(self.file()).unwrap()
+    }
+
+    fn opened(&self, overtakes: u32) -> Result<Bench, Error> {
+        Options::new().overtakes(overtakes).journal(self.file(), SyncTo::Memory).for_jobs(BAY.map(|(job, uses)| (job, uses.iter())))
+    }
+
+    /// The file as a process leaves it that is killed now.
+    fn as_killed(&self, bench: Bench) {
+        let text = self.text();
+        drop(bench);
+        std::fs::remove_file(self.file()).unwrap();
+        std::fs::write(self.file(), text).unwrap();
+    }
+}
+
+impl Drop for Folder {
+    fn drop(&mut self) {
+        let _ = std::fs::remove_dir_all(&self.0);
+    }
+}
+
+fn job(bench: &Bench, name: &str) -> Job {
+    bench.job(name).unwrap()
+}
+
+/// Sleeps until this is so.
+fn until(is_so: impl Fn() -> bool) {
+    let begun = Instant::now();
+    while !is_so() {
+        assert!(begun.elapsed() < Duration::from_secs(300));
+        thread::sleep(Duration::from_millis(1));
+    }
+}
+
+/// A journal with the sessions that came in its script, each behind its job's others, and without comments.
+fn unfolded(journal: &str) -> String {
+    let (head, rest) = journal.split_once("\nsteps\n").unwrap();
+    let (mut more, mut steps, mut of): (HashMap<&str, String>, String, Option<&str>) = (HashMap::new(), String::new(), None);
+    let mut part = String::new();
+    for line in rest.lines() {
+        match (line.strip_prefix("#+"), of) {
+            (Some(line), Some(job)) => {
+                part += &format!("{line}\n");
+                if line == "end" {
+                    *more.entry(job).or_default() += &std::mem::take(&mut part);
+                }
+            }
+            // (one that was cut is passed over)
+            _ => (of, part) = (line.strip_prefix("#more "), String::new()),
+        }
+        if !line.starts_with('#') {
+            steps = steps + line + "\n";
+        }
+    }
+    let mut script = String::new();
+    for part in format!("{head}\n").split_inclusive("\nend\n") {
+        let job = part.split_once("job ").and_then(|it| it.1.lines().next()).unwrap_or_default();
+        script = script + part + more.get(job).map_or("", String::as_str);
+    }
+    script + "steps\n" + &steps
+}
+
+/// What is held lets go, what was added is done, and the bench is closed; its report is that of the journal's replay.
+fn finished(folder: &Folder, bench: Bench) -> Report {
+    for (name, _) in BAY {
+        let job = job(&bench, name);
+        drop(job.resumed().unwrap());
+        while job.retire().is_err() {
+            drop(job.begin().unwrap());
+        }
+    }
+    let report = bench.close().unwrap();
+    assert!(report.finished);
+    assert_eq!(labrun::replay(unfolded(&folder.text()).as_bytes()).unwrap().text, report.text);
+    report
+}
+
+/// Who held, holds; who waited is given up, in line or outside; what was added is there.
+#[test]
+fn comes_back() {
+    for overtakes in [0, 5] {
+        let folder = Folder::new(&format!("back-{overtakes}"));
+        let bench = folder.opened(overtakes).unwrap();
+        assert!(!bench.resumed() && job(&bench, "board").resumed().unwrap().is_none());
+        let mut board = job(&bench, "board").hold(&["scope"]).commands(&[("supply", Set(5)), ("supply", Add(2))]).begin().unwrap();
+        assert_eq!(board.command().unwrap().map(|it| it.value), Some(5));
+        let text = thread::scope(|threads| {
+            threads.spawn(|| job(&bench, "guest").hold(&["scope"]).begin().map(drop));
+            until(|| !bench.waits_for("guest").unwrap().is_empty());
+            job(&bench, "host").add(&["load-2"]).unwrap();
+            let text = folder.text();
+            drop(board);
+            text
+        });
+        drop(bench);
+        assert!(text.contains("\n# hold board 2\n") && text.contains("\n# add host 2\n") && text.contains("\n#more guest\n"));
+        std::fs::write(folder.file(), &text).unwrap();
+        let bench = folder.opened(overtakes).unwrap();
+        assert!(bench.resumed());
+        let board = job(&bench, "board").resumed().unwrap().unwrap();
+        assert_eq!((board.number(), board.resumed(), board.done()), (2, true, 1));
+        assert_eq!(board.instruments().collect::<Vec<_>>(), ["scope", "supply"]);
+        assert!(matches!(job(&bench, "board").hold(&["scope"]).begin(), Err(Error::NotNow(_))));
+        assert!(job(&bench, "guest").resumed().unwrap().is_none());
+        assert_eq!(job(&bench, "host").begin().unwrap().map(|it| (it.number(), it.resumed())), Some((2, false)));
+        drop(board);
+        assert_eq!(job(&bench, "guest").hold(&["scope"]).begin().unwrap().number(), 3);
+        let report = finished(&folder, bench);
+        assert_eq!(report.log("supply"), ["board 2 1/2 set 5 = 5", "board 2 2/2 add 2 = 7"]);
+        assert_eq!(report.log("scope"), ["board 2 1/1 read = 0", "guest 3 1/1 read = 0"]);
+        assert_eq!((report.log("load-1").len(), report.log("load-2").len()), (0, 1));
+    }
+}
+
+/// Cut anywhere, it comes back with the sessions whose lines are whole, and goes on to its end.
+#[test]
+fn every_cut() {
+    let folder = Folder::new("cuts");
+    let bench = folder.opened(64).unwrap();
+    drop(job(&bench, "guest").hold(&["scope"]).begin().unwrap());
+    job(&bench, "host").add(&["load-1", "load-2"]).unwrap();
+    let board = job(&bench, "board").hold(&["scope", "supply"]).begin().unwrap();
+    let all = folder.text();
+    drop((board, bench));
+    let head = all.find("\nsteps\n").unwrap() + 7;
+    for end in head..=all.len() {
+        let whole = &all[..all[..end].rfind('\n').unwrap() + 1];
+        std::fs::write(folder.file(), &all[..end]).unwrap();
+        let bench = folder.opened(64).unwrap();
+        let sessions: usize = bench.room().unwrap().sessions.iter().map(|it| 1000 - it.1).sum();
+        assert_eq!(sessions, 3 + whole.matches("\n#+end\n").count(), "cut at {end}");
+        for name in ["board", "guest"] {
+            let holds = whole.contains(&format!("\ndrink {name}\n")) && !whole.contains(&format!("\nquit {name}\n"));
+            assert_eq!(job(&bench, name).resumed().unwrap().is_some(), holds, "{name}, cut at {end}");
+        }
+        finished(&folder, bench);
+    }
+}
+
+/// A comment of a session that was cut is no mark of another of its number.
+#[test]
+fn marks() {
+    let folder = Folder::new("marks");
+    drop(folder.opened(64).unwrap());
+    std::fs::write(folder.file(), folder.text() + "# hold guest 2\n").unwrap();
+    let bench = folder.opened(64).unwrap();
+    job(&bench, "guest").add(&["scope"]).unwrap();
+    folder.as_killed(bench);
+    let bench = folder.opened(64).unwrap();
+    assert_eq!(job(&bench, "guest").begin().unwrap().map(|it| it.number()), Some(2));
+    finished(&folder, bench);
+}
+
+#[test]
+fn pages() {
+    let folder = Folder::new("pages");
+    let bench = folder.opened(64).unwrap();
+    let (steps, bytes) = bench.room().unwrap().journal.unwrap();
+    let text = folder.text();
+    let lines = text.split_once("\nsteps\n").unwrap().1.lines().filter(|it| !it.starts_with('#'));
+    assert_eq!((steps, bytes), (1_000_000 - lines.count(), 16_777_216 - text.len()));
+    for number in 1..=3 {
+        assert_eq!(job(&bench, "board").hold(&["scope"]).begin().unwrap().number(), 2);
+        let page = bench.turn_page().unwrap();
+        let kept = page.journal.unwrap();
+        assert_eq!(Path::new(&kept), folder.0.join(format!("bay.journal.{number}")));
+        let old = unfolded(&std::fs::read_to_string(&kept).unwrap());
+        assert_eq!(old.split_once("steps\n").unwrap().0, page.script);
+        assert_eq!(labrun::replay(old.as_bytes()).unwrap().text, page.report.text);
+        assert!(page.report.finished && page.report.log("scope").len() == 1);
+    }
+    // (one that was taken away doesn't give its number to another)
+    std::fs::remove_file(folder.0.join("bay.journal.1")).unwrap();
+    assert!(bench.turn_page().unwrap().journal.unwrap().ends_with("bay.journal.4"));
+    let held = job(&bench, "guest").hold(&["scope"]).begin().unwrap();
+    let text = folder.text();
+    drop((held, bench));
+    std::fs::write(folder.file(), text).unwrap();
+    let bench = folder.opened(64).unwrap();
+    assert!(job(&bench, "guest").resumed().unwrap().is_some_and(|it| it.number() == 2));
+    assert_eq!(finished(&folder, bench).log("scope").len(), 1);
+    // (that page was over: the next one begins another)
+    let bench = folder.opened(64).unwrap();
+    assert!(folder.0.join("bay.journal.5").exists());
+    assert!(finished(&folder, bench).log("scope").is_empty());
+}
+
+/// Killed between the two names: the old page is whole, and a new one is begun.
+#[test]
+fn killed_while_it_turns() {
+    let folder = Folder::new("turn");
+    let bench = folder.opened(64).unwrap();
+    drop(job(&bench, "guest").hold(&["scope"]).begin().unwrap());
+    assert!(bench.close().unwrap().finished);
+    for head in [0, 1, 40] {
+        let text = folder.text();
+        std::fs::rename(folder.file(), folder.0.join("bay.journal.1")).unwrap();
+        std::fs::write(folder.file(), &text[..head]).unwrap();
+        let bench = folder.opened(64).unwrap();
+        assert!(!bench.resumed());
+        assert!(finished(&folder, bench).log("scope").is_empty());
+        std::fs::rename(folder.0.join("bay.journal.1"), folder.file()).unwrap();
+        assert_eq!(folder.text(), text);
+    }
+}
+
+/// The new page's file can't be made: all is as before.
+#[test]
+fn a_turn_that_fails() {
+    let folder = Folder::new("fails");
+    let bench = folder.opened(64).unwrap();
+    drop(job(&bench, "guest").hold(&["scope"]).begin().unwrap());
+    // (nobody may use the name that the old page would get)
+    std::fs::create_dir(folder.0.join("bay.journal.1")).unwrap();
+    let page = bench.turn_page().unwrap();
+    assert!(page.journal.unwrap().ends_with("bay.journal.2"));
+    let script = "lab 2\njob a\nsession patience 9\nx read\nend\n";
+    let (of_a_script, mut desks) = Options::new().journal(folder.0.join("it"), SyncTo::Memory).from_text(script.as_bytes()).unwrap();
+    drop(desks[0].begin().unwrap());
+    assert!(matches!(of_a_script.turn_page(), Err(Error::NotNow(_))));
+    finished(&folder, bench);
+}
+
+/// What comes while a page is turned waits for the new page, and is in its journal.
+#[test]
+fn what_comes_meanwhile() {
+    let folder = Folder::new("meanwhile");
+    let bench = folder.opened(64).unwrap();
+    let board = job(&bench, "board").hold(&["scope"]).begin().unwrap();
+    thread::scope(|threads| {
+        let turner = threads.spawn(|| bench.turn_page().unwrap());
+        until(|| job(&bench, "host").hold(&["load-1"]).timeout(Duration::ZERO).begin().is_err());
+        let adds = threads.spawn(|| job(&bench, "host").add(&["load-1"]));
+        let holds = threads.spawn(|| job(&bench, "guest").hold(&["scope"]).begin().map(|it| it.number()));
+        drop(board);
+        assert!(turner.join().unwrap().report.finished);
+        assert_eq!((adds.join().unwrap(), holds.join().unwrap()), (Ok(()), Ok(2)));
+    });
+    assert!(folder.text().contains("\n# add host 2\n"));
+    assert_eq!(finished(&folder, bench).log("load-1").len(), 1);
+}
+
+extern "C" {
+    fn setrlimit(what: i32, to: *const [u64; 2]) -> i32;
+    fn signal(number: i32, to: usize) -> usize;
+    fn fork() -> i32;
+    fn waitpid(process: i32, status: *mut i32, options: i32) -> i32;
+    fn _exit(status: i32) -> !;
+}
+
+/// The files of this process may not grow beyond so many bytes.
+fn limit(bytes: usize) {
+    let to = [bytes as u64, u64::MAX];
+    // SAFETY: RLIMIT_FSIZE with the two words that it wants.
+    assert_eq!(unsafe { setrlimit(1, &to) }, 0);
+}
+
+/// In a child, because the limit is the whole process's.
+#[test]
+fn no_room() {
+    // SAFETY: the child is one thread, and leaves by `_exit`.
+    let child = unsafe { fork() };
+    if child == 0 {
+        let done = std::panic::catch_unwind(without_room).is_ok();
+        unsafe { _exit(i32::from(!done)) };
+    }
+    let mut status = 0;
+    // SAFETY: the child's number, and a place for its status.
+    assert_eq!(unsafe { waitpid(child, &mut status, 0) }, child);
+    assert_eq!(status, 0);
+}
+
+/// What can't be written isn't held, and isn't there; who can't let go holds still.
+fn without_room() {
+    // SAFETY: SIGXFSZ is ignored.
+    unsafe { signal(25, 1) };
+    let folder = Folder::new("room");
+    let bench = folder.opened(64).unwrap();
+    let guest = job(&bench, "guest");
+    let failed =
+        |fault: Option<Error>| matches!(fault, Some(Error::Journal { why, .. }) if why.starts_with("a write failed (File too large"));
+    for _ in 0..3 {
+        limit(folder.text().len() + 5);
+        assert!(failed(guest.hold(&["scope"]).begin().err()) && failed(guest.add(&["scope"]).err()));
+        limit(1 << 40);
+        assert_eq!(bench.room().unwrap().sessions[1].1, 999);
+    }
+    let session = guest.hold(&["scope"]).begin().unwrap();
+    assert_eq!(session.number(), 2);
+    limit(folder.text().len() + 5);
+    assert!(failed(session.finish().err()) && failed(bench.turn_page_within(Duration::ZERO).err()).eq(&false));
+    limit(1 << 40);
+    assert!(matches!(bench.turn_page_within(Duration::ZERO), Err(Error::NotBack(_))));
+    drop(guest.resumed().unwrap());
+    assert_eq!(guest.hold(&["scope"]).begin().unwrap().number(), 3);
+    // a page that can't be turned stays, and is turned when there is room
+    limit(10);
+    assert!(matches!(bench.turn_page(), Err(Error::Journal { .. })));
+    limit(1 << 40);
+    assert_eq!(bench.turn_page().unwrap().report.log("scope").len(), 2);
+    assert_eq!(guest.hold(&["scope"]).begin().unwrap().number(), 2);
+    finished(&folder, bench);
+}
+
+/// Numbers by a generator of their own.
+struct Chance(u64);
+
+impl Chance {
+    fn below(&mut self, limit: usize) -> usize {
+        self.0 = self.0.wrapping_mul(6364136223846793005).wrapping_add(1442695040888963407);
+        (self.0 >> 33) as usize % limit
+    }
+}
+
+const CHILD: &str = "LABRUN_TEST_CHILD";
+
+/// Threads hold at random, while writes fail now and then and pages are turned: each that held is in one journal. (In a process of its own,
+/// because the limit is the whole process's.)
+#[test]
+fn load() {
+    if std::env::var_os(CHILD).is_some() {
+        return loaded();
+    }
+    let it = std::env::current_exe().unwrap();
+    let ran = std::process::Command::new(it).args(["--exact", "load", "--nocapture"]).env(CHILD, "1").output().unwrap();
+    assert!(ran.status.success(), "{}", String::from_utf8_lossy(&ran.stderr));
+}
+
+fn loaded() {
+    // SAFETY: SIGXFSZ is ignored.
+    unsafe { signal(25, 1) };
+    let folder = Folder::new("load");
+    let bench = folder.opened(8).unwrap();
+    let (done, clashes, over) = (AtomicUsize::new(0), AtomicUsize::new(0), AtomicBool::new(false));
+    let holders: HashMap<&str, AtomicUsize> = BAY.iter().flat_map(|it| it.1).map(|it| (*it, AtomicUsize::new(0))).collect();
+    thread::scope(|threads| {
+        for (at, (name, uses)) in BAY.iter().enumerate() {
+            let (job, holders, done, clashes, over) = (job(&bench, name), &holders, &done, &clashes, &over);
+            threads.spawn(move || {
+                let mut chance = Chance(at as u64);
+                while !over.load(SeqCst) {
+                    let one = uses[chance.below(uses.len())];
+                    match job.any_of(&[&[one], uses]).timeout(Duration::from_millis(2)).begin() {
+                        Ok(session) => {
+                            works(&session, holders, clashes);
+                            done.fetch_add(1, SeqCst);
+                            // (one that can't let go holds still)
+                            let mut ended = session.finish();
+                            while ended.is_err() {
+                                ended = job.resumed().and_then(|it| it.map_or(Ok(()), Session::finish));
+                            }
+                        }
+                        Err(Error::TimedOut(_) | Error::Full(_) | Error::Journal { .. }) => {}
+                        Err(fault) => panic!("{fault}"),
+                    }
+                }
+            });
+        }
+        for _ in 0..3 {
+            for _ in 0..200 {
+                limit(folder.text().len() + 200);
+                thread::sleep(Duration::from_micros(200));
+                limit(1 << 40);
+                thread::sleep(Duration::from_micros(200));
+            }
+            while bench.turn_page().is_err() {}
+        }
+        over.store(true, SeqCst);
+    });
+    finished(&folder, bench);
+    let files = std::fs::read_dir(&folder.0).unwrap().map(|it| std::fs::read_to_string(it.unwrap().path()).unwrap());
+    let ended: usize = files.map(|it| it.matches("\nquit ").count()).sum();
+    let done = done.into_inner();
+    assert_eq!((clashes.into_inner(), ended), (0, done));
+    assert!(done > 20, "{done}");
+}
+
+fn works(session: &Session<'_>, holders: &HashMap<&str, AtomicUsize>, clashes: &AtomicUsize) {
+    for name in session.instruments() {
+        clashes.fetch_add((holders[name].fetch_add(1, SeqCst) != 0) as usize, SeqCst);
+    }
+    thread::yield_now();
+    for name in session.instruments() {
+        holders[name].fetch_sub(1, SeqCst);
+    }
+}
