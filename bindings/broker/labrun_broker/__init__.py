@@ -1,0 +1,24 @@
+"""A lab's instruments, shared by programs, people and machines: `labrun-broker serve` keeps them, and a program holds them by
+
+    lab = labrun_broker.connect("unix:/run/labrun/bay.sock")
+    with lab.hold("scope", "supply", timeout=5.0) as held:
+        held.note(measure(held.instruments))
+
+Names and errors are those of the package labrun, whose proved bench is behind it."""
+
+from .client import BadWish, BrokerError, Held, JournalError, Lab, MayNotUse, NotHeld, Stopped, TakenAway, TimeoutError, Unreachable, connect
+
+__all__ = [
+    "BadWish",
+    "BrokerError",
+    "Held",
+    "JournalError",
+    "Lab",
+    "MayNotUse",
+    "NotHeld",
+    "Stopped",
+    "TakenAway",
+    "TimeoutError",
+    "Unreachable",
+    "connect",
+]

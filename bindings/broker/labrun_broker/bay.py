@@ -1,0 +1,222 @@
+"""The bay: a TOML file that says which instruments there are, which stations share them, and how many guests may come.
+
+    bay = "north"
+    instruments = ["scope", "supply", "load-1", "load-2"]
+    gone = "keep"                       # or "release": what becomes of a session whose client is gone for longer than the grace
+    overtakes = 16                      # so many sessions may go before one that asks; fewer make for shorter waits, more for more sessions
+
+    [stations]
+    board = ["scope", "supply"]
+    radio = ["scope"]
+
+    [guests]
+    count = 8
+    may_use = ["scope", "supply"]       # without this line: all
+
+    [limits]
+    clients = 200"""
+
+from __future__ import annotations
+
+import os
+import re
+import tomllib
+from dataclasses import dataclass, field
+from typing import Any, Union
+
+# what the library can take
+MOST_JOBS, MOST_INSTRUMENTS, MOST_IN_COMMON, NAME_LENGTH = 32, 56, 28, 16
+MOST_SESSIONS, MOST_COMMANDS = 1000, 100000
+KEYWORDS = ("lab", "job", "session", "end", "steps", "patience")
+A_NAME = f"up to {NAME_LENGTH} of a to z, digits and `-`, first a letter, and none of {' '.join(KEYWORDS)}"
+
+GONE = ("keep", "release")
+
+Path = Union[str, "os.PathLike[str]"]
+
+
+@dataclass(frozen=True)
+class Limits:
+    """What one client may ask of the broker, and how many clients there may be. `requests` are a second, of one client."""
+
+    clients: int = 200
+    name: int = 64
+    note: int = 500
+    requests: int = 2000
+
+
+@dataclass(frozen=True)
+class Bay:
+    name: str
+    instruments: tuple[str, ...]
+    stations: dict[str, tuple[str, ...]] = field(default_factory=dict)
+    guests: int = 0
+    guests_use: tuple[str, ...] = ()
+    gone: str = "keep"
+    limits: Limits = Limits()
+    # so many sessions at most may go before one that asks (`Bench.new`)
+    overtakes: int = 16
+
+    @property
+    def guest_names(self) -> tuple[str, ...]:
+        return tuple(f"guest-{number}" for number in range(1, self.guests + 1))
+
+    @property
+    def jobs(self) -> dict[str, tuple[str, ...]]:
+        """The jobs of the bench, each with the instruments that it may use."""
+        return {**self.stations, **{name: self.guests_use for name in self.guest_names}}
+
+
+class BayFault(ValueError):
+    """The file is no bay; `faults` has a line for each fault."""
+
+    def __init__(self, path: str, faults: list[str]) -> None:
+        super().__init__("\n".join(f"{path}: {fault}" for fault in faults))
+        self.path, self.faults = path, faults
+
+
+class BadAddress(ValueError):
+    """The broker doesn't listen there."""
+
+
+def read_bay(path: Path) -> Bay:
+    """The bay of a file. BayFault names every fault; OSError says why the file can't be read."""
+    with open(path, "rb") as file:
+        given = file.read()
+    try:
+        return bay_of(given.decode("utf-8"), os.fspath(path))
+    except UnicodeDecodeError as fault:
+        line = given.count(b"\n", 0, fault.start) + 1
+        raise BayFault(os.fspath(path), [f"line {line}: this is not UTF-8"]) from None
+
+
+def bay_of(text: str, path: str = "bay") -> Bay:
+    try:
+        given = tomllib.loads(text)
+    except tomllib.TOMLDecodeError as fault:
+        raise BayFault(path, [_with_line_first(str(fault))]) from None
+    reader = _Reader(given)
+    bay = reader.bay()
+    if reader.faults:
+        raise BayFault(path, reader.faults)
+    return bay
+
+
+def _with_line_first(fault: str) -> str:
+    if fault.endswith(" (at end of document)"):
+        return f"the last line: {fault.removesuffix(' (at end of document)')}"
+    at = re.search(r" \(at (line \d+), column (\d+)\)$", fault)
+    return f"{at[1]}, column {at[2]}: {fault[: at.start()]}" if at else fault
+
+
+class _Reader:
+    """Reads a table, and notes every fault with its key."""
+
+    def __init__(self, given: dict[str, Any]) -> None:
+        self.given, self.faults = given, list[str]()
+
+    def bay(self) -> Bay:
+        self.knows("", self.given, ("bay", "instruments", "gone", "overtakes", "stations", "guests", "limits"))
+        name = self.given.get("bay", "bay")
+        if not isinstance(name, str) or not re.fullmatch(r"[\w.-]{1,64}", name):
+            self.fault("bay", "a name of up to 64 letters, digits, `-`, `_` or `.` is wanted")
+        instruments = self.names("instruments", self.given.get("instruments"))
+        if len(instruments) > MOST_INSTRUMENTS:
+            self.fault("instruments", f"{len(instruments)} instruments; a bay has {MOST_INSTRUMENTS} at most")
+        stations = self.stations(instruments)
+        guests, guests_use = self.guests(instruments)
+        gone = self.given.get("gone", "keep")
+        if gone not in GONE:
+            self.fault("gone", '"keep" or "release" is wanted')
+        overtakes = self.number("overtakes", self.given.get("overtakes", Bay.overtakes), 0)
+        bay = Bay(str(name), instruments, stations, guests, guests_use, str(gone), self.limits(), overtakes)
+        self.fits(bay)
+        return bay
+
+    def fault(self, key: str, text: str) -> None:
+        self.faults.append(f"{key}: {text}")
+
+    def knows(self, where: str, table: dict[str, Any], keys: tuple[str, ...]) -> None:
+        for key in table:
+            if key not in keys:
+                self.fault(f"{where}{key}", f"there is no such key; there are {', '.join(keys)}")
+
+    def is_name(self, key: str, name: object) -> bool:
+        if isinstance(name, str) and re.fullmatch(r"[a-z][a-z0-9-]*", name) and len(name) <= NAME_LENGTH and name not in KEYWORDS:
+            return True
+        self.fault(key, f"{name!r} is no name: {A_NAME}")
+        return False
+
+    def names(self, key: str, given: object) -> tuple[str, ...]:
+        if not isinstance(given, list) or not given:
+            self.fault(key, 'a list of names is wanted, as ["scope", "supply"]')
+            return ()
+        found: list[str] = []
+        for name in given:
+            if self.is_name(key, name):
+                if name in found:
+                    self.fault(key, f"{name} is there twice")
+                found.append(name)
+        return tuple(dict.fromkeys(found))
+
+    def uses(self, key: str, given: object, instruments: tuple[str, ...]) -> tuple[str, ...]:
+        found = self.names(key, given)
+        for name in found:
+            if instruments and name not in instruments:
+                self.fault(key, f"{name} is none of the bay's instruments")
+        return found
+
+    def table(self, key: str) -> dict[str, Any]:
+        given = self.given.get(key, {})
+        if isinstance(given, dict):
+            return given
+        self.fault(key, f"a table is wanted: [{key}]")
+        return {}
+
+    def stations(self, instruments: tuple[str, ...]) -> dict[str, tuple[str, ...]]:
+        found = {}
+        for name, uses in self.table("stations").items():
+            if self.is_name(f"stations.{name}", name):
+                found[name] = self.uses(f"stations.{name}", uses, instruments)
+        return found
+
+    def guests(self, instruments: tuple[str, ...]) -> tuple[int, tuple[str, ...]]:
+        table = self.table("guests")
+        self.knows("guests.", table, ("count", "may_use"))
+        count = self.number("guests.count", table.get("count", 0), 0)
+        uses = self.uses("guests.may_use", table["may_use"], instruments) if "may_use" in table else instruments
+        return count, uses
+
+    def number(self, key: str, given: object, least: int) -> int:
+        if isinstance(given, int) and not isinstance(given, bool) and least <= given <= 1000000:
+            return given
+        self.fault(key, f"a number from {least} to 1000000 is wanted")
+        return least
+
+    def limits(self) -> Limits:
+        table, known = self.table("limits"), Limits()
+        self.knows("limits.", table, tuple(vars(known)))
+        return Limits(**{key: self.number(f"limits.{key}", table.get(key, usual), 1) for key, usual in vars(known).items()})
+
+    def fits(self, bay: Bay) -> None:
+        """Whether the library can take it."""
+        count = len(bay.stations) + bay.guests
+        if not count:
+            self.fault("stations", "there is neither a station nor a guest: nobody could ask for anything")
+        if count > MOST_JOBS:
+            self.fault("guests.count", f"{len(bay.stations)} stations and {bay.guests} guests are {count}; a bay has {MOST_JOBS} at most")
+            return
+        for name in bay.guest_names:
+            if name in bay.stations:
+                self.fault(f"stations.{name}", "this is the name of a guest")
+        if bay.guests > 1 and len(bay.guests_use) > MOST_IN_COMMON:
+            self.fault("guests.may_use", f"two guests would have {len(bay.guests_use)} instruments in common; {MOST_IN_COMMON} is the most")
+        users = [*bay.stations.items(), *([("the guests", bay.guests_use)] if bay.guests else [])]
+        for at, (name, uses) in enumerate(users):
+            for other, others in users[:at]:
+                common = set(uses) & set(others)
+                if len(common) > MOST_IN_COMMON:
+                    self.fault(f"stations.{other}", f"it has {len(common)} instruments in common with {name}; {MOST_IN_COMMON} is the most")
+        for name in bay.instruments:
+            if not any(name in uses for _, uses in users):
+                self.fault("instruments", f"nobody may use {name}")

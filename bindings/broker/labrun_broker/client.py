@@ -1,0 +1,629 @@
+"""The broker's client.
+
+    lab = labrun_broker.connect("unix:/run/labrun/bay.sock")
+    with lab.hold("scope", "supply", timeout=5.0) as held:
+        held.note(measure(held.instruments))
+
+One stream serves one session at a time, and is used again. All of it runs on a loop with a thread of its own, so that a session whose
+broker was killed is taken up again while its owner works."""
+
+from __future__ import annotations
+
+import asyncio
+import atexit
+import builtins
+import concurrent.futures
+import contextlib
+import getpass
+import os
+import secrets
+import socket
+import sys
+import threading
+from types import TracebackType
+from typing import Any, Callable, Coroutine, Generic, Iterable, Iterator, Optional, TypeVar, Union
+
+import grpc
+import labrun
+
+from . import broker_pb2 as pb
+
+DEFAULT = "unix:/run/labrun/bay.sock"
+# for how long a client tries to reach a broker again that it waits for
+GRACE = 60.0
+PAUSE = 0.1  # between such tries
+# a question that a broker doesn't answer for so long won't be answered
+ANSWER = 30.0
+CLOSING = 3.0
+SERVICE = "/labrun.broker.Broker/"
+
+OPTIONS = [
+    ("grpc.max_receive_message_length", -1),
+    ("grpc.keepalive_time_ms", 10000),
+    ("grpc.keepalive_timeout_ms", 5000),
+    ("grpc.initial_reconnect_backoff_ms", 100),
+    ("grpc.min_reconnect_backoff_ms", 500),
+    ("grpc.max_reconnect_backoff_ms", 1000),
+    ("grpc.enable_http_proxy", 0),
+]
+
+Result = TypeVar("Result")
+
+
+class BrokerError(labrun.LabrunError):
+    """The broker said no."""
+
+
+class Unreachable(labrun.LabrunError, ConnectionError):
+    """The broker can't be reached, or doesn't let this client in."""
+
+
+class _Told(Exception):
+    """One of the package's errors, with the broker's text."""
+
+    def __init__(self, text: str) -> None:
+        Exception.__init__(self, text)
+
+    def __reduce__(self) -> Any:
+        return type(self), (str(self),)
+
+
+class TimeoutError(_Told, labrun.TimeoutError):  # noqa: A001
+    """The time limit passed, and the session was given up. The text says who kept it waiting."""
+
+
+class NotHeld(_Told, labrun.NotHeld):
+    """The session doesn't hold its instruments."""
+
+
+class TakenAway(_Told, labrun.TakenAway):
+    """The session was ended for its owner. Others may be at its instruments by now."""
+
+
+class MayNotUse(_Told, labrun.MayNotUse):
+    """The station, or a guest, may not use one of the instruments."""
+
+
+class JournalError(_Told, labrun.JournalError):
+    """The broker couldn't write it down, so it isn't done."""
+
+
+class Stopped(_Told, labrun.Stopped):
+    """The broker ends, and nobody comes to hold any more."""
+
+
+class BadWish(_Told, labrun.LabrunError, ValueError):
+    """What was asked for can't be."""
+
+
+KINDS: dict[str, Callable[[str], Exception]] = {
+    "TimeoutError": TimeoutError,
+    "TakenAway": TakenAway,
+    "NotHeld": NotHeld,
+    "LetGo": NotHeld,
+    "MayNotUse": MayNotUse,
+    "JournalError": JournalError,
+    "Stopped": Stopped,
+    "BadWish": BadWish,
+}
+
+
+def _raised(fault: Any) -> Exception:
+    return KINDS.get(fault.kind, BrokerError)(fault.text)
+
+
+class _Lost(Exception):
+    """The stream ended; `why` is the answer of gRPC."""
+
+    def __init__(self, code: Any, why: str) -> None:
+        super().__init__(why)
+        self.code = code
+
+
+# a broker that begins again, or a network that comes back, is worth another try
+AGAIN = (grpc.StatusCode.UNAVAILABLE, grpc.StatusCode.CANCELLED, grpc.StatusCode.UNKNOWN, grpc.StatusCode.INTERNAL, None)
+
+
+class _Stream:
+    """One stream to the broker."""
+
+    def __init__(self, lab: Lab) -> None:
+        self._call = lab._method("Hold")(metadata=lab._metadata)
+
+    async def opens(self) -> None:
+        """Returns once the broker has let the client in."""
+        try:
+            await self._call.wait_for_connection()
+        except grpc.RpcError:
+            raise await self._lost() from None
+
+    async def ask(self, **what: Any) -> None:
+        try:
+            await self._call.write(pb.Ask(**what))
+        except (grpc.RpcError, asyncio.InvalidStateError):
+            raise await self._lost() from None
+
+    async def told(self) -> tuple[str, Any]:
+        try:
+            told = await self._call.read()
+        except grpc.RpcError:
+            raise await self._lost() from None
+        if told is grpc.aio.EOF:
+            raise await self._lost()
+        kind = told.WhichOneof("told")
+        return kind, getattr(told, kind)
+
+    async def _lost(self) -> _Lost:
+        self._call.cancel()
+        return _Lost(await self._call.code(), str(await self._call.details()))
+
+    def cancel(self) -> None:
+        self._call.cancel()
+
+
+# (gRPC wants one loop in a process)
+_loops: dict[int, asyncio.AbstractEventLoop] = {}
+_loops_lock = threading.Lock()
+
+
+def _loop_of_this_process() -> asyncio.AbstractEventLoop:
+    """The loop of all labs, on a thread of its own."""
+    with _loops_lock:
+        process = os.getpid()
+        if process not in _loops:
+            _loops[process] = asyncio.new_event_loop()
+            threading.Thread(target=_loops[process].run_forever, name="labrun-broker", daemon=True).start()
+        return _loops[process]
+
+
+class _Work(Generic[Result]):
+    """Work that a thread waits for. It may be given up at any moment, also by an interrupt that comes while it is just being begun."""
+
+    def __init__(self, work: Coroutine[Any, Any, Result], loop: asyncio.AbstractEventLoop) -> None:
+        self._work, self._loop = work, loop
+        self._task: Optional[asyncio.Task[Result]] = None
+        self._is_given_up = False
+        self._done: concurrent.futures.Future[Result] = concurrent.futures.Future()
+
+    def result(self) -> Result:
+        try:
+            self._loop.call_soon_threadsafe(self._begin)
+            return self._done.result()
+        except BaseException:
+            if not self._done.done():
+                self._loop.call_soon_threadsafe(self._give_up)
+                concurrent.futures.wait([self._done], 5)
+            raise
+
+    # what follows runs on the loop
+
+    def _begin(self) -> None:
+        if self._is_given_up:
+            self._work.close()
+        else:
+            self._task = self._loop.create_task(self._work)
+            self._task.add_done_callback(self._ends)
+
+    def _give_up(self) -> None:
+        self._is_given_up = True
+        if self._task is None:
+            self._done.cancel()
+        else:
+            self._task.cancel()
+
+    def _ends(self, task: asyncio.Task[Result]) -> None:
+        if task.cancelled():
+            self._done.cancel()
+        elif (fault := task.exception()) is not None:
+            self._done.set_exception(fault)
+        else:
+            self._done.set_result(task.result())
+
+
+class Lab:
+    """A bay that a broker keeps. Threads may share it; a child of a fork makes its own. See `connect`."""
+
+    def __init__(self, address: str, station: str, token: Optional[str], certificate: Optional[bytes], by: str) -> None:
+        self.address, self.station, self.by = address, station, by
+        self._certificate = certificate
+        self._metadata = (("authorization", f"Bearer {token}"),) if token else ()
+        self._idle: list[_Stream] = []
+        self._held: set[Held] = set()
+        self._loop = _loop_of_this_process()
+        self._process = os.getpid()
+        self._was_there = self._is_closed = False
+        self._run(self._open())
+        atexit.register(self._at_exit)
+
+    async def _open(self) -> None:
+        if self._certificate is None:
+            self._channel = grpc.aio.insecure_channel(self.address, OPTIONS)
+        else:
+            self._channel = grpc.aio.secure_channel(self.address, grpc.ssl_channel_credentials(self._certificate), OPTIONS)
+        kinds = {
+            "Status": (self._channel.unary_unary, pb.StatusWish, pb.Bay),
+            "Watch": (self._channel.unary_stream, pb.StatusWish, pb.Bay),
+            "Release": (self._channel.unary_unary, pb.ReleaseWish, pb.Released),
+            "Report": (self._channel.unary_unary, pb.ReportWish, pb.ReportText),
+            "Pages": (self._channel.unary_unary, pb.PagesWish, pb.PageList),
+            "Hold": (self._channel.stream_stream, pb.Ask, pb.Told),
+        }
+        self._methods = {name: kind(SERVICE + name, wish.SerializeToString, answer.FromString) for name, (kind, wish, answer) in kinds.items()}
+
+    def _method(self, name: str) -> Any:
+        return self._methods[name]
+
+    def _run(self, work: Coroutine[Any, Any, Result]) -> Result:
+        """Waits for work on the lab's loop; an interrupt cancels it, and waits for that."""
+        if self._process != os.getpid():
+            work.close()
+            raise labrun.OtherProcess(self._process)
+        return _Work(work, self._loop).result()
+
+    async def _run_async(self, work: Coroutine[Any, Any, Result]) -> Result:
+        return await asyncio.wrap_future(asyncio.run_coroutine_threadsafe(work, self._loop))
+
+    def hold(
+        self, *instruments: str, timeout: Optional[float] = None, any_of: Iterable[Union[str, Iterable[str]]] = (), station: Optional[str] = None,
+        waits: Optional[Callable[[str], None]] = None,
+    ) -> Held:
+        """A session of these instruments, or of one of the sets `any_of`: `with lab.hold("scope", "supply"):`, or `async with`. After `timeout`
+        seconds TimeoutError says who keeps it waiting, and it is given up. `waits` is called with a line whenever it is known for whom it waits."""
+        choices = [pb.Instruments(names=(it,) if isinstance(it, str) else tuple(it)) for it in any_of]
+        wish = pb.Wish(instruments=instruments, any_of=choices, station=self.station if station is None else station, by=self.by)
+        wish.wants_waits = waits is not None
+        return Held(self, wish, timeout, waits)
+
+    def status(self) -> dict[str, Any]:
+        """Who holds what since when, and who waits for whom."""
+        return _as_dict(self._run(self._unary("Status", pb.StatusWish())))
+
+    def watch(self) -> Iterator[dict[str, Any]]:
+        """The status now, and whenever it has changed."""
+        call = self._run(self._watch())
+        try:
+            while (bay := self._run(_read(call))) is not None:
+                yield _as_dict(bay)
+        finally:
+            self._loop.call_soon_threadsafe(call.cancel)
+
+    async def _watch(self) -> Any:
+        return self._method("Watch")(pb.StatusWish(), metadata=self._metadata)
+
+    def release(self, station: str) -> tuple[str, ...]:
+        """Ends the session that a station holds, for its owner. First see that nobody is at the instruments."""
+        return tuple(self._run(self._unary("Release", pb.ReleaseWish(station=station, by=self.by))).instruments)
+
+    def report(self, page: int = 0) -> str:
+        """The report of a page; 0 is the one that is open."""
+        return str(self._run(self._unary("Report", pb.ReportWish(page=page))).text)
+
+    def pages(self, turn: bool = False, timeout: Optional[float] = None) -> list[int]:
+        """The pages, the open one last; `turn` begins a new one once nobody holds."""
+        within = None if turn and timeout is None else ANSWER + (timeout or 0.0)
+        return [it.page for it in self._run(self._unary("Pages", pb.PagesWish(turn=turn, timeout=timeout), within)).pages]
+
+    async def _unary(self, name: str, wish: Any, within: Optional[float] = ANSWER) -> Any:
+        try:
+            answer = await self._method(name)(wish, metadata=self._metadata, timeout=within)
+            self._was_there = True
+            return answer
+        except grpc.aio.AioRpcError as fault:
+            raise _why(self, fault.code(), str(fault.details())) from None
+
+    def close(self, lets_go: bool = True) -> None:
+        """What is still held is let go, unless the program just ends: then it is kept for whoever has its ticket."""
+        if not self._is_closed and self._process == os.getpid():
+            self._is_closed = True
+            self._run(self._close(lets_go))
+            atexit.unregister(self._at_exit)
+
+    async def _close(self, lets_go: bool) -> None:
+        # (a broker that doesn't answer keeps what was held for whoever has its ticket)
+        with contextlib.suppress(builtins.TimeoutError):
+            async with asyncio.timeout(ANSWER):
+                for held in list(self._held):
+                    if lets_go:
+                        await held._let_go(None)
+                    held._reader.cancel()
+        with contextlib.suppress(builtins.TimeoutError):
+            async with asyncio.timeout(CLOSING):
+                await self._channel.close()
+
+    def _at_exit(self) -> None:
+        self.close(lets_go=False)
+
+    def __enter__(self) -> Lab:
+        return self
+
+    def __exit__(self, kind: Optional[type[BaseException]], fault: Optional[BaseException], at: Optional[TracebackType]) -> None:
+        self.close()
+
+
+async def _read(call: Any) -> Any:
+    try:
+        bay = await call.read()
+    except grpc.aio.AioRpcError as fault:
+        raise Unreachable(str(fault.details())) from None
+    return None if bay is grpc.aio.EOF else bay
+
+
+def _why(lab: Lab, code: Any, text: str) -> Exception:
+    if code is grpc.StatusCode.DEADLINE_EXCEEDED:
+        return Unreachable(f"the broker at {lab.address} doesn't answer")
+    if code in (grpc.StatusCode.UNAVAILABLE, grpc.StatusCode.UNKNOWN, grpc.StatusCode.CANCELLED):
+        return Unreachable(f"the broker at {lab.address} can't be reached: {text}")
+    if code in (grpc.StatusCode.UNAUTHENTICATED, grpc.StatusCode.RESOURCE_EXHAUSTED):
+        return Unreachable(f"the broker at {lab.address} doesn't let this client in: {text}")
+    return NotHeld(text) if code is grpc.StatusCode.FAILED_PRECONDITION else BrokerError(text)
+
+
+def _as_dict(bay: Any) -> dict[str, Any]:
+    """With a None where nothing is said, as the broker's own has it."""
+    from google.protobuf import json_format
+
+    given: dict[str, Any] = json_format.MessageToDict(bay, including_default_value_fields=True, preserving_proto_field_name=True)
+    for one in (*given["instruments"], *given["stations"], *(it for station in given["stations"] for it in station["waits_for"]), *given["in_line"]):
+        kind = {"waiting": pb.Instrument, "state": pb.Station, "holds": pb.Keeper}
+        fields = next((it for key, it in kind.items() if key in one), pb.InLine).DESCRIPTOR.fields
+        for field in fields:
+            one.setdefault(field.name, None)
+    for key in ("sessions", "refusals"):
+        given[key] = int(given[key])
+    return given
+
+
+class Held:
+    """A session, as the broker keeps it. `with` it, or call `acquire` and `release`. `instruments`, `station` and `number` are known once it
+    holds."""
+
+    def __init__(self, lab: Lab, wish: Any, timeout: Optional[float], waits: Optional[Callable[[str], None]]) -> None:
+        self.lab, self.timeout = lab, timeout
+        self.instruments: tuple[str, ...] = tuple(wish.instruments)
+        self.station, self.number, self.state = "", 0, "new"
+        self._wish, self._waits = wish, waits
+        self._stream: Optional[_Stream] = None
+        self._taken: Optional[Exception] = None
+        self._grace: Optional[float] = None
+        # it is called, on another thread, if the session was taken away while its owner works
+        self.on_taken: Optional[Callable[[Exception], None]] = None
+
+    @property
+    def held(self) -> bool:
+        return self.state == "held"
+
+    def acquire(self) -> None:
+        """Blocks until the session holds all its instruments."""
+        try:
+            self.lab._run(self._acquire())
+        except BaseException:
+            if self.held:
+                self.release()
+            raise
+
+    async def acquire_async(self) -> None:
+        """As `acquire`, for a task of asyncio."""
+        try:
+            await self.lab._run_async(self._acquire())
+        except BaseException:
+            if self.held:
+                await self.release_async()
+            raise
+
+    def note(self, text: object) -> None:
+        """Writes a line to the records, as a reading."""
+        self.lab._run(self._ask(note=pb.Note(text=str(text))))
+
+    async def note_async(self, text: object) -> None:
+        await self.lab._run_async(self._ask(note=pb.Note(text=str(text))))
+
+    def release(self, failed: Optional[str] = None) -> None:
+        """Lets the instruments go; `failed` says what went wrong with the work. TakenAway if the session was ended before."""
+        self.lab._run(self._let_go(failed))
+
+    async def release_async(self, failed: Optional[str] = None) -> None:
+        await self.lab._run_async(self._let_go(failed))
+
+    def __enter__(self) -> Held:
+        self.acquire()
+        return self
+
+    def __exit__(self, kind: Optional[type[BaseException]], fault: Optional[BaseException], at: Optional[TracebackType]) -> None:
+        try:
+            if self.held or self._taken is not None:
+                self.release(_failure(kind, fault))
+        except labrun.LabrunError:
+            # (what the body raised is told first)
+            if kind is None:
+                raise
+
+    async def __aenter__(self) -> Held:
+        await self.acquire_async()
+        return self
+
+    async def __aexit__(self, kind: Optional[type[BaseException]], fault: Optional[BaseException], at: Optional[TracebackType]) -> None:
+        try:
+            if self.held or self._taken is not None:
+                await self.release_async(_failure(kind, fault))
+        except labrun.LabrunError:
+            if kind is None:
+                raise
+
+    # what follows runs on the lab's loop
+
+    async def _acquire(self) -> None:
+        if self.state in ("waiting", "held"):
+            raise labrun.LabrunError(f"the session is {self.state} already")
+        loop = asyncio.get_running_loop()
+        self._wish.ticket, self._taken, self.state = secrets.token_urlsafe(), None, "waiting"
+        until = None if self.timeout is None else loop.time() + self.timeout
+        try:
+            await self._comes_to_hold(loop, until)
+        except BaseException:
+            self.state = "withdrawn"
+            raise
+        self._answer: Optional[asyncio.Future[None]] = None
+        self._asked: dict[str, Any] = {}
+        self._asked_at = 0.0
+        self.state = "held"
+        self.lab._held.add(self)
+        self._reader = loop.create_task(self._keeps(loop))
+
+    async def _comes_to_hold(self, loop: asyncio.AbstractEventLoop, until: Optional[float]) -> None:
+        lost_at: Optional[float] = None
+        while True:
+            is_new = not self.lab._idle
+            stream = _Stream(self.lab) if is_new else self.lab._idle.pop()
+            try:
+                if is_new:
+                    await stream.opens()
+                    self.lab._was_there = True
+                if until is not None:
+                    self._wish.timeout = max(0.0, until - loop.time())
+                await stream.ask(wish=self._wish)
+                await self._is_told(stream)
+                return
+            except _Lost as lost:
+                # (one that was idle may be of a broker that is gone)
+                lost_at = lost_at or loop.time()
+                is_over = loop.time() > lost_at + GRACE or until is not None and loop.time() > until
+                if is_new and (lost.code not in AGAIN or not self.lab._was_there or is_over):
+                    raise _why(self.lab, lost.code, str(lost)) from None
+                if is_new:
+                    await asyncio.sleep(PAUSE)
+            except BaseException:
+                if stream not in self.lab._idle:
+                    stream.cancel()
+                raise
+
+    async def _is_told(self, stream: _Stream) -> None:
+        """Reads on until the session holds."""
+        while True:
+            kind, told = await stream.told()
+            if kind == "held":
+                self._holds(stream, told)
+                return
+            if kind == "waits" and self._waits is not None:
+                self._waits(told.text)
+            elif kind == "fault":
+                self.lab._idle.append(stream)
+                raise _raised(told)
+
+    def _holds(self, stream: _Stream, told: Any) -> None:
+        self._stream, self._grace = stream, told.grace if told.HasField("grace") else None
+        self.instruments, self.station, self.number = tuple(told.instruments), told.station, told.session
+
+    async def _keeps(self, loop: asyncio.AbstractEventLoop) -> None:
+        """Reads what the broker says while the session is held, and comes back if the stream ends."""
+        assert self._stream is not None
+        while True:
+            try:
+                kind, told = await self._stream.told()
+            except _Lost:
+                if await self._comes_back(loop):
+                    continue
+                return
+            if kind == "taken":
+                return self._is_over("taken", _raised(told))
+            if kind == "gone":
+                self.lab._idle.append(self._stream)
+                return self._is_over("finished", None)
+            self._answers(_raised(told) if kind == "fault" else None)
+
+    async def _comes_back(self, loop: asyncio.AbstractEventLoop) -> bool:
+        """Whether the session goes on to hold, on another stream. It is tried while the broker keeps the session, or for so long as an owner
+        waits who asked for something."""
+        until = None if self._grace is None else loop.time() + self._grace
+        wish = pb.Wish(ticket=self._wish.ticket, by=self._wish.by, comes_back=True)
+        while True:
+            stream = _Stream(self.lab)
+            try:
+                await stream.ask(wish=wish)
+                kind, told = await stream.told()
+                if kind == "held":
+                    self._holds(stream, told)
+                    if self._answer is not None:
+                        await stream.ask(**self._asked)
+                    return True
+                if kind == "fault":
+                    was_done = told.kind == "LetGo" and "let_go" in self._asked
+                    self._is_over("finished" if was_done else "taken", None if was_done else _raised(told))
+                    return False
+            except _Lost as lost:
+                now = loop.time()
+                is_late = until is not None and now > until or self._answer is not None and now > self._asked_at + GRACE
+                if lost.code not in AGAIN or is_late:
+                    self._is_over("lost", _why(self.lab, lost.code, str(lost)))
+                    return False
+            stream.cancel()
+            await asyncio.sleep(PAUSE)
+
+    def _answers(self, fault: Optional[Exception]) -> None:
+        answer, self._answer = self._answer, None
+        if answer is None or answer.done():
+            return
+        if fault is None:
+            answer.set_result(None)
+        else:
+            answer.set_exception(fault)
+
+    def _is_over(self, state: str, fault: Optional[Exception]) -> None:
+        self.state, self._taken, self._stream = state, fault, None
+        self.lab._held.discard(self)
+        waits = self._answer is not None
+        self._answers(fault)
+        if fault is not None and not waits and self.on_taken is not None:
+            self.on_taken(fault)
+
+    async def _ask(self, **what: Any) -> None:
+        """Asks, and waits for the answer; if the stream ends meanwhile it is asked again on the next one."""
+        if self._taken is not None:
+            fault, self._taken = self._taken, None
+            raise fault
+        if self.state != "held" or self._stream is None:
+            raise NotHeld(f"the session is {self.state}: it doesn't hold its instruments")
+        if self._answer is not None:
+            raise labrun.LabrunError("another thread asks something of this session")
+        self._asked, self._asked_at = what, asyncio.get_running_loop().time()
+        answer = self._answer = asyncio.get_running_loop().create_future()
+        try:
+            await self._stream.ask(**what)
+        except _Lost:
+            pass  # (`_keeps` sees that, too)
+        await answer
+
+    async def _let_go(self, failed: Optional[str]) -> None:
+        await self._ask(let_go=pb.LetGo(failed=failed))
+
+
+def _failure(kind: Optional[type[BaseException]], fault: Optional[BaseException]) -> Optional[str]:
+    return None if kind is None else f"{kind.__name__}: {fault}"[:200]
+
+
+def connect(
+    address: Optional[str] = None, station: str = "", token_file: Optional[str] = None, certificate_file: Optional[str] = None, by: Optional[str] = None
+) -> Lab:
+    """The bay of the broker at an address, `unix:PATH` or `HOST:PORT`; without one, that of LABRUN_BROKER, or the usual socket. `station` is
+    whom the program is; without it each session is a guest's. A broker of another machine wants its token, and its certificate to know it by. `by`
+    is what people read of who holds: `ann@bench-3 4711 measure.py` if nothing is said."""
+    token = certificate = None
+    if token_file is not None:
+        with open(token_file, encoding="ascii") as file:
+            token = file.read().strip()
+    if certificate_file is not None:
+        with open(certificate_file, "rb") as given:
+            certificate = given.read()
+    return Lab(address or os.environ.get("LABRUN_BROKER") or DEFAULT, station, token, certificate, by or _who())
+
+
+def user() -> str:
+    """As ann@bench-3."""
+    try:
+        name = getpass.getuser()
+    except (KeyError, OSError):
+        name = str(os.getuid())
+    return f"{name}@{socket.gethostname()}"
+
+
+def _who() -> str:
+    return f"{user()} {os.getpid()} {os.path.basename(sys.argv[0]) or 'python'}"[:64]

@@ -1,0 +1,649 @@
+"""The bench behind the service: who asks, holds, notes, lets go, and is gone. Nothing here knows of the network.
+
+A *seat* is a job of the bench: a station of the bay, or one of its guests. A client that asks gets a seat, waits there for its
+instruments, holds them, and lets go. A seat is in one session at a time, so who asks for one that is taken waits for the seat first."""
+
+from __future__ import annotations
+
+import asyncio
+import builtins
+import collections
+import fcntl
+import os
+import re
+import tempfile
+import time
+from dataclasses import dataclass, field
+from typing import Any, AsyncIterator, Callable, Optional, Protocol
+
+import labrun
+from labrun import LabrunError, MayNotUse, NotHeld, TakenAway
+
+from .bay import MOST_COMMANDS, MOST_SESSIONS, Bay
+from .records import Disk, Record, Records, hashed, read_records
+
+KEPT_IN_MEMORY = 1000  # records, and ends of tickets
+# a page is turned before the bench is full: at so many sessions of a seat, commands of all, and bytes of the journal
+MANY_SESSIONS, MANY_COMMANDS, MANY_BYTES = 900, 90000, 14000000
+# for how long those that ask wait for a page to be turned while somebody holds, and when it is tried again
+PATIENCE, PAUSE = 0.5, 10.0
+LEAST_TICKET = 16
+
+
+class TimedOut(LabrunError, builtins.TimeoutError):
+    """The time was over while the client waited for a seat."""
+
+
+class BadWish(LabrunError, ValueError):
+    """What was asked for can't be."""
+
+
+class Ended(NotHeld):
+    """No session has this ticket any more. `how` it ended: `let_go`, `taken`, or, if nobody knows, nothing."""
+
+    def __init__(self, how: str, text: str) -> None:
+        super().__init__(text)
+        self.how = how
+
+
+class Owner(Protocol):
+    """Whoever acts for a seat."""
+
+    def taken(self, why: str) -> None:
+        """The session was ended for its owner, or is another's now."""
+
+
+@dataclass(frozen=True)
+class Wish:
+    """What a client asks for. With `comes_back` it held before, and wants no other session than that of its ticket."""
+
+    instruments: tuple[str, ...] = ()
+    any_of: tuple[tuple[str, ...], ...] = ()
+    station: str = ""
+    by: str = ""
+    timeout: Optional[float] = None
+    ticket: str = ""
+    comes_back: bool = False
+
+
+@dataclass(eq=False)
+class Seat:
+    """`state` is idle, waiting, holding or gone; `since` and `gone_at` are of the clock that doesn't jump."""
+
+    job: labrun.Job
+    line: str
+    state: str = "idle"
+    since: float = 0.0
+    instruments: tuple[str, ...] = ()
+    session: Optional[labrun.Session] = None
+    owner: Optional[Owner] = None
+    by: Optional[str] = None
+    note: Optional[str] = None
+    ticket: str = ""
+    gone_at: Optional[float] = None
+    timer: Optional[asyncio.TimerHandle] = None
+    sessions: int = 0
+
+    @property
+    def name(self) -> str:
+        return self.job.name
+
+
+@dataclass(eq=False)
+class InLine:
+    """A client that waits for a seat."""
+
+    wish: Wish
+    since: float
+    seat: asyncio.Future[Seat] = field(default_factory=lambda: asyncio.get_running_loop().create_future())
+
+
+class Keeping:
+    """The bay's bench. All calls are made on one loop. `history` has the last records."""
+
+    def __init__(self, bay: Bay, state: Optional[str] = None, grace: float = 60.0, syncs: bool = True) -> None:
+        self.bay, self.grace, self.state = bay, grace, state
+        self.history: list[Record] = []
+        self.page, self.refusals, self.sessions = 1, 0, 0
+        self._syncs = syncs
+        self._watchers: set[asyncio.Event] = set()
+        self._tickets: dict[str, Seat] = {}
+        # what became of sessions that are over, by their tickets
+        self._ends: dict[str, str] = {}
+        self._reports: dict[int, str] = {}
+        self._records: Optional[Records] = None
+        self._disk = Disk()
+        self._journal_file = -1
+        self._commands = 0
+        self._is_closed = False
+        # a sync failed: nobody knows what is on the disk, so the broker is to end, and another takes up what is there
+        self.is_broken = asyncio.Event()
+        self._page_wanted, self._page_turned = asyncio.Event(), asyncio.Event()
+        self._tasks: set[asyncio.Task[Any]] = set()
+
+    # ---- from the start to the end
+
+    async def open(self) -> None:
+        """Opens the bench, or goes on where the state folder says. LabrunError and OSError say why it can't."""
+        self._opened_at = self._now()
+        if self.state is None:
+            self.bench = labrun.Bench.new(self.bay.jobs, overtakes=self.bay.overtakes)
+        else:
+            self._open_state(self.state)
+        self._seats = {job.name: Seat(job, job.name if job.name in self.bay.stations else "", since=self._opened_at) for job in self.bench.jobs}
+        self._lines: dict[str, collections.deque[InLine]] = {line: collections.deque() for line in (*self.bay.stations, "")}
+        self._free: dict[str, collections.deque[Seat]] = {line: collections.deque() for line in self._lines}
+        for seat in self._seats.values():
+            self._free[seat.line].append(seat)
+        self._open_page()
+        self._record("opened", text=f"page {self.page}" + (", as it was left" if self.bench.resumed else ""))
+        if self.bench.resumed:
+            self._take_up()
+        self._start(self._looks_after_pages())
+
+    def _open_state(self, folder: str) -> None:
+        os.makedirs(folder, 0o750, exist_ok=True)
+        self._lock = os.open(f"{folder}/lock", os.O_RDWR | os.O_CREAT | os.O_CLOEXEC, 0o640)
+        try:
+            fcntl.flock(self._lock, fcntl.LOCK_EX | fcntl.LOCK_NB)
+        except BlockingIOError:
+            os.close(self._lock)
+            raise LabrunError(f"{folder}: another broker keeps its state there") from None
+        # (what is synced, and when, is the disk's part)
+        try:
+            self.bench = labrun.Bench.new(self.bay.jobs, journal=f"{folder}/bay.journal", sync="none", overtakes=self.bay.overtakes)
+        except labrun.JournalError as fault:
+            if "another script" not in fault.why:
+                raise
+            why = "it is of another bay: go back to that one until nobody holds, and then give this one a folder of its own"
+            raise labrun.JournalError(fault.path, why) from None
+        self.page = 1 + max(self._closed_pages(), default=0)
+
+    def _closed_pages(self) -> list[int]:
+        """The pages that were turned: their journals have numbers."""
+        if self.state is None:
+            return sorted(self._reports)
+        found = (re.fullmatch(r"bay\.journal\.(\d{1,9})", name) for name in os.listdir(self.state))
+        return sorted(int(it[1]) for it in found if it)
+
+    def _open_page(self) -> None:
+        """The files of the page that begins, or goes on."""
+        room = self.bench.room
+        self._commands = MOST_COMMANDS - room.commands
+        for seat in self._seats.values():
+            seat.sessions = MOST_SESSIONS - room.sessions[seat.name]
+        if self.state is None:
+            return
+        self._close_files()
+        self._records = Records(f"{self.state}/records-{self.page}.jsonl")
+        self._journal_file = os.open(f"{self.state}/bay.journal", os.O_RDONLY | os.O_CLOEXEC)
+        if self._syncs:
+            self._disk.files = [self._records.fileno(), self._journal_file]
+            folder = os.open(self.state, os.O_RDONLY | os.O_CLOEXEC)
+            os.fsync(folder)
+            os.close(folder)
+
+    def _close_files(self) -> None:
+        self._disk.files = []
+        if self._journal_file >= 0:
+            os.close(self._journal_file)
+            self._journal_file = -1
+        if self._records is not None:
+            self._records.close()
+            self._records = None
+
+    def _take_up(self) -> None:
+        """The bench is as a broker left it that was killed: what was held is held, and its clients are awaited."""
+        held: dict[str, Record] = {}
+        notes: dict[str, str] = {}
+        for record in read_records(f"{self.state}/records-{self.page}.jsonl"):
+            station, what = str(record.get("station")), record["what"]
+            if what == "held":
+                held[station] = record
+                notes.pop(station, None)
+            elif what == "note":
+                notes[station] = str(record.get("text", ""))
+            elif what in ("let_go", "failed", "taken") and station in held:
+                self._ended(str(held[station].get("ticket", "")), str(record.get("text")) if what == "taken" else what)
+        for seat in self._seats.values():
+            session = seat.job.next_session()
+            if session is None:
+                continue
+            if not session.resumed:
+                session.give_up()
+                continue
+            record = held.get(seat.name, {})
+            is_known = record.get("session") == session.number
+            self._free[seat.line].remove(seat)
+            seat.session, seat.instruments, seat.state, seat.since = session, session.instruments, "holding", self._now()
+            seat.by = record.get("by") if is_known else None
+            seat.note = notes.get(seat.name) if is_known else None
+            seat.ticket = str(record.get("ticket", "")) if is_known else ""
+            if is_known:
+                seat.since -= max(0.0, time.time() - record["t"])
+            if seat.ticket:
+                self._tickets[seat.ticket] = seat
+            self.gone(seat, None)
+
+    async def close(self) -> None:
+        """Nobody comes to hold any more; what is held stays held, in the journal."""
+        if self._is_closed:
+            return
+        self._is_closed = True
+        for task in list(self._tasks):
+            task.cancel()
+        for seat in self._seats.values():
+            if seat.timer is not None:
+                seat.timer.cancel()
+        for line in self._lines.values():
+            for one in line:
+                if not one.seat.done():
+                    one.seat.set_exception(labrun.Stopped("the broker ends"))
+        self.bench.stop()
+        await asyncio.sleep(0)
+        self._record("closed")
+        report = self.bench.close()
+        if self.state is None:
+            self._reports[self.page] = report.text
+        self._close_files()
+
+    def _now(self) -> float:
+        return asyncio.get_running_loop().time()
+
+    def _start(self, work: Any) -> None:
+        task = asyncio.get_running_loop().create_task(work)
+        self._tasks.add(task)
+        task.add_done_callback(self._tasks.discard)
+
+    # ---- sessions
+
+    async def hold(self, wish: Wish, owner: Owner, waits: Optional[Callable[[Seat], None]] = None) -> Seat:
+        """Returns the seat once it holds what the client wishes, and that is on the disk. Whoever is cancelled meanwhile leaves the line. `waits`
+        is called with the seat once there is one."""
+        try:
+            ticket = hashed(wish.ticket)
+            if ticket in self._tickets and wish.ticket:
+                return self._comes_back(self._tickets[ticket], owner)
+            if wish.comes_back:
+                raise self._why_unknown(ticket)
+            self._check(wish)
+        except LabrunError:
+            self.refusals += 1
+            raise
+        until = None if wish.timeout is None else self._now() + wish.timeout
+        seat = await self._seat_for(wish, until)
+        seat.owner = owner
+        if waits is not None:
+            waits(seat)
+        try:
+            await self._comes_to_hold(seat, wish, until)
+            await self._on_disk()
+        except BaseException as fault:
+            if seat.owner is owner:
+                self._gave_up(seat, fault)
+            raise
+        if seat.owner is not owner:
+            raise Ended("taken", "the session was taken away before its client was told that it holds")
+        return seat
+
+    def _check(self, wish: Wish) -> None:
+        if self._is_closed:
+            raise labrun.Stopped("the broker ends")
+        if wish.station and wish.station not in self.bay.stations:
+            raise BadWish(f"{wish.station} is no station of this bay: there are {', '.join(self.bay.stations) or 'none'}")
+        if not wish.station and not self.bay.guests:
+            raise BadWish(f"this bay has no guests: say which station you are, of {', '.join(self.bay.stations)}")
+        choices = wish.any_of or (wish.instruments,)
+        if wish.any_of and wish.instruments or not all(choices):
+            raise BadWish("say which instruments, or which sets of them to choose from (any_of)")
+        if wish.ticket and len(wish.ticket) < LEAST_TICKET:
+            raise BadWish(f"a ticket has {LEAST_TICKET} characters or more")
+        may = self.bay.stations[wish.station] if wish.station else self.bay.guests_use
+        for name in (name for choice in choices for name in choice):
+            if name not in may:
+                raise MayNotUse(wish.station or "a guest", name, may)
+
+    async def _seat_for(self, wish: Wish, until: Optional[float]) -> Seat:
+        free, line = self._free[wish.station], self._lines[wish.station]
+        if free and not line:
+            return free.popleft()
+        one = InLine(wish, self._now())
+        line.append(one)
+        self._changed()
+        try:
+            async with asyncio.timeout_at(until):
+                return await one.seat
+        except BaseException as fault:
+            if one in line:
+                line.remove(one)
+            if one.seat.done() and not one.seat.cancelled() and one.seat.exception() is None:
+                self._frees(one.seat.result())
+            self._changed()
+            if isinstance(fault, builtins.TimeoutError):
+                raise TimedOut(self._why_no_seat(wish.station)) from None
+            raise
+
+    def _why_no_seat(self, line: str) -> str:
+        seats = [seat for seat in self._seats.values() if seat.line == line]
+        if not line:
+            return f"all {len(seats)} guests of the bay are taken: " + ", ".join(f"{seat.name} by {seat.by or 'somebody'}" for seat in seats)
+        return f"{line} is in a session of {seats[0].by or 'somebody'}, and is in one at a time"
+
+    async def _comes_to_hold(self, seat: Seat, wish: Wish, until: Optional[float]) -> None:
+        seat.state, seat.since, seat.by, seat.note, seat.gone_at = "waiting", self._now(), wish.by or None, None, None
+        seat.instruments = wish.instruments or tuple(dict.fromkeys(name for choice in wish.any_of for name in choice))
+        self._record("asked", seat)
+        while True:
+            session = seat.session = seat.job.hold(*wish.instruments, any_of=wish.any_of)
+            try:
+                await session.acquire_async(None if until is None else max(0.0, until - self._now()))
+                break
+            except labrun.Full:
+                await self._new_page(until)
+        seat.instruments, seat.state, seat.since = session.instruments, "holding", self._now()
+        seat.ticket = hashed(wish.ticket)
+        if seat.ticket:
+            self._tickets[seat.ticket] = seat
+        self._counts(seat)
+        self._record("held", seat, ticket=seat.ticket)
+
+    async def _on_disk(self) -> None:
+        """All that was told until now is on the disk."""
+        if self._records is not None:
+            try:
+                self._records.write()
+                await self._disk.synced()
+            except OSError as fault:
+                if self._disk.fault is not None:
+                    self.is_broken.set()
+                raise labrun.JournalError(self.state or "", f"a write failed ({fault.strerror})") from fault
+
+    def _gave_up(self, seat: Seat, fault: BaseException) -> None:
+        """The client waits no longer, or can't be told any more that it holds."""
+        session = seat.session
+        if session is not None and session.held:
+            try:
+                session.release()
+            except labrun.JournalError:
+                # (so it goes on to hold, and whoever has its ticket may let it go)
+                self.gone(seat, seat.owner)
+                return
+        is_usual = isinstance(fault, (builtins.TimeoutError, asyncio.CancelledError, labrun.Stopped))
+        text = "the client is gone" if isinstance(fault, asyncio.CancelledError) else str(fault)
+        self._record("gave_up" if is_usual else "failed", seat, text=text)
+        self._frees(seat)
+
+    def _frees(self, seat: Seat, end: str = "") -> None:
+        """The seat is for the next one in its line."""
+        if seat.ticket and self._tickets.get(seat.ticket) is seat:
+            del self._tickets[seat.ticket]
+            self._ended(seat.ticket, end)
+        if seat.timer is not None:
+            seat.timer.cancel()
+        seat.state, seat.since, seat.ticket, seat.instruments = "idle", self._now(), "", ()
+        seat.session = seat.owner = seat.by = seat.note = seat.gone_at = seat.timer = None
+        line = self._lines[seat.line]
+        while line:
+            one = line.popleft()
+            if not one.seat.done():
+                one.seat.set_result(seat)
+                break
+        else:
+            self._free[seat.line].append(seat)
+        self._changed()
+
+    def _ended(self, ticket: str, end: str) -> None:
+        if ticket:
+            self._ends[ticket] = end
+            if len(self._ends) > 2 * KEPT_IN_MEMORY:
+                self._ends = dict(list(self._ends.items())[KEPT_IN_MEMORY:])
+
+    def _why_unknown(self, ticket: str) -> Ended:
+        end = self._ends.get(ticket)
+        if end is None:
+            return Ended("", "no session has this ticket: it is over, or was never told that it holds")
+        if end in ("let_go", "failed"):
+            return Ended("let_go", "the session has let go")
+        return Ended("taken", f"the session was taken away {end}")
+
+    def _is_of(self, seat: Seat, owner: Owner) -> labrun.Session:
+        if seat.owner is not owner or seat.session is None:
+            raise NotHeld("the session is over, or another connection came for it")
+        return seat.session
+
+    async def let_go(self, seat: Seat, owner: Owner, failed: Optional[str] = None) -> None:
+        """Returns once that is on the disk. `failed` is what the client says of work that failed."""
+        self._is_of(seat, owner).release()
+        self._record("let_go" if failed is None else "failed", seat, text=failed or "")
+        self._frees(seat, "let_go")
+        await self._on_disk()
+
+    async def note(self, seat: Seat, owner: Owner, text: str) -> None:
+        session = self._is_of(seat, owner)
+        seat.note = text
+        if self._journal_file >= 0:
+            session.note(text)
+        self._record("note", seat, text=text)
+        await self._on_disk()
+
+    async def release(self, station: str, by: str) -> tuple[str, ...]:
+        """Ends the session that a station holds, for its owner; its instruments."""
+        if station not in self._seats:
+            raise BadWish(f"{station} is no station of this bay: there are {', '.join(self._seats)}")
+        seat = self._seats[station]
+        if seat.state not in ("holding", "gone"):
+            raise NotHeld(f"{station} holds nothing")
+        instruments = self.bench.take_away(station)
+        try:
+            # (the bench tells that once)
+            seat.job.next_session()
+        except TakenAway:
+            pass
+        self._record("taken", seat, text=f"by {by}")
+        owner = seat.owner
+        self._frees(seat, f"by {by}")
+        if owner is not None:
+            owner.taken(f"{station}: the session was taken away by {by}: {', '.join(instruments)}")
+        await self._on_disk()
+        return instruments
+
+    # ---- clients that are gone
+
+    def gone(self, seat: Seat, owner: Optional[Owner]) -> None:
+        """The client of a session that holds isn't there any more. It goes on to hold."""
+        if seat.owner is not owner or seat.state != "holding":
+            return
+        seat.state, seat.owner, seat.gone_at = "gone", None, self._now()
+        if self.bay.gone == "release":
+            seat.timer = asyncio.get_running_loop().call_later(self.grace, self._grace_is_over, seat)
+        self._record("gone", seat)
+
+    def _grace_is_over(self, seat: Seat) -> None:
+        if seat.state == "gone":
+            self._start(self.release(seat.name, f"the broker, because its client was gone for {self.grace:g} s"))
+
+    def _comes_back(self, seat: Seat, owner: Owner) -> Seat:
+        if seat.owner is not None:
+            seat.owner.taken("another connection came for the session")
+        if seat.timer is not None:
+            seat.timer.cancel()
+        seat.state, seat.owner, seat.gone_at, seat.timer = "holding", owner, None, None
+        self._record("back", seat)
+        return seat
+
+    # ---- pages
+
+    def _counts(self, seat: Seat) -> None:
+        """Whether the page is nearly full, looked at as a session comes."""
+        seat.sessions += 1
+        self.sessions += 1
+        self._commands += len(seat.instruments)
+        is_low = seat.sessions >= MANY_SESSIONS or self._commands >= MANY_COMMANDS
+        if not is_low and self._journal_file >= 0 and self.sessions % 100 == 0:
+            is_low = os.fstat(self._journal_file).st_size >= MANY_BYTES or self.bench.room.is_low
+        if is_low:
+            self._page_wanted.set()
+
+    async def _new_page(self, until: Optional[float]) -> None:
+        """Waits for a page that has room."""
+        self._page_wanted.set()
+        try:
+            async with asyncio.timeout_at(until):
+                await self._page_turned.wait()
+        except builtins.TimeoutError:
+            at_work = ", ".join(seat.name for seat in self._seats.values() if seat.state in ("holding", "gone"))
+            raise TimedOut(f"the page is full, and is turned once nobody holds: {at_work} did") from None
+
+    async def _looks_after_pages(self) -> None:
+        while True:
+            await self._page_wanted.wait()
+            try:
+                await self.turn_page(PATIENCE)
+            except labrun.NotBack:
+                # somebody is at work for long: others go on until the page is full
+                await asyncio.sleep(PAUSE)
+
+    async def turn_page(self, timeout: Optional[float] = None) -> int:
+        """Turns the page once nobody holds; the number of the new one. labrun.NotBack says who still holds after `timeout` seconds."""
+        page = await self.bench.turn_page_async(timeout)
+        if self.state is None:
+            self._reports = {self.page: page.report.text}
+        self.page += 1
+        self._open_page()
+        self._record("page", text=f"page {self.page}")
+        self._page_wanted.clear()
+        turned, self._page_turned = self._page_turned, asyncio.Event()
+        turned.set()
+        return self.page
+
+    def report(self, page: int = 0) -> str:
+        """The report of a page, or of the one that is open (0): of that only with a journal. It is that of a bench which goes through a copy of
+        the page's journal."""
+        if page in self._reports:
+            return self._reports[page]
+        is_open = page in (0, self.page)
+        if self.state is None and is_open:
+            raise BadWish("the page that is open has a report once it is turned, or with a state folder")
+        if not is_open and page not in self._closed_pages():
+            raise BadWish(f"there is no report of page {page}: the pages are {', '.join(str(it['page']) for it in self.pages())}")
+        with open(f"{self.state}/bay.journal" + ("" if is_open else f".{page}"), "rb") as journal:
+            text = journal.read()
+        with tempfile.TemporaryDirectory() as folder:
+            with open(f"{folder}/journal", "wb") as copy:
+                copy.write(text)
+            return labrun.Bench(text[: text.index(b"\nsteps\n") + 1], f"{folder}/journal", "none").close().text
+
+    def pages(self) -> list[dict[str, Any]]:
+        """The pages that there are, the open one last."""
+        return [*({"page": it, "is_open": False} for it in self._closed_pages()), {"page": self.page, "is_open": True}]
+
+    # ---- what is told
+
+    def _record(self, what: str, seat: Optional[Seat] = None, text: str = "", **more: Any) -> None:
+        session = 0 if seat is None or seat.session is None else seat.session.number
+        record: Record = {
+            "t": round(time.time(), 6),
+            "what": what,
+            "station": None if seat is None else seat.name,
+            "session": session or None,
+            "instruments": [] if seat is None else list(seat.instruments),
+            "by": None if seat is None else seat.by,
+            "text": text,
+        }
+        self.history.append(record)
+        if len(self.history) > 2 * KEPT_IN_MEMORY:
+            del self.history[:-KEPT_IN_MEMORY]
+        if self._records is not None:
+            self._records.add({**record, **more})
+        self._changed()
+
+    def _changed(self) -> None:
+        for watcher in self._watchers:
+            watcher.set()
+
+    async def changes(self) -> AsyncIterator[None]:
+        """Wakes whenever something has changed; once for all that changed meanwhile."""
+        event = asyncio.Event()
+        self._watchers.add(event)
+        try:
+            while True:
+                await event.wait()
+                event.clear()
+                yield
+        finally:
+            self._watchers.discard(event)
+
+    def status(self) -> dict[str, Any]:
+        now, at = self._now(), time.time()
+
+        def when(since: Optional[float]) -> Optional[float]:
+            """On the wall clock as it is now, so that spans stay right when that jumps."""
+            return None if since is None else round(at - (now - since), 3)
+
+        seats = list(self._seats.values())
+        holders = {name: seat for seat in seats if seat.state in ("holding", "gone") for name in seat.instruments}
+        instruments = [
+            {
+                "name": name,
+                "holder": holders[name].name if name in holders else None,
+                "since": when(holders[name].since) if name in holders else None,
+                "waiting": [seat.name for seat in sorted(seats, key=lambda it: it.since) if seat.state == "waiting" and name in seat.instruments],
+            }
+            for name in self.bay.instruments
+        ]
+        stations = [
+            {
+                "name": seat.name,
+                "state": seat.state,
+                "instruments": list(seat.instruments),
+                "since": when(seat.since),
+                "by": seat.by,
+                "note": seat.note,
+                "gone_since": when(seat.gone_at),
+                "waits_for": self._waits_for(seat, at),
+            }
+            for seat in seats
+        ]
+        in_line = [
+            {"station": line, "instruments": list(one.wish.instruments), "by": one.wish.by or None, "since": when(one.since)}
+            for line, ones in self._lines.items()
+            for one in ones
+        ]
+        return {
+            "bay": self.bay.name,
+            "at": round(at, 3),
+            "since": when(self._opened_at),
+            "page": self.page,
+            "instruments": instruments,
+            "stations": stations,
+            "room": self._room(),
+            "in_line": in_line,
+            "sessions": self.sessions,
+            "refusals": self.refusals,
+        }
+
+    def waits_for(self, seat: Seat) -> list[dict[str, Any]]:
+        return self._waits_for(seat, time.time())
+
+    def _waits_for(self, seat: Seat, at: float) -> list[dict[str, Any]]:
+        """Who keeps each of its instruments from a seat; the text says it to the end of the chain."""
+        if seat.state != "waiting" or seat.session is None:
+            return []
+        return [
+            {
+                "instrument": keeper.instrument,
+                "station": keeper.job,
+                "holds": keeper.holds,
+                "since": None if keeper.seconds is None else round(at - keeper.seconds, 3),
+                "text": str(keeper),
+            }
+            for keeper in seat.session.waits_for()
+        ]
+
+    def _room(self) -> dict[str, Any]:
+        """How much may still come to the page."""
+        return {
+            "sessions": min(MOST_SESSIONS - seat.sessions for seat in self._seats.values()),
+            "commands": MOST_COMMANDS - self._commands,
+            "is_low": self._page_wanted.is_set(),
+        }

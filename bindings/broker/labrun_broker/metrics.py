@@ -1,0 +1,88 @@
+"""Numbers for Prometheus: sessions, waits, who holds and who is gone."""
+
+from __future__ import annotations
+
+import asyncio
+from typing import Any, AsyncIterator, Iterator
+
+from .serving import HEADERS, Lacking, Served, serve, web
+from .sessions import Past, Record, batches, first, recent_records
+
+try:
+    from prometheus_client import CollectorRegistry, Counter, Histogram, generate_latest
+    from prometheus_client.core import GaugeMetricFamily
+    from prometheus_client.exposition import CONTENT_TYPE_LATEST
+    from prometheus_client.registry import Collector
+except ImportError:
+    raise Lacking("the numbers need prometheus_client (Debian: python3-prometheus-client)") from None
+
+BUCKETS = (0.001, 0.005, 0.02, 0.1, 0.5, 2, 10, 60, 300, 1800, 7200)
+STATES = {"holding": "Stations that hold instruments", "waiting": "Stations that wait", "gone": "Stations that hold, but whose client is gone"}
+
+
+class Now(Collector):
+    """What is now, when it is asked for."""
+
+    def __init__(self, keeping: Any) -> None:
+        self._keeping = keeping
+
+    def collect(self) -> Iterator[GaugeMetricFamily]:
+        states = [it["state"] for it in self._keeping.status()["stations"]]
+        for state, text in STATES.items():
+            yield GaugeMetricFamily(f"labrun_stations_{state}", text, value=states.count(state))
+
+
+class Metrics:
+    def __init__(self, keeping: Any) -> None:
+        self._keeping, self._past = keeping, Past()
+        self._registry = of = CollectorRegistry()
+        self._sessions = Counter("labrun_sessions", "Sessions that are over, by how they ended", ["station", "end"], registry=of)
+        self._waits = Histogram("labrun_wait_seconds", "How long sessions waited until they held", ["instrument"], buckets=BUCKETS, registry=of)
+        self._pages = Counter("labrun_pages", "Pages that were turned", registry=of)
+        self._refusals = Counter("labrun_refusals", "Requests that were refused", registry=of)
+        self._refused = 0
+        of.register(Now(keeping))
+
+    def add_to(self, app: web.Application) -> None:
+        app.router.add_get("/metrics", self._answer)
+        app.cleanup_ctx.append(self._counting)
+
+    async def _counting(self, _: web.Application) -> AsyncIterator[None]:
+        task = asyncio.ensure_future(self._count())
+        yield
+        task.cancel()
+        await asyncio.gather(task, return_exceptions=True)
+
+    async def _count(self) -> None:
+        for record in recent_records(self._keeping.state) if self._keeping.state else ():
+            # (sessions that were held before the broker began: they end now)
+            self._past.take(record)
+        self._past.ended.clear()
+        async for batch in batches(self._keeping):
+            for record in batch:
+                self._take(record)
+
+    def _take(self, record: Record) -> None:
+        if record["what"] == "page":
+            self._pages.inc()
+        over = self._past.take(record)
+        session = self._past.now.get(record.get("station") or "")
+        if over is not None:
+            self._sessions.labels(over.station, over.how).inc()
+        if record["what"] == "held" and session is not None and session.held == record["t"]:
+            for it in session.instruments:
+                self._waits.labels(it).observe(session.waited(first(session.held, 0.0)))
+        self._past.ended.clear()
+
+    async def _answer(self, _: web.Request) -> web.Response:
+        refused = int(getattr(self._keeping, "refusals", 0))
+        self._refusals.inc(refused - self._refused)
+        self._refused = refused
+        return web.Response(body=generate_latest(self._registry), headers={**HEADERS, "Content-Type": CONTENT_TYPE_LATEST})
+
+
+async def serve_metrics(keeping: Any, address: str) -> Served:
+    """The numbers alone, at an address of their own."""
+    app = web.Application()
+    Metrics(keeping).add_to(app)
+    return await serve(app, address)

@@ -1,0 +1,239 @@
+"""The commands that show what was, from a state folder: gantt, table and report."""
+
+from __future__ import annotations
+
+import argparse
+import csv
+import os
+import re
+import statistics
+import sys
+import time
+from datetime import datetime, timezone
+from typing import Callable, NamedTuple, Optional, TextIO
+
+from .journals import records_of_journal
+from .sessions import ENDS, UNKNOWN, Fault, Past, Session, first, read_records, spans_waited_for
+
+
+def plain(text: str) -> str:
+    """A text of somebody else on a terminal: what isn't printable is shown by its number."""
+    return "".join(it if it.isprintable() else it.encode("unicode_escape").decode() for it in text)
+
+
+def span(seconds: float) -> str:
+    """A span as people say it: 0.25 s, 12 s, 4 min 5 s, 2 h 13 min, 3 d 4 h."""
+    if seconds < 10:
+        return f"{seconds:.2f} s"
+    whole = round(seconds)
+    for size, name, below, lower in ((86400, "d", 3600, "h"), (3600, "h", 60, "min"), (60, "min", 1, "s")):
+        if whole >= size:
+            return f"{whole // size} {name} {whole % size // below} {lower}"
+    return f"{whole} s"
+
+
+def local(t: Optional[float]) -> str:
+    return "" if t is None else time.strftime("%Y-%m-%d %H:%M:%S", time.localtime(t))
+
+
+def iso(t: Optional[float]) -> str:
+    return "" if t is None else datetime.fromtimestamp(t, timezone.utc).isoformat(timespec="milliseconds")
+
+
+def aligned(rows: list[list[str]], out: TextIO) -> None:
+    widths = [max(map(len, column)) for column in zip(*rows)]
+    for row in rows:
+        out.write("  ".join(it.ljust(width) for it, width in zip(row, widths)).rstrip() + "\n")
+
+
+HEAD = ["station", "session", "by", "instruments", "asked", "held", "ended", "waited_s", "held_s", "end", "why", "notes"]
+
+
+def write_csv(sessions: list[Session], until: float, out: TextIO) -> None:
+    """A row for each session; its notes as they were written, a line each."""
+    to = csv.writer(out, lineterminator="\n")
+    to.writerow(HEAD)
+    for it in sessions:
+        notes = "\n".join(text for _, text in it.notes)
+        spans = [f"{it.waited(until):.3f}", "" if it.held is None else f"{it.worked(until):.3f}"]
+        number = "" if it.number is None else it.number
+        to.writerow([it.station, number, it.by, " ".join(it.instruments), iso(it.asked), iso(it.held), iso(it.ended), *spans, it.how, it.why, notes])
+
+
+def write_notes_csv(sessions: list[Session], out: TextIO) -> None:
+    """A row for each note, with its own time."""
+    to = csv.writer(out, lineterminator="\n")
+    to.writerow(["time", "station", "session", "instruments", "note"])
+    rows = sorted((t, it.station, it.number or "", " ".join(it.instruments), text) for it in sessions for t, text in it.notes)
+    to.writerows([iso(t), *row] for t, *row in rows)
+
+
+OF_SESSION = ["station", "session", "asked", "waited", "held", "end", "instruments", "by", "notes"]
+
+
+def write_table(sessions: list[Session], until: float, out: TextIO) -> None:
+    rows = [OF_SESSION]
+    for it in sessions:
+        number = "" if it.number is None else str(it.number)
+        spans = [span(it.waited(until)), "" if it.held is None else span(it.worked(until))]
+        notes = " | ".join(plain(text) for _, text in it.notes)
+        end = f"{it.how}: {it.why}" if it.why else it.how
+        rows.append([plain(it.station), number, local(it.asked), *spans, plain(end), plain(" ".join(it.instruments)), plain(it.by), notes])
+    aligned(rows, out)
+
+
+OF_STATION = ["station", *ENDS.values(), UNKNOWN, "at work", "of the time", "waited", "longest wait"]
+OF_INSTRUMENT = ["instrument", "sessions", "in use", "of the time", "waited for, unused", "median wait", "longest wait"]
+
+
+def write_report(past: Past, sessions: list[Session], since: float, until: float, out: TextIO) -> None:
+    out.write(f"from {local(since)} to {local(until)}, {span(until - since)}: {len(sessions)} sessions\n\n")
+    aligned([OF_STATION, *(of_station(name, sessions, since, until) for name in past.stations)], out)
+    out.write("\n")
+    aligned([OF_INSTRUMENT, *(of_instrument(name, sessions, since, until) for name in past.instruments)], out)
+    out.write("\n" if past.now else "")
+    for it in past.now.values():
+        is_gone = bool(it.gone) and it.gone[-1][1] is None
+        about = f"has been gone since {local(it.gone[-1][0])}" if is_gone else f"{it.how} since {local(first(it.held, it.asked))}"
+        out.write(f"{plain(it.station)} {about}: {plain(' '.join(it.instruments))}\n")
+
+
+def of_station(name: str, sessions: list[Session], since: float, until: float) -> list[str]:
+    own = [it for it in sessions if it.station == name]
+    waits = [it.waited(until) for it in own]
+    counts = [str(sum(it.how == end for it in own)) for end in (*ENDS.values(), UNKNOWN)]
+    return [plain(name), *counts, *used(own, since, until), span(sum(waits)), span(max(waits, default=0))]
+
+
+def of_instrument(name: str, sessions: list[Session], since: float, until: float) -> list[str]:
+    own = [it for it in sessions if name in it.instruments]
+    waits = [it.waited(until) for it in own]
+    unused = sum(max(0.0, after - max(t, since)) for t, after in spans_waited_for(own, name, until))
+    return [plain(name), str(len(own)), *used(own, since, until), span(unused), span(statistics.median(waits or [0])), span(max(waits, default=0))]
+
+
+def used(sessions: list[Session], since: float, until: float) -> list[str]:
+    work = sum(it.worked(until, since) for it in sessions)
+    return [span(work), f"{100 * work / max(until - since, 1e-9):.0f} %"]
+
+
+# the commands
+
+
+class Word(NamedTuple):
+    name: str
+    help: str
+    add_arguments: Callable[[argparse.ArgumentParser], None]
+    run: Callable[[argparse.Namespace], int]
+
+
+def seconds(text: str) -> float:
+    """A span as it is typed: 90, 30s, 15min, 4h, 2d."""
+    found = re.fullmatch(r"(\d{1,9}(?:\.\d{1,3})?)\s*(s|m|min|h|d)?", text)
+    if not found:
+        raise argparse.ArgumentTypeError(f"{text!r} is no span: write 90, 30s, 15min, 4h or 2d")
+    return float(found[1]) * {None: 1, "s": 1, "m": 60, "min": 60, "h": 3600, "d": 86400}[found[2]]
+
+
+def add_common(parser: argparse.ArgumentParser) -> None:
+    parser.add_argument("folder", metavar="FOLDER", help="the state folder of labrun-broker serve --state FOLDER; or the journal of a bench, a file")
+    parser.add_argument("--last", metavar="SPAN", type=seconds, help="only the last 30s, 15min, 4h or 2d before the last record")
+
+
+def add_table(parser: argparse.ArgumentParser) -> None:
+    add_common(parser)
+    parser.add_argument("--csv", action="store_true", help="as CSV, with times in UTC")
+    parser.add_argument("--notes", action="store_true", help="a row for each note instead of each session; as CSV")
+
+
+def add_gantt(parser: argparse.ArgumentParser) -> None:
+    add_common(parser)
+    parser.add_argument("--to", metavar="FILE", help="where the SVG is written; the standard output unless said")
+
+
+def read_past(path: str) -> tuple[Past, list[str]]:
+    """Of a state folder or a journal; and a line for each file that isn't whole."""
+    past = Past()
+    if os.path.isdir(path):
+        records, faults = read_records(path)
+    else:
+        with open(path, encoding="utf-8", errors="replace") as file:
+            lines = list(file)
+        if "steps\n" not in lines:
+            raise Fault(f"{path}: it is no journal, which has a line `steps`")
+        try:
+            records, faults = list(records_of_journal(lines)), []
+        except Fault as fault:
+            raise Fault(f"{path}: {fault}") from None
+    for record in records:
+        past.take(record)
+    return past, faults
+
+
+def chosen(args: argparse.Namespace) -> tuple[Past, list[Session], float, float]:
+    """The past, those of its sessions that reach into the span that was asked for, and the span."""
+    past, faults = read_past(args.folder)
+    for it in faults:
+        print(f"labrun-broker: {plain(it)}", file=sys.stderr)
+    until = past.until or time.time()
+    since = first(past.begun, until)
+    if args.last is not None:
+        since = max(since, until - args.last)
+    return past, [it for it in past.sessions() if first(it.ended, until) >= since], since, until
+
+
+def run_table(args: argparse.Namespace) -> int:
+    _, sessions, _, until = chosen(args)
+    if args.notes:
+        write_notes_csv(sessions, sys.stdout)
+    elif args.csv:
+        write_csv(sessions, until, sys.stdout)
+    else:
+        write_table(sessions, until, sys.stdout)
+    return 0
+
+
+def run_report(args: argparse.Namespace) -> int:
+    write_report(*chosen(args), sys.stdout)
+    return 0
+
+
+def run_gantt(args: argparse.Namespace) -> int:
+    from .picture import gantt
+
+    past, sessions, since, until = chosen(args)
+    text = gantt(sessions, list(past.instruments), list(past.stations), since, until)
+    if args.to is None:
+        sys.stdout.write(text)
+        return 0
+    with open(args.to, "w", encoding="utf-8") as file:
+        file.write(text)
+    return 0
+
+
+def guarded(run: Callable[[argparse.Namespace], int]) -> Callable[[argparse.Namespace], int]:
+    """A fault is a line and status 1; a reader that goes away, as head does, is none."""
+
+    def inner(args: argparse.Namespace) -> int:
+        try:
+            status = run(args)
+            sys.stdout.flush()
+            return status
+        except BrokenPipeError:
+            os.dup2(os.open(os.devnull, os.O_WRONLY), sys.stdout.fileno())
+            return 0
+        except (Fault, OSError) as fault:
+            told = f"{fault.filename}: {fault.strerror}" if isinstance(fault, OSError) and fault.filename else str(fault)
+            print(f"labrun-broker: {plain(told)}", file=sys.stderr)
+            return 1
+
+    return inner
+
+
+def words() -> list[Word]:
+    """The commands that this file adds to labrun-broker."""
+    return [
+        Word("gantt", "a picture of what was: who held what, and who waited, from a state folder", add_gantt, guarded(run_gantt)),
+        Word("table", "each session of a state folder, with times and notes", add_table, guarded(run_table)),
+        Word("report", "of each station and instrument of a state folder: sessions, use and waits", add_common, guarded(run_report)),
+    ]

@@ -1,0 +1,122 @@
+"""A small web server beside the broker, in its process: on the loopback or a Unix socket, and so limited that it can't take the broker down."""
+
+from __future__ import annotations
+
+import asyncio
+import ipaddress
+import logging
+import re
+import socket
+from typing import Any, Awaitable, Callable, Union
+
+from .bay import BadAddress
+
+
+class Lacking(BadAddress, ImportError):
+    """A package isn't there that the page or the numbers need, and the broker alone doesn't."""
+
+
+try:
+    from aiohttp import web as web
+    from aiohttp.http_exceptions import HttpProcessingError
+except ImportError:
+    raise Lacking("the page and the numbers need aiohttp (Debian: python3-aiohttp)") from None
+
+# garbage on the port is no fault of ours
+LOG = logging.getLogger("labrun_broker.page")
+LOG.addFilter(lambda it: not (it.exc_info and isinstance(it.exc_info[1], HttpProcessingError)))
+SLOW = 20.0  # a browser that takes nothing for so long, or asks nothing, is let go
+MOST_CONNECTIONS = 64
+HEADERS = {"X-Content-Type-Options": "nosniff", "Referrer-Policy": "no-referrer", "Cache-Control": "no-store", "Cross-Origin-Resource-Policy": "same-origin"}
+
+
+def address_of(text: str) -> Union[str, tuple[str, int]]:
+    """The path of a socket, or a loopback's address and port. Others are refused: the page has no password."""
+    if text.startswith("unix:"):
+        return text[5:]
+    host, colon, port = text.rpartition(":")
+    host = host.strip("[]") or "127.0.0.1"
+    if not colon or not port.isascii() or not port.isdigit() or int(port) > 65535:
+        raise BadAddress(f"{text!r} is no address: write 127.0.0.1:8080, or unix:/run/labrun/page.sock")
+    if not is_loopback(host):
+        raise BadAddress(f"{text!r}: the page has no password, so it is shown on the loopback or a Unix socket only; put a web server with TLS in front of it")
+    return host, int(port)
+
+
+def is_loopback(host: str) -> bool:
+    try:
+        return host == "localhost" or ipaddress.ip_address(host).is_loopback
+    except ValueError:
+        return False
+
+
+IS_TCP, SILENT = "is tcp", "silent"
+
+
+@web.middleware
+async def only_from_here(request: web.Request, handler: Callable[[web.Request], Awaitable[web.StreamResponse]]) -> web.StreamResponse:
+    """Refuses a page of elsewhere whose name was turned to this address."""
+    request.app[SILENT].discard(request.protocol)
+    host = request.headers.get("Host", "")
+    name = host.rpartition(":")[0] if re.search(r":\d*$", host) else host
+    if request.app[IS_TCP] and not is_loopback(name.strip("[]")):
+        raise web.HTTPForbidden(text="this page is asked for by its own address only, as 127.0.0.1\n", headers=HEADERS)
+    return await handler(request)
+
+
+class Refusing(asyncio.Protocol):
+    """One connection too many."""
+
+    def connection_made(self, transport: asyncio.BaseTransport) -> None:
+        transport.abort()  # type: ignore[attr-defined]
+
+
+def limited(server: web.Server, silent: set[Any]) -> Callable[[], asyncio.BaseProtocol]:
+    """Makes the end of a new connection: no more than so many, and none that stays without a word."""
+
+    def let_go(handler: Any) -> None:
+        if handler in silent:
+            silent.discard(handler)
+            if handler.transport is not None:
+                handler.transport.abort()
+
+    def new() -> asyncio.BaseProtocol:
+        if len(server.connections) >= MOST_CONNECTIONS:
+            return Refusing()
+        handler = server()
+        silent.add(handler)
+        asyncio.get_running_loop().call_later(SLOW, let_go, handler)
+        return handler
+
+    return new
+
+
+class Served:
+    """A server that runs, until `cleanup`."""
+
+    def __init__(self, runner: web.AppRunner, listener: asyncio.AbstractServer) -> None:
+        self._runner, self._listener = runner, listener
+        self.sockets = listener.sockets  # type: ignore[attr-defined]
+
+    async def cleanup(self) -> None:
+        self._listener.close()
+        await self._runner.shutdown()
+        if self._runner.server is not None:
+            await self._runner.server.shutdown(1.0)
+        await self._runner.cleanup()
+
+
+async def serve(app: web.Application, address: str) -> Served:
+    at = address_of(address)
+    app[IS_TCP], app[SILENT] = not isinstance(at, str), set()
+    app.middlewares.append(only_from_here)
+    runner = web.AppRunner(app, access_log=None, logger=LOG)
+    await runner.setup()
+    assert runner.server is not None
+    loop, new = asyncio.get_running_loop(), limited(runner.server, app[SILENT])
+    if isinstance(at, str):
+        listener: asyncio.AbstractServer = await loop.create_unix_server(new, at)
+    else:
+        family = socket.AF_INET6 if ":" in at[0] else socket.AF_INET
+        listener = await loop.create_server(new, *at, family=family)
+    return Served(runner, listener)

@@ -1,0 +1,235 @@
+"""What was, by the records of a broker: each session with its times, how it ended, and its notes."""
+
+from __future__ import annotations
+
+import asyncio
+import json
+import os
+import re
+from dataclasses import dataclass, field
+from typing import Any, AsyncIterator, Iterator, Optional, Reversible
+
+Record = dict[str, Any]
+
+# how a session ends, by the record that ends it
+ENDS = {"let_go": "done", "gave_up": "gave up", "taken": "taken away", "failed": "failed"}
+# a session that isn't over, and one whose end no record tells
+WAITS, HOLDS, UNKNOWN = "waits", "holds", "end unknown"
+
+
+@dataclass
+class Session:
+    station: str
+    number: Optional[int]
+    by: str
+    instruments: tuple[str, ...]
+    asked: float
+    held: Optional[float] = None
+    ended: Optional[float] = None
+    how: str = WAITS
+    why: str = ""  # what is told of its end
+    notes: list[tuple[float, str]] = field(default_factory=list)
+    gone: list[tuple[float, Optional[float]]] = field(default_factory=list)  # while its client was away; the last may not be over
+
+    def waited(self, until: float) -> float:
+        return max(0.0, first(self.held, self.ended, until) - self.asked)
+
+    def worked(self, until: float, since: float = 0.0) -> float:
+        """For how long it held, between the two times."""
+        return 0.0 if self.held is None else max(0.0, min(first(self.ended, until), until) - max(self.held, since))
+
+
+def first(*times: Optional[float]) -> float:
+    """The first that isn't None; the last one never is."""
+    for it in times:
+        if it is not None:
+            return it
+    raise ValueError("none of the times is there")
+
+
+class Past:
+    """Takes records one by one, in their order. `ended` are the sessions that are over; `now` has those that aren't, by their station."""
+
+    def __init__(self) -> None:
+        self.now: dict[str, Session] = {}
+        self.ended: list[Session] = []
+        self.instruments: dict[str, None] = {}
+        self.stations: dict[str, None] = {}
+        self.begun: Optional[float] = None
+        self.until = 0.0
+
+    def take(self, record: Record) -> Optional[Session]:
+        """The session that the record ends, if it ends one."""
+        t, what, station = record["t"], record["what"], record.get("station")
+        self.begun = t if self.begun is None else min(self.begun, t)
+        self.until = max(self.until, t)
+        self.instruments.update(dict.fromkeys(record.get("instruments") or ()))
+        if what == "opened":
+            self._begin_again(t)
+        if not station:
+            return None
+        self.stations[station] = None
+        if what in ENDS:
+            return self._end(station, t, ENDS[what], record.get("text") or "")
+        if what == "asked" or what == "held":
+            return self._begin(station, record)
+        session = self.now.get(station)
+        if session is None:
+            return None
+        if what == "note":
+            session.notes.append((t, record.get("text") or ""))
+        elif what == "gone":
+            self._back(session, t)
+            session.gone.append((t, None))
+        elif what == "back":
+            self._back(session, t)
+        return None
+
+    def sessions(self) -> list[Session]:
+        return sorted([*self.ended, *self.now.values()], key=lambda it: it.asked)
+
+    def _begin(self, station: str, record: Record) -> Optional[Session]:
+        session, t, number = self.now.get(station), record["t"], record.get("session")
+        instruments = tuple(record.get("instruments") or ())
+        if record["what"] == "held" and session is not None and session.held is None:
+            session.held, session.how, session.number = t, HOLDS, number
+            session.instruments = instruments or session.instruments
+            return None
+        over = self._end(station, t, UNKNOWN) if session is not None else None
+        new = Session(station, number, record.get("by") or "", instruments, t)
+        if record["what"] == "held":
+            new.held, new.how = t, HOLDS
+        self.now[station] = new
+        return over
+
+    def _begin_again(self, t: float) -> None:
+        """The broker begins. Nobody waits yet, if anybody waited when it ended; what is held is still held, or nobody knows."""
+        for it in [it for it in self.now.values() if it.held is None]:
+            self._end(it.station, t, UNKNOWN)
+
+    def _end(self, station: str, t: float, how: str, why: str = "") -> Optional[Session]:
+        session = self.now.pop(station, None)
+        if session is None:
+            return None
+        self._back(session, t)
+        session.ended, session.how, session.why = t, how, why
+        self.ended.append(session)
+        return session
+
+    def _back(self, session: Session, t: float) -> None:
+        if session.gone and session.gone[-1][1] is None:
+            session.gone[-1] = (session.gone[-1][0], t)
+
+
+class Fault(Exception):
+    """What a command can't do, in a line for a person."""
+
+
+def is_record(it: object) -> bool:
+    """Whether a line of a file is a record, whoever wrote it."""
+    if not isinstance(it, dict) or not isinstance(it.get("what"), str):
+        return False
+    t, instruments, number = it.get("t"), it.get("instruments"), it.get("session")
+    return (
+        isinstance(t, (int, float)) and not isinstance(t, bool) and 0 <= t < 1e11
+        and (number is None or isinstance(number, int))
+        and all(it.get(key) is None or isinstance(it[key], str) for key in ("station", "by", "text"))
+        and (instruments is None or isinstance(instruments, list) and all(isinstance(one, str) for one in instruments))
+    )  # fmt: skip
+
+
+def pages_in(folder: str) -> list[str]:
+    """The files of records of a state folder, page after page."""
+    try:
+        found = [(int(it[1]), it[0]) for it in map(re.compile(r"records-(\d{1,9})\.jsonl").fullmatch, os.listdir(folder)) if it]
+    except OSError as fault:
+        raise Fault(f"{folder}: {fault.strerror}") from None
+    return [os.path.join(folder, name) for _, name in sorted(found)]
+
+
+def read_records(folder: str) -> tuple[list[Record], list[str]]:
+    """All records of a state folder, and a line for each file in which some aren't whole."""
+    records: list[Record] = []
+    faults = []
+    paths = pages_in(folder)
+    if not paths:
+        raise Fault(f"{folder}: there are no records (labrun-broker serve --state {folder} writes records-1.jsonl and so on)")
+    for path in paths:
+        with open(path, "rb") as file:
+            found = [parsed(line) for line in file if line.strip()]
+        whole = [it for it in found if it is not None]
+        if len(whole) < len(found):
+            faults.append(f"{path}: {len(found) - len(whole)} of {len(found)} lines are no whole records, and left out")
+        records += whole
+    return records, faults
+
+
+def recent_records(folder: str, most: int = 1 << 23) -> list[Record]:
+    """The last records of a state folder: as many as are in so many bytes."""
+    found: list[bytes] = []
+    for path in reversed(pages_in(folder)):
+        with open(path, "rb") as file:
+            size = os.fstat(file.fileno()).st_size
+            file.seek(max(0, size - most))
+            lines = file.read(most).split(b"\n")
+        most -= size
+        found = lines + found
+        if most <= 0:
+            break
+    return [it for it in map(parsed, found) if it is not None]
+
+
+def parsed(line: bytes) -> Optional[Record]:
+    try:
+        record = json.loads(line)
+    except (ValueError, RecursionError):
+        return None
+    return record if is_record(record) else None
+
+
+def spans_waited_for(sessions: list[Session], instrument: str, until: float) -> list[tuple[float, float]]:
+    """When nobody held an instrument though a session that had asked for it waited."""
+    changes: list[tuple[float, int, int]] = []  # when; by how much the holders change, and those who wait
+    for it in sessions:
+        if instrument in it.instruments:
+            changes += [(it.asked, 0, 1), (first(it.held, it.ended, until), 0, -1)]
+            if it.held is not None:
+                changes += [(it.held, 1, 0), (first(it.ended, until), -1, 0)]
+    changes.sort()
+    found: list[tuple[float, float]] = []
+    holders = waiting = 0
+    for (t, held, waits), (after, *_) in zip(changes, changes[1:]):
+        holders, waiting = holders + held, waiting + waits
+        if holders or not waiting or after <= t:
+            continue
+        if found and found[-1][1] == t:
+            found[-1] = (found[-1][0], after)
+        else:
+            found.append((t, after))
+    return found
+
+
+REST = 0.1  # seconds
+
+
+async def batches(keeping: Any) -> AsyncIterator[list[Record]]:
+    """What a broker's keeping has noted until now, and then what comes, all of some tenths of a second at once: a busy bay has thousands a
+    second. A batch is empty if something has changed of which there is no record."""
+    last: Optional[Record] = None
+    changes = keeping.changes()
+    while True:
+        found = list(new_records(keeping.history, last))
+        last = found[-1] if found else last
+        yield found
+        await anext(changes)
+        await asyncio.sleep(REST)
+
+
+def new_records(history: Reversible[Record], last: Optional[Record]) -> Iterator[Record]:
+    """The records behind `last` in a list to whose end they are added; all, if that one isn't there any more."""
+    behind: list[Record] = []
+    for record in reversed(history):
+        if record is last:
+            break
+        behind.append(record)
+    return reversed(behind)

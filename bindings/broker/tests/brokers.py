@@ -1,0 +1,114 @@
+"""A broker to test: a process of its own, with its bay, its socket and its state in a folder that is thrown away."""
+
+from __future__ import annotations
+
+import contextlib
+import os
+import signal
+import subprocess
+import sys
+import tempfile
+import time
+import unittest
+from typing import Any, Callable, Iterator, Optional
+
+import labrun_broker
+
+TOP = os.path.realpath(os.path.join(os.path.dirname(__file__), "..", "..", ".."))
+LIMIT = 20.0  # seconds, for what takes a fraction of one on a quiet machine
+
+BAY = """
+bay = "north"
+instruments = ["scope", "supply", "load-1", "load-2"]
+[stations]
+board = ["scope", "supply"]
+radio = ["scope"]
+[guests]
+count = 4
+"""
+
+COMMAND = [sys.executable, "-m", "labrun_broker"]
+
+
+def until(is_so: Callable[[], Any], what: str = "it") -> Any:
+    """Waits until something is so, and gives it."""
+    end = time.monotonic() + LIMIT
+    while not (found := is_so()):
+        if time.monotonic() > end:
+            raise AssertionError(f"{what} isn't so after {LIMIT} s")
+        time.sleep(0.01)
+    return found
+
+
+class Broker:
+    """`labrun-broker serve`, begun anew as often as wanted."""
+
+    def __init__(self, folder: str, bay: str = BAY, words: tuple[str, ...] = ()) -> None:
+        self.folder, self.words = folder, words
+        self.address = f"unix:{folder}/bay.sock"
+        with open(f"{folder}/bay.toml", "w", encoding="utf-8") as file:
+            file.write(bay)
+        self.process: Optional[subprocess.Popen[str]] = None
+        self.begin()
+
+    def begin(self) -> None:
+        words = [*COMMAND, "serve", f"{self.folder}/bay.toml", "--listen", self.address, *self.words]
+        self.process = subprocess.Popen(words, stderr=subprocess.PIPE, text=True)
+        assert self.process.stderr is not None
+        self.first = self.process.stderr.readline()
+        if ": bay " not in self.first:
+            raise AssertionError(self.first + self.process.stderr.read())
+
+    def kill(self) -> None:
+        self.end(signal.SIGKILL)
+
+    def end(self, number: int = signal.SIGTERM) -> int:
+        assert self.process is not None and self.process.stderr is not None
+        self.process.send_signal(number)
+        status = self.process.wait(LIMIT)
+        self.said = self.process.stderr.read()
+        self.process.stderr.close()
+        return status
+
+    def ends(self) -> None:
+        """However a test went: nothing of it is left behind."""
+        if self.process is not None and self.process.poll() is None:
+            try:
+                self.end()
+            except subprocess.TimeoutExpired:
+                self.kill()
+                raise
+
+    def lab(self, station: str = "") -> labrun_broker.Lab:
+        return labrun_broker.connect(self.address, station=station, by="tester")
+
+    def ran(self, *words: str, **more: Any) -> subprocess.CompletedProcess[str]:
+        """What a command says, and its status."""
+        environment = {**os.environ, "LABRUN_BROKER": self.address}
+        return subprocess.run([*COMMAND, *words], env=environment, capture_output=True, text=True, timeout=LIMIT, **more)
+
+    def started(self, *words: str) -> subprocess.Popen[str]:
+        environment = {**os.environ, "LABRUN_BROKER": self.address}
+        return subprocess.Popen([*COMMAND, *words], env=environment, stdout=subprocess.PIPE, stderr=subprocess.PIPE, text=True)
+
+
+@contextlib.contextmanager
+def broker(bay: str = BAY, *words: str) -> Iterator[Broker]:
+    with tempfile.TemporaryDirectory() as folder:
+        one = Broker(folder, bay, tuple(it.replace("FOLDER", folder) for it in words))
+        try:
+            yield one
+        finally:
+            one.ends()
+
+
+class OnBroker(unittest.TestCase):
+    def broker(self, bay: str = BAY, *words: str) -> Broker:
+        return self.enterContext(broker(bay, *words))
+
+    def lab(self, at: Broker, station: str = "") -> labrun_broker.Lab:
+        return self.enterContext(at.lab(station))
+
+
+def station(lab: labrun_broker.Lab, name: str) -> dict[str, Any]:
+    return next(it for it in lab.status()["stations"] if it["name"] == name)

@@ -1,0 +1,66 @@
+"""The bay's file: what it says, and each fault with its key or line."""
+
+import unittest
+
+from labrun_broker.bay import Bay, BayFault, Limits, bay_of
+from tests.brokers import BAY
+
+ONE = 'instruments = ["scope"]\n[guests]\ncount = 1\n'
+
+# a text, and the faults that it has, in order
+FAULTY = (
+    ("", ["instruments: a list of names", "stations: there is neither a station nor a guest"]),
+    ("instruments = [\n1,\n", ["the last line: "]),
+    ('bay = 5\nbay = 6\n', ["line 2, column 8: "]),
+    (ONE + "colour = 3\n", ["guests.colour: there is no such key; there are count, may_use"]),
+    ("colour = 3\n" + ONE, ["colour: there is no such key"]),
+    ("bay = 7\n" + ONE, ["bay: a name of up to 64"]),
+    ('bay = "a b"\n' + ONE, ["bay: a name of up to 64"]),
+    ('gone = "away"\n' + ONE, ['gone: "keep" or "release" is wanted']),
+    ('instruments = "scope"\n[guests]\ncount = 1\n', ["instruments: a list of names"]),
+    ('instruments = ["scope", "scope"]\n[guests]\ncount = 1\n', ["instruments: scope is there twice"]),
+    ('instruments = ["scope", "Scope"]\n[guests]\ncount = 1\n', ["instruments: 'Scope' is no name"]),
+    ('instruments = ["scope", "session"]\n[guests]\ncount = 1\n', ["instruments: 'session' is no name"]),
+    ('instruments = ["abcdefghijklmnopq"]\n[guests]\ncount = 1\n', ["instruments: 'abcdefghijklmnopq' is no name"]),
+    ('instruments = ["scope"]\n[stations]\nboard = ["scope", "lamp"]\n', ["stations.board: lamp is none of the bay's instruments"]),
+    ('instruments = ["scope"]\n[stations]\nboard = []\n', ["stations.board: a list of names", "instruments: nobody may use scope"]),
+    ('instruments = ["scope", "lamp"]\n[stations]\nboard = ["scope"]\n', ["instruments: nobody may use lamp"]),
+    ('instruments = ["scope"]\n[stations]\n"Board" = ["scope"]\n', ["stations.Board: 'Board' is no name", "stations: there is neither", "instruments: nobody"]),
+    ('instruments = ["scope"]\nstations = 5\n', ["stations: a table is wanted", "stations: there is neither", "instruments: nobody"]),
+    ('instruments = ["scope"]\n[guests]\ncount = 33\n', ["guests.count: 0 stations and 33 guests are 33; a bay has 32 at most"]),
+    ('instruments = ["scope"]\n[guests]\ncount = -1\n', ["guests.count: a number from 0", "stations: there is neither", "instruments: nobody"]),
+    ('instruments = ["scope"]\n[guests]\ncount = true\n', ["guests.count: a number from 0", "stations: there is neither", "instruments: nobody"]),
+    ('instruments = ["scope"]\n[stations]\nguest-1 = ["scope"]\n[guests]\ncount = 1\n', ["stations.guest-1: this is the name of a guest"]),
+    (ONE + "[limits]\nnote = 0\n", ["limits.note: a number from 1"]),
+    (ONE + "[limits]\nnotes = 5\n", ["limits.notes: there is no such key; there are clients, name, note, requests"]),
+    (f"instruments = [{', '.join(chr(34) + f'i{it}' + chr(34) for it in range(57))}]\n[guests]\ncount = 1\n", ["instruments: 57 instruments; a bay has 56 at most"]),
+    (f"instruments = [{', '.join(chr(34) + f'i{it}' + chr(34) for it in range(29))}]\n[guests]\ncount = 2\n", ["guests.may_use: two guests would have 29 instruments"]),
+)
+
+
+class Bays(unittest.TestCase):
+    def test_it_says(self) -> None:
+        wanted = Bay("north", ("scope", "supply", "load-1", "load-2"), {"board": ("scope", "supply"), "radio": ("scope",)}, 4, ("scope", "supply", "load-1", "load-2"))
+        self.assertEqual(bay_of(BAY), wanted)
+        self.assertEqual(wanted.jobs["guest-4"], ("scope", "supply", "load-1", "load-2"))
+        self.assertEqual(list(wanted.jobs), ["board", "radio", "guest-1", "guest-2", "guest-3", "guest-4"])
+
+    def test_the_rest_of_it(self) -> None:
+        bay = bay_of('instruments = ["a", "b"]\ngone = "release"\n[guests]\ncount = 1\nmay_use = ["b"]\n[stations]\nx = ["a"]\n[limits]\nnote = 9\n')
+        self.assertEqual((bay.gone, bay.guests_use, bay.limits), ("release", ("b",), Limits(note=9)))
+
+    def test_faults(self) -> None:
+        for text, wanted in FAULTY:
+            with self.subTest(text):
+                with self.assertRaises(BayFault) as caught:
+                    bay_of(text, "it")
+                found = caught.exception.faults
+                self.assertEqual(len(found), len(wanted), found)
+                for one, start in zip(found, wanted):
+                    self.assertTrue(one.startswith(start), (one, start))
+                self.assertEqual(str(caught.exception), "\n".join(f"it: {one}" for one in found))
+
+    def test_most(self) -> None:
+        """As much as the library takes is no fault."""
+        names = ", ".join(f'"i{it}"' for it in range(28))
+        self.assertEqual(bay_of(f"instruments = [{names}]\n[guests]\ncount = 32\n").guests, 32)

@@ -1,0 +1,164 @@
+"""The page on the wall in a real browser, without a window. Left out where there is no chromium, chromedriver or selenium."""
+
+from __future__ import annotations
+
+import shutil
+import time
+import unittest
+from typing import Any, Callable
+
+from .fake import Keeping
+from .webs import Web
+
+try:
+    from labrun_broker.page import serve_page
+except ImportError as lacking:
+    raise unittest.SkipTest(str(lacking)) from None
+
+try:
+    from selenium import webdriver
+    from selenium.webdriver.chrome.service import Service
+except ImportError:
+    webdriver = None
+
+BAY = {"board": ["scope", "supply"], "radio": ["scope", "oven"], "drive": ["supply"], "night": ["oven"]}
+LACKS = "selenium" if webdriver is None else next((it for it in ("chromium", "chromedriver") if not shutil.which(it)), None)
+
+
+def started() -> Any:
+    options = webdriver.ChromeOptions()
+    for it in ("--headless=new", "--no-sandbox", "--disable-gpu", "--disable-dev-shm-usage"):
+        options.add_argument(it)
+    options.binary_location = shutil.which("chromium")
+    options.set_capability("goog:loggingPrefs", {"browser": "ALL"})
+    return webdriver.Chrome(service=Service(shutil.which("chromedriver")), options=options)
+
+
+@unittest.skipIf(LACKS, f"there is no {LACKS}")
+class Browser(unittest.TestCase):
+    @classmethod
+    def setUpClass(cls) -> None:
+        cls.browser = started()
+        cls.addClassCleanup(cls.browser.quit)
+
+    def setUp(self) -> None:
+        self.web = Web(serve_page, lambda: Keeping(BAY))
+        self.addCleanup(self.close)
+        self.is_open = True
+        self.browser.get(f"http://127.0.0.1:{self.web.port}/")
+        self.seen("h1", lambda text: text == "bay-3")
+
+    def close(self) -> None:
+        if self.is_open:
+            self.is_open = False
+            self.web.close()
+
+    def do(self, name: str, *given: Any, **more: Any) -> None:
+        self.web.do(lambda: getattr(self.web.keeping, name)(*given, **more))
+
+    def at(self, ago: float) -> None:
+        self.web.keeping.now = None if not ago else time.time() - ago
+
+    def text(self, where: str) -> str:
+        return str(self.browser.execute_script("const it = document.querySelector(arguments[0]); return it ? it.innerText ?? it.textContent : ''", where))
+
+    def seen(self, where: str, is_so: Callable[[str], bool], within: float = 5.0) -> float:
+        """How long it took until a text was there."""
+        begun = time.monotonic()
+        while time.monotonic() < begun + within:
+            if is_so(self.text(where)):
+                return time.monotonic() - begun
+            time.sleep(0.02)
+        self.fail(f"{where} is, after {within} s: {self.text(where)!r}")
+
+    def row(self, name: str) -> str:
+        return f'[data-instrument="{name}"]'
+
+    def test_a_session_is_seen_within_a_second(self) -> None:
+        for _ in range(3):
+            self.do("hold", "board", "scope", "supply", by="ana")
+            self.seen(self.row("scope"), lambda text: "board by ana" in text, 1.0)
+            self.do("end", "board")
+            self.seen(self.row("scope"), lambda text: "free" in text, 1.0)
+        self.assertIn("board let go scope, supply", self.text("#records"))
+        # in the picture, too: a bar at each of the two, with its times
+        self.seen("#gantt rect.bar title", lambda text: text.startswith("board: ") and text.endswith(", done"), 1.0)
+
+    def test_what_is_stuck_stands_out(self) -> None:
+        self.assertEqual(self.text("#stuck"), "Nothing is stuck.")
+        self.at(7200)
+        self.do("hold", "night", "oven")  # longest, but nobody waits
+        self.at(5400)
+        self.do("hold", "board", "scope", "supply", by="ana")
+        self.at(600)
+        self.do("hold", "drive", "supply")
+        self.at(540)
+        self.do("gone", "drive")
+        self.at(300)
+        self.do("ask", "radio", "scope")
+        self.at(0)
+        self.do("tell", "note", "board")
+        self.seen("#stuck", lambda text: "board has held for 1 h 30 min: scope, supply" in text)
+        self.assertIn("radio waits for it · begun by ana", self.text("#stuck"))
+        self.assertIn("drive has been gone for 9 min, and still holds supply", self.text("#stuck"))
+        self.assertNotIn("night", self.text("#stuck"))
+        self.assertIn("worst", self.browser.execute_script("return document.querySelector(arguments[0]).className", self.row("scope")))
+        self.assertEqual(self.text("#about").split(" · ")[0], "2 hold, 1 wait, 1 gone")
+
+    def test_a_chain_to_who_holds(self) -> None:
+        self.at(120)
+        self.do("hold", "night", "oven")
+        self.at(60)
+        self.do("ask", "radio", "scope", "oven")
+        self.at(30)
+        self.do("ask", "board", "scope", "supply")
+        self.at(0)
+        self.do("tell", "note", "night")
+        self.seen("#waits", lambda text: "board → scope: radio → oven: night has held for 2 min" in text)
+
+    def test_hostile_text_is_shown_as_text(self) -> None:
+        evil = "<img src=x onerror=\"document.title='evil'\"><script>document.title='evil'</script>\u202e" + "m" * 400
+        self.do("hold", "board", "scope", by=evil)
+        self.do("note", "board", evil)
+        self.do("end", "board", "failed", evil)
+        self.do("hold", "radio", "scope", by=evil)
+        self.do("note", "radio", evil)
+        self.seen("#records", lambda text: text.count("<img src=x") >= 3)
+        self.seen(self.row("scope"), lambda text: text.count("<img src=x") == 2)
+        made = self.browser.execute_script("return [document.querySelectorAll('img').length, document.querySelectorAll('script').length, document.title]")
+        self.assertEqual(made, [0, 1, "bay-3"])
+        for width in (1280, 400, 320):
+            self.assertLessEqual(self.width_at(width), width)
+
+    def width_at(self, width: int) -> int:
+        about = {"width": width, "height": 900, "deviceScaleFactor": 1, "mobile": False}
+        self.browser.execute_cdp_cmd("Emulation.setDeviceMetricsOverride", about)
+        self.addCleanup(self.browser.execute_cdp_cmd, "Emulation.clearDeviceMetricsOverride", {})
+        time.sleep(0.3)
+        return int(self.browser.execute_script("return document.documentElement.scrollWidth"))
+
+    def test_light_and_dark(self) -> None:
+        colours = []
+        for it in ("light", "dark"):
+            self.browser.execute_cdp_cmd("Emulation.setEmulatedMedia", {"features": [{"name": "prefers-color-scheme", "value": it}]})
+            style = "const it = getComputedStyle(document.body); return [it.backgroundColor, it.color].map(c => c.match(/\\d+/g).reduce((a, b) => a + +b, 0))"
+            colours.append(self.browser.execute_script(style))
+        (light, on_light), (dark, on_dark) = colours
+        self.assertTrue(light > 600 > 300 > on_light and dark < 150 < 600 < on_dark, colours)
+
+    def test_a_broker_that_is_gone(self) -> None:
+        self.do("hold", "board", "scope")
+        self.seen(self.row("scope"), lambda text: "board" in text)
+        self.close()
+        self.seen("#lost", lambda text: "What is shown is old." in text)
+
+    def test_nothing_is_complained_of(self) -> None:
+        self.browser.get_log("browser")
+        self.browser.refresh()
+        self.do("hold", "board", "scope")
+        self.seen(self.row("scope"), lambda text: "board" in text)
+        self.assertEqual([it for it in self.browser.get_log("browser") if "ERR_" not in it["message"]], [])
+
+
+if __name__ == "__main__":
+    unittest.main()

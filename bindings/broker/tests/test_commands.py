@@ -1,0 +1,220 @@
+"""The command: its words, what they say, and their statuses."""
+
+import contextlib
+import io
+import json
+import os
+import re
+import signal
+import socket
+import subprocess
+import tempfile
+import unittest
+from typing import Any
+from unittest import mock
+
+from labrun_broker.command import Signals, main
+from tests.brokers import BAY, COMMAND, LIMIT, OnBroker, station, until
+
+
+def ran(*words: str, **more: str) -> "subprocess.CompletedProcess[str]":
+    return subprocess.run([*COMMAND, *words], env={**os.environ, **more}, capture_output=True, text=True, timeout=LIMIT)
+
+
+class WithoutBroker(unittest.TestCase):
+    def setUp(self) -> None:
+        self.folder = self.enterContext(tempfile.TemporaryDirectory())
+        for name, text in (("bay.toml", BAY), ("bad.toml", 'instruments = ["scope", "scope"]\ncolour = 5\n'), ("open", "0123456789abcdef"), ("short", "x")):
+            with open(f"{self.folder}/{name}", "w", encoding="utf-8") as file:
+                file.write(text)
+            os.chmod(file.name, 0o644 if name == "open" else 0o600)
+
+    def taken(self) -> int:
+        """A port where somebody listens."""
+        one = socket.create_server(("127.0.0.1", 0))
+        self.addCleanup(one.close)
+        return int(one.getsockname()[1])
+
+    def test_words_and_statuses(self) -> None:
+        bay, nowhere = f"{self.folder}/bay.toml", f"unix:{self.folder}/no.sock"
+        outside = ["serve", bay, "--listen", "0.0.0.0:0"]
+        rows = (
+            (["bay", "check", bay], 0, "ok bay north: 4 instruments, 2 stations, 4 guests, gone = keep\n", ""),
+            (["bay", "check", f"{self.folder}/bad.toml"], 1, "", "bad.toml: colour: there is no such key"),
+            (["bay", "check", f"{self.folder}/bad.toml"], 1, "", "bad.toml: instruments: scope is there twice"),
+            (["bay", "check", f"{self.folder}/no.toml"], 1, "", "no.toml: No such file or directory"),
+            ([], 2, "", "required: WORD"),
+            (["fly"], 2, "", "invalid choice: 'fly'"),
+            (["hold", "scope"], 2, "", "say what to run, behind `--`"),
+            (["hold", "--", "true"], 2, "", "required: INSTRUMENT"),
+            (["hold", "scope", "--timeout", "soon", "--", "true"], 2, "", "invalid seconds value: 'soon'"),
+            (["hold", "scope", "--timeout", "-1", "--", "true"], 2, "", "-1 is no number of seconds"),
+            (["status", "--", "true"], 2, "", "only hold runs something"),
+            (["status", "--broker", nowhere], 69, "", "no.sock can't be reached"),
+            (["hold", "scope", "--broker", nowhere, "--", "true"], 69, "", "no.sock can't be reached"),
+            (["serve", f"{self.folder}/bad.toml"], 78, "", "scope is there twice"),
+            (["serve", bay, "--listen", "scope"], 78, "", "scope: unix:PATH or HOST:PORT is wanted"),
+            (["serve", bay, "--listen", "127.0.0.1:99999"], 78, "", "127.0.0.1:99999: it can't listen there"),
+            (["serve", bay, "--listen", f"127.0.0.1:{self.taken()}"], 78, "", "it can't listen there: Address already in use"),
+            (["serve", bay, "--listen", "unix:/no/where"], 78, "", "unix:/no/where: no socket can be made in /no"),
+            (["serve", bay, "--listen", f"unix:{bay}"], 78, "", "bay.toml: that is there, and is no socket"),
+            (outside, 78, "", "0.0.0.0:0 is seen by other machines: that takes a certificate and a token"),
+            ([*outside, "--token-file", f"{self.folder}/short"], 78, "", "takes a certificate and a token"),
+            ([*outside, "--tls-key", "key"], 78, "", "a certificate and its key belong together"),
+            (["serve", bay, "--listen", "127.0.0.1:0", "--token-file", f"{self.folder}/short"], 78, "", "a token of 16 characters or more"),
+            (["serve", bay, "--listen", "127.0.0.1:0", "--token-file", f"{self.folder}/open"], 78, "", "everybody on this machine may read it"),
+        )
+        for words, status, out, fault in rows:
+            with self.subTest(words):
+                said, complained = io.StringIO(), io.StringIO()
+                with contextlib.redirect_stdout(said), contextlib.redirect_stderr(complained):
+                    try:
+                        found: object = main(words)
+                    except SystemExit as end:  # (as argparse ends)
+                        found = end.code
+                self.assertEqual((found, said.getvalue()), (status, out), complained.getvalue())
+                self.assertIn(fault, complained.getvalue())
+
+    def test_manual(self) -> None:
+        """Each word and option of the help is in the man page and in both completions."""
+        texts = {kind: ran("manual", kind).stdout for kind in ("man", "bash", "zsh")}
+        words = re.findall(r"(?m)^    (\w+)  ", ran("--help").stdout)
+        self.assertLessEqual({"serve", "hold", "status", "top", "release", "report", "pages", "bay"}, set(words))
+        for word in words:
+            options = {"serve": ["--state", "--grace"], "hold": ["--timeout", "--any"], "top": ["--json"]}.get(word, [])
+            for one in [word, *options]:
+                for kind, text in texts.items():
+                    self.assertIn(one.replace("-", "\\-") if kind == "man" else one, text, (kind, one))
+        subprocess.run(["bash", "-n"], input=texts["bash"], text=True, check=True)
+
+
+class WithBroker(OnBroker):
+    def test_hold(self) -> None:
+        broker = self.broker()
+        with self.lab(broker, "board").hold("supply"):
+            rows = (
+                (["hold", "scope", "load-1", "--", "sh", "-c", "echo $LABRUN_HELD $LABRUN_STATION; exit 7"], 7, "scope load-1 guest-1\n", ""),
+                (["hold", "scope", "--station", "radio", "--", "sh", "-c", "echo $LABRUN_STATION"], 0, "radio\n", ""),
+                (["hold", "--any", "supply", "load-1,load-2", "--", "sh", "-c", "echo $LABRUN_HELD"], 0, "load-1 load-2\n", ""),
+                (["hold", "scope", "--", "sh", "-c", "kill -TERM $$"], 143, "", ""),
+                (["hold", "scope", "--", "./nothing"], 127, "", "./nothing: No such file or directory"),
+                (["hold", "scope", "--", "/"], 126, "", "/: Permission denied"),
+                (["hold", "supply", "--timeout", "0.1", "--", "echo", "ran"], 75, "", "supply is held by board for"),
+                (["hold", "lamp", "--", "echo", "ran"], 77, "", "a guest may not use lamp: it may use scope, supply, load-1, load-2"),
+                (["hold", "scope", "--station", "moon", "--", "echo", "ran"], 1, "", "moon is no station of this bay: there are board, radio"),
+            )
+            for words, status, out, fault in rows:
+                with self.subTest(words):
+                    done = broker.ran(*words)
+                    self.assertEqual((done.returncode, done.stdout), (status, out), done.stderr)
+                    self.assertIn(fault, done.stderr)
+                    self.assertNotIn("Traceback", done.stderr)
+
+    def test_it_says_for_whom_it_waits(self) -> None:
+        broker = self.broker()
+        held = self.lab(broker, "board").hold("scope")
+        held.acquire()
+        waits = broker.started("hold", "scope", "--", "echo", "ran")
+        assert waits.stderr is not None
+        self.assertRegex(waits.stderr.readline(), r"^labrun-broker: waits: scope is held by board for \d")
+        held.release()
+        self.assertEqual((waits.communicate(timeout=LIMIT)[0], waits.returncode), ("ran\n", 0))
+
+    def test_ctrl_c(self) -> None:
+        """While it waits it leaves the line; while its command runs that gets it, and then it lets go."""
+        broker = self.broker()
+        lab = self.lab(broker)
+        with lab.hold("load-1"):
+            waits = broker.started("hold", "load-1", "--station", "", "--", "true")
+            until(lambda: station(lab, "guest-2")["state"] == "waiting")
+            waits.send_signal(signal.SIGINT)
+            self.assertEqual((waits.communicate(timeout=LIMIT), waits.returncode), (("", ""), 130))
+            until(lambda: station(lab, "guest-2")["state"] == "idle")
+        runs = broker.started("hold", "load-1", "--", "sleep", "60")
+        until(lambda: any(it["state"] == "holding" for it in lab.status()["stations"]))
+        runs.send_signal(signal.SIGTERM)
+        self.assertEqual((runs.communicate(timeout=LIMIT)[0], runs.returncode), ("", 143))
+        until(lambda: all(it["state"] == "idle" for it in lab.status()["stations"]))
+
+    def test_a_signal_while_the_command_starts(self) -> None:
+        """It is sent on once that is there: no command goes on whose session is over."""
+        signals = Signals()
+        popen = subprocess.Popen
+
+        def starts(*given: Any, **more: Any) -> "subprocess.Popen[bytes]":
+            process = popen(*given, **more)
+            signals.comes(signal.SIGTERM, None)
+            return process
+
+        with mock.patch("subprocess.Popen", starts):
+            self.assertEqual(signals.starts(["sleep", "60"], dict(os.environ)).wait(LIMIT), -signal.SIGTERM)
+
+    def test_status(self) -> None:
+        broker = self.broker()
+        lab = self.lab(broker, "board")
+        self.assertIn("nobody holds or waits", broker.ran("status").stdout)
+        with lab.hold("scope", "supply") as held:
+            held.note("\x1b[2J12.5 V")
+            waits = broker.started("hold", "supply", "--", "true")
+            until(lambda: station(lab, "guest-1")["state"] == "waiting")
+            text = broker.ran("status").stdout
+            self.assertRegex(text, r"(?m)^supply +board +\d s +guest-1$")
+            self.assertRegex(text, r"(?m)^load-1 +-$")
+            self.assertRegex(text, r"(?m)^board +holding +\d s +scope supply +tester \| \\x1b\[2J12.5 V$")
+            self.assertRegex(text, r"(?m)^guest-1 +waiting +\d s +supply +\S")
+            self.assertRegex(text, r"(?m)^ +supply is held by board for \d")
+            status = json.loads(broker.ran("status", "--json").stdout)
+            self.assertEqual([it["holder"] for it in status["instruments"]], ["board", "board", None, None])
+        self.assertEqual(waits.wait(LIMIT), 0)
+        waits.communicate()
+
+    def test_top(self) -> None:
+        broker = self.broker()
+        top = broker.started("top", "--json")
+        assert top.stdout is not None
+        first = json.loads(top.stdout.readline())
+        with self.lab(broker, "board").hold("scope"):
+            until(lambda: json.loads(top.stdout.readline())["instruments"][0]["holder"] == "board")
+        self.assertEqual(first["instruments"][0]["holder"], None)
+        top.send_signal(signal.SIGINT)
+        top.communicate(timeout=LIMIT)
+        self.assertEqual(top.returncode, 0)
+
+    def test_release(self) -> None:
+        broker = self.broker()
+        runs = broker.started("hold", "scope", "--station", "board", "--", "sleep", "60")
+        lab = self.lab(broker)
+        until(lambda: station(lab, "board")["state"] == "holding")
+        done = broker.ran("release", "board")
+        self.assertEqual((done.returncode, done.stdout), (0, "board has let go of scope\n"))
+        _, said = runs.communicate(timeout=LIMIT)
+        self.assertEqual(runs.returncode, 76)
+        self.assertIn("board: the session was taken away by", said)
+        for name, text in (("board", "board holds nothing"), ("moon", "moon is no station of this bay")):
+            done = broker.ran("release", name)
+            self.assertEqual((done.returncode, done.stdout), (1, ""))
+            self.assertIn(text, done.stderr)
+
+    def test_pages_and_reports(self) -> None:
+        broker = self.broker()
+        with self.lab(broker, "board").hold("scope"):
+            done = broker.ran("pages", "--turn", "--timeout", "0.1")
+            self.assertEqual(done.returncode, 1)
+            self.assertIn("not back: board (holds scope", done.stderr)
+        self.assertEqual(broker.ran("pages", "--turn").stdout, "1 2\n")
+        report = broker.ran("report", "--page", "1").stdout
+        self.assertIn("\ninstrument scope 1\nboard 2 1/1 read = 0\n", report)
+        done = broker.ran("report", "--page", "9")
+        self.assertEqual((done.returncode, done.stdout), (1, ""))
+        self.assertIn("no report of page 9", done.stderr)
+
+    def test_one_broker_at_a_socket(self) -> None:
+        broker = self.broker()
+        done = ran("serve", f"{broker.folder}/bay.toml", "--listen", broker.address)
+        self.assertEqual(done.returncode, 78)
+        self.assertIn("another broker listens there", done.stderr)
+        self.assertEqual(os.stat(broker.address.removeprefix("unix:")).st_mode & 0o777, 0o660)
+        broker.kill()
+        broker.begin()
+        self.assertEqual(broker.ran("status").returncode, 0)
+        self.assertEqual(broker.end(), 0)

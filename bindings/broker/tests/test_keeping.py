@@ -1,0 +1,311 @@
+"""The keeping of the bench, on a loop and without a network."""
+
+import asyncio
+import time
+import unittest
+from typing import Any, Optional
+from unittest import mock
+
+import labrun
+from labrun_broker import keeping as kept
+from labrun_broker.bay import bay_of
+from labrun_broker.keeping import BadWish, Ended, Keeping, Seat, TimedOut, Wish
+from tests.brokers import BAY
+
+TICKET = "a ticket of a test"
+
+
+class Owner:
+    """It notes what it is told."""
+
+    def __init__(self) -> None:
+        self.told: list[str] = []
+
+    def taken(self, why: str) -> None:
+        self.told.append(why)
+
+
+class OnKeeping(unittest.IsolatedAsyncioTestCase):
+    async def keeping(self, bay: str = BAY, grace: float = 60.0) -> Keeping:
+        keeping = Keeping(bay_of(bay), grace=grace)
+        await keeping.open()
+        self.addAsyncCleanup(keeping.close)
+        return keeping
+
+    async def asyncSetUp(self) -> None:
+        self.owner = Owner()
+
+    async def asks(self, keeping: Keeping, *instruments: str, **more: Any) -> "asyncio.Task[Seat]":
+        """Whoever asks, and is in the line by now."""
+        task = asyncio.create_task(keeping.hold(Wish(instruments, **more), self.owner))
+        await asyncio.sleep(0.01)
+        return task
+
+    async def holds(self, keeping: Keeping, *instruments: str, **more: Any) -> Seat:
+        return await keeping.hold(Wish(instruments, **more), self.owner)
+
+
+def whats(keeping: Keeping, station: Optional[str] = None) -> list[str]:
+    return [it["what"] for it in keeping.history if station is None or it["station"] == station]
+
+
+def how(keeping: Keeping, name: str) -> dict[str, Any]:
+    status = keeping.status()
+    return next(it for it in [*status["stations"], *status["instruments"]] if it["name"] == name)
+
+
+class Sessions(OnKeeping):
+    async def test_one_after_another(self) -> None:
+        keeping = await self.keeping()
+        board = await self.holds(keeping, "scope", "supply", station="board", by="ann")
+        self.assertEqual((board.name, board.state, board.instruments), ("board", "holding", ("scope", "supply")))
+        radio = await self.asks(keeping, "scope", station="radio")
+        guest = await self.asks(keeping, "load-1")
+        self.assertTrue(guest.done(), "load-1 is nobody's")
+        self.assertFalse(radio.done())
+        self.assertEqual([(it["station"], it["holds"], it["instrument"]) for it in how(keeping, "radio")["waits_for"]], [("board", True, "scope")])
+        scope = how(keeping, "scope")
+        self.assertEqual((scope["holder"], scope["waiting"]), ("board", ["radio"]))
+        await keeping.let_go(board, self.owner)
+        self.assertEqual((await radio).name, "radio")
+        self.assertEqual(how(keeping, "supply")["holder"], None)
+        self.assertEqual(whats(keeping, "board"), ["asked", "held", "let_go"])
+        self.assertEqual(whats(keeping, "radio"), ["asked", "held"])
+
+    async def test_chain(self) -> None:
+        """The guest waits for the board, and that for the radio, which holds."""
+        keeping = await self.keeping()
+        with mock.patch.object(keeping.bench, "_overtakes", 0):
+            keeping.bench._call("lab_overtakes", 0)
+            radio = await self.holds(keeping, "scope", station="radio")
+            board = await self.asks(keeping, "scope", "supply", station="board")
+            guest = await self.asks(keeping, "supply")
+            text = how(keeping, "guest-1")["waits_for"][0]["text"]
+        self.assertRegex(text, r"^supply is kept for board, which waits for scope, held by radio for \d+\.\d s$")
+        await keeping.let_go(radio, self.owner)
+        await keeping.let_go(await board, self.owner)
+        await keeping.let_go(await guest, self.owner)
+
+    async def test_timeout(self) -> None:
+        keeping = await self.keeping()
+        await self.holds(keeping, "scope", station="board")
+        with self.assertRaisesRegex(labrun.TimeoutError, r"scope is held by board for 0\.\d s"):
+            await self.holds(keeping, "scope", station="radio", timeout=0.05)
+        self.assertEqual(whats(keeping, "radio"), ["asked", "gave_up"])
+        self.assertEqual(how(keeping, "radio")["state"], "idle")
+
+    async def test_who_is_cancelled_leaves_the_line(self) -> None:
+        keeping = await self.keeping()
+        board = await self.holds(keeping, "scope", station="board")
+        radio = await self.asks(keeping, "scope", station="radio")
+        radio.cancel()
+        await asyncio.wait({radio})
+        self.assertEqual(whats(keeping, "radio"), ["asked", "gave_up"])
+        await keeping.let_go(board, self.owner)
+        self.assertEqual(how(keeping, "scope")["holder"], None)
+
+    async def test_seats(self) -> None:
+        """Four guests; the fifth waits for the first that is through, in order."""
+        keeping = await self.keeping()
+        first = await self.holds(keeping, "load-1")
+        others = [await self.asks(keeping, "load-1") for _ in range(3)]
+        fifth, sixth = await self.asks(keeping, "load-2"), await self.asks(keeping, "scope")
+        self.assertFalse(fifth.done() or sixth.done(), "each guest is taken")
+        self.assertEqual([it["instruments"] for it in keeping.status()["in_line"]], [["load-2"], ["scope"]])
+        with self.assertRaisesRegex(TimedOut, "all 4 guests"):
+            await self.holds(keeping, "scope", timeout=0.02)
+        await keeping.let_go(first, self.owner)
+        self.assertEqual((await fifth).name, first.name)
+        others[2].cancel()
+        self.assertEqual((await sixth).state, "holding")
+        for task in others[:2]:
+            task.cancel()
+
+    async def test_a_station_is_in_one_session(self) -> None:
+        keeping = await self.keeping()
+        seat = await self.holds(keeping, "supply", station="board", by="ann")
+        with self.assertRaisesRegex(TimedOut, "board is in a session of ann, and is in one at a time"):
+            await self.holds(keeping, "scope", station="board", timeout=0.02)
+        waits = await self.asks(keeping, "scope", station="board")
+        await keeping.let_go(seat, self.owner)
+        self.assertEqual((await waits).instruments, ("scope",))
+
+    async def test_any_of(self) -> None:
+        keeping = await self.keeping()
+        await self.holds(keeping, "load-1")
+        seat = await self.holds(keeping, any_of=(("load-1",), ("load-2",)))
+        self.assertEqual(seat.instruments, ("load-2",))
+
+    async def test_refused(self) -> None:
+        keeping = await self.keeping()
+        rows: tuple[tuple[dict[str, Any], type[Exception], str], ...] = (
+            ({"instruments": ("lamp",)}, labrun.MayNotUse, "a guest may not use lamp"),
+            ({"instruments": ("supply",), "station": "radio"}, labrun.MayNotUse, "radio may not use supply: it may use scope"),
+            ({"instruments": ("scope",), "station": "lamp"}, BadWish, "lamp is no station of this bay: there are board, radio"),
+            ({"instruments": ("scope",), "station": "guest-1"}, BadWish, "guest-1 is no station"),
+            ({}, BadWish, "say which instruments"),
+            ({"any_of": ((),)}, BadWish, "say which instruments"),
+            ({"instruments": ("scope",), "any_of": (("scope",),)}, BadWish, "say which instruments"),
+            ({"instruments": ("scope",), "ticket": "short"}, BadWish, "a ticket has 16"),
+            ({"ticket": TICKET, "comes_back": True}, Ended, "no session has this ticket"),
+        )
+        for more, kind, text in rows:
+            with self.subTest(more), self.assertRaisesRegex(kind, text):
+                await keeping.hold(Wish(**more), self.owner)
+        self.assertEqual((keeping.refusals, whats(keeping)), (len(rows), ["opened"]))
+
+    async def test_notes(self) -> None:
+        keeping = await self.keeping()
+        seat = await self.holds(keeping, "scope", by="ann")
+        await keeping.note(seat, self.owner, "12.5 V")
+        self.assertEqual(how(keeping, seat.name)["note"], "12.5 V")
+        await keeping.let_go(seat, self.owner, failed="smoke")
+        self.assertEqual([(it["what"], it["text"], it["by"]) for it in keeping.history[-2:]], [("note", "12.5 V", "ann"), ("failed", "smoke", "ann")])
+        with self.assertRaises(labrun.NotHeld):
+            await keeping.let_go(seat, self.owner)
+
+    async def test_changes(self) -> None:
+        keeping = await self.keeping()
+        changes = keeping.changes()
+        waits = asyncio.ensure_future(changes.__anext__())
+        await asyncio.sleep(0.02)
+        self.assertFalse(waits.done())
+        await self.holds(keeping, "scope")
+        await asyncio.wait_for(waits, 1)
+        await changes.aclose()
+
+
+class Gone(OnKeeping):
+    async def test_comes_back(self) -> None:
+        keeping, other = await self.keeping(), Owner()
+        seat = await self.holds(keeping, "scope", ticket=TICKET)
+        keeping.gone(seat, self.owner)
+        self.assertEqual(how(keeping, seat.name)["state"], "gone")
+        self.assertIs(await keeping.hold(Wish(ticket=TICKET, comes_back=True), other), seat)
+        self.assertEqual((seat.state, how(keeping, seat.name)["gone_since"]), ("holding", None))
+        await keeping.let_go(seat, other)
+        self.assertEqual(whats(keeping, seat.name), ["asked", "held", "gone", "back", "let_go"])
+        with self.assertRaisesRegex(Ended, "the session has let go"):
+            await keeping.hold(Wish(ticket=TICKET, comes_back=True), other)
+
+    async def test_the_newer_connection_counts(self) -> None:
+        keeping, other = await self.keeping(), Owner()
+        seat = await self.holds(keeping, "scope", ticket=TICKET)
+        await keeping.hold(Wish(ticket=TICKET, comes_back=True), other)
+        self.assertEqual(self.owner.told, ["another connection came for the session"])
+        keeping.gone(seat, self.owner)
+        self.assertEqual(seat.state, "holding", "the older one is gone, which is nothing")
+        with self.assertRaises(labrun.NotHeld):
+            await keeping.let_go(seat, self.owner)
+
+    async def test_kept(self) -> None:
+        keeping = await self.keeping(grace=0.02)
+        seat = await self.holds(keeping, "scope")
+        keeping.gone(seat, self.owner)
+        await asyncio.sleep(0.1)
+        self.assertEqual(seat.state, "gone")
+
+    async def test_released_after_the_grace(self) -> None:
+        keeping = await self.keeping('gone = "release"\n' + BAY, grace=0.05)
+        seat = await self.holds(keeping, "scope", ticket=TICKET)
+        keeping.gone(seat, self.owner)
+        radio = await self.asks(keeping, "scope", station="radio")
+        self.assertFalse(radio.done(), "the grace isn't over")
+        self.assertEqual((await asyncio.wait_for(radio, 1)).name, "radio")
+        self.assertEqual(whats(keeping, "guest-1"), ["asked", "held", "gone", "taken"])
+        with self.assertRaisesRegex(Ended, "taken away by the broker, because its client was gone for 0.05 s"):
+            await keeping.hold(Wish(ticket=TICKET, comes_back=True), self.owner)
+
+    async def test_back_within_the_grace(self) -> None:
+        keeping = await self.keeping('gone = "release"\n' + BAY, grace=0.05)
+        seat = await self.holds(keeping, "scope", ticket=TICKET)
+        keeping.gone(seat, self.owner)
+        await keeping.hold(Wish(ticket=TICKET, comes_back=True), self.owner)
+        await asyncio.sleep(0.1)
+        self.assertEqual(seat.state, "holding")
+
+    async def test_released_by_an_operator(self) -> None:
+        keeping = await self.keeping()
+        seat = await self.holds(keeping, "scope", "supply", station="board")
+        self.assertEqual(await keeping.release("board", "eve"), ("scope", "supply"))
+        self.assertEqual(self.owner.told, ["board: the session was taken away by eve: scope, supply"])
+        self.assertEqual((seat.state, keeping.bench.taken), ("idle", (("board", 2),)))
+        again = await self.holds(keeping, "scope", station="board")
+        self.assertIs(again, seat)
+        for name, kind, text in (("radio", labrun.NotHeld, "radio holds nothing"), ("lamp", BadWish, "lamp is no station")):
+            with self.subTest(name), self.assertRaisesRegex(kind, text):
+                await keeping.release(name, "eve")
+
+    async def test_released_before_its_client_is_told(self) -> None:
+        keeping = await self.keeping()
+        on_disk = asyncio.Event()
+        with mock.patch.object(keeping, "_on_disk", on_disk.wait):
+            waits = await self.asks(keeping, "scope", station="board")
+            releases = asyncio.create_task(keeping.release("board", "eve"))
+            await asyncio.sleep(0.01)
+            on_disk.set()
+            await releases
+        with self.assertRaisesRegex(Ended, "taken away before its client was told"):
+            await waits
+        self.assertEqual(how(keeping, "scope")["holder"], None)
+        self.assertEqual((await self.holds(keeping, "scope", station="board")).state, "holding")
+
+    async def test_the_clock_jumps(self) -> None:
+        """Spans are those of a clock that doesn't, and times are told by the wall clock as it is now."""
+        keeping = await self.keeping()
+        seat = await self.holds(keeping, "scope")
+        keeping.gone(seat, self.owner)
+        now = time.time()
+        for jump in (-1e6, 1e6):
+            with mock.patch("time.time", return_value=now + jump):
+                status = keeping.status()
+            self.assertEqual(status["at"], round(now + jump, 3))
+            guest = next(it for it in status["stations"] if it["name"] == seat.name)
+            self.assertTrue(0 <= status["at"] - guest["gone_since"] < 5 and 0 <= status["at"] - guest["since"] < 5)
+
+
+class Pages(OnKeeping):
+    async def test_turned(self) -> None:
+        keeping = await self.keeping()
+        seat = await self.holds(keeping, "scope", station="board")
+        with self.assertRaisesRegex(labrun.NotBack, "board"):
+            await keeping.turn_page(0.05)
+        turning = asyncio.create_task(keeping.turn_page(5))
+        await asyncio.sleep(0.05)
+        waits = await self.asks(keeping, "load-1")
+        self.assertFalse(waits.done(), "what comes meanwhile waits for the new page")
+        await keeping.let_go(seat, self.owner)
+        self.assertEqual(await turning, 2)
+        self.assertEqual((await asyncio.wait_for(waits, 1)).state, "holding")
+        self.assertIn("job board sessions 1 of 2 withdrawn 1", keeping.report(1))
+        self.assertEqual(keeping.pages(), [{"page": 1, "is_open": False}, {"page": 2, "is_open": True}])
+        with self.assertRaisesRegex(BadWish, "no report of page 7"):
+            keeping.report(7)
+
+    async def test_by_itself(self) -> None:
+        """A page is turned before it is full, and nobody is refused."""
+        with mock.patch.object(kept, "MANY_SESSIONS", 20):
+            keeping = await self.keeping()
+
+            async def guest(count: int) -> None:
+                for _ in range(count):
+                    seat = await self.holds(keeping, "scope", "load-1")
+                    await asyncio.sleep(0)
+                    await keeping.let_go(seat, self.owner)
+
+            await asyncio.gather(*(guest(60) for _ in range(4)))
+        self.assertEqual(keeping.sessions, 240)
+        self.assertGreaterEqual(keeping.page, 3)
+        self.assertEqual(whats(keeping).count("let_go"), 240)
+
+    async def test_somebody_holds_for_long(self) -> None:
+        """The others go on, until the page is turned once he has let go."""
+        with mock.patch.multiple(kept, MANY_SESSIONS=5, PATIENCE=0.02, PAUSE=0.02):
+            keeping = await self.keeping()
+            long = await self.holds(keeping, "supply", station="board")
+            for _ in range(8):
+                await keeping.let_go(await self.holds(keeping, "scope", station="radio"), self.owner)
+            self.assertEqual(keeping.page, 1)
+            await keeping.let_go(long, self.owner)
+            await asyncio.sleep(0.3)
+            self.assertEqual(keeping.page, 2)

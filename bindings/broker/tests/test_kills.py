@@ -1,0 +1,17 @@
+"""Programs that share instruments by the broker, and are killed, and so is the broker (the short form of tests.kills)."""
+
+import unittest
+
+from tests.kills import kills
+
+
+class Kills(unittest.TestCase):
+    def test_clients(self) -> None:
+        came = kills(10, 1, brokers_too=False)
+        self.assertEqual((came["wrong"], came["killed"]["client"]), ([], 10))
+        self.assertGreater(came["did"], 8)
+
+    def test_clients_and_brokers(self) -> None:
+        came = kills(10, 2)
+        self.assertEqual((came["wrong"], came["killed"]["client"], came["killed"]["broker"]), ([], 10, 10))
+        self.assertGreater(came["did"], 0)

@@ -1,0 +1,95 @@
+"""The page and the numbers of a real bay: that they and the keeping mean the same."""
+
+from __future__ import annotations
+
+import glob
+import json
+import tempfile
+import unittest
+from typing import Any
+
+from labrun_broker.bay import bay_of
+from labrun_broker.keeping import Keeping, Wish
+from labrun_broker.past import read_past
+
+from .brokers import BAY
+
+try:
+    from aiohttp import ClientSession
+
+    from labrun_broker.page import serve_page
+except ImportError as lacking:
+    raise unittest.SkipTest(str(lacking)) from None
+
+
+class Owner:
+    def taken(self, why: str) -> None: ...
+
+
+class OfABay(unittest.IsolatedAsyncioTestCase):
+    async def asyncSetUp(self) -> None:
+        self.keeping = Keeping(bay_of(BAY))
+        await self.keeping.open()
+        self.addAsyncCleanup(self.keeping.close)
+        served = await serve_page(self.keeping, "127.0.0.1:0")
+        self.addAsyncCleanup(served.cleanup)
+        self.at = f"http://127.0.0.1:{served.sockets[0].getsockname()[1]}"
+        self.web = ClientSession()
+        self.addAsyncCleanup(self.web.close)
+
+    async def get(self, path: str) -> str:
+        async with self.web.get(self.at + path) as answer:
+            return await answer.text()
+
+    async def test_a_session_from_its_ask_to_its_end(self) -> None:
+        owner = Owner()
+        async with self.web.get(f"{self.at}/events") as events:
+            first = await self.told(events)
+            self.assertEqual([it["what"] for it in first["records"]], ["opened"])
+            board = await self.keeping.hold(Wish(("scope",), station="board", by="ann"), owner)
+            await self.keeping.note(board, owner, "V = 5")
+            second = await self.told(events, 3)
+            self.assertEqual([it["what"] for it in second["records"]], ["asked", "held", "note"])
+            held = {it["name"]: it["holder"] for it in second["status"]["instruments"] if it["holder"]}
+            self.assertEqual(held, {"scope": "board"})
+            await self.keeping.let_go(board, owner)
+            third = await self.told(events, 1)
+            self.assertEqual([(it["station"], it["instruments"], it["how"]) for it in third["ended"]], [("board", ["scope"], "done")])
+        self.assertIn('labrun_sessions_total{end="done",station="board"} 1.0', await self.get("/metrics"))
+        self.assertIn('labrun_wait_seconds_count{instrument="scope"} 1.0', await self.get("/metrics"))
+
+    async def told(self, events: Any, count: int = 1) -> Any:
+        """What is told until there are so many records, in one."""
+        news: dict[str, Any] = {"records": [], "ended": []}
+        async for line in events.content:
+            if line.startswith(b"data: "):
+                more = json.loads(line[6:])
+                news = {"status": more["status"], **{it: news[it] + more[it] for it in ("records", "ended")}}
+                if len(news["records"]) >= count:
+                    return news
+
+
+class WhatWas(unittest.IsolatedAsyncioTestCase):
+    async def test_a_state_folder_is_read(self) -> None:
+        with tempfile.TemporaryDirectory() as folder:
+            owner, keeping = Owner(), Keeping(bay_of(BAY), folder)
+            await keeping.open()
+            for page in (1, 2):
+                board = await keeping.hold(Wish(("scope",), station="board", by="ann"), owner)
+                await keeping.note(board, owner, f"V = {page}")
+                await keeping.let_go(board, owner, "it broke" if page == 2 else None)
+                await keeping.turn_page()
+            await keeping.close()
+            past, faults = read_past(folder)
+            journals = [read_past(it)[0].sessions() for it in sorted(glob.glob(f"{folder}/bay.journal*"))]
+        told = [(it.station, it.by, it.instruments, it.how, it.why, [text for _, text in it.notes]) for it in past.sessions()]
+        self.assertEqual(faults, [])
+        expected = [("board", "ann", ("scope",), "done", "", ["V = 1"]), ("board", "ann", ("scope",), "failed", "it broke", ["V = 2"])]
+        self.assertEqual(told, expected)
+        # the journals have the same sessions, but not by whom
+        of_journals = sorted((one.station, one.instruments, one.how, *(text for _, text in one.notes)) for it in journals for one in it)
+        self.assertEqual(of_journals, [("board", ("scope",), "done", "V = 1"), ("board", ("scope",), "done", "V = 2")])
+
+
+if __name__ == "__main__":
+    unittest.main()

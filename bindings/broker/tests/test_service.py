@@ -1,0 +1,389 @@
+"""The service over the network: who is let in, who dies, and who floods."""
+
+import asyncio
+import concurrent.futures
+import os
+import signal
+import socket
+import subprocess
+import sys
+import threading
+import time
+import unittest
+import unittest.mock
+
+import grpc
+import labrun
+import labrun_broker
+from labrun_broker import broker_pb2 as pb
+from labrun_broker.service import BadAddress, Door, Pace, is_loopback
+from tests.brokers import BAY, LIMIT, Broker, OnBroker, station, until
+
+HOLDS = """
+import sys, labrun_broker
+lab = labrun_broker.connect(sys.argv[1], by="a program")
+held = lab.hold(*sys.argv[2:])
+held.acquire()
+print(held.station, flush=True)
+sys.stdin.read()
+"""
+
+
+class Clients(OnBroker):
+    def program(self, broker: Broker, *instruments: str) -> "subprocess.Popen[str]":
+        """A program that holds these, once it has them."""
+        words = [sys.executable, "-c", HOLDS, broker.address, *instruments]
+        one = subprocess.Popen(words, stdin=subprocess.PIPE, stdout=subprocess.PIPE, text=True)
+        self.addCleanup(one.communicate)
+        self.addCleanup(one.kill)
+        return one
+
+    def test_it_holds(self) -> None:
+        lab = self.lab(self.broker(), "board")
+        with lab.hold("scope", "supply", timeout=5) as held:
+            self.assertEqual((held.station, held.instruments, held.number, held.state), ("board", ("scope", "supply"), 2, "held"))
+            held.note(12.5)
+            self.assertEqual(station(lab, "board")["note"], "12.5")
+        self.assertEqual(held.state, "finished")
+        with self.assertRaises(labrun_broker.NotHeld):
+            held.release()
+        with lab.hold(any_of=["scope", ("scope", "supply")]) as held:
+            self.assertEqual(held.instruments, ("scope",))
+
+    def test_errors_are_the_packages(self) -> None:
+        lab = self.lab(self.broker())
+        with lab.hold("scope", station="board"):
+            for kind in (labrun_broker.TimeoutError, labrun.TimeoutError, TimeoutError):
+                with self.assertRaisesRegex(kind, "scope is held by board for"):
+                    lab.hold("scope", timeout=0.05).acquire()
+        with self.assertRaisesRegex(labrun.MayNotUse, "a guest may not use lamp"):
+            lab.hold("lamp").acquire()
+        with self.assertRaisesRegex(ValueError, "say which instruments"):
+            lab.hold().acquire()
+        with self.assertRaisesRegex(labrun.NotHeld, "radio holds nothing"):
+            lab.release("radio")
+
+    def test_async(self) -> None:
+        lab = self.lab(self.broker())
+        order = []
+
+        async def guest(name: str) -> None:
+            async with lab.hold("scope", "supply") as held:
+                order.append(name)
+                await asyncio.sleep(0.05)
+                await held.note_async(name)
+
+        async def main() -> None:
+            tasks = [asyncio.create_task(guest(name)) for name in "abc"]
+            await asyncio.sleep(0.02)
+            late = asyncio.create_task(guest("late"))
+            await asyncio.sleep(0.02)
+            late.cancel()
+            await asyncio.gather(*tasks)
+
+        asyncio.run(main())
+        self.assertEqual(sorted(order), ["a", "b", "c"])
+        until(lambda: all(it["state"] == "idle" for it in lab.status()["stations"]))
+
+    def test_a_body_that_raises(self) -> None:
+        lab = self.lab(self.broker())
+        with self.assertRaisesRegex(RuntimeError, "smoke"):
+            with lab.hold("scope"):
+                raise RuntimeError("smoke")
+        with lab.hold("scope", timeout=1):
+            pass
+
+    def test_who_dies_while_it_waits_leaves_the_line(self) -> None:
+        broker = self.broker()
+        lab = self.lab(broker, "board")
+        with lab.hold("scope"):
+            one = self.program(broker, "scope")
+            until(lambda: station(lab, "guest-1")["state"] == "waiting")
+            one.kill()
+            until(lambda: station(lab, "guest-1")["state"] == "idle")
+
+    def test_who_dies_while_it_holds_is_gone(self) -> None:
+        """The session is kept, until an operator ends it."""
+        broker = self.broker(BAY, "--grace", "0.2")
+        lab = self.lab(broker)
+        one = self.program(broker, "scope", "supply")
+        assert one.stdout is not None
+        self.assertEqual(one.stdout.readline(), "guest-1\n")
+        one.kill()
+        until(lambda: station(lab, "guest-1")["state"] == "gone")
+        with self.assertRaisesRegex(labrun.TimeoutError, "supply is held by guest-1"):
+            lab.hold("supply", timeout=0.5).acquire()
+        self.assertEqual(lab.release("guest-1"), ("scope", "supply"))
+        with lab.hold("supply", timeout=5):
+            pass
+
+    def test_released_after_the_grace(self) -> None:
+        broker = self.broker('gone = "release"\n' + BAY, "--grace", "0.3")
+        lab = self.lab(broker)
+        one = self.program(broker, "scope")
+        assert one.stdout is not None
+        one.stdout.readline()
+        one.kill()
+        begun = time.monotonic()
+        with lab.hold("scope", timeout=10):
+            self.assertGreater(time.monotonic() - begun, 0.2)
+
+    def test_who_stops_is_no_trouble(self) -> None:
+        """A client that is stopped while it holds, or waits, keeps nobody else waiting for anything but its instruments."""
+        broker = self.broker()
+        lab = self.lab(broker)
+        one = self.program(broker, "scope")
+        assert one.stdout is not None
+        one.stdout.readline()
+        one.send_signal(signal.SIGSTOP)
+        for _ in range(20):
+            with lab.hold("supply", "load-1", timeout=5):
+                pass
+        one.send_signal(signal.SIGCONT)
+
+    def test_taken_while_it_works(self) -> None:
+        lab, other = self.lab(broker := self.broker(), "board"), self.lab(broker)
+        held = lab.hold("scope")
+        held.acquire()
+        told: list[Exception] = []
+        held.on_taken = told.append
+        other.release("board")
+        until(lambda: told)
+        with self.assertRaisesRegex(labrun.TakenAway, "board: the session was taken away by tester: scope"):
+            held.note("5")
+        with self.assertRaises(labrun.TakenAway):
+            with lab.hold("scope") as held:
+                other.release("board")
+                until(lambda: held.state == "taken")
+
+    def test_an_interrupt(self) -> None:
+        """It leaves the line."""
+        lab = self.lab(broker := self.broker(), "board")
+        waits = self.lab(broker)
+        with lab.hold("scope"):
+            threading.Timer(0.3, signal.pthread_kill, (threading.main_thread().ident, signal.SIGINT)).start()
+            with self.assertRaises(KeyboardInterrupt):
+                waits.hold("scope", timeout=LIMIT).acquire()
+            until(lambda: station(lab, "guest-1")["state"] == "idle")
+
+    def test_a_fork(self) -> None:
+        lab = self.lab(self.broker())
+        child = os.fork()
+        if child == 0:
+            try:
+                lab.hold("scope").acquire()
+            except labrun.OtherProcess:
+                os._exit(7)
+            finally:
+                os._exit(1)
+        self.assertEqual(os.waitstatus_to_exitcode(os.waitpid(child, 0)[1]), 7)
+
+    def test_threads(self) -> None:
+        """Four share a lab, and no two hold at once."""
+        lab = self.lab(self.broker())
+        inside = []
+
+        def work(_: int) -> None:
+            for _ in range(10):
+                with lab.hold("scope", "load-1"):
+                    inside.append(1)
+                    self.assertEqual(len(inside), 1)
+                    inside.pop()
+
+        with concurrent.futures.ThreadPoolExecutor(4) as pool:
+            list(pool.map(work, range(4)))
+        self.assertEqual(lab.status()["sessions"], 40)
+
+
+class WhoIsLetIn(OnBroker):
+    def test_addresses(self) -> None:
+        for address, wanted in (("127.0.0.1:1", True), ("127.9.9.9:1", True), ("[::1]:1", True), ("localhost:1", True), ("0.0.0.0:1", False),
+                                ("[::]:1", False), ("192.168.0.1:1", False), ("bench-3:1", False)):
+            self.assertEqual(is_loopback(address), wanted, address)
+        for address in ("bench", "bench:", ":x"):
+            with self.assertRaises(BadAddress):
+                is_loopback(address)
+
+    def test_doors(self) -> None:
+        for door in (Door(("0.0.0.0:1",)), Door(("0.0.0.0:1",), token_file="t"), Door(("[::]:1",), "c", "k"), Door(("unix:x", "h:1"), "c", "k"), Door((), "c")):
+            with self.subTest(door), self.assertRaises(BadAddress):
+                door.check()
+        Door(("0.0.0.0:1",), "c", "k", "t").check()
+        Door(("unix:x", "127.0.0.1:1")).check()
+
+    def certificate(self, folder: str) -> tuple[str, str, str]:
+        names = (f"{folder}/certificate", f"{folder}/key", f"{folder}/token")
+        words = ["openssl", "req", "-x509", "-newkey", "ec", "-pkeyopt", "ec_paramgen_curve:prime256v1", "-nodes", "-days", "2", "-subj", "/CN=localhost",
+                 "-addext", "subjectAltName=DNS:localhost", "-keyout", names[1], "-out", names[0]]
+        subprocess.run(words, check=True, capture_output=True)
+        with open(names[2], "w", encoding="ascii") as file:
+            file.write("a token that nobody knows\n")
+        os.chmod(names[2], 0o600)
+        return names
+
+    def test_tls_and_a_token(self) -> None:
+        folder = self.enterContext(__import__("tempfile").TemporaryDirectory())
+        certificate, key, token = self.certificate(folder)
+        with open(f"{folder}/wrong", "w", encoding="ascii") as file:
+            file.write("a token that is another one")
+        port = free_port()
+        broker = self.broker(BAY, "--listen", f"0.0.0.0:{port}", "--tls-certificate", certificate, "--tls-key", key, "--token-file", token)
+        at = f"localhost:{port}"
+        with labrun_broker.connect(at, token_file=token, certificate_file=certificate) as lab, lab.hold("scope", timeout=5) as held:
+            self.assertEqual(held.instruments, ("scope",))
+        with self.lab(broker).hold("scope", timeout=5):
+            pass  # the socket needs no token
+        for more in ({"certificate_file": certificate}, {"certificate_file": certificate, "token_file": f"{folder}/wrong"}):
+            with labrun_broker.connect(at, **more) as lab:
+                for act in (lab.hold("scope").acquire, lab.status, lambda: lab.release("board"), lambda: next(lab.watch()), lab.report, lab.pages):
+                    with self.assertRaisesRegex(labrun_broker.Unreachable, "asks for its token"):
+                        act()
+        with labrun_broker.connect(at, token_file=token) as lab, self.assertRaises(labrun_broker.Unreachable):
+            lab.status()
+        done = broker.ran("status", "--broker", at, "--certificate", certificate)
+        self.assertEqual(done.returncode, 69)
+        self.assertIn("asks for its token", done.stderr)
+        self.assertEqual(broker.ran("status", "--broker", at, "--certificate", certificate, "--token-file", token).returncode, 0)
+
+
+def free_port() -> int:
+    with socket.socket() as one:
+        one.bind(("127.0.0.1", 0))
+        return int(one.getsockname()[1])
+
+
+class Floods(OnBroker):
+    def goes_on(self, lab: labrun_broker.Lab) -> None:
+        """A client holds and lets go, in a time that a person doesn't notice."""
+        begun = time.monotonic()
+        for _ in range(5):
+            with lab.hold("load-2", timeout=5):
+                pass
+        self.assertLess(time.monotonic() - begun, 5)
+
+    def stream(self, channel: "grpc.Channel", asks: "object") -> "object":
+        return channel.stream_stream("/labrun.broker.Broker/Hold", pb.Ask.SerializeToString, pb.Told.FromString)(asks)
+
+    def test_garbage_on_the_port(self) -> None:
+        port = free_port()
+        broker = self.broker(BAY, "--listen", f"127.0.0.1:{port}")
+        lab = self.lab(broker)
+        texts = (b"", b"GET / HTTP/1.1\r\n\r\n", os.urandom(100000), b"PRI * HTTP/2.0\r\n\r\nSM\r\n\r\n" + os.urandom(10000), b"\0" * 70000)
+        opened = []
+        for text in texts * 5:
+            one = socket.create_connection(("127.0.0.1", port))
+            opened.append(one)
+            try:
+                one.sendall(text)
+            except ConnectionError:
+                pass
+        self.goes_on(lab)
+        for one in opened:
+            one.close()
+        self.goes_on(lab)
+
+    def test_messages_that_are_none(self) -> None:
+        broker = self.broker()
+        with grpc.insecure_channel(broker.address) as channel:
+            for name in ("Hold", "Nothing"):
+                call = channel.stream_stream(f"/labrun.broker.Broker/{name}", bytes, bytes)(iter([b"\xff\xff garbage"]))
+                with self.assertRaises(grpc.RpcError):
+                    list(call)
+            for asks, kind in (([pb.Ask()], "BadWish"), ([pb.Ask(note=pb.Note(text="5"))], "NotHeld"), ([pb.Ask(let_go=pb.LetGo())], "NotHeld")):
+                self.assertEqual([it.fault.kind for it in self.stream(channel, iter(asks))], [kind])
+            with self.assertRaises(grpc.RpcError):
+                list(self.stream(channel, iter([pb.Ask(note=pb.Note(text="x" * 100000))])))
+        self.goes_on(self.lab(broker))
+
+    def test_lengths(self) -> None:
+        broker = self.broker()
+        lab = self.lab(broker)
+        for instruments, more in ((("x" * 65,), {}), (("scope",), {"station": "x" * 65})):
+            with self.assertRaisesRegex(labrun_broker.BadWish, "a name of 65 characters; 64 are the most"):
+                lab.hold(*instruments, **more).acquire()
+        with lab.hold("scope") as held:
+            with self.assertRaisesRegex(labrun_broker.BadWish, "a note of 501 characters; 500 are the most"):
+                held.note("x" * 501)
+            held.note("x" * 500)
+
+    def test_numbers(self) -> None:
+        broker = self.broker()
+        choices = [pb.Instruments(names=["scope"])] * 101
+        rows = [{"instruments": ["scope"], "timeout": it} for it in (float("nan"), -1.0, float("inf"), 1e9)] + [{"any_of": choices}]
+        with grpc.insecure_channel(broker.address) as channel:
+            told = list(self.stream(channel, iter([pb.Ask(wish=pb.Wish(**row)) for row in rows])))
+        self.assertEqual([it.fault.kind for it in told], ["BadWish"] * 5)
+        self.goes_on(self.lab(broker))
+
+    def test_a_stream_is_in_one_session(self) -> None:
+        broker = self.broker()
+        wish = pb.Ask(wish=pb.Wish(instruments=["scope"]))
+        with grpc.insecure_channel(broker.address) as channel:
+            told = [it.WhichOneof("told") for it in self.stream(channel, iter([wish, wish, pb.Ask(let_go=pb.LetGo()), wish, pb.Ask(let_go=pb.LetGo())]))]
+        self.assertEqual(told, ["held", "fault", "gone", "held", "gone"])
+
+    def test_so_many_clients(self) -> None:
+        broker = self.broker(BAY + "[limits]\nclients = 3\n")
+        lab = self.lab(broker)
+        held = [lab.hold(name) for name in ("scope", "supply", "load-1")]
+        for one in held:
+            one.acquire()
+        with self.assertRaisesRegex(labrun_broker.Unreachable, "3 clients are here, and no more may come"):
+            lab.hold("load-2").acquire()
+        for one in held:
+            one.release()
+        self.goes_on(lab)
+
+    def test_a_flood_of_notes(self) -> None:
+        """One client's notes come at its pace, and another goes on meanwhile."""
+        broker = self.broker(BAY + "[limits]\nrequests = 100\n")
+        notes = 250
+        ended = threading.Event()
+
+        def floods() -> None:
+            asks = [pb.Ask(wish=pb.Wish(instruments=["scope"])), *([pb.Ask(note=pb.Note(text="5"))] * notes), pb.Ask(let_go=pb.LetGo())]
+            with grpc.insecure_channel(broker.address) as channel:
+                self.told = [it.WhichOneof("told") for it in self.stream(channel, iter(asks))]
+            ended.set()
+
+        begun = time.monotonic()
+        threading.Thread(target=floods).start()
+        self.goes_on(self.lab(broker))
+        self.assertTrue(ended.wait(LIMIT))
+        self.assertEqual(self.told, ["held", *["noted"] * notes, "gone"])
+        # 252 messages, of which 100 may come at once
+        self.assertGreater(time.monotonic() - begun, 1.4)
+
+    def test_a_flood_of_status(self) -> None:
+        broker = self.broker(BAY + "[limits]\nrequests = 200\n")
+        with grpc.insecure_channel(broker.address) as channel:
+            status = channel.unary_unary("/labrun.broker.Broker/Status", pb.StatusWish.SerializeToString, pb.Bay.FromString)
+            calls = [status.future(pb.StatusWish()) for _ in range(500)]
+            self.goes_on(self.lab(broker))
+            codes = [it.code() for it in calls]
+        self.assertEqual(set(codes), {grpc.StatusCode.OK, grpc.StatusCode.RESOURCE_EXHAUSTED})
+
+    def test_a_stream_that_says_nothing(self) -> None:
+        broker = self.broker()
+        ended = threading.Event()
+
+        def nothing():  # type: ignore[no-untyped-def]
+            ended.wait(LIMIT)
+            yield from ()
+
+        with grpc.insecure_channel(broker.address) as channel:
+            calls = [self.stream(channel, nothing()) for _ in range(50)]
+            self.goes_on(self.lab(broker))
+            ended.set()
+            self.assertEqual([list(it) for it in calls], [[]] * 50)
+
+    def test_pace(self) -> None:
+        """Ten at once, and from there on ten a second."""
+        with unittest.mock.patch("time.monotonic", side_effect=[0.0] + [0.0] * 12 + [5.0, 5.0, 5.0]):
+            pace = Pace(10)
+            spans = [pace.span() for _ in range(12)]
+            self.assertEqual(spans[:10], [0.0] * 10)
+            self.assertAlmostEqual(spans[10], 0.1)
+            self.assertAlmostEqual(spans[11], 0.2)
+            self.assertEqual([pace.span(), pace.span(9), pace.span(5)], [0.0, 0.0, 0.5])
+
