@@ -1,0 +1,39 @@
+"""The bay's file: which instruments there are. It is the broker's, too, which knows more keys than the plugin looks at."""
+
+from __future__ import annotations
+
+import re
+import tomllib
+from pathlib import Path
+
+from .needs import is_name
+
+
+class BayFault(Exception):
+    """The file is no bay; the text names it, and what is wrong."""
+
+
+def read_bay(path: Path) -> tuple[str, ...]:
+    """The instruments of a file that has `instruments = ["scope", "supply"]`."""
+    try:
+        given = tomllib.loads(path.read_text(encoding="utf-8"))
+    except OSError as fault:
+        raise BayFault(f"{path}: {fault.strerror}") from None
+    except (tomllib.TOMLDecodeError, UnicodeDecodeError) as fault:
+        raise BayFault(f"{path}: {fault}") from None
+    names = given.get("instruments")
+    if not isinstance(names, list) or not names:
+        raise BayFault(f'{path}: a line `instruments = ["scope", "supply"]` is wanted')
+    for at, name in enumerate(names):
+        if not is_name(name):
+            raise BayFault(f"{path}{_line_of(path, name)}: {name!r} can't be an instrument's name: at most 16 letters a-z, digits and `-`, a letter first")
+        if name in names[:at]:
+            raise BayFault(f"{path}{_line_of(path, name)}: {name} is there twice")
+    return tuple(names)
+
+
+def _line_of(path: Path, name: object) -> str:
+    for at, line in enumerate(path.read_text(encoding="utf-8").splitlines(), 1):
+        if re.search(rf"""["']{re.escape(str(name))}["']""", line):
+            return f":{at}"
+    return ""

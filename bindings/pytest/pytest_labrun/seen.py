@@ -1,0 +1,90 @@
+"""What is seen of a run: a table at its end, a picture, a table of all sessions, and the bench's own report."""
+
+from __future__ import annotations
+
+import csv
+from collections import Counter
+from typing import Any, Optional, Sequence
+
+import pytest
+
+from .past import Held, Past
+from .picture import gantt
+
+_LEAST = 0.01  # seconds; a shorter wait is none
+
+
+def tell(terminal: Any, past: Past) -> None:
+    """The table, and behind `--durations` the longest waits."""
+    sessions = [it for it in past.sessions if it.instruments or it.waited]
+    if not sessions:
+        if terminal.config.getoption("lab_report"):
+            terminal.write_line("no test held an instrument")
+        return
+    terminal.write_sep("=", "instruments")
+    for line in table(sessions):
+        terminal.write_line(line)
+    most = terminal.config.getoption("durations")
+    if most is not None:
+        for held in sorted(_waiters(sessions), key=lambda it: -it.waited)[: most or None]:
+            terminal.write_line(f"{held.waited:.2f}s wait     {held.test}")
+
+
+def _waiters(sessions: Sequence[Held]) -> list[Held]:
+    return [it for it in sessions if it.waited >= _LEAST]
+
+
+def table(sessions: Sequence[Held]) -> list[str]:
+    """An instrument a line, the one that was waited for most first, and the waits in all."""
+    waited: Counter[str] = Counter()
+    for held in _waiters(sessions):
+        for name in held.kept or held.instruments:
+            waited[name] += held.waited  # type: ignore[assignment]
+    used = {name: [it for it in sessions if name in it.instruments] for name in sorted({name for it in sessions for name in it.instruments})}
+    ends = [it.let_go for it in sessions if it.let_go is not None]
+    span = max(ends, default=0.0) - min((it.asked for it in sessions), default=0.0)
+    wide = max((len(name) for name in used), default=0)
+    lines = []
+    for name in sorted(used, key=lambda name: (-waited[name], -sum(it.took for it in used[name]), name)):
+        took = sum(it.took for it in used[name])
+        share = f"{100 * took / span:.0f} %" if span else "-"
+        lines.append(f"{name:{wide}}  in use {took:.1f} s of {span:.1f} s ({share}), {len(used[name])} sessions, waited for {waited[name]:.1f} s")
+    return [*lines, _in_all(sessions)]
+
+
+def _in_all(sessions: Sequence[Held]) -> str:
+    waiters = _waiters(sessions)
+    if not waiters:
+        return "nobody waited"
+    longest = max(waiters, key=lambda it: it.waited)
+    whom = ", ".join(f"{name} ({by})" for name, by in longest.kept.items()) or ", ".join(longest.instruments)
+    total = sum(it.waited for it in waiters)
+    return f"waited {total:.1f} s in all, {len(waiters)} of {len(sessions)} sessions; the longest {longest.waited:.1f} s: {longest.test}, for {whom}"
+
+
+def write(config: pytest.Config, past: Past, reports: Optional[Sequence[str]]) -> None:
+    """The files that were asked for."""
+    folder = config.invocation_params.dir
+    picture, report = config.getoption("lab_gantt"), config.getoption("lab_report")
+    if picture:
+        (folder / picture).write_text(gantt(past.sessions), encoding="utf-8")
+    if report and report.endswith(".csv"):
+        with open(folder / report, "w", encoding="utf-8", newline="") as file:
+            csv.writer(file).writerows(rows(past.sessions))
+    elif report and reports:
+        *earlier, last = reports
+        (folder / report).write_text(last, encoding="ascii")
+        for number, text in enumerate(earlier, 1):
+            (folder / f"{report}.{number}").write_text(text, encoding="ascii")
+
+
+FIELDS = ("test", "worker", "instruments", "asked", "waited", "held", "end", "kept_by", "notes")
+
+
+def rows(sessions: Sequence[Held]) -> list[Sequence[object]]:
+    found: list[Sequence[object]] = [FIELDS]
+    for it in sessions:
+        kept = "; ".join(f"{name}: {by}" for name, by in it.kept.items())
+        times = [f"{seconds:.3f}" for seconds in (it.asked, it.waited, it.took)]
+        found.append([it.test, it.worker, " ".join(it.instruments), *times, it.end, kept, "; ".join(it.notes)])
+    return found

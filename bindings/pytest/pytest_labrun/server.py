@@ -1,0 +1,256 @@
+"""The controller's end: workers ask it for instruments over a Unix socket, a line of JSON for each word, and it holds for them.
+
+A worker sends `hello`, then `collected`, then `hold` and `let_go` by turns. A connection that ends lets go of what it held, and gives up what
+it waited for."""
+
+from __future__ import annotations
+
+import asyncio
+import contextlib
+import json
+import os
+import re
+import shutil
+import tempfile
+import threading
+from dataclasses import dataclass, field
+from typing import Any, Callable, Optional, Sequence
+
+from .labs import Lab, LabFault, Way
+from .past import Held, Past
+
+_LONGEST_LINE = 1 << 28
+_SEAT_WITHIN = 60.0
+
+
+@dataclass(frozen=True)
+class UnitTold:
+    """A unit as a worker tells of it: the numbers of its tests, and the sets of instruments of which it needs one."""
+
+    tests: tuple[int, ...]
+    ways: tuple[Way, ...]
+
+
+@dataclass
+class Dealt:
+    """What the scheduler knows of a test that it sends to a worker: since when the worker stood idle for it, what kept it, and the way that
+    is free now."""
+
+    since: Optional[float] = None
+    kept: dict[str, str] = field(default_factory=dict)
+    way: Optional[Way] = None
+
+
+class Server:
+    """It runs a loop on a thread of its own. `stop` ends all sessions."""
+
+    def __init__(self, make_lab: Callable[[], Lab], seats: int, past: Past) -> None:
+        self.past = past
+        self.seats = seats
+        self.units: Optional[tuple[UnitTold, ...]] = None
+        self.fault: Optional[str] = None
+        self.dealt: dict[str, Dealt] = {}
+        self.ticks: list[Callable[[], None]] = []
+        self.reports: list[str] = []
+        self._make_lab = make_lab
+        self._folder = tempfile.mkdtemp(prefix="labrun-")
+        self.path = os.path.join(self._folder, "lab.sock")
+        self._users: dict[str, Held] = {}
+        self._sitting: dict[int, Held] = {}
+        self._tasks: set[asyncio.Task[None]] = set()
+        self._is_up = threading.Event()
+        self._failed: Optional[BaseException] = None
+        self._thread = threading.Thread(target=self._run, name="labrun", daemon=True)
+
+    def start(self) -> None:
+        self._thread.start()
+        self._is_up.wait()
+        if self._failed is not None:
+            self._thread.join()
+            shutil.rmtree(self._folder, ignore_errors=True)
+            raise self._failed
+
+    def later(self, seconds: float, call: Callable[[], None]) -> None:
+        """Calls it on the loop after so many seconds. Any thread may ask."""
+        self._loop.call_soon_threadsafe(self._loop.call_later, seconds, call)
+
+    def stop(self) -> None:
+        if self._thread.is_alive():
+            self._loop.call_soon_threadsafe(self._ended.set)
+            self._thread.join()
+        shutil.rmtree(self._folder, ignore_errors=True)
+
+    def in_use(self) -> dict[str, str]:
+        """Who is at which instrument, as far as is known here. Any thread may ask."""
+        return {**self.lab.in_use(), **{name: held.test for name, held in list(self._users.items())}}
+
+    # what follows runs on the loop
+
+    def _run(self) -> None:
+        asyncio.run(self._serve())
+
+    async def _serve(self) -> None:
+        self._loop, self._ended = asyncio.get_running_loop(), asyncio.Event()
+        try:
+            self.lab = self._make_lab()
+            self._free: asyncio.Queue[int] = asyncio.Queue()
+            for seat in range(self.seats):
+                self._free.put_nowait(seat)
+            before = os.umask(0o177)
+            try:
+                server = await asyncio.start_unix_server(self._came, self.path, limit=_LONGEST_LINE)
+            finally:
+                os.umask(before)
+        except BaseException as fault:
+            self._failed = fault
+            self._is_up.set()
+            return
+        self._is_up.set()
+        while not self._ended.is_set():
+            with contextlib.suppress(asyncio.TimeoutError):
+                await asyncio.wait_for(self._ended.wait(), 0.2)
+            for tick in self.ticks:
+                tick()
+        server.close()
+        for task in self._tasks:
+            task.cancel()
+        await asyncio.gather(*self._tasks, return_exceptions=True)
+        self.reports = self.lab.close()
+
+    async def _came(self, reader: asyncio.StreamReader, writer: asyncio.StreamWriter) -> None:
+        task = asyncio.current_task()
+        assert task is not None
+        self._tasks.add(task)
+        try:
+            await _Worker(self, reader, writer).serve()
+        except (ConnectionError, asyncio.CancelledError):
+            pass
+        finally:
+            self._tasks.discard(task)
+            writer.close()
+
+    def collected(self, units: tuple[UnitTold, ...]) -> None:
+        """The first worker that has collected opens the lab, for the instruments that the tests use."""
+        if self.units is not None:
+            return
+        used = sorted({name for unit in units for way in unit.ways for name in way})
+        self.units = units
+        try:
+            if used:
+                self.lab.open(used, self.seats)
+        except (LabFault, ValueError, OSError) as fault:
+            self.fault = str(fault)
+
+    def kept(self, ways: Sequence[Way]) -> dict[str, str]:
+        """Which of these instruments are in use, each with who is at it; nothing if one of the ways is free."""
+        users = self.in_use()
+        if any(not users.keys() & set(way) for way in ways):
+            return {}
+        return {name: users[name] for way in ways for name in way if name in users}
+
+    def who(self, text: str) -> str:
+        """A text of the bench with the tests' names in place of its jobs'."""
+
+        def name(seat: re.Match[str]) -> str:
+            held = self._sitting.get(int(seat[1]))
+            return f"{held.test} ({held.worker})" if held else "a worker"
+
+        return re.sub(r"\bseat-(\d+)\b", name, text)
+
+
+class _Worker:
+    """The talk with one worker."""
+
+    def __init__(self, server: Server, reader: asyncio.StreamReader, writer: asyncio.StreamWriter) -> None:
+        self.server, self.reader, self.writer = server, reader, writer
+        self.name, self.seat = "?", -1
+        self.session: Optional[asyncio.Task[None]] = None
+        self.lets_go = asyncio.Event()
+        self.held: Optional[Held] = None
+        self.at: Any = None
+
+    def tell(self, **words: Any) -> None:
+        self.writer.write(json.dumps(words).encode() + b"\n")
+
+    async def serve(self) -> None:
+        try:
+            while line := await self.reader.readline():
+                words = json.loads(line)
+                await getattr(self, "on_" + words.pop("do"))(**words)
+        finally:
+            if self.session is not None:
+                self.session.cancel()
+                await asyncio.gather(self.session, return_exceptions=True)
+            if self.seat >= 0:
+                self.server._free.put_nowait(self.seat)
+
+    async def on_hello(self, name: str) -> None:
+        self.name = name
+        self.seat = await asyncio.wait_for(self.server._free.get(), _SEAT_WITHIN)
+        self.tell(ok=True)
+
+    async def on_collected(self, units: list[Any]) -> None:
+        self.server.collected(tuple(UnitTold(tuple(tests), tuple(map(tuple, ways))) for tests, ways in units))
+        self.tell(ok=True)
+
+    async def on_hold(self, test: str, ways: list[list[str]], timeout: Optional[float]) -> None:
+        self.lets_go.clear()
+        self.session = asyncio.create_task(self.holds(test, tuple(map(tuple, ways)), timeout))
+
+    async def on_let_go(self) -> None:
+        self.lets_go.set()
+
+    async def on_note(self, text: str) -> None:
+        if self.held is not None and self.at is not None:
+            self.held.notes.append(text)
+            # (a broker that can't write it down says so at the session's end)
+            with contextlib.suppress(Exception):
+                await self.server.lab.note(self.at, text)
+
+    async def holds(self, test: str, ways: tuple[Way, ...], timeout: Optional[float]) -> None:
+        """One session, from its asking until it lets go, or until this task is cancelled because its worker is gone."""
+        server, past = self.server, self.server.past
+        dealt = server.dealt.pop(test, Dealt())
+        if dealt.way in ways:
+            ways = (dealt.way, *(way for way in ways if way != dealt.way))
+        held = self.held = past.asks(test, self.name, ways[0] if len(ways) == 1 else (), dealt.since)
+        held.kept = dealt.kept or server.kept(ways)
+        try:
+            await self._holds(held, ways, timeout)
+        except TimeoutError as late:
+            held.end = "late"
+            keepers = "; ".join(str(keeper) for keeper in getattr(late, "keepers", ())) or str(late)
+            names = " or ".join(", ".join(way) for way in ways[:4])
+            self.tell(late=server.who(f"waited {past.now() - held.asked:.1f} s for {names}: {keepers}"))
+        except asyncio.CancelledError:
+            held.end = "gone"
+            raise
+        except Exception as fault:
+            held.end = "late" if held.held is None else "taken"
+            self.tell(fault=server.who(f"{type(fault).__name__}: {fault}"))
+        finally:
+            held.let_go = held.let_go or past.now()
+            server._sitting.pop(self.seat, None)
+            for name in held.instruments:
+                if server._users.get(name) is held:
+                    del server._users[name]
+        if held.end == "done":
+            self.tell(ok=True)
+
+    async def _holds(self, held: Held, ways: tuple[Way, ...], timeout: Optional[float]) -> None:
+        server, past = self.server, self.server.past
+        server._sitting[self.seat] = held
+        await server.lab.makes_room(self.seat)
+        left = None if timeout is None else max(0.0, timeout - (past.now() - held.asked))
+        async with server.lab.hold(f"{held.test} ({self.name})", self.seat, ways, left) as session:
+            held.held, self.at = past.now(), session
+            taken = next(at for at, way in enumerate(ways) if set(way) == set(session.instruments))
+            held.instruments = ways[taken]
+            server._users.update(dict.fromkeys(held.instruments, held))
+            if not held.instruments or held.waited < 0.01:
+                held.kept = {}
+            self.tell(held=held.instruments, waited=held.waited)
+            await self.lets_go.wait()
+            self.at = None
+        held.end, held.let_go = "done", past.now()
+        past.times.note(held)

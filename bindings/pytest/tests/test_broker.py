@@ -1,0 +1,105 @@
+"""Runs that hold at a labrun-broker, which others use, too."""
+
+from __future__ import annotations
+
+import os
+import subprocess
+import sys
+import time
+from pathlib import Path
+from typing import Iterator
+
+import pytest
+
+from .conftest import BINDINGS, NAMES, Run
+from .test_workers import SHARED, read
+
+pytest.importorskip("xdist")
+pytest.importorskip("grpc")
+if not (BINDINGS / "broker").is_dir() and "BROKER" not in os.environ:
+    pytest.skip("there is no broker beside the plugin", allow_module_level=True)
+
+BROKER = os.environ.get("BROKER", str(BINDINGS / "broker"))
+
+
+@pytest.fixture
+def broker(run: Run, tmp_path_factory: pytest.TempPathFactory, monkeypatch: pytest.MonkeyPatch) -> Iterator[str]:
+    """The address of a broker that keeps the bay, for guests."""
+    folder = tmp_path_factory.mktemp("b")
+    monkeypatch.setenv("PYTHONPATH", os.pathsep.join([os.environ["PYTHONPATH"], BROKER]))
+    names = ", ".join(f'"{name}"' for name in NAMES)
+    (folder / "bay.toml").write_text(f"instruments = [{names}]\n[guests]\ncount = 24\n")
+    address = f"unix:{folder}/bay.sock"
+    words = [sys.executable, "-m", "labrun_broker", "serve", "bay.toml", "--listen", address]
+    with open(folder / "log", "w", encoding="utf-8") as log:
+        process = subprocess.Popen(words, cwd=folder, stdout=log, stderr=log)
+    for _ in range(200):
+        if (folder / "bay.sock").exists() or process.poll() is not None:
+            break
+        time.sleep(0.05)
+    assert process.poll() is None, (folder / "log").read_text()
+    yield address
+    process.terminate()
+    process.wait(20)
+
+
+def test_alone(pytester: pytest.Pytester, run: Run, broker: str) -> None:
+    pytester.makepyfile(SHARED)
+    run("--lab-broker", broker, "--lab-report", "it.csv").assert_outcomes(passed=33)
+    assert {it["end"] for it in read(pytester.path / "it.csv")} == {"done"}
+
+
+def test_two_runs_at_once(pytester: pytest.Pytester, run: Run, broker: str) -> None:
+    """With three workers each, and somebody who holds by hand meanwhile. (The instruments refused nobody: the fixture `bay`.)"""
+    pytester.makepyfile(SHARED)
+    words = [sys.executable, "-m", "pytest", "-q", "-p", "pytest_labrun.plugin", "-p", "no:cacheprovider", "--lab-broker", broker, "-n", "3"]
+    rooms = [pytester.mkdir(name) for name in ("one", "other")]
+    runs = [subprocess.Popen([*words, f"--basetemp={room}/t"], cwd=pytester.path, stdout=subprocess.PIPE, text=True) for room in rooms]
+    hand = [sys.executable, "-m", "labrun_broker", "hold", "--broker", broker, "scope", "--", "sleep", "0.5"]
+    time.sleep(2)
+    assert subprocess.run(hand, timeout=60).returncode == 0
+    for one in runs:
+        told = one.communicate(timeout=60)[0]
+        assert one.returncode == 0 and "33 passed" in told, told
+
+
+def test_a_killed_worker_lets_go(pytester: pytest.Pytester, run: Run, broker: str) -> None:
+    pytester.makepyfile(
+        """
+        import os, signal
+        import pytest
+        pytestmark = pytest.mark.instruments("scope")
+
+        @pytest.mark.parametrize("number", range(5))
+        def test_it(number, talk, instruments):
+            instruments.note("here")
+            if number == 2:
+                os.kill(os.getpid(), signal.SIGKILL)
+        """
+    )
+    run("-n", "2", "--lab-broker", broker, "--lab-timeout", "20").assert_outcomes(passed=4, failed=1)
+
+
+def test_others_hold_what_a_test_needs(pytester: pytest.Pytester, run: Run, broker: str) -> None:
+    """It says whom it waits for, and the others run meanwhile."""
+    hand = [sys.executable, "-m", "labrun_broker", "hold", "--broker", broker, "scope", "--", "cat"]
+    process = subprocess.Popen(hand, stdin=subprocess.PIPE)
+    time.sleep(1.5)
+    pytester.makepyfile(SHARED)
+    done = run("-n", "2", "--lab-broker", broker, "--lab-timeout", "1", "-k", "test_any_load or test_without or number")
+    process.communicate(timeout=20)
+    outcomes = done.parseoutcomes()
+    assert outcomes["passed"] >= 1 and outcomes["errors"] >= 8
+    done.stdout.fnmatch_lines(["waited 1.? s for *scope*: *scope*held by guest-*"])
+
+
+def test_unknown_instruments_and_no_broker(pytester: pytest.Pytester, run: Run, broker: str, tmp_path: Path) -> None:
+    pytester.makepyfile("import pytest\n@pytest.mark.instruments('oven')\ndef test_it(): pass\n")
+    run("--lab-broker", broker).stdout.fnmatch_lines([f"*:2: unknown instrument 'oven': there are {', '.join(NAMES)}"])
+    run("--lab-broker", broker, "-n", "2").stdout.fnmatch_lines(["*:2: unknown instrument 'oven'*"])
+    done = run("--lab-broker", broker, "--lab-report", "it.txt")
+    done.stderr.fnmatch_lines(["ERROR: --lab-report it.txt: the broker has labrun's report; a name in .csv gives the table of sessions"])
+    for words in ((), ("-n", "2")):
+        done = run("--lab-broker", f"unix:{tmp_path}/none.sock", *words)
+        assert done.ret == pytest.ExitCode.USAGE_ERROR
+        done.stderr.fnmatch_lines([f"ERROR: --lab-broker unix:{tmp_path}/none.sock: *can't be reached*"])
