@@ -34,7 +34,7 @@ BAY = f'bay = "north"\ninstruments = {json.dumps(NAMES)}\n[guests]\ncount = {PRO
 
 # it says `did STATION SESSION` of each session that it has done
 PROGRAM = """
-import random, sys, time
+import os, random, sys, time
 sys.path.insert(0, sys.argv[1])
 import labrun_broker
 from instruments import Talk
@@ -53,7 +53,7 @@ with labrun_broker.connect(sys.argv[2]) as lab:
                 with Talk(int(ports[name])) as talk:
                     talk.ask("ADD 1")
                     time.sleep(chance.random() * 0.004)
-        print("did", held.station, held.number, flush=True)
+        os.write(1, f"did {held.station} {held.number}\\n".encode())
 """
 
 
@@ -63,13 +63,15 @@ class Programs:
     def __init__(self, broker: Broker, bay: Any, chance: random.Random) -> None:
         self.broker, self.chance = broker, chance
         self.ports = [f"{name}={port}" for name, port in bay.ports.items()]
-        self.said = open(f"{broker.folder}/said", "w+", encoding="ascii")
-        self.faults = open(f"{broker.folder}/faults", "w+", encoding="utf-8")
+        self.count = 0
         self.running = [self.begun() for _ in range(PROGRAMS)]
 
     def begun(self) -> subprocess.Popen[bytes]:
+        """Begins a program, whose files are its own: what two write to one may stand in the middle of each other's."""
+        self.count += 1
         words = [sys.executable, "-c", PROGRAM, f"{TOP}/examples/broker", self.broker.address, str(self.chance.random()), *self.ports]
-        return subprocess.Popen(words, stdout=self.said, stderr=self.faults)
+        with open(f"{self.broker.folder}/said-{self.count}", "wb") as said, open(f"{self.broker.folder}/faults-{self.count}", "wb") as faults:
+            return subprocess.Popen(words, stdout=said, stderr=faults)
 
     def kill_one(self) -> None:
         at = self.chance.randrange(PROGRAMS)
@@ -86,10 +88,13 @@ class Programs:
         """The statuses of those that ended by themselves, which none may."""
         return [status for one in self.running if (status := one.poll()) is not None]
 
-    def text(self, file: Any) -> str:
-        file.flush()
-        with open(file.name, encoding="utf-8") as again:
-            return again.read()
+    def text(self, of: str) -> str:
+        """What all of them wrote, line by line. (The last line of one that was killed may be cut.)"""
+        found = []
+        for path in glob.glob(f"{self.broker.folder}/{of}-*"):
+            with open(path, encoding="utf-8") as file:
+                found += [line for line in file if line.endswith("\n")]
+        return "".join(found)
 
 
 def patiently(call: Callable[..., Any], *given: Any) -> Any:
@@ -153,10 +158,8 @@ def kills(times: int, seed: int, brokers_too: bool = True, pause: float = 0.3) -
             until(lambda: is_idle(lab) or release_who_is_gone(lab, 0.0) * 0, "all is released")
             with lab.hold(*NAMES, timeout=LIMIT):
                 pass
-        faults = programs.text(programs.faults)
-        did = [tuple(line.split()[1:]) for line in programs.text(programs.said).splitlines() if line.startswith("did ")]
-        programs.said.close()
-        programs.faults.close()
+        faults = programs.text("faults")
+        did = [tuple(line.split()[1:]) for line in programs.text("said").splitlines()]
         broker.end()
         wrong = [f"a program ended: status {status}" for status in ended] + ([faults] if ended else [])
         if brokers_too:
