@@ -1,9 +1,10 @@
 #!/usr/bin/env python3
 """A broker with a journal whose sessions come one by one (`Job.hold`), and that turns pages, to be killed (bench/journal/kills).
 
-usage: hold_broker.py SCRIPT JOURNAL WORK REPORT SYNC NAME=PORT ..      as broker.py; of the script it takes what each job is to do, in what order
+usage: hold_broker.py SCRIPT JOURNAL WORK REPORT SYNC PAGE NAME=PORT ..      as broker.py; of the script it takes what each job is to do, in what order
 
-WORK says which of these session N is, not its number in the journal. At the end the report of the last page is in REPORT."""
+A page lasts PAGE seconds. WORK says which of these session N is, not its number in the journal. At the end the report of the last page is in
+REPORT."""
 
 import os
 import sys
@@ -40,7 +41,7 @@ def begun(work):
     return far
 
 
-def main(script, journal, work, report, sync, *ports):
+def main(script, journal, work, report, sync, page, *ports):
     at = dict(it.split("=") for it in ports)
     with open(script, encoding="ascii") as file:
         jobs = wishes(file.read())
@@ -73,7 +74,7 @@ def main(script, journal, work, report, sync, *ports):
             works(job.hold(commands=commands), number)
 
     def turns(bench):
-        while not ended.wait(0.02):
+        while not ended.wait(float(page)):
             bench.turn_page()
 
     print("opens", flush=True)
