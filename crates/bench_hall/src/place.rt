@@ -1,4 +1,5 @@
-//! A desk's place in the hall, where it rests while nobody has it.
+//! A desk's place in the hall, where it rests while nobody has it. Its word is an atomic of its own: each load, exchange and store of it is
+//! sequentially consistent (`counted_slot`), so whoever takes the desk sees all that was done at it before it was put back.
 ghost use Rattle.std.specs.Prelude.{◌≡◌, IfErr, IfSome};
 ghost use Rattle.bench_hall.specs.Places.{IsLike};
 
