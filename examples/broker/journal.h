@@ -105,6 +105,17 @@ static void journal_commit(struct journal *it, uint64_t number) {
 }
 
 /* Opens the bench of the script with its journal. Whether the file had one; the program ends if it can't be used. */
+/* A new file's name is on the disk too, before anything that it tells is acted on. */
+static void journal_name_stays(const char *path) {
+    char *folder = strdup(path);
+    if (!folder) journal_fails("memory");
+    char *last = strrchr(folder, '/');
+    if (last) last[last == folder] = 0;
+    int at = open(last ? folder : ".", O_RDONLY | O_DIRECTORY | O_CLOEXEC);
+    if (at < 0 || fsync(at) || close(at)) journal_fails(path);
+    free(folder);
+}
+
 static int journal_open(struct journal *it, const char *path, int syncs, const char *script, struct lab_bench *bench) {
     struct lab_told told = {0, 0, 0};
     struct stat found;
@@ -140,6 +151,7 @@ static int journal_open(struct journal *it, const char *path, int syncs, const c
     for (size_t at = head; at < it->written; at++) it->steps += text[at] != '#' && text[at - 1] == '\n';
     if (ftruncate(it->file, (off_t)it->written)) journal_fails(path); /* what hangs over */
     if (!is_there) journal_add(it, begins, head);
+    if (!is_there && syncs) journal_name_stays(path);
     journal_commit(it, journal_took(it, bench));
     free(text);
     free(begins);
