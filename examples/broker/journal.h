@@ -104,7 +104,6 @@ static void journal_commit(struct journal *it, uint64_t number) {
     pthread_mutex_unlock(&it->lock);
 }
 
-/* Opens the bench of the script with its journal. Whether the file had one; the program ends if it can't be used. */
 /* A new file's name is on the disk too, before anything that it tells is acted on. */
 static void journal_name_stays(const char *path) {
     char *folder = strdup(path);
@@ -116,6 +115,7 @@ static void journal_name_stays(const char *path) {
     free(folder);
 }
 
+/* Opens the bench of the script with its journal. Whether the file had one; the program ends if it can't be used. */
 static int journal_open(struct journal *it, const char *path, int syncs, const char *script, struct lab_bench *bench) {
     struct lab_told told = {0, 0, 0};
     struct stat found;
