@@ -18,6 +18,7 @@
 
 from __future__ import annotations
 
+import ipaddress
 import os
 import re
 import tomllib
@@ -77,6 +78,14 @@ class BayFault(ValueError):
 
 class BadAddress(ValueError):
     """The broker doesn't listen there."""
+
+
+def is_here(host: str) -> bool:
+    """Whether it is seen by this machine alone."""
+    try:
+        return host == "localhost" or ipaddress.ip_address(host).is_loopback
+    except ValueError:
+        return False
 
 
 def read_bay(path: Path) -> Bay:

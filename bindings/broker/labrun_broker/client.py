@@ -404,19 +404,18 @@ def _why(lab: Lab, code: Any, text: str) -> Exception:
     return NotHeld(text) if code is grpc.StatusCode.FAILED_PRECONDITION else BrokerError(text)
 
 
-def _as_dict(bay: Any) -> dict[str, Any]:
+def _as_dict(message: Any) -> dict[str, Any]:
     """With a None where nothing is said, as the broker's own has it."""
-    from google.protobuf import json_format
-
-    given: dict[str, Any] = json_format.MessageToDict(bay, including_default_value_fields=True, preserving_proto_field_name=True)
-    for one in (*given["instruments"], *given["stations"], *(it for station in given["stations"] for it in station["waits_for"]), *given["in_line"]):
-        kind = {"waiting": pb.Instrument, "state": pb.Station, "holds": pb.Keeper}
-        fields = next((it for key, it in kind.items() if key in one), pb.InLine).DESCRIPTOR.fields
-        for field in fields:
-            one.setdefault(field.name, None)
-    for key in ("sessions", "refusals"):
-        given[key] = int(given[key])
-    return given
+    found: dict[str, Any] = {}
+    for field in message.DESCRIPTOR.fields:
+        value, is_message = getattr(message, field.name), field.message_type is not None
+        if field.label == field.LABEL_REPEATED:
+            found[field.name] = [_as_dict(it) if is_message else it for it in value]
+        elif field.has_presence and not message.HasField(field.name):
+            found[field.name] = None
+        else:
+            found[field.name] = _as_dict(value) if is_message else value
+    return found
 
 
 class Held:

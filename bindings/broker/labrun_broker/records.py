@@ -6,6 +6,7 @@ its ticket, and by whom. The records say the same, and the rest, for people."""
 from __future__ import annotations
 
 import asyncio
+import collections
 import hashlib
 import json
 import os
@@ -14,8 +15,8 @@ from typing import Any, Callable, Optional
 
 Record = dict[str, Any]
 
-# a sync that takes less time than this is done at once: a thread would cost as much
-QUICK = 0.0005
+# a sync is done at once, because a thread would cost as much, unless the last ones each took longer than this
+QUICK, LAST = 0.0005, 4
 # what nobody waits for is on the disk after so many seconds
 SOON = 0.02
 
@@ -73,7 +74,7 @@ class Disk:
         self._waiting: list[asyncio.Future[None]] = []
         self._is_asked = self._is_busy = self._takes_all = False
         self._timer: Optional[asyncio.TimerHandle] = None
-        self._took = 0.0
+        self._took = collections.deque([0.0], LAST)
 
     async def synced(self, takes_all: bool = False) -> None:
         """Returns once all that was written to the journal, or to all files, is on the disk."""
@@ -103,7 +104,7 @@ class Disk:
     def _begin(self, loop: asyncio.AbstractEventLoop) -> None:
         files, waiting = self.files[: None if self._takes_all else 1], self._waiting
         self._waiting, self._is_asked, self._takes_all = [], False, False
-        if self._took < QUICK:
+        if min(self._took) < QUICK:
             self._sync(files, loop)
             self._ends(waiting)
             return
@@ -124,7 +125,7 @@ class Disk:
                 os.fdatasync(file)
         except OSError as fault:
             self.fault = fault
-        self._took = loop.time() - begun
+        self._took.append(loop.time() - begun)
 
     def _ends(self, waiting: list[asyncio.Future[None]]) -> None:
         if self.fault is not None:

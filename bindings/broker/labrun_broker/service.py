@@ -10,7 +10,6 @@ import builtins
 import collections
 import contextlib
 import hmac
-import ipaddress
 import os
 import secrets
 import shutil
@@ -26,6 +25,7 @@ from google.protobuf import json_format
 
 from . import broker_pb2 as pb
 from .bay import BadAddress as BadAddress
+from .bay import is_here
 from .keeping import BadWish, Ended, Keeping, Seat, Wish
 
 # when a client that waits is told for whom, and when again if that has changed
@@ -347,12 +347,7 @@ def is_loopback(address: str) -> bool:
     host, colon, port = address.rpartition(":")
     if not colon or not port.isdigit():
         raise BadAddress(f"{address}: unix:PATH or HOST:PORT is wanted")
-    if host == "localhost":
-        return True
-    try:
-        return ipaddress.ip_address(host.strip("[]")).is_loopback
-    except ValueError:
-        return False
+    return is_here(host.strip("[]"))
 
 
 async def start(keeping: Keeping, door: Door) -> Any:
