@@ -135,6 +135,10 @@ class _Stream:
         self._answers: asyncio.Queue[Union[tuple[str, Any], Exception]] = asyncio.Queue()
         self._reader = asyncio.create_task(self._reads())
 
+    @property
+    def is_lost(self) -> bool:
+        return self._lost is not None
+
     async def opens(self) -> None:
         """Returns once the broker has let the client in."""
         try:
@@ -513,8 +517,12 @@ class Held:
         except BaseException:
             self.state = "withdrawn"
             raise
+        # (it may have been taken away, or the stream have ended, just now)
+        self._raises_taken()
         self.state = "held"
         self.lab._held.add(self)
+        if self._stream is not None and self._stream.is_lost:
+            self._is_cut()
 
     async def _comes_to_hold(self, loop: asyncio.AbstractEventLoop, until: Optional[float], lost_at: Optional[float]) -> bool:
         """Whether it holds; if not, the stream ended, and it is worth another try."""
@@ -576,10 +584,13 @@ class Held:
         wish = pb.Wish(ticket=self._wish.ticket, by=self._wish.by, comes_back=True)
         while True:
             stream = _Stream(self.lab)
+            stream.session = self
             try:
                 kind, told = await stream.asks(wish=wish)
-                if kind == "held":
-                    stream.session, self._returns = self, None
+                if self.state != "held":  # it was taken away just now
+                    return
+                if kind == "held" and not stream.is_lost:
+                    self._returns = None
                     return self._holds(stream, told)
                 if kind == "fault":
                     was_done = told.kind == "LetGo" and "let_go" in self._asked
@@ -621,6 +632,7 @@ class Held:
             try:
                 kind, told = await stream.asks(**what)
             except _Lost:
+                self._is_cut()
                 if self._returns is None:
                     raise NotHeld("the lab is closed") from None
                 continue
