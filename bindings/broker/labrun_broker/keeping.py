@@ -117,7 +117,7 @@ class Keeping:
         # a sync failed: nobody knows what is on the disk, so the broker is to end, and another takes up what is there
         self.is_broken = asyncio.Event()
         self._disk = Disk(self.is_broken.set)
-        self._journal_file = -1
+        self._journal_file = self._lock = -1
         self._commands = 0
         self._is_closed = False
         self._last_page: Optional[labrun.Page] = None
@@ -243,6 +243,8 @@ class Keeping:
         if self.state is None:
             self._reports[self.page] = report.text
         self._close_files()
+        if self._lock >= 0:
+            os.close(self._lock)
 
     def _now(self) -> float:
         return asyncio.get_running_loop().time()
