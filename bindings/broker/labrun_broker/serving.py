@@ -6,7 +6,7 @@ import asyncio
 import logging
 import re
 import socket
-from typing import Any, Awaitable, Callable, Union
+from typing import Any, AsyncIterator, Awaitable, Callable, Coroutine, Union
 
 from .bay import BadAddress, is_here
 
@@ -54,6 +54,18 @@ async def only_from_here(request: web.Request, handler: Callable[[web.Request], 
     if request.app[IS_TCP] and not is_here(name.strip("[]")):
         raise web.HTTPForbidden(text="this page is asked for by its own address only, as 127.0.0.1\n", headers=HEADERS)
     return await handler(request)
+
+
+def runs_beside(app: web.Application, work: Callable[[], Coroutine[Any, Any, None]]) -> None:
+    """Some work goes on as long as the server does."""
+
+    async def beside(_: web.Application) -> AsyncIterator[None]:
+        task = asyncio.ensure_future(work())
+        yield
+        task.cancel()
+        await asyncio.gather(task, return_exceptions=True)
+
+    app.cleanup_ctx.append(beside)
 
 
 class Refusing(asyncio.Protocol):
