@@ -270,7 +270,7 @@ class Words(unittest.TestCase):
             status, _, err = ran("gantt", folder, "--to", folder + "/no/where.svg")
             self.assertEqual((status, "No such file" in err), (1, True))
         with self.assertRaises(SystemExit), contextlib.redirect_stderr(io.StringIO()) as err:
-            ran("table", "x", "--last", "yesterday")
+            main(["table", "x", "--last", "yesterday"])
         self.assertIn("write 90, 30s, 15min, 4h or 2d", err.getvalue())
 
 
