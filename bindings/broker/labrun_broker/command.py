@@ -100,6 +100,8 @@ async def serve(args: argparse.Namespace) -> int:
     bay = read_bay(args.bay)
     _, hard = resource.getrlimit(resource.RLIMIT_NOFILE)
     resource.setrlimit(resource.RLIMIT_NOFILE, (hard, hard))
+    # (the thread that syncs a slow disk isn't to wait for the interpreter's lock when it is through)
+    sys.setswitchinterval(0.0005)
     door = service.Door(tuple(args.listen or (DEFAULT,)), args.tls_certificate, args.tls_key, args.token_file, args.group)
     door.check()
     keeping = Keeping(bay, args.state, args.grace, args.sync == "data")

@@ -275,7 +275,7 @@ class Keeping:
         if waits is not None:
             waits(seat)
         try:
-            await self._comes_to_hold(seat, wish, until)
+            await self._comes_to_hold(seat, wish, ticket, until)
             await self._on_disk()
         except BaseException as fault:
             if seat.owner is owner:
@@ -328,7 +328,7 @@ class Keeping:
             return f"all {len(seats)} guests of the bay are taken: " + ", ".join(f"{seat.name} by {seat.by or 'somebody'}" for seat in seats)
         return f"{line} is in a session of {seats[0].by or 'somebody'}, and is in one at a time"
 
-    async def _comes_to_hold(self, seat: Seat, wish: Wish, until: Optional[float]) -> None:
+    async def _comes_to_hold(self, seat: Seat, wish: Wish, ticket: str, until: Optional[float]) -> None:
         seat.state, seat.since, seat.by, seat.note, seat.gone_at = "waiting", self._now(), wish.by or None, None, None
         seat.instruments = wish.instruments or tuple(dict.fromkeys(name for choice in wish.any_of for name in choice))
         self._record("asked", seat)
@@ -341,11 +341,11 @@ class Keeping:
                 await self._new_page(until)
         self._takes_up_page()
         seat.instruments, seat.state, seat.since = session.instruments, "holding", self._now()
-        seat.ticket = hashed(wish.ticket)
-        if seat.ticket:
-            self._tickets[seat.ticket] = seat
+        seat.ticket = ticket
+        if ticket:
+            self._tickets[ticket] = seat
         if self._journal_file >= 0:
-            session.note(f"{GIVES} {seat.ticket} {wish.by}")
+            session.note(f"{GIVES} {ticket} {wish.by}")
         self._counts(seat)
         self._record("held", seat, ticket=seat.ticket)
 

@@ -15,6 +15,8 @@ from typing import Any, Callable, Optional
 
 Record = dict[str, Any]
 
+LINE = json.JSONEncoder(separators=(",", ":"))
+
 # a sync is done at once, because a thread would cost as much, unless the last ones each took longer than this
 QUICK, LAST = 0.0005, 4
 # what nobody waits for is on the disk after so many seconds
@@ -41,7 +43,7 @@ class Records:
     def add(self, record: Record) -> None:
         if not self._waiting:
             asyncio.get_running_loop().call_soon(self._write_quietly)
-        self._waiting += json.dumps(record, separators=(",", ":")).encode() + b"\n"
+        self._waiting += LINE.encode(record).encode() + b"\n"
 
     def write(self) -> None:
         """OSError: what isn't written is kept, and tried again."""
