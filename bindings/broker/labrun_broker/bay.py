@@ -3,7 +3,7 @@
     bay = "north"
     instruments = ["scope", "supply", "load-1", "load-2"]
     gone = "keep"                       # or "release": what becomes of a session whose client is gone for longer than the grace
-    overtakes = 16                      # so many sessions may go before one that asks; fewer make for shorter waits, more for more sessions
+    overtakes = 16                      # so many sessions may go before one that asks; without, as many as there are stations and guests
 
     [stations]
     board = ["scope", "supply"]
@@ -18,11 +18,12 @@
 
 from __future__ import annotations
 
+import ipaddress
 import os
 import re
 import tomllib
 from dataclasses import dataclass, field
-from typing import Any, Union
+from typing import Any, Optional, Union
 
 # what the library can take
 MOST_JOBS, MOST_INSTRUMENTS, MOST_IN_COMMON, NAME_LENGTH = 32, 56, 28, 16
@@ -54,8 +55,8 @@ class Bay:
     guests_use: tuple[str, ...] = ()
     gone: str = "keep"
     limits: Limits = Limits()
-    # so many sessions at most may go before one that asks (`Bench.new`)
-    overtakes: int = 16
+    # so many sessions at most may go before one that asks (`Bench.new`); if nothing is said, as if each of the others went once
+    overtakes: Optional[int] = None
 
     @property
     def guest_names(self) -> tuple[str, ...]:
@@ -77,6 +78,14 @@ class BayFault(ValueError):
 
 class BadAddress(ValueError):
     """The broker doesn't listen there."""
+
+
+def is_here(host: str) -> bool:
+    """Whether it is seen by this machine alone."""
+    try:
+        return host == "localhost" or ipaddress.ip_address(host).is_loopback
+    except ValueError:
+        return False
 
 
 def read_bay(path: Path) -> Bay:
@@ -128,7 +137,7 @@ class _Reader:
         gone = self.given.get("gone", "keep")
         if gone not in GONE:
             self.fault("gone", '"keep" or "release" is wanted')
-        overtakes = self.number("overtakes", self.given.get("overtakes", Bay.overtakes), 0)
+        overtakes = self.number("overtakes", self.given["overtakes"], 0) if "overtakes" in self.given else None
         bay = Bay(str(name), instruments, stations, guests, guests_use, str(gone), self.limits(), overtakes)
         self.fits(bay)
         return bay

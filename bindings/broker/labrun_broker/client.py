@@ -34,7 +34,7 @@ GRACE = 60.0
 PAUSE = 0.1  # between such tries
 # a question that a broker doesn't answer for so long won't be answered
 ANSWER = 30.0
-CLOSING = 3.0
+CLOSING, GIVING_UP = 3.0, 0.5
 SERVICE = "/labrun.broker.Broker/"
 
 OPTIONS = [
@@ -42,7 +42,7 @@ OPTIONS = [
     ("grpc.keepalive_time_ms", 10000),
     ("grpc.keepalive_timeout_ms", 5000),
     ("grpc.initial_reconnect_backoff_ms", 100),
-    ("grpc.min_reconnect_backoff_ms", 500),
+    ("grpc.min_reconnect_backoff_ms", 5000),
     ("grpc.max_reconnect_backoff_ms", 1000),
     ("grpc.enable_http_proxy", 0),
 ]
@@ -125,40 +125,91 @@ AGAIN = (grpc.StatusCode.UNAVAILABLE, grpc.StatusCode.CANCELLED, grpc.StatusCode
 
 
 class _Stream:
-    """One stream to the broker."""
+    """One stream to the broker. It serves one session after another, and reads for it what the broker says."""
 
     def __init__(self, lab: Lab) -> None:
-        self._call = lab._method("Hold")(metadata=lab._metadata)
+        self._lab, self._call = lab, lab._methods["Hold"](metadata=lab._metadata)
+        self.session: Optional[Held] = None
+        self.is_open = False
+        self._lost: Optional[_Lost] = None
+        self._answers: asyncio.Queue[Union[tuple[str, Any], Exception]] = asyncio.Queue()
+        self._reader = asyncio.create_task(self._reads())
+
+    @property
+    def is_lost(self) -> bool:
+        return self._lost is not None
 
     async def opens(self) -> None:
         """Returns once the broker has let the client in."""
         try:
             await self._call.wait_for_connection()
+            self.is_open = True
         except grpc.RpcError:
-            raise await self._lost() from None
+            await self._reader
+            await self._answer()
 
-    async def ask(self, **what: Any) -> None:
-        try:
+    async def asks(self, **what: Any) -> tuple[str, Any]:
+        """What the broker answers. _Lost: the stream ended."""
+        with contextlib.suppress(grpc.RpcError, asyncio.InvalidStateError):  # (whoever reads sees that, too)
             await self._call.write(pb.Ask(**what))
-        except (grpc.RpcError, asyncio.InvalidStateError):
-            raise await self._lost() from None
+        return await self._answer()
 
-    async def told(self) -> tuple[str, Any]:
+    async def _answer(self) -> tuple[str, Any]:
+        if self._lost is not None:
+            raise self._lost
+        answer = await self._answers.get()
+        if isinstance(answer, Exception):
+            raise answer
+        return answer
+
+    async def gives_up(self) -> None:
+        """The session waits no longer. If it came to hold just now, it lets go."""
         try:
-            told = await self._call.read()
-        except grpc.RpcError:
-            raise await self._lost() from None
-        if told is grpc.aio.EOF:
-            raise await self._lost()
-        kind = told.WhichOneof("told")
-        return kind, getattr(told, kind)
+            async with asyncio.timeout(GIVING_UP if self.is_open else 0):
+                kind, _ = await self.asks(let_go=pb.LetGo())
+                while kind != "gone":
+                    kind, _ = await self._answer()
+            self.is_idle()
+        except (_Lost, builtins.TimeoutError):
+            self.cancel()
 
-    async def _lost(self) -> _Lost:
-        self._call.cancel()
-        return _Lost(await self._call.code(), str(await self._call.details()))
+    def is_idle(self) -> None:
+        self.session = None
+        self._lab._idle.append(self)
 
     def cancel(self) -> None:
+        self.session = None
         self._call.cancel()
+
+    async def _reads(self) -> None:
+        try:
+            while (told := await self._call.read()) is not grpc.aio.EOF:
+                self.is_open, kind = True, told.WhichOneof("told")
+                self._is_told(kind, getattr(told, kind))
+        except grpc.RpcError:
+            pass
+        self._call.cancel()
+        self._lost = _Lost(await self._call.code(), str(await self._call.details()))
+        self.ends(self._lost)
+        if self in self._lab._idle:
+            self._lab._idle.remove(self)
+        if self.session is not None:
+            self.session._is_cut()
+
+    def _is_told(self, kind: str, told: Any) -> None:
+        if kind == "taken" and self.session is not None:
+            self.session._is_taken(self, _raised(told))
+        elif kind == "waits" and self.session is not None:
+            try:
+                self.session._waits_for(told.text)
+            except Exception as fault:
+                self.ends(fault)
+        else:
+            self._answers.put_nowait((kind, told))
+
+    def ends(self, fault: Exception) -> None:
+        """Whoever asks gets this fault."""
+        self._answers.put_nowait(fault)
 
 
 # (gRPC wants one loop in a process)
@@ -231,7 +282,7 @@ class Lab:
         self._held: set[Held] = set()
         self._loop = _loop_of_this_process()
         self._process = os.getpid()
-        self._was_there = self._is_closed = False
+        self._was_there = self._is_closed = self._has_left = False
         self._run(self._open())
         atexit.register(self._at_exit)
 
@@ -249,9 +300,6 @@ class Lab:
             "Hold": (self._channel.stream_stream, pb.Ask, pb.Told),
         }
         self._methods = {name: kind(SERVICE + name, wish.SerializeToString, answer.FromString) for name, (kind, wish, answer) in kinds.items()}
-
-    def _method(self, name: str) -> Any:
-        return self._methods[name]
 
     def _run(self, work: Coroutine[Any, Any, Result]) -> Result:
         """Waits for work on the lab's loop; an interrupt cancels it, and waits for that."""
@@ -288,7 +336,7 @@ class Lab:
             self._loop.call_soon_threadsafe(call.cancel)
 
     async def _watch(self) -> Any:
-        return self._method("Watch")(pb.StatusWish(), metadata=self._metadata)
+        return self._methods["Watch"](pb.StatusWish(), metadata=self._metadata)
 
     def release(self, station: str) -> tuple[str, ...]:
         """Ends the session that a station holds, for its owner. First see that nobody is at the instruments."""
@@ -305,7 +353,7 @@ class Lab:
 
     async def _unary(self, name: str, wish: Any, within: Optional[float] = ANSWER) -> Any:
         try:
-            answer = await self._method(name)(wish, metadata=self._metadata, timeout=within)
+            answer = await self._methods[name](wish, metadata=self._metadata, timeout=within)
             self._was_there = True
             return answer
         except grpc.aio.AioRpcError as fault:
@@ -325,7 +373,9 @@ class Lab:
                 for held in list(self._held):
                     if lets_go:
                         await held._let_go(None)
-                    held._reader.cancel()
+                    if held._returns is not None:
+                        held._returns.cancel()
+        self._has_left = True
         with contextlib.suppress(builtins.TimeoutError):
             async with asyncio.timeout(CLOSING):
                 await self._channel.close()
@@ -358,19 +408,18 @@ def _why(lab: Lab, code: Any, text: str) -> Exception:
     return NotHeld(text) if code is grpc.StatusCode.FAILED_PRECONDITION else BrokerError(text)
 
 
-def _as_dict(bay: Any) -> dict[str, Any]:
+def _as_dict(message: Any) -> dict[str, Any]:
     """With a None where nothing is said, as the broker's own has it."""
-    from google.protobuf import json_format
-
-    given: dict[str, Any] = json_format.MessageToDict(bay, including_default_value_fields=True, preserving_proto_field_name=True)
-    for one in (*given["instruments"], *given["stations"], *(it for station in given["stations"] for it in station["waits_for"]), *given["in_line"]):
-        kind = {"waiting": pb.Instrument, "state": pb.Station, "holds": pb.Keeper}
-        fields = next((it for key, it in kind.items() if key in one), pb.InLine).DESCRIPTOR.fields
-        for field in fields:
-            one.setdefault(field.name, None)
-    for key in ("sessions", "refusals"):
-        given[key] = int(given[key])
-    return given
+    found: dict[str, Any] = {}
+    for field in message.DESCRIPTOR.fields:
+        value, is_message = getattr(message, field.name), field.message_type is not None
+        if field.label == field.LABEL_REPEATED:
+            found[field.name] = [_as_dict(it) if is_message else it for it in value]
+        elif field.has_presence and not message.HasField(field.name):
+            found[field.name] = None
+        else:
+            found[field.name] = _as_dict(value) if is_message else value
+    return found
 
 
 class Held:
@@ -385,6 +434,10 @@ class Held:
         self._stream: Optional[_Stream] = None
         self._taken: Optional[Exception] = None
         self._grace: Optional[float] = None
+        # what its owner asks now, and since when; and who looks for another stream
+        self._asked: dict[str, Any] = {}
+        self._asked_at = 0.0
+        self._returns: Optional[asyncio.Task[None]] = None
         # it is called, on another thread, if the session was taken away while its owner works
         self.on_taken: Optional[Callable[[Exception], None]] = None
 
@@ -457,140 +510,145 @@ class Held:
         loop = asyncio.get_running_loop()
         self._wish.ticket, self._taken, self.state = secrets.token_urlsafe(), None, "waiting"
         until = None if self.timeout is None else loop.time() + self.timeout
+        lost_at: Optional[float] = None
         try:
-            await self._comes_to_hold(loop, until)
+            while not await self._comes_to_hold(loop, until, lost_at):
+                lost_at = lost_at or loop.time()
         except BaseException:
             self.state = "withdrawn"
             raise
-        self._answer: Optional[asyncio.Future[None]] = None
-        self._asked: dict[str, Any] = {}
-        self._asked_at = 0.0
+        # (it may have been taken away, or the stream have ended, just now)
+        self._raises_taken()
         self.state = "held"
         self.lab._held.add(self)
-        self._reader = loop.create_task(self._keeps(loop))
+        if self._stream is not None and self._stream.is_lost:
+            self._is_cut()
 
-    async def _comes_to_hold(self, loop: asyncio.AbstractEventLoop, until: Optional[float]) -> None:
-        lost_at: Optional[float] = None
-        while True:
-            is_new = not self.lab._idle
-            stream = _Stream(self.lab) if is_new else self.lab._idle.pop()
-            try:
-                if is_new:
-                    await stream.opens()
-                    self.lab._was_there = True
-                if until is not None:
-                    self._wish.timeout = max(0.0, until - loop.time())
-                await stream.ask(wish=self._wish)
-                await self._is_told(stream)
-                return
-            except _Lost as lost:
-                # (one that was idle may be of a broker that is gone)
-                lost_at = lost_at or loop.time()
-                is_over = loop.time() > lost_at + GRACE or until is not None and loop.time() > until
-                if is_new and (lost.code not in AGAIN or not self.lab._was_there or is_over):
-                    raise _why(self.lab, lost.code, str(lost)) from None
-                if is_new:
-                    await asyncio.sleep(PAUSE)
-            except BaseException:
-                if stream not in self.lab._idle:
-                    stream.cancel()
-                raise
-
-    async def _is_told(self, stream: _Stream) -> None:
-        """Reads on until the session holds."""
-        while True:
-            kind, told = await stream.told()
-            if kind == "held":
-                self._holds(stream, told)
-                return
-            if kind == "waits" and self._waits is not None:
-                self._waits(told.text)
-            elif kind == "fault":
-                self.lab._idle.append(stream)
-                raise _raised(told)
+    async def _comes_to_hold(self, loop: asyncio.AbstractEventLoop, until: Optional[float], lost_at: Optional[float]) -> bool:
+        """Whether it holds; if not, the stream ended, and it is worth another try."""
+        lab = self.lab
+        is_new = not lab._idle
+        stream = _Stream(lab) if is_new else lab._idle.pop()
+        stream.session = self
+        try:
+            if is_new:
+                await stream.opens()
+                lab._was_there = True
+            if until is not None:
+                self._wish.timeout = max(0.0, until - loop.time())
+            kind, told = await stream.asks(wish=self._wish)
+        except _Lost as lost:
+            # (one that was idle may be of a broker that is gone)
+            is_over = lost_at is not None and loop.time() > lost_at + GRACE or until is not None and loop.time() > until
+            if is_new and (lost.code not in AGAIN or not lab._was_there or is_over):
+                raise _why(lab, lost.code, str(lost)) from None
+            if is_new:
+                await asyncio.sleep(PAUSE)
+            return False
+        except asyncio.CancelledError:
+            await stream.gives_up()
+            raise
+        except BaseException:
+            stream.cancel()
+            raise
+        if kind == "fault":
+            stream.is_idle()
+            raise _raised(told)
+        self._holds(stream, told)
+        return True
 
     def _holds(self, stream: _Stream, told: Any) -> None:
         self._stream, self._grace = stream, told.grace if told.HasField("grace") else None
         self.instruments, self.station, self.number = tuple(told.instruments), told.station, told.session
 
-    async def _keeps(self, loop: asyncio.AbstractEventLoop) -> None:
-        """Reads what the broker says while the session is held, and comes back if the stream ends."""
-        assert self._stream is not None
-        while True:
-            try:
-                kind, told = await self._stream.told()
-            except _Lost:
-                if await self._comes_back(loop):
-                    continue
-                return
-            if kind == "taken":
-                return self._is_over("taken", _raised(told))
-            if kind == "gone":
-                self.lab._idle.append(self._stream)
-                return self._is_over("finished", None)
-            self._answers(_raised(told) if kind == "fault" else None)
+    def _waits_for(self, text: str) -> None:
+        if self._waits is not None:
+            self._waits(text)
 
-    async def _comes_back(self, loop: asyncio.AbstractEventLoop) -> bool:
-        """Whether the session goes on to hold, on another stream. It is tried while the broker keeps the session, or for so long as an owner
-        waits who asked for something."""
+    def _is_taken(self, stream: _Stream, fault: Exception) -> None:
+        is_asked = bool(self._asked)
+        if is_asked:
+            stream.ends(fault)
+        self._is_over("taken", None if is_asked else fault)
+        stream.cancel()
+
+    def _is_cut(self) -> None:
+        """The stream ended. A session that is held comes back on another one, while its owner works."""
+        if self.state == "held" and self._returns is None and not self.lab._has_left:
+            self._returns = asyncio.create_task(self._comes_back(asyncio.get_running_loop()))
+
+    async def _comes_back(self, loop: asyncio.AbstractEventLoop) -> None:
+        """The session goes on to hold, on another stream, or is over. It is tried while the broker keeps the session, or for so long as an
+        owner waits who asked for something."""
         until = None if self._grace is None else loop.time() + self._grace
         wish = pb.Wish(ticket=self._wish.ticket, by=self._wish.by, comes_back=True)
         while True:
             stream = _Stream(self.lab)
+            stream.session = self
             try:
-                await stream.ask(wish=wish)
-                kind, told = await stream.told()
-                if kind == "held":
-                    self._holds(stream, told)
-                    if self._answer is not None:
-                        await stream.ask(**self._asked)
-                    return True
+                kind, told = await stream.asks(wish=wish)
+                if self.state != "held":  # it was taken away just now
+                    return
+                if kind == "held" and not stream.is_lost:
+                    self._returns = None
+                    return self._holds(stream, told)
                 if kind == "fault":
                     was_done = told.kind == "LetGo" and "let_go" in self._asked
-                    self._is_over("finished" if was_done else "taken", None if was_done else _raised(told))
-                    return False
+                    return self._is_over("finished" if was_done else "taken", None if was_done else _raised(told))
             except _Lost as lost:
                 now = loop.time()
-                is_late = until is not None and now > until or self._answer is not None and now > self._asked_at + GRACE
+                is_late = until is not None and now > until or bool(self._asked) and now > self._asked_at + GRACE
                 if lost.code not in AGAIN or is_late:
-                    self._is_over("lost", _why(self.lab, lost.code, str(lost)))
-                    return False
+                    return self._is_over("lost", _why(self.lab, lost.code, str(lost)))
             stream.cancel()
             await asyncio.sleep(PAUSE)
 
-    def _answers(self, fault: Optional[Exception]) -> None:
-        answer, self._answer = self._answer, None
-        if answer is None or answer.done():
-            return
-        if fault is None:
-            answer.set_result(None)
-        else:
-            answer.set_exception(fault)
-
     def _is_over(self, state: str, fault: Optional[Exception]) -> None:
-        self.state, self._taken, self._stream = state, fault, None
+        self.state, self._taken, self._stream, self._returns = state, fault, None, None
         self.lab._held.discard(self)
-        waits = self._answer is not None
-        self._answers(fault)
-        if fault is not None and not waits and self.on_taken is not None:
+        if fault is not None and not self._asked and self.on_taken is not None:
             self.on_taken(fault)
 
     async def _ask(self, **what: Any) -> None:
         """Asks, and waits for the answer; if the stream ends meanwhile it is asked again on the next one."""
+        self._raises_taken()
+        if self.state != "held":
+            raise NotHeld(f"the session is {self.state}: it doesn't hold its instruments")
+        if self._asked:
+            raise labrun.LabrunError("another thread asks something of this session")
+        self._asked, self._asked_at = what, asyncio.get_running_loop().time()
+        try:
+            await self._is_answered(what)
+        finally:
+            self._asked = {}
+
+    async def _is_answered(self, what: dict[str, Any]) -> None:
+        while self.state == "held":
+            if self._returns is not None:
+                await asyncio.shield(self._returns)
+                continue
+            stream = self._stream
+            assert stream is not None
+            try:
+                kind, told = await stream.asks(**what)
+            except _Lost:
+                self._is_cut()
+                if self._returns is None:
+                    raise NotHeld("the lab is closed") from None
+                continue
+            if kind == "fault":
+                raise _raised(told)
+            if kind == "gone":
+                stream.is_idle()
+                self._is_over("finished", None)
+            return
+        self._raises_taken()
+
+    def _raises_taken(self) -> None:
+        """The owner is told once, if the session was ended before."""
         if self._taken is not None:
             fault, self._taken = self._taken, None
             raise fault
-        if self.state != "held" or self._stream is None:
-            raise NotHeld(f"the session is {self.state}: it doesn't hold its instruments")
-        if self._answer is not None:
-            raise labrun.LabrunError("another thread asks something of this session")
-        self._asked, self._asked_at = what, asyncio.get_running_loop().time()
-        answer = self._answer = asyncio.get_running_loop().create_future()
-        try:
-            await self._stream.ask(**what)
-        except _Lost:
-            pass  # (`_keeps` sees that, too)
-        await answer
 
     async def _let_go(self, failed: Optional[str]) -> None:
         await self._ask(let_go=pb.LetGo(failed=failed))

@@ -22,6 +22,7 @@ import labrun
 from . import client
 from .bay import BadAddress, BayFault, read_bay
 from .client import DEFAULT, Lab, connect
+from .texts import aligned, last, plain, seconds, span
 
 if TYPE_CHECKING:
     from .keeping import Keeping
@@ -70,19 +71,6 @@ def say(text: str) -> None:
     print(f"{PROGRAM}: {text}", file=sys.stderr, flush=True)
 
 
-def plain(text: object) -> str:
-    """Names and notes come from others: nothing in them moves the cursor."""
-    return "".join(it if it.isprintable() else it.encode("unicode_escape").decode() for it in str(text))
-
-
-def span(seconds: float) -> str:
-    """As 12 s, 5 min, 3 h or 2 d."""
-    for size, unit in ((86400, "d"), (3600, "h"), (60, "min")):
-        if seconds >= 2 * size:
-            return f"{seconds / size:.0f} {unit}"
-    return f"{max(0.0, seconds):.0f} s"
-
-
 # ---- serve
 
 
@@ -100,13 +88,6 @@ def add_serve(parser: argparse.ArgumentParser) -> None:
     parser.add_argument("--sync", choices=("data", "none"), default="data", help="none: what is written outlives the broker, and may not the machine")
 
 
-def seconds(text: str) -> float:
-    value = float(text)
-    if not 0 <= value < 1e9:
-        raise argparse.ArgumentTypeError(f"{text} is no number of seconds")
-    return value
-
-
 def run_serve(args: argparse.Namespace) -> int:
     return asyncio.run(serve(args))
 
@@ -119,6 +100,8 @@ async def serve(args: argparse.Namespace) -> int:
     bay = read_bay(args.bay)
     _, hard = resource.getrlimit(resource.RLIMIT_NOFILE)
     resource.setrlimit(resource.RLIMIT_NOFILE, (hard, hard))
+    # (the thread that syncs a slow disk isn't to wait for the interpreter's lock when it is through)
+    sys.setswitchinterval(0.0005)
     door = service.Door(tuple(args.listen or (DEFAULT,)), args.tls_certificate, args.tls_key, args.token_file, args.group)
     door.check()
     keeping = Keeping(bay, args.state, args.grace, args.sync == "data")
@@ -325,13 +308,6 @@ def lines_of(status: dict[str, Any]) -> list[str]:
     return [*lines, *(aligned(rows) if len(rows) > 1 else ["nobody holds or waits"])]
 
 
-def aligned(rows: list[list[str]]) -> list[str]:
-    """(A row with fewer columns has a text as its last one, as wide as it is.)"""
-    most = max(map(len, rows))
-    widths = [max(len(row[at]) for row in rows if len(row) == most) for at in range(most - 1)]
-    return ["  ".join([*(cell.ljust(width) for cell, width in zip(row[:-1], widths)), row[-1]]).rstrip() for row in rows]
-
-
 # ---- for who looks after the bay
 
 
@@ -347,21 +323,15 @@ def run_release(args: argparse.Namespace) -> int:
 
 
 def add_report(parser: argparse.ArgumentParser) -> None:
-    parser.add_argument("folder", metavar="FOLDER", nargs="?", help="a state folder: in place of the bench's report, of each station and instrument what it was used for")
+    parser.add_argument("folder", metavar="FOLDER", nargs="?", help=f"in place of the bench's report, what each station and instrument did: {FOLDER}")
     parser.add_argument("--page", metavar="N", type=int, default=0, help="of a page that was closed; without, of the one that is open")
-    parser.add_argument("--last", metavar="SPAN", help="of a folder: only the last 30s, 15min, 4h or 2d")
+    add_last(parser)
     add_client(parser)
 
 
 def run_report(args: argparse.Namespace) -> int:
     if args.folder is not None:
-        from . import past
-
-        given = [args.folder, *(["--last", args.last] if args.last else [])]
-        word = next(it for it in past.words() if it.name == "report")
-        parser = argparse.ArgumentParser(prog=f"{PROGRAM} report")
-        word.add_arguments(parser)
-        return int(word.run(parser.parse_args(given)))
+        return of_past("run_report")(args)
     with lab_of(args) as lab:
         print(lab.report(args.page), end="")
     return 0
@@ -394,6 +364,37 @@ def run_bay(args: argparse.Namespace) -> int:
     return 0
 
 
+# ---- what was, from a state folder
+
+FOLDER = "the state folder of labrun-broker serve --state FOLDER; or the journal of a bench, a file"
+
+
+def add_last(parser: argparse.ArgumentParser) -> None:
+    parser.add_argument("--last", metavar="SPAN", type=last, help="of a folder: only the last 30s, 15min, 4h or 2d before the last record")
+
+
+def add_table(parser: argparse.ArgumentParser) -> None:
+    parser.add_argument("folder", metavar="FOLDER", help=FOLDER)
+    add_last(parser)
+    parser.add_argument("--csv", action="store_true", help="as CSV, with times in UTC")
+    parser.add_argument("--notes", action="store_true", help="a row for each note instead of each session; as CSV")
+
+
+def add_gantt(parser: argparse.ArgumentParser) -> None:
+    parser.add_argument("folder", metavar="FOLDER", help=FOLDER)
+    add_last(parser)
+    parser.add_argument("--to", metavar="FILE", help="where the SVG is written; the standard output unless said")
+
+
+def of_past(name: str) -> Callable[[argparse.Namespace], int]:
+    def run(args: argparse.Namespace) -> int:
+        from . import past
+
+        return int(getattr(past, name)(args))
+
+    return run
+
+
 # ---- the words
 
 
@@ -404,7 +405,7 @@ def add_help(parser: argparse.ArgumentParser) -> None:
 def run_help(args: argparse.Namespace) -> int:
     from . import manual
 
-    print(getattr(manual, f"for_{args.kind}")(words()), end="")
+    print(getattr(manual, f"for_{args.kind}")(WORDS), end="")
     return 0
 
 
@@ -415,20 +416,12 @@ WORDS = (
     Word("top", "the same, again whenever it has changed", add_status, run_top),
     Word("release", "ends the session of a station whose client doesn't come back", add_release, run_release),
     Word("report", "what each instrument did, in order", add_report, run_report),
+    Word("gantt", "a picture of what was: who held what, and who waited, from a state folder", add_gantt, of_past("run_gantt")),
+    Word("table", "each session of a state folder, with times and notes", add_table, of_past("run_table")),
     Word("pages", "the pages of the bay's book", add_pages, run_pages),
     Word("bay", "bay check: is the bay's file sound", add_bay, run_bay),
     Word("manual", "writes the man page and the completions", add_help, run_help),
 )
-
-
-def words() -> Sequence[Word]:
-    """With those for what was, if that module is there."""
-    try:
-        from . import past
-    except ImportError:
-        return WORDS
-    known = [it.name for it in WORDS]
-    return (*WORDS, *(Word(*it) for it in past.words() if it[0] not in known))
 
 
 def parser_of(table: Sequence[Word]) -> argparse.ArgumentParser:
@@ -446,7 +439,7 @@ def parser_of(table: Sequence[Word]) -> argparse.ArgumentParser:
 def main(given: Optional[Sequence[str]] = None) -> int:
     line = list(sys.argv[1:] if given is None else given)
     at = line.index("--") if "--" in line else len(line)
-    args = parser_of(words()).parse_args(line[:at])
+    args = parser_of(WORDS).parse_args(line[:at])
     if "command" in args:
         args.command = line[at + 1 :]
     elif at < len(line):

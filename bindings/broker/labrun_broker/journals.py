@@ -4,10 +4,17 @@ A journal says when a job came into the line, held, let go or gave up; how long 
 
 from __future__ import annotations
 
+import re
+from dataclasses import dataclass
 from datetime import datetime, timezone
 from typing import Iterable, Iterator, Optional
 
 from .sessions import Fault, Record
+
+# what the broker itself notes of a session: that it is given, with the hash of its ticket and by whom it was asked for; that it is taken away
+GIVES, TAKES = "labrun-broker gives", "labrun-broker takes it away"
+
+_GIVEN = re.compile(rf"{GIVES} (\w*) (.*)")
 
 STEPS = {"thirst": "asked", "drink": "held", "quit": "let_go", "withdraw": "gave_up"}
 
@@ -65,11 +72,10 @@ def records_of_journal(lines: Iterable[str]) -> Iterator[Record]:
             it.script_line(["job", *words[1:]])
         elif line.startswith("#+"):
             it.script_line(line[2:].split())
-        elif line.startswith("# note ") and line.count(": "):
-            about, text = line[7:-1].split(": ", 1)
-            job, _, number = about.partition(" ")
-            if number.isdigit():
-                yield it.record("note", job, int(number), [], text)
+        elif (note := note_of(line)) is not None:
+            job, number, text = note
+            if not text.startswith((GIVES, TAKES)):
+                yield it.record("note", job, number, [], text)
         elif line.startswith("# "):
             it.t = time_of(words[-1]) or it.t
         elif len(words) == 2:
@@ -83,3 +89,46 @@ def time_of(text: str) -> Optional[float]:
         return datetime.fromisoformat(text.replace("Z", "+00:00")).astimezone(timezone.utc).timestamp()
     except ValueError:
         return None
+
+
+def note_of(line: str) -> Optional[tuple[str, int, str]]:
+    """The job, the number of its session, and the text, if a line is a note."""
+    about, colon, text = line.removesuffix("\n").partition(": ")
+    words = about.split(" ")
+    if len(words) != 4 or words[:2] != ["#", "note"] or not colon or not words[3].isdigit():
+        return None
+    return words[2], int(words[3]), text
+
+
+@dataclass
+class Given:
+    """A session that the broker gave, by its notes; `taken` says by whom it was taken away."""
+
+    since: float
+    ticket: str
+    by: str
+    note: Optional[str] = None
+    taken: str = ""
+
+
+def sessions_given(path: str) -> dict[tuple[str, int], Given]:
+    """Those of a journal, by station and number."""
+    found: dict[tuple[str, int], Given] = {}
+    t = 0.0
+    with open(path, encoding="utf-8", errors="replace") as file:
+        for line in file:
+            if not line.startswith("# "):
+                continue
+            note = note_of(line)
+            if note is None:
+                t = time_of(line[2:-1]) or t
+                continue
+            job, number, text = note
+            of = found.get((job, number))
+            if of is None and (given := _GIVEN.fullmatch(text)):
+                found[job, number] = Given(t, given[1], given[2])
+            elif of is not None and text.startswith(TAKES):
+                of.taken = text.removeprefix(TAKES + " ")
+            elif of is not None:
+                of.note = text
+    return found

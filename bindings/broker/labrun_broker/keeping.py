@@ -8,19 +8,21 @@ from __future__ import annotations
 import asyncio
 import builtins
 import collections
+import contextlib
 import fcntl
 import os
 import re
 import tempfile
 import time
 from dataclasses import dataclass, field
-from typing import Any, AsyncIterator, Callable, Optional, Protocol
+from typing import Any, AsyncIterator, Callable, Iterator, Optional, Protocol
 
 import labrun
 from labrun import LabrunError, MayNotUse, NotHeld, TakenAway
 
 from .bay import MOST_COMMANDS, MOST_SESSIONS, Bay
-from .records import Disk, Record, Records, hashed, read_records
+from .journals import GIVES, TAKES, sessions_given
+from .records import Disk, Record, Records, hashed
 
 KEPT_IN_MEMORY = 1000  # records, and ends of tickets
 # a page is turned before the bench is full: at so many sessions of a seat, commands of all, and bytes of the journal
@@ -112,12 +114,13 @@ class Keeping:
         self._ends: dict[str, str] = {}
         self._reports: dict[int, str] = {}
         self._records: Optional[Records] = None
-        self._disk = Disk()
-        self._journal_file = -1
-        self._commands = 0
-        self._is_closed = False
         # a sync failed: nobody knows what is on the disk, so the broker is to end, and another takes up what is there
         self.is_broken = asyncio.Event()
+        self._disk = Disk(self.is_broken.set)
+        self._journal_file = self._lock = -1
+        self._commands = 0
+        self._is_closed = False
+        self._last_page: Optional[labrun.Page] = None
         self._page_wanted, self._page_turned = asyncio.Event(), asyncio.Event()
         self._tasks: set[asyncio.Task[Any]] = set()
 
@@ -126,10 +129,12 @@ class Keeping:
     async def open(self) -> None:
         """Opens the bench, or goes on where the state folder says. LabrunError and OSError say why it can't."""
         self._opened_at = self._now()
+        overtakes = len(self.bay.jobs) if self.bay.overtakes is None else self.bay.overtakes
         if self.state is None:
-            self.bench = labrun.Bench.new(self.bay.jobs, overtakes=self.bay.overtakes)
+            self.bench = labrun.Bench.new(self.bay.jobs, overtakes=overtakes)
         else:
-            self._open_state(self.state)
+            self._open_state(self.state, overtakes)
+        self._last_page = self.bench.last_page
         self._seats = {job.name: Seat(job, job.name if job.name in self.bay.stations else "", since=self._opened_at) for job in self.bench.jobs}
         self._lines: dict[str, collections.deque[InLine]] = {line: collections.deque() for line in (*self.bay.stations, "")}
         self._free: dict[str, collections.deque[Seat]] = {line: collections.deque() for line in self._lines}
@@ -141,7 +146,7 @@ class Keeping:
             self._take_up()
         self._start(self._looks_after_pages())
 
-    def _open_state(self, folder: str) -> None:
+    def _open_state(self, folder: str, overtakes: int) -> None:
         os.makedirs(folder, 0o750, exist_ok=True)
         self._lock = os.open(f"{folder}/lock", os.O_RDWR | os.O_CREAT | os.O_CLOEXEC, 0o640)
         try:
@@ -151,7 +156,7 @@ class Keeping:
             raise LabrunError(f"{folder}: another broker keeps its state there") from None
         # (what is synced, and when, is the disk's part)
         try:
-            self.bench = labrun.Bench.new(self.bay.jobs, journal=f"{folder}/bay.journal", sync="none", overtakes=self.bay.overtakes)
+            self.bench = labrun.Bench.new(self.bay.jobs, journal=f"{folder}/bay.journal", sync="none", overtakes=overtakes)
         except labrun.JournalError as fault:
             if "another script" not in fault.why:
                 raise
@@ -178,13 +183,13 @@ class Keeping:
         self._records = Records(f"{self.state}/records-{self.page}.jsonl")
         self._journal_file = os.open(f"{self.state}/bay.journal", os.O_RDONLY | os.O_CLOEXEC)
         if self._syncs:
-            self._disk.files = [self._records.fileno(), self._journal_file]
+            self._disk.files = [self._journal_file, self._records.file]
             folder = os.open(self.state, os.O_RDONLY | os.O_CLOEXEC)
             os.fsync(folder)
             os.close(folder)
 
     def _close_files(self) -> None:
-        self._disk.files = []
+        self._disk.close()
         if self._journal_file >= 0:
             os.close(self._journal_file)
             self._journal_file = -1
@@ -194,36 +199,28 @@ class Keeping:
 
     def _take_up(self) -> None:
         """The bench is as a broker left it that was killed: what was held is held, and its clients are awaited."""
-        held: dict[str, Record] = {}
-        notes: dict[str, str] = {}
-        for record in read_records(f"{self.state}/records-{self.page}.jsonl"):
-            station, what = str(record.get("station")), record["what"]
-            if what == "held":
-                held[station] = record
-                notes.pop(station, None)
-            elif what == "note":
-                notes[station] = str(record.get("text", ""))
-            elif what in ("let_go", "failed", "taken") and station in held:
-                self._ended(str(held[station].get("ticket", "")), str(record.get("text")) if what == "taken" else what)
+        given = sessions_given(f"{self.state}/bay.journal")
         for seat in self._seats.values():
             session = seat.job.next_session()
             if session is None:
                 continue
-            if not session.resumed:
-                session.give_up()
+            it = given.pop((seat.name, session.number), None)
+            if it is None:
+                # (no client was told that it holds: that is noted before)
+                if session.resumed:
+                    session.release()
+                else:
+                    session.give_up()
                 continue
-            record = held.get(seat.name, {})
-            is_known = record.get("session") == session.number
             self._free[seat.line].remove(seat)
-            seat.session, seat.instruments, seat.state, seat.since = session, session.instruments, "holding", self._now()
-            seat.by = record.get("by") if is_known else None
-            seat.note = notes.get(seat.name) if is_known else None
-            seat.ticket = str(record.get("ticket", "")) if is_known else ""
-            if is_known:
-                seat.since -= max(0.0, time.time() - record["t"])
+            seat.session, seat.instruments, seat.state = session, session.instruments, "holding"
+            seat.since = self._now() - max(0.0, time.time() - it.since)
+            seat.by, seat.note, seat.ticket = it.by or None, it.note, it.ticket
             if seat.ticket:
                 self._tickets[seat.ticket] = seat
             self.gone(seat, None)
+        for it in given.values():
+            self._ended(it.ticket, it.taken or "let_go")
 
     async def close(self) -> None:
         """Nobody comes to hold any more; what is held stays held, in the journal."""
@@ -246,6 +243,8 @@ class Keeping:
         if self.state is None:
             self._reports[self.page] = report.text
         self._close_files()
+        if self._lock >= 0:
+            os.close(self._lock)
 
     def _now(self) -> float:
         return asyncio.get_running_loop().time()
@@ -276,7 +275,7 @@ class Keeping:
         if waits is not None:
             waits(seat)
         try:
-            await self._comes_to_hold(seat, wish, until)
+            await self._comes_to_hold(seat, wish, ticket, until)
             await self._on_disk()
         except BaseException as fault:
             if seat.owner is owner:
@@ -329,7 +328,7 @@ class Keeping:
             return f"all {len(seats)} guests of the bay are taken: " + ", ".join(f"{seat.name} by {seat.by or 'somebody'}" for seat in seats)
         return f"{line} is in a session of {seats[0].by or 'somebody'}, and is in one at a time"
 
-    async def _comes_to_hold(self, seat: Seat, wish: Wish, until: Optional[float]) -> None:
+    async def _comes_to_hold(self, seat: Seat, wish: Wish, ticket: str, until: Optional[float]) -> None:
         seat.state, seat.since, seat.by, seat.note, seat.gone_at = "waiting", self._now(), wish.by or None, None, None
         seat.instruments = wish.instruments or tuple(dict.fromkeys(name for choice in wish.any_of for name in choice))
         self._record("asked", seat)
@@ -340,23 +339,40 @@ class Keeping:
                 break
             except labrun.Full:
                 await self._new_page(until)
+        self._takes_up_page()
         seat.instruments, seat.state, seat.since = session.instruments, "holding", self._now()
-        seat.ticket = hashed(wish.ticket)
-        if seat.ticket:
-            self._tickets[seat.ticket] = seat
+        seat.ticket = ticket
+        if ticket:
+            self._tickets[ticket] = seat
+        if self._journal_file >= 0:
+            session.note(f"{GIVES} {ticket} {wish.by}")
         self._counts(seat)
         self._record("held", seat, ticket=seat.ticket)
 
     async def _on_disk(self) -> None:
-        """All that was told until now is on the disk."""
-        if self._records is not None:
-            try:
+        """Who holds is on the disk."""
+        with self._may_fail():
+            self._written()
+            await self._disk.synced()
+
+    async def _all_on_disk(self) -> None:
+        with self._may_fail():
+            self._written()
+            await self._disk.synced(True)
+
+    def _written(self) -> None:
+        """What was done outlives the broker. It is on the disk soon."""
+        with self._may_fail():
+            if self._records is not None:
                 self._records.write()
-                await self._disk.synced()
-            except OSError as fault:
-                if self._disk.fault is not None:
-                    self.is_broken.set()
-                raise labrun.JournalError(self.state or "", f"a write failed ({fault.strerror})") from fault
+                self._disk.soon()
+
+    @contextlib.contextmanager
+    def _may_fail(self) -> Iterator[None]:
+        try:
+            yield
+        except OSError as fault:
+            raise labrun.JournalError(self.state or "", f"a write failed ({fault.strerror})") from fault
 
     def _gave_up(self, seat: Seat, fault: BaseException) -> None:
         """The client waits no longer, or can't be told any more that it holds."""
@@ -412,11 +428,11 @@ class Keeping:
         return seat.session
 
     async def let_go(self, seat: Seat, owner: Owner, failed: Optional[str] = None) -> None:
-        """Returns once that is on the disk. `failed` is what the client says of work that failed."""
+        """Who waits comes to hold at once, and is told once both are on the disk. `failed` is what the client says of work that failed."""
         self._is_of(seat, owner).release()
         self._record("let_go" if failed is None else "failed", seat, text=failed or "")
         self._frees(seat, "let_go")
-        await self._on_disk()
+        self._written()
 
     async def note(self, seat: Seat, owner: Owner, text: str) -> None:
         session = self._is_of(seat, owner)
@@ -424,7 +440,7 @@ class Keeping:
         if self._journal_file >= 0:
             session.note(text)
         self._record("note", seat, text=text)
-        await self._on_disk()
+        await self._all_on_disk()
 
     async def release(self, station: str, by: str) -> tuple[str, ...]:
         """Ends the session that a station holds, for its owner; its instruments."""
@@ -433,6 +449,8 @@ class Keeping:
         seat = self._seats[station]
         if seat.state not in ("holding", "gone"):
             raise NotHeld(f"{station} holds nothing")
+        if self._journal_file >= 0 and seat.session is not None:
+            seat.session.note(f"{TAKES} by {by}")
         instruments = self.bench.take_away(station)
         try:
             # (the bench tells that once)
@@ -444,7 +462,7 @@ class Keeping:
         self._frees(seat, f"by {by}")
         if owner is not None:
             owner.taken(f"{station}: the session was taken away by {by}: {', '.join(instruments)}")
-        await self._on_disk()
+        await self._all_on_disk()
         return instruments
 
     # ---- clients that are gone
@@ -505,7 +523,16 @@ class Keeping:
 
     async def turn_page(self, timeout: Optional[float] = None) -> int:
         """Turns the page once nobody holds; the number of the new one. labrun.NotBack says who still holds after `timeout` seconds."""
-        page = await self.bench.turn_page_async(timeout)
+        await self.bench.turn_page_async(timeout)
+        self._takes_up_page()
+        return self.page
+
+    def _takes_up_page(self) -> None:
+        """If the page was turned: the files are those of the new one. (Who waited for it may come here first.)"""
+        page = self.bench.last_page
+        if page is None or page is self._last_page:
+            return
+        self._last_page = page
         if self.state is None:
             self._reports = {self.page: page.report.text}
         self.page += 1
@@ -514,7 +541,6 @@ class Keeping:
         self._page_wanted.clear()
         turned, self._page_turned = self._page_turned, asyncio.Event()
         turned.set()
-        return self.page
 
     def report(self, page: int = 0) -> str:
         """The report of a page, or of the one that is open (0): of that only with a journal. It is that of a bench which goes through a copy of

@@ -2,10 +2,9 @@
 
 from __future__ import annotations
 
-import asyncio
-from typing import Any, AsyncIterator, Iterator
+from typing import Any, Iterator
 
-from .serving import HEADERS, Lacking, Served, serve, web
+from .serving import HEADERS, Lacking, Served, runs_beside, serve, web
 from .sessions import Past, Record, batches, first, recent_records
 
 try:
@@ -45,13 +44,7 @@ class Metrics:
 
     def add_to(self, app: web.Application) -> None:
         app.router.add_get("/metrics", self._answer)
-        app.cleanup_ctx.append(self._counting)
-
-    async def _counting(self, _: web.Application) -> AsyncIterator[None]:
-        task = asyncio.ensure_future(self._count())
-        yield
-        task.cancel()
-        await asyncio.gather(task, return_exceptions=True)
+        runs_beside(app, self._count)
 
     async def _count(self) -> None:
         for record in recent_records(self._keeping.state) if self._keeping.state else ():

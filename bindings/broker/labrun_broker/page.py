@@ -13,9 +13,9 @@ import re
 import time
 from collections import deque
 from pathlib import Path
-from typing import Any, AsyncIterator
+from typing import Any
 
-from .serving import HEADERS, SLOW, Served, serve, web
+from .serving import HEADERS, SLOW, Served, runs_beside, serve, web
 from .sessions import Past, Record, Session, batches, recent_records
 
 PACE = 0.25  # seconds between two messages to a browser, at least
@@ -121,14 +121,8 @@ class Page:
         app.router.add_get("/", self._page)
         app.router.add_get("/status", self._now)
         app.router.add_get("/events", self._events)
-        app.cleanup_ctx.append(self._watching)
+        runs_beside(app, self._watch.run)
         app.on_shutdown.append(self._end)
-
-    async def _watching(self, _: web.Application) -> AsyncIterator[None]:
-        task = asyncio.ensure_future(self._watch.run())
-        yield
-        task.cancel()
-        await asyncio.gather(task, return_exceptions=True)
 
     async def _end(self, _: web.Application) -> None:
         for it in self._listeners:

@@ -5,31 +5,15 @@ from __future__ import annotations
 import argparse
 import csv
 import os
-import re
 import statistics
 import sys
 import time
 from datetime import datetime, timezone
-from typing import Callable, NamedTuple, Optional, TextIO
+from typing import Optional, TextIO
 
 from .journals import records_of_journal
 from .sessions import ENDS, UNKNOWN, Fault, Past, Session, first, read_records, spans_waited_for
-
-
-def plain(text: str) -> str:
-    """A text of somebody else on a terminal: what isn't printable is shown by its number."""
-    return "".join(it if it.isprintable() else it.encode("unicode_escape").decode() for it in text)
-
-
-def span(seconds: float) -> str:
-    """A span as people say it: 0.25 s, 12 s, 4 min 5 s, 2 h 13 min, 3 d 4 h."""
-    if seconds < 10:
-        return f"{seconds:.2f} s"
-    whole = round(seconds)
-    for size, name, below, lower in ((86400, "d", 3600, "h"), (3600, "h", 60, "min"), (60, "min", 1, "s")):
-        if whole >= size:
-            return f"{whole // size} {name} {whole % size // below} {lower}"
-    return f"{whole} s"
+from .texts import aligned, plain, span
 
 
 def local(t: Optional[float]) -> str:
@@ -40,10 +24,8 @@ def iso(t: Optional[float]) -> str:
     return "" if t is None else datetime.fromtimestamp(t, timezone.utc).isoformat(timespec="milliseconds")
 
 
-def aligned(rows: list[list[str]], out: TextIO) -> None:
-    widths = [max(map(len, column)) for column in zip(*rows)]
-    for row in rows:
-        out.write("  ".join(it.ljust(width) for it, width in zip(row, widths)).rstrip() + "\n")
+def table_of(rows: list[list[str]]) -> str:
+    return "\n".join([*aligned(rows), ""])
 
 
 HEAD = ["station", "session", "by", "instruments", "asked", "held", "ended", "waited_s", "held_s", "end", "why", "notes"]
@@ -75,11 +57,11 @@ def write_table(sessions: list[Session], until: float, out: TextIO) -> None:
     rows = [OF_SESSION]
     for it in sessions:
         number = "" if it.number is None else str(it.number)
-        spans = [span(it.waited(until)), "" if it.held is None else span(it.worked(until))]
+        spans = [span(it.waited(until), 2), "" if it.held is None else span(it.worked(until), 2)]
         notes = " | ".join(plain(text) for _, text in it.notes)
         end = f"{it.how}: {it.why}" if it.why else it.how
         rows.append([plain(it.station), number, local(it.asked), *spans, plain(end), plain(" ".join(it.instruments)), plain(it.by), notes])
-    aligned(rows, out)
+    out.write(table_of(rows))
 
 
 OF_STATION = ["station", *ENDS.values(), UNKNOWN, "at work", "of the time", "waited", "longest wait"]
@@ -87,10 +69,10 @@ OF_INSTRUMENT = ["instrument", "sessions", "in use", "of the time", "waited for,
 
 
 def write_report(past: Past, sessions: list[Session], since: float, until: float, out: TextIO) -> None:
-    out.write(f"from {local(since)} to {local(until)}, {span(until - since)}: {len(sessions)} sessions\n\n")
-    aligned([OF_STATION, *(of_station(name, sessions, since, until) for name in past.stations)], out)
+    out.write(f"from {local(since)} to {local(until)}, {span(until - since, 2)}: {len(sessions)} sessions\n\n")
+    out.write(table_of([OF_STATION, *(of_station(name, sessions, since, until) for name in past.stations)]))
     out.write("\n")
-    aligned([OF_INSTRUMENT, *(of_instrument(name, sessions, since, until) for name in past.instruments)], out)
+    out.write(table_of([OF_INSTRUMENT, *(of_instrument(name, sessions, since, until) for name in past.instruments)]))
     out.write("\n" if past.now else "")
     for it in past.now.values():
         is_gone = bool(it.gone) and it.gone[-1][1] is None
@@ -102,53 +84,22 @@ def of_station(name: str, sessions: list[Session], since: float, until: float) -
     own = [it for it in sessions if it.station == name]
     waits = [it.waited(until) for it in own]
     counts = [str(sum(it.how == end for it in own)) for end in (*ENDS.values(), UNKNOWN)]
-    return [plain(name), *counts, *used(own, since, until), span(sum(waits)), span(max(waits, default=0))]
+    return [plain(name), *counts, *used(own, since, until), span(sum(waits), 2), span(max(waits, default=0), 2)]
 
 
 def of_instrument(name: str, sessions: list[Session], since: float, until: float) -> list[str]:
     own = [it for it in sessions if name in it.instruments]
     waits = [it.waited(until) for it in own]
     unused = sum(max(0.0, after - max(t, since)) for t, after in spans_waited_for(own, name, until))
-    return [plain(name), str(len(own)), *used(own, since, until), span(unused), span(statistics.median(waits or [0])), span(max(waits, default=0))]
+    return [plain(name), str(len(own)), *used(own, since, until), span(unused, 2), span(statistics.median(waits or [0]), 2), span(max(waits, default=0), 2)]
 
 
 def used(sessions: list[Session], since: float, until: float) -> list[str]:
     work = sum(it.worked(until, since) for it in sessions)
-    return [span(work), f"{100 * work / max(until - since, 1e-9):.0f} %"]
+    return [span(work, 2), f"{100 * work / max(until - since, 1e-9):.0f} %"]
 
 
 # the commands
-
-
-class Word(NamedTuple):
-    name: str
-    help: str
-    add_arguments: Callable[[argparse.ArgumentParser], None]
-    run: Callable[[argparse.Namespace], int]
-
-
-def seconds(text: str) -> float:
-    """A span as it is typed: 90, 30s, 15min, 4h, 2d."""
-    found = re.fullmatch(r"(\d{1,9}(?:\.\d{1,3})?)\s*(s|m|min|h|d)?", text)
-    if not found:
-        raise argparse.ArgumentTypeError(f"{text!r} is no span: write 90, 30s, 15min, 4h or 2d")
-    return float(found[1]) * {None: 1, "s": 1, "m": 60, "min": 60, "h": 3600, "d": 86400}[found[2]]
-
-
-def add_common(parser: argparse.ArgumentParser) -> None:
-    parser.add_argument("folder", metavar="FOLDER", help="the state folder of labrun-broker serve --state FOLDER; or the journal of a bench, a file")
-    parser.add_argument("--last", metavar="SPAN", type=seconds, help="only the last 30s, 15min, 4h or 2d before the last record")
-
-
-def add_table(parser: argparse.ArgumentParser) -> None:
-    add_common(parser)
-    parser.add_argument("--csv", action="store_true", help="as CSV, with times in UTC")
-    parser.add_argument("--notes", action="store_true", help="a row for each note instead of each session; as CSV")
-
-
-def add_gantt(parser: argparse.ArgumentParser) -> None:
-    add_common(parser)
-    parser.add_argument("--to", metavar="FILE", help="where the SVG is written; the standard output unless said")
 
 
 def read_past(path: str) -> tuple[Past, list[str]]:
@@ -209,31 +160,3 @@ def run_gantt(args: argparse.Namespace) -> int:
     with open(args.to, "w", encoding="utf-8") as file:
         file.write(text)
     return 0
-
-
-def guarded(run: Callable[[argparse.Namespace], int]) -> Callable[[argparse.Namespace], int]:
-    """A fault is a line and status 1; a reader that goes away, as head does, is none."""
-
-    def inner(args: argparse.Namespace) -> int:
-        try:
-            status = run(args)
-            sys.stdout.flush()
-            return status
-        except BrokenPipeError:
-            os.dup2(os.open(os.devnull, os.O_WRONLY), sys.stdout.fileno())
-            return 0
-        except (Fault, OSError) as fault:
-            told = f"{fault.filename}: {fault.strerror}" if isinstance(fault, OSError) and fault.filename else str(fault)
-            print(f"labrun-broker: {plain(told)}", file=sys.stderr)
-            return 1
-
-    return inner
-
-
-def words() -> list[Word]:
-    """The commands that this file adds to labrun-broker."""
-    return [
-        Word("gantt", "a picture of what was: who held what, and who waited, from a state folder", add_gantt, guarded(run_gantt)),
-        Word("table", "each session of a state folder, with times and notes", add_table, guarded(run_table)),
-        Word("report", "of each station and instrument of a state folder: sessions, use and waits", add_common, guarded(run_report)),
-    ]

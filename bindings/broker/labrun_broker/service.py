@@ -10,7 +10,6 @@ import builtins
 import collections
 import contextlib
 import hmac
-import ipaddress
 import os
 import secrets
 import shutil
@@ -18,7 +17,7 @@ import socket
 import stat
 import time
 from dataclasses import dataclass
-from typing import Any, AsyncIterator, Awaitable, Callable, Optional
+from typing import Any, AsyncIterator, Awaitable, Callable, Coroutine, Optional
 
 import grpc
 import labrun
@@ -26,6 +25,7 @@ from google.protobuf import json_format
 
 from . import broker_pb2 as pb
 from .bay import BadAddress as BadAddress
+from .bay import is_here
 from .keeping import BadWish, Ended, Keeping, Seat, Wish
 
 # when a client that waits is told for whom, and when again if that has changed
@@ -61,6 +61,10 @@ KINDS: tuple[tuple[type[BaseException], str], ...] = (
 )
 
 
+FAULTS = (labrun.LabrunError, ValueError, builtins.TimeoutError)
+GONE = pb.Told(gone=pb.Gone())
+
+
 def fault_of(fault: BaseException) -> Any:
     if isinstance(fault, Ended) and fault.how:
         return pb.Fault(kind={"let_go": "LetGo", "taken": "TakenAway"}[fault.how], text=str(fault))
@@ -89,48 +93,53 @@ class Client:
         self.keeping, self.context = keeping, context
         self.seat: Optional[Seat] = None
         self.pace = Pace(keeping.bay.limits.requests)
-        self._reading: Optional[asyncio.Task[Any]] = None
+        # what waits until it holds
+        self._waiting: Optional[asyncio.Task[None]] = None
         self._writing = asyncio.Lock()
-        self._says: set[asyncio.Task[None]] = set()
+        self._tasks: set[asyncio.Task[None]] = set()
 
     async def talk(self) -> None:
-        answers: dict[Optional[str], Callable[[Any], Any]] = {"wish": self._wish, "note": self._note, "let_go": self._let_go}
+        answers: dict[str, Callable[[Any], Awaitable[None]]] = {"wish": self._wish, "note": self._note, "let_go": self._let_go}
         try:
-            while (ask := await self._read()) is not None:
+            while (ask := await self.context.read()) is not grpc.aio.EOF:
+                if (span := self.pace.span()) > 0:
+                    await asyncio.sleep(span)
                 kind = ask.WhichOneof("ask")
                 try:
                     if kind is None:
                         raise BadWish("a wish, a note or a let_go is wanted")
+                    if self._waiting is not None and kind != "let_go":
+                        raise BadWish("this stream waits: only let_go may come meanwhile, which gives up")
                     await answers[kind](getattr(ask, kind))
-                except (labrun.LabrunError, ValueError, builtins.TimeoutError) as fault:
+                except FAULTS as fault:
                     await self._tell(pb.Told(fault=fault_of(fault)))
+            if self._waiting is not None:
+                await self._give_up(self._waiting)
         finally:
-            if self._reading is not None:
-                self._reading.cancel()
+            if self._waiting is not None:
+                self._waiting.cancel()
             if self.seat is not None:
                 self.keeping.gone(self.seat, self)
-
-    async def _read(self) -> Any:
-        """The next message; None once the client is through."""
-        if (span := self.pace.span()) > 0:
-            await asyncio.sleep(span)
-        reading, self._reading = self._reading, None
-        ask = await (reading or self.context.read())
-        return None if ask is grpc.aio.EOF else ask
 
     async def _tell(self, told: Any) -> None:
         async with self._writing:
             await self.context.write(told)
 
+    def _starts(self, work: Coroutine[Any, Any, None]) -> asyncio.Task[None]:
+        """On a task of its own, which fails if the client is gone: then that is seen by the one that reads."""
+        task = asyncio.create_task(work)
+        self._tasks.add(task)
+        task.add_done_callback(self._ends)
+        return task
+
+    def _ends(self, task: asyncio.Task[None]) -> None:
+        self._tasks.discard(task)
+        if not task.cancelled():
+            task.exception()
+
     def taken(self, why: str) -> None:
         self.seat = None
-        task = asyncio.create_task(self._say_taken(why))
-        self._says.add(task)
-        task.add_done_callback(self._says.discard)
-
-    async def _say_taken(self, why: str) -> None:
-        with contextlib.suppress(Exception):
-            await self._tell(pb.Told(taken=pb.Fault(kind="TakenAway", text=why)))
+        self._starts(self._tell(pb.Told(taken=pb.Fault(kind="TakenAway", text=why))))
 
     # ---- what it asks
 
@@ -144,61 +153,37 @@ class Client:
         if len(asked.any_of) > MOST_CHOICES:
             raise BadWish(f"{len(asked.any_of)} choices; {MOST_CHOICES} are the most")
         any_of = tuple(tuple(it.names) for it in asked.any_of)
-        timeout = _seconds(asked)
         ticket = asked.ticket or secrets.token_urlsafe()
-        wish = Wish(tuple(asked.instruments), any_of, asked.station, asked.by, timeout, ticket, asked.comes_back)
-        seat = await self._held(wish, asked.wants_waits)
-        if seat is None:
-            await self._tell(pb.Told(gone=pb.Gone()))
-            return
-        self.seat = seat
-        number = seat.session.number if seat.session is not None else 0
-        grace = self.keeping.grace if self.keeping.bay.gone == "release" else None
-        held = pb.Held(station=seat.name, session=number, instruments=seat.instruments, ticket=ticket, grace=grace)
-        await self._tell(pb.Told(held=held))
-
-    async def _held(self, wish: Wish, wants_waits: bool) -> Optional[Seat]:
-        """The seat that holds; None if the client gave up meanwhile."""
+        wish = Wish(tuple(asked.instruments), any_of, asked.station, asked.by, _seconds(asked), ticket, asked.comes_back)
         seats: list[Seat] = []
-        holding = asyncio.ensure_future(self.keeping.hold(wish, self, seats.append))
-        self._reading = self._reading or asyncio.ensure_future(self.context.read())
-        is_ours = False
+        self._waiting = self._starts(self._holds(wish, seats))
+        if asked.wants_waits:
+            self._starts(self._says_for_whom(self._waiting, seats))
+
+    async def _holds(self, wish: Wish, seats: list[Seat]) -> None:
+        """Tells the client once it holds. Whoever cancels this gives up: if it came to hold just now, nobody is told, and the session ends."""
         try:
-            said: Any = None
-            span = FIRST_WORD
-            while True:
-                await asyncio.wait({holding, self._reading}, timeout=span if wants_waits else None, return_when=asyncio.FIRST_COMPLETED)
-                if holding.done():
-                    is_ours = True
-                    return holding.result()
-                if self._reading.done():
-                    _gives_up(await self._read())
-                    return None
-                waits = self._waits(seats)
-                for_whom = [(it.instrument, it.station, it.holds) for it in waits.waits_for]
-                if for_whom != said:
-                    await self._tell(pb.Told(waits=waits))
-                said, span = for_whom, NEXT_WORD
+            seat = self.seat = await self.keeping.hold(wish, self, seats.append)
+            number = seat.session.number if seat.session is not None else 0
+            grace = self.keeping.grace if self.keeping.bay.gone == "release" else None
+            told = pb.Told(held=pb.Held(station=seat.name, session=number, instruments=seat.instruments, ticket=wish.ticket, grace=grace))
+        except FAULTS as fault:
+            told = pb.Told(fault=fault_of(fault))
         finally:
-            if not is_ours:
-                # (on a task of its own: a client that dies cancels this one, once or more often, also when it just came to hold)
-                forgets = asyncio.create_task(self._forget(holding))
-                ENDING.add(forgets)
-                forgets.add_done_callback(ENDING.discard)
-                await asyncio.shield(forgets)
+            self._waiting = None
+        await self._tell(told)
 
-    async def _forget(self, holding: asyncio.Future[Seat]) -> None:
-        """The client gave up, or is gone. If it came to hold just now, nobody is told, and the session ends."""
-        holding.cancel()
-        await asyncio.wait({holding})
-        if not holding.cancelled() and holding.exception() is None:
-            with contextlib.suppress(labrun.LabrunError):
-                await self.keeping.let_go(holding.result(), self)
-
-    def _waits(self, seats: list[Seat]) -> Any:
-        keepers = self.keeping.waits_for(seats[0]) if seats else []
-        text = ", ".join(it["text"] for it in keepers) or ("a page is being turned" if seats else "the station, or each guest, is in a session")
-        return json_format.ParseDict({"text": text, "waits_for": keepers}, pb.Waits())
+    async def _says_for_whom(self, waiting: asyncio.Task[None], seats: list[Seat]) -> None:
+        said, span = None, FIRST_WORD
+        while not (await asyncio.wait({waiting}, timeout=span))[0]:
+            keepers = self.keeping.waits_for(seats[0]) if seats else []
+            for_whom = [(it["instrument"], it["station"], it["holds"]) for it in keepers]
+            async with self._writing:
+                if self._waiting is waiting and for_whom != said:
+                    text = ", ".join(it["text"] for it in keepers)
+                    text = text or ("a page is being turned" if seats else "the station, or each guest, is in a session")
+                    await self.context.write(json_format.ParseDict({"waits": {"text": text, "waits_for": keepers}}, pb.Told()))
+            said, span = for_whom, NEXT_WORD
 
     async def _note(self, asked: Any) -> None:
         limit = self.keeping.bay.limits.note
@@ -208,11 +193,18 @@ class Client:
         await self._tell(pb.Told(noted=pb.Noted()))
 
     async def _let_go(self, asked: Any) -> None:
-        seat = self._seat()
+        if self._waiting is not None:
+            return await self._give_up(self._waiting)
         failed = asked.failed[: self.keeping.bay.limits.note] if asked.HasField("failed") else None
-        await self.keeping.let_go(seat, self, failed)
+        await self.keeping.let_go(self._seat(), self, failed)
         self.seat = None
-        await self._tell(pb.Told(gone=pb.Gone()))
+        await self._tell(GONE)
+
+    async def _give_up(self, waiting: asyncio.Task[None]) -> None:
+        waiting.cancel()
+        await asyncio.wait({waiting})
+        self._waiting = None
+        await self._tell(GONE)
 
     def _seat(self) -> Seat:
         if self.seat is None:
@@ -227,16 +219,6 @@ def _seconds(wish: Any) -> Optional[float]:
     if not 0 <= wish.timeout < 1e9:
         raise BadWish(f"a timeout of {wish.timeout:g} s; it is 0 or more, and below 1000000000")
     return float(wish.timeout)
-
-
-def _gives_up(ask: Any) -> None:
-    """What comes while a client waits: nothing but that it gives up."""
-    if ask is not None and ask.WhichOneof("ask") != "let_go":
-        raise BadWish("this stream waits: only let_go may come meanwhile, which gives up")
-
-
-# what is still being done for clients that are gone
-ENDING: set[asyncio.Task[None]] = set()
 
 
 class Service:
@@ -365,12 +347,7 @@ def is_loopback(address: str) -> bool:
     host, colon, port = address.rpartition(":")
     if not colon or not port.isdigit():
         raise BadAddress(f"{address}: unix:PATH or HOST:PORT is wanted")
-    if host == "localhost":
-        return True
-    try:
-        return ipaddress.ip_address(host.strip("[]")).is_loopback
-    except ValueError:
-        return False
+    return is_here(host.strip("[]"))
 
 
 async def start(keeping: Keeping, door: Door) -> Any:

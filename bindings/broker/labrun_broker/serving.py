@@ -3,13 +3,12 @@
 from __future__ import annotations
 
 import asyncio
-import ipaddress
 import logging
 import re
 import socket
-from typing import Any, Awaitable, Callable, Union
+from typing import Any, AsyncIterator, Awaitable, Callable, Coroutine, Union
 
-from .bay import BadAddress
+from .bay import BadAddress, is_here
 
 
 class Lacking(BadAddress, ImportError):
@@ -38,16 +37,9 @@ def address_of(text: str) -> Union[str, tuple[str, int]]:
     host = host.strip("[]") or "127.0.0.1"
     if not colon or not port.isascii() or not port.isdigit() or int(port) > 65535:
         raise BadAddress(f"{text!r} is no address: write 127.0.0.1:8080, or unix:/run/labrun/page.sock")
-    if not is_loopback(host):
+    if not is_here(host):
         raise BadAddress(f"{text!r}: the page has no password, so it is shown on the loopback or a Unix socket only; put a web server with TLS in front of it")
     return host, int(port)
-
-
-def is_loopback(host: str) -> bool:
-    try:
-        return host == "localhost" or ipaddress.ip_address(host).is_loopback
-    except ValueError:
-        return False
 
 
 IS_TCP, SILENT = "is tcp", "silent"
@@ -59,9 +51,21 @@ async def only_from_here(request: web.Request, handler: Callable[[web.Request], 
     request.app[SILENT].discard(request.protocol)
     host = request.headers.get("Host", "")
     name = host.rpartition(":")[0] if re.search(r":\d*$", host) else host
-    if request.app[IS_TCP] and not is_loopback(name.strip("[]")):
+    if request.app[IS_TCP] and not is_here(name.strip("[]")):
         raise web.HTTPForbidden(text="this page is asked for by its own address only, as 127.0.0.1\n", headers=HEADERS)
     return await handler(request)
+
+
+def runs_beside(app: web.Application, work: Callable[[], Coroutine[Any, Any, None]]) -> None:
+    """Some work goes on as long as the server does."""
+
+    async def beside(_: web.Application) -> AsyncIterator[None]:
+        task = asyncio.ensure_future(work())
+        yield
+        task.cancel()
+        await asyncio.gather(task, return_exceptions=True)
+
+    app.cleanup_ctx.append(beside)
 
 
 class Refusing(asyncio.Protocol):

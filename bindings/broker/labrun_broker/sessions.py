@@ -121,7 +121,7 @@ class Past:
             session.gone[-1] = (session.gone[-1][0], t)
 
 
-class Fault(Exception):
+class Fault(ValueError):
     """What a command can't do, in a line for a person."""
 
 

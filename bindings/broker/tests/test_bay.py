@@ -47,7 +47,8 @@ class Bays(unittest.TestCase):
 
     def test_the_rest_of_it(self) -> None:
         bay = bay_of('instruments = ["a", "b"]\ngone = "release"\n[guests]\ncount = 1\nmay_use = ["b"]\n[stations]\nx = ["a"]\n[limits]\nnote = 9\n')
-        self.assertEqual((bay.gone, bay.guests_use, bay.limits), ("release", ("b",), Limits(note=9)))
+        self.assertEqual((bay.gone, bay.guests_use, bay.limits, bay.overtakes), ("release", ("b",), Limits(note=9), None))
+        self.assertEqual(bay_of("overtakes = 0\n" + ONE).overtakes, 0)
 
     def test_faults(self) -> None:
         for text, wanted in FAULTY:

@@ -1,6 +1,8 @@
 """The keeping of the bench, on a loop and without a network."""
 
 import asyncio
+import json
+import tempfile
 import time
 import unittest
 from typing import Any, Optional
@@ -9,6 +11,7 @@ from unittest import mock
 import labrun
 from labrun_broker import keeping as kept
 from labrun_broker.bay import bay_of
+from labrun_broker.journals import sessions_given
 from labrun_broker.keeping import BadWish, Ended, Keeping, Seat, TimedOut, Wish
 from tests.brokers import BAY
 
@@ -297,6 +300,32 @@ class Pages(OnKeeping):
         self.assertEqual(keeping.sessions, 240)
         self.assertGreaterEqual(keeping.page, 3)
         self.assertEqual(whats(keeping).count("let_go"), 240)
+
+    async def test_each_page_has_its_own(self) -> None:
+        """Also those who come to a new page before anybody else: what a page's records have is what its journal has."""
+        folder = self.enterContext(tempfile.TemporaryDirectory())
+        with mock.patch.object(kept, "MANY_SESSIONS", 10):
+            keeping = Keeping(bay_of(BAY), folder)
+            await keeping.open()
+
+            async def guest(at: int) -> None:
+                for count in range(30):
+                    seat = await keeping.hold(Wish(("scope", "load-1"), ticket=f"a ticket, {at} {count:9}"), self.owner)
+                    await asyncio.sleep(0)
+                    await keeping.let_go(seat, self.owner)
+
+            await asyncio.gather(*(guest(at) for at in range(6)))
+            await keeping.close()
+        self.assertGreaterEqual(keeping.page, 3)
+        total = 0
+        for page in range(1, keeping.page + 1):
+            with open(f"{folder}/records-{page}.jsonl", encoding="utf-8") as file:
+                records = [json.loads(line) for line in file]
+            ends = [sorted((it["station"], it["session"]) for it in records if it["what"] == what) for what in ("held", "let_go")]
+            given = sessions_given(f"{folder}/bay.journal" + (f".{page}" if page < keeping.page else ""))
+            self.assertEqual(ends, [sorted(given)] * 2)
+            total += len(given)
+        self.assertEqual(total, 180)
 
     async def test_somebody_holds_for_long(self) -> None:
         """The others go on, until the page is turned once he has let go."""

@@ -2,7 +2,6 @@
 
 from __future__ import annotations
 
-import argparse
 import contextlib
 import csv
 import io
@@ -14,6 +13,7 @@ import xml.etree.ElementTree as ElementTree
 from typing import Any, Iterator
 
 from labrun_broker import past
+from labrun_broker.command import main
 from labrun_broker.journals import records_of_journal
 from labrun_broker.picture import gantt
 from labrun_broker.sessions import HOLDS, UNKNOWN, WAITS, Past, Session, read_records, recent_records, spans_waited_for
@@ -67,15 +67,9 @@ def state(records: list[dict[str, Any]], end: str = "") -> Iterator[str]:
 
 
 def ran(*words: str) -> tuple[int, str, str]:
-    parser = argparse.ArgumentParser()
-    each = parser.add_subparsers()
-    for word in past.words():
-        one = each.add_parser(word.name)
-        word.add_arguments(one)
-        one.set_defaults(run=word.run)
-    args, out, err = parser.parse_args(words), io.StringIO(), io.StringIO()
+    out, err = io.StringIO(), io.StringIO()
     with contextlib.redirect_stdout(out), contextlib.redirect_stderr(err):
-        status = args.run(args)
+        status = main(words)
     return status, out.getvalue(), err.getvalue()
 
 
@@ -276,7 +270,7 @@ class Words(unittest.TestCase):
             status, _, err = ran("gantt", folder, "--to", folder + "/no/where.svg")
             self.assertEqual((status, "No such file" in err), (1, True))
         with self.assertRaises(SystemExit), contextlib.redirect_stderr(io.StringIO()) as err:
-            ran("table", "x", "--last", "yesterday")
+            main(["table", "x", "--last", "yesterday"])
         self.assertIn("write 90, 30s, 15min, 4h or 2d", err.getvalue())
 
 

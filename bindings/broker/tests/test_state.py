@@ -2,12 +2,16 @@
 
 import json
 import os
+import tempfile
 import threading
 import unittest
 
 import labrun
 import labrun_broker
+from labrun_broker.bay import bay_of
+from labrun_broker.keeping import Ended, Keeping, Wish
 from tests.brokers import BAY, LIMIT, OnBroker, station, until
+from tests.test_keeping import Owner
 
 
 class State(OnBroker):
@@ -44,6 +48,26 @@ class State(OnBroker):
         with open(f"{broker.folder}/state/records-1.jsonl", encoding="utf-8") as file:
             what = [json.loads(line)["what"] for line in file if '"station":"board"' in line]
         self.assertEqual(what, ["asked", "held", "let_go", "asked", "held", "note", "gone", "back", "note", "let_go"])
+
+    def test_a_power_cut(self) -> None:
+        """The journal alone is there, and that is enough: whoever was told that it holds does."""
+        broker = self.broker(BAY, "--state", "FOLDER/state")
+        board, other = self.lab(broker, "board"), self.lab(broker)
+        over = other.hold("load-1")
+        over.acquire()
+        held = board.hold("scope", "supply")
+        held.acquire()
+        held.note("12.5 V")
+        broker.kill()
+        os.truncate(f"{broker.folder}/state/records-1.jsonl", 0)
+        broker.begin()
+        again = self.lab(broker)
+        until(lambda: station(again, "board")["state"] == "holding", "it has come back")
+        self.assertEqual((station(again, "board")["note"], station(again, "board")["by"]), ("12.5 V", "tester"))
+        over.release()
+        held.release()
+        with again.hold("scope", "load-1", timeout=LIMIT):
+            pass
 
     def test_gone_while_the_broker_was(self) -> None:
         """Nobody comes back for it: an operator releases it."""
@@ -103,6 +127,37 @@ class State(OnBroker):
             with open(f"{broker.folder}/state/{name}", encoding="utf-8") as file:
                 self.assertNotIn(held._wish.ticket, file.read())
         held.release()
+
+
+class TakenUp(unittest.IsolatedAsyncioTestCase):
+    async def keeping(self, folder: str) -> Keeping:
+        keeping = Keeping(bay_of(BAY), folder)
+        await keeping.open()
+        self.addAsyncCleanup(keeping.close)
+        return keeping
+
+    async def test_what_was_told_and_what_was_not(self) -> None:
+        """Two sessions hold when the broker ends. Of one nobody was told, and so it is let go; the other one's client comes back."""
+        folder = self.enterContext(tempfile.TemporaryDirectory())
+        keeping, owner = await self.keeping(folder), Owner()
+        seat = await keeping.hold(Wish(("scope",), station="radio", by="ann", ticket="a ticket of a test"), owner)
+        await keeping.note(seat, owner, "5 V")
+        await keeping.bench.jobs["board"].hold("supply").acquire_async()
+        over = await keeping.hold(Wish(("load-1",), ticket="another ticket of it"), owner)
+        await keeping.let_go(over, owner)
+        gone = await keeping.hold(Wish(("load-2",), ticket="the ticket of a third"), owner)
+        await keeping.release(gone.name, "eve")
+        await keeping.close()
+        keeping = await self.keeping(folder)
+        status = {it["name"]: it for it in keeping.status()["stations"]}
+        self.assertEqual([(it["name"], it["by"], it["note"]) for it in status.values() if it["state"] != "idle"], [("radio", "ann", "5 V")])
+        back = await keeping.hold(Wish(ticket="a ticket of a test", comes_back=True), owner)
+        self.assertEqual((back.name, back.instruments), ("radio", ("scope",)))
+        for ticket, how in (("another ticket of it", "let_go"), ("the ticket of a third", "taken"), ("a ticket of nobody", "")):
+            with self.assertRaises(Ended) as caught:
+                await keeping.hold(Wish(ticket=ticket, comes_back=True), owner)
+            self.assertEqual(caught.exception.how, how)
+        await keeping.let_go(await keeping.hold(Wish(("supply",), station="board"), owner), owner)
 
 
 class WithoutState(OnBroker):

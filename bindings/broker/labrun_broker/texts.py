@@ -1,0 +1,47 @@
+"""Texts for a terminal: spans, tables, and what others wrote."""
+
+from __future__ import annotations
+
+import argparse
+import re
+
+
+def plain(text: object) -> str:
+    """A text of somebody else: nothing in it moves the cursor. What isn't printable is shown by its number."""
+    return "".join(it if it.isprintable() else it.encode("unicode_escape").decode() for it in str(text))
+
+
+def span(seconds: float, places: int = 0) -> str:
+    """A span as people say it: 12 s, 4 min 5 s, 2 h 13 min, 3 d 4 h; below ten seconds with so many places."""
+    if seconds < 10:
+        return f"{max(0.0, seconds):.{places}f} s"
+    whole = round(seconds)
+    for size, name, below, lower in ((86400, "d", 3600, "h"), (3600, "h", 60, "min"), (60, "min", 1, "s")):
+        if whole >= size:
+            return f"{whole // size} {name} {whole % size // below} {lower}"
+    return f"{whole} s"
+
+
+def aligned(rows: list[list[str]]) -> list[str]:
+    """The lines of a table. (A row with fewer columns has a text as its last one, as wide as it is.)"""
+    most = max(map(len, rows))
+    widths = [max(len(row[at]) for row in rows if len(row) == most) for at in range(most - 1)]
+    return ["  ".join([*(cell.ljust(width) for cell, width in zip(row[:-1], widths)), row[-1]]).rstrip() for row in rows]
+
+
+# how arguments are typed
+
+
+def seconds(text: str) -> float:
+    value = float(text)
+    if not 0 <= value < 1e9:
+        raise argparse.ArgumentTypeError(f"{text} is no number of seconds")
+    return value
+
+
+def last(text: str) -> float:
+    """A span of the past: 90, 30s, 15min, 4h, 2d."""
+    found = re.fullmatch(r"(\d{1,9}(?:\.\d{1,3})?)\s*(s|m|min|h|d)?", text)
+    if not found:
+        raise argparse.ArgumentTypeError(f"{text!r} is no span: write 90, 30s, 15min, 4h or 2d")
+    return float(found[1]) * {None: 1, "s": 1, "m": 60, "min": 60, "h": 3600, "d": 86400}[found[2]]
