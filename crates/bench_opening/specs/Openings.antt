@@ -2,10 +2,12 @@
 use Rattle.std.specs.Prelude.{◌≡◌, ℕ, zero, suc, Bool, List, length, Option, slice_index}
 use Rattle.script_reader.specs.Script.{ScriptMeans}
 use Rattle.lab_program.specs.declared.faults.RunFault.{RunFault}
-use Rattle.lab_program.specs.declared.faults.RunFault.TheVariants.{Script}
+use Rattle.lab_program.specs.declared.faults.RunFault.TheVariants.{Script, NoMemory}
 use Rattle.session_layer.specs.declared.turning.Turned.{Turned}
 use Rattle.live_lab.specs.Labs.{LabView, fresh_lab, IsWhyNot}
 use Rattle.live_lab.specs.Calls.{AtJob, TakesTurn, Withdraws}
+use Rattle.bench_texts.specs.declared.script.NotScript.{NotScript}
+use Rattle.bench_texts.specs.declared.script.NotScript.TheVariants as texts
 use Rattle.bench_texts.specs.Texts.{lab_text, users, at_origin}
 
 -- before its first event
@@ -41,3 +43,8 @@ from_script text fault = fault
 -- why no lab was opened: for the same reason as for the script that the text stands for
 abbrev pub IsWhyNotFor : List ℕ → RunFault → Type 0
 IsWhyNotFor text fault = (why : RunFault) × IsWhyNot (lab_text text) why × (fault ≡ from_script text why)
+
+-- why there is no script, as the fault of an opening
+abbrev pub fault_of : NotScript → RunFault
+fault_of texts.NoMemory = NoMemory
+fault_of (texts.Fault fault) = Script fault

@@ -3,7 +3,7 @@ ghost use Rattle.std.specs.Prelude.{◌≡◌, IfOk, IfErr};
 ghost use Rattle.lab_program.specs.declared.faults.RunFault.TheVariants as faults;
 ghost use Rattle.lab_journal.specs.Taking.{IsOpenedKept};
 ghost use Rattle.bench_texts.specs.Texts.{MeansPlan, lab_text as lab_text_of};
-ghost use Rattle.bench_opening.specs.Openings.{GivesUpFirst, IsFresh, IsOpenedFor, IsWhyNotFor, from_script};
+ghost use Rattle.bench_opening.specs.Openings.{GivesUpFirst, IsFresh, IsOpenedFor, IsWhyNotFor, fault_of, from_script};
 
 use crate::giving_up::give_up_first;
 use bench_texts::{NotScript, at_origin, lab_script, lab_text, users};
@@ -60,7 +60,9 @@ pub fn open_kept(alloc: Global, text: &[u8]) -> Result<Lab, RunFault>
 }
 
 /// Why there is no script, as why there is no lab.
-fn fault_of(why: NotScript) -> RunFault {
+fn fault_of(why: NotScript) -> RunFault
+    ensures { result ≡ fault_of why }
+{
     match why {
         NotScript::Fault(fault) => RunFault::Script(fault),
         NotScript::NoMemory => RunFault::NoMemory,
