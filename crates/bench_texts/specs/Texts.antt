@@ -1,5 +1,5 @@
 -- For readers: a text `bench 1` and the script `lab 2` that it stands for; which jobs get a first session by it, and where a line came from.
-use Rattle.std.specs.Prelude.{ℕ, ◌≡◌, ◌+◌, ◌-◌, Bool, true, false, nat_le, List, [], ◌∷◌, ◌++◌, if◌then◌else◌, Result, Ok, Err}
+use Rattle.std.specs.Prelude.{ℕ, ◌≡◌, ◌+◌, ◌-◌, Bool, false, nat_le, List, [], ◌∷◌, ◌++◌, if◌then◌else◌}
 use Rattle.bstr.specs.Text.{lines_of, without_terminator}
 use Rattle.lab_plan.specs.LabPlan.{LabPlan}
 use Rattle.script_reader.specs.declared.fault.ScriptFault.{ScriptFault}

@@ -65,7 +65,13 @@ fn uses_has_faults(rt: HostRuntime) {
     has_fault(&rt, alloc, b"bench 1\nuses x\n", 2, unknown);
     has_fault(&rt, alloc, b"bench 1\njob a\nuses\n", 3, unknown);
     has_fault(&rt, alloc, b"bench 1\njob a\nuses x\nuses y\n", 4, unknown);
-    has_fault(&rt, alloc, b"bench 1\njob a\nsession\nuses read\n", 4, unknown);
+    has_fault(
+        &rt,
+        alloc,
+        b"bench 1\njob a\nsession\nuses read\n",
+        4,
+        unknown,
+    );
     let bad_name = ScriptCause::BadName;
     has_fault(&rt, alloc, b"bench 1\njob a\nuses x end y\n", 3, bad_name);
     has_fault(&rt, alloc, b"bench 1\njob a\nuses #x\n", 3, bad_name);
@@ -85,11 +91,35 @@ const TOO_MANY_IN_COMMON: &[u8] =
 fn other_faults_keep_their_lines(rt: HostRuntime) {
     let alloc = rt.alloc();
     has_fault(&rt, alloc, b"job a\nuses x\n", 1, ScriptCause::NoHeader);
-    has_fault(&rt, alloc, b"bench 1\nbench 1\n", 2, ScriptCause::UnknownWord);
-    has_fault(&rt, alloc, b"bench 1\njob a\nuses x y z\njob a\n", 4, ScriptCause::JobTwice);
-    has_fault(&rt, alloc, b"bench 1\njob a\nuses x\nsession\n", 5, ScriptCause::SessionNotClosed);
+    has_fault(
+        &rt,
+        alloc,
+        b"bench 1\nbench 1\n",
+        2,
+        ScriptCause::UnknownWord,
+    );
+    has_fault(
+        &rt,
+        alloc,
+        b"bench 1\njob a\nuses x y z\njob a\n",
+        4,
+        ScriptCause::JobTwice,
+    );
+    has_fault(
+        &rt,
+        alloc,
+        b"bench 1\njob a\nuses x\nsession\n",
+        5,
+        ScriptCause::SessionNotClosed,
+    );
     has_fault(&rt, alloc, TOO_MANY, 5, ScriptCause::LimitPassed);
-    has_fault(&rt, alloc, TOO_MANY_IN_COMMON, 6, ScriptCause::TooManyInCommon);
+    has_fault(
+        &rt,
+        alloc,
+        TOO_MANY_IN_COMMON,
+        6,
+        ScriptCause::TooManyInCommon,
+    );
 }
 
 /// How many sessions a job has, in which it is, and how many it gave up.

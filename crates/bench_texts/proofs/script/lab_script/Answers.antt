@@ -1,4 +1,4 @@
-use Rattle.std.proofs.Common.{◌≡◌, ℕ, List, subst, ◌∙◌}
+use Rattle.std.proofs.Common.{ℕ, List, subst, ◌∙◌}
 use Rattle.script_reader.specs.Script.{Refuses, text_lines}
 use Rattle.bench_texts.proofs.script.lab_script.Goals as goal
 
