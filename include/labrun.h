@@ -191,8 +191,24 @@ struct lab_planned {
     uint32_t number;
 };
 
-/* Opens a bench for a script. 0; 1 with `told->line` and `told->cause`; 4; 5; 11 if the handle is in use. */
+/* Opens a bench for a script. 0; 1 with `told->line` and `told->cause`; 4; 5; 11 if the handle is in use.
+
+   The script may also be a text `bench 1`, which says what each job may use, and needs no sessions:
+
+     bench 1
+     job board
+     uses scope supply
+     job guest
+     uses scope
+
+   Each line `uses` stands for a first session of its job, `session patience 0` with a `read` of each instrument, and the open begins these
+   and gives them up. So nobody waits for them, `lab_add` may come next, and a job's sessions count from 2. Of what else such a text may say,
+   docs/FORMATS.md tells. Lines of faults are those of the text. */
 uint32_t lab_bench_open(const uint8_t *script, size_t length, struct lab_bench *bench, struct lab_told *told);
+
+/* The script that a text stands for: of a text `bench 1` a script `lab 2`, which `labrun` reads and with which a journal begins; of a script the
+   script itself. `told->written` is its length, at 6 too. 0; 1 with `told->line` and `told->cause`; 4; 5; 6. */
+uint32_t lab_bench_script(const uint8_t *text, size_t length, uint8_t *script, size_t room, struct lab_told *told);
 
 /* How many jobs and instruments there are. 0, 7. */
 uint32_t lab_bench_size(struct lab_bench *bench, struct lab_size *size);
@@ -307,6 +323,9 @@ uint32_t lab_bench_free(struct lab_bench *bench);
        that let go says so. How often it is brought to the disk (fsync) is up to you.
      - Write the script and the line `steps` whole before the first call: a file that was cut within its script is read as the shorter script
        that it is then.
+     - Of a text `bench 1` the journal's script is what `lab_bench_script` gives. Write it together with the first text of `lab_journal`, which has
+       the steps that gave up the first sessions: without these steps a bench that is resumed has them to begin still (and then `lab_turn` and
+       `lab_withdraw` of each such job give them up).
      - A file that was cut while it was written comes back to its last whole line; `written` tells how many bytes that is. Cut the file
        there, take the journal of the bench that came back, and go on writing behind it.
      - A command that was in hand is done on the way back; the next journal tells it. All patience counts anew.
@@ -316,7 +335,7 @@ uint32_t lab_bench_free(struct lab_bench *bench);
      - In the file, comments of your own begin with `# ` and stand between two texts. A journal has 1000000 steps at most: start a new one
        before. */
 
-/* As `lab_bench_open`, and the bench keeps its steps. 0; 1 with `told->line` and `told->cause`; 4; 5; 11. */
+/* As `lab_bench_open`, and the bench keeps its steps, those of the open too. 0; 1 with `told->line` and `told->cause`; 4; 5; 11. */
 uint32_t lab_bench_open_kept(const uint8_t *script, size_t length, struct lab_bench *bench, struct lab_told *told);
 
 /* Takes the steps that were done since the journal was last taken, as text, which may be empty; `written` tells its length. 0; 5; 6 with

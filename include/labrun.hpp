@@ -46,6 +46,7 @@
 #include <optional>
 #include <map>
 #include <pthread.h>
+#include <sstream>
 #include <stdexcept>
 #include <string>
 #include <string_view>
@@ -766,6 +767,8 @@ struct core {
     std::vector<std::uint64_t> uses; // the instruments that each job's sessions named at the open: no other may name more
     std::string head;                // the first line of the script, without comments
     bool is_endless = false;         // one of create(), whose jobs go on to get sessions
+    std::optional<std::string> bay_script; // of a text `bench 1`, which is one too: its script, and the jobs with a line `uses`
+    std::vector<std::string> users;
     std::uint64_t page = 0;          // which page it is; whether somebody turns it; and the sessions that are to come to the next one
     bool is_turning = false;
     std::vector<std::pair<std::uint32_t, kind>> later;
@@ -1353,6 +1356,20 @@ struct core {
         return words;
     }
 
+    // Of a text `bench 1` the script that it stands for, and the jobs with a line `uses`. (Whether it is sound is for the library to say.)
+    void reads_bay(std::string_view text) {
+        bay_script = told_text([=](auto... given) { return lab_bench_script(bytes(text), text.size(), given...); }).text;
+        std::istringstream lines{std::string(text)};
+        std::string job;
+        for (std::string line; std::getline(lines, line);) {
+            std::istringstream fields(line);
+            std::string word, name;
+            fields >> word >> name;
+            if (word == "job") job = name;
+            if (word == "uses") users.push_back(job);
+        }
+    }
+
     // The script that the bench has become.
     std::string script() {
         std::string text = head + "\n";
@@ -1373,9 +1390,10 @@ struct core {
         return text;
     }
 
-    // The first session of each job is begun by one turn, and given up, unless that was done before.
+    // The first session by which a job may use its instruments is begun by one turn, and given up, unless that was done before.
     void give_up_first() {
         for (std::uint32_t job = 0; job < seats.size(); job++) {
+            if (bay_script && std::find(users.begin(), users.end(), jobs[job]) == users.end()) continue;
             lab_turned turned{};
             if (state(job).session == 0 && !seats[job].sessions.empty()) lab_turn(&handle, job, &turned);
             told();
@@ -1444,7 +1462,7 @@ struct core {
         for (std::uint32_t job = 0; job < seats.size(); job++) bay.emplace_back(jobs[job], names(uses[job]));
         labrun::page page{{}, script(), std::nullopt};
         lab_bench opened{};
-        page.journal = open_page(text_of(bay), &opened);
+        page.journal = open_page(bay_script ? *bay_script : text_of(bay), &opened);
         std::exception_ptr fault;
         try {
             page.report = told_text([this](auto... given) { return lab_bench_close(&handle, given...); });
@@ -1838,11 +1856,16 @@ class bench {
         return bench(std::string(std::istreambuf_iterator<char>(file), std::istreambuf_iterator<char>()), journal, how, overtakes);
     }
 
-    // The bench of a script in memory, else as open().
+    // The bench of a script in memory, else as open(). It may be a text `bench 1`, whose lines `uses` say what each job may use: a bench as create()
+    // makes one.
     explicit bench(std::string_view script, const std::string &journal = "", labrun::sync how = labrun::sync::data,
                    std::uint32_t overtakes = OVERTAKES)
         : core_(std::make_unique<detail::core>()) {
         core_->overtakes = overtakes;
+        if (detail::core::first_line(script) == "bench 1") {
+            core_->reads_bay(script);
+            script = *core_->bay_script;
+        }
         std::optional<detail::journal::came_by> came;
         if (journal.empty()) {
             lab_told told{};
@@ -1867,6 +1890,7 @@ class bench {
         core_->comes_back();
         if (came) core_->resume(*came);
         core_->commit(core_->ticket());
+        if (core_->bay_script) begins_endless();
     }
 
     // A bench without a script: the jobs by their names, each with the instruments that it may use. Their sessions come by job::hold and job::add.
@@ -2029,7 +2053,7 @@ class bench {
         }
     }
 
-    // It is a bench without a script, or the page of one that a journal has.
+    // It is a bench without a script or of a text `bench 1`, or the page of one that a journal has.
     void begins_endless() {
         std::unique_lock<std::mutex> guard = open();
         core_->is_endless = true;

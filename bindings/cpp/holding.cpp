@@ -346,6 +346,25 @@ static void created() {
 }
 
 // A loop over a job's sessions waits for what comes, until the job is retired.
+// A bench of a text `bench 1`: what a job may use, a session of its own, pages, and a fault at its line.
+static void of_a_text() {
+    labrun::bench it("bench 1\njob board\nuses scope supply\njob guest\nuses scope\nsession\nscope set 7\nend\n");
+    for (int at = 0; at < 2; at++) {
+        expect("its script", it.script().rfind("lab 2\njob board\nsession patience 0\nscope read\nsupply read\nend\njob guest\n", 0) == 0);
+        it.job("board").hold({"supply"}).finish();
+        it.desks()[1].begin()->finish();
+        it.job("guest").hold({"scope"}).finish();
+        const labrun::page page = it.turn_page();
+        expect("its page", page.report.text.find("guest 2 1/1 set 7 = 7\nguest 3 1/1 read = 7\n") != std::string::npos);
+    }
+    try {
+        labrun::bench("bench 1\njob a\nuses x y z\njob a\n");
+        expect("a fault", false);
+    } catch (const labrun::refused &fault) {
+        expect("its line", fault.line == 4 && fault.cause == 5);
+    }
+}
+
 static void sessions_go_on() {
     labrun::bench bench = bay();
     const labrun::job drive = bench.job("drive"), board = bench.job("board");
@@ -503,7 +522,7 @@ static void load() {
 }
 
 int main() {
-    for (const auto &test : {hold, commands, may_not_use, behind_a_script, times, taken_away_and_late, waiting, choices, waits_for_either, created,
+    for (const auto &test : {hold, commands, may_not_use, behind_a_script, times, taken_away_and_late, waiting, choices, waits_for_either, created, of_a_text,
                              sessions_go_on, room, pages, a_page_waits_for_who_holds, load})
         test();
     std::cout << passed << " passed, " << failed << " failed\n";

@@ -24,7 +24,7 @@ from ._faults import Closed, JournalError, LabrunError, NotHeld, OtherProcess, S
 from ._journal import Journal, Kept, Path, Ticket
 from ._library import NO_SUCH, NOT_NOW, SESSIONS_LEFT, Came, Entered, Handle, Keepers, Library, Outside, Planned, SessionOf, Size, State, Told, Turned
 from ._library import library
-from ._report import Entry, Report, Text, as_bytes, told_fault, told_text
+from ._report import Entry, Report, Text, as_bytes, told_bytes, told_fault, told_text
 
 VERBS = ("set", "add", "read")
 
@@ -685,6 +685,9 @@ class Jobs(tuple[Job, ...]):
 class Bench:
     """The bench of a script: `jobs` in its order, `instruments` by their names in the order in which they are first named.
 
+    The script may be a text `bench 1`, whose lines `uses` say what each job may use. It is a bench as `new` makes one: sessions come by
+    `Job.hold` and `Job.add`.
+
     As a context manager it is closed at the end, and `report` is there then. Join your threads before: who comes later gets Closed. It
     belongs to the process that opened it: in a child of a fork each call raises OtherProcess.
 
@@ -700,6 +703,10 @@ class Bench:
             raise ValueError("overtakes is a number from 0 to 4294967295")
         calls: Union[Library, Kept] = library()
         given, told, handle = as_bytes(script), Told(), Handle()
+        # of a text `bench 1` the jobs with a line `uses`; from here on its script stands in its place
+        self._users = _holding.users_of(given)
+        if self._users is not None:
+            given = told_bytes(library()["lab_bench_script"], given, len(given))
         self._journal: Optional[Journal] = None
         self.resumed = False
         if journal is None:
@@ -742,7 +749,7 @@ class Bench:
         self._turning: Optional[_holding.Turning] = None
         self._last_page: Optional[Page] = None
         self._later: list[tuple[Job, _holding.Kind]] = []
-        # whether it is one of `new`, whose jobs go on to get sessions
+        # whether it is one of `new` or of a text `bench 1`, whose jobs go on to get sessions
         self._is_endless = False
         # from a call that changes something until what it told is noted: an exception there leaves it, and then all is looked at anew
         self._torn = False
@@ -766,6 +773,8 @@ class Bench:
                 _holding.give_up_unheld(self, self._journal.came)
                 ticket = self._journal.ticket
             self._commit(ticket)
+        if self._users is not None:
+            _holding.begins_endless(self)
 
     @classmethod
     def open(cls, path: Path, journal: Optional[Path] = None, sync: str = "data", overtakes: int = OVERTAKES) -> Bench:

@@ -615,6 +615,12 @@ def new(kind: type[Bench], jobs: Mapping[str, Iterable[str]], journal: Optional[
     except Refused as fault:
         at = lines[fault.line - 1] if fault.line <= len(lines) else "the jobs as they are"
         raise ValueError(f"{at}: {str(fault).split(': ', 1)[-1]}") from fault
+    begins_endless(bench)
+    return bench
+
+
+def begins_endless(bench: Bench) -> None:
+    """The bench has no sessions yet but what its jobs may use, and goes on to get them."""
     bench._is_endless = True
     with bench._mutex:
         _give_up_first(bench)
@@ -624,7 +630,21 @@ def new(kind: type[Bench], jobs: Mapping[str, Iterable[str]], journal: Optional[
     if bench.resumed and any(job._is_retired for job in bench._jobs) and not _busy(bench):
         # (the process ended when the page was over, and before the next one was begun)
         bench.turn_page()
-    return bench
+
+
+def users_of(text: bytes) -> Optional[frozenset[str]]:
+    """The jobs that have a line `uses`, of a text `bench 1`; None of any other. (Whether the text is sound is for the library to say.)"""
+    lines = (line.split() for line in text.split(b"\n"))
+    said = (fields for fields in lines if fields and not fields[0].startswith(b"#"))
+    if next(said, None) != [b"bench", b"1"]:
+        return None
+    users, job = set(), b""
+    for word, *names in said:
+        if word == b"job" and names:
+            job = names[0]
+        elif word == b"uses":
+            users.add(job.decode("ascii", "replace"))
+    return frozenset(users)
 
 
 def _lines(jobs: Mapping[str, tuple[str, ...]]) -> list[str]:
@@ -639,8 +659,11 @@ def _lines(jobs: Mapping[str, tuple[str, ...]]) -> list[str]:
 
 
 def _give_up_first(bench: Bench) -> None:
-    """The first session of each job is begun by one turn, and given up, unless that was done before. (With the mutex held.)"""
+    """The first session by which a job may use its instruments is begun by one turn, and given up, unless that was done before. (With the mutex
+    held.)"""
     for job in bench._jobs:
+        if bench._users is not None and job.name not in bench._users:
+            continue
         if job._plan and bench._state_of(job.index).session == 0:
             bench._call("lab_turn", job.index, bench._turned_at)
         state = bench._state_of(job.index)

@@ -135,6 +135,7 @@ _LONG: dict[str, list[Any]] = {
     "lab_replay": [_BYTES, _SIZE, _ROOM, _SIZE, _TOLD],
     "lab_check": [_BYTES, _SIZE, _ROOM, _SIZE, _TOLD],
     "lab_upgrade": [_BYTES, _SIZE, _ROOM, _SIZE, _TOLD],
+    "lab_bench_script": [_BYTES, _SIZE, _ROOM, _SIZE, _TOLD],
     "lab_bench_open": [_BYTES, _SIZE, _HANDLE, _TOLD],
     "lab_bench_open_kept": [_BYTES, _SIZE, _HANDLE, _TOLD],
     "lab_bench_resume": [_BYTES, _SIZE, _HANDLE, _TOLD],

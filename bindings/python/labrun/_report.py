@@ -151,7 +151,7 @@ def told_fault(status: int, told: Told) -> Exception:
     return LabrunError(f"status {status}")
 
 
-def told_text(call: Any, *given: Any) -> str:
+def told_bytes(call: Any, *given: Any) -> bytes:
     """Calls with ever more room, until the text fits."""
     told, room = Told(), 16384
     while True:
@@ -160,9 +160,13 @@ def told_text(call: Any, *given: Any) -> str:
         if status == NO_ROOM:
             room = told.written
         elif status in (0, WAITS):
-            return ctypes.string_at(text, told.written).decode("ascii")
+            return ctypes.string_at(text, told.written)
         else:
             raise told_fault(status, told)
+
+
+def told_text(call: Any, *given: Any) -> str:
+    return told_bytes(call, *given).decode("ascii")
 
 
 def _called(name: str, script: Text, *limit: int) -> str:

@@ -642,6 +642,68 @@ class New(OnBay):
                     bench.turn_page()
 
 
+class OfText(unittest.TestCase):
+    """A bench of a text `bench 1`."""
+
+    TEXT = "# f\u00fcr alle\r\nbench 1\njob board\nuses scope supply\n\njob guest\nuses scope\nsession\nscope set 7\nend\njob idle\n"
+    SCRIPT = "lab 2\njob board\nsession patience 0\nscope read\nsupply read\nend\njob guest\nsession patience 0\nscope read\nend\n"
+    OWN = "session\nscope set 7\nend\njob idle\n"
+
+    def is_bay(self, bench: labrun.Bench) -> None:
+        self.assertEqual(bench.script, self.SCRIPT + self.OWN)
+        self.assertEqual([job.state.withdrawn for job in bench.jobs], [1, 1, 0])
+        self.assertEqual([job.instruments for job in bench.jobs], [("scope", "supply"), ("scope",), ()])
+        with bench.job("board").hold("supply", "scope") as session:
+            self.assertEqual(session.number, 2)
+        own = bench.job("guest").next_session()
+        assert own
+        with own:
+            self.assertEqual(own.number, 2)
+        with bench.job("guest").hold("scope"):
+            pass
+
+    def test_text(self) -> None:
+        with labrun.Bench.from_text(self.TEXT) as bench:
+            for _ in range(2):
+                self.is_bay(bench)
+                page = bench.turn_page()
+                self.assertEqual([str(it) for it in page.report.log("scope")], ["board 2 1/1 read = 0", "guest 2 1/1 set 7 = 7", "guest 3 1/1 read = 7"])
+            self.is_bay(bench)
+        self.assertTrue(bench.report.finished)
+
+    def test_faults(self) -> None:
+        for text, line, cause in (
+            ("bench 1\nuses x\n", 2, "S2"),
+            ("bench 1\njob a\nuses x y\n\nuses z\n", 5, "S2"),
+            ("bench 1\njob a\nuses x Y\n", 3, "S3"),
+            ("bench 1\njob a\nuses x y z\njob a\n", 4, "S5"),
+            ("bench 1\njob a\nuses " + " ".join(f"x{at}" for at in range(57)), 3, "S10"),
+            ("bench 2\n", 1, "S1"),
+        ):
+            with self.subTest(text), self.assertRaisesRegex(labrun.Refused, f"line {line}: {cause} "):
+                labrun.Bench.from_text(text)
+
+    def test_journal(self) -> None:
+        """It comes back by the same text, also cut right behind the script, and begins new pages by it."""
+        with tempfile.TemporaryDirectory() as folder:
+            path = os.path.join(folder, "bay.journal")
+            bench = labrun.Bench.from_text(self.TEXT, journal=path, sync="none")
+            with open(path, "rb") as file:
+                text = file.read()
+            bench.close()
+            head = text.index(b"\nsteps\n") + 7
+            for end in (head, len(text)):
+                with open(path, "wb") as file:
+                    file.write(text[:end])
+                with self.subTest(end), labrun.Bench.from_text(self.TEXT, journal=path, sync="none") as bench:
+                    self.assertTrue(bench.resumed)
+                    self.is_bay(bench)
+                    self.assertEqual(bench.turn_page().journal, path + f".{1 if end == head else 2}")
+                    self.is_bay(bench)
+                if end == head:
+                    os.remove(path)
+
+
 class Pages(OnBay):
     def test_turn(self) -> None:
         with self.bay() as bench:

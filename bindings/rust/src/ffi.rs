@@ -100,6 +100,7 @@ extern "C" {
     pub fn lab_replay(script: *const u8, length: usize, report: *mut u8, room: usize, told: *mut Told) -> u32;
     pub fn lab_check(script: *const u8, length: usize, report: *mut u8, room: usize, told: *mut Told) -> u32;
     pub fn lab_upgrade(script: *const u8, length: usize, report: *mut u8, room: usize, told: *mut Told) -> u32;
+    pub fn lab_bench_script(text: *const u8, length: usize, script: *mut u8, room: usize, told: *mut Told) -> u32;
     pub fn lab_bench_open(script: *const u8, length: usize, bench: *mut Handle, told: *mut Told) -> u32;
     pub fn lab_bench_size(bench: *mut Handle, size: *mut Size) -> u32;
     pub fn lab_job_name(bench: *mut Handle, job: u32, name: *mut u8, room: usize, written: *mut usize) -> u32;

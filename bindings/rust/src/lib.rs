@@ -221,7 +221,7 @@ fn fault(status: u32, told: &ffi::Told) -> Error {
 }
 
 /// Calls with ever more room, until the text fits.
-fn told_text(mut call: impl FnMut(*mut u8, usize, *mut ffi::Told) -> u32) -> Result<(u32, String), Error> {
+fn told_bytes(mut call: impl FnMut(*mut u8, usize, *mut ffi::Told) -> u32) -> Result<(u32, Vec<u8>), Error> {
     let mut text = vec![0; 16384];
     loop {
         let mut told = ffi::Told::default();
@@ -229,11 +229,15 @@ fn told_text(mut call: impl FnMut(*mut u8, usize, *mut ffi::Told) -> u32) -> Res
             NO_ROOM => text.resize(told.written, 0),
             status @ (0 | WAITS) => {
                 text.truncate(told.written);
-                return Ok((status, String::from_utf8_lossy(&text).into_owned()));
+                return Ok((status, text));
             }
             status => return Err(fault(status, &told)),
         }
     }
+}
+
+fn told_text(call: impl FnMut(*mut u8, usize, *mut ffi::Told) -> u32) -> Result<(u32, String), Error> {
+    told_bytes(call).map(|(status, text)| (status, String::from_utf8_lossy(&text).into_owned()))
 }
 
 /// Runs a script on one thread, at most `limit` rounds, as `labrun rounds LIMIT`.
@@ -376,9 +380,11 @@ struct Core {
     overtakes: u32,
     /// The forks before it was opened.
     born: u32,
-    /// The first line of its script, without comments, and whether it is a bench of [`Bench::new`], whose jobs go on to get sessions.
+    /// The first line of its script, without comments, and whether it is a bench of [`Bench::new`], whose jobs go on to get sessions; of a text
+    /// `bench 1`, which is one too, what it stands for.
     head: String,
     endless: bool,
+    bay: Option<pages::Bay>,
     /// Which page it is, whether somebody turns it, and the sessions that are to come to the next one.
     page: u64,
     turning: bool,
@@ -753,6 +759,7 @@ impl Core {
             born: FORKS.load(Relaxed),
             head: String::new(),
             endless: false,
+            bay: None,
             page: 0,
             turning: false,
             later: Vec::new(),
@@ -835,7 +842,15 @@ impl Bench {
         Options::new().open(path)
     }
 
-    /// The bench of a script in memory, and a desk for each job, in the order of the script.
+    /// The bench of a script in memory, and a desk for each job, in the order of the script. It may be a text `bench 1`, whose lines `uses` say
+    /// what each job may use: a bench as [`Bench::new`] makes one.
+    ///
+    /// ```
+    /// let (bench, _) = labrun::Bench::from_text(b"bench 1\njob board\nuses scope supply\njob guest\nuses scope\n")?;
+    /// bench.job("board")?.hold(&["scope"]).begin()?.finish()?;
+    /// assert_eq!(bench.close()?.log("scope"), ["board 2 1/1 read = 0"]);
+    /// # Ok::<(), labrun::Error>(())
+    /// ```
     pub fn from_text(script: &[u8]) -> Result<(Bench, Vec<Desk>), Error> {
         Options::new().from_text(script)
     }
@@ -872,6 +887,8 @@ impl Bench {
         // SAFETY: the function does nothing but count.
         AT_FORKS.call_once(|| assert_eq!(unsafe { ffi::pthread_atfork(None, None, Some(after_fork)) }, 0));
         let (mut core, mut told, mut size) = (Core::new(options.overtakes), ffi::Told::default(), ffi::Size::default());
+        let bay = pages::bay_of(script)?;
+        let script = bay.as_ref().map_or(script, |it| it.script.as_slice());
         let (mut log, mut came) = (None, None);
         if let Some((path, to)) = &options.journal {
             let it = Journal::open(path, *to)?;
@@ -898,6 +915,7 @@ impl Bench {
         }
         core.comes_back();
         core.head = pages::first_line(script);
+        core.bay = bay;
         let woken = jobs.iter().map(|_| Condvar::new()).collect();
         let uses = core.seats.iter().map(|seat| seat.sessions.iter().fold(0, |all, it| all | it.needs)).collect();
         let (born, process, others, resumed) = (core.born, std::process::id(), Condvar::new(), came.is_some());

@@ -50,6 +50,9 @@ impl Options {
     pub fn from_text(&self, script: &[u8]) -> Result<(Bench, Vec<Desk>), Error> {
         let inner = Bench::of(script, self)?;
         let desks = (0..inner.jobs.len() as u32).map(|job| Desk { inner: Arc::clone(&inner), job, limit: None, patience: None }).collect();
+        if inner.open()?.bay.is_some() {
+            return Ok((pages::endless(inner)?, desks));
+        }
         Ok((Bench { inner }, desks))
     }
 

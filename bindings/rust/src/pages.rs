@@ -1,8 +1,8 @@
 //! A bench without a script, how much may still come to it, and pages that are turned.
 use crate::holding::{Verb, MOST_SESSIONS};
 use crate::journal::{Journal, MOST, MOST_STEPS};
-use crate::{fault, ffi, members, told_text, Bench, Core, Error, Inner, Options, Report, Seat, HOLDS, RETIRED, THIRSTY};
-use std::sync::MutexGuard;
+use crate::{fault, ffi, members, told_bytes, told_text, Bench, Core, Error, Inner, Options, Report, Seat, HOLDS, RETIRED, THIRSTY};
+use std::sync::{Arc, MutexGuard};
 use std::time::{Duration, Instant};
 
 /// How many commands a bench may have.
@@ -72,9 +72,7 @@ fn text_of(jobs: &[(String, Vec<String>)]) -> String {
 
 /// The first line of a script that is neither empty nor a comment, its words with one space between.
 pub(crate) fn first_line(script: &[u8]) -> String {
-    let text = String::from_utf8_lossy(script);
-    let words = text.lines().map(|line| line.split_whitespace().collect::<Vec<_>>());
-    words.into_iter().find(|it| it.first().is_some_and(|word| !word.starts_with('#'))).map_or(String::new(), |it| it.join(" "))
+    said(&String::from_utf8_lossy(script)).next().map_or(String::new(), |it| it.join(" "))
 }
 
 /// A bench without a script.
@@ -87,11 +85,49 @@ pub(crate) fn new(jobs: &[(String, Vec<String>)], options: &Options) -> Result<B
         }
         fault => fault,
     })?;
+    endless(inner)
+}
+
+/// What a text `bench 1` stands for.
+pub(crate) struct Bay {
+    /// Its script.
+    pub(crate) script: Vec<u8>,
+    /// The jobs with a line `uses`.
+    users: Vec<String>,
+}
+
+/// The words of the lines that are neither empty nor a comment.
+fn said(text: &str) -> impl Iterator<Item = Vec<&str>> {
+    text.lines().map(|line| line.split_whitespace().collect::<Vec<_>>()).filter(|it| it.first().is_some_and(|word| !word.starts_with('#')))
+}
+
+/// What a text stands for, if it is one `bench 1`; whether it is sound is for the library to say.
+pub(crate) fn bay_of(text: &[u8]) -> Result<Option<Bay>, Error> {
+    let words = String::from_utf8_lossy(text);
+    let mut lines = said(&words);
+    if lines.next().as_deref() != Some(&["bench", "1"][..]) {
+        return Ok(None);
+    }
+    // SAFETY: the pointers and lengths are those of two slices, which are apart, and none is null.
+    let (_, script) = told_bytes(|script, room, told| unsafe { ffi::lab_bench_script(text.as_ptr(), text.len(), script, room, told) })?;
+    let (mut users, mut job) = (Vec::new(), "");
+    for line in lines {
+        match line[..] {
+            ["job", name] => job = name,
+            ["uses", ..] => users.push(job.to_string()),
+            _ => {}
+        }
+    }
+    Ok(Some(Bay { script, users }))
+}
+
+/// The bench has no sessions yet but what its jobs may use, and goes on to get them.
+pub(crate) fn endless(inner: Arc<Inner>) -> Result<Bench, Error> {
     let mut core = inner.open()?;
     core.endless = true;
     inner.give_up_first(&mut core)?;
     let ticket = inner.ticket();
-    let retired = (0..jobs.len() as u32).any(|job| core.state(job).drinking == RETIRED);
+    let retired = (0..inner.jobs.len() as u32).any(|job| core.state(job).drinking == RETIRED);
     let is_over = inner.resumed && retired && inner.busy(&mut core).is_empty();
     drop(core);
     inner.commit(ticket)?;
@@ -104,9 +140,12 @@ pub(crate) fn new(jobs: &[(String, Vec<String>)], options: &Options) -> Result<B
 }
 
 impl Inner {
-    /// The first session of each job is begun by one turn, and given up, unless that was done before.
+    /// The first session by which a job may use its instruments is begun by one turn, and given up, unless that was done before.
     fn give_up_first(&self, core: &mut Core) -> Result<(), Error> {
         for job in 0..self.jobs.len() as u32 {
+            if core.bay.as_ref().is_some_and(|it| !it.users.contains(&self.jobs[job as usize])) {
+                continue;
+            }
             let mut turned = ffi::Turned::default();
             // SAFETY: the handle is open, and the mutex is held; so below.
             if core.state(job).session == 0 && !core.seats[job as usize].sessions.is_empty() {
@@ -191,10 +230,10 @@ impl Inner {
     }
 
     /// The new page, and where the old one's journal is.
-    fn opened(&self, script: &str) -> Result<(Freed, Option<String>), Error> {
+    fn opened(&self, script: &[u8]) -> Result<(Freed, Option<String>), Error> {
         let mut opened = Freed(ffi::Handle { at: std::ptr::null_mut(), live: 0 });
         if let Some(log) = &self.log {
-            let kept = log.turn(script.as_bytes(), &mut opened.0)?;
+            let kept = log.turn(script, &mut opened.0)?;
             return Ok((opened, Some(kept)));
         }
         let mut told = ffi::Told::default();
@@ -207,7 +246,8 @@ impl Inner {
 
     /// Turns the page of a bench that is quiet, and whose journal is written.
     fn turned(&self, core: &mut Core) -> Result<Page, Error> {
-        let (script, became) = (text_of(&self.bay()), self.script_of(core));
+        let script = core.bay.as_ref().map_or_else(|| text_of(&self.bay()).into_bytes(), |it| it.script.clone());
+        let became = self.script_of(core);
         let (mut opened, journal) = self.opened(&script)?;
         let handle = &mut core.handle;
         // SAFETY: the room is that of one slice, and the mutex is held; so below.

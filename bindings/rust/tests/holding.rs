@@ -112,6 +112,22 @@ fn hold() {
     assert_eq!(line_of(&report, "board"), "job board sessions 2 of 3 withdrawn 1 retired");
 }
 
+/// A bench of a text `bench 1`: what a job may use, a session of its own, pages, and a fault at its line.
+#[test]
+fn of_a_text() {
+    let text = b"bench 1\njob board\nuses scope supply\njob guest\nuses scope\nsession\nscope set 7\nend\n";
+    let (bench, mut desks) = Bench::from_text(text).unwrap();
+    for _ in 0..2 {
+        assert!(bench.script().unwrap().starts_with("lab 2\njob board\nsession patience 0\nscope read\nsupply read\nend\njob guest\n"));
+        assert_eq!(held(&bench, "board", &["supply"]).number(), 2);
+        desks[1].begin().unwrap().unwrap().finish().unwrap();
+        held(&bench, "guest", &["scope"]).finish().unwrap();
+        assert_eq!(bench.turn_page().unwrap().report.log("scope"), ["guest 2 1/1 set 7 = 7", "guest 3 1/1 read = 7"]);
+    }
+    let fault = Bench::from_text(b"bench 1\njob a\nuses x y z\njob a\n").err();
+    assert!(matches!(fault, Some(Error::Refused { line: 4, cause: 5 })));
+}
+
 #[test]
 fn commands() {
     let bench = bay(64);

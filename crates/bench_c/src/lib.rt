@@ -6,7 +6,8 @@ ghost use Rattle.lab_journal.specs.Taking.{IsOpenedKept};
 ghost use Rattle.bench_calls.specs.Journals.{TellsJournal, Resumes};
 ghost use Rattle.bench_calls.specs.Closing.{Closes, Frees, is_of_a_lab};
 ghost use Rattle.bench_calls.specs.Coming.{Comes, TellsMore};
-ghost use Rattle.bench_calls.specs.Calls.{Opens, IsFresh, InLab, InRoom};
+ghost use Rattle.bench_opening.specs.Openings.{IsFresh};
+ghost use Rattle.bench_calls.specs.Calls.{Opens, InLab, InRoom, TellsScript};
 ghost use Rattle.bench_calls.specs.Calls.{Turns, Serves, ServesRest, SettlesAll, GoesToHold, DoesNext, LetsGo, GivesUp, GoesToEnd, SetsOvertakes};
 ghost use Rattle.bench_calls.specs.Calls.{TellsSize, TellsSession, TellsPlanned, TellsState, TellsKeepers, TellsOutside, TellsJobName, TellsInstrumentName};
 
@@ -19,7 +20,7 @@ use c_handles::Handle;
 use c_tells::Told;
 use std::alloc::Global;
 
-/// Opens a lab for a script. A handle that is in use stays as it is.
+/// Opens a lab for a script, or for a text `bench 1`. A handle that is in use stays as it is.
 #[unsafe(no_mangle)]
 pub extern "C" fn lab_bench_open(
     alloc: Global,
@@ -30,6 +31,19 @@ pub extern "C" fn lab_bench_open(
     ensures { Opens IsFresh script.now bench.old.slot.held bench.new.slot.held told.old told.new result }
 {
     bench_calls::open(alloc, script, bench, told)
+}
+
+/// Puts the script that a text stands for into the room, and tells its length: with it a journal begins.
+#[unsafe(no_mangle)]
+pub extern "C" fn lab_bench_script(
+    alloc: Global,
+    text: &[u8],
+    script: &mut [u8],
+    told: &mut Told,
+) -> u32
+    ensures { TellsScript text.now script.old script.new told.new result }
+{
+    bench_calls::script(alloc, text, script, told)
 }
 
 /// Opens a lab for a script that keeps its steps until its journal is taken. A handle that is in use stays as it is.

@@ -1,12 +1,11 @@
 -- For readers: what each call leaves in the handle and in the caller's memory, and its status.
 use Rattle.std.specs.Prelude.{◌≡◌, ◌⊎◌, ℕ, ◌-◌, ◌≤◌, ◌<◌, ◌==◌, min, if◌then◌else◌, Bool, true, false, List, length, Option, Some, None, Err}
 use Rattle.lab_plan.specs.LabPlan.{job_at}
-use Rattle.script_reader.specs.Script.{ScriptMeans}
 use Rattle.lab_program.specs.declared.faults.RunFault.{RunFault}
 use Rattle.lab_program.specs.Faults.{status_of}
 use Rattle.live_lab.specs.declared.settle.Came.{Came}
 use Rattle.late_thirst.specs.Lines.{with_most}
-use Rattle.live_lab.specs.Labs.{LabView, fresh_lab, with_line, IsWhyNot}
+use Rattle.live_lab.specs.Labs.{LabView, with_line}
 use Rattle.live_lab.specs.Admitting.{IsOutsideAt}
 use Rattle.live_lab.specs.Calls.{AtJob, TakesTurn, Serves as ServesJob, ServesOthers, Withdraws, Commands}
 use Rattle.live_lab.specs.Stages.{Begins, GoesToRetire}
@@ -15,8 +14,10 @@ use Rattle.live_lab.specs.Settles.{Settles}
 use Rattle.live_lab.specs.Readers.{IsSession, IsPlanned, IsStandingAt, IsInstrumentName}
 use Rattle.live_lab.specs.Keepers.{AreKeepersAt}
 use Rattle.lab_journal.specs.Taking.{has_room}
+use Rattle.bench_texts.specs.Texts.{lab_text, MeansPlan}
+use Rattle.bench_opening.specs.Openings.{IsOpenedFor, IsWhyNotFor}
 use Rattle.c_tells.specs.declared.telling.Told.{Told}
-use Rattle.c_tells.specs.Telling.{told_of, Gives}
+use Rattle.c_tells.specs.Telling.{told_of, Gives, Delivers, Fails}
 use Rattle.c_handles.specs.declared.inside.Inside.{Inside}
 use Rattle.c_handles.specs.declared.inside.Inside.TheVariants.{Open}
 use Rattle.bench_calls.specs.declared.told.LabTurned.{LabTurned}
@@ -33,17 +34,14 @@ use Rattle.bench_calls.specs.Telling.{IfTold, TellsAs, TellsDid, TellsBegun, Tel
 
 -- ---- opening
 
--- before its first event
-abbrev pub IsFresh : LabView → Type 0
-IsFresh l = l ≡ fresh_lab l.world.plan
-
--- a lab of the plan that the script means, of which this holds, and nothing is told
+-- a lab of the plan that the script means, of which this holds, and nothing is told; of a text `bench 1` the lab after that, once the first sessions
+-- were given up
 abbrev pub IsOpened : (LabView → Type 0) → List ℕ → Inside → Told → Told → Type 0
-IsOpened Is script new told told' = (l : LabView) × (new ≡ Open l) × ScriptMeans script l.world.plan × Is l × (told' ≡ told)
+IsOpened Is script new told told' = (l : LabView) × (new ≡ Open l) × IsOpenedFor Is script l × (told' ≡ told)
 
 -- there is none because of this fault, which is told
 abbrev pub IsNotOpened : List ℕ → Told → ℕ → Type 0
-IsNotOpened script told' status = (fault : RunFault) × IsWhyNot script fault × (status ≡ status_of (Err fault)) × (told' ≡ told_of fault)
+IsNotOpened script told' status = (fault : RunFault) × IsWhyNotFor script fault × (status ≡ status_of (Err fault)) × (told' ≡ told_of fault)
 
 -- an empty handle has a lab of the plan that the script means, of which this holds (0); or no lab was opened, the handle is as it was and the fault is
 -- told; or the handle is in use, and nothing changed (11)
@@ -52,6 +50,13 @@ Opens Is script (Some held) new told told' status = (status ≡ 11) × (new ≡ 
 Opens Is script None new told told' status =
     ((status ≡ 0) × (h : Inside) × (new ≡ Some h) × IsOpened Is script h told told')
     ⊎ ((new ≡ None) × IsNotOpened script told' status)
+
+-- the script that the text stands for is in the room (0), or has no room there (6), and its length is told; or there is none, the room stays as it was
+-- and the fault is told
+abbrev pub TellsScript : List ℕ → List ℕ → List ℕ → Told → ℕ → Type 0
+TellsScript text room room' told' status =
+    (MeansPlan text × Delivers 0 (lab_text text) room room' told' status)
+    ⊎ ((fault : RunFault) × IsWhyNotFor text fault × Fails fault room room' told' status)
 
 -- ---- calls on an open lab
 

@@ -17,7 +17,7 @@ fn opened_kept(alloc: Global, script: &[u8], told: &mut Told) -> Result<Box<Insi
     ensures opened { IfOk result (λ b. IsOpened IsOpenedKept script.now b.value told.old told.new) }
     ensures refused { IfErr result (λ status. IsNotOpened script.now told.new status) }
 {
-    match lab_journal::open_kept(alloc, script) {
+    match bench_opening::open_kept(alloc, script) {
         Ok(lab) => match Box::new(alloc, Inside::Open(lab)) {
             Ok(inside) => Ok(inside),
             Err(_) => Err(fail(RunFault::NoMemory, told)),

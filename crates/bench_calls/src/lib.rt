@@ -16,7 +16,7 @@ pub use doing::{
 };
 pub use ending::{close, free};
 pub use journals::{journal, open_kept, resume};
-pub use opening::open;
+pub use opening::{open, script};
 pub use reading::{instrument_name, job_name, keepers, outside, planned, session, size, state};
 pub use statuses::{NO_JOB, NOT_NOW, stage_status, tell_entry, withdrew};
 pub use told::{

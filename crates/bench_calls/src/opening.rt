@@ -1,11 +1,11 @@
-//! How a handle gets a lab.
+//! How a handle gets a lab, and the script that a text stands for.
 ghost use Rattle.std.specs.Prelude.{IfOk, IfErr};
-ghost use Rattle.bench_calls.specs.Calls.{Opens, IsFresh, IsOpened, IsNotOpened};
+ghost use Rattle.bench_opening.specs.Openings.{IsFresh};
+ghost use Rattle.bench_calls.specs.Calls.{Opens, IsOpened, IsNotOpened, TellsScript};
 
 use c_handles::{Handle, Inside, claim, put, release};
-use c_tells::{Told, fail};
+use c_tells::{Told, deliver, fail};
 use lab_program::RunFault;
-use live_lab::Lab;
 use std::alloc::Global;
 
 /// A lab for a script, in a box; or the status that says why not, with the fault told.
@@ -13,7 +13,7 @@ fn opened(alloc: Global, script: &[u8], told: &mut Told) -> Result<Box<Inside, G
     ensures opened { IfOk result (λ b. IsOpened IsFresh script.now b.value told.old told.new) }
     ensures refused { IfErr result (λ status. IsNotOpened script.now told.new status) }
 {
-    match Lab::open(alloc, script) {
+    match bench_opening::open(alloc, script) {
         Ok(lab) => match Box::new(alloc, Inside::Open(lab)) {
             Ok(inside) => Ok(inside),
             Err(_) => Err(fail(RunFault::NoMemory, told)),
@@ -22,7 +22,7 @@ fn opened(alloc: Global, script: &[u8], told: &mut Told) -> Result<Box<Inside, G
     }
 }
 
-/// Opens a lab for a script. A handle that is in use stays as it is.
+/// Opens a lab for a script, or for a text `bench 1`. A handle that is in use stays as it is.
 pub fn open(alloc: Global, script: &[u8], bench: &mut Handle, told: &mut Told) -> u32
     ensures { Opens IsFresh script.now bench.old.slot.held bench.new.slot.held told.old told.new result }
 {
@@ -38,5 +38,15 @@ pub fn open(alloc: Global, script: &[u8], bench: &mut Handle, told: &mut Told) -
             release(&mut bench.live);
             status
         }
+    }
+}
+
+/// Puts the script that a text stands for into the room, and tells its length.
+pub fn script(alloc: Global, text: &[u8], room: &mut [u8], told: &mut Told) -> u32
+    ensures { TellsScript text.now room.old room.new told.new result }
+{
+    match bench_opening::script(alloc, text) {
+        Ok(script) => deliver(0, &script, room, told),
+        Err(fault) => fail(fault, told),
     }
 }
