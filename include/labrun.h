@@ -335,7 +335,8 @@ uint32_t lab_bench_free(struct lab_bench *bench);
      - In the file, comments of your own begin with `# ` and stand between two texts. A journal has 1000000 steps at most: start a new one
        before. */
 
-/* As `lab_bench_open`, and the bench keeps its steps, those of the open too. 0; 1 with `told->line` and `told->cause`; 4; 5; 11. */
+/* As `lab_bench_open`, and the bench keeps its steps; of a text `bench 1` those of the open too, so take its journal before `lab_add`. 0; 1 with
+   `told->line` and `told->cause`; 4; 5; 11. */
 uint32_t lab_bench_open_kept(const uint8_t *script, size_t length, struct lab_bench *bench, struct lab_told *told);
 
 /* Takes the steps that were done since the journal was last taken, as text, which may be empty; `written` tells its length. 0; 5; 6 with

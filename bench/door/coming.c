@@ -99,6 +99,7 @@ static void life(struct text script, int keeps) {
     CALL(status, keeps ? lab_bench_open_kept(script.bytes, script.length, &bench, &told) : lab_bench_open(script.bytes, script.length, &bench, &told));
     expect(status == LAB_DONE, "%s: open: status %u", name, status);
     CALL(status, lab_bench_size(&bench, &size));
+    take(keeps); /* (of a text `bench 1` the open has done steps) */
     for (int round = 0; round < 2; round++) {
         for (uint32_t job = 0; job < size.jobs; job++) comes(job, keeps);
         for (int pass = 0; pass < 100 && work((uint32_t)size.jobs, keeps); pass++) continue;
