@@ -1,6 +1,6 @@
 -- The script of a plan ends with a line's end, and steps are written alike by the plan in either version.
 use Rattle.std.proofs.Common.{◌≡◌, ℕ, List, [], ◌∷◌, ◌++◌, true, refl, sym, ap, ◌∙◌, append_assoc, append-nil, arith, if◌then◌else◌}
-use Rattle.std.specs.Prelude.{codes}
+use Rattle.std.specs.Prelude.{codes, decimal}
 use Rattle.std.specs.List.{flat_map}
 use Rattle.std.specs.Io.BufRead.{ends_with_byte}
 use Rattle.lab_plan.specs.LabPlan.{LabPlan, SessionPlan, JobPlan, edges, common}
@@ -21,9 +21,6 @@ IsEnded text = ends_with_byte 10 text ≡ true
 
 ended : (front : List ℕ) → IsEnded (front ++ codes "\n")
 ended front = ends_behind 10 front (codes "\n") (omega arith)
-
-ended_behind : (front text : List ℕ) → (back : List ℕ) → text ≡ front ++ back ++ codes "\n" → IsEnded text
-ended_behind front text back is = ap (ends_with_byte 10) (is ∙ sym (append_assoc front back (codes "\n"))) ∙ ended (front ++ back)
 
 -- behind a text that is ended, others of which each is
 ended_all : {A : Type 0} (write : A → List ℕ) → ((front : List ℕ) (x : A) → IsEnded (front ++ write x)) → (front : List ℕ) (xs : List A) → IsEnded front
@@ -47,7 +44,7 @@ job_ended plan front job =
     (ap (ends_with_byte 10) (sym (append_assoc front (codes "job " ++ job.name) (codes "\n"))) ∙ ended (front ++ (codes "job " ++ job.name)))
 
 script_ended : (plan : LabPlan) → IsEnded (script_text plan)
-script_ended plan = ended_all (job_text plan) (job_ended plan) (header_line 2) plan.jobs (ended _)
+script_ended plan = ended_all (job_text plan) (job_ended plan) (header_line 2) plan.jobs (ended (codes "lab " ++ decimal 2))
 
 pub head_is : (plan : LabPlan) → script_head (script_text plan) ≡ script_text plan ++ codes "steps\n"
 unfolding script_head

@@ -12,6 +12,7 @@ use lab_program::{Outcome, RunFault, Source, read_input};
 use report::Sink;
 use script_reader::upgrade_law::upgrade_means_plan;
 use std::alloc::Global;
+use written_steps::laws::list_is_read_back;
 
 /// Writes the script that the lab of a journal has become.
 fn write_script_of<W: Sink>(alloc: Global, input: &[u8], sink: &mut W) -> Result<Outcome, RunFault>
@@ -32,6 +33,8 @@ fn write_steps_of<W: Sink>(alloc: Global, input: &[u8], sink: &mut W) -> Result<
     ensures writes { W.failures sink.new ≡ W.failures sink.old + failed_writes result }
 {
     let (world, steps) = read_done(alloc, input)?;
+    upgrade_means_plan();
+    list_is_read_back();
     let lines = lines_of(alloc, world.plan(), &steps)?;
     send_steps(world.plan(), &lines, sink)?;
     Ok(Outcome::Finished)
