@@ -105,6 +105,8 @@ def check_view_words(cases):
     for words in ("explain", "arrange", "trace 9", "waits 9", "blocks 9", "gantt 9"):
         cases.ends("a report for labview " + words, cases.run(words.split(), report), 1,
                    "line 2: this is a report; %s reads a script" % words.split()[0])
+    for words in ("script", "steps"):
+        cases.ends("a report for labview " + words, cases.run([words], report), 1, "line 2: " + simulate.FAULTS["S2"])
 
 
 def check_faults(cases):
@@ -209,7 +211,8 @@ def refusing(folder):
 # Lines of words, by program. Standard input is a folder, so that nothing grows once the words are read.
 WORDS = {
     "labrun": ("", "rounds 9", "rounds -- +9", "threads 2 9", "replay --", "check", "--help", "threads -h", "walk", "rounds nine"),
-    "labview": ("explain", "table --", "arrange", "trace 9", "waits +9", "gantt -- 9", "--help", "blocks -h", "walk", "waits nine")}
+    "labview": ("explain", "table --", "script", "steps --", "arrange", "trace 9", "waits +9", "gantt -- 9", "--help", "blocks -h", "walk",
+                "waits nine")}
 
 
 def check_refused_words(cases):

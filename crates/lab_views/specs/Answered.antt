@@ -1,6 +1,5 @@
--- For readers: what is answered to a view, and to the words that ask for it.
-use Rattle.std.specs.Prelude.{◌≡◌, ◌⊎◌, ℕ, List, Option, Some, None, Result, Ok, Err}
-use Rattle.std.specs.Io.KnownBytes.{Keeps}
+-- For readers: what is answered to a view.
+use Rattle.std.specs.Prelude.{◌≡◌, ℕ, List, Option, None, Result, Ok, Err}
 use Rattle.lab_plan.specs.LabPlan.{LabPlan}
 use Rattle.legal_steps.specs.declared.event.StepLine.{StepLine}
 use Rattle.script_reader.specs.declared.fault.ScriptFault.{ScriptFault}
@@ -15,13 +14,9 @@ use Rattle.lab_program.specs.declared.faults.Outcome.TheVariants.{Finished}
 use Rattle.lab_program.specs.Faults.{failed_reads, failed_writes, fault_of, status_of}
 use Rattle.lab_program.specs.Input.{IsInput}
 use Rattle.lab_program.specs.Answers.{AnswersFor, ScriptRefuses}
-use Rattle.command_line.specs.declared.words.NoTask.{NoTask}
-use Rattle.command_line.specs.Ends.{EndsWithoutTask}
 use Rattle.measured_orders.specs.declared.gain.Gain.{Gain}
 use Rattle.labview_words.specs.declared.words.View.{View}
 use Rattle.labview_words.specs.declared.words.View.TheVariants.{Explain, Picture, Table, Arrange, ArrangeMeasured, Trace, Waits, Blocks, Gantt}
-use Rattle.labview_words.specs.Words.{view_of}
-use Rattle.labview_words.specs.Answers.{AnswersWords}
 use Rattle.lab_views.specs.declared.picture_fault.PictureFault.{PictureFault}
 use Rattle.lab_views.specs.declared.picture_fault.PictureFault.TheVariants as picture
 use Rattle.lab_views.specs.declared.view_fault.ViewFault.{ViewFault}
@@ -126,12 +121,3 @@ status_of_view (Err (OfScript fault)) = status_of (Err fault)
 status_of_view (Err (OfReport fault)) = status_of_picture (Err fault)
 status_of_view (Err (GivenScript line view)) = 1
 status_of_view (Err (GivenReport line view)) = 1
-
--- ---- the answer to a command line
-
--- the words ask for a view, and this is its answer and its status; or they ask for none, and nothing went to the sink
-abbrev pub AnswersCommand : List (List ℕ) → Option (List ℕ) → Option (List ℕ) → Option (List ℕ) → ℕ → Type 0
-AnswersCommand words left old new status =
-    ((view : View) × (told : Option Gain) × (answer : Result Outcome ViewFault) × (view_of words ≡ Some view)
-    × ViewAnswers view told left old new answer × (status ≡ status_of_view answer))
-    ⊎ ((reason : NoTask) × AnswersWords words (Err reason) × Keeps old new × EndsWithoutTask reason status)

@@ -2,7 +2,6 @@
 //! settled by its bytes.
 #![tactic(auto)]
 
-mod asking;
 mod drawing_gantt;
 mod ending;
 pub mod laws;
@@ -18,9 +17,8 @@ mod tracing;
 mod view_fault;
 mod viewing;
 
-pub use asking::run_words;
 pub use ending::end_view;
-pub use labview_words::{PROGRAM, View, read_words};
+pub use labview_words::View;
 pub use picture_fault::{PictureFault, status_of_picture};
 pub use view_fault::{ViewFault, status_of_view};
 pub use viewing::run_view;

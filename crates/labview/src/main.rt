@@ -1,9 +1,9 @@
-//! The program `labview`: its words, standard input, output and error, handed to `lab_views`, which does the work.
+//! The program `labview`: its words, standard input, output and error, handed to `labview_tasks`, which does the work.
 #![tactic(auto)]
 
 use command_line::{end_saying_why, given_words};
 use lab_program::{FromRead, RunFault, end};
-use lab_views::{PROGRAM, run_words};
+use labview_tasks::{PROGRAM, run_words};
 use report::ToWrite;
 use std::io::{self, BufWriter};
 use std::process::ExitCode;

@@ -1,6 +1,6 @@
-//! The words of the command line of `labview`: which view they ask for.
+//! The words of the command line of `labview`: what they ask for.
 #![tactic(auto)]
 
 mod words;
 
-pub use words::{PROGRAM, View, read_words};
+pub use words::{PROGRAM, Task, View, read_words};

@@ -3,7 +3,7 @@ ghost use Rattle.std.specs.Prelude.{◌≡◌, map, codes, IfOk};
 ghost use Rattle.clap.specs.Words.{app_of, subcommand_rows_of, with_subcommand};
 ghost use Rattle.command_line.specs.Command.{word_of_number, word_of_optional_number};
 ghost use Rattle.labview_words.specs.Answers.{AnswersWords};
-ghost use Rattle.labview_words.specs.Command.{app_without_rounds, arrange_found, labview_app, view_found};
+ghost use Rattle.labview_words.specs.Command.{app_without_rounds, arrange_found, labview_app, task_found};
 
 use clap::{ArgMatches, Command};
 use command_line::{
@@ -12,7 +12,7 @@ use command_line::{
 use std::alloc::{AllocError, Global};
 use std::convert::AsStr;
 
-/// What the words ask for.
+/// A view of a script or of a report.
 #[derive(Clone, Copy, Debug, PartialEq, Eq, Drop)]
 pub enum View {
     /// Tell why a step of a script isn't legal, and what is.
@@ -35,6 +35,17 @@ pub enum View {
     Gantt { limit: u32 },
 }
 
+/// What the words ask for.
+#[derive(Clone, Copy, Debug, PartialEq, Eq, Drop)]
+pub enum Task {
+    /// Show a script or a report.
+    Show(View),
+    /// Write the script that the lab of a journal has become, with the sessions that came.
+    Script,
+    /// Write this script with each step of a journal.
+    Steps,
+}
+
 /// The program's name.
 pub const PROGRAM: &str = "labview";
 
@@ -51,9 +62,9 @@ The input comes from standard input, at most 16777216 bytes. What is printed goe
 standard output, and a fault in one line to standard error.
 
 Statuses:
-  0  explain: done, whether the steps are legal or not; picture, table, trace, waits, blocks, gantt,
-     arrange, --help: done
-  1  the script or the report is refused; the fault names its line or place
+  0  explain: done, whether the steps are legal or not; picture, table, script, steps, trace, waits,
+     blocks, gantt, arrange, --help: done
+  1  the script, the report or the journal is refused; the fault names its line or place
   2  the command line is refused
   3  trace: longer than a replay reads; arrange: the script went out as it was
   4  reading or writing failed, or the input is longer than 16777216 bytes
@@ -113,6 +124,18 @@ fn without_rounds<'a>(alloc: Global) -> Result<Command<'a>, AllocError>
         "table",
         "read a report of labrun, and write its logs as comma-separated values",
     )?;
+    let command = with_word(
+        alloc,
+        command,
+        "script",
+        "read a journal, write the script that its lab has become, with the sessions that came",
+    )?;
+    let command = with_word(
+        alloc,
+        command,
+        "steps",
+        "read a journal, write this script and each step that was done, for labrun replay",
+    )?;
     with_arrange(alloc, command)
 }
 
@@ -157,44 +180,46 @@ fn arrange_of(limit: Option<u32>) -> View
     }
 }
 
-/// The view of what clap found.
-fn view_of(matches: &ArgMatches<'_>) -> Option<View>
-    ensures { result ≡ view_found (subcommand_rows_of matches.now) }
+/// The task of what clap found.
+fn task_of(matches: &ArgMatches<'_>) -> Option<Task>
+    ensures { result ≡ task_found (subcommand_rows_of matches.now) }
 {
     match matches.subcommand()? {
-        ("explain", _) => Some(View::Explain),
-        ("picture", _) => Some(View::Picture),
-        ("table", _) => Some(View::Table),
-        ("arrange", values) => Some(arrange_of(number_of(values, "N"))),
+        ("explain", _) => Some(Task::Show(View::Explain)),
+        ("picture", _) => Some(Task::Show(View::Picture)),
+        ("table", _) => Some(Task::Show(View::Table)),
+        ("script", _) => Some(Task::Script),
+        ("steps", _) => Some(Task::Steps),
+        ("arrange", values) => Some(Task::Show(arrange_of(number_of(values, "N")))),
         ("trace", values) => {
             let limit = number_of(values, "N")?;
-            Some(View::Trace { limit })
+            Some(Task::Show(View::Trace { limit }))
         }
         ("waits", values) => {
             let limit = number_of(values, "N")?;
-            Some(View::Waits { limit })
+            Some(Task::Show(View::Waits { limit }))
         }
         ("blocks", values) => {
             let limit = number_of(values, "N")?;
-            Some(View::Blocks { limit })
+            Some(Task::Show(View::Blocks { limit }))
         }
         ("gantt", values) => {
             let limit = number_of(values, "N")?;
-            Some(View::Gantt { limit })
+            Some(Task::Show(View::Gantt { limit }))
         }
         _ => None,
     }
 }
 
-/// The view that the words of a command line ask for, the program's own name first, as clap reads them. Words that ask
+/// The task that the words of a command line ask for, the program's own name first, as clap reads them. Words that ask
 /// clap for help give its text, and all others are refused.
-pub fn read_words<S: AsStr>(alloc: Global, words: &[S]) -> Result<View, NoTask>
+pub fn read_words<S: AsStr>(alloc: Global, words: &[S]) -> Result<Task, NoTask>
     ensures { AnswersWords (map S.text words.now) result }
 {
     let command = command(alloc)?;
     match command.try_get_matches_from(words) {
-        Ok(matches) => match view_of(&matches) {
-            Some(view) => Ok(view),
+        Ok(matches) => match task_of(&matches) {
+            Some(task) => Ok(task),
             None => Err(refused(alloc, "a command is missing")),
         },
         Err(error) => Err(why_no_task(alloc, &error)),

@@ -93,7 +93,7 @@ fn labview(alloc: Global, words: &[&str], input: &str) -> Told {
     let mut bytes = Vec::new(alloc);
     let mut source = FromRead::new(input.as_bytes());
     let mut sink = ToWrite::new(&mut bytes);
-    let status = lab_views::run_words(&kept, alloc, words, &mut source, &mut sink);
+    let status = labview_tasks::run_words(&kept, alloc, words, &mut source, &mut sink);
     (bytes, kept, status)
 }
 

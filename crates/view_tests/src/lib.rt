@@ -9,6 +9,8 @@ mod commands;
 #[cfg(test)]
 mod gantts;
 #[cfg(test)]
+mod journals;
+#[cfg(test)]
 mod keepers;
 #[cfg(test)]
 mod measured;

@@ -4,7 +4,8 @@ use crate::stages::text_at;
 use command_line::NoTask;
 use lab_program::{FromRead, Outcome, RunFault};
 use lab_views::laws::{drawn_once, rounds_are_reported};
-use lab_views::{View, ViewFault, read_words, run_view};
+use lab_views::{View, ViewFault, run_view};
+use labview_words::{Task, read_words};
 use report::ToWrite;
 use script_reader::{ScriptCause, ScriptFault};
 use std::alloc::{AllocError, Global};
@@ -120,6 +121,8 @@ Commands:
   explain  read a script and its steps, tell why the first that isn't legal is refused, and what is legal there
   picture  read a report of labrun, and draw its timeline as SVG
   table    read a report of labrun, and write its logs as comma-separated values
+  script   read a journal, write the script that its lab has become, with the sessions that came
+  steps    read a journal, write this script and each step that was done, for labrun replay
   arrange  read a script, write it with its jobs in an order in which chains at the start are short; with N, in the best that was measured
   trace    read a script, write it with the steps of its run by at most N rounds, for labrun replay
   waits    read a script, tell who waits in its run by at most N rounds, and for how long
@@ -137,9 +140,9 @@ The input comes from standard input, at most 16777216 bytes. What is printed goe
 standard output, and a fault in one line to standard error.
 
 Statuses:
-  0  explain: done, whether the steps are legal or not; picture, table, trace, waits, blocks, gantt,
-     arrange, --help: done
-  1  the script or the report is refused; the fault names its line or place
+  0  explain: done, whether the steps are legal or not; picture, table, script, steps, trace, waits,
+     blocks, gantt, arrange, --help: done
+  1  the script, the report or the journal is refused; the fault names its line or place
   2  the command line is refused
   3  trace: longer than a replay reads; arrange: the script went out as it was
   4  reading or writing failed, or the input is longer than 16777216 bytes
@@ -158,7 +161,7 @@ Options:
 ";
 
 /// Whether help was asked for, and this is its text.
-fn is_help(answer: &Result<View, NoTask>, wanted: &str) -> bool {
+fn is_help(answer: &Result<Task, NoTask>, wanted: &str) -> bool {
     match answer {
         Err(NoTask::Help(text)) => text.as_str() == wanted,
         _ => false,
@@ -166,9 +169,9 @@ fn is_help(answer: &Result<View, NoTask>, wanted: &str) -> bool {
 }
 
 /// Whether the words ask for this view, or are refused.
-fn is_told(answer: &Result<View, NoTask>, wanted: Option<View>) -> bool {
+fn is_told(answer: &Result<Task, NoTask>, wanted: Option<View>) -> bool {
     match (answer, wanted) {
-        (Ok(view), Some(wanted)) => *view == wanted,
+        (Ok(Task::Show(view)), Some(wanted)) => *view == wanted,
         (Err(NoTask::Refused(_)), None) => true,
         _ => false,
     }

@@ -2,8 +2,8 @@ use Rattle.std.proofs.Common.{◌≡◌, ◌∙◌, ◌⊎◌, [], ap, sym, subs
 use Rattle.clap.specs.Words.{App, IsAmong, fault_of, is_simple, is_simple_and_free, kind_of, subcommand_of}
 use Rattle.clap.specs.declared.error.kind.ErrorKind.TheVariants as kind
 use Rattle.command_line.proofs.Programs.{by_error, by_none}
-use Rattle.labview_words.specs.Command.{labview_app, view_found}
-use Rattle.labview_words.specs.Words.{view_of}
+use Rattle.labview_words.specs.Command.{labview_app, task_found}
+use Rattle.labview_words.specs.Words.{task_of}
 use Rattle.labview_words.proofs.ByClap.{free, program, right, simple}
 use Rattle.labview_words.proofs.words.read_words.Goals as goal
 
@@ -13,7 +13,7 @@ returns-in-Some g c =
     let app = c.in_ok-command.ensures in
     let stop = (c.in-Ok.ensures.matches (ap is_simple app ∙ simple)).1 ∙ ap (λ (a : App). subcommand_of a words) app in
     let fault : fault_of labview_app words ≡ [] = ap (λ (a : App). fault_of a words) (sym app) ∙ c.in-Ok.ensures.kinds (ap is_simple_and_free app ∙ free) in
-    sym ((right words).0 fault) ∙ sym (ap view_found stop) ∙ sym c.view_of.ensures ∙ c.in-Some.is
+    sym ((right words).0 fault) ∙ sym (ap task_found stop) ∙ sym c.task_of.ensures ∙ c.in-Some.is
 
 pub returns-in-Ok : goal.returns-in-Ok
 returns-in-Ok g c =
@@ -21,12 +21,12 @@ returns-in-Ok g c =
     let app = c.in_ok-command.ensures in
     let stop = (c.in-Ok.ensures.matches (ap is_simple app ∙ simple)).1 ∙ ap (λ (a : App). subcommand_of a words) app in
     let fault : fault_of labview_app words ≡ [] = ap (λ (a : App). fault_of a words) (sym app) ∙ c.in-Ok.ensures.kinds (ap is_simple_and_free app ∙ free) in
-    by_none view_of program words c.refused.result c.refused.ensures fault (sym ((right words).0 fault) ∙ sym (ap view_found stop) ∙ sym c.view_of.ensures ∙ c.in-None.is)
+    by_none task_of program words c.refused.result c.refused.ensures fault (sym ((right words).0 fault) ∙ sym (ap task_found stop) ∙ sym c.task_of.ensures ∙ c.in-None.is)
 
 pub returns : goal.returns
 returns g c =
     let words = map g.S.AsStr.text c.args.words.now in
     let app = c.in_ok-command.ensures in
-    by_error view_of program words (right words).1 (kind_of c.in-Err.error) c.why_no_task.result c.why_no_task.ensures
+    by_error task_of program words (right words).1 (kind_of c.in-Err.error) c.why_no_task.result c.why_no_task.ensures
     (subst (λ (a : App). (kind_of c.in-Err.error ≡ kind.OutOfMemory) ⊎ IsAmong (kind_of c.in-Err.error) (fault_of a words)) app
     (c.in-Err.ensures.kinds (ap is_simple_and_free app ∙ free)))

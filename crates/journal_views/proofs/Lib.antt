@@ -1,0 +1,4 @@
+mod Upgraded
+mod Texts
+mod Journals
+mod Replayed
