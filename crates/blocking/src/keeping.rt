@@ -106,8 +106,9 @@ pub fn keepers_by_rounds<A: Allocator + Copy>(
     let Ok((bench, mut desks)) = Bench::open(alloc, plan) else {
         return Err(AllocError);
     };
-    let held = Holdings::new(alloc, plan.jobs())?;
-    let logs = fresh_logs(alloc, plan.jobs())?;
+    let jobs = plan.jobs();
+    let held = Holdings::new(alloc, jobs)?;
+    let logs = fresh_logs(alloc, jobs)?;
     let tallies = fresh_tallies(alloc, plan)?;
     let mut counts = SessionCounts {
         alloc,

@@ -13,7 +13,7 @@ pub watch-requires-clause-fresh : goal.watch-requires-clause-fresh
 watch-requires-clause-fresh g c =
     let held = c.in_ok-held.held in let logs : List LogView = c.in_ok-logs.logs.items in let tallies : List TallyView = c.in_ok-tallies.tallies.items in
     subst (λ (p : LabPlan). SessionsTell p held.before.items held.after.items logs tallies []) (sym c.in-Ok.ensures.0)
-    (tell_none c.args.plan.now c.jobs.result c.jobs.ensures.jobs held.before.items held.after.items c.in_ok-held.ensures.before c.in_ok-held.ensures.after
+    (tell_none c.args.plan.now c.jobs-jobs.result c.jobs-jobs.ensures.jobs held.before.items held.after.items c.in_ok-held.ensures.before c.in_ok-held.ensures.after
     logs (c.in_ok-logs.ensures) tallies c.in_ok-tallies.ensures)
 
 pub put_all_away-requires : goal.put_all_away-requires
