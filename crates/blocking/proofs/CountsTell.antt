@@ -37,10 +37,10 @@ none_held plan n n_is sets is = subst (AreHeld plan []) (sym (is ∙ ap (λ m. r
 pub tell_none : (plan : LabPlan) (n : ℕ) → n ≡ length plan.jobs → (before after : List ℕ) → before ≡ replicate n 0 → after ≡ replicate n 0
     → (sides : List SideView) → sides ≡ fresh_sides plan → CountsTell plan before after sides []
 tell_none plan n n_is before after b_is a_is sides is = record {
-  before = ap length b_is ∙ (length-replicate n 0 ∙ n_is);
+  many_before = ap length b_is ∙ (length-replicate n 0 ∙ n_is);
   held = none_held plan n n_is after a_is;
   fit = All-same (FitsSide plan) sides (fresh_sides plan) is (all_fresh_fit plan);
-  places = ap (flat_map (side_places plan)) is ∙ fresh_places plan;
+  at_places = ap (flat_map (side_places plan)) is ∙ fresh_places plan;
   counts = ap (all_settled plan) is ∙ fresh_counts plan;
 }
 
@@ -67,9 +67,9 @@ module _ (plan : LabPlan) (rounds : List (List Event)) (e : List Event) (round :
       → length before ≡ length plan.jobs → CountsTell plan before after new (rounds ++ e ∷ [])
   tell_more old new fit at_places counts zip many =
       let change : Place → Block → Block = block_then plan h before after in record {
-        before = many;
+        many_before = many;
         held = held_now;
         fit = all_fit plan change old new fit zip;
-        places = all_stay plan change old new zip ∙ at_places;
+        at_places = all_stay plan change old new zip ∙ at_places;
         counts = all_counts plan change old new fit zip ∙ (ap (λ l. each_by change l (all_settled plan old)) at_places ∙ blocks_more (all_settled plan old) counts);
       }

@@ -24,7 +24,7 @@ pub tell_none : (plan : LabPlan) (n : ℕ) → n ≡ length plan.jobs → (befor
     → (logs : List LogView) → logs ≡ replicate n fresh_log
     → (tallies : List TallyView) → tallies ≡ map (fresh_tally plan) (range_with_len 0 (length plan.jobs)) → SessionsTell plan before after logs tallies []
 tell_none plan n n_is before after b_is a_is logs l_is tallies is = record {
-  before = ap length b_is ∙ (length-replicate n 0 ∙ n_is);
+  many_before = ap length b_is ∙ (length-replicate n 0 ∙ n_is);
   held = none_held plan n n_is after a_is;
   logs_tell = logs_none plan logs n n_is l_is;
   many = ap length is ∙ length-map-range_with_len (fresh_tally plan) 0 (length plan.jobs);
@@ -48,7 +48,7 @@ module _ (plan : LabPlan) (rounds : List (List Event)) (e : List Event) (round :
       let now : List (List Event) = rounds ++ e ∷ [] in
       let few : length rounds < 4294967295 = let n = m.number in omega (arith, n, small) in
       let held = held_now plan rounds e round desks m small before after held_before held_after in record {
-        before = many;
+        many_before = many;
         held = held;
         logs_tell = logs_tell;
         many = each.many ∙ long;

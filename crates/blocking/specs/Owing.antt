@@ -63,8 +63,8 @@ pub record SideThen (plan : LabPlan) (change : Place → Block → Block) (old n
 
 -- what is told of these rounds, by what jobs held before the last and after it, and by what is counted
 pub record CountsTell (plan : LabPlan) (before after : List ℕ) (sides : List SideView) (rounds : List (List Event)) : Type 0 where
-  pub before : length before ≡ length plan.jobs
+  pub many_before : length before ≡ length plan.jobs
   pub held : AreHeld plan (joined rounds) after
   pub fit : All (FitsSide plan) sides
-  pub places : flat_map (side_places plan) sides ≡ places plan
+  pub at_places : flat_map (side_places plan) sides ≡ places plan
   pub counts : all_settled plan sides ≡ map (block_of plan rounds) (places plan)

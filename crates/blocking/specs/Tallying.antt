@@ -82,7 +82,7 @@ pub record Tells (plan : LabPlan) (rounds : List (List Event)) (j : ℕ) (x : Ta
 
 -- what is told of these rounds, by what jobs held before the last and after it, by their logs, and by the tallies
 pub record SessionsTell (plan : LabPlan) (before after : List ℕ) (logs : List LogView) (tallies : List TallyView) (rounds : List (List Event)) : Type 0 where
-  pub before : length before ≡ length plan.jobs
+  pub many_before : length before ≡ length plan.jobs
   pub held : AreHeld plan (joined rounds) after
   pub logs_tell : LogsTell plan logs rounds
   pub many : length tallies ≡ length plan.jobs

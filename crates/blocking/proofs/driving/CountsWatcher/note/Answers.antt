@@ -13,7 +13,7 @@ pub look-requires-clause-desks : goal.look-requires-clause-desks
 look-requires-clause-desks g c = c.requires.more.know
 
 pub look-requires-clause-many : goal.look-requires-clause-many
-look-requires-clause-many g c = c.requires.told.before ∙ sym c.requires.more.know.many
+look-requires-clause-many g c = c.requires.told.many_before ∙ sym c.requires.more.know.many
 
 pub count_round-requires-clause-desks : goal.count_round-requires-clause-desks
 count_round-requires-clause-desks g c = c.requires.more.know
@@ -37,8 +37,8 @@ returns g c = λ rounds events more tells.
     let sides = c.args.self.now.sides in
     let was : before ≡ c.args.self.now.held.after.items = c.look.ensures.before in
     subst (λ (l : List SideView). CountsTell plan before after l (rounds ++ events ∷ [])) (sym (written_back old new sides.len sides.ok.0 same))
-    (tell_more plan rounds events c.args.round desks more (let fits = c.ranges.round.fits in omega (arith, fits)) before after
-    (subst (AreHeld plan (joined rounds)) (sym was) tells.held) c.look.ensures.after old new tells.fit tells.places tells.counts
+    (tell_more plan rounds events c.args._round desks more (let fits = c.ranges._round.fits in omega (arith, fits)) before after
+    (subst (AreHeld plan (joined rounds)) (sym was) tells.held) c.look.ensures.after old new tells.fit tells.at_places tells.counts
     (subst (λ (z : List ℕ × List ℕ × List SideView). AllZip (SideThen plan (block_then plan (first_front desks) z.0 z.1)) z.2 new)
     (λ i. (c.held_before.ensures i, c.held_after.ensures i, c.as_mut_slice.ensures.value i)) c.count_round.ensures)
     (ap length was ∙ tells.held.many))

@@ -12,7 +12,7 @@ pub look-requires-clause-desks : goal.look-requires-clause-desks
 look-requires-clause-desks g c = c.requires.more.know
 
 pub look-requires-clause-many : goal.look-requires-clause-many
-look-requires-clause-many g c = c.requires.told.before ∙ sym c.requires.more.know.many
+look-requires-clause-many g c = c.requires.told.many_before ∙ sym c.requires.more.know.many
 
 pub note-requires : goal.note-requires
 note-requires g c = let m = c.requires in record { rounds = m.rounds; events = m.events; more = m.more; told = m.told.logs_tell }
