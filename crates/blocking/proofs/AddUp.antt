@@ -20,7 +20,7 @@ use Rattle.blocking.specs.Keepers.{in_session}
 use Rattle.blocking.specs.Watching.{IsPlace}
 use Rattle.blocking.specs.Laws.{SessionsAddUp}
 use Rattle.blocking.proofs.Rises.{within}
-use Rattle.blocking.proofs.Sees.{legal_at}
+use Rattle.blocking.proofs.Histories.{legal_at}
 
 -- ---- sums over numbers
 

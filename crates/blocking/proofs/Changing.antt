@@ -7,7 +7,7 @@ use Rattle.legal_steps.specs.declared.phase.JobState.{JobState}
 use Rattle.legal_steps.specs.State.{phase, session}
 use Rattle.edge_rule.specs.DeskView.{DeskView, known}
 use Rattle.rounds.specs.Rounds.{known_in}
-use Rattle.blocking.specs.Watching.{KnowsJob, KnowAll}
+use Rattle.waiting.specs.Watching.{DeskKnows, KnowAll}
 use Rattle.blocking.specs.Tallying.{TallyView, EachThen, tally_at, no_tally}
 
 -- the first tallies, so many, are this of what they were, and the others as they were
@@ -46,5 +46,5 @@ same_tally change n old now x c inside = any_default now n x no_tally (let q = c
 pub session_by : (plan : LabPlan) (h : List Event) (desks : List DeskView) → KnowAll plan h desks → (j : ℕ) (d : DeskView) → j < length plan.jobs
     → d ≡ get_or desks j d → (p : JobState) → p ≡ phase (known d) d.job → p.session ≡ session (known_in plan h j) j
 session_by plan h desks all j d inside is p p_is =
-    let k : KnowsJob plan h j d = subst (KnowsJob plan h j) (sym is) (all.each j d inside) in
+    let k : DeskKnows plan h j d = subst (DeskKnows plan h j) (sym is) (all.each j d inside) in
     ap (λ (q : JobState). q.session) p_is ∙ (λ i. session (k.known_is i) (k.job_is i))

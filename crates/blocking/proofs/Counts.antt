@@ -85,18 +85,3 @@ module _ (plan : LabPlan) (old new : List (List Event)) (n : ℕ) (old_long : le
   all_blocks (x ∷ places) all =
       let P : Place → Type 0 = λ x. neighbour plan x.job x.edge < length plan.jobs in
       λ i. one_block x (All-head P x places all) i ∷ all_blocks places (All-tail P x places all) i
-
--- blocks of rounds that lead to the same histories
-pub same_blocks : (plan : LabPlan) (a b : List (List Event)) → length a ≡ length b → ((k : ℕ) → k ≤ length a → history_after a k ≡ history_after b k)
-    → (places : List Place) → map (block_of plan a) places ≡ map (block_of plan b) places
-same_blocks plan a b long same [] = refl
-same_blocks plan a b long same (x ∷ places) =
-    let one : (test : List Event → List Event → Bool) → rounds_where test a (length a) ≡ rounds_where test b (length b) =
-    λ test. same_where test a b (length a) same ∙ ap (rounds_where test b) long in
-    λ i. record {
-      job = x.job;
-      neighbour = neighbour plan x.job x.edge;
-      instrument = instrument_of plan x.edge x.bottle;
-      rounds = one (is_blocked plan x) i;
-      held = one (is_held plan x) i;
-    } ∷ same_blocks plan a b long same places i

@@ -7,25 +7,28 @@ use Rattle.lab_plan.specs.LabPlan.{LabPlan}
 use Rattle.waiting.specs.Rounds.{AreRoundsOf}
 use Rattle.waiting.specs.Noting.{LogView}
 use Rattle.waiting.specs.Waits.{RunView}
-use Rattle.waiting.specs.Watching.{told}
+use Rattle.waiting.specs.Watching.{Watched, told}
+use Rattle.waiting.proofs.LogsTell.{told_all}
 use Rattle.blocking.specs.Keepers.{IsKeptRun, keepers_of}
-use Rattle.blocking.specs.Tallying.{TallyView, EachThen, Tallied, put_away, kept_of, no_tally}
+use Rattle.blocking.specs.Tallying.{TallyView, EachThen, SessionsTell, tally_at, put_away, kept_of, no_tally}
+use Rattle.blocking.proofs.Tallies.{put_away_all}
 
-module _ (plan : LabPlan) (limit n : ℕ) (retired : Bool) (logs : List LogView) (tallies : List TallyView) (t : Tallied plan limit n retired logs tallies)
-    (away : List TallyView) (each : EachThen (λ _. put_away) tallies away) where
-  kept_all : map kept_of away ≡ map (keepers_of plan t.rounds) (range_with_len 0 (length plan.jobs))
+module _ (plan : LabPlan) (limit n : ℕ) (retired : Bool) (before after : List ℕ) (logs : List LogView) (tallies : List TallyView)
+    (w : Watched plan limit n retired (SessionsTell plan before after logs tallies)) (away : List TallyView)
+    (each : EachThen (λ _. put_away) tallies away) where
+  kept_all : map kept_of away ≡ map (keepers_of plan w.rounds) (range_with_len 0 (length plan.jobs))
   kept_all =
-      let many = t.many in let same = each.many in
-      fill_by_all (keepers_of plan t.rounds) (map kept_of away) (length plan.jobs) [] (length-map away kept_of ∙ (each.many ∙ t.many))
+      let many = w.told.many in let same = each.many in
+      fill_by_all (keepers_of plan w.rounds) (map kept_of away) (length plan.jobs) [] (length-map away kept_of ∙ (each.many ∙ many))
       (λ j inside. get_or-map kept_of away j no_tally [] (omega (arith, inside, many, same))
-      ∙ (ap kept_of (each.each j (omega (arith, inside, many))) ∙ t.kept j inside))
+      ∙ (ap kept_of (each.each j (omega (arith, inside, many))) ∙ put_away_all plan w.rounds j (tally_at tallies j) (w.told.tell j inside)))
 
   pub kept_run : (run : RunView) → run ≡ record { number = n; retired = retired; jobs = map told logs }
       → IsKeptRun plan limit (record { run = run; keepers = map kept_of away })
   kept_run run is =
       let ends : run.retired ≡ retired = ap (λ (x : RunView). x.retired) is in record {
-        rounds = t.rounds;
-        are_rounds = subst (λ (b : Bool). AreRoundsOf plan limit b t.rounds) (sym ends) t.are_rounds;
-        known = is ∙ (λ i. record { number = t.number i; retired = sym ends i; jobs = t.knows i });
+        rounds = w.rounds;
+        are_rounds = subst (λ (b : Bool). AreRoundsOf plan limit b w.rounds) (sym ends) w.are_rounds;
+        known = is ∙ (λ i. record { number = w.number i; retired = sym ends i; jobs = told_all plan w.rounds logs w.told.logs_tell i });
         keepers = kept_all;
       }

@@ -1,14 +1,13 @@
+pub mod Histories
 pub mod Placing
 pub mod Counts
-pub mod Desks
-pub mod Sees
 pub mod Known
 pub mod OneMore
 pub mod FromHere
 pub mod Rises
 pub mod OfSessions
 pub mod Tallies
-pub mod SeesKept
+pub mod SessionsTell
 pub mod AddUp
 pub mod Clearing
 pub mod Changing
@@ -18,3 +17,4 @@ pub mod NextIn
 pub mod Each
 pub mod Waits
 pub mod Owing
+pub mod CountsTell

@@ -15,7 +15,7 @@ use Rattle.blocking.specs.Blocks.{history_after, rounds_where, is_blocked, is_he
 use Rattle.blocking.specs.Keepers.{in_session, session_block}
 use Rattle.blocking.specs.Watching.{AreHeld, holds_then, block_then, blocks_then}
 use Rattle.blocking.specs.Tallying.{cleared}
-use Rattle.blocking.proofs.Counts.{same_where, counted, holds_when}
+use Rattle.blocking.proofs.Counts.{counted, holds_when}
 
 -- what no round passes
 none_where : (test : List Event → List Event → Bool) (rounds : List (List Event)) (m : ℕ)
@@ -106,19 +106,3 @@ all_cleared plan rounds t s j before (x ∷ places) all =
     λ i. none_yet plan rounds s x
     (λ k few. let q = before k few in omega (arith, q, ap (λ m. session (known_in plan (history_after rounds k) m) m) here)) i
     ∷ all_cleared plan rounds t s j before places (All-tail P x places all) i
-
--- rounds that lead to the same histories
-pub same_sessions : (plan : LabPlan) (a b : List (List Event)) (s : ℕ) → length a ≡ length b
-    → ((k : ℕ) → k ≤ length a → history_after a k ≡ history_after b k) → (places : List Place)
-    → map (session_block plan a s) places ≡ map (session_block plan b s) places
-same_sessions plan a b s long same [] = refl
-same_sessions plan a b s long same (x ∷ places) =
-    let one : (test : List Event → List Event → Bool) → rounds_where test a (length a) ≡ rounds_where test b (length b) =
-    λ test. same_where test a b (length a) same ∙ ap (rounds_where test b) long in
-    λ i. record {
-      job = x.job;
-      neighbour = neighbour plan x.job x.edge;
-      instrument = instrument_of plan x.edge x.bottle;
-      rounds = one (in_session plan x.job s (is_blocked plan x)) i;
-      held = one (in_session plan x.job s (is_held plan x)) i;
-    } ∷ same_sessions plan a b s long same places i

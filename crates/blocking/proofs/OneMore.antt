@@ -9,7 +9,8 @@ use Rattle.legal_steps.specs.State.{phase}
 use Rattle.edge_rule.specs.DeskView.{DeskView, known}
 use Rattle.rounds.specs.Rounds.{known_in}
 use Rattle.waiting.specs.Holding.{holds_in}
-use Rattle.blocking.specs.Watching.{KnowsJob, KnowAll, set_at}
+use Rattle.waiting.specs.Watching.{DeskKnows, KnowAll}
+use Rattle.blocking.specs.Watching.{set_at}
 
 -- the set is what job j holds
 abbrev pub Noted : LabPlan → List Event → ℕ → ℕ → Type 0
@@ -19,7 +20,7 @@ Noted plan h set j = (i : ℕ) → holds set i ≡ holds_in plan j (phase (known
 pub noted : (plan : LabPlan) (h : List Event) (desks : List DeskView) → KnowAll plan h desks → (j : ℕ) (d : DeskView) → j < length plan.jobs
     → d ≡ get_or desks j d → (set : ℕ) → ((i : ℕ) → holds set i ≡ holds_in plan d.job (phase (known d) d.job) i) → Noted plan h set j
 noted plan h desks all j d inside is set held =
-    let k : KnowsJob plan h j d = subst (KnowsJob plan h j) (sym is) (all.each j d inside) in
+    let k : DeskKnows plan h j d = subst (DeskKnows plan h j) (sym is) (all.each j d inside) in
     λ i. held i ∙ (λ z. holds_in plan (k.job_is z) (phase (k.known_is z) (k.job_is z)) i)
 
 -- one desk more

@@ -1,6 +1,6 @@
 -- Tallies after rounds.
 use Rattle.std.proofs.Common.{◌≡◌, ℕ, zero, suc, ◌+◌, ◌-◌, ◌==◌, ◌<◌, ◌≤◌, Bool, true, false, if◌then◌else◌, List, [], ◌∷◌, length, map, take, get_or, set, replicate, refl, sym, ap, ◌∙◌, inl, inr, arith, length-set}
-use Rattle.std.specs.List.{All, range_with_len}
+use Rattle.std.specs.List.{All}
 use Rattle.std.proofs.lemmas.Bool.{cases_eq, eq-eqb}
 use Rattle.std.proofs.lemmas.Bool.Decides.{nat_tests}
 use Rattle.std.proofs.lemmas.List.{get_or-set_same, get_or-set_other, length-map, length-replicate, get_or-replicate}
@@ -22,18 +22,10 @@ use Rattle.blocking.specs.declared.places.Place.{Place}
 use Rattle.blocking.specs.Blocks.{history_after, places_of}
 use Rattle.blocking.specs.Keepers.{session_block, keepers, keepers_of}
 use Rattle.blocking.specs.Watching.{AreHeld, blocks_then}
-use Rattle.blocking.specs.Tallying.{TallyView, FitsTally, fresh_tally, kept_then, put_away, cleared, moved_to, counted_on, tally_then}
+use Rattle.blocking.specs.Tallying.{TallyView, Tells, FitsTally, fresh_tally, kept_then, put_away, cleared, moved_to, counted_on, tally_then}
 use Rattle.blocking.proofs.Placing.{IsPlaceOf, places_of_job, neighbour_inside}
 use Rattle.blocking.proofs.Rises.{rises, within}
-use Rattle.blocking.proofs.OfSessions.{all_more, all_same, all_cleared, same_sessions}
-
--- what a tally of job j tells of these rounds
-pub record Tells (plan : LabPlan) (rounds : List (List Event)) (j : ℕ) (x : TallyView) : Type 0 where
-  pub session : x.session ≡ session (known_in plan (joined rounds) j) j
-  pub there : x.session ≤ length (sessions plan j)
-  pub blocks : x.blocks ≡ map (session_block plan rounds x.session) (places_of plan j)
-  pub many : length x.kept ≡ length (sessions plan j)
-  pub kept : (i : ℕ) → i < length (sessions plan j) → ¬ (i + 1 ≡ x.session) → get_or x.kept i [] ≡ keepers plan rounds j (i + 1)
+use Rattle.blocking.proofs.OfSessions.{all_more, all_same, all_cleared}
 
 pub fits : (plan : LabPlan) (rounds : List (List Event)) (j : ℕ) (x : TallyView) → Tells plan rounds j x → FitsTally plan j x
 fits plan rounds j x t = record {
@@ -172,12 +164,3 @@ module _ (plan : LabPlan) (old new : List (List Event)) (n : ℕ) (old_long : le
 
   pub tells_then : (x : TallyView) → Tells plan old j x → Tells plan new j (tally_then plan (joined new) before after j now x)
   tells_then x t = counts (moved_to now x) (moves x t (x.session == now) refl)
-
--- rounds that lead to the same histories
-pub same_keepers : (plan : LabPlan) (a b : List (List Event)) (j : ℕ) → length a ≡ length b
-    → ((k : ℕ) → k ≤ length a → history_after a k ≡ history_after b k) → keepers_of plan a j ≡ keepers_of plan b j
-same_keepers plan a b j long same =
-    same_map (range_with_len 0 (length (sessions plan j))) where
-      same_map : (l : List ℕ) → map (λ i. keepers plan a j (i + 1)) l ≡ map (λ i. keepers plan b j (i + 1)) l
-      same_map [] = refl
-      same_map (i ∷ l) = λ z. largest_three (same_sessions plan a b (i + 1) long same (places_of plan j) z) ∷ same_map l z

@@ -16,7 +16,8 @@ use Rattle.blocking.specs.Waiting.{is_across, waits_for}
 use Rattle.legal_steps.specs.declared.event.Event.{Event}
 use Rattle.edge_rule.specs.DeskView.{DeskView, known}
 use Rattle.rounds.specs.Rounds.{known_in}
-use Rattle.blocking.specs.Watching.{AreWaitedFor, KnowsJob, KnowAll}
+use Rattle.waiting.specs.Watching.{DeskKnows, KnowAll}
+use Rattle.blocking.specs.Watching.{AreWaitedFor}
 
 thirsty_is : (d : Drinking) → is_waiting d ≡ true → d ≡ Thirsty
 thirsty_is Thirsty is = refl
@@ -96,5 +97,5 @@ pub known_waits : (plan : LabPlan) (h : List Event) (desks : List DeskView) → 
     → (d : DeskView) (i : ℕ) → d ≡ get_or desks i d → i ≡ j → (e set : ℕ) → AreWaitedFor plan (known d) d.job e set
     → AreWaitedFor plan (known_in plan h j) j e set
 known_waits plan h desks all j inside d i is here e set waited =
-    let k : KnowsJob plan h j d = subst (KnowsJob plan h j) (sym (is ∙ ap (λ n. get_or desks n d) here)) (all.each j d inside) in
+    let k : DeskKnows plan h j d = subst (DeskKnows plan h j) (sym (is ∙ ap (λ n. get_or desks n d) here)) (all.each j d inside) in
     subst (λ (z : State × ℕ). AreWaitedFor plan z.0 z.1 e set) (λ i. (k.known_is i, k.job_is i)) waited

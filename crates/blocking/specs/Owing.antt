@@ -1,13 +1,15 @@
 -- What is counted at a job's end of an edge, and what is owed to the counts there.
 use Rattle.std.specs.Prelude.{◌≡◌, ℕ, ◌<◌, List, [], length, map}
-use Rattle.std.specs.List.{flat_map, range_with_len}
+use Rattle.std.specs.List.{All, flat_map, range_with_len}
 use Rattle.lab_plan.specs.LabPlan.{LabPlan, edges_of}
+use Rattle.legal_steps.specs.declared.event.Event.{Event}
 use Rattle.legal_steps.specs.State.{IsOwn}
 use Rattle.block_lines.specs.declared.block.Block.{Block}
+use Rattle.waiting.specs.Rounds.{joined}
 use Rattle.blocking.specs.declared.counting.Wait.{Wait}
 use Rattle.blocking.specs.declared.places.Place.{Place}
-use Rattle.blocking.specs.Blocks.{block_of, places_on}
-use Rattle.blocking.specs.Watching.{rounds_then, each_by}
+use Rattle.blocking.specs.Blocks.{block_of, places_on, places}
+use Rattle.blocking.specs.Watching.{AreHeld, rounds_then, each_by}
 
 -- a job, one of its edges, how the job has waited there in each of the last rounds, how many these are, and what was counted of those before
 pub record SideView : Type 0 where
@@ -58,3 +60,11 @@ pub record SideThen (plan : LabPlan) (change : Place → Block → Block) (old n
   pub edge : new.edge ≡ old.edge
   pub many : length new.blocks ≡ length old.blocks
   pub counts : settled plan new ≡ each_by change (side_places plan old) (settled plan old)
+
+-- what is told of these rounds, by what jobs held before the last and after it, and by what is counted
+pub record CountsTell (plan : LabPlan) (before after : List ℕ) (sides : List SideView) (rounds : List (List Event)) : Type 0 where
+  pub many_before : length before ≡ length plan.jobs
+  pub held : AreHeld plan (joined rounds) after
+  pub fit : All (FitsSide plan) sides
+  pub at_places : flat_map (side_places plan) sides ≡ places plan
+  pub counts : all_settled plan sides ≡ map (block_of plan rounds) (places plan)

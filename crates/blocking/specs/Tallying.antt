@@ -1,19 +1,17 @@
 -- What is counted of a job's present session, and kept of its earlier ones.
-use Rattle.std.specs.Prelude.{◌≡◌, ℕ, ◌-◌, ◌<◌, ◌≤◌, ◌==◌, Bool, List, [], length, map, replicate, slice_index_or, slice_set, if◌then◌else◌}
-use Rattle.std.specs.List.{range_with_len}
+use Rattle.std.specs.Prelude.{◌≡◌, ℕ, ◌+◌, ◌-◌, ◌<◌, ◌≤◌, ◌==◌, List, [], length, map, replicate, slice_index_or, slice_set, if◌then◌else◌}
 use Rattle.lab_plan.specs.LabPlan.{LabPlan, sessions}
 use Rattle.legal_steps.specs.declared.event.Event.{Event}
 use Rattle.legal_steps.specs.State.{session}
 use Rattle.rounds.specs.Rounds.{known_in}
 use Rattle.block_lines.specs.declared.block.Block.{Block}
 use Rattle.block_lines.specs.Largest.{largest_three}
-use Rattle.waiting.specs.Rounds.{AreRoundsOf}
+use Rattle.waiting.specs.Rounds.{joined}
 use Rattle.waiting.specs.Noting.{LogView}
-use Rattle.waiting.specs.Waits.{rounds_of}
-use Rattle.waiting.specs.Watching.{told}
+use Rattle.waiting.specs.Watching.{LogsTell}
 use Rattle.blocking.specs.Blocks.{block_of, places_of}
-use Rattle.blocking.specs.Keepers.{keepers_of}
-use Rattle.blocking.specs.Watching.{blocks_then}
+use Rattle.blocking.specs.Keepers.{session_block, keepers}
+use Rattle.blocking.specs.Watching.{AreHeld, blocks_then}
 
 -- the number of the present session, what is counted of it where its job may wait, and who kept each of the others
 pub record TallyView : Type 0 where
@@ -74,12 +72,18 @@ noted_then plan h before after j x = tally_then plan h before after j (session (
 abbrev pub kept_of : TallyView → List (List Block)
 kept_of x = x.kept
 
--- a run by at most this many rounds was watched: this many were done, and the logs and tallies tell of them once all is put away
-pub record Tallied (plan : LabPlan) (limit n : ℕ) (retired : Bool) (logs : List LogView) (tallies : List TallyView) : Type 0 where
-  pub rounds : List (List Event)
-  pub are_rounds : AreRoundsOf plan limit retired rounds
-  pub number : n ≡ length rounds
-  pub knows : map told logs ≡ map (rounds_of rounds) (range_with_len 0 (length plan.jobs))
-  pub fits : (j : ℕ) → j < length tallies → FitsTally plan j (tally_at tallies j)
+-- what a tally of job j tells of these rounds
+pub record Tells (plan : LabPlan) (rounds : List (List Event)) (j : ℕ) (x : TallyView) : Type 0 where
+  pub session : x.session ≡ session (known_in plan (joined rounds) j) j
+  pub there : x.session ≤ length (sessions plan j)
+  pub blocks : x.blocks ≡ map (session_block plan rounds x.session) (places_of plan j)
+  pub many : length x.kept ≡ length (sessions plan j)
+  pub kept : (i : ℕ) → i < length (sessions plan j) → ¬ (i + 1 ≡ x.session) → slice_index_or x.kept i [] ≡ keepers plan rounds j (i + 1)
+
+-- what is told of these rounds, by what jobs held before the last and after it, by their logs, and by the tallies
+pub record SessionsTell (plan : LabPlan) (before after : List ℕ) (logs : List LogView) (tallies : List TallyView) (rounds : List (List Event)) : Type 0 where
+  pub many_before : length before ≡ length plan.jobs
+  pub held : AreHeld plan (joined rounds) after
+  pub logs_tell : LogsTell plan logs rounds
   pub many : length tallies ≡ length plan.jobs
-  pub kept : (j : ℕ) → j < length plan.jobs → (put_away (tally_at tallies j)).kept ≡ keepers_of plan rounds j
+  pub tell : (j : ℕ) → j < length plan.jobs → Tells plan rounds j (tally_at tallies j)

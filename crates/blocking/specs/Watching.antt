@@ -6,31 +6,19 @@ use Rattle.lab_plan.specs.InstrumentSets.{holds}
 use Rattle.legal_steps.specs.declared.event.Event.{Event}
 use Rattle.legal_steps.specs.State.{State, IsOwn, neighbour, phase}
 use Rattle.legal_steps.specs.Legal.{instrument_of}
-use Rattle.edge_rule.specs.DeskView.{DeskView, known}
 use Rattle.rounds.specs.Rounds.{known_in}
 use Rattle.block_lines.specs.declared.block.Block.{Block}
 use Rattle.blocking.specs.declared.counting.Wait.{Wait}
 use Rattle.blocking.specs.declared.places.Place.{Place}
 use Rattle.waiting.specs.Holding.{holds_in}
 use Rattle.blocking.specs.Waiting.{waits_at}
-use Rattle.blocking.specs.Blocks.{place, IsBlockedRun}
+use Rattle.blocking.specs.Blocks.{place}
 
 -- a bottle of one of the job's edges
 pub record IsPlace (plan : LabPlan) (x : Place) : Type 0 where
   pub job : x.job < length plan.jobs
   pub own : IsOwn plan x.job x.edge
   pub bottle : x.bottle < length (bottles plan x.edge)
-
--- the desk is job j's, and knows what the job does by its events of this history
-pub record KnowsJob (plan : LabPlan) (h : List Event) (j : ℕ) (d : DeskView) : Type 0 where
-  pub plan_is : d.plan ≡ plan
-  pub job_is : d.job ≡ j
-  pub known_is : known d ≡ known_in plan h j
-
--- there is a desk of each job, in their order
-pub record KnowAll (plan : LabPlan) (h : List Event) (desks : List DeskView) : Type 0 where
-  pub many : length desks ≡ length plan.jobs
-  pub each : (j : ℕ) (d : DeskView) → j < length plan.jobs → KnowsJob plan h j (slice_index_or desks j d)
 
 abbrev pub set_at : List ℕ → ℕ → ℕ
 set_at sets j = slice_index_or sets j 0
@@ -96,6 +84,3 @@ blocks_then plan h before after places blocks = each_by (block_then plan h befor
 
 abbrev pub counted_from : LabPlan → List Event → List ℕ → List ℕ → ℕ → List Place → List Block → List Block
 counted_from plan h before after n places blocks = each_from (block_then plan h before after) n places blocks
-
-abbrev pub Counted : LabPlan → ℕ → ℕ → Bool → List Block → Type 0
-Counted plan limit number retired blocks = IsBlockedRun plan limit (record { number = number; retired = retired; blocks = blocks })

@@ -7,7 +7,8 @@ ghost use Rattle.legal_steps.specs.State.{IsOwn, neighbour};
 ghost use Rattle.legal_steps.specs.Legal.{instrument_of};
 ghost use Rattle.rounds.specs.Company.{first_front};
 ghost use Rattle.blocking.specs.Blocks.{block_of, places_on, places_of};
-ghost use Rattle.blocking.specs.Watching.{IsPlace, KnowAll, AreHeld, IsWait, held_across, counted_if, waited_then, rounds_then, each_from, counted_from};
+ghost use Rattle.waiting.specs.Watching.{KnowAll};
+ghost use Rattle.blocking.specs.Watching.{IsPlace, IsWait, held_across, counted_if, waited_then, rounds_then, each_from, counted_from};
 
 use crate::knowing::{has, instrument_at, next_in, waited_on};
 use crate::places::Place;
@@ -15,7 +16,6 @@ use block_lines::Block;
 use edge_rule::Desk;
 use lab_plan::{EdgeNo, JobNo, Plan};
 use std::alloc::{AllocError, Allocator};
-use waiting::held_by;
 
 /// The bottles of an edge for which its job waits in a round, and what the neighbour holds then.
 #[derive(Clone, Copy, PartialEq, Eq, Debug)]
@@ -70,17 +70,6 @@ pub(crate) fn fresh_blocks<A: Allocator, B: Allocator>(
         blocks.push(fresh_block(plan, *place))?;
     }
     Ok(blocks)
-}
-
-/// Notes what each job holds.
-pub(crate) fn note_held<A: Allocator>(plan: &Plan<A>, desks: &[Desk<A>], sets: &mut [u64])
-    requires desks { KnowAll plan.now (first_front desks.now) desks.now }
-    requires many { length sets.old ≡ length desks.now }
-    ensures { AreHeld plan.now (first_front desks.now) sets.new }
-{
-    for place in 0..desks.len() {
-        sets[place] = held_by(plan, &desks[place]);
-    }
 }
 
 /// The count, higher by this many rounds if they count.

@@ -1,22 +1,18 @@
-//! A bench that is driven one round at a time, and who keeps each session waiting.
-ghost use Rattle.std.specs.Prelude.{◌≡◌, ◌<◌, ◌≤◌, length, map, replicate, IfOk, OnOk, ℕ};
+//! Who keeps each session waiting in a run by rounds, counted after each round.
+ghost use Rattle.std.specs.Prelude.{◌≡◌, ◌<◌, ◌≤◌, length, map, IfOk, OnOk, ℕ};
 ghost use Rattle.std.specs.List.{range_with_len};
-ghost use Rattle.rounds.specs.FromOpening.{opened};
 ghost use Rattle.rounds.specs.Company.{first_front};
-ghost use Rattle.waiting.specs.Noting.{fresh_log};
 ghost use Rattle.blocking.specs.Keepers.{IsKeptRun};
-ghost use Rattle.blocking.specs.Watching.{KnowAll};
-ghost use Rattle.blocking.specs.Tallying.{fresh_tally, tally_at, put_away, noted_then, FitsTally, EachThen, Tallied};
+ghost use Rattle.waiting.specs.Watching.{KnowAll};
+ghost use Rattle.blocking.specs.Tallying.{fresh_tally, tally_at, put_away, noted_then, FitsTally, EachThen, SessionsTell};
 
-use crate::counting::note_held;
-use crate::driving::{is_all_retired, no_sets};
+use crate::holdings::Holdings;
 use crate::kept::KeptRun;
 use crate::tally::Tally;
 use edge_rule::{Bench, Desk};
 use lab_plan::{JobNo, Plan};
-use rounds::rounds;
-use std::alloc::{AllocError, Allocator};
-use waiting::{JobLog, RoundsRun, fresh_logs, note_all};
+use std::alloc::{AllocError, Allocator, Global};
+use waiting::{JobLog, RoundsRun, Watcher, fresh_logs, watch};
 
 /// The tallies of all jobs before the first round.
 fn fresh_tallies<A: Allocator + Copy>(
@@ -69,39 +65,31 @@ fn put_all_away<A: Allocator + Copy>(alloc: A, tallies: &mut [Tally<A>]) -> Resu
     Ok(())
 }
 
-/// Drives the desks by at most this many rounds, notes how far each job is after each, and counts who kept its present session.
-/// Answers how many were done, and whether all jobs are retired then.
-fn watch_sessions<A: Allocator + Copy>(
+/// What is noted of all jobs, and counted of their present sessions.
+#[derive(Drop)]
+struct SessionCounts<A: Allocator + Copy = Global> {
     alloc: A,
-    bench: &Bench<A>,
-    desks: &mut [Desk<A>],
-    logs: &mut [JobLog<A>],
-    before: &mut [u64],
-    after: &mut [u64],
-    tallies: &mut [Tally<A>],
-    limit: u32,
-) -> Result<(u32, bool), AllocError>
-    requires opened { desks.old ≡ opened bench.now }
-    requires logs { logs.old ≡ replicate (length desks.old) fresh_log }
-    requires before { length before.old ≡ length desks.old }
-    requires after { length after.old ≡ length desks.old }
-    requires tallies { tallies.old ≡ map (fresh_tally bench.now.plan) (range_with_len 0 (length bench.now.plan.jobs)) }
-    ensures { IfOk result (λ done. Tallied bench.now.plan limit done.0 done.1 logs.new tallies.new) }
-{
-    let plan = bench.plan();
-    note_held(plan, desks, before);
-    for number in 0..limit {
-        let (_, done) = rounds(bench, desks, 1);
-        if done == 0 {
-            return Ok((number, true));
-        }
-        note_held(plan, desks, after);
-        note_all(desks, logs, number + 1)?;
-        note_tallies(alloc, plan, desks, before, after, tallies)?;
-        note_held(plan, desks, before);
+    held: Holdings<A>,
+    logs: Vec<JobLog<A>, A>,
+    tallies: Vec<Tally<A>, A>,
+}
+
+impl<A: Allocator + Copy> Watcher<A> for SessionCounts<A> {
+    ghost tells = { λ plan x rounds. SessionsTell plan x.held.before.items x.held.after.items x.logs.items x.tallies.items rounds };
+
+    fn note(&mut self, plan: &Plan<A>, desks: &[Desk<A>], round: u32) -> Result<(), AllocError> {
+        self.held.look(plan, desks);
+        self.logs.note(plan, desks, round)?;
+        note_tallies(
+            self.alloc,
+            plan,
+            desks,
+            self.held.held_before(),
+            self.held.held_after(),
+            self.tallies.as_mut_slice(),
+        )?;
+        Ok(())
     }
-    let (ended, _) = rounds(bench, desks, 0);
-    Ok((limit, is_all_retired(ended)))
 }
 
 /// The run of a plan by at most this many rounds, by the rounds of its sessions and meals, and with who kept each session waiting.
@@ -118,20 +106,23 @@ pub fn keepers_by_rounds<A: Allocator + Copy>(
     let Ok((bench, mut desks)) = Bench::open(alloc, plan) else {
         return Err(AllocError);
     };
-    let mut logs = fresh_logs(alloc, desks.len())?;
-    let mut before = no_sets(alloc, desks.len())?;
-    let mut after = no_sets(alloc, desks.len())?;
-    let mut tallies = fresh_tallies(alloc, plan)?;
-    let (number, retired) = watch_sessions(
+    let jobs = plan.jobs();
+    let held = Holdings::new(alloc, jobs)?;
+    let logs = fresh_logs(alloc, jobs)?;
+    let tallies = fresh_tallies(alloc, plan)?;
+    let mut counts = SessionCounts {
         alloc,
-        &bench,
-        desks.as_mut_slice(),
-        logs.as_mut_slice(),
-        before.as_mut_slice(),
-        after.as_mut_slice(),
-        tallies.as_mut_slice(),
-        limit,
-    )?;
+        held,
+        logs,
+        tallies,
+    };
+    let (number, retired) = watch(&bench, desks.as_mut_slice(), &mut counts, limit)?;
+    let SessionCounts {
+        alloc,
+        held: _,
+        logs,
+        mut tallies,
+    } = counts;
     put_all_away(alloc, tallies.as_mut_slice())?;
     let run = RoundsRun::new(number, retired, logs);
     Ok(KeptRun { run, tallies })

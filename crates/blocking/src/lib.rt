@@ -8,6 +8,7 @@
 
 mod counting;
 mod driving;
+mod holdings;
 mod keeping;
 mod kept;
 mod knowing;

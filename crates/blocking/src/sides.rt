@@ -3,7 +3,8 @@ ghost use Rattle.std.specs.Prelude.{◌≡◌, ◌<◌, ◌++◌, length, IfOk, 
 ghost use Rattle.std.specs.List.{All, AllZip};
 ghost use Rattle.legal_steps.specs.State.{IsOwn};
 ghost use Rattle.rounds.specs.Company.{first_front};
-ghost use Rattle.blocking.specs.Watching.{KnowAll, rounds_then, block_then};
+ghost use Rattle.waiting.specs.Watching.{KnowAll};
+ghost use Rattle.blocking.specs.Watching.{rounds_then, block_then};
 ghost use Rattle.blocking.specs.Owing.{settled, all_settled, fresh_side, sides_of, fresh_sides, turned_to, FitsSide, SideThen};
 
 use crate::counting::{Wait, count_rounds, fresh_blocks, wait_on};

@@ -2,7 +2,7 @@
 ghost use Rattle.std.specs.Prelude.{◌≡◌, ◌<◌, ◌≤◌, length, map, replicate, [], IfOk, OnOk};
 ghost use Rattle.rounds.specs.Company.{first_front};
 ghost use Rattle.blocking.specs.Blocks.{places_of};
-ghost use Rattle.blocking.specs.Watching.{KnowAll};
+ghost use Rattle.waiting.specs.Watching.{KnowAll};
 ghost use Rattle.blocking.specs.Tallying.{fresh_tally, put_away, cleared, moved_to, counted_on, tally_then, FitsTally};
 
 use crate::counting::{count_job, fresh_blocks};

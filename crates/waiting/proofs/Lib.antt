@@ -3,7 +3,9 @@ pub mod Last
 pub mod Marks
 pub mod OneTurn
 pub mod Logs
+pub mod Desks
 pub mod Stands
+pub mod LogsTell
 pub mod Ranges
 pub mod Known
 pub mod Pieces

@@ -1,15 +1,14 @@
-//! A bench that is driven one round at a time, and desks that are looked at after each.
+//! The logs of all jobs, noted after each round.
 ghost use Rattle.std.specs.Prelude.{◌≡◌, length, replicate, IfOk, OnOk};
-ghost use Rattle.rounds.specs.FromOpening.{opened};
 ghost use Rattle.waiting.specs.Noting.{fresh_log};
 ghost use Rattle.waiting.specs.Waits.{IsRunOf};
-ghost use Rattle.waiting.specs.Watching.{Watched, logs_then, is_all_retired};
+ghost use Rattle.waiting.specs.Watching.{LogsTell, logs_then};
 
 use crate::job_log::JobLog;
 use crate::run::RoundsRun;
+use crate::watcher::{Watcher, watch};
 use edge_rule::{Bench, Desk};
 use lab_plan::Plan;
-use rounds::{Ended, rounds};
 use std::alloc::{AllocError, Allocator};
 
 /// The logs of this many jobs before the first round.
@@ -27,7 +26,7 @@ pub fn fresh_logs<A: Allocator + Copy>(
 }
 
 /// Notes how far each job is after a round.
-pub fn note_all<A: Allocator>(
+fn note_all<A: Allocator>(
     desks: &[Desk<A>],
     logs: &mut [JobLog<A>],
     round: u32,
@@ -42,34 +41,13 @@ pub fn note_all<A: Allocator>(
     Ok(())
 }
 
-/// Whether turns ended because all jobs were retired.
-fn is_all_retired(ended: Ended) -> bool
-    ensures { result ≡ is_all_retired ended }
-{
-    matches!(ended, Ended::AllRetired)
-}
+impl<A: Allocator> Watcher<A> for Vec<JobLog<A>, A> {
+    ghost tells = { λ plan logs rounds. LogsTell plan logs.items rounds };
 
-/// Drives the desks by at most this many rounds, and notes each. Answers how many were done, and whether all jobs are retired
-/// then.
-fn watch<A: Allocator>(
-    bench: &Bench<A>,
-    desks: &mut [Desk<A>],
-    logs: &mut [JobLog<A>],
-    limit: u32,
-) -> Result<(u32, bool), AllocError>
-    requires opened { desks.old ≡ opened bench.now }
-    requires fresh { logs.old ≡ replicate (length desks.old) fresh_log }
-    ensures { IfOk result (λ done. Watched bench.now.plan limit done.0 done.1 logs.new) }
-{
-    for number in 0..limit {
-        let (_, done) = rounds(bench, desks, 1);
-        if done == 0 {
-            return Ok((number, true));
-        }
-        note_all(desks, logs, number + 1)?;
+    fn note(&mut self, _plan: &Plan<A>, desks: &[Desk<A>], round: u32) -> Result<(), AllocError> {
+        note_all(desks, self.as_mut_slice(), round)?;
+        Ok(())
     }
-    let (ended, _) = rounds(bench, desks, 0);
-    Ok((limit, is_all_retired(ended)))
 }
 
 /// The run of a plan by at most this many rounds, by the rounds of its sessions and meals.
@@ -85,8 +63,8 @@ pub fn run_by_rounds<A: Allocator + Copy>(
     let Ok((bench, mut desks)) = Bench::open(alloc, plan) else {
         return Err(AllocError);
     };
-    let mut logs = fresh_logs(alloc, desks.len())?;
-    let (number, retired) = watch(&bench, desks.as_mut_slice(), logs.as_mut_slice(), limit)?;
+    let mut logs = fresh_logs(alloc, plan.jobs())?;
+    let (number, retired) = watch(&bench, desks.as_mut_slice(), &mut logs, limit)?;
     Ok(RoundsRun {
         number,
         retired,

@@ -1,6 +1,6 @@
 //! The run of a plan by rounds, as the rounds in which each session began, drank and ended, and each meal was wanted, had and ended.
 //!
-//! A bench is driven one round at a time, and after each every desk is asked how far its job is. A turn has one phase act at
+//! A bench is driven one round at a time (`watch`), and after each every desk is asked how far its job is. A turn has one phase act at
 //! most, so what it was is seen by the phase before and the phase after. No event is kept, so memory grows with the sessions
 //! of the plan, however many rounds there are.
 #![tactic(auto)]
@@ -13,10 +13,12 @@ mod run;
 mod session;
 mod text;
 mod waits;
+mod watcher;
 
-pub use driving::{fresh_logs, note_all, run_by_rounds};
+pub use driving::{fresh_logs, run_by_rounds};
 pub use holding::held_by;
 pub use job_log::JobLog;
 pub use run::RoundsRun;
 pub use session::{Meal, Session};
 pub use text::{add_outcome, add_rounds, add_waits};
+pub use watcher::{Watcher, watch};

@@ -5,7 +5,7 @@ use Rattle.rounds.specs.Company.{first_front}
 use Rattle.rounds.specs.Rounds.{known_in}
 use Rattle.waiting.specs.Holding.{holds_in}
 use Rattle.blocking.specs.Watching.{set_at}
-use Rattle.blocking.proofs.counting.note_held.Given as goal
+use Rattle.blocking.proofs.holdings.note_held.Given as goal
 
 -- so many desks were asked
 abbrev pub invariant-loop-place : goal.invariant-loop-place

@@ -2,7 +2,7 @@ use Rattle.std.proofs.Common.{◌∙◌, arith}
 use Rattle.std.proofs.Math.ListN.{length-set}
 use Rattle.rounds.specs.Company.{first_front}
 use Rattle.blocking.proofs.OneMore.{noted, one_set}
-use Rattle.blocking.proofs.counting.note_held.Goals as goal
+use Rattle.blocking.proofs.holdings.note_held.Goals as goal
 
 pub loop-place-preserved : goal.loop-place-preserved
 loop-place-preserved g c =

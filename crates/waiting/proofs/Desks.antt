@@ -9,14 +9,12 @@ use Rattle.turns.specs.History.{known_by}
 use Rattle.turns.specs.Lists.{Each}
 use Rattle.edge_rule.specs.DeskView.{DeskView, BenchView, Owns, fresh_desk, fresh_desks}
 use Rattle.edge_rule.specs.Company.{jobs_of}
-use Rattle.rounds.specs.Company.{IsWhole, first_front}
+use Rattle.rounds.specs.Company.{IsWhole}
 use Rattle.rounds.specs.Rounds.{known_in}
-use Rattle.waiting.specs.Rounds.{joined}
-use Rattle.waiting.specs.Noting.{LogView}
-use Rattle.waiting.specs.Watching.{Stands}
-use Rattle.blocking.specs.Watching.{KnowsJob, KnowAll}
+use Rattle.rounds.specs.FromOpening.{opened}
+use Rattle.waiting.specs.Watching.{DeskKnows, KnowAll}
 
-jobs_fresh : (t : TableId) (plan : LabPlan) (m : ℕ) → jobs_of (fresh_desks t plan m) ≡ range_with_len 0 m
+pub jobs_fresh : (t : TableId) (plan : LabPlan) (m : ℕ) → jobs_of (fresh_desks t plan m) ≡ range_with_len 0 m
 jobs_fresh t plan zero = refl
 jobs_fresh t plan (suc m) =
     map_append (fresh_desks t plan m) (fresh_desk t plan m)
@@ -45,13 +43,13 @@ length_range : (a n : ℕ) → length (range_with_len a n) ≡ n
 length_range a zero = refl
 length_range a (suc n) = ap suc (length_range (a + 1) n)
 
-length_jobs : (l : List DeskView) → length (jobs_of l) ≡ length l
+pub length_jobs : (l : List DeskView) → length (jobs_of l) ≡ length l
 length_jobs [] = refl
 length_jobs (d ∷ l) = ap suc (length_jobs l)
 
 module _ (b : BenchView) (h : List Event) where
   at : (desks : List DeskView) (a n j : ℕ) (d : DeskView) → jobs_of desks ≡ range_with_len a n → Each (Owns b) desks → IsWhole h desks → j < length desks
-      → KnowsJob b.plan h (a + j) (get_or desks j d)
+      → DeskKnows b.plan h (a + j) (get_or desks j d)
   at [] a n j d jobs own whole inside = absurd (omega (arith, inside))
   at (x ∷ desks) a zero j d jobs own whole inside = absurd (cc)
   at (x ∷ desks) a (suc n) zero d jobs own whole inside =
@@ -62,16 +60,16 @@ module _ (b : BenchView) (h : List Event) where
       }
   at (x ∷ desks) a (suc n) (suc j) d jobs own whole inside =
       let same : a + 1 + j ≡ a + suc j = omega arith in
-      subst (λ k. KnowsJob b.plan h k (get_or desks j d)) same
+      subst (λ k. DeskKnows b.plan h k (get_or desks j d)) same
       (at desks (a + 1) n j d (ap tails jobs) own.1 whole.1 (omega (arith, inside)))
 
 -- the desks of a bench, each of which knows what its job has done
-pub know_all : (b : BenchView) (n : ℕ) (desks : List DeskView) (logs : List LogView) → Stands b n desks logs → KnowAll b.plan (first_front desks) desks
-know_all b n desks logs s =
-    let jobs : jobs_of desks ≡ range_with_len 0 (length b.plan.jobs) = s.jobs ∙ jobs_fresh b.table b.plan (length b.plan.jobs) in
+pub know_all : (b : BenchView) (h : List Event) (desks : List DeskView) → jobs_of desks ≡ jobs_of (opened b) → Each (Owns b) desks → IsWhole h desks
+    → KnowAll b.plan h desks
+know_all b h desks same_jobs own whole =
+    let jobs : jobs_of desks ≡ range_with_len 0 (length b.plan.jobs) = same_jobs ∙ jobs_fresh b.table b.plan (length b.plan.jobs) in
     let many : length desks ≡ length b.plan.jobs = sym (length_jobs desks) ∙ (ap length jobs ∙ length_range 0 (length b.plan.jobs)) in record {
       many = many;
-      each = λ j d inside. subst (λ f. KnowsJob b.plan f j (get_or desks j d)) (sym s.front)
-          (subst (λ k. KnowsJob b.plan (joined s.rounds) k (get_or desks j d)) (let z : 0 + j ≡ j = omega arith in z)
-          (at b (joined s.rounds) desks 0 (length b.plan.jobs) j d jobs s.own s.whole (let q = many in omega (arith, q, inside))));
+      each = λ j d inside. subst (λ k. DeskKnows b.plan h k (get_or desks j d)) (let z : 0 + j ≡ j = omega arith in z)
+          (at b h desks 0 (length b.plan.jobs) j d jobs own whole (let q = many in omega (arith, q, inside)));
     }
