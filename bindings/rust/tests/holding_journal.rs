@@ -435,15 +435,17 @@ mod bad_disk {
                     session => break lets_go(session.unwrap()),
                 }
             };
+            let before = Cell::new(0);
             let (faults, made) = thread::scope(|threads| {
                 let turner = threads.spawn(turner);
-                until(|| job(&bench, "host").hold(&["load-1"]).timeout(Duration::ZERO).begin().is_err());
+                let held = |_| before.set(before.get() + 1);
+                until(|| job(&bench, "host").hold(&["load-1"]).timeout(Duration::ZERO).begin().map(held).is_err());
                 let holds = threads.spawn(holds);
                 lets_go(board);
                 holds.join().unwrap();
                 turner.join().unwrap()
             });
-            assert!(faults <= 1 && folder.over() == 2 && !folder.0.join("bay.journal.2").exists());
+            assert!(faults <= 1 && folder.over() == 2 + before.get() && !folder.0.join("bay.journal.2").exists());
             finished(&folder, bench);
             if made < bad {
                 break;
