@@ -716,8 +716,8 @@ def _turned(bench: Bench) -> Union[Page, Ticket]:
         _lapse(bench, job)
     if bench._journal is not None and not bench._is_written():
         return bench._journal.ticket
-    turning = Turning(bench)
-    bench._torn, bench._turning = True, turning
+    bench._torn = True
+    turning = bench._turning = Turning(bench)
     if bench._journal is not None:
         turning.makes(bench, bench._journal)
     turning.is_made = True
@@ -735,7 +735,6 @@ class Turning:
     comes; from then on the new page takes its place, whatever comes between (`Bench._mend`)."""
 
     def __init__(self, bench: Bench) -> None:
-        """The new page's bench is opened: the first session of each job is given up, and those retire that were retired by their owners."""
         uses = {job.name: uses_of(job) for job in bench._jobs}
         self.script = bench._script if bench._is_endless else "".join(line + "\n" for line in _lines(uses)).encode("ascii")
         self.became = script_of(bench)
@@ -748,6 +747,14 @@ class Turning:
         self.calls: Union[Library, Kept] = library()
         self.journal: Optional[Journal] = None
         self.drops = weakref.finalize(self, _freed, library(), self.handle)
+        try:
+            self.opens(bench)
+        except BaseException:
+            self.drops()
+            raise
+
+    def opens(self, bench: Bench) -> None:
+        """The new page's bench: the first session of each job is given up, and those retire that were retired by their owners."""
         if bench._journal is None:
             _opened(self.script, self.handle)
         else:
@@ -775,6 +782,7 @@ class Turning:
         if self.journal is not None and self.old_journal is not None:
             self.journal.close()
             self.old_journal.fault = self.old_journal.fault or OSError(errno.EINTR, "a page wasn't turned")
+        self.drops()
         bench._turning = None
 
 
