@@ -570,14 +570,19 @@ fn loaded() {
                 }
             });
         }
-        for _ in 0..3 {
-            for _ in 0..200 {
-                limit(folder.text().len() + 200);
+        threads.spawn(|| {
+            while !over.load(SeqCst) {
+                limit(std::fs::metadata(folder.file()).map_or(0, |it| it.len() as usize) + 200);
                 thread::sleep(Duration::from_micros(200));
                 limit(1 << 40);
                 thread::sleep(Duration::from_micros(200));
             }
-            while bench.turn_page().is_err() {}
+        });
+        for _ in 0..3 {
+            thread::sleep(Duration::from_millis(80));
+            while let Err(fault) = bench.turn_page() {
+                assert!(matches!(fault, Error::Journal { .. }), "{fault}");
+            }
         }
         over.store(true, SeqCst);
     });
@@ -585,6 +590,7 @@ fn loaded() {
     let files = std::fs::read_dir(&folder.0).unwrap().map(|it| std::fs::read_to_string(it.unwrap().path()).unwrap());
     let ended: usize = files.map(|it| it.matches("\nquit ").count()).sum();
     let done = done.into_inner();
+    assert!(folder.0.join("bay.journal.3").exists() && !folder.0.join("bay.journal.4").exists());
     assert_eq!((clashes.into_inner(), ended), (0, done));
     assert!(done > 20, "{done}");
 }
