@@ -431,26 +431,34 @@ class journal {
         return came;
     }
 
-    // The journal's page is over, and all of it is written: its file gets a name with a number, one more than the last, and the next page begins one
-    // of the old name. What the file is called now. If that fails, all is as before.
-    std::string turn(std::string_view script, lab_bench *handle) {
-        const std::string kept = path_ + "." + std::to_string(last_page() + 1), head = head_of(script);
+    // The page is over, and all of it is written but its last steps, by which the jobs retire. They are written, the file gets a name with a number, one
+    // more than the last, and the next page begins one of the old name, with its script and first steps. What the old file is called now. If that
+    // fails, the file is as before, and the bench is to go back to it. (With the bench's mutex held, so that nobody else writes.)
+    std::string turn(std::string_view script, const std::string &first) {
+        const std::size_t before = steps_;
+        const bool is_written = write(added_);
+        const int why = errno;
+        // (as long as the page isn't turned, the file ends where those steps begin)
+        steps_ = before;
+        is_torn_ = true;
+        if (!is_written) throw journal_error(path_, "a write failed: " + std::string(std::strerror(why)));
+        const std::string kept = path_ + "." + std::to_string(last_page() + 1), page = head_of(script) + first;
         if (std::rename(path_.c_str(), kept.c_str())) throw journal_error(path_, std::strerror(errno));
+        kept_ = kept;
         int file = -1;
         try {
-            file = begin_page(head);
-            lab_told told{};
-            if (const std::uint32_t status = lab_bench_open_kept(bytes(script), script.size(), handle, &told)) fail(status, told);
+            file = begin_page(page);
         } catch (...) {
-            forget(file);
-            if (std::rename(kept.c_str(), path_.c_str())) throw journal_error(path_, kept + " can't be named so again: " + std::strerror(errno));
+            has_its_name();
             throw;
         }
+        kept_.clear();
         std::lock_guard<std::mutex> guard(lock_);
         ends_.push_back(stands_.length);
-        stands_ = {stands_.failures + 1, head.size()};
-        given_ = head.size();
-        steps_ = 0;
+        stands_ = {stands_.failures + 1, page.size()};
+        given_ = page.size();
+        added_.clear();
+        steps_ = steps(first);
         is_torn_ = false;
         forget(std::exchange(file_, file));
         return kept;
@@ -465,9 +473,12 @@ class journal {
     // with the bench's mutex held
 
     // What the last call did is added.
-    void take(lab_bench *handle) {
+    void take(lab_bench *handle) { add(taken(handle)); }
+
+    // What the last call on a bench did.
+    std::string taken(lab_bench *handle) {
         const std::string text = told_by([&](auto... room) { return lab_journal(handle, room...); });
-        if (!text.empty()) add(stamp() + text);
+        return text.empty() ? text : stamp() + text;
     }
 
     // A session that was added to a job is added, and before it whether it is one of `hold` or of `add`.
@@ -583,12 +594,12 @@ class journal {
         ::close(file);
     }
 
-    // The file of a new page, with the page's script in it.
-    int begin_page(const std::string &head) const {
+    // The file of a new page, with this in it.
+    int begin_page(const std::string &page) const {
         const int file = locked();
         bool is_good = !ftruncate(file, 0);
-        for (std::size_t at = 0; is_good && at < head.size();) {
-            const ssize_t wrote = pwrite(file, &head[at], head.size() - at, static_cast<off_t>(at));
+        for (std::size_t at = 0; is_good && at < page.size();) {
+            const ssize_t wrote = pwrite(file, &page[at], page.size() - at, static_cast<off_t>(at));
             if (wrote > 0) at += static_cast<std::size_t>(wrote);
             else if (wrote == 0 || errno != EINTR) is_good = false;
         }
@@ -597,6 +608,16 @@ class journal {
         if (!is_good) forget(file);
         if (!is_good) throw journal_error(path_, "a write failed: " + std::string(std::strerror(why)));
         return file;
+    }
+
+    // The file of a page that couldn't be turned has its old name again.
+    bool has_its_name() {
+        if (kept_.empty()) return true;
+        // (it may have it, and that isn't synced)
+        if (std::rename(kept_.c_str(), path_.c_str()) && errno != ENOENT) return false;
+        if (syncs_ && !sync_folder()) return false;
+        kept_.clear();
+        return true;
     }
 
     std::string folder() const {
@@ -696,7 +717,7 @@ class journal {
     // Writes this behind what is written. No leaves the file as it was.
     bool write(const std::string &more) {
         const off_t end = static_cast<off_t>(stands_.length);
-        if (is_torn_ && ftruncate(file_, end)) return false;
+        if (!has_its_name() || (is_torn_ && ftruncate(file_, end))) return false;
         is_torn_ = true;
         std::size_t at = 0;
         const std::size_t all = steps_ + (end ? steps(more) : 0);
@@ -735,6 +756,7 @@ class journal {
     int file_ = -1;
     std::vector<std::uint8_t> room_;
     long long stamped_ = 0;
+    std::string kept_;    // what the file is called while its page is turned, and after that if it couldn't get its name back
     bool is_torn_ = true; // what is behind may be anything
     std::size_t steps_ = 0;
     // what follows is used with the lock held, but for the length by the one who writes
@@ -795,9 +817,10 @@ struct core {
     }
 
     // (`struct` and `::`, because a call and a structure have this name)
-    struct lab_state state(std::uint32_t job) {
+    struct lab_state state(std::uint32_t job) { return state_of(&handle, job); }
+    static struct lab_state state_of(lab_bench *of, std::uint32_t job) {
         struct lab_state found {};
-        ::lab_state(&handle, job, &found);
+        ::lab_state(of, job, &found);
         return found;
     }
 
@@ -836,6 +859,11 @@ struct core {
     // A write failed: the bench is as the file has it, and whoever waits is told so. No if that can't be had: it is closed then.
     bool goes_back() {
         std::lock_guard<std::mutex> guard(mutex);
+        return went_back();
+    }
+
+    // The same, with the mutex held.
+    bool went_back() {
         try {
             log->goes_back(&handle);
         } catch (const std::exception &) {
@@ -1390,21 +1418,16 @@ struct core {
         return text;
     }
 
-    // The first session by which a job may use its instruments is begun by one turn, and given up, unless that was done before.
-    void give_up_first() {
-        for (std::uint32_t job = 0; job < seats.size(); job++) {
-            if (bay_script && std::find(users.begin(), users.end(), jobs[job]) == users.end()) continue;
-            lab_turned turned{};
-            if (state(job).session == 0 && !seats[job].sessions.empty()) lab_turn(&handle, job, &turned);
-            told();
-            const struct lab_state found = state(job);
-            if (found.session == 1 && found.drinking == 1) {
-                lab_withdraw(&handle, job);
-                told();
-                seats[job].leaves();
-            }
-            seats[job].last = found.session;
-        }
+    // Whether the job has a first session by which it may use its instruments. (Of a text `bench 1` only those with a line `uses` have one.)
+    bool has_first(std::uint32_t job) const { return !bay_script || std::find(users.begin(), users.end(), jobs[job]) != users.end(); }
+
+    // The first session of a job is begun by one turn, and given up, unless that was done before; `told` follows each call.
+    template <class Told> static void give_up_first(lab_bench *of, std::uint32_t job, Told told) {
+        lab_turned turned{};
+        if (const struct lab_state it = state_of(of, job); !it.session && it.sessions) lab_turn(of, job, &turned);
+        told();
+        if (const struct lab_state it = state_of(of, job); it.session == 1 && it.drinking == 1) lab_withdraw(of, job);
+        told();
     }
 
     // The jobs that are in a session or have one left, but for those whose session was left and holds.
@@ -1448,32 +1471,44 @@ struct core {
         }
     }
 
-    // The new page, and where the old one's journal is.
-    std::optional<std::string> open_page(const std::string &script, lab_bench *opened) {
-        if (log) return log->turn(script, opened);
+    // The bench of a new page: the first session of each job is given up, and those retire that were retired by their owners. The steps of that.
+    std::string open_page(const std::string &script, lab_bench *opened) {
         lab_told told{};
-        if (const std::uint32_t status = lab_bench_open(bytes(script), script.size(), opened, &told)) fail(status, told);
-        return std::nullopt;
+        std::string steps;
+        const auto took = [&] { steps += log ? log->taken(opened) : ""; };
+        const std::uint32_t status = (log ? lab_bench_open_kept : lab_bench_open)(bytes(script), script.size(), opened, &told);
+        if (status) fail(status, told);
+        for (std::uint32_t job = 0; job < seats.size(); job++)
+            if (has_first(job)) give_up_first(opened, job, took);
+        for (std::uint32_t job = 0; job < seats.size(); job++) {
+            lab_turned turned{};
+            if (seats[job].is_over) lab_retire(opened, job, 1, &turned);
+            took();
+        }
+        return steps;
     }
 
-    // Turns the page of a bench that is quiet, and whose journal is written.
+    // Turns the page of a bench that is quiet, and whose journal is written. All that can fail comes before the new page takes the old one's place: if
+    // something does, the bench goes on with the old page, as its journal has it.
     labrun::page turned() {
         labrun::jobs bay;
         for (std::uint32_t job = 0; job < seats.size(); job++) bay.emplace_back(jobs[job], names(uses[job]));
         labrun::page page{{}, script(), std::nullopt};
         lab_bench opened{};
-        page.journal = open_page(bay_script ? *bay_script : text_of(bay), &opened);
-        std::exception_ptr fault;
+        const auto frees = [](lab_bench *it) { lab_bench_free(it); };
+        const std::unique_ptr<lab_bench, decltype(frees)> at_the_end(&opened, frees);
+        const std::string begun = bay_script ? *bay_script : text_of(bay), first = open_page(begun, &opened);
         try {
+            retire_all();
             page.report = told_text([this](auto... given) { return lab_bench_close(&handle, given...); });
+            if (log) page.journal = log->turn(begun, first);
         } catch (...) {
-            // (the old page stays, with its jobs retired, and may be turned once there is memory; or its journal has the report)
-            fault = std::current_exception();
+            // (without a journal the old page stays with its jobs retired, and may be turned once there is memory)
+            if (log) went_back();
+            throw;
         }
-        if (!fault || page.journal) std::swap(handle, opened);
-        lab_bench_free(&opened);
-        if (!fault || page.journal) begins_anew();
-        if (fault) std::rethrow_exception(fault);
+        std::swap(handle, opened);
+        begins_anew();
         page.report.lapsed = std::exchange(lapsed, {});
         page.report.taken = std::exchange(taken, {});
         return page;
@@ -1487,9 +1522,6 @@ struct core {
         head = "lab 2";
         for (std::uint32_t job = 0; job < seats.size(); job++) seats[job].begins_anew(sessions_of(job));
         comes_back();
-        give_up_first();
-        for (std::uint32_t job = 0; job < seats.size(); job++)
-            if (seats[job].is_over) retire(job);
     }
 
     // Nobody turns the page any more: what waited for that may come.
@@ -1821,13 +1853,19 @@ class job {
         core_->comes_next(job_);
         for (const auto &it : core_->later)
             if (it.first == job_) throw not_now(name() + " has a session that comes when the page is turned");
-        core_->seats[job_].is_over = true;
+        const bool was_over = std::exchange(core_->seats[job_].is_over, true);
         // (if it is in a meal, that lasts until others let go, and the close sees to it)
         core_->retire(job_);
         core_->settle();
         const detail::journal::ticket ticket = core_->ticket();
         guard.unlock();
-        core_->commit(ticket);
+        try {
+            core_->commit(ticket);
+        } catch (...) {
+            guard.lock();
+            core_->seats[job_].is_over = was_over;
+            throw;
+        }
     }
 
   private:
@@ -1937,7 +1975,7 @@ class bench {
     // all that is counted begins anew, and the page has how it was.
     //
     // Whoever calls this mustn't hold a session, and one that nobody takes keeps it waiting: after `timeout` not_back says which jobs are in one or
-    // have one left, and the page isn't turned.
+    // have one left, and the page isn't turned. Nor is it if the journal can't be written: the bench goes on with the page that it has.
     labrun::page turn_page(std::optional<std::chrono::nanoseconds> timeout = std::nullopt) {
         std::unique_lock<std::mutex> guard = open();
         if (core_->is_turning) throw not_now("another thread turns the page");
@@ -1953,9 +1991,6 @@ class bench {
             throw;
         }
         core_->turns_no_more();
-        const detail::journal::ticket ticket = core_->ticket();
-        guard.unlock();
-        core_->commit(ticket);
         return page;
     }
 
@@ -2043,7 +2078,6 @@ class bench {
     labrun::page turns(std::unique_lock<std::mutex> &guard, std::optional<detail::seat::clock::time_point> until) {
         for (;;) {
             core_->is_quiet(guard, until);
-            core_->retire_all();
             if (!core_->log || core_->log->is_written()) return core_->turned();
             const detail::journal::ticket ticket = core_->ticket();
             guard.unlock();
@@ -2057,9 +2091,12 @@ class bench {
     void begins_endless() {
         std::unique_lock<std::mutex> guard = open();
         core_->is_endless = true;
-        core_->give_up_first();
         bool is_over = false;
-        for (std::uint32_t job = 0; job < core_->seats.size(); job++) is_over = is_over || core_->state(job).drinking == 4;
+        for (std::uint32_t job = 0; job < core_->seats.size(); job++) {
+            if (core_->has_first(job)) core_->give_up_first(&core_->handle, job, [this] { core_->told(); });
+            is_over = is_over || core_->state(job).drinking == 4;
+        }
+        core_->comes_back();
         is_over = is_over && resumed_ && !core_->busy();
         const detail::journal::ticket ticket = core_->ticket();
         guard.unlock();

@@ -1,12 +1,15 @@
 // Tests sessions that come with a journal, in labrun.hpp: c++ -std=c++17 -I include bindings/cpp/holding_journal.cpp -L FOLDER -llabrun -pthread
 #include "labrun.hpp"
+#include <climits>
 #include <csignal>
+#include <filesystem>
 #include <functional>
 #include <future>
 #include <iostream>
 #include <random>
 #include <sstream>
 #include <sys/resource.h>
+#include <sys/syscall.h>
 #include <thread>
 
 using namespace std::chrono_literals;
@@ -17,6 +20,36 @@ using names = std::vector<std::string>;
 
 static int passed = 0, failed = 0;
 static std::string path;
+
+// The calls that change files, in place of the system's: of those that are made from now on, the ones from the first to the last of these fail.
+static std::atomic<long> made{0}, first_bad{0}, last_bad{0};
+
+static void disk(long first, long last) {
+    last_bad = 0;
+    first_bad = first;
+    made = 0;
+    last_bad = last;
+}
+static bool is_bad() {
+    const long at = ++made;
+    if (at < first_bad || at > last_bad) return false;
+    errno = ENOSPC;
+    return true;
+}
+
+extern "C" {
+// (half of it is written before the disk is full)
+ssize_t pwrite(int file, const void *text, std::size_t length, off_t place) {
+    const bool bad = is_bad();
+    const ssize_t wrote = syscall(SYS_pwrite64, file, text, bad ? length / 2 : length, place);
+    if (bad) errno = ENOSPC;
+    return bad ? -1 : wrote;
+}
+int ftruncate(int file, off_t length) noexcept { return is_bad() ? -1 : static_cast<int>(syscall(SYS_ftruncate, file, length)); }
+int fdatasync(int file) { return is_bad() ? -1 : static_cast<int>(syscall(SYS_fdatasync, file)); }
+int fsync(int file) { return is_bad() ? -1 : static_cast<int>(syscall(SYS_fsync, file)); }
+int rename(const char *from, const char *to) noexcept { return is_bad() ? -1 : renameat(AT_FDCWD, from, AT_FDCWD, to); }
+}
 
 static void expect(const std::string &what, bool is_so) {
     (is_so ? passed : failed)++;
@@ -241,6 +274,7 @@ static void no_room() {
         limit(text().size() + 5);
         expect("no hold", throws<labrun::journal_error>([&] { guest.hold({"scope"}); }));
         expect("no add", throws<labrun::journal_error>([&] { guest.add({"scope"}); }));
+        expect("not retired", throws<labrun::journal_error>([&] { guest.retire(); }));
         limit(RLIM_INFINITY);
         expect("not there", of.room().sessions[1].second == 999);
     }
@@ -260,6 +294,104 @@ static void no_room() {
     expect("a page", count(of.turn_page().report.text, "guest 2 1/1 read = 0\n") == 1);
     expect("it goes on", guest.hold({"scope"}).number() == 2);
     finished(of);
+}
+
+// How many sessions are over by the journals of a bay.
+static int over(const std::string &of = path) {
+    std::size_t all = count(text(of), "\nquit ");
+    for (int at = 1; at < 10; at++) all += count(text(of + "." + std::to_string(at)), "\nquit ");
+    return static_cast<int>(all);
+}
+
+// If the process died now, and the disk was well again: the bay goes on, and each session that was over is in one journal.
+static void dies(int done) {
+    const std::string dead = path + "-dead", file = dead + path.substr(path.rfind('/'));
+    std::filesystem::remove_all(dead);
+    std::filesystem::create_directory(dead);
+    for (const auto &it : std::filesystem::directory_iterator(path.substr(0, path.rfind('/'))))
+        if (it.is_regular_file() && it.path().string().rfind(path, 0) == 0) std::filesystem::copy(it.path(), dead);
+    disk(0, 0);
+    {
+        bench next = bench::create(BAY, file, labrun::sync::none);
+        expect("nothing is held", !next.job("board").resumed() && !next.job("guest").resumed());
+        next.job("board").hold({"scope", "supply"});
+        next.job("guest").hold({"scope"});
+    }
+    expect("each is in one journal, if the process dies", over(file) == done + 2);
+    std::filesystem::remove_all(dead);
+}
+
+// Any one call that changes a file fails while a page is turned, or that one and all after it until the disk is well again. A turn that throws isn't
+// done: whoever holds then does so on the old page, and as long as the disk is bad is told of that.
+static void turns_that_fail(labrun::sync how, bool is_one) {
+    long bad = 1;
+    for (bool is_through = false; !is_through; bad++) {
+        begin();
+        bench of = bench::create(BAY, path, how);
+        of.job("board").hold({"scope", "supply"});
+        of.job("host").retire();
+        disk(bad, is_one ? bad : LONG_MAX);
+        const bool is_turned = !throws<labrun::journal_error>([&] { of.turn_page(); });
+        is_through = made < bad;
+        expect("it is turned, or that is told", is_turned == is_through);
+        if (!is_one && !is_through) {
+            expect("no hold", throws<labrun::journal_error>([&] { of.job("board").hold({"scope"}); }));
+            expect("no add", throws<labrun::journal_error>([&] { of.job("guest").add({"scope"}); }));
+            expect("no page", throws<labrun::journal_error>([&] { of.turn_page(); }));
+        }
+        dies(1);
+        expect("of the right page", of.job("board").hold({"scope"}).number() == (is_turned ? 2u : 3u));
+        expect("of this one, too", of.job("guest").hold({"scope"}).number() == 2);
+        expect("retired stays so", throws<labrun::retired>([&] { of.job("host").hold({"load-1"}); }));
+        expect("each is in one journal", over() == 3);
+        const labrun::page page = of.turn_page();
+        expect("the page", page.journal == path + (is_turned ? ".2" : ".1") && page.report.finished);
+        expect("its replay", labrun::replay(unfolded(text(*page.journal))).text == page.report.text);
+        expect("all of it", count(page.report.text, " read = 0\n") == (is_turned ? 2 : 4) && over() == 3);
+        dies(3);
+        finished(of);
+    }
+    // (the last steps, two names, and a page; with each synced, and with the names)
+    expect("points of a turn", bad - 2 == (how == labrun::sync::none ? 4 : 7));
+}
+
+// The same while a thread waits to hold, and the one who holds has to let go before.
+static void waits_while_a_turn_fails() {
+    long bad = 1;
+    for (bool is_through = false; !is_through; bad++) {
+        begin();
+        bench of = opened();
+        int faults = 0, before = 0;
+        auto board = std::make_unique<labrun::session>(of.job("board").hold({"scope"}));
+        auto turner = std::async(std::launch::async, [&] {
+            while (throws<labrun::journal_error>([&] { of.turn_page(); })) faults++;
+        });
+        until([&] {
+            return throws<labrun::timed_out>([&] {
+                of.job("host").hold({"load-1"}, asking().timeout(0s));
+                before++;
+            });
+        });
+        const auto lets_go = [](labrun::session &it) {
+            while (throws<labrun::journal_error>([&] { it.finish(); })) {}
+        };
+        auto holds = std::async(std::launch::async, [&] {
+            const auto hold = [&] {
+                auto session = of.job("guest").hold({"scope"});
+                lets_go(session);
+            };
+            while (throws<labrun::journal_error>(hold)) {}
+        });
+        disk(bad, bad);
+        lets_go(*board);
+        turner.get();
+        holds.get();
+        is_through = made < bad;
+        disk(0, 0);
+        expect("one page", text(path + ".2").empty() && over() == 2 + before && faults <= 1);
+        of.job("guest").hold({"scope"});
+        finished(of);
+    }
 }
 
 // Threads hold at random, while writes fail now and then and pages are turned: each that held is in one journal.
@@ -314,6 +446,9 @@ int main(int, char **words) {
     path = std::string(words[1]) + "/bay.journal";
     std::signal(SIGXFSZ, SIG_IGN);
     for (const auto &test : {comes_back, cuts, pages, what_comes_meanwhile, no_room}) test();
+    for (const auto how : {labrun::sync::none, labrun::sync::data})
+        for (const bool is_one : {true, false}) turns_that_fail(how, is_one);
+    waits_while_a_turn_fails();
     load(true);
     load(false);
     std::cout << passed << " passed, " << failed << " failed\n";

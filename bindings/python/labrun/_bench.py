@@ -819,8 +819,9 @@ class Bench:
         goes on for months; all that is counted, and `lapsed`, `raised` and `taken`, begins anew, and the Page has how it was.
 
         Whoever calls this mustn't hold a session; one that nobody takes keeps it waiting, and so does one who holds and waits for another:
-        after `timeout` seconds NotBack names the jobs that are in one or have one left, and the page isn't turned. With a journal the new page has a new file, and
-        the old one is kept under its name with a number: `bay.journal.1`. In a program of asyncio use `turn_page_async`."""
+        after `timeout` seconds NotBack names the jobs that are in one or have one left, and the page isn't turned. With a journal the new page has
+        a new file, and the old one is kept under its name with a number: `bay.journal.1`. If it can't be written, JournalError is raised, the page
+        isn't turned, and the bench goes on with it. In a program of asyncio use `turn_page_async`."""
         return _holding.turn_page(self, timeout)
 
     @property
@@ -1271,8 +1272,10 @@ class Bench:
         """An exception came between a call and the note of what it told: so the library is asked how each job is."""
         self._torn = True
         if self._turning is not None:
-            _holding.finish(self, self._turning)
-            return
+            if self._turning.is_made:
+                _holding.finish(self, self._turning)
+                return
+            self._turning.undo(self)
         if self._journal is not None and self._journal.fault is not None:
             self._journal.goes_back()
             self._call("lab_overtakes", self._overtakes)

@@ -10,16 +10,17 @@ from __future__ import annotations
 
 import asyncio
 import ctypes
-import os
+import errno
 import weakref
 from dataclasses import dataclass, field
 from typing import Any, Callable, Iterable, Mapping, NamedTuple, Optional, TypeVar, Union
 
 from . import _bench
-from ._bench import _ELSEWHERE, _FOREVER, _HOLDS, _STOPPED, _THIRSTY, VERBS, Bench, Command, Job, Keeper, NotBack, Session, _freed, _now, _Planned, _plans
+from ._bench import _FOREVER, _RETIRED, _STOPPED, _THIRSTY, _TRANQUIL, VERBS, Bench, Command, Job, Keeper, NotBack, Session, _freed, _now
+from ._bench import _Planned, _plans
 from ._faults import Full, JournalError, LabrunError, MayNotUse, Refused, Retired, TimeoutError, Withdrawn, WouldBlock
 from ._journal import MOST, MOST_STEPS, Journal, Kept, Path, Ticket
-from ._library import NO_MEMORY, REFUSED, RETIRED, Handle, Library, Told, library
+from ._library import NO_MEMORY, REFUSED, RETIRED, Handle, Library, State, Told, Turned, library
 from ._report import Report, told_fault, told_text
 
 # a command as `Job.hold` takes it
@@ -118,8 +119,6 @@ class Hold(Session, Waiter):
         try:
             until = None if timeout is None else _now() + timeout
             while True:
-                if bench._turner is _LEFT_OFF:
-                    go_on_turning(bench)
                 with bench._mutex:
                     if self._is_added_at_once(job, bench) or self._is_added(job, bench, job._get_up):
                         holds = bench._ask(job, self, job._get_up)
@@ -164,8 +163,6 @@ class Hold(Session, Waiter):
 
         try:
             while not self.number:
-                if bench._turner is _LEFT_OFF:
-                    go_on_turning(bench)
                 with bench._mutex:
                     if self._is_added(job, bench, wake):
                         break
@@ -248,8 +245,6 @@ class Hold(Session, Waiter):
         return self._choices[self._passed.index(most)] if most >= bench._overtakes else None
 
     def is_ready(self, bench: Bench) -> bool:
-        if bench._turner is _LEFT_OFF:
-            return True
         if bench._used is None:
             bench._used = _used(bench)
         return self._choice(bench, bench._used) is not None
@@ -262,8 +257,6 @@ class Hold(Session, Waiter):
     def _span_before(self, bench: Bench, until: Optional[float]) -> float:
         """For how long it may sleep, not added yet; -1 for without limit. It raises what keeps it from that."""
         now = _now()
-        if bench._turner is _LEFT_OFF:
-            return 0
         if self._seconds is not None and now >= self._since + self._seconds:
             raise Withdrawn(self, self._seconds, self._kept(bench))
         if until is not None and now >= until:
@@ -352,21 +345,14 @@ class _NewPage(Waiter):
     """Whoever adds a session while a page is turned."""
 
     def is_ready(self, bench: Bench) -> bool:
-        return bench._turner in (None, _LEFT_OFF) or bench._stands != 0
+        return bench._turner is None or bench._stands != 0
 
 
 class _Turner(Waiter):
-    """Whoever turns the page: all sessions are over. With a journal it retires all jobs but those that `were_retired`, and that is written, before
-    it can turn."""
-
-    were_retired: Optional[tuple[Job, ...]] = None
+    """Whoever turns the page: all sessions are over."""
 
     def is_ready(self, bench: Bench) -> bool:
         return not _busy(bench) or bench._stands > _STOPPED
-
-
-# turns the page in place of one who left off when jobs were retired for that: whoever is the next to add a session turns it
-_LEFT_OFF = _Turner()
 
 
 def _busy(bench: Bench) -> tuple[Job, ...]:
@@ -462,18 +448,12 @@ def add(job: Job, instruments: tuple[str, ...], commands: Iterable[Asked]) -> No
 
     def act() -> Optional[Ticket]:
         bench._may_go_on()
-        if bench._turner is _LEFT_OFF:
-            return None
         _append(bench, job, kind, "add")
         bench._rouse_others()
         return bench._ticket()
 
-    ticket: Optional[Ticket] = None
-    while bench._journal is not None and ticket is None:
-        # (what comes while a page is turned is in no journal before that is over)
-        if bench._turner is _LEFT_OFF:
-            go_on_turning(bench)
-        ticket = _waits(bench, _NewPage(), act)
+    # (what comes while a page is turned is in no journal before that is over)
+    ticket = None if bench._journal is None else _waits(bench, _NewPage(), act)
     if ticket is not None:
         return bench._commit(ticket)
     with bench._mutex, bench._mending:
@@ -596,13 +576,17 @@ def retire(job: Job) -> None:
             _comes_next(job, bench)
         if any(other is job for other, _ in bench._later):
             raise LabrunError(f"{job.name} has a session that comes when the page is turned")
-        job._is_over = True
+        was_over, job._is_over = job._is_over, True
         # (if it is in a meal, that lasts until others let go, and the close sees to it)
         bench._retire(job)
         ticket = bench._ticket()
         bench._settle()
     if ticket is not None:
-        bench._commit(ticket)
+        try:
+            bench._commit(ticket)
+        except JournalError:
+            job._is_over = was_over
+            raise
 
 
 # ---- a bench without a script, and its pages
@@ -623,7 +607,11 @@ def begins_endless(bench: Bench) -> None:
     """The bench has no sessions yet but what its jobs may use, and goes on to get them."""
     bench._is_endless = True
     with bench._mutex:
-        _give_up_first(bench)
+        for job in bench._jobs:
+            if _has_first(bench, job):
+                job._last, is_tranquil = _give_up_first(bench._calls, bench._at, job.index)
+                if is_tranquil:
+                    job._in, job._session = 0, None
         ticket = bench._ticket()
     if ticket is not None:
         bench._commit(ticket)
@@ -658,19 +646,23 @@ def _lines(jobs: Mapping[str, tuple[str, ...]]) -> list[str]:
     return lines
 
 
-def _give_up_first(bench: Bench) -> None:
-    """The first session by which a job may use its instruments is begun by one turn, and given up, unless that was done before. (With the mutex
-    held.)"""
-    for job in bench._jobs:
-        if bench._users is not None and job.name not in bench._users:
-            continue
-        if job._plan and bench._state_of(job.index).session == 0:
-            bench._call("lab_turn", job.index, bench._turned_at)
-        state = bench._state_of(job.index)
-        if state.session == 1 and state.drinking == _THIRSTY:
-            bench._call("lab_withdraw", job.index)
-            job._in, job._session = 0, None
-        job._last = state.session
+def _has_first(bench: Bench, job: Job) -> bool:
+    """Whether the job has a first session by which it may use its instruments. (Of a text `bench 1` only those with a line `uses` have one.)"""
+    return bench._users is None or job.name in bench._users
+
+
+def _give_up_first(calls: Union[Library, Kept], at: Any, job: int) -> tuple[int, bool]:
+    """The first session of a job is begun by one turn, and given up, unless that was done before. Which session it was in last, and whether it is in
+    none."""
+    state, turned = State(), Turned()
+    calls["lab_state"](at, job, ctypes.byref(state))
+    if state.sessions and not state.session:
+        calls["lab_turn"](at, job, ctypes.byref(turned))
+        calls["lab_state"](at, job, ctypes.byref(state))
+    if state.session == 1 and state.drinking == _THIRSTY:
+        calls["lab_withdraw"](at, job)
+        calls["lab_state"](at, job, ctypes.byref(state))
+    return state.session, state.drinking == _TRANQUIL
 
 
 def script_of(bench: Bench) -> str:
@@ -702,34 +694,20 @@ def room_of(bench: Bench) -> Room:
     return Room({job.name: MOST_SESSIONS - len(job._plan) for job in bench._jobs}, MOST_COMMANDS - commands, steps, left)
 
 
-def turn_page(bench: Bench, timeout: Optional[float]) -> Page:
-    page = _turns(bench, _may_turn, None if timeout is None else _now() + timeout)
-    assert page is not None
-    return page
-
-
-def _may_turn(bench: Bench) -> bool:
+def _may_turn(bench: Bench) -> None:
     bench._may_go_on()
-    if bench._turner not in (None, _LEFT_OFF):
+    if bench._turner is not None:
         raise LabrunError("another thread turns the page")
     if bench._journal is not None and not bench._is_endless:
         raise LabrunError("a bench of a script keeps its journal to the end: Bench.new is for one that turns pages")
-    return True
 
 
-def go_on_turning(bench: Bench) -> None:
-    """The page is turned, if somebody left off turning it."""
-    _turns(bench, lambda bench: bench._turner is _LEFT_OFF, None)
-
-
-def _turns(bench: Bench, may: Callable[[Bench], bool], until: Optional[float]) -> Optional[Page]:
-    """Turns the page, if that may be."""
-    me = _Turner()
+def turn_page(bench: Bench, timeout: Optional[float]) -> Page:
+    me, until = _Turner(), None if timeout is None else _now() + timeout
     try:
         with bench._mutex:
             bench._look_over()
-            if not may(bench):
-                return None
+            _may_turn(bench)
             bench._turner = me
         while True:
             page = _waits(bench, me, lambda: _turned(bench), None if until is None else max(0.0, until - _now()))
@@ -750,32 +728,25 @@ def _turns(bench: Bench, may: Callable[[Bench], bool], until: Optional[float]) -
 
 def _is_over(bench: Bench) -> None:
     """Nobody turns the page any more: what waited for that may come. (With the mutex held.)"""
-    me = bench._turner
-    was_left_off = isinstance(me, _Turner) and me.were_retired is not None and any(it._is_retired and it not in me.were_retired for it in bench._jobs)
-    bench._turner = _LEFT_OFF if was_left_off and bench._stands == 0 else None
+    bench._turner = None
     later, bench._later = bench._later, []
     if bench._stands <= _STOPPED:
         for job, kind in later:
             _append(bench, job, kind, "add")
-    bench._rouse_others(bench._stands > _STOPPED or was_left_off)
+    bench._rouse_others(bench._stands > _STOPPED)
 
 
-def _turned(bench: Bench) -> Union[Page, tuple[int, int]]:
+def _turned(bench: Bench) -> Union[Page, Ticket]:
     """Turns the page, unless the journal is to be written before: then that ticket. (With the mutex held.)"""
     for job in bench._members(bench._left):
         _lapse(bench, job)
+    if bench._journal is not None and not bench._is_written():
+        return bench._journal.ticket
+    bench._torn = True
+    turning = bench._turning = Turning(bench)
     if bench._journal is not None:
-        if isinstance(bench._turner, _Turner):
-            bench._turner.were_retired = tuple(job for job in bench._jobs if job._is_over)
-        _retires_all(bench)
-        if not bench._is_written():
-            return bench._journal.ticket
-    uses = {job.name: uses_of(job) for job in bench._jobs}
-    script = bench._script if bench._is_endless else "".join(line + "\n" for line in _lines(uses)).encode("ascii")
-    turning = Turning(bench, script)
-    if bench._journal is None:
-        turning.handle = _opened(script)
-    bench._torn, bench._turning = True, turning
+        turning.makes(bench, bench._journal)
+    turning.is_made = True
     return finish(bench, turning)
 
 
@@ -786,71 +757,85 @@ def _retires_all(bench: Bench) -> None:
 
 
 class Turning:
-    """A page that is being turned, from the moment that the old one is closed: whatever comes between, it is finished (`Bench._mend`)."""
+    """A page that is being turned. Until all that can fail is done (`is_made`), the bench goes on with the old page if something fails or an interrupt
+    comes; from then on the new page takes its place, whatever comes between (`Bench._mend`)."""
 
-    def __init__(self, bench: Bench, script: bytes) -> None:
-        self.script = script
+    def __init__(self, bench: Bench) -> None:
+        uses = {job.name: uses_of(job) for job in bench._jobs}
+        self.script = bench._script if bench._is_endless else "".join(line + "\n" for line in _lines(uses)).encode("ascii")
         self.became = script_of(bench)
         self.told = tuple(bench._lapsed), tuple(bench._raised), tuple(bench._taken)
-        self.finalizer, self.old, self.old_calls = bench._finalizer, bench._at, bench._calls
-        self.old_journal = bench._journal
-        self.journal: Optional[Journal] = None
+        self.finalizer, self.old, self.old_calls, self.old_journal = bench._finalizer, bench._at, bench._calls, bench._journal
         self.report: Optional[Report] = None
-        self.handle: Optional[Handle] = None
-        self.calls: Union[Library, Kept] = library()
         self.kept: Optional[str] = None
-        self.is_renamed = False
+        self.is_made: bool = False
+        self.handle = Handle()
+        self.calls: Union[Library, Kept] = library()
+        self.journal: Optional[Journal] = None
+        self.drops = weakref.finalize(self, _freed, library(), self.handle)
+        try:
+            self.opens(bench)
+        except BaseException:
+            self.drops()
+            raise
+
+    def opens(self, bench: Bench) -> None:
+        """The new page's bench: the first session of each job is given up, and those retire that were retired by their owners."""
+        if bench._journal is None:
+            _opened(self.script, self.handle)
+        else:
+            self.journal = Journal(bench._journal.path, self.script, bench._sync, _bench._new_lock, bench._journal)
+            self.calls = self.journal.begin(library(), self.handle)
+        at, turned = ctypes.byref(self.handle), Turned()
+        for job in bench._jobs:
+            if _has_first(bench, job):
+                _give_up_first(self.calls, at, job.index)
+        for job in bench._jobs:
+            if job._is_over:
+                self.calls["lab_retire"](at, job.index, 1, ctypes.byref(turned))
+
+    def makes(self, bench: Bench, old: Journal) -> None:
+        """The old page is closed, and the new one has its file."""
+        assert self.journal is not None
+        try:
+            _retires_all(bench)
+            self.report = Report.from_text(told_text(self.old_calls["lab_bench_close"], self.old))
+            self.kept = old.turn(self.journal)
+        except OSError as fault:
+            raise JournalError(old.path, f"a write failed ({fault.strerror}), and the page isn't turned") from fault
+
+    def undo(self, bench: Bench) -> None:
+        """(Each line may have been done before, so in `finish`. With the mutex held.)"""
+        if self.journal is not None and self.old_journal is not None:
+            self.journal.close()
+            self.old_journal.fault = self.old_journal.fault or OSError(errno.EINTR, "a page wasn't turned")
+        self.drops()
+        bench._turning = None
 
 
 def finish(bench: Bench, turning: Turning) -> Page:
-    """(Each line may have been done before. With the mutex held.)"""
+    """The new page takes the old one's place."""
     if turning.report is None:
-        if bench._journal is None:
-            _retires_all(bench)
+        _retires_all(bench)
         turning.report = Report.from_text(told_text(turning.old_calls["lab_bench_close"], turning.old))
-    if bench._journal is not None and turning.handle is None:
-        _sets_aside(bench, turning, turning.old_journal or bench._journal)
-    assert turning.handle is not None
     page = Page(turning.report, turning.became, *turning.told, turning.kept)
     bench._last_page = page
+    bench._journal = turning.journal
     _begins_anew(bench, turning.calls, turning.handle, turning.script)
+    turning.drops.detach()
     turning.finalizer()
+    if turning.old_journal is not None:
+        turning.old_journal.close()
     _is_over(bench)
     bench._torn, bench._turning = False, None
     return page
 
 
-def _sets_aside(bench: Bench, turning: Turning, old: Journal) -> None:
-    """The journal's file gets a name with a number, one more than the last, and the new page begins one of the old name."""
-    path = old.path
-    if turning.kept is None:
-        turning.kept = f"{path}.{1 + _last_page(path)}"
-    if not turning.is_renamed:
-        if os.path.exists(path):
-            os.rename(path, turning.kept)
-        turning.is_renamed = True
-    if turning.journal is not None:
-        turning.journal.close()
-    handle = Handle()
-    turning.journal = Journal(path, turning.script, bench._sync, _bench._new_lock, old)
-    turning.calls, _ = turning.journal.open(library(), handle)
-    bench._journal, turning.handle = turning.journal, handle
-    old.close()
-
-
-def _last_page(path: str) -> int:
-    """The largest number of a journal's pages that are set aside."""
-    folder, name = os.path.split(os.path.abspath(path))
-    numbers = [it[len(name) + 1 :] for it in os.listdir(folder) if it.startswith(name + ".")]
-    return max((int(it) for it in numbers if it.isascii() and it.isdigit()), default=0)
-
-
-def _opened(script: bytes) -> Handle:
-    handle, told = Handle(), Told()
+def _opened(script: bytes, handle: Handle) -> None:
+    told = Told()
     status = library()["lab_bench_open"](script, len(script), ctypes.byref(handle), ctypes.byref(told))
     if status:
         raise told_fault(status, told)
-    return handle
 
 
 def _begins_anew(bench: Bench, calls: Union[Library, Kept], handle: Handle, script: bytes) -> None:
@@ -864,11 +849,8 @@ def _begins_anew(bench: Bench, calls: Union[Library, Kept], handle: Handle, scri
     bench._has_patience = True
     for job, plan in zip(bench._jobs, _plans(script, bench.instruments)):
         job._plan, job._session, job._outcome, job._fault, job._wake = plan, None, None, None, None
-        job._in = job._last = job._asked_for = 0
-        # (one that was retired by its owner stays so)
-        job._is_retired = job._is_old = False
+        state = bench._state_of(job.index)
+        job._last, job._is_retired = state.session, state.drinking == _RETIRED
+        job._in = job._asked_for = 0
+        job._is_old = False
     bench._counts_sessions()
-    _give_up_first(bench)
-    for job in bench._jobs:
-        if job._is_over:
-            bench._retire(job)

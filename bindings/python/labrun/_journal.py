@@ -36,7 +36,7 @@ class Journal:
     """`ticket` is of all that was added. `fault` is a write that failed, until the bench has gone back to what the file has."""
 
     def __init__(self, path: Path, script: bytes, sync: str, new_lock: Callable[[], Any], before: Optional[Journal] = None) -> None:
-        """`before` is the journal of the page before: whatever that had told is kept."""
+        """`before` is the journal of the page before: whatever that had told is kept, and `turn` gives this one its file."""
         if sync not in ("data", "none"):
             raise ValueError('sync is "data" or "none"')
         self.path = os.fspath(path)
@@ -47,16 +47,11 @@ class Journal:
         self._new_lock, self._lock = new_lock, new_lock()
         self._writes: Any = None
         self._waiting: list[Any] = []
-        self._file = os.open(path, os.O_RDWR | os.O_CREAT | os.O_CLOEXEC, 0o666)
-        self.close = weakref.finalize(self, os.close, self._file)
-        try:
-            fcntl.flock(self._file, fcntl.LOCK_EX | fcntl.LOCK_NB)
-        except BlockingIOError:
-            self.close()
-            raise JournalError(self.path, "another process has it open") from None
-        if not _is_at(path, self._file):
-            self.close()
-            raise JournalError(self.path, "another process turned its page just now")
+        self.close: Any = _nothing
+        if before is None:
+            self._opens_file()
+        # what the file is called while its page is turned, and after that if it couldn't get its name back
+        self._kept: Optional[str] = None
         # the file is `_stands[1]` bytes long on the disk, after `_stands[0]` writes that failed, each of which left it as long as `_ends` says
         self._ends: list[int] = [] if before is None else [*before._ends, before._stands[1]]
         self._stands: Ticket = (len(self._ends), 0)
@@ -66,6 +61,7 @@ class Journal:
         self.sessions: list[int] = []
         # what was added and isn't written, each with the length of the file behind it; some in front may be written already
         self._added: list[tuple[int, bytes]] = []
+        self._head = script + (b"" if script.endswith(b"\n") else b"\n") + b"steps\n"
         self._given = self._steps = 0
         self.ticket: Ticket = self._stands
         self._is_torn = True  # what is behind may be anything
@@ -76,6 +72,19 @@ class Journal:
         self._stamped = self._second = 0
         self._date = b""
 
+    def _opens_file(self) -> None:
+        """For this process alone."""
+        self._file = os.open(self.path, os.O_RDWR | os.O_CREAT | os.O_CLOEXEC, 0o666)
+        self.close = weakref.finalize(self, os.close, self._file)
+        try:
+            fcntl.flock(self._file, fcntl.LOCK_EX | fcntl.LOCK_NB)
+        except BlockingIOError:
+            self.close()
+            raise JournalError(self.path, "another process has it open") from None
+        if not _is_at(self.path, self._file):
+            self.close()
+            raise JournalError(self.path, "another process turned its page just now")
+
     def open(self, calls: Library, handle: Handle) -> tuple[Kept, bool]:
         """Opens the bench: for its script, or as the file has it. The calls to use with it, and whether the file had one."""
         try:
@@ -85,16 +94,13 @@ class Journal:
             raise
 
     def _open(self, calls: Library, handle: Handle) -> tuple[Kept, bool]:
-        script, told = self._script, Told()
-        head = script + (b"" if script.endswith(b"\n") else b"\n") + b"steps\n"
+        head, told = self._head, Told()
         found = self._text(os.fstat(self._file).st_size)
         is_there = len(found) >= len(head)
-        self._calls, self._handle, self._at = calls, handle, ctypes.byref(handle)
-        self._takes = calls.quick("lab_journal")
-        self._gives: Optional[Callable[..., int]] = None  # looked up when the first session comes: an older library has none
         if found[: len(head)] != head[: len(found)]:
             line = 1 + head.count(b"\n", 0, len(os.path.commonprefix([found, head])))
             raise JournalError(self.path, f"it is the journal of another script, which differs in line {line}", line)
+        self._has(calls, handle)
         if is_there:
             self._resume(found, handle, told)
             self._steps = _steps(found[len(head) : told.written])
@@ -103,10 +109,7 @@ class Journal:
             self.came = {(it[2].decode(), int(it[3])): it[1].decode() for it in _CAME.finditer(found, len(head), told.written)}
             self._take()
         else:
-            status = calls["lab_bench_open_kept"](script, len(script), ctypes.byref(handle), ctypes.byref(told))
-            if status:
-                raise told_fault(status, told)
-            self._add(head)
+            self._begins()
         try:
             self._write()
             if self._syncs and not is_there:
@@ -115,6 +118,50 @@ class Journal:
             calls["lab_bench_free"](ctypes.byref(handle))
             raise JournalError(self.path, f"a write failed ({fault.strerror})") from fault
         return Kept(calls, self._take), is_there
+
+    def _has(self, calls: Library, handle: Handle) -> None:
+        self._calls, self._handle, self._at = calls, handle, ctypes.byref(handle)
+        self._takes = calls.quick("lab_journal")
+        self._gives: Optional[Callable[..., int]] = None  # looked up when the first session comes: an older library has none
+
+    def _begins(self) -> None:
+        script, told = self._script, Told()
+        status = self._calls["lab_bench_open_kept"](script, len(script), self._at, ctypes.byref(told))
+        if status:
+            raise told_fault(status, told)
+        self._add(self._head)
+
+    def begin(self, calls: Library, handle: Handle) -> Kept:
+        """Opens the bench of a new page, which has no file yet. The calls to use with it."""
+        self._has(calls, handle)
+        self._begins()
+        return Kept(calls, self._take)
+
+    def turn(self, page: Journal) -> str:
+        """The page is over, and all of it is written but its last steps, by which the jobs retire. They are written, the file gets a name with a
+        number, one more than the last, and the next page begins one of the old name. What the old file is called now. If that fails, or is
+        interrupted, the file is as before, but for a name that it may have to get back, and the bench is to go back to it. (With the
+        bench's mutex held, so that nobody else writes.)"""
+        # (as long as the page isn't turned, the file ends where these begin)
+        self._append(self._stands[1], self._added)
+        kept = self._kept = f"{self.path}.{1 + _last_page(self.path)}"
+        os.rename(self.path, kept)
+        page._opens_file()
+        page._write()
+        if self._syncs:
+            _sync_folder(self.path)
+        return kept
+
+    def _gets_its_name(self) -> None:
+        """The file of a page that couldn't be turned has its old name again."""
+        if self._kept is not None:
+            try:
+                os.rename(self._kept, self.path)
+            except FileNotFoundError:  # it has it
+                pass
+            if self._syncs:
+                _sync_folder(self.path)
+            self._kept = None
 
     def _text(self, length: int) -> bytes:
         """So much of the file."""
@@ -174,7 +221,7 @@ class Journal:
 
     def steps(self) -> int:
         """How many steps it has, with those that aren't written yet."""
-        return self._steps + sum(_steps(text) for end, text in self._added if end > self._stands[1] > 0)
+        return self._steps + sum(_steps(text) for end, text in self._added if end > max(self._stands[1], len(self._head)))
 
     def length(self) -> int:
         """How many bytes it has, in the same way."""
@@ -199,18 +246,18 @@ class Journal:
 
     def is_written(self) -> bool:
         """Whether all is on the disk, and the bench as the file has it."""
-        return self.fault is None and self.ticket == self._stands
+        return self.fault is None and self.ticket == self._stands and self._writes is None
 
     def goes_back(self) -> None:
         """After a write that failed: the bench is what the file has, which `ticket` says then."""
-        fault = self.fault
-        assert fault is not None
+        assert self.fault is not None
+        _try(self._gets_its_name)  # (if not now, it is tried again by each write)
         failures, length = self._stands
         told, handle = Told(), Handle()
         self._resume(self._text(length), handle, told)
         self._calls["lab_bench_free"](self._at)
         self._handle.at, self._handle.live = handle.at, handle.live
-        self._ends.append(length)
+        self._ends[failures:] = [length]
         self._added.clear()
         self._given = length
         self._stands = self.ticket = (failures + 1, length)
@@ -272,12 +319,21 @@ class Journal:
         """Writes all that was added by now. (An interrupt leaves it to the next one.)"""
         failures, length = self._stands
         added = self._added[:]
+        end, steps = self._append(length, added)
+        self._stands, self._steps = (failures, end), steps
+        self._is_torn = False
+        del self._added[: len(added)]
+
+    def _append(self, length: int, added: list[tuple[int, bytes]]) -> tuple[int, int]:
+        """Writes what of this isn't among so many bytes of the file yet: how many it has then, and how many steps. (It is torn then, until
+        somebody says that it has them.)"""
         text = b"".join([text for end, text in added if end > length])
+        self._gets_its_name()
         if self._is_torn:
             os.ftruncate(self._file, length)
         self._is_torn = True
         try:
-            steps = self._steps + (_steps(text) if length else 0)
+            steps = self._steps + _steps(text[max(0, len(self._head) - length) :])
             if length + len(text) > MOST or steps > MOST_STEPS:
                 raise OSError(errno.EFBIG, "it would have more than 16777216 bytes, or than 1000000 steps")
             at = 0
@@ -288,9 +344,7 @@ class Journal:
         except OSError:
             _try(os.ftruncate, self._file, length)
             raise
-        self._stands, self._steps = (failures, length + len(text)), steps
-        self._is_torn = False
-        del self._added[: len(added)]
+        return length + len(text), steps
 
     def _sync(self) -> None:
         """On a disk it takes long, and others go on meanwhile. In memory it takes less than to get the interpreter's lock back."""
@@ -363,6 +417,13 @@ def _is_at(path: Path, file: int) -> bool:
         return False
 
 
+def _last_page(path: str) -> int:
+    """The largest number of a journal's pages that are set aside."""
+    folder, name = os.path.split(os.path.abspath(path))
+    numbers = [it[len(name) + 1 :] for it in os.listdir(folder) if it.startswith(name + ".")]
+    return max((int(it) for it in numbers if it.isascii() and it.isdigit()), default=0)
+
+
 def _sync_folder(path: str) -> None:
     """So that the file's name is on the disk, too."""
     folder = os.open(os.path.dirname(os.path.abspath(path)), os.O_RDONLY | os.O_CLOEXEC)
@@ -377,3 +438,7 @@ def _try(call: Callable[..., object], *given: Any) -> None:
         call(*given)
     except OSError:
         pass
+
+
+def _nothing() -> None:
+    pass

@@ -172,6 +172,8 @@ class Simulated:
         return 0
 
     def lab_bench_free(self, handle: Any) -> None:
+        if at(handle).at is None:
+            return
         self.runs[at(handle).at] = None
         self.kept.pop(at(handle).at, None)
 

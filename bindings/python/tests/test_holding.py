@@ -821,7 +821,7 @@ class Pages(OnBay):
                 pass
             opened = labrun._holding._opened
 
-            def fails(script: bytes) -> Any:
+            def fails(*given: Any) -> Any:
                 raise MemoryError
 
             labrun._holding._opened = fails

@@ -1,16 +1,18 @@
 """Sessions that come, with a journal: what is in it, what comes back, what a write that fails leaves, and pages."""
 
+import contextlib
 import hashlib
 import os
 import random
 import re
+import shutil
 import signal
 import subprocess
 import sys
 import tempfile
 import threading
 import unittest
-from typing import Any, Callable, Optional
+from typing import Any, Callable, Iterator, Optional
 from unittest import mock
 
 import labrun
@@ -264,6 +266,15 @@ class Failing(OnFile):
         bench.job("guest").add("scope")
         self.assertEqual(len(self.finished(bench).log("scope")), 1)
 
+    def test_retire(self) -> None:
+        """It isn't retired, and holds when there is room."""
+        bench = self.opened()
+        with self.failing(), self.assertRaises(labrun.JournalError):
+            bench.job("guest").retire()
+        with bench.job("guest").hold("scope"):
+            pass
+        self.finished(bench)
+
     def test_while_others_wait(self) -> None:
         """One that waits is told, and its session is over; who can't let go holds still."""
         for overtakes in (0, 5):
@@ -465,6 +476,173 @@ class Pages(OnFile):
             self.is_sound(page.script, page.report)
             self.assertEqual(self.replayed(self.text(page.journal)).text, page.report.text)
         self.assertEqual([sum(report.jobs[at].done for report in [*(it.report for it in pages), last]) for at in range(4)], done)
+
+
+class Disk:
+    """In place of the calls that change files: of those that are made after `set`, the ones from the first to the last of these fail."""
+
+    def __init__(self) -> None:
+        self.set(0, 0)
+
+    def set(self, first: int, last: int, fault: Callable[[], BaseException] = lambda: OSError(28, "No space left on device")) -> None:
+        self.made, self.first, self.last, self.fault = 0, first, last, fault
+
+    def fails(self) -> bool:
+        self.made += 1
+        return self.first <= self.made <= self.last
+
+    @contextlib.contextmanager
+    def patched(self) -> Iterator[None]:
+        calls = [(os, name, self.instead(getattr(os, name))) for name in ("rename", "open", "ftruncate", "fdatasync", "fsync")]
+        calls.append((_journal, "_system_fdatasync", self.instead(os.fdatasync, lambda *given: -1)))
+        calls.append((_journal, "_pwrite", self.instead(_journal._pwrite, self.half)))
+        with contextlib.ExitStack() as stack:
+            for where, name, call in calls:
+                stack.enter_context(mock.patch.object(where, name, call))
+            yield
+
+    def instead(self, real: Callable[..., Any], first: Callable[..., Any] = lambda *given: None) -> Callable[..., Any]:
+        def call(*given: Any, **more: Any) -> Any:
+            if not self.fails():
+                return real(*given, **more) or 0
+            told = first(*given)
+            if told is None or not isinstance(self.fault(), OSError):
+                raise self.fault()
+            return told
+
+        return call
+
+    def half(self, file: int, text: bytes, place: int) -> None:
+        """Half of it is written before the disk is full."""
+        os.pwrite(file, text[: len(text) // 2], place)
+
+
+class TurnsThatFail(OnFile):
+    """Any one call that changes a file fails while a page is turned, or that one and all after it until the disk is well again. A turn that raises
+    isn't done: whoever holds then does so on the old page, and as long as the disk is bad is told of that."""
+
+    def held_once(self, bench: labrun.Bench, name: str, *instruments: str) -> int:
+        with bench.job(name).hold(*instruments) as session:
+            return session.number
+
+    def over(self, folder: str) -> int:
+        """How many sessions are over by the journals there."""
+        return sum(self.text(os.path.join(folder, name)).count(b"\nquit ") for name in os.listdir(folder))
+
+    def dies(self, done: int) -> None:
+        """If the process died now, and the disk was well again: the bay goes on, and each session that was over is in one journal."""
+        with tempfile.TemporaryDirectory(dir=os.path.dirname(self.folder)) as folder:
+            for name in os.listdir(self.folder):
+                shutil.copy(os.path.join(self.folder, name), folder)
+            self.disk.set(0, 0)
+            with labrun.Bench.new(BAY, journal=os.path.join(folder, "bay.journal"), sync="none") as bench:
+                self.assertEqual([bench.job(name).next_session() for name in ("board", "guest")], [None, None])
+                self.held_once(bench, "board", "scope", "supply")
+                self.held_once(bench, "guest", "scope")
+            self.assertEqual(self.over(folder), done + 2)
+
+    def turned(self, sync: str, bad: int, last: int) -> bool:
+        """Whether it comes through, because it needs fewer calls."""
+        for name in os.listdir(self.folder):
+            os.remove(os.path.join(self.folder, name))
+        bench = self.opened(sync)
+        self.assertEqual(self.held_once(bench, "board", "scope", "supply"), 2)
+        bench.job("host").retire()
+        self.disk.set(bad, last)
+        try:
+            bench.turn_page()
+            is_turned = True
+        except labrun.JournalError:
+            is_turned = False
+        is_through = self.disk.made < bad
+        self.assertEqual((is_turned, bench.last_page is not None), (is_through, is_through))
+        if last > bad and not is_through:
+            for call in (bench.job("board").hold("scope").acquire, lambda: bench.job("guest").add("scope"), bench.turn_page):
+                with self.assertRaises(labrun.JournalError):
+                    call()
+        self.goes_on(bench, is_turned)
+        return is_through
+
+    def goes_on(self, bench: labrun.Bench, is_turned: bool) -> None:
+        self.dies(1)
+        self.assertEqual(self.held_once(bench, "board", "scope"), 2 if is_turned else 3)
+        self.assertEqual(self.held_once(bench, "guest", "scope"), 2)
+        with self.assertRaises(labrun.Retired):
+            bench.job("host").hold("load-1").acquire()
+        self.assertEqual(self.over(self.folder), 3)
+        page = bench.turn_page()
+        self.assertEqual((page.journal, page.report.finished), (self.path + (".2" if is_turned else ".1"), True))
+        assert page.journal
+        self.assertEqual(self.replayed(self.text(page.journal)).text, page.report.text)
+        self.assertEqual((page.report.text.count(" read = 0\n"), self.over(self.folder)), (2 if is_turned else 4, 3))
+        self.dies(3)
+        self.finished(bench)
+
+    def test_each_call(self) -> None:
+        # (the last steps, two names, a file, and a page in it; with each synced, and with the folder)
+        for sync, points in (("none", 5), ("data", 9)):
+            for is_one in (True, False):
+                self.disk, bad = Disk(), 1
+                with self.disk.patched():
+                    while not self.turned(sync, bad, bad if is_one else sys.maxsize):
+                        bad += 1
+                self.assertEqual((sync, is_one, bad - 1), (sync, is_one, points))
+
+    def test_interrupts(self) -> None:
+        """The same with an interrupt at each of them: the page is turned, or it isn't."""
+        bad, self.disk = 1, Disk()
+        with self.disk.patched():
+            while True:
+                for name in os.listdir(self.folder):
+                    os.remove(os.path.join(self.folder, name))
+                bench = self.opened("data")
+                self.held_once(bench, "board", "scope", "supply")
+                bench.job("host").retire()
+                self.disk.set(bad, bad, KeyboardInterrupt)
+                try:
+                    bench.turn_page()
+                    break
+                except KeyboardInterrupt:
+                    self.goes_on(bench, bench.last_page is not None and bench.last_page.journal == self.path + ".1")
+                bad += 1
+
+    def test_while_one_waits(self) -> None:
+        """The same while a thread waits to hold, and the one who holds has to let go before."""
+        bad, self.disk = 1, Disk()
+        with self.disk.patched():
+            while True:
+                for name in os.listdir(self.folder):
+                    os.remove(os.path.join(self.folder, name))
+                bench, faults = self.opened(), []  # type: ignore[var-annotated]
+                board = self.held(bench, "board", "scope")
+
+                def turn() -> None:
+                    while not bench.last_page:
+                        try:
+                            bench.turn_page()
+                        except labrun.JournalError as fault:
+                            faults.append(fault)
+
+                def hold() -> None:
+                    session = bench.job("guest").hold("scope")
+                    session.acquire()
+                    tried(session.release)
+
+                turner = in_thread(turn)
+                until(lambda: bench._turner is not None)
+                holds = in_thread(lambda: tried(hold))
+                self.disk.set(bad, bad)
+                tried(board.release)
+                back(turner)
+                back(holds)
+                is_through = self.disk.made < bad
+                self.disk.set(0, 0)
+                self.assertLessEqual(len(faults), 1)
+                self.assertEqual((self.over(self.folder), sorted(os.listdir(self.folder))), (2, ["bay.journal", "bay.journal.1"]))
+                self.finished(bench)
+                if is_through:
+                    break
+                bad += 1
 
 
 if __name__ == "__main__":

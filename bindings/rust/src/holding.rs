@@ -163,13 +163,18 @@ impl Job {
         if core.later.iter().any(|(other, _)| *other == job) {
             return Err(Error::NotNow(format!("{} has a session that comes when the page is turned", self.name())));
         }
-        core.seats[job as usize].over = true;
+        let was_over = std::mem::replace(&mut core.seats[job as usize].over, true);
         // (if it is in a meal, that lasts until others let go, and the close sees to it)
         inner.retire(&mut core, job)?;
         inner.settle(&mut core)?;
         let ticket = inner.ticket();
         drop(core);
-        inner.commit(ticket)
+        inner.commit(ticket).map_err(|fault| {
+            if let Ok(mut core) = inner.open() {
+                core.seats[job as usize].over = was_over;
+            }
+            fault
+        })
     }
 }
 

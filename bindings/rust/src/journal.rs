@@ -93,6 +93,8 @@ pub(crate) struct Journal {
     path: String,
     syncs: bool,
     file: Mutex<ManuallyDrop<File>>,
+    /// What the file is called while its page is turned, and after that if it couldn't get its name back.
+    kept: Mutex<Option<String>>,
     born: u32,
     written: Mutex<Written>,
     changed: Condvar,
@@ -104,7 +106,7 @@ impl Journal {
         let file = locked(path).map_err(|why| Error::Journal { path: name.clone(), why, line: 0 })?;
         let written = Written { torn: true, ..Written::default() };
         let (file, syncs, born) = (Mutex::new(ManuallyDrop::new(file)), to == SyncTo::Disk, FORKS.load(Relaxed));
-        Ok(Journal { path: name, syncs, file, born, written: Mutex::new(written), changed: Condvar::new() })
+        Ok(Journal { path: name, syncs, file, kept: Mutex::new(None), born, written: Mutex::new(written), changed: Condvar::new() })
     }
 
     /// Opens the bench: for its script, or as the file has it; whether it has one, and then what came to it.
@@ -137,7 +139,7 @@ impl Journal {
         }
         let mut written = self.lock();
         let text = std::mem::take(&mut written.added);
-        self.write(written.stands.1, &text, true)
+        self.write(written.stands.1, &text, true, 0)
             .and_then(|()| if self.syncs && !is_there { self.sync_folder() } else { Ok(()) })
             .map_err(|why| self.fault(&format!("a write failed: {why}"), 0))?;
         written.stands.1 += text.len() as u64;
@@ -145,44 +147,53 @@ impl Journal {
         Ok(came)
     }
 
-    /// The journal's page is over, and all of it is written: its file gets a name with a number, one more than the last, and the next page begins one
-    /// of the old name. What the file is called now. If that fails, all is as before.
-    pub(crate) fn turn(&self, script: &[u8], handle: &mut ffi::Handle) -> Result<String, Error> {
+    /// The page is over, and all of it is written but its last steps, by which the jobs retire. They are written, the file gets a name with a
+    /// number, one more than the last, and the next page begins one of the old name, with its script and first steps. What the old file is called
+    /// now. If that fails, the file is as before, and the bench is to go back to it. (With the bench's mutex held, so that nobody else writes.)
+    pub(crate) fn turn(&self, script: &[u8], first: &[u8]) -> Result<String, Error> {
+        let failed = |why: io::Error| self.fault(&format!("a write failed: {why}"), 0);
+        let mut written = self.lock();
+        // (as long as the page isn't turned, the file ends where those steps begin)
+        let torn = std::mem::replace(&mut written.torn, true);
+        self.write(written.stands.1, &written.added, torn, written.steps + steps(&written.added)).map_err(failed)?;
         let kept = format!("{}.{}", self.path, self.last_page().map_err(|why| self.fault(&why.to_string(), 0))? + 1);
         std::fs::rename(&self.path, &kept).map_err(|why| self.fault(&why.to_string(), 0))?;
-        let head = head(script);
-        let opened = self.begin_page(&head).and_then(|file| {
-            let mut told = ffi::Told::default();
-            // SAFETY: the slice's pointer and length, an empty handle, and all apart.
-            let status = unsafe { ffi::lab_bench_open_kept(script.as_ptr(), script.len(), handle, &mut told) };
-            if status == 0 {
-                Ok(file)
-            } else {
-                Err(fault(status, &told))
-            }
-        });
-        let file = match opened {
-            Ok(file) => file,
-            Err(fault) => {
-                std::fs::rename(&kept, &self.path)
-                    .map_err(|why| self.fault(&format!("{fault}; and {kept} can't be named so again: {why}"), 0))?;
-                return Err(fault);
-            }
-        };
-        let mut written = self.lock();
+        *self.kept() = Some(kept.clone());
+        let page = [&head(script), first].concat();
+        let file = self.begin_page(&page).map_err(|fault| {
+            // (if not now, it is tried again by each write)
+            let _ = self.gets_its_name();
+            fault
+        })?;
+        *self.kept() = None;
         let length = written.stands.1;
         written.ends.push(length);
-        (written.stands, written.given) = ((written.stands.0 + 1, head.len() as u64), head.len() as u64);
-        (written.steps, written.torn) = (0, false);
-        let old = std::mem::replace(&mut *self.file(), ManuallyDrop::new(file));
-        forget(old);
+        (written.stands, written.given) = ((written.stands.0 + 1, page.len() as u64), page.len() as u64);
+        (written.steps, written.torn) = (steps(first), false);
+        written.added.clear();
+        forget(std::mem::replace(&mut *self.file(), ManuallyDrop::new(file)));
         Ok(kept)
     }
 
-    /// The file of a new page, with the page's script in it.
-    fn begin_page(&self, head: &[u8]) -> Result<File, Error> {
+    /// The file of a page that couldn't be turned has its old name again.
+    fn gets_its_name(&self) -> io::Result<()> {
+        let mut kept = self.kept();
+        if let Some(name) = &*kept {
+            match std::fs::rename(name, &self.path) {
+                // (it may have it, and that isn't synced)
+                Err(why) if why.kind() != io::ErrorKind::NotFound => return Err(why),
+                _ if self.syncs => self.sync_folder()?,
+                _ => {}
+            }
+            *kept = None;
+        }
+        Ok(())
+    }
+
+    /// The file of a new page, with this in it.
+    fn begin_page(&self, page: &[u8]) -> Result<File, Error> {
         let file = locked(Path::new(&self.path)).map_err(|why| self.fault(&why, 0))?;
-        let done = file.set_len(0).and_then(|()| file.write_all_at(head, 0));
+        let done = file.set_len(0).and_then(|()| file.write_all_at(page, 0));
         let done = if self.syncs { done.and_then(|()| file.sync_data()).and_then(|()| self.sync_folder()) } else { done };
         match done {
             Ok(()) => Ok(file),
@@ -207,6 +218,10 @@ impl Journal {
 
     fn file(&self) -> MutexGuard<'_, ManuallyDrop<File>> {
         self.file.lock().unwrap_or_else(|poisoned| poisoned.into_inner())
+    }
+
+    fn kept(&self) -> MutexGuard<'_, Option<String>> {
+        self.kept.lock().unwrap_or_else(|poisoned| poisoned.into_inner())
     }
 
     /// How many steps, and how many bytes, it may still get.
@@ -249,27 +264,28 @@ impl Journal {
 
     /// What the last call did is added.
     pub(crate) fn take(&self, handle: &mut ffi::Handle) -> Result<(), Error> {
+        self.taken(handle).map(|text| self.add(&text))
+    }
+
+    /// What the last call on a bench did.
+    pub(crate) fn taken(&self, handle: &mut ffi::Handle) -> Result<Vec<u8>, Error> {
         // SAFETY: the room is that of one slice, and nobody else has the handle.
         let text = told_text(|text, room, length| unsafe { ffi::lab_journal(handle, text, room, length) })?;
-        if !text.is_empty() {
-            self.stamp();
-            self.add(&text);
-        }
-        Ok(())
+        Ok(if text.is_empty() { text } else { [self.stamp().as_bytes(), &text].concat() })
     }
 
     /// A session that was added to a job is added, and before it whether it is one of `hold` or of `add`.
     pub(crate) fn more(&self, handle: &mut ffi::Handle, job: u32, number: u32, name: &str, by_hold: bool) -> Result<(), Error> {
         // SAFETY: the room is that of one slice, and nobody else has the handle.
         let text = told_text(|text, room, length| unsafe { ffi::lab_more(handle, job, number, text, room, length) })?;
-        self.stamp();
-        self.add(&[format!("# {} {name} {number}\n", if by_hold { "hold" } else { "add" }).as_bytes(), &text].concat());
+        let mark = format!("{}# {} {name} {number}\n", self.stamp(), if by_hold { "hold" } else { "add" });
+        self.add(&[mark.as_bytes(), &text].concat());
         Ok(())
     }
 
     /// A comment of one line.
     pub(crate) fn note(&self, job: &str, session: u32, said: &str) {
-        let mut line = format!("# note {job} {session}: ");
+        let mut line = format!("{}# note {job} {session}: ", self.stamp());
         for one in said.chars() {
             if one.is_control() {
                 line.extend(one.escape_default());
@@ -278,7 +294,6 @@ impl Journal {
             }
         }
         line.push('\n');
-        self.stamp();
         self.add(line.as_bytes());
     }
 
@@ -317,14 +332,14 @@ impl Journal {
     }
 
     /// A comment that says the time, if that is another than the last one's.
-    fn stamp(&self) {
+    fn stamp(&self) -> String {
         let now = SystemTime::now().duration_since(UNIX_EPOCH).map_or(0, |it| it.as_millis() as u64);
         if std::mem::replace(&mut self.lock().stamped, now) == now {
-            return;
+            return String::new();
         }
         let (year, month, day) = date(now / 86_400_000);
         let (hour, minute, second) = (now / 3_600_000 % 24, now / 60_000 % 60, now / 1000 % 60);
-        self.add(format!("# {year}-{month:02}-{day:02}T{hour:02}:{minute:02}:{second:02}.{:03}Z\n", now % 1000).as_bytes());
+        format!("# {year}-{month:02}-{day:02}T{hour:02}:{minute:02}:{second:02}.{:03}Z\n", now % 1000)
     }
 
     // without it
@@ -346,7 +361,7 @@ impl Journal {
             let (text, length, torn) = (std::mem::take(&mut written.added), written.stands.1, written.torn);
             let all = written.steps + steps(&text);
             drop(written);
-            let done = if all > MOST_STEPS { Err(io::Error::new(io::ErrorKind::Other, TOO_LONG)) } else { self.write(length, &text, torn) };
+            let done = self.write(length, &text, torn, all);
             let lost = done.is_err() && !back();
             written = self.lock();
             (written.torn, written.lost, written.writes) = (done.is_err(), lost, false);
@@ -359,13 +374,14 @@ impl Journal {
         Ok(())
     }
 
-    /// Writes this behind the file's end. An error leaves the file as it was, or at least torn.
-    fn write(&self, end: u64, text: &[u8], torn: bool) -> io::Result<()> {
+    /// Writes this behind the file's end, so that it has so many steps. An error leaves the file as it was, or at least torn.
+    fn write(&self, end: u64, text: &[u8], torn: bool, steps: usize) -> io::Result<()> {
+        self.gets_its_name()?;
         let file = self.file();
         if torn {
             file.set_len(end)?;
         }
-        if end + text.len() as u64 > MOST {
+        if end + text.len() as u64 > MOST || steps > MOST_STEPS {
             return Err(io::Error::new(io::ErrorKind::Other, TOO_LONG));
         }
         let written = file.write_all_at(text, end);

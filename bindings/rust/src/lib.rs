@@ -470,8 +470,11 @@ impl Inner {
 
     /// A write failed: the bench is as the file has it, and whoever waits is told so. No if that can't be had: it is closed then.
     fn goes_back(&self, log: &Journal) -> bool {
-        let mut core = self.core.lock().unwrap_or_else(|poisoned| poisoned.into_inner());
-        let core = &mut *core;
+        self.went_back(&mut self.core.lock().unwrap_or_else(|poisoned| poisoned.into_inner()), log)
+    }
+
+    /// The same, with the mutex held.
+    fn went_back(&self, core: &mut Core, log: &Journal) -> bool {
         let mut is_back = log.goes_back(&mut core.handle).is_ok();
         if is_back {
             core.comes_back();
@@ -771,10 +774,7 @@ impl Core {
     }
 
     fn state(&mut self, job: u32) -> ffi::State {
-        let mut state = ffi::State::default();
-        // SAFETY: the handle is open, and nobody else has it.
-        unsafe { ffi::lab_state(&mut self.handle, job, &mut state) };
-        state
+        state_of(&mut self.handle, job)
     }
 
     /// The bench is one that a journal had: who holds, and who waits, does still.
@@ -818,6 +818,13 @@ impl Drop for Core {
             unsafe { ffi::lab_bench_free(&mut self.handle) };
         }
     }
+}
+
+fn state_of(handle: &mut ffi::Handle, job: u32) -> ffi::State {
+    let mut state = ffi::State::default();
+    // SAFETY: the handle is open, and nobody else has it.
+    unsafe { ffi::lab_state(handle, job, &mut state) };
+    state
 }
 
 fn read(path: impl AsRef<Path>) -> Result<Vec<u8>, Error> {

@@ -1,7 +1,7 @@
 //! A bench without a script, how much may still come to it, and pages that are turned.
 use crate::holding::{Verb, MOST_SESSIONS};
 use crate::journal::{Journal, MOST, MOST_STEPS};
-use crate::{fault, ffi, members, told_bytes, told_text, Bench, Core, Error, Inner, Options, Report, Seat, HOLDS, RETIRED, THIRSTY};
+use crate::{fault, ffi, members, state_of, told_bytes, told_text, Bench, Core, Error, Inner, Options, Report, Seat, HOLDS, RETIRED, THIRSTY};
 use std::sync::{Arc, MutexGuard};
 use std::time::{Duration, Instant};
 
@@ -88,6 +88,13 @@ pub(crate) fn new(jobs: &[(String, Vec<String>)], options: &Options) -> Result<B
     endless(inner)
 }
 
+impl Core {
+    /// Whether the job has a first session by which it may use its instruments. (Of a text `bench 1` only those with a line `uses` have one.)
+    fn has_first(&self, job: &str) -> bool {
+        self.bay.as_ref().map_or(true, |it| it.users.iter().any(|user| user == job))
+    }
+}
+
 /// What a text `bench 1` stands for.
 pub(crate) struct Bay {
     /// Its script.
@@ -125,7 +132,10 @@ pub(crate) fn bay_of(text: &[u8]) -> Result<Option<Bay>, Error> {
 pub(crate) fn endless(inner: Arc<Inner>) -> Result<Bench, Error> {
     let mut core = inner.open()?;
     core.endless = true;
-    inner.give_up_first(&mut core)?;
+    for job in (0..inner.jobs.len() as u32).filter(|job| core.has_first(&inner.jobs[*job as usize])).collect::<Vec<_>>() {
+        give_up_first(&mut core.handle, job, |handle| inner.log.as_ref().map_or(Ok(()), |log| log.take(handle)))?;
+    }
+    core.comes_back();
     let ticket = inner.ticket();
     let retired = (0..inner.jobs.len() as u32).any(|job| core.state(job).drinking == RETIRED);
     let is_over = inner.resumed && retired && inner.busy(&mut core).is_empty();
@@ -139,30 +149,23 @@ pub(crate) fn endless(inner: Arc<Inner>) -> Result<Bench, Error> {
     Ok(bench)
 }
 
-impl Inner {
-    /// The first session by which a job may use its instruments is begun by one turn, and given up, unless that was done before.
-    fn give_up_first(&self, core: &mut Core) -> Result<(), Error> {
-        for job in 0..self.jobs.len() as u32 {
-            if core.bay.as_ref().is_some_and(|it| !it.users.contains(&self.jobs[job as usize])) {
-                continue;
-            }
-            let mut turned = ffi::Turned::default();
-            // SAFETY: the handle is open, and the mutex is held; so below.
-            if core.state(job).session == 0 && !core.seats[job as usize].sessions.is_empty() {
-                unsafe { ffi::lab_turn(&mut core.handle, job, &mut turned) };
-                self.told(core)?;
-            }
-            let state = core.state(job);
-            if state.session == 1 && state.drinking == THIRSTY {
-                unsafe { ffi::lab_withdraw(&mut core.handle, job) };
-                self.told(core)?;
-                core.seats[job as usize].leaves();
-            }
-            core.seats[job as usize].last = state.session;
-        }
-        Ok(())
+/// The first session of a job is begun by one turn, and given up, unless that was done before; `told` follows each call.
+fn give_up_first(handle: &mut ffi::Handle, job: u32, mut told: impl FnMut(&mut ffi::Handle) -> Result<(), Error>) -> Result<(), Error> {
+    let state = state_of(handle, job);
+    if state.session == 0 && state.sessions != 0 {
+        // SAFETY: the handle is open, and nobody else has it; so below.
+        unsafe { ffi::lab_turn(handle, job, &mut ffi::Turned::default()) };
+        told(handle)?;
     }
+    let state = state_of(handle, job);
+    if state.session == 1 && state.drinking == THIRSTY {
+        unsafe { ffi::lab_withdraw(handle, job) };
+        told(handle)?;
+    }
+    Ok(())
+}
 
+impl Inner {
     /// What each job may use.
     fn bay(&self) -> Vec<(String, Vec<String>)> {
         self.jobs.iter().zip(&self.uses).map(|(job, uses)| (job.clone(), self.names(*uses))).collect()
@@ -213,7 +216,7 @@ impl Inner {
         format!("waits: {}", all.join(", "))
     }
 
-    /// Sleeps until nobody is in a session or has one left, and all is in the journal.
+    /// Sleeps until nobody is in a session or has one left.
     fn is_quiet<'c>(&'c self, mut core: MutexGuard<'c, Core>, until: Option<Instant>) -> Result<MutexGuard<'c, Core>, Error> {
         loop {
             let busy = self.busy(&mut core);
@@ -229,41 +232,67 @@ impl Inner {
         }
     }
 
-    /// The new page, and where the old one's journal is.
-    fn opened(&self, script: &[u8]) -> Result<(Freed, Option<String>), Error> {
-        let mut opened = Freed(ffi::Handle { at: std::ptr::null_mut(), live: 0 });
-        if let Some(log) = &self.log {
-            let kept = log.turn(script, &mut opened.0)?;
-            return Ok((opened, Some(kept)));
-        }
-        let mut told = ffi::Told::default();
+    /// The bench of a new page: the first session of each job is given up, and those retire that were retired by their owners. With a journal the
+    /// steps of that.
+    fn open_page(&self, core: &Core, script: &[u8]) -> Result<(Freed, Vec<u8>), Error> {
+        let (mut opened, mut told) = (Freed(ffi::Handle { at: std::ptr::null_mut(), live: 0 }), ffi::Told::default());
+        let (text, length) = (script.as_ptr(), script.len());
         // SAFETY: the text's pointer and length, an empty handle, and all apart.
-        match unsafe { ffi::lab_bench_open(script.as_ptr(), script.len(), &mut opened.0, &mut told) } {
-            0 => Ok((opened, None)),
-            status => Err(fault(status, &told)),
+        let status = match &self.log {
+            Some(_) => unsafe { ffi::lab_bench_open_kept(text, length, &mut opened.0, &mut told) },
+            None => unsafe { ffi::lab_bench_open(text, length, &mut opened.0, &mut told) },
+        };
+        if status != 0 {
+            return Err(fault(status, &told));
         }
+        let mut steps = Vec::new();
+        let mut took = |handle: &mut ffi::Handle| {
+            if let Some(log) = &self.log {
+                steps.extend(log.taken(handle)?);
+            }
+            Ok(())
+        };
+        for job in (0..self.jobs.len()).filter(|job| core.has_first(&self.jobs[*job])) {
+            give_up_first(&mut opened.0, job as u32, &mut took)?;
+        }
+        for job in (0..self.jobs.len()).filter(|job| core.seats[*job].over) {
+            // SAFETY: the handle is open, and nobody else has it.
+            unsafe { ffi::lab_retire(&mut opened.0, job as u32, 1, &mut ffi::Turned::default()) };
+            took(&mut opened.0)?;
+        }
+        Ok((opened, steps))
     }
 
-    /// Turns the page of a bench that is quiet, and whose journal is written.
+    /// Turns the page of a bench that is quiet, and whose journal is written. All that can fail comes before the new page takes the old one's place:
+    /// if something does, the bench goes on with the old page, as its journal has it.
     fn turned(&self, core: &mut Core) -> Result<Page, Error> {
         let script = core.bay.as_ref().map_or_else(|| text_of(&self.bay()).into_bytes(), |it| it.script.clone());
         let became = self.script_of(core);
-        let (mut opened, journal) = self.opened(&script)?;
-        let handle = &mut core.handle;
-        // SAFETY: the room is that of one slice, and the mutex is held; so below.
-        let closed = told_text(|text, room, told| unsafe { ffi::lab_bench_close(handle, text, room, told) });
-        if closed.is_ok() || journal.is_some() {
-            std::mem::swap(&mut core.handle, &mut opened.0);
-            drop(opened);
-            self.begins_anew(core)?;
+        let (mut opened, first) = self.open_page(core, &script)?;
+        let closed = self.close_page(core, &script, &first);
+        if let (Err(_), Some(log)) = (&closed, &self.log) {
+            self.went_back(core, log);
         }
-        // (if there is no memory, the old page stays, with its jobs retired, and may be turned once there is; or its journal has the report)
+        let (report, journal) = closed?;
+        std::mem::swap(&mut core.handle, &mut opened.0);
+        self.begins_anew(core);
         let (lapsed, taken) = (std::mem::take(&mut core.lapsed), std::mem::take(&mut core.taken));
-        Ok(Page { report: Report { lapsed, taken, ..Report::of(closed?) }, script: became, journal })
+        Ok(Page { report: Report { lapsed, taken, ..report }, script: became, journal })
+    }
+
+    /// The old page's report, and where its journal is. (If there is no memory, a bench without a journal stays with its jobs retired, and its page
+    /// may be turned once there is.)
+    fn close_page(&self, core: &mut Core, script: &[u8], first: &[u8]) -> Result<(Report, Option<String>), Error> {
+        self.retire_all(core)?;
+        let handle = &mut core.handle;
+        // SAFETY: the room is that of one slice, and the mutex is held.
+        let closed = told_text(|text, room, told| unsafe { ffi::lab_bench_close(handle, text, room, told) })?;
+        let journal = self.log.as_ref().map(|log| log.turn(script, first)).transpose()?;
+        Ok((Report::of(closed), journal))
     }
 
     /// The new page is open, and nothing has come to it yet.
-    fn begins_anew(&self, core: &mut Core) -> Result<(), Error> {
+    fn begins_anew(&self, core: &mut Core) {
         (core.waiting, core.left, core.page, core.head) = (0, 0, core.page + 1, "lab 2".into());
         core.by_hold.clear();
         for job in 0..self.jobs.len() as u32 {
@@ -273,13 +302,6 @@ impl Inner {
             (core.seats[job as usize].over, core.seats[job as usize].fault) = (old.over, old.fault);
         }
         core.comes_back();
-        self.give_up_first(core)?;
-        for job in 0..self.jobs.len() as u32 {
-            if core.seats[job as usize].over {
-                self.retire(core, job)?;
-            }
-        }
-        Ok(())
     }
 
     /// Nobody turns the page any more: what waited for that may come.
@@ -338,7 +360,8 @@ impl Bench {
     /// jobs, of which each may use what it could before. What is to be added meanwhile waits, and comes to the new page. So a broker goes on
     /// for months; all that is counted begins anew, and the page has how it was.
     ///
-    /// Whoever calls this mustn't hold a session, and one that nobody takes keeps it waiting: see [`Bench::turn_page_within`].
+    /// Whoever calls this mustn't hold a session, and one that nobody takes keeps it waiting: see [`Bench::turn_page_within`]. If the journal can't
+    /// be written, the page isn't turned, and the bench goes on with it.
     ///
     /// ```
     /// let bench = labrun::Bench::new([("board", ["scope"])])?;
@@ -370,12 +393,8 @@ impl Bench {
         }
         core.turning = true;
         let turned = self.turns(core, until);
-        core = inner.open()?;
-        let added = inner.turns_no_more(&mut core);
-        let ticket = inner.ticket();
-        drop(core);
-        let page = turned?;
-        added.and_then(|()| inner.commit(ticket)).map(|()| page)
+        let added = inner.open().and_then(|mut core| inner.turns_no_more(&mut core));
+        turned.and_then(|page| added.map(|()| page))
     }
 
     /// Waits until the page may be turned, and turns it.
@@ -383,7 +402,6 @@ impl Bench {
         let inner = &*self.inner;
         loop {
             core = inner.is_quiet(core, until)?;
-            inner.retire_all(&mut core)?;
             if inner.log.as_ref().map_or(true, Journal::is_written) {
                 return inner.turned(&mut core);
             }

@@ -33,6 +33,13 @@ impl Folder {
         Options::new().overtakes(overtakes).journal(self.file(), SyncTo::Memory).for_jobs(BAY.map(|(job, uses)| (job, uses.iter())))
     }
 
+    /// How many sessions are over by its journals.
+    #[allow(dead_code)] // (not everywhere is there a disk that is bad)
+    fn over(&self) -> usize {
+        let files = std::fs::read_dir(&self.0).unwrap().map(|it| it.unwrap().path()).filter(|it| it.is_file());
+        files.map(|it| std::fs::read_to_string(it).unwrap().matches("\nquit ").count()).sum()
+    }
+
     /// The file as a process leaves it that is killed now.
     fn as_killed(&self, bench: Bench) {
         let text = self.text();
@@ -269,6 +276,184 @@ fn what_comes_meanwhile() {
     assert_eq!(finished(&folder, bench).log("load-1").len(), 1);
 }
 
+/// A disk that is bad for a while: calls of the standard library that change files, in place of the system's. (Nothing is synced, and half of what
+/// can't be written is.)
+#[cfg(all(target_os = "linux", target_env = "gnu"))]
+mod bad_disk {
+    use super::*;
+    use std::cell::Cell;
+
+    thread_local! {
+        /// Of the calls of this thread that change files: how many were made, and the first and the last that fail.
+        static DISK: Cell<(u32, u32, u32)> = const { Cell::new((0, 0, 0)) };
+    }
+
+    /// Of the calls that this thread makes from now on, those from the first to the last of these fail.
+    fn disk(first: u32, last: u32) {
+        DISK.with(|it| it.set((0, first, last)));
+    }
+
+    /// Whether a call is one that fails.
+    fn is_bad() -> bool {
+        let (made, first, last) = DISK.with(Cell::get);
+        DISK.with(|it| it.set((made + 1, first, last)));
+        (first..=last).contains(&(made + 1))
+    }
+
+    mod calls {
+        use super::is_bad;
+        use std::ffi::{c_char, c_int, c_void};
+
+        extern "C" {
+            fn pwrite(file: c_int, text: *const c_void, length: usize, place: i64) -> isize;
+            fn ftruncate(file: c_int, length: i64) -> c_int;
+            fn renameat(from_at: c_int, from: *const c_char, to_at: c_int, to: *const c_char) -> c_int;
+            fn __errno_location() -> *mut c_int;
+        }
+        const NO_SPACE: c_int = 28;
+        const HERE: c_int = -100;
+
+        fn unless_bad(call: impl FnOnce() -> c_int) -> c_int {
+            if !is_bad() {
+                return call();
+            }
+            // SAFETY: the place of this thread's error.
+            unsafe { *__errno_location() = NO_SPACE };
+            -1
+        }
+
+        // SAFETY: each is given what the system's call is given, and gives it on.
+        #[no_mangle]
+        unsafe extern "C" fn pwrite64(file: c_int, text: *const c_void, length: usize, place: i64) -> isize {
+            if !is_bad() {
+                return unsafe { pwrite(file, text, length, place) };
+            }
+            unsafe { pwrite(file, text, length / 2, place) };
+            unsafe { *__errno_location() = NO_SPACE };
+            -1
+        }
+        #[no_mangle]
+        unsafe extern "C" fn ftruncate64(file: c_int, length: i64) -> c_int {
+            unless_bad(|| unsafe { ftruncate(file, length) })
+        }
+        #[no_mangle]
+        extern "C" fn fdatasync(_: c_int) -> c_int {
+            unless_bad(|| 0)
+        }
+        #[no_mangle]
+        extern "C" fn fsync(_: c_int) -> c_int {
+            unless_bad(|| 0)
+        }
+        #[no_mangle]
+        unsafe extern "C" fn rename(from: *const c_char, to: *const c_char) -> c_int {
+            unless_bad(|| unsafe { renameat(HERE, from, HERE, to) })
+        }
+    }
+
+    /// If the process died now, and the disk was well again: the bay goes on, and each session that was over is in one journal.
+    fn dies(folder: &Folder, done: usize) {
+        let dead = Folder::new("dead");
+        for it in std::fs::read_dir(&folder.0).unwrap().map(|it| it.unwrap()) {
+            std::fs::copy(it.path(), dead.0.join(it.file_name())).unwrap();
+        }
+        disk(0, 0);
+        let bench = dead.opened(64).unwrap();
+        assert!(["board", "guest"].iter().all(|it| job(&bench, it).resumed().unwrap().is_none()));
+        job(&bench, "board").hold(&["scope", "supply"]).begin().unwrap().finish().unwrap();
+        job(&bench, "guest").hold(&["scope"]).begin().unwrap().finish().unwrap();
+        assert_eq!(dead.over(), done + 2);
+    }
+
+    /// Any one call that changes a file fails while a page is turned, or that one and all after it until the disk is well again. A turn that
+    /// fails isn't done: whoever holds then does so on the old page, and as long as the disk is bad is told of that.
+    #[test]
+    fn turns_that_fail() {
+        // (the last steps, two names, and a page; with each synced, and with the names)
+        for (to, points) in [(SyncTo::Memory, 4), (SyncTo::Disk, 7)] {
+            for is_one in [true, false] {
+                let bad: Vec<u32> = (1..).take_while(|bad| !turn_that_fails(to, *bad, is_one)).collect();
+                assert_eq!(bad.len(), points);
+            }
+        }
+    }
+
+    /// Whether it comes through, because it needs fewer calls.
+    fn turn_that_fails(to: SyncTo, bad: u32, is_one: bool) -> bool {
+        let folder = Folder::new("bad");
+        let bench = Options::new().journal(folder.file(), to).for_jobs(BAY.map(|(job, uses)| (job, uses.iter()))).unwrap();
+        let (board, guest, host) = (job(&bench, "board"), job(&bench, "guest"), job(&bench, "host"));
+        let holds = |job: &Job, those: &[&str]| job.hold(those).begin().and_then(|it| Ok((it.number(), it.finish()?)).map(|it| it.0));
+        assert_eq!(holds(&board, &["scope", "supply"]), Ok(2));
+        host.retire().unwrap();
+        disk(bad, if is_one { bad } else { u32::MAX });
+        let turned = bench.turn_page();
+        let is_through = DISK.with(Cell::get).0 < bad;
+        assert!(if is_through { turned.is_ok() } else { matches!(turned, Err(Error::Journal { .. })) }, "{turned:?}");
+        if !is_one && !is_through {
+            assert!(matches!(holds(&board, &["scope"]), Err(Error::Journal { .. })));
+            assert!(matches!(guest.add(&["scope"]), Err(Error::Journal { .. })));
+            assert!(matches!(bench.turn_page(), Err(Error::Journal { .. })));
+        }
+        dies(&folder, 1);
+        assert_eq!(holds(&board, &["scope"]), Ok(if is_through { 2 } else { 3 }));
+        assert_eq!(holds(&guest, &["scope"]), Ok(2));
+        assert!(matches!(holds(&host, &["load-1"]), Err(Error::Retired(_))));
+        assert_eq!(folder.over(), 3);
+        let page = bench.turn_page().unwrap();
+        let kept = page.journal.unwrap();
+        assert_eq!(Path::new(&kept), folder.0.join(if is_through { "bay.journal.2" } else { "bay.journal.1" }));
+        let old = unfolded(&std::fs::read_to_string(&kept).unwrap());
+        assert_eq!(labrun::replay(old.as_bytes()).unwrap().text, page.report.text);
+        assert_eq!(page.report.text.matches(" read = 0\n").count(), if is_through { 2 } else { 4 });
+        assert!(page.report.finished && folder.over() == 3);
+        dies(&folder, 3);
+        finished(&folder, bench);
+        is_through
+    }
+
+    /// The same while a thread waits to hold, and the one who holds has to let go before.
+    #[test]
+    fn waits_while_a_turn_fails() {
+        for bad in 1.. {
+            let folder = Folder::new("waits");
+            let bench = folder.opened(64).unwrap();
+            let board = job(&bench, "board").hold(&["scope"]).begin().unwrap();
+            let turner = || {
+                disk(bad, bad);
+                let faults =
+                    std::iter::from_fn(|| bench.turn_page().err()).inspect(|it| assert!(matches!(it, Error::Journal { .. }), "{it}"));
+                (faults.count() as u32, DISK.with(Cell::get).0)
+            };
+            let lets_go = |session: Session<'_>| {
+                let job = job(&bench, session.job());
+                let _ = session.finish();
+                drop(job.resumed().unwrap());
+            };
+            let holds = || loop {
+                match job(&bench, "guest").hold(&["scope"]).begin() {
+                    Err(Error::Journal { .. }) => {}
+                    session => break lets_go(session.unwrap()),
+                }
+            };
+            let before = Cell::new(0);
+            let (faults, made) = thread::scope(|threads| {
+                let turner = threads.spawn(turner);
+                let held = |_| before.set(before.get() + 1);
+                until(|| job(&bench, "host").hold(&["load-1"]).timeout(Duration::ZERO).begin().map(held).is_err());
+                let holds = threads.spawn(holds);
+                lets_go(board);
+                holds.join().unwrap();
+                turner.join().unwrap()
+            });
+            assert!(faults <= 1 && folder.over() == 2 + before.get() && !folder.0.join("bay.journal.2").exists());
+            finished(&folder, bench);
+            if made < bad {
+                break;
+            }
+        }
+    }
+}
+
 extern "C" {
     fn setrlimit(what: i32, to: *const [u64; 2]) -> i32;
     fn signal(number: i32, to: usize) -> usize;
@@ -310,7 +495,7 @@ fn without_room() {
         |fault: Option<Error>| matches!(fault, Some(Error::Journal { why, .. }) if why.starts_with("a write failed (File too large"));
     for _ in 0..3 {
         limit(folder.text().len() + 5);
-        assert!(failed(guest.hold(&["scope"]).begin().err()) && failed(guest.add(&["scope"]).err()));
+        assert!(failed(guest.hold(&["scope"]).begin().err()) && failed(guest.add(&["scope"]).err()) && failed(guest.retire().err()));
         limit(1 << 40);
         assert_eq!(bench.room().unwrap().sessions[1].1, 999);
     }
@@ -385,14 +570,19 @@ fn loaded() {
                 }
             });
         }
-        for _ in 0..3 {
-            for _ in 0..200 {
-                limit(folder.text().len() + 200);
+        threads.spawn(|| {
+            while !over.load(SeqCst) {
+                limit(std::fs::metadata(folder.file()).map_or(0, |it| it.len() as usize) + 200);
                 thread::sleep(Duration::from_micros(200));
                 limit(1 << 40);
                 thread::sleep(Duration::from_micros(200));
             }
-            while bench.turn_page().is_err() {}
+        });
+        for _ in 0..3 {
+            thread::sleep(Duration::from_millis(80));
+            while let Err(fault) = bench.turn_page() {
+                assert!(matches!(fault, Error::Journal { .. }), "{fault}");
+            }
         }
         over.store(true, SeqCst);
     });
@@ -400,6 +590,7 @@ fn loaded() {
     let files = std::fs::read_dir(&folder.0).unwrap().map(|it| std::fs::read_to_string(it.unwrap().path()).unwrap());
     let ended: usize = files.map(|it| it.matches("\nquit ").count()).sum();
     let done = done.into_inner();
+    assert!(folder.0.join("bay.journal.3").exists() && !folder.0.join("bay.journal.4").exists());
     assert_eq!((clashes.into_inner(), ended), (0, done));
     assert!(done > 20, "{done}");
 }
