@@ -1,7 +1,7 @@
 use Rattle.std.proofs.Common.{subst}
 use Rattle.lab_plan.specs.LabPlan.{LabPlan}
 use Rattle.settling.specs.Left.{AreMarked}
-use Rattle.core_tests.proofs.settled.let_rest.Goals as goal
+use Rattle.core_tests.proofs.settled.rest_twice.Goals as goal
 
 pub rest-deeds-requires : goal.rest-deeds-requires
 rest-deeds-requires g c =
