@@ -1,4 +1,5 @@
 //! Sessions that come while a lab is open, with answers that were reckoned by hand.
+use crate::rows::check;
 use c_handles::Handle;
 use c_tells::Told;
 use lab_plan::{InstrumentNo, Verb};
@@ -29,7 +30,7 @@ fn adds(lab: &mut Lab, job: usize) -> Option<Result<(), AddRefusal>> {
 }
 
 fn holds(rt: &impl Abort, lab: &mut Lab, waiting: u32, holds: u32) {
-    assert!(rt; lab.settle(waiting).holds == holds);
+    check(rt, 1, lab.settle(waiting).holds, holds);
 }
 
 /// A session comes to job a while it holds and job b waits. So a has one left when it ends; nobody waits for it until its owner does.
@@ -38,22 +39,37 @@ fn a_session_comes(rt: HostRuntime) {
     let mut lab = opened(&rt, rt.alloc());
     holds(&rt, &mut lab, 1, 1);
     holds(&rt, &mut lab, 3, 1);
-    assert!(rt; adds(&mut lab, 0) == Some(Ok(())));
-    assert!(rt; lab.session(0, 2).is_some() && lab.session(1, 2).is_none());
-    assert!(rt; lab.end(0).is_some());
+    check(&rt, 1, adds(&mut lab, 0), Some(Ok(())));
+    check(
+        &rt,
+        2,
+        (lab.session(0, 2).is_some(), lab.session(1, 2).is_none()),
+        (true, true),
+    );
+    check(&rt, 3, lab.end(0).is_some(), true);
     holds(&rt, &mut lab, 0, 2);
-    assert!(rt; lab.retire(0, 1) == Some((Stage::Barred, Turned::Idle)));
-    assert!(rt; lab.end(1).is_some());
+    check(
+        &rt,
+        4,
+        lab.retire(0, 1),
+        Some((Stage::Barred, Turned::Idle)),
+    );
+    check(&rt, 5, lab.end(1).is_some(), true);
     holds(&rt, &mut lab, 1, 1);
-    assert!(rt; lab.end(0).is_some());
-    assert!(rt; lab.end(0) == Some(Ended::NotHeld));
+    check(&rt, 6, lab.end(0).is_some(), true);
+    check(&rt, 7, lab.end(0), Some(Ended::NotHeld));
     // After these none is left.
-    assert!(rt; lab.settle(3).none_left == 3);
-    assert!(rt; lab.retire(0, 9).is_some() && lab.retire(1, 9).is_some());
+    check(&rt, 8, lab.settle(3).none_left, 3);
+    check(
+        &rt,
+        9,
+        (lab.retire(0, 9).is_some(), lab.retire(1, 9).is_some()),
+        (true, true),
+    );
     let Some(report) = lab.print(rt.alloc()) else {
         panic!(rt; "no report");
     };
-    assert!(rt; report.text.as_slice() == WITH_ONE_MORE);
+    check(&rt, 10, report.text.as_slice(), WITH_ONE_MORE);
 }
 
 /// None comes to a job that has retired, nor to one that isn't there; one comes to a job that had none left.
@@ -61,15 +77,20 @@ fn a_session_comes(rt: HostRuntime) {
 fn none_comes_behind_a_retire(rt: HostRuntime) {
     let mut lab = opened(&rt, rt.alloc());
     holds(&rt, &mut lab, 1, 1);
-    assert!(rt; lab.end(0).is_some());
-    assert!(rt; lab.settle(1).none_left == 1);
-    assert!(rt; adds(&mut lab, 0) == Some(Ok(())));
-    assert!(rt; lab.settle(0).none_left == 0);
+    check(&rt, 1, lab.end(0).is_some(), true);
+    check(&rt, 2, lab.settle(1).none_left, 1);
+    check(&rt, 3, adds(&mut lab, 0), Some(Ok(())));
+    check(&rt, 4, lab.settle(0).none_left, 0);
     holds(&rt, &mut lab, 1, 1);
-    assert!(rt; lab.end(0).is_some());
-    assert!(rt; lab.retire(0, 9) == Some((Stage::There, Turned::Acted(1))));
-    assert!(rt; adds(&mut lab, 0) == Some(Err(AddRefusal::HasRetired)));
-    assert!(rt; adds(&mut lab, 2).is_none());
+    check(&rt, 5, lab.end(0).is_some(), true);
+    check(
+        &rt,
+        6,
+        lab.retire(0, 9),
+        Some((Stage::There, Turned::Acted(1))),
+    );
+    check(&rt, 7, adds(&mut lab, 0), Some(Err(AddRefusal::HasRetired)));
+    check(&rt, 8, adds(&mut lab, 2).is_none(), true);
 }
 
 /// Two sessions on the scale.
@@ -82,15 +103,30 @@ const NOT_ITS_OWN: &[u8] = b"# later\nsession\nlamp read\nend\n";
 #[test]
 fn sessions_of_a_text_come(rt: HostRuntime) {
     let mut lab = opened(&rt, rt.alloc());
-    assert!(rt; lab.add(rt.alloc(), 1, TWO_MORE) == Some(Ok(())));
-    assert!(rt; lab.session(1, 3).is_some() && lab.session(1, 4).is_none());
+    check(&rt, 1, lab.add(rt.alloc(), 1, TWO_MORE), Some(Ok(())));
+    check(
+        &rt,
+        2,
+        (lab.session(1, 3).is_some(), lab.session(1, 4).is_none()),
+        (true, true),
+    );
     let fault = ScriptFault {
         line: 3,
         cause: ScriptCause::NotItsOwn,
     };
-    assert!(rt; lab.add(rt.alloc(), 1, NOT_ITS_OWN) == Some(Err(NotAdded::Fault(fault))));
-    assert!(rt; lab.add(rt.alloc(), 2, TWO_MORE).is_none());
-    assert!(rt; lab.session(1, 4).is_none() && lab.session(0, 2).is_none());
+    check(
+        &rt,
+        3,
+        lab.add(rt.alloc(), 1, NOT_ITS_OWN),
+        Some(Err(NotAdded::Fault(fault))),
+    );
+    check(&rt, 4, lab.add(rt.alloc(), 2, TWO_MORE).is_none(), true);
+    check(
+        &rt,
+        5,
+        (lab.session(1, 4).is_none(), lab.session(0, 2).is_none()),
+        (true, true),
+    );
 }
 
 /// The status of a text for a job of a handle, and what is told.
@@ -116,7 +152,7 @@ fn opens(rt: &impl Abort, alloc: Global, is_kept: bool) -> Handle {
     } else {
         bench_calls::open(alloc, SHARED, &mut bench, &mut told)
     };
-    assert!(rt; status == 0);
+    check(rt, 1, status, 0);
     bench
 }
 
@@ -124,12 +160,32 @@ fn opens(rt: &impl Abort, alloc: Global, is_kept: bool) -> Handle {
 #[test]
 fn sessions_come_to_a_handle(rt: HostRuntime) {
     let mut bench = opens(&rt, rt.alloc(), false);
-    assert!(rt; comes(rt.alloc(), &mut bench, 0, TWO_MORE) == (0, 9, 9));
-    assert!(rt; comes(rt.alloc(), &mut bench, 1, NOT_ITS_OWN) == (1, 3, 14));
-    assert!(rt; comes(rt.alloc(), &mut bench, 2, TWO_MORE) == (2, 9, 9));
-    assert!(rt; bench_calls::free(rt.alloc(), &mut bench) == 0);
-    assert!(rt; comes(rt.alloc(), &mut bench, 0, TWO_MORE) == (7, 9, 9));
+    check(
+        &rt,
+        1,
+        comes(rt.alloc(), &mut bench, 0, TWO_MORE),
+        (0, 9, 9),
+    );
+    check(
+        &rt,
+        2,
+        comes(rt.alloc(), &mut bench, 1, NOT_ITS_OWN),
+        (1, 3, 14),
+    );
+    check(
+        &rt,
+        3,
+        comes(rt.alloc(), &mut bench, 2, TWO_MORE),
+        (2, 9, 9),
+    );
+    check(&rt, 4, bench_calls::free(rt.alloc(), &mut bench), 0);
+    check(
+        &rt,
+        5,
+        comes(rt.alloc(), &mut bench, 0, TWO_MORE),
+        (7, 9, 9),
+    );
     let mut kept = opens(&rt, rt.alloc(), true);
-    assert!(rt; comes(rt.alloc(), &mut kept, 0, TWO_MORE) == (0, 9, 9));
-    assert!(rt; bench_calls::free(rt.alloc(), &mut kept) == 0);
+    check(&rt, 6, comes(rt.alloc(), &mut kept, 0, TWO_MORE), (0, 9, 9));
+    check(&rt, 7, bench_calls::free(rt.alloc(), &mut kept), 0);
 }
