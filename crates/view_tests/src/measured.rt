@@ -1,4 +1,7 @@
 //! The best order that was measured, and what `labview arrange N` writes, by its bytes.
+ghost use Rattle.std.specs.Prelude.{◌<◌, length};
+ghost use Rattle.std.specs.List.{All};
+
 use crate::orders::RING_OF_EIGHT;
 use crate::seen::of_script;
 use arranged_scripts::laws::{arranged_texts_have_short_chains, texts_are_cut_in_one_way};
@@ -201,20 +204,10 @@ fn best_of(
     Ok((own, text, best.gain()))
 }
 
-/// Every second job comes first.
-const SECONDS: [JobNo; 8] = [
-    JobNo(0),
-    JobNo(2),
-    JobNo(4),
-    JobNo(6),
-    JobNo(1),
-    JobNo(3),
-    JobNo(5),
-    JobNo(7),
-];
-
 /// The blocks of a script in another order.
-fn in_order(rt: &impl Abort, alloc: Global, script: &str, order: &[JobNo]) -> Vec<u8> {
+fn in_order(rt: &impl Abort, alloc: Global, script: &str, order: &[JobNo]) -> Vec<u8>
+    requires { All (λ job. job < length order.now) order.now }
+{
     match moved(alloc, script.as_bytes(), order) {
         Ok(Some(text)) => text,
         _ => panic!(rt; "no answer"),
@@ -235,7 +228,17 @@ fn is_ring(rt: &impl Abort, (own, text, gain): &(Measure, Vec<u8>, Gain), wanted
 /// waited one round, and the other four in round 6, having waited five; and all are retired in round 11.
 #[test]
 fn ring_of_eight(rt: HostRuntime) {
-    let wanted = in_order(&rt, rt.alloc(), RING_OF_EIGHT, &SECONDS);
+    let order = [
+        JobNo(0),
+        JobNo(2),
+        JobNo(4),
+        JobNo(6),
+        JobNo(1),
+        JobNo(3),
+        JobNo(5),
+        JobNo(7),
+    ];
+    let wanted = in_order(&rt, rt.alloc(), RING_OF_EIGHT, order.as_slice());
     match best_of(rt.alloc(), RING_OF_EIGHT, 1000) {
         Ok(best) => is_ring(&rt, &best, wanted.as_slice()),
         Err(_) => panic!(rt; "no answer"),
@@ -271,7 +274,8 @@ const AS_THEY_COME: [JobNo; 2] = [JobNo(0), JobNo(1)];
 /// Blocks change places.
 #[test]
 fn blocks_change_places(rt: HostRuntime) {
-    let text = in_order(&rt, rt.alloc(), PATIENT, &SWAPPED);
+    let order = [JobNo(1), JobNo(0)];
+    let text = in_order(&rt, rt.alloc(), PATIENT, order.as_slice());
     assert!(rt; text.as_slice() == GIVES_UP.as_bytes());
 }
 

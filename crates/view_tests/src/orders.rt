@@ -270,7 +270,8 @@ fn are_jobs(jobs: &[JobNo], numbers: &[u8]) -> bool {
         return false;
     }
     for place in 0..jobs.len() {
-        if jobs[place].0 != numbers[place] {
+        let job = jobs[place];
+        if job.0 != numbers[place] {
             return false;
         }
     }

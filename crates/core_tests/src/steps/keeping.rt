@@ -58,7 +58,10 @@ fn is_kept<T: Allocator>(
     told: (usize, bool),
 ) {
     assert!(rt; are_kept(world, steps), "row {number}");
-    assert!(rt; (world.kept_room(), world.is_whole()) == told, "row {number}");
+    assert!(rt;
+        (world.kept_room(), world.is_whole()) == told,
+        "row {number}"
+    );
 }
 
 fn follow<T: Allocator + Copy>(

@@ -127,7 +127,13 @@ const MANY: &str =
 fn many_in_common(rt: HostRuntime) {
     check(&rt, rt.alloc(), MANY, &ALL, Ok(ALL_HIGHER));
     check(&rt, rt.alloc(), MANY, &[LOWER], Ok(ALL_LOWER));
-    check(&rt, rt.alloc(), MANY, &ONE_MORE, Err(StartRefusal::BadChoices));
+    check(
+        &rt,
+        rt.alloc(),
+        MANY,
+        &ONE_MORE,
+        Err(StartRefusal::BadChoices),
+    );
 }
 
 /// Whether there is memory for a start; choices that don't fit come first.
