@@ -1,4 +1,5 @@
 //! The bell: who was rung before it sleeps doesn't sleep, who sleeps is woken, and no ring is missed.
+use crate::rows::check;
 use bell::{Bell, Listener};
 use std::process::Abort;
 use std::rt::Clock;
@@ -87,10 +88,10 @@ fn listeners_by_hand(rt: HostRuntime) {
 fn dropped_while_it_listens(rt: HostRuntime) {
     let bell = Bell::new();
     let mut listener = Listener::new(&bell);
-    assert!(rt; listener.outlasts(&rt, 1));
-    assert!(rt; bell.listeners() == 1);
+    check(&rt, 1, listener.outlasts(&rt, 1), true);
+    check(&rt, 2, bell.listeners(), 1);
     drop(listener);
-    assert!(rt; bell.listeners() == 0);
+    check(&rt, 3, bell.listeners(), 0);
 }
 
 const ROUNDS: u64 = 1000;
@@ -139,8 +140,8 @@ fn idles_before_it_listens(rt: HostRuntime) {
         idles(&rt, &bell, &mut listener);
     }
     // It has just left, so it says that it may sleep, and nobody rings.
-    assert!(rt; listener.outlasts(&rt, 1));
-    assert!(rt; !listener.outlasts(&rt, 1));
+    check(&rt, 1, listener.outlasts(&rt, 1), true);
+    check(&rt, 2, listener.outlasts(&rt, 1), false);
 }
 
 /// A ring is never so many sleeps late: ten seconds.

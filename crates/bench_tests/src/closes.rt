@@ -9,6 +9,7 @@ use crate::lines::Answer::{Added, Far, Word};
 use crate::lines::Call::{Look, Store, Try};
 use crate::lines::Move::AllDue;
 use crate::lines::{Call, Line, do_all, entry_of};
+use crate::rows::check;
 use crate::words::{
     DIRTY_A_BOTTLE_A_ASKED, DIRTY_A_BOTTLE_B, DIRTY_B_BOTTLE_B, DRINKS, DRINKS_ONE_DONE, OPEN,
     OPEN_OF_THREE, RETIRED, THIRSTY, TRANQUIL, edge, phase,
@@ -126,7 +127,7 @@ pub(crate) fn closes<T: Allocator + Copy>(
             true
         }
         Err(refused) => {
-            assert!(rt; refused.cause == CloseCause::NoMemory);
+            check(rt, 1, refused.cause, CloseCause::NoMemory);
             check_left(rt, &closed(rt, alloc, refused.bench, refused.desks), wanted);
             false
         }
@@ -213,7 +214,12 @@ const CLOSES: [(&str, &[Line], &Left); 4] = [
 fn closed_benches(rt: HostRuntime) {
     let alloc = rt.alloc();
     for (script, lines, wanted) in &CLOSES {
-        assert!(rt; closes(&rt, alloc, alloc, script, lines, wanted));
+        check(
+            &rt,
+            1,
+            closes(&rt, alloc, alloc, script, lines, wanted),
+            true,
+        );
     }
 }
 
@@ -230,7 +236,7 @@ fn kept_open<'p, T: Allocator>(
     match bench.close(alloc, desks) {
         Ok(_) => panic!(rt; "closed"),
         Err(refused) => {
-            assert!(rt; refused.cause == CloseCause::NotEveryDesk);
+            check(rt, 1, refused.cause, CloseCause::NotEveryDesk);
             (refused.bench, refused.desks)
         }
     }

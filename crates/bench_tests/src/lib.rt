@@ -27,6 +27,8 @@ mod owners;
 #[cfg(test)]
 mod pairs;
 #[cfg(test)]
+mod rows;
+#[cfg(test)]
 mod runs;
 #[cfg(test)]
 mod seats;

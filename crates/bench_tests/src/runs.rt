@@ -6,6 +6,7 @@ use crate::labs::{
     ALONE, IDLER, NOBODY, PATIENCE_0, PATIENCE_1, PATIENCE_3, RING, TWICE, TWO, closed, opened,
     plan_of, star_script,
 };
+use crate::rows::check;
 use edge_rule::{Bench, Closed, Desk};
 use lab_plan::{InstrumentNo, JobNo, Plan};
 use report::ToWrite;
@@ -231,7 +232,7 @@ fn same_logs<T: Allocator>(rt: &impl Abort, left: &Closed<T>, other: &Closed<T>)
 fn run_twice<T: Allocator + Copy>(rt: &impl Abort, alloc: T, plan: &Plan<T>, limit: u32) {
     let (why, played, left) = by_rounds(rt, alloc, plan, limit);
     let (other_why, other_played, other_left) = by_rounds(rt, alloc, plan, limit);
-    assert!(rt; why == other_why && played == other_played);
+    check(rt, 1, (why, played), (other_why, other_played));
     same_logs(rt, &left, &other_left);
 }
 
@@ -253,7 +254,7 @@ fn reports<T: Allocator + Copy>(rt: &impl Abort, alloc: T, limit: u32, report: &
     let (_, _, left) = by_rounds(rt, alloc, &plan, limit);
     let mut bytes = Vec::new(alloc);
     let mut sink = ToWrite::new(&mut bytes);
-    assert!(rt; write_report(&left, &mut sink).is_ok());
+    check(rt, 1, write_report(&left, &mut sink).is_ok(), true);
     assert!(rt; bytes.as_slice() == report.as_bytes(), "limit {limit}");
 }
 
@@ -276,9 +277,9 @@ fn report_of_a_closed_bench(rt: HostRuntime) {
 fn plays_star<T: Allocator + Copy>(rt: &impl Abort, alloc: T, script: &str) {
     let plan = plan_of(rt, alloc, script);
     let (ended, number, left) = by_rounds(rt, alloc, &plan, 1000);
-    assert!(rt; ended == Ended::AllRetired && number == 39);
-    assert!(rt; counted(rt, &left, 0) == (1, 0, 0));
-    assert!(rt; counted(rt, &left, 31) == (1, 0, 1));
+    check(rt, 1, (ended, number), (Ended::AllRetired, 39));
+    check(rt, 2, counted(rt, &left, 0), (1, 0, 0));
+    check(rt, 3, counted(rt, &left, 31), (1, 0, 1));
 }
 
 #[test]

@@ -5,6 +5,7 @@ ghost use Rattle.edge_rule.specs.DeskView.{Owns};
 
 use crate::gates::{ALL_MEET, FORTIETH, Meeting, THREE_FIRST, TWO_MEET};
 use crate::labs::{FOUR, NOBODY, RING, TWICE, TWO, closed, opened, plan_of, star_script};
+use crate::rows::check;
 use crate::words::{CLEAN_B_ASKED_BOTTLE_B_ASKED, DRINKS_HUNGRY, THIRSTY_HUNGRY};
 use counting_gate::CountingGate;
 use edge_rule::{Bench, CloseCause, Closed, Desk};
@@ -59,7 +60,7 @@ fn until_retired<R: Threads + Wait + Abort + Sync>(
         if ended == Ended::AllRetired {
             return desks;
         }
-        assert!(rt; ended == Ended::Limit);
+        check(rt, 1, ended, Ended::Limit);
     }
     panic!(rt; "jobs that never retire");
 }
@@ -132,10 +133,10 @@ fn counts_passes<R: Threads + Wait + Abort + Sync>(rt: &R, alloc: Global, plan: 
     let (bench, desks) = opened(rt, alloc, plan);
     let none = CountingGate::new();
     let (desks, ended) = driven(rt, alloc, &bench, desks, 2, 0, &none);
-    assert!(rt; ended == Ended::Limit);
+    check(rt, 1, ended, Ended::Limit);
     passed_each(rt, desks.as_slice(), &none);
     let (desks, ended) = driven(rt, alloc, &bench, desks, 2, 3, &none);
-    assert!(rt; ended == Ended::Limit);
+    check(rt, 2, ended, Ended::Limit);
     passed_each(rt, desks.as_slice(), &none);
     turns_are(rt, desks.as_slice(), 3);
 }
@@ -159,7 +160,7 @@ fn meets<R: Threads + Wait + Abort + Sync>(rt: &R, alloc: Global, plan: &Plan) {
     let (bench, desks) = opened(rt, alloc, plan);
     let gate = Meeting::new(&ALL_MEET);
     let (desks, ended) = driven(rt, alloc, &bench, desks, 2, 3, &gate);
-    assert!(rt; gate.all_met() && ended == Ended::Limit);
+    check(rt, 1, (gate.all_met(), ended), (true, Ended::Limit));
     turns_are(rt, desks.as_slice(), 3);
 }
 
@@ -173,7 +174,7 @@ fn holds_out<R: Threads + Wait + Abort + Sync>(rt: &R, alloc: Global, plan: &Pla
     let (bench, desks) = opened(rt, alloc, plan);
     let gate = Meeting::new(&FORTIETH);
     let (desks, _) = driven(rt, alloc, &bench, desks, 2, 100_000, &gate);
-    assert!(rt; gate.all_met());
+    check(rt, 1, gate.all_met(), true);
     for desk in desks.as_slice() {
         assert!(rt; desk.turns() >= 3);
     }
@@ -190,7 +191,7 @@ fn both_begin<R: Threads + Wait + Abort + Sync>(rt: &R, alloc: Global, plan: &Pl
     let (bench, desks) = opened(rt, alloc, plan);
     let gate = Meeting::new(&TWO_MEET);
     let (_, ended) = driven(rt, alloc, &bench, desks, 2, 100_000, &gate);
-    assert!(rt; gate.all_met());
+    check(rt, 1, gate.all_met(), true);
     assert!(rt; ended == Ended::AllRetired || ended == Ended::Limit);
 }
 
@@ -203,7 +204,7 @@ fn two_workers_meet(rt: HostRuntime) {
 fn ends_early<R: Threads + Wait + Abort + Sync>(rt: &R, alloc: Global, plan: &Plan) {
     let (bench, desks) = opened(rt, alloc, plan);
     let (desks, ended) = driven(rt, alloc, &bench, desks, 1, 10000, &NoGate);
-    assert!(rt; ended == Ended::AllRetired);
+    check(rt, 1, ended, Ended::AllRetired);
     turns_are(rt, desks.as_slice(), 9);
 }
 
@@ -282,12 +283,17 @@ fn passes_before<R: Threads + Wait + Abort + Sync>(rt: &R, alloc: Global, plan: 
     let (bench, desks) = opened(rt, alloc, plan);
     let gate = Meeting::new(&THREE_FIRST);
     let (desks, ended) = driven(rt, alloc, &bench, desks, 2, 4, &gate);
-    assert!(rt; gate.all_met() && ended == Ended::Limit);
+    check(rt, 1, (gate.all_met(), ended), (true, Ended::Limit));
     let left = closed(rt, alloc, bench, desks);
     assert!(rt; left.plan().jobs() == 2 && left.plan().edges() == 1);
-    assert!(rt; left.edge(EdgeNo(0)).pack() == CLEAN_B_ASKED_BOTTLE_B_ASKED);
-    assert!(rt; left.phase(JobNo(0)).pack() == THIRSTY_HUNGRY);
-    assert!(rt; left.phase(JobNo(1)).pack() == DRINKS_HUNGRY);
+    check(
+        rt,
+        2,
+        left.edge(EdgeNo(0)).pack(),
+        CLEAN_B_ASKED_BOTTLE_B_ASKED,
+    );
+    check(rt, 3, left.phase(JobNo(0)).pack(), THIRSTY_HUNGRY);
+    check(rt, 4, left.phase(JobNo(1)).pack(), DRINKS_HUNGRY);
 }
 
 #[test]
@@ -325,10 +331,10 @@ fn driven_at_last<R: Threads + Wait + Abort + Sync, A: Allocator + Copy + Send +
         turns_are(rt, desks.as_slice(), 3);
         return desks;
     }
-    assert!(rt; ended == Ended::NoMemory);
+    check(rt, 1, ended, Ended::NoMemory);
     turns_are(rt, desks.as_slice(), 0);
     let (desks, again) = driven(rt, alloc, bench, desks, 2, 3, &NoGate);
-    assert!(rt; again == Ended::Limit);
+    check(rt, 2, again, Ended::Limit);
     turns_are(rt, desks.as_slice(), 3);
     desks
 }
@@ -345,7 +351,7 @@ fn closed_at_last<'p, A: Allocator + Copy>(
     match bench.close(alloc, desks) {
         Ok(left) => left,
         Err(refused) => {
-            assert!(rt; refused.cause == CloseCause::NoMemory);
+            check(rt, 1, refused.cause, CloseCause::NoMemory);
             closed(rt, alloc, refused.bench, refused.desks)
         }
     }

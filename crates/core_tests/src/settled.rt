@@ -1,8 +1,9 @@
 //! What is left to do of itself is done, in a world of two jobs: worked out by hand.
-use crate::benches::{A, AB, B, TWO, plan_of};
-use crate::waits::owns;
-use interleaving::{Dining, Drinking, EdgeState, End, Event, JobState, World};
-use lab_plan::{EdgeNo, JobNo};
+use crate::benches::{A, AB, B, Do, TWO, plan_of};
+use crate::steps::open;
+use crate::waits::{go_on, owns, take};
+use interleaving::{Dining, Drinking, EdgeState, End, JobState, World};
+use lab_plan::{EdgeNo, JobNo, Plan};
 use settling::{Due, due_moves, rest, visit, visit_all};
 use std::alloc::Allocator;
 use std::process::Abort;
@@ -16,21 +17,28 @@ struct Rested {
     edge: EdgeState,
 }
 
-/// Takes these events, which have to be legal, and lets the world rest then, which is done after one rest.
-fn let_rest<T: Allocator + Copy>(
+/// How many deeds a rest takes, and one more.
+fn rest_twice<T: Allocator + Copy>(
     rt: &impl Abort,
     alloc: T,
     world: &mut World<'_, T>,
-    events: &[Event],
-) -> Rested {
-    for event in events {
-        assert!(rt; world.step(*event).is_ok());
-    }
+) -> (u32, u32) {
     let Ok(mut due) = Due::all(alloc, world.plan()) else {
         panic!(rt; "no memory")
     };
     let deeds = rest(world, &mut due);
-    let again = rest(world, &mut due);
+    (deeds, rest(world, &mut due))
+}
+
+/// Takes these steps, which have to be legal, and lets the world rest then, which is done after one rest.
+fn let_rest<T: Allocator + Copy>(
+    rt: &impl Abort,
+    alloc: T,
+    world: &mut World<'_, T>,
+    steps: &[Do],
+) -> Rested {
+    go_on(rt, world, steps);
+    let (deeds, again) = rest_twice(rt, alloc, world);
     assert!(rt; again == 0);
     assert!(rt; world.plan().jobs() >= 2 && world.plan().edges() >= 1);
     Rested {
@@ -90,24 +98,28 @@ const SECOND_DRINKS: Rested = Rested {
     },
 };
 
-fn all_rests<T: Allocator + Copy>(rt: &impl Abort, alloc: T) -> [Rested; 2] {
-    let plan = plan_of(rt, alloc, TWO);
-    let Ok(mut world) = World::opening(alloc, &plan) else {
-        panic!(rt; "no memory")
-    };
-    let (a, b) = (JobNo(A), JobNo(B));
-    let begun = [Event::Thirst(a), Event::Thirst(b)];
-    let ended = [Event::Reach(a), Event::Act(a), Event::Quit(a)];
-    let first = let_rest(rt, alloc, &mut world, &begun);
-    let second = let_rest(rt, alloc, &mut world, &ended);
+fn check(rt: &impl Abort, came: Rested, wanted: Rested) {
+    assert!(rt; came == wanted);
+}
+
+/// Once both thirst, and once the session of the first ended.
+const BEGUN: [Do; 2] = [Do::Thirst(A), Do::Thirst(B)];
+
+const ENDED: [Do; 3] = [Do::Reach(A), Do::Act(A), Do::Quit(A)];
+
+fn all_rests<T: Allocator + Copy>(rt: &impl Abort, alloc: T, plan: &Plan<T>) -> [Rested; 2] {
+    let mut world = open(rt, alloc, plan);
+    let first = let_rest(rt, alloc, &mut world, &BEGUN);
+    let second = let_rest(rt, alloc, &mut world, &ENDED);
     [first, second]
 }
 
 #[test]
 fn settles(rt: HostRuntime) {
-    let [first, second] = all_rests(&rt, rt.alloc());
-    assert!(rt; first == FIRST_DRINKS);
-    assert!(rt; second == SECOND_DRINKS);
+    let plan = plan_of(&rt, rt.alloc(), TWO);
+    let [first, second] = all_rests(&rt, rt.alloc(), &plan);
+    check(&rt, first, FIRST_DRINKS);
+    check(&rt, second, SECOND_DRINKS);
 }
 
 /// The moves that are due to the job: whether it gives the fork, asks for it or soils it, and the bottles that it gives and asks for.
@@ -137,24 +149,63 @@ fn visits_all<T: Allocator>(rt: &impl Abort, world: &mut World<T>, job: JobNo) -
     visit_all(world, job)
 }
 
+/// What is done to a world, or what is due in it.
+#[derive(Clone, Copy)]
+enum Row {
+    /// A step, which is legal.
+    Does(Do),
+    /// The moves that are due to the job.
+    Due(u8, Moves),
+    /// How many deeds a visit of the job at its edge does.
+    Visits(u8, u32),
+    /// The same of a visit at all its edges.
+    VisitsAll(u8, u32),
+}
+
 /// What is due is done, and then nothing is: b asks for the bottle; once it is hungry, for the fork, which a gives, but not the bottle, since
 /// it drinks.
+const ROWS: [Row; 16] = [
+    Row::Does(Do::Thirst(A)),
+    Row::Does(Do::Thirst(B)),
+    // a looks, and sees its bottle
+    Row::Visits(A, 0),
+    Row::Does(Do::Drink(A)),
+    Row::Due(B, (false, false, false, 0, 1)),
+    Row::Visits(B, 1),
+    Row::Visits(B, 0),
+    Row::Due(A, NO_MOVE),
+    Row::VisitsAll(A, 0),
+    Row::Does(Do::Hunger(B)),
+    Row::Due(B, (false, true, false, 0, 0)),
+    Row::VisitsAll(B, 1),
+    Row::VisitsAll(B, 0),
+    Row::Due(A, (true, false, false, 0, 0)),
+    Row::Visits(A, 1),
+    Row::Visits(A, 0),
+];
+
+/// Whether the row is so.
+fn is_so<T: Allocator>(rt: &impl Abort, world: &mut World<T>, row: Row) -> bool {
+    match row {
+        Row::Does(it) => {
+            take(rt, world, it);
+            true
+        }
+        Row::Due(job, moves) => moves_of(rt, world, JobNo(job)) == moves,
+        Row::Visits(job, deeds) => visits(rt, world, JobNo(job)) == deeds,
+        Row::VisitsAll(job, deeds) => visits_all(rt, world, JobNo(job)) == deeds,
+    }
+}
+
+fn follow<T: Allocator + Copy>(rt: &impl Abort, alloc: T, plan: &Plan<T>) {
+    let mut world = open(rt, alloc, plan);
+    for number in 0..ROWS.len() {
+        assert!(rt; is_so(rt, &mut world, ROWS[number]), "row {number}");
+    }
+}
+
 #[test]
 fn visits_do_what_is_due(rt: HostRuntime) {
-    let (a, b) = (JobNo(A), JobNo(B));
     let plan = plan_of(&rt, rt.alloc(), TWO);
-    let Ok(mut world) = World::opening(rt.alloc(), &plan) else {
-        panic!(rt; "no memory")
-    };
-    assert!(rt; world.step(Event::Thirst(a)).is_ok() && world.step(Event::Thirst(b)).is_ok());
-    // a looks, and sees its bottle
-    assert!(rt; visits(&rt, &mut world, a) == 0 && world.step(Event::Drink(a)).is_ok());
-    assert!(rt; moves_of(&rt, &world, b) == (false, false, false, 0, 1));
-    assert!(rt; visits(&rt, &mut world, b) == 1 && visits(&rt, &mut world, b) == 0);
-    assert!(rt; moves_of(&rt, &world, a) == NO_MOVE && visits_all(&rt, &mut world, a) == 0);
-    assert!(rt; world.step(Event::Hunger(b)).is_ok());
-    assert!(rt; moves_of(&rt, &world, b) == (false, true, false, 0, 0));
-    assert!(rt; visits_all(&rt, &mut world, b) == 1 && visits_all(&rt, &mut world, b) == 0);
-    assert!(rt; moves_of(&rt, &world, a) == (true, false, false, 0, 0));
-    assert!(rt; visits(&rt, &mut world, a) == 1 && visits(&rt, &mut world, a) == 0);
+    follow(&rt, rt.alloc(), &plan);
 }

@@ -207,7 +207,11 @@ fn tell<T: Allocator>(rt: &impl Abort, world: &mut World<T>, way: Way) -> Told {
     (answer, shows(rt, world), allowed)
 }
 
-fn open<'a, T: Allocator + Copy>(rt: &impl Abort, alloc: T, plan: &'a Plan<T>) -> World<'a, T> {
+pub(crate) fn open<'a, T: Allocator + Copy>(
+    rt: &impl Abort,
+    alloc: T,
+    plan: &'a Plan<T>,
+) -> World<'a, T> {
     match World::opening(alloc, plan) {
         Ok(world) => world,
         Err(_) => panic!(rt; "no memory"),

@@ -89,13 +89,13 @@ fn start<'a, T: Allocator + Copy>(
 }
 
 /// Takes a step, which has to be legal.
-fn take<T: Allocator>(rt: &impl Abort, world: &mut World<'_, T>, step: Do) {
+pub(crate) fn take<T: Allocator>(rt: &impl Abort, world: &mut World<'_, T>, step: Do) {
     let event = event_of(rt, world, step);
     assert!(rt; world.step(event).is_ok());
 }
 
 /// Takes all of these steps.
-fn go_on<T: Allocator>(rt: &impl Abort, world: &mut World<'_, T>, steps: &[Do]) {
+pub(crate) fn go_on<T: Allocator>(rt: &impl Abort, world: &mut World<'_, T>, steps: &[Do]) {
     for step in steps {
         take(rt, world, *step);
     }

@@ -1,4 +1,5 @@
 //! The calls on a handle that has a lab.
+use crate::rows::check;
 use bench_calls::{LabCame, LabEntry, LabKeepers, LabTurned};
 use c_handles::Handle;
 use c_tells::Told;
@@ -29,9 +30,19 @@ const TURNED: LabTurned = LabTurned { what: 9, count: 9 };
 fn opened(rt: &impl Abort, alloc: Global, script: &[u8]) -> Handle {
     let mut bench = Handle::vacant();
     let mut told = NOTHING;
-    assert!(rt; bench_calls::open(alloc, script, &mut bench, &mut told) == 0);
-    assert!(rt; bench_calls::open(alloc, script, &mut bench, &mut told) == 11);
-    assert!(rt; told.line == 9);
+    check(
+        rt,
+        1,
+        bench_calls::open(alloc, script, &mut bench, &mut told),
+        0,
+    );
+    check(
+        rt,
+        2,
+        bench_calls::open(alloc, script, &mut bench, &mut told),
+        11,
+    );
+    check(rt, 3, told.line, 9);
     bench
 }
 
@@ -49,8 +60,13 @@ fn settles(
         none_left: 9,
         deeds: 0,
     };
-    assert!(rt; bench_calls::settle(alloc, bench, waiting, &mut came) == 0);
-    assert!(rt; (came.holds, came.given_up, came.none_left) == wanted);
+    check(
+        rt,
+        1,
+        bench_calls::settle(alloc, bench, waiting, &mut came),
+        0,
+    );
+    check(rt, 2, (came.holds, came.given_up, came.none_left), wanted);
 }
 
 fn is_kept(rt: &impl Abort, alloc: Global, bench: &mut Handle) {
@@ -58,9 +74,19 @@ fn is_kept(rt: &impl Abort, alloc: Global, bench: &mut Handle) {
         jobs: 9,
         holding: 9,
     };
-    assert!(rt; bench_calls::keepers(alloc, bench, 1, 0, &mut keepers) == 0);
-    assert!(rt; (keepers.jobs, keepers.holding) == (1, 1));
-    assert!(rt; bench_calls::keepers(alloc, bench, 1, 1, &mut keepers) == 2);
+    check(
+        rt,
+        1,
+        bench_calls::keepers(alloc, bench, 1, 0, &mut keepers),
+        0,
+    );
+    check(rt, 2, (keepers.jobs, keepers.holding), (1, 1));
+    check(
+        rt,
+        3,
+        bench_calls::keepers(alloc, bench, 1, 1, &mut keepers),
+        2,
+    );
 }
 
 fn adds_one(rt: &impl Abort, alloc: Global, bench: &mut Handle) {
@@ -72,16 +98,16 @@ fn adds_one(rt: &impl Abort, alloc: Global, bench: &mut Handle) {
         number: 9,
         value: 9,
     };
-    assert!(rt; bench_calls::command(alloc, bench, 0, &mut entry) == 0);
-    assert!(rt; entry.value == 1);
-    assert!(rt; bench_calls::command(alloc, bench, 1, &mut entry) == 8);
+    check(rt, 1, bench_calls::command(alloc, bench, 0, &mut entry), 0);
+    check(rt, 2, entry.value, 1);
+    check(rt, 3, bench_calls::command(alloc, bench, 1, &mut entry), 8);
 }
 
 fn lets_go(rt: &impl Abort, alloc: Global, bench: &mut Handle, job: u32) {
     let mut turned = TURNED;
-    assert!(rt; bench_calls::end(alloc, bench, job, &mut turned) == 0);
-    assert!(rt; turned.what == 2);
-    assert!(rt; bench_calls::end(alloc, bench, job, &mut turned) == 8);
+    check(rt, 1, bench_calls::end(alloc, bench, job, &mut turned), 0);
+    check(rt, 2, turned.what, 2);
+    check(rt, 3, bench_calls::end(alloc, bench, job, &mut turned), 8);
 }
 
 /// Job a holds, and job b waits for it.
@@ -89,8 +115,18 @@ fn first_session(rt: &impl Abort, alloc: Global, bench: &mut Handle) {
     let mut turned = TURNED;
     settles(rt, alloc, bench, 3, (1, 0, 0));
     is_kept(rt, alloc, bench);
-    assert!(rt; bench_calls::retire(alloc, bench, 0, 5, &mut turned) == 10);
-    assert!(rt; bench_calls::begin(alloc, bench, 1, 5, &mut turned) == 8);
+    check(
+        rt,
+        1,
+        bench_calls::retire(alloc, bench, 0, 5, &mut turned),
+        10,
+    );
+    check(
+        rt,
+        2,
+        bench_calls::begin(alloc, bench, 1, 5, &mut turned),
+        8,
+    );
     adds_one(rt, alloc, bench);
     lets_go(rt, alloc, bench, 0);
     settles(rt, alloc, bench, 3, (2, 0, 1));
@@ -99,13 +135,38 @@ fn first_session(rt: &impl Abort, alloc: Global, bench: &mut Handle) {
 /// Job b holds, and then both have nothing left.
 fn last_session(rt: &impl Abort, alloc: Global, bench: &mut Handle) {
     let mut turned = TURNED;
-    assert!(rt; bench_calls::begin(alloc, bench, 0, 5, &mut turned) == 9);
-    assert!(rt; bench_calls::begin(alloc, bench, 1, 5, &mut turned) == 0);
+    check(
+        rt,
+        1,
+        bench_calls::begin(alloc, bench, 0, 5, &mut turned),
+        9,
+    );
+    check(
+        rt,
+        2,
+        bench_calls::begin(alloc, bench, 1, 5, &mut turned),
+        0,
+    );
     lets_go(rt, alloc, bench, 1);
     settles(rt, alloc, bench, 7, (0, 0, 3));
-    assert!(rt; bench_calls::retire(alloc, bench, 0, 1, &mut turned) == 0);
-    assert!(rt; bench_calls::retire(alloc, bench, 1, 1, &mut turned) == 0);
-    assert!(rt; bench_calls::retire(alloc, bench, 2, 1, &mut turned) == 2);
+    check(
+        rt,
+        3,
+        bench_calls::retire(alloc, bench, 0, 1, &mut turned),
+        0,
+    );
+    check(
+        rt,
+        4,
+        bench_calls::retire(alloc, bench, 1, 1, &mut turned),
+        0,
+    );
+    check(
+        rt,
+        5,
+        bench_calls::retire(alloc, bench, 2, 1, &mut turned),
+        2,
+    );
 }
 
 /// The report is given as often as it is asked for, and no other call acts then.
@@ -113,13 +174,28 @@ fn closes(rt: &impl Abort, alloc: Global, bench: &mut Handle) {
     let mut told = NOTHING;
     let mut turned = TURNED;
     let mut room = [0u8; 200];
-    assert!(rt; bench_calls::close(alloc, bench, &mut room[..9], &mut told) == 6);
-    assert!(rt; bench_calls::turn(alloc, bench, 0, &mut turned) == 7);
-    assert!(rt; bench_calls::close(alloc, bench, &mut room, &mut told) == 0);
-    assert!(rt; room.starts_with(IN_TURN));
-    assert!(rt; bench_calls::free(alloc, bench) == 0);
-    assert!(rt; bench_calls::free(alloc, bench) == 7);
-    assert!(rt; bench_calls::close(alloc, bench, &mut room, &mut told) == 7);
+    check(
+        rt,
+        1,
+        bench_calls::close(alloc, bench, &mut room[..9], &mut told),
+        6,
+    );
+    check(rt, 2, bench_calls::turn(alloc, bench, 0, &mut turned), 7);
+    check(
+        rt,
+        3,
+        bench_calls::close(alloc, bench, &mut room, &mut told),
+        0,
+    );
+    check(rt, 4, room.starts_with(IN_TURN), true);
+    check(rt, 5, bench_calls::free(alloc, bench), 0);
+    check(rt, 6, bench_calls::free(alloc, bench), 7);
+    check(
+        rt,
+        7,
+        bench_calls::close(alloc, bench, &mut room, &mut told),
+        7,
+    );
 }
 
 #[test]
@@ -136,7 +212,7 @@ fn gives_up_when_patience_is_used_up(rt: HostRuntime) {
     let alloc = rt.alloc();
     let mut bench = opened(&rt, alloc, PATIENT);
     settles(&rt, alloc, &mut bench, 1, (1, 0, 0));
-    assert!(rt; bench_calls::withdraw(alloc, &mut bench, 1) == 8);
+    check(&rt, 1, bench_calls::withdraw(alloc, &mut bench, 1), 8);
     settles(&rt, alloc, &mut bench, 2, (1, 0, 0));
     settles(&rt, alloc, &mut bench, 2, (1, 0, 0));
     settles(&rt, alloc, &mut bench, 2, (1, 2, 2));
@@ -146,11 +222,26 @@ fn gives_up_when_patience_is_used_up(rt: HostRuntime) {
 /// What was done so far is in the room.
 fn takes(rt: &impl Abort, alloc: Global, bench: &mut Handle, room: &mut [u8]) -> usize {
     let mut written = 0;
-    assert!(rt; bench_calls::journal(alloc, bench, &mut room[..0], &mut written) == 6);
-    assert!(rt; bench_calls::journal(alloc, bench, room, &mut written) == 0);
+    check(
+        rt,
+        1,
+        bench_calls::journal(alloc, bench, &mut room[..0], &mut written),
+        6,
+    );
+    check(
+        rt,
+        2,
+        bench_calls::journal(alloc, bench, room, &mut written),
+        0,
+    );
     let length = written;
-    assert!(rt; bench_calls::journal(alloc, bench, room, &mut written) == 0);
-    assert!(rt; written == 0);
+    check(
+        rt,
+        3,
+        bench_calls::journal(alloc, bench, room, &mut written),
+        0,
+    );
+    check(rt, 4, written, 0);
     length
 }
 
@@ -158,9 +249,19 @@ fn takes(rt: &impl Abort, alloc: Global, bench: &mut Handle, room: &mut [u8]) ->
 fn resumed(rt: &impl Abort, alloc: Global, journal: &[u8]) -> Handle {
     let mut bench = Handle::vacant();
     let mut told = NOTHING;
-    assert!(rt; bench_calls::resume(alloc, journal, &mut bench, &mut told) == 0);
-    assert!(rt; told.written == journal.len());
-    assert!(rt; bench_calls::resume(alloc, journal, &mut bench, &mut told) == 11);
+    check(
+        rt,
+        1,
+        bench_calls::resume(alloc, journal, &mut bench, &mut told),
+        0,
+    );
+    check(rt, 2, told.written, journal.len());
+    check(
+        rt,
+        3,
+        bench_calls::resume(alloc, journal, &mut bench, &mut told),
+        11,
+    );
     bench
 }
 
@@ -169,7 +270,12 @@ fn comes_back_from_its_journal(rt: HostRuntime) -> Result<(), AllocError> {
     let alloc = rt.alloc();
     let mut bench = Handle::vacant();
     let mut told = NOTHING;
-    assert!(rt; bench_calls::open_kept(alloc, SHARED, &mut bench, &mut told) == 0);
+    check(
+        &rt,
+        1,
+        bench_calls::open_kept(alloc, SHARED, &mut bench, &mut told),
+        0,
+    );
     settles(&rt, alloc, &mut bench, 1, (1, 0, 0));
     let mut room = [0u8; 1000];
     let length = takes(&rt, alloc, &mut bench, &mut room);

@@ -1,4 +1,5 @@
 //! Sessions that come while a lab is open, with answers that were reckoned by hand.
+use crate::rows::check;
 use c_handles::Handle;
 use c_tells::Told;
 use lab_plan::{InstrumentNo, Verb};
@@ -23,53 +24,110 @@ fn opened(rt: &impl Abort, alloc: Global) -> Lab {
     }
 }
 
-/// Adds a session of one command on the scale.
+/// What is done to a lab, or what it says then.
+#[derive(Clone, Copy)]
+enum Row {
+    /// A settle for these jobs, and who holds then.
+    Holds(u32, u32),
+    /// A settle for these jobs, and who has no session left.
+    NoneLeft(u32, u32),
+    /// A session of one command on the scale comes to the job, or why it doesn't.
+    Comes(usize, Option<Result<(), AddRefusal>>),
+    /// The job has this session, and none behind it.
+    Last(usize, u32),
+    /// The job's session ends, or it holds none.
+    Ends(usize, bool),
+    /// The job retires in at most so many turns, or doesn't.
+    Retires(usize, u32, Option<(Stage, Turned)>),
+}
+
 fn adds(lab: &mut Lab, job: usize) -> Option<Result<(), AddRefusal>> {
     lab.add_session(job, Some(3), &[(InstrumentNo(0), Verb::Read)])
 }
 
-fn holds(rt: &impl Abort, lab: &mut Lab, waiting: u32, holds: u32) {
-    assert!(rt; lab.settle(waiting).holds == holds);
+fn is_last(lab: &Lab, job: usize, session: u32) -> bool {
+    lab.session(job, session).is_some() && lab.session(job, session.saturating_add(1)).is_none()
 }
 
+fn ends(lab: &mut Lab, job: usize) -> bool {
+    match lab.end(job) {
+        Some(Ended::NotHeld) | None => false,
+        Some(_) => true,
+    }
+}
+
+fn is_so(lab: &mut Lab, row: Row) -> bool {
+    match row {
+        Row::Holds(waiting, holds) => lab.settle(waiting).holds == holds,
+        Row::NoneLeft(waiting, none_left) => lab.settle(waiting).none_left == none_left,
+        Row::Comes(job, answer) => adds(lab, job) == answer,
+        Row::Last(job, session) => is_last(lab, job, session),
+        Row::Ends(job, held) => ends(lab, job) == held,
+        Row::Retires(job, most, answer) => lab.retire(job, most) == answer,
+    }
+}
+
+fn follow(rt: &impl Abort, lab: &mut Lab, rows: &[Row]) {
+    for number in 0..rows.len() {
+        assert!(rt; is_so(lab, rows[number]), "row {number}");
+    }
+}
+
+fn prints(rt: &impl Abort, alloc: Global, lab: &Lab, wanted: &[u8]) {
+    match lab.print(alloc) {
+        Some(report) => check(rt, "report", report.text.as_slice(), wanted),
+        None => panic!(rt; "no report"),
+    }
+}
+
+const THERE: Option<(Stage, Turned)> = Some((Stage::There, Turned::Acted(1)));
+
 /// A session comes to job a while it holds and job b waits. So a has one left when it ends; nobody waits for it until its owner does.
+const ONE_COMES: [Row; 13] = [
+    Row::Holds(1, 1),
+    Row::Holds(3, 1),
+    Row::Comes(0, Some(Ok(()))),
+    Row::Last(0, 2),
+    Row::Last(1, 1),
+    Row::Ends(0, true),
+    Row::Holds(0, 2),
+    Row::Retires(0, 1, Some((Stage::Barred, Turned::Idle))),
+    Row::Ends(1, true),
+    Row::Holds(1, 1),
+    Row::Ends(0, true),
+    Row::Ends(0, false),
+    // after these none is left
+    Row::NoneLeft(3, 3),
+];
+
+const BOTH_RETIRE: [Row; 2] = [Row::Retires(0, 9, THERE), Row::Retires(1, 9, THERE)];
+
 #[test]
 fn a_session_comes(rt: HostRuntime) {
     let mut lab = opened(&rt, rt.alloc());
-    holds(&rt, &mut lab, 1, 1);
-    holds(&rt, &mut lab, 3, 1);
-    assert!(rt; adds(&mut lab, 0) == Some(Ok(())));
-    assert!(rt; lab.session(0, 2).is_some() && lab.session(1, 2).is_none());
-    assert!(rt; lab.end(0).is_some());
-    holds(&rt, &mut lab, 0, 2);
-    assert!(rt; lab.retire(0, 1) == Some((Stage::Barred, Turned::Idle)));
-    assert!(rt; lab.end(1).is_some());
-    holds(&rt, &mut lab, 1, 1);
-    assert!(rt; lab.end(0).is_some());
-    assert!(rt; lab.end(0) == Some(Ended::NotHeld));
-    // After these none is left.
-    assert!(rt; lab.settle(3).none_left == 3);
-    assert!(rt; lab.retire(0, 9).is_some() && lab.retire(1, 9).is_some());
-    let Some(report) = lab.print(rt.alloc()) else {
-        panic!(rt; "no report");
-    };
-    assert!(rt; report.text.as_slice() == WITH_ONE_MORE);
+    follow(&rt, &mut lab, &ONE_COMES);
+    follow(&rt, &mut lab, &BOTH_RETIRE);
+    prints(&rt, rt.alloc(), &lab, WITH_ONE_MORE);
 }
 
 /// None comes to a job that has retired, nor to one that isn't there; one comes to a job that had none left.
+const BEHIND_A_RETIRE: [Row; 10] = [
+    Row::Holds(1, 1),
+    Row::Ends(0, true),
+    Row::NoneLeft(1, 1),
+    Row::Comes(0, Some(Ok(()))),
+    Row::NoneLeft(0, 0),
+    Row::Holds(1, 1),
+    Row::Ends(0, true),
+    Row::Retires(0, 9, THERE),
+    Row::Comes(0, Some(Err(AddRefusal::HasRetired))),
+    Row::Comes(2, None),
+];
+
 #[test]
 fn none_comes_behind_a_retire(rt: HostRuntime) {
     let mut lab = opened(&rt, rt.alloc());
-    holds(&rt, &mut lab, 1, 1);
-    assert!(rt; lab.end(0).is_some());
-    assert!(rt; lab.settle(1).none_left == 1);
-    assert!(rt; adds(&mut lab, 0) == Some(Ok(())));
-    assert!(rt; lab.settle(0).none_left == 0);
-    holds(&rt, &mut lab, 1, 1);
-    assert!(rt; lab.end(0).is_some());
-    assert!(rt; lab.retire(0, 9) == Some((Stage::There, Turned::Acted(1))));
-    assert!(rt; adds(&mut lab, 0) == Some(Err(AddRefusal::HasRetired)));
-    assert!(rt; adds(&mut lab, 2).is_none());
+    follow(&rt, &mut lab, &BEHIND_A_RETIRE);
 }
 
 /// Two sessions on the scale.
@@ -82,15 +140,21 @@ const NOT_ITS_OWN: &[u8] = b"# later\nsession\nlamp read\nend\n";
 #[test]
 fn sessions_of_a_text_come(rt: HostRuntime) {
     let mut lab = opened(&rt, rt.alloc());
-    assert!(rt; lab.add(rt.alloc(), 1, TWO_MORE) == Some(Ok(())));
-    assert!(rt; lab.session(1, 3).is_some() && lab.session(1, 4).is_none());
+    check(&rt, 1, lab.add(rt.alloc(), 1, TWO_MORE), Some(Ok(())));
+    check(&rt, 2, is_last(&lab, 1, 3), true);
     let fault = ScriptFault {
         line: 3,
         cause: ScriptCause::NotItsOwn,
     };
-    assert!(rt; lab.add(rt.alloc(), 1, NOT_ITS_OWN) == Some(Err(NotAdded::Fault(fault))));
-    assert!(rt; lab.add(rt.alloc(), 2, TWO_MORE).is_none());
-    assert!(rt; lab.session(1, 4).is_none() && lab.session(0, 2).is_none());
+    check(
+        &rt,
+        3,
+        lab.add(rt.alloc(), 1, NOT_ITS_OWN),
+        Some(Err(NotAdded::Fault(fault))),
+    );
+    check(&rt, 4, lab.add(rt.alloc(), 2, TWO_MORE).is_none(), true);
+    check(&rt, 5, is_last(&lab, 1, 3), true);
+    check(&rt, 6, is_last(&lab, 0, 1), true);
 }
 
 /// The status of a text for a job of a handle, and what is told.
@@ -116,7 +180,7 @@ fn opens(rt: &impl Abort, alloc: Global, is_kept: bool) -> Handle {
     } else {
         bench_calls::open(alloc, SHARED, &mut bench, &mut told)
     };
-    assert!(rt; status == 0);
+    check(rt, 1, status, 0);
     bench
 }
 
@@ -124,12 +188,32 @@ fn opens(rt: &impl Abort, alloc: Global, is_kept: bool) -> Handle {
 #[test]
 fn sessions_come_to_a_handle(rt: HostRuntime) {
     let mut bench = opens(&rt, rt.alloc(), false);
-    assert!(rt; comes(rt.alloc(), &mut bench, 0, TWO_MORE) == (0, 9, 9));
-    assert!(rt; comes(rt.alloc(), &mut bench, 1, NOT_ITS_OWN) == (1, 3, 14));
-    assert!(rt; comes(rt.alloc(), &mut bench, 2, TWO_MORE) == (2, 9, 9));
-    assert!(rt; bench_calls::free(rt.alloc(), &mut bench) == 0);
-    assert!(rt; comes(rt.alloc(), &mut bench, 0, TWO_MORE) == (7, 9, 9));
+    check(
+        &rt,
+        1,
+        comes(rt.alloc(), &mut bench, 0, TWO_MORE),
+        (0, 9, 9),
+    );
+    check(
+        &rt,
+        2,
+        comes(rt.alloc(), &mut bench, 1, NOT_ITS_OWN),
+        (1, 3, 14),
+    );
+    check(
+        &rt,
+        3,
+        comes(rt.alloc(), &mut bench, 2, TWO_MORE),
+        (2, 9, 9),
+    );
+    check(&rt, 4, bench_calls::free(rt.alloc(), &mut bench), 0);
+    check(
+        &rt,
+        5,
+        comes(rt.alloc(), &mut bench, 0, TWO_MORE),
+        (7, 9, 9),
+    );
     let mut kept = opens(&rt, rt.alloc(), true);
-    assert!(rt; comes(rt.alloc(), &mut kept, 0, TWO_MORE) == (0, 9, 9));
-    assert!(rt; bench_calls::free(rt.alloc(), &mut kept) == 0);
+    check(&rt, 6, comes(rt.alloc(), &mut kept, 0, TWO_MORE), (0, 9, 9));
+    check(&rt, 7, bench_calls::free(rt.alloc(), &mut kept), 0);
 }

@@ -1,4 +1,5 @@
 //! The calls on a handle that has a bench of desks, and on one that has a desk.
+use crate::rows::check;
 use bench_calls::{LabEntry, LabSize, LabState, LabTurned};
 use box_parts::exchange;
 use c_handles::Handle;
@@ -11,22 +12,22 @@ const ALONE: &[u8] = b"lab 1\njob a\nsession\nscale add 1\nend\n";
 
 fn opened(rt: &impl Abort, alloc: Global, told: &mut Told) -> Handle {
     let mut bench = Handle::vacant();
-    assert!(rt; hall_calls::open(alloc, ALONE, &mut bench, told) == 0);
-    assert!(rt; hall_calls::open(alloc, ALONE, &mut bench, told) == 11);
+    check(rt, 1, hall_calls::open(alloc, ALONE, &mut bench, told), 0);
+    check(rt, 2, hall_calls::open(alloc, ALONE, &mut bench, told), 11);
     let mut size = LabSize {
         jobs: 9,
         instruments: 9,
     };
-    assert!(rt; hall_calls::size(alloc, &mut bench, &mut size) == 0);
-    assert!(rt; (size.jobs, size.instruments) == (1, 1));
+    check(rt, 3, hall_calls::size(alloc, &mut bench, &mut size), 0);
+    check(rt, 4, (size.jobs, size.instruments), (1, 1));
     bench
 }
 
 fn taken(rt: &impl Abort, alloc: Global, bench: &mut Handle) -> Handle {
     let mut desk = Handle::vacant();
-    assert!(rt; hall_calls::take_desk(alloc, bench, 1, &mut desk) == 2);
-    assert!(rt; hall_calls::take_desk(alloc, bench, 0, &mut desk) == 0);
-    assert!(rt; hall_calls::take_desk(alloc, bench, 0, &mut desk) == 11);
+    check(rt, 1, hall_calls::take_desk(alloc, bench, 1, &mut desk), 2);
+    check(rt, 2, hall_calls::take_desk(alloc, bench, 0, &mut desk), 0);
+    check(rt, 3, hall_calls::take_desk(alloc, bench, 0, &mut desk), 11);
     desk
 }
 
@@ -41,29 +42,32 @@ fn does_its_session(rt: &impl Abort, alloc: Global, desk: &mut Handle) {
         number: 9,
         value: 9,
     };
-    assert!(rt; hall_calls::retire(alloc, desk, 5, &mut turned) == 10);
-    assert!(rt; hall_calls::turn(alloc, desk, &mut turned) == 0);
-    assert!(rt; hall_calls::serve(alloc, desk, &mut turned) == 0);
-    assert!(rt; hall_calls::begin(alloc, desk, 100, &mut turned) == 0);
-    assert!(rt; hall_calls::withdraw(alloc, desk) == 8);
-    assert!(rt; hall_calls::command(alloc, desk, &mut entry) == 0);
-    assert!(rt; (entry.verb, entry.number, entry.value) == (1, 1, 1));
-    assert!(rt; hall_calls::end(alloc, desk, &mut turned) == 0);
-    assert!(rt; hall_calls::begin(alloc, desk, 100, &mut turned) == 9);
-    assert!(rt; hall_calls::retire(alloc, desk, 100, &mut turned) == 0);
+    check(rt, 1, hall_calls::retire(alloc, desk, 5, &mut turned), 10);
+    check(rt, 2, hall_calls::turn(alloc, desk, &mut turned), 0);
+    check(rt, 3, hall_calls::serve(alloc, desk, &mut turned), 0);
+    check(rt, 4, hall_calls::begin(alloc, desk, 100, &mut turned), 0);
+    check(rt, 5, hall_calls::withdraw(alloc, desk), 8);
+    check(rt, 6, hall_calls::command(alloc, desk, &mut entry), 0);
+    check(rt, 7, (entry.verb, entry.number, entry.value), (1, 1, 1));
+    check(rt, 8, hall_calls::end(alloc, desk, &mut turned), 0);
+    check(rt, 9, hall_calls::begin(alloc, desk, 100, &mut turned), 9);
+    check(rt, 10, hall_calls::retire(alloc, desk, 100, &mut turned), 0);
 }
 
 fn closes(rt: &impl Abort, alloc: Global, bench: &mut Handle, told: &mut Told) {
     let mut room = [0u8; 200];
-    assert!(rt; hall_calls::close(alloc, bench, &mut room, told) == 0);
-    assert!(rt;
+    check(rt, 1, hall_calls::close(alloc, bench, &mut room, told), 0);
+    check(
+        rt,
+        2,
         room.starts_with(
-            b"lab 1\ninstrument scale 1\na 1 1/1 add 1 = 1\njob a sessions 1 of 1 meals "
-        )
+            b"lab 1\ninstrument scale 1\na 1 1/1 add 1 = 1\njob a sessions 1 of 1 meals ",
+        ),
+        true,
     );
-    assert!(rt; bench_calls::free(alloc, bench) == 7);
-    assert!(rt; hall_calls::free(alloc, bench) == 0);
-    assert!(rt; hall_calls::free(alloc, bench) == 7);
+    check(rt, 3, bench_calls::free(alloc, bench), 7);
+    check(rt, 4, hall_calls::free(alloc, bench), 0);
+    check(rt, 5, hall_calls::free(alloc, bench), 7);
 }
 
 #[test]
@@ -77,8 +81,8 @@ fn desks_through_handles(rt: HostRuntime) {
     let mut bench = opened(&rt, alloc, &mut told);
     let mut desk = taken(&rt, alloc, &mut bench);
     does_its_session(&rt, alloc, &mut desk);
-    assert!(rt; hall_calls::give(alloc, &mut desk) == 0);
-    assert!(rt; hall_calls::give(alloc, &mut desk) == 7);
+    check(&rt, 1, hall_calls::give(alloc, &mut desk), 0);
+    check(&rt, 2, hall_calls::give(alloc, &mut desk), 7);
     closes(&rt, alloc, &mut bench, &mut told);
 }
 
@@ -104,17 +108,27 @@ fn tells_how_far_a_desk_is(rt: HostRuntime) {
         meals: 9,
         waited: 9,
     };
-    assert!(rt; hall_calls::state(alloc, &mut desk, &mut state) == 0);
-    assert!(rt; (state.turns, state.sessions, state.drinking) == (0, 1, 0));
-    assert!(rt; hall_calls::state(alloc, &mut bench, &mut state) == 7);
-    assert!(rt; hall_calls::close(alloc, &mut bench, &mut [0u8; 9], &mut told) == 8);
+    check(&rt, 1, hall_calls::state(alloc, &mut desk, &mut state), 0);
+    check(
+        &rt,
+        2,
+        (state.turns, state.sessions, state.drinking),
+        (0, 1, 0),
+    );
+    check(&rt, 3, hall_calls::state(alloc, &mut bench, &mut state), 7);
+    check(
+        &rt,
+        4,
+        hall_calls::close(alloc, &mut bench, &mut [0u8; 9], &mut told),
+        8,
+    );
 }
 
 #[test]
 fn a_word_is_exchanged(rt: HostRuntime) {
     let mut word = 5;
-    assert!(rt; exchange(&mut word, 4, 9) == 5);
-    assert!(rt; word == 5);
-    assert!(rt; exchange(&mut word, 5, 9) == 5);
-    assert!(rt; word == 9);
+    check(&rt, 1, exchange(&mut word, 4, 9), 5);
+    check(&rt, 2, word, 5);
+    check(&rt, 3, exchange(&mut word, 5, 9), 5);
+    check(&rt, 4, word, 9);
 }

@@ -1,4 +1,5 @@
 //! Halls: desks that are taken, driven and given back, and the end with its report.
+use crate::rows::check;
 use crate::runs::{TWO_BENCHES, TWO_BENCHES_REPORT};
 use bench_door::{Ended, print};
 use bench_hall::{Hall, NotTaken, Seated, WhyOpen, sit, stand};
@@ -46,7 +47,7 @@ fn refusal(hall: &Arc<Hall, Global>, job: u32) -> Option<NotTaken> {
 }
 
 fn back(rt: &impl Abort, seated: Seated) {
-    assert!(rt; stand(seated).is_ok());
+    check(rt, 1, stand(seated).is_ok(), true);
 }
 
 fn printed(rt: &impl Abort, alloc: Global, hall: Arc<Hall, Global>) -> Printed {
@@ -65,13 +66,13 @@ fn printed(rt: &impl Abort, alloc: Global, hall: Arc<Hall, Global>) -> Printed {
 #[test]
 fn out_once(rt: HostRuntime) {
     let hall = hall_of(&rt, rt.alloc(), TWO_BENCHES);
-    assert!(rt; refusal(&hall, 2) == Some(NotTaken::NoJob));
+    check(&rt, 1, refusal(&hall, 2), Some(NotTaken::NoJob));
     let first = seat_of(&rt, &hall, 0);
-    assert!(rt; refusal(&hall, 0) == Some(NotTaken::Out));
+    check(&rt, 2, refusal(&hall, 0), Some(NotTaken::Out));
     let second = seat_of(&rt, &hall, 1);
     back(&rt, first);
-    assert!(rt; refusal(&hall, 1) == Some(NotTaken::Out));
-    assert!(rt; refusal(&hall, 0).is_none());
+    check(&rt, 3, refusal(&hall, 1), Some(NotTaken::Out));
+    check(&rt, 4, refusal(&hall, 0).is_none(), true);
     back(&rt, second);
 }
 
@@ -82,10 +83,10 @@ fn stays_open_with_a_desk_out(rt: HostRuntime) {
     let Err(stays) = Hall::into_lab(hall, rt.alloc()) else {
         panic!(rt; "a desk is out");
     };
-    assert!(rt; stays.why == WhyOpen::DesksOut);
+    check(&rt, 1, stays.why, WhyOpen::DesksOut);
     back(&rt, first);
     let report = printed(&rt, rt.alloc(), stays.hall);
-    assert!(rt; report.outcome == Outcome::Unfinished);
+    check(&rt, 2, report.outcome, Outcome::Unfinished);
 }
 
 /// A desk that is dropped in place of being given back is lost. The bench stays open, as while one is out.
@@ -96,8 +97,8 @@ fn stays_open_with_a_desk_lost(rt: HostRuntime) {
     let Err(stays) = Hall::into_lab(hall, rt.alloc()) else {
         panic!(rt; "a desk is lost");
     };
-    assert!(rt; stays.why == WhyOpen::DesksOut);
-    assert!(rt; refusal(&stays.hall, 0) == Some(NotTaken::Out));
+    check(&rt, 1, stays.why, WhyOpen::DesksOut);
+    check(&rt, 2, refusal(&stays.hall, 0), Some(NotTaken::Out));
 }
 
 /// Each job has a desk, which is taken and given back, and the lab has them all at its end.
@@ -107,9 +108,9 @@ fn each_of_the_most_jobs_has_a_desk(rt: HostRuntime) {
     for job in 0..32u32 {
         back(&rt, seat_of(&rt, &hall, job));
     }
-    assert!(rt; refusal(&hall, 32) == Some(NotTaken::NoJob));
+    check(&rt, 1, refusal(&hall, 32), Some(NotTaken::NoJob));
     let report = printed(&rt, rt.alloc(), hall);
-    assert!(rt; report.outcome == Outcome::Unfinished);
+    check(&rt, 2, report.outcome, Outcome::Unfinished);
 }
 
 /// A job that waits for one that does nothing stops at once, however many turns it may take.
@@ -118,8 +119,18 @@ fn stops_when_nothing_is_due(rt: HostRuntime) {
     let hall = hall_of(&rt, rt.alloc(), PATIENT);
     let mut second = seat_of(&rt, &hall, 1);
     let (stage, turned) = second.go(Aim::Hold, u32::MAX);
-    assert!(rt; stage == Stage::OnTheWay && turned != Turned::Idle);
-    assert!(rt; second.go(Aim::Hold, u32::MAX) == (Stage::OnTheWay, Turned::Idle));
+    check(
+        &rt,
+        1,
+        (stage, turned != Turned::Idle),
+        (Stage::OnTheWay, true),
+    );
+    check(
+        &rt,
+        2,
+        second.go(Aim::Hold, u32::MAX),
+        (Stage::OnTheWay, Turned::Idle),
+    );
     assert!(rt; second.standing().turns < 10);
     back(&rt, second);
 }
@@ -131,11 +142,11 @@ fn goes_back_to_its_own(rt: HostRuntime) {
     let other = hall_of(&rt, rt.alloc(), TWO_BENCHES);
     let idle = seat_of(&rt, &one, 0);
     let mut busy = seat_of(&rt, &other, 0);
-    assert!(rt; busy.turn() != Turned::Idle);
+    check(&rt, 1, busy.turn() != Turned::Idle, true);
     back(&rt, busy);
     back(&rt, idle);
-    assert!(rt; seat_of(&rt, &one, 0).standing().turns == 0);
-    assert!(rt; seat_of(&rt, &other, 0).standing().turns == 1);
+    check(&rt, 2, seat_of(&rt, &one, 0).standing().turns, 0);
+    check(&rt, 3, seat_of(&rt, &other, 0).standing().turns, 1);
 }
 
 #[test]
@@ -150,8 +161,8 @@ fn prints_two_benches(rt: HostRuntime) {
     back(&rt, first);
     back(&rt, second);
     let report = printed(&rt, rt.alloc(), hall);
-    assert!(rt; report.outcome == Outcome::Finished);
-    assert!(rt; report.text.as_slice() == TWO_BENCHES_REPORT);
+    check(&rt, 1, report.outcome, Outcome::Finished);
+    check(&rt, 2, report.text.as_slice(), TWO_BENCHES_REPORT);
 }
 
 /// Goes on until it holds, while the other serves.
@@ -167,24 +178,29 @@ fn hold(rt: &impl Abort, seated: &mut Seated, other: &mut Seated) {
 }
 
 fn alone(rt: &impl Abort, first: &mut Seated, second: &mut Seated) {
-    assert!(rt; second.turn() == Turned::Acted(1));
-    assert!(rt; second.withdraw());
-    assert!(rt; !second.withdraw());
-    assert!(rt; first.command().is_none());
+    check(rt, 1, second.turn(), Turned::Acted(1));
+    check(rt, 2, second.withdraw(), true);
+    check(rt, 3, second.withdraw(), false);
+    check(rt, 4, first.command().is_none(), true);
     hold(rt, first, second);
-    assert!(rt; first.standing().phase.drinking == Drinking::Drinking);
+    check(rt, 5, first.standing().phase.drinking, Drinking::Drinking);
     match first.command() {
-        Some(entry) => assert!(rt; entry.value == 3),
+        Some(entry) => check(rt, 6, entry.value, 3),
         None => panic!(rt; "no command"),
     }
-    assert!(rt; first.go(Aim::Retire, 10) == (Stage::Barred, Turned::Idle));
+    check(
+        rt,
+        7,
+        first.go(Aim::Retire, 10),
+        (Stage::Barred, Turned::Idle),
+    );
     match first.end() {
         Ended::LetGo(_) => (),
         _ => panic!(rt; "it didn't let go"),
     }
-    assert!(rt; first.end() == Ended::NotHeld);
+    check(rt, 8, first.end(), Ended::NotHeld);
     let (stage, _) = first.go(Aim::Retire, 100);
-    assert!(rt; stage == Stage::There);
+    check(rt, 9, stage, Stage::There);
 }
 
 #[test]
@@ -196,13 +212,13 @@ fn drives_alone(rt: HostRuntime) {
     back(&rt, first);
     back(&rt, second);
     let report = printed(&rt, rt.alloc(), hall);
-    assert!(rt; report.text.as_slice().starts_with(ALONE));
+    check(&rt, 1, report.text.as_slice().starts_with(ALONE), true);
 }
 
 #[test]
 fn names_the_line(rt: HostRuntime) {
     match Hall::open(rt.alloc(), b"lab 1\njob a\nnonsense\n") {
-        Err(RunFault::Script(fault)) => assert!(rt; fault.line == 3),
+        Err(RunFault::Script(fault)) => check(&rt, 1, fault.line, 3),
         _ => panic!(rt; "no fault"),
     }
 }

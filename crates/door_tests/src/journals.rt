@@ -1,4 +1,5 @@
 //! Journals of a lab, written by hand, and labs that come back from them. The sums were reckoned by another program.
+use crate::rows::check;
 use lab_journal::{NotTaken, has_room, journal, open_kept, resume, take_journal};
 use lab_program::RunFault;
 use legal_steps::Drinking;
@@ -49,7 +50,7 @@ fn opened(rt: &impl Abort, alloc: Global) -> Lab {
 
 fn takes(rt: &impl Abort, alloc: Global, lab: &mut Lab, wanted: &[u8]) {
     match take_journal(lab, alloc) {
-        Ok(text) => assert!(rt; text.as_slice() == wanted),
+        Ok(text) => check(rt, 1, text.as_slice(), wanted),
         Err(_) => panic!(rt; "not taken"),
     }
 }
@@ -57,7 +58,7 @@ fn takes(rt: &impl Abort, alloc: Global, lab: &mut Lab, wanted: &[u8]) {
 #[test]
 fn are_taken(rt: HostRuntime) {
     let mut lab = opened(&rt, rt.alloc());
-    assert!(rt; has_room(&lab));
+    check(&rt, 1, has_room(&lab), true);
     let _ = lab.settle(1);
     takes(&rt, rt.alloc(), &mut lab, FIRST);
     let _ = lab.settle(2);
@@ -69,8 +70,13 @@ fn are_taken(rt: HostRuntime) {
 fn are_of_kept_labs(rt: HostRuntime) {
     match Lab::open(rt.alloc(), SCRIPT) {
         Ok(lab) => {
-            assert!(rt; has_room(&lab));
-            assert!(rt; journal(&lab, rt.alloc()).err() == Some(NotTaken::NotKept));
+            check(&rt, 1, has_room(&lab), true);
+            check(
+                &rt,
+                2,
+                journal(&lab, rt.alloc()).err(),
+                Some(NotTaken::NotKept),
+            );
         }
         Err(_) => panic!(rt; "no lab"),
     }
@@ -80,7 +86,7 @@ fn are_of_kept_labs(rt: HostRuntime) {
 fn resumed(rt: &impl Abort, alloc: Global, bytes: &[u8], wanted: usize) -> Lab {
     match resume(alloc, bytes) {
         Ok((lab, n)) => {
-            assert!(rt; n == wanted);
+            check(rt, 1, n, wanted);
             lab
         }
         Err(_) => panic!(rt; "not resumed"),
@@ -89,7 +95,7 @@ fn resumed(rt: &impl Abort, alloc: Global, bytes: &[u8], wanted: usize) -> Lab {
 
 fn is_so_far(rt: &impl Abort, lab: &Lab, job: usize, wanted: Drinking) {
     match lab.standing(job) {
-        Some(standing) => assert!(rt; standing.phase.drinking == wanted),
+        Some(standing) => check(rt, 1, standing.phase.drinking, wanted),
         None => panic!(rt; "no job"),
     }
 }
@@ -99,8 +105,8 @@ fn is_so_far(rt: &impl Abort, lab: &Lab, job: usize, wanted: Drinking) {
 fn are_gone_on_with(rt: HostRuntime) {
     let mut lab = resumed(&rt, rt.alloc(), BOTH, 275);
     takes(&rt, rt.alloc(), &mut lab, b"");
-    assert!(rt; lab.end(0) == Some(Ended::LetGo(Turned::Acted(8))));
-    assert!(rt; lab.begin(1, 1) == Some((Stage::There, Turned::Idle)));
+    check(&rt, 1, lab.end(0), Some(Ended::LetGo(Turned::Acted(8))));
+    check(&rt, 2, lab.begin(1, 1), Some((Stage::There, Turned::Idle)));
 }
 
 #[test]
@@ -131,11 +137,16 @@ fn fault_of(rt: &impl Abort, alloc: Global, bytes: &[u8]) -> RunFault {
 
 #[test]
 fn are_refused_with_their_line(rt: HostRuntime) {
-    assert!(rt; fault_of(&rt, rt.alloc(), WRONG_STEP) == RunFault::Step { line: 15 });
+    check(
+        &rt,
+        1,
+        fault_of(&rt, rt.alloc(), WRONG_STEP),
+        RunFault::Step { line: 15 },
+    );
     match fault_of(&rt, rt.alloc(), WRONG_SUM) {
         RunFault::Script(fault) => {
-            assert!(rt; fault.line == 16);
-            assert!(rt; fault.cause == ScriptCause::BadStep);
+            check(&rt, 2, fault.line, 16);
+            check(&rt, 3, fault.cause, ScriptCause::BadStep);
         }
         _ => panic!(rt; "another fault"),
     }

@@ -24,4 +24,6 @@ mod more;
 #[cfg(test)]
 mod resumed_halls;
 #[cfg(test)]
+mod rows;
+#[cfg(test)]
 mod runs;

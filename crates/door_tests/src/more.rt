@@ -1,4 +1,5 @@
 //! Sessions that came, in a journal written by hand. The sums were reckoned by another program.
+use crate::rows::check;
 use c_handles::Handle;
 use c_tells::Told;
 use journal_texts::{additions, more_text};
@@ -50,7 +51,7 @@ fn is_text(rt: &impl Abort, alloc: Global, lab: &Lab, job: JobNo, session: u32, 
     assert!(rt; (job.0 as usize) < plan.jobs());
     assert!(rt; session > 0 && session <= plan.sessions(job));
     match more_text(alloc, plan, job, session) {
-        Ok(text) => assert!(rt; text.as_slice() == wanted),
+        Ok(text) => check(rt, 1, text.as_slice(), wanted),
         Err(_) => panic!(rt; "no memory"),
     }
 }
@@ -60,7 +61,7 @@ fn is_text(rt: &impl Abort, alloc: Global, lab: &Lab, job: JobNo, session: u32, 
 fn sessions_have_their_lines(rt: HostRuntime) {
     let mut lab = kept(&rt, rt.alloc());
     is_text(&rt, rt.alloc(), &lab, JobNo(0), 1, FIRST);
-    assert!(rt; lab.add(rt.alloc(), 1, COMES) == Some(Ok(())));
+    check(&rt, 1, lab.add(rt.alloc(), 1, COMES), Some(Ok(())));
     is_text(&rt, rt.alloc(), &lab, JobNo(1), 2, MORE);
 }
 
@@ -70,10 +71,15 @@ fn longer_sessions_get_room(rt: HostRuntime) {
     let mut lab = kept(&rt, rt.alloc());
     let before = lab.world().kept_room();
     let _ = lab.settle(1);
-    assert!(rt; make_room(&mut lab, rt.alloc(), COMES) == Err(NoRoom::HasSteps));
+    check(
+        &rt,
+        1,
+        make_room(&mut lab, rt.alloc(), COMES),
+        Err(NoRoom::HasSteps),
+    );
     lab.take_kept();
-    assert!(rt; lab.world().kept_room() == before);
-    assert!(rt; make_room(&mut lab, rt.alloc(), COMES) == Ok(()));
+    check(&rt, 2, lab.world().kept_room(), before);
+    check(&rt, 3, make_room(&mut lab, rt.alloc(), COMES), Ok(()));
     assert!(rt; lab.world().kept_room() > before);
 }
 
@@ -94,14 +100,34 @@ fn a_handle_tells_them(rt: HostRuntime) {
         cause: 9,
     };
     let mut room = [0u8; 111];
-    assert!(rt; bench_calls::open_kept(rt.alloc(), SCRIPT, &mut bench, &mut told) == 0);
-    assert!(rt; bench_calls::add(rt.alloc(), &mut bench, 1, COMES, &mut told) == 0);
-    assert!(rt; tells(rt.alloc(), &mut bench, 2, &mut room[..100]) == (6, 111));
-    assert!(rt; tells(rt.alloc(), &mut bench, 2, &mut room) == (0, 111));
-    assert!(rt; room.as_slice() == MORE);
-    assert!(rt; tells(rt.alloc(), &mut bench, 3, &mut room) == (2, 9));
-    assert!(rt; bench_calls::free(rt.alloc(), &mut bench) == 0);
-    assert!(rt; tells(rt.alloc(), &mut bench, 2, &mut room) == (7, 9));
+    check(
+        &rt,
+        1,
+        bench_calls::open_kept(rt.alloc(), SCRIPT, &mut bench, &mut told),
+        0,
+    );
+    check(
+        &rt,
+        2,
+        bench_calls::add(rt.alloc(), &mut bench, 1, COMES, &mut told),
+        0,
+    );
+    check(
+        &rt,
+        3,
+        tells(rt.alloc(), &mut bench, 2, &mut room[..100]),
+        (6, 111),
+    );
+    check(
+        &rt,
+        4,
+        tells(rt.alloc(), &mut bench, 2, &mut room),
+        (0, 111),
+    );
+    check(&rt, 5, room.as_slice(), MORE);
+    check(&rt, 6, tells(rt.alloc(), &mut bench, 3, &mut room), (2, 9));
+    check(&rt, 7, bench_calls::free(rt.alloc(), &mut bench), 0);
+    check(&rt, 8, tells(rt.alloc(), &mut bench, 2, &mut room), (7, 9));
 }
 
 /// Each addition has its line, its job and its session; one that breaks off is none.
@@ -111,13 +137,21 @@ fn a_journal_has_them(rt: HostRuntime) {
         panic!(rt; "no memory");
     };
     assert!(rt; all.len() == 2);
-    assert!(rt;
-        all[0].line() == 12 && all[0].job() == b"b".as_slice() && all[0].session() == COMES
+    check(
+        &rt,
+        1,
+        (all[0].line(), all[0].job(), all[0].session()),
+        (12, b"b".as_slice(), COMES),
     );
-    assert!(rt;
-        all[1].line() == 23
-            && all[1].job() == b"a".as_slice()
-            && all[1].session() == b"session\nscale read\nend\n".as_slice()
+    check(
+        &rt,
+        2,
+        (all[1].line(), all[1].job(), all[1].session()),
+        (
+            23,
+            b"a".as_slice(),
+            b"session\nscale read\nend\n".as_slice(),
+        ),
     );
 }
 
@@ -127,8 +161,13 @@ fn a_journal_means_them(rt: HostRuntime) {
     match read_journal(rt.alloc(), JOURNAL) {
         Ok((plan, steps)) => {
             assert!(rt; plan.jobs() == 2);
-            assert!(rt; plan.sessions(JobNo(0)) == 2 && plan.sessions(JobNo(1)) == 2);
-            assert!(rt; steps.len() == 2);
+            check(
+                &rt,
+                1,
+                (plan.sessions(JobNo(0)), plan.sessions(JobNo(1))),
+                (2, 2),
+            );
+            check(&rt, 2, steps.len(), 2);
         }
         Err(_) => panic!(rt; "refused"),
     }
@@ -139,12 +178,17 @@ fn a_journal_means_them(rt: HostRuntime) {
 fn they_come_back(rt: HostRuntime) {
     match resume(rt.alloc(), JOURNAL) {
         Ok((lab, n)) => {
-            assert!(rt; n == JOURNAL.len());
+            check(&rt, 1, n, JOURNAL.len());
             let facts = lab.session(1, 2).map(|it| (it.commands, it.patience));
-            assert!(rt; facts == Some((3, Some(7))));
-            assert!(rt; lab.session(0, 2).is_some() && lab.session(0, 3).is_none());
+            check(&rt, 2, facts, Some((3, Some(7))));
+            check(
+                &rt,
+                3,
+                (lab.session(0, 2).is_some(), lab.session(0, 3).is_none()),
+                (true, true),
+            );
             let phase = lab.standing(0).map(|it| it.phase.drinking);
-            assert!(rt; phase == Some(Drinking::Thirsty));
+            check(&rt, 4, phase, Some(Drinking::Thirsty));
         }
         Err(_) => panic!(rt; "refused"),
     }
@@ -153,7 +197,7 @@ fn they_come_back(rt: HostRuntime) {
 fn refused(rt: &impl Abort, alloc: Global, journal: &[u8], line: usize, cause: ScriptCause) {
     match resume(alloc, journal) {
         Ok(_) => panic!(rt; "resumed"),
-        Err(fault) => assert!(rt; fault == RunFault::Script(ScriptFault { line, cause })),
+        Err(fault) => check(rt, 1, fault, RunFault::Script(ScriptFault { line, cause })),
     }
 }
 

@@ -1,5 +1,6 @@
 //! Benches of desks that go on where a journal ends.
 use crate::journals::BOTH;
+use crate::rows::check;
 use bench_door::{Ended, Lab, print};
 use bench_hall::{Hall, Seated, sit, stand};
 use c_handles::Handle;
@@ -19,7 +20,7 @@ const GONE_ON: &[u8] =
 fn seat_of(rt: &impl Abort, hall: &Arc<Hall, Global>, job: u32, wanted: Drinking) -> Seated {
     match sit(hall, job) {
         Ok(seated) => {
-            assert!(rt; seated.standing().phase.drinking == wanted);
+            check(rt, 1, seated.standing().phase.drinking, wanted);
             seated
         }
         Err(_) => panic!(rt; "no seat"),
@@ -38,12 +39,12 @@ fn goes_on(rt: &impl Abort, hall: &Arc<Hall, Global>) {
     let mut first = seat_of(rt, hall, 0, Drinking::Drinking);
     let mut second = seat_of(rt, hall, 1, Drinking::Thirsty);
     ends(rt, &mut first);
-    assert!(rt; second.go(Aim::Hold, 5).0 == Stage::There);
+    check(rt, 1, second.go(Aim::Hold, 5).0, Stage::There);
     ends(rt, &mut second);
-    assert!(rt; first.go(Aim::Retire, 5).0 == Stage::There);
-    assert!(rt; second.go(Aim::Retire, 5).0 == Stage::There);
-    assert!(rt; stand(first).is_ok());
-    assert!(rt; stand(second).is_ok());
+    check(rt, 2, first.go(Aim::Retire, 5).0, Stage::There);
+    check(rt, 3, second.go(Aim::Retire, 5).0, Stage::There);
+    check(rt, 4, stand(first).is_ok(), true);
+    check(rt, 5, stand(second).is_ok(), true);
 }
 
 fn reports(rt: &impl Abort, alloc: Global, lab: Lab, wanted: &[u8], outcome: Outcome) {
@@ -52,8 +53,8 @@ fn reports(rt: &impl Abort, alloc: Global, lab: Lab, wanted: &[u8], outcome: Out
     };
     match print(alloc, &end) {
         Some(printed) => {
-            assert!(rt; printed.text.as_slice().starts_with(wanted));
-            assert!(rt; printed.outcome == outcome);
+            check(rt, 1, printed.text.as_slice().starts_with(wanted), true);
+            check(rt, 2, printed.outcome, outcome);
         }
         None => panic!(rt; "no report"),
     }
@@ -64,7 +65,7 @@ fn are_gone_on_with(rt: HostRuntime) {
     let Ok((hall, taken)) = Hall::resume(rt.alloc(), BOTH) else {
         panic!(rt; "no hall");
     };
-    assert!(rt; taken == 275);
+    check(&rt, 1, taken, 275);
     goes_on(&rt, &hall);
     match Hall::into_lab(hall, rt.alloc()) {
         Ok(lab) => reports(&rt, rt.alloc(), lab, GONE_ON, Outcome::Finished),
@@ -95,9 +96,24 @@ fn are_in_a_handle(rt: HostRuntime) {
         line: 9,
         cause: 9,
     };
-    assert!(rt; hall_calls::resume(rt.alloc(), b"", &mut bench, &mut told) == 1);
-    assert!(rt; hall_calls::resume(rt.alloc(), BOTH, &mut bench, &mut told) == 0);
-    assert!(rt; told.written == 275);
-    assert!(rt; hall_calls::resume(rt.alloc(), BOTH, &mut bench, &mut told) == 11);
-    assert!(rt; hall_calls::free(rt.alloc(), &mut bench) == 0);
+    check(
+        &rt,
+        1,
+        hall_calls::resume(rt.alloc(), b"", &mut bench, &mut told),
+        1,
+    );
+    check(
+        &rt,
+        2,
+        hall_calls::resume(rt.alloc(), BOTH, &mut bench, &mut told),
+        0,
+    );
+    check(&rt, 3, told.written, 275);
+    check(
+        &rt,
+        4,
+        hall_calls::resume(rt.alloc(), BOTH, &mut bench, &mut told),
+        11,
+    );
+    check(&rt, 5, hall_calls::free(rt.alloc(), &mut bench), 0);
 }

@@ -151,6 +151,23 @@ fn is_told(
     );
 }
 
+/// The same of what a run told; the row says which run it was.
+fn is_so(rt: &impl Abort, row: usize, came: Told, ends: Result<Outcome, RunFault>, bytes: &[u8]) {
+    let (written, answer) = came;
+    has(rt, row, written.as_slice(), bytes);
+    assert!(rt;
+        answer == ends,
+        "{row}: {ends:?} was wanted, not {answer:?}"
+    );
+}
+
+fn has(rt: &impl Abort, row: usize, written: &[u8], wanted: &[u8]) {
+    assert!(rt;
+        written == wanted,
+        "{row}: {wanted:?} was wanted, not {written:?}"
+    );
+}
+
 /// A run over this input ends so, and writes this text.
 fn tells<R: Threads + Wait + Abort + Sync>(
     rt: &R,

@@ -1,5 +1,5 @@
 //! What `labview blocks` writes, by its bytes.
-use crate::seen::of_script_seen;
+use crate::seen::{is_so, of_script_seen};
 use lab_program::{Outcome, RunFault};
 use lab_views::View;
 use script_reader::{ScriptCause, ScriptFault};
@@ -34,20 +34,20 @@ blocked b by a on scale rounds 1 held 0
 instrument scale blocked 1 held 0
 ";
 
+/// A script, at most how many rounds, and what is written.
+const BY_HAND: [(&str, u32, &str); 5] = [
+    (SHARED, 1000000000, ALL_ROUNDS),
+    (SHARED, 3, THREE_ROUNDS),
+    (SHARED, 0, "rounds 0 unfinished\n"),
+    (IMPATIENT, 20, GIVEN_UP),
+    ("lab 1\n", 7, "rounds 0 finished\n"),
+];
+
 #[test]
 fn blocks_by_hand(rt: HostRuntime) {
-    for (script, limit, wanted) in [
-        (SHARED, 1000000000, ALL_ROUNDS),
-        (SHARED, 3, THREE_ROUNDS),
-        (SHARED, 0, "rounds 0 unfinished\n"),
-        (IMPATIENT, 20, GIVEN_UP),
-        ("lab 1\n", 7, "rounds 0 finished\n"),
-    ] {
-        let (text, answer) = told(rt.alloc(), script, limit);
-        assert!(rt;
-            answer == Ok(Outcome::Finished) && text.as_slice() == wanted.as_bytes(),
-            "{wanted}"
-        );
+    for (script, limit, wanted) in &BY_HAND {
+        let came = told(rt.alloc(), script, *limit);
+        is_so(&rt, wanted, came, Ok(Outcome::Finished), wanted.as_bytes());
     }
 }
 
@@ -171,10 +171,10 @@ fn blocks_of_a_ring(rt: HostRuntime) {
 
 #[test]
 fn no_script_has_no_blocks(rt: HostRuntime) {
-    let (text, answer) = told(rt.alloc(), "lab 1\nsession\n", 7);
     let fault = ScriptFault {
         line: 2,
         cause: ScriptCause::NotInJob,
     };
-    assert!(rt; answer == Err(RunFault::Script(fault)) && text.is_empty());
+    let came = told(rt.alloc(), "lab 1\nsession\n", 7);
+    is_so(&rt, "", came, Err(RunFault::Script(fault)), b"");
 }

@@ -10,7 +10,6 @@ use std::fmt::Display;
 use std::io;
 use std::process::{Abort, ExitCode};
 use std::sync::Wait;
-use std::test::Fail;
 use std::thread::Threads;
 
 /// A runtime that keeps what is printed: on standard output, and on standard error.
@@ -107,95 +106,120 @@ fn ends(rt: &impl Abort, told: Told, out: &str, errors: &str, status: u8) {
     assert!(rt; code == ExitCode::from(status), "{code:?}, not {status}");
 }
 
+/// A command line, its input, what is sent, what is printed on standard error, and the status.
+type Line = (
+    &'static [&'static str],
+    &'static str,
+    &'static str,
+    &'static str,
+    u8,
+);
+
+const REFUSED: &str = "labrun: command line refused\n";
+
+const COUNTS: &str = "ok jobs 2 instruments 1 edges 1 sessions 2 commands 2\n";
+
+const WAITING: &str =
+    "lab 1\ninstrument scale 0\njob a sessions 0 of 1 meals 0 waiting\njob b sessions 0 of 1 meals 0 waiting\nunfinished\n";
+
+const NO_HEADER: &str = "labrun: line 1: S1 no lab header\n";
+
+const OF_LABRUN: [Line; 6] = [
+    (&[], SCRIPT, REPORT, "", 0),
+    (&["labrun", "rounds", "9"], SCRIPT, REPORT, "", 0),
+    (&["labrun", "threads", "2", "0"], SCRIPT, WAITING, "", 3),
+    (&["labrun", "check"], SCRIPT, COUNTS, "", 0),
+    (&["labrun", "upgrade"], "", "", NO_HEADER, 1),
+    (&["labrun", "walk"], SCRIPT, "", REFUSED, 2),
+];
+
 #[test]
 fn command_lines_of_labrun(rt: HostRuntime) {
-    let refused = "labrun: command line refused\n";
-    let counts = "ok jobs 2 instruments 1 edges 1 sessions 2 commands 2\n";
-    let waiting =
-        "lab 1\ninstrument scale 0\njob a sessions 0 of 1 meals 0 waiting\njob b sessions 0 of 1 meals 0 waiting\nunfinished\n";
-    let no_header = "labrun: line 1: S1 no lab header\n";
-    for (words, input, out, errors, status) in [
-        ([].as_slice(), SCRIPT, REPORT, "", 0),
-        (["labrun", "rounds", "9"].as_slice(), SCRIPT, REPORT, "", 0),
-        (
-            ["labrun", "threads", "2", "0"].as_slice(),
-            SCRIPT,
-            waiting,
-            "",
-            3,
-        ),
-        (["labrun", "check"].as_slice(), SCRIPT, counts, "", 0),
-        (["labrun", "upgrade"].as_slice(), "", "", no_header, 1),
-        (["labrun", "walk"].as_slice(), SCRIPT, "", refused, 2),
-    ] {
+    for (words, input, out, errors, status) in &OF_LABRUN {
         let told = labrun(&rt, rt.alloc(), words, input);
-        ends(&rt, told, out, errors, status);
+        ends(&rt, told, out, errors, *status);
     }
 }
 
+const OF_LABVIEW: [Line; 10] = [
+    (
+        &["labview"],
+        SCRIPT,
+        "",
+        "labview: command line refused: a command is missing; see labview --help\n",
+        2,
+    ),
+    (
+        &["labview", "wait", "9"],
+        SCRIPT,
+        "",
+        "labview: command line refused: unrecognized subcommand 'wait'; see labview --help\n",
+        2,
+    ),
+    (
+        &["labview", "waits"],
+        SCRIPT,
+        "",
+        "labview: command line refused: the following required arguments were not provided: <N>; see labview --help\n",
+        2,
+    ),
+    (
+        &["labview", "picture"],
+        SCRIPT,
+        "",
+        "labview: line 2: this is a script; picture reads a report: labrun < script | labview picture\n",
+        1,
+    ),
+    (
+        &["labview", "table"],
+        SCRIPT,
+        "",
+        "labview: line 2: this is a script; table reads a report: labrun < script | labview table\n",
+        1,
+    ),
+    (
+        &["labview", "picture"],
+        "lab 1\nscale\n",
+        "",
+        "labview: line 2: not a line of a report\n",
+        1,
+    ),
+    (
+        &["labview", "gantt", "9"],
+        REPORT,
+        "",
+        "labview: line 2: this is a report; gantt reads a script\n",
+        1,
+    ),
+    (
+        &["labview", "explain"],
+        REPORT,
+        "",
+        "labview: line 2: this is a report; explain reads a script\n",
+        1,
+    ),
+    (
+        &["labview", "waits", "9"],
+        "",
+        "",
+        "labview: line 1: S1 no lab header\n",
+        1,
+    ),
+    (
+        &["labview", "table"],
+        "lab 1\nfinished\n",
+        "instrument,entry,job,session,place,length,verb,number,value\n",
+        "",
+        0,
+    ),
+];
+
 #[test]
 fn command_lines_of_labview(rt: HostRuntime) {
-    let table = "instrument,entry,job,session,place,length,verb,number,value\n";
-    for (words, input, errors, status) in [
-        (
-            ["labview"].as_slice(),
-            SCRIPT,
-            "labview: command line refused: a command is missing; see labview --help\n",
-            2,
-        ),
-        (
-            ["labview", "wait", "9"].as_slice(),
-            SCRIPT,
-            "labview: command line refused: unrecognized subcommand 'wait'; see labview --help\n",
-            2,
-        ),
-        (
-            ["labview", "waits"].as_slice(),
-            SCRIPT,
-            "labview: command line refused: the following required arguments were not provided: <N>; see labview --help\n",
-            2,
-        ),
-        (
-            ["labview", "picture"].as_slice(),
-            SCRIPT,
-            "labview: line 2: this is a script; picture reads a report: labrun < script | labview picture\n",
-            1,
-        ),
-        (
-            ["labview", "table"].as_slice(),
-            SCRIPT,
-            "labview: line 2: this is a script; table reads a report: labrun < script | labview table\n",
-            1,
-        ),
-        (
-            ["labview", "picture"].as_slice(),
-            "lab 1\nscale\n",
-            "labview: line 2: not a line of a report\n",
-            1,
-        ),
-        (
-            ["labview", "gantt", "9"].as_slice(),
-            REPORT,
-            "labview: line 2: this is a report; gantt reads a script\n",
-            1,
-        ),
-        (
-            ["labview", "explain"].as_slice(),
-            REPORT,
-            "labview: line 2: this is a report; explain reads a script\n",
-            1,
-        ),
-        (
-            ["labview", "waits", "9"].as_slice(),
-            "",
-            "labview: line 1: S1 no lab header\n",
-            1,
-        ),
-    ] {
-        ends(&rt, labview(rt.alloc(), words, input), "", errors, status);
+    for (words, input, out, errors, status) in &OF_LABVIEW {
+        let told = labview(rt.alloc(), words, input);
+        ends(&rt, told, out, errors, *status);
     }
-    let told = labview(rt.alloc(), &["labview", "table"], "lab 1\nfinished\n");
-    ends(&rt, told, table, "", 0);
 }
 
 /// What was printed, on standard output and on standard error, and the status.
@@ -223,70 +247,106 @@ fn reason(alloc: Global, why: Why) -> Result<NoTask, AllocError> {
     })
 }
 
-#[test]
-fn ends_without_task(rt: HostRuntime) -> Result<(), Fail> {
-    let in_short = "labrun: command line refused\n";
-    let at_length = "labrun: command line refused: two words; see labrun --help\n";
-    for (why, out, short, long, status) in [
-        (Why::Help, "how it is used\n", "", "", 0),
-        (Why::Refused, "", in_short, at_length, 2),
-        (
-            Why::NoMemory,
-            "",
-            "labrun: no memory\n",
-            "labrun: no memory\n",
-            5,
-        ),
-    ] {
-        let kept = Kept::new(rt.alloc());
-        let code = end_without_task(&kept, "labrun", reason(rt.alloc(), why)?);
-        printed(&rt, kept, code, out, short, status);
-        let kept = Kept::new(rt.alloc());
-        let code = end_saying_why(&kept, "labrun", reason(rt.alloc(), why)?);
-        printed(&rt, kept, code, out, long, status);
+/// Why words gave no task, what is printed, what is said in short and at length, and the status.
+const WITHOUT_TASK: [(Why, &str, &str, &str, u8); 3] = [
+    (Why::Help, "how it is used\n", "", "", 0),
+    (
+        Why::Refused,
+        "",
+        REFUSED,
+        "labrun: command line refused: two words; see labrun --help\n",
+        2,
+    ),
+    (
+        Why::NoMemory,
+        "",
+        "labrun: no memory\n",
+        "labrun: no memory\n",
+        5,
+    ),
+];
+
+fn reason_of(rt: &impl Abort, alloc: Global, why: Why) -> NoTask {
+    match reason(alloc, why) {
+        Ok(reason) => reason,
+        Err(_) => panic!(rt; "no memory"),
     }
-    Ok(())
 }
+
+#[test]
+fn ends_without_task_in_short(rt: HostRuntime) {
+    for (why, out, short, _, status) in &WITHOUT_TASK {
+        let kept = Kept::new(rt.alloc());
+        let code = end_without_task(&kept, "labrun", reason_of(&rt, rt.alloc(), *why));
+        printed(&rt, kept, code, out, short, *status);
+    }
+}
+
+#[test]
+fn ends_saying_why(rt: HostRuntime) {
+    for (why, out, _, long, status) in &WITHOUT_TASK {
+        let kept = Kept::new(rt.alloc());
+        let code = end_saying_why(&kept, "labrun", reason_of(&rt, rt.alloc(), *why));
+        printed(&rt, kept, code, out, long, *status);
+    }
+}
+
+/// A view, how its run ended, what is said, and the status.
+const ENDS: [(View, Outcome, &str, u8); 3] = [
+    (
+        View::Arrange,
+        Outcome::Unfinished,
+        "labview: the script went out as it was: with an end for its last line it would be one byte too long\n",
+        3,
+    ),
+    (
+        View::Trace { limit: 9 },
+        Outcome::Unfinished,
+        "labview: the trace is whole, but longer than a replay reads (1000000 steps, 16777216 bytes)\n",
+        3,
+    ),
+    (View::Arrange, Outcome::Finished, "", 0),
+];
 
 /// What is said of a view that went out, but isn't all that it might be.
 #[test]
 fn ends_of_views(rt: HostRuntime) {
-    let as_it_was =
-        "labview: the script went out as it was: with an end for its last line it would be one byte too long\n";
-    let too_long =
-        "labview: the trace is whole, but longer than a replay reads (1000000 steps, 16777216 bytes)\n";
-    for (view, outcome, errors, status) in [
-        (View::Arrange, Outcome::Unfinished, as_it_was, 3),
-        (View::Trace { limit: 9 }, Outcome::Unfinished, too_long, 3),
-        (View::Arrange, Outcome::Finished, "", 0),
-    ] {
+    for (view, outcome, errors, status) in &ENDS {
         let kept = Kept::new(rt.alloc());
-        let code = end_view(&kept, "labview", view, Ok(outcome), None);
-        printed(&rt, kept, code, "", errors, status);
+        let code = end_view(&kept, "labview", *view, Ok(*outcome), None);
+        printed(&rt, kept, code, "", errors, *status);
     }
 }
 
 /// What is said of an order's gain; of PATIENT and GIVES_UP `measured` says how they were reckoned.
+const ARRANGED: [Line; 3] = [
+    (
+        &["labview", "arrange", "100"],
+        PATIENT,
+        GIVES_UP,
+        "labview: rounds 9, now 5; waited 5, now 2\n",
+        0,
+    ),
+    (
+        &["labview", "arrange", "4"],
+        PATIENT,
+        GIVES_UP,
+        "labview: rounds 4 unfinished, now 4 unfinished; waited 4, now 2\n",
+        0,
+    ),
+    (
+        &["labview", "arrange", "9"],
+        REPORT,
+        "",
+        "labview: line 2: this is a report; arrange reads a script\n",
+        1,
+    ),
+];
+
 #[test]
 fn command_lines_that_arrange(rt: HostRuntime) {
-    for (limit, input, out, said) in [
-        (
-            "100",
-            PATIENT,
-            GIVES_UP,
-            "labview: rounds 9, now 5; waited 5, now 2\n",
-        ),
-        (
-            "4",
-            PATIENT,
-            GIVES_UP,
-            "labview: rounds 4 unfinished, now 4 unfinished; waited 4, now 2\n",
-        ),
-    ] {
-        let told = labview(rt.alloc(), &["labview", "arrange", limit], input);
-        ends(&rt, told, out, said, 0);
+    for (words, input, out, said, status) in &ARRANGED {
+        let told = labview(rt.alloc(), words, input);
+        ends(&rt, told, out, said, *status);
     }
-    let refused = "labview: line 2: this is a report; arrange reads a script\n";
-    let told = labview(rt.alloc(), &["labview", "arrange", "9"], REPORT);
-    ends(&rt, told, "", refused, 1);
 }

@@ -1,12 +1,13 @@
 //! What `labview gantt` draws, by its bytes.
 use crate::blocks::RING;
-use crate::seen::of_script_seen;
+use crate::seen::{is_so, of_script_seen};
 use blocking::sessions_add_up;
 use lab_program::{Outcome, RunFault};
 use lab_views::View;
 use round_picture::pictures_are_narrow;
 use script_reader::{ScriptCause, ScriptFault};
 use std::alloc::Global;
+use std::process::Abort;
 
 fn drawn(alloc: Global, input: &str, limit: u32) -> (Vec<u8>, Result<Outcome, RunFault>) {
     of_script_seen(alloc, View::Gantt { limit }, input.as_bytes())
@@ -114,19 +115,29 @@ const GIVEN_UP: &str = "<text x=\"10\" y=\"50\" font-size=\"13\">rounds 5 finish
 </svg>
 ";
 
+/// A script, at most how many rounds, and what is drawn behind the head.
+const BY_HAND: [(&str, u32, &str); 4] = [
+    (SHARED, 1000000000, ALL_ROUNDS),
+    (SHARED, 3, THREE_ROUNDS),
+    (SHARED, 0, NO_ROUNDS),
+    (IMPATIENT, 20, GIVEN_UP),
+];
+
+fn is_drawn(rt: &impl Abort, alloc: Global, script: &str, limit: u32, wanted: &str) {
+    let (text, answer) = drawn(alloc, script, limit);
+    let told = (answer, is_both(&text, HEAD, wanted));
+    check(rt, told, wanted);
+}
+
+/// The picture is so, and the run is all.
+fn check(rt: &impl Abort, told: (Result<Outcome, RunFault>, bool), wanted: &str) {
+    assert!(rt; told == (Ok(Outcome::Finished), true), "{told:?}: {wanted}");
+}
+
 #[test]
 fn runs_by_hand(rt: HostRuntime) {
-    for (script, limit, wanted) in [
-        (SHARED, 1000000000, ALL_ROUNDS),
-        (SHARED, 3, THREE_ROUNDS),
-        (SHARED, 0, NO_ROUNDS),
-        (IMPATIENT, 20, GIVEN_UP),
-    ] {
-        let (text, answer) = drawn(rt.alloc(), script, limit);
-        assert!(rt;
-            answer == Ok(Outcome::Finished) && is_both(&text, HEAD, wanted),
-            "{wanted}"
-        );
+    for (script, limit, wanted) in &BY_HAND {
+        is_drawn(&rt, rt.alloc(), script, *limit, wanted);
     }
 }
 
@@ -174,30 +185,34 @@ fn has(text: &[u8], title: &str) -> bool {
         .any(|place| place == title.as_bytes())
 }
 
+/// A script, and a title that stands in its picture.
+const TITLES: [(&str, &str); 4] = [
+    (FIVE, FOUR_KEEP_E),
+    (FIVE, C_KEEPS_B),
+    (RING, FIRST_OF_RING),
+    (RING, SECOND_OF_RING),
+];
+
+fn has_title(rt: &impl Abort, alloc: Global, script: &str, title: &str) {
+    let (text, answer) = drawn(alloc, script, 10000);
+    check(rt, (answer, has(&text, title)), title);
+}
+
 #[test]
 fn keepers_by_hand(rt: HostRuntime) {
-    for (script, title) in [
-        (FIVE, FOUR_KEEP_E),
-        (FIVE, C_KEEPS_B),
-        (RING, FIRST_OF_RING),
-        (RING, SECOND_OF_RING),
-    ] {
-        let (text, answer) = drawn(rt.alloc(), script, 10000);
-        assert!(rt;
-            answer == Ok(Outcome::Finished) && has(&text, title),
-            "{title}"
-        );
+    for (script, title) in &TITLES {
+        has_title(&rt, rt.alloc(), script, title);
     }
 }
 
 #[test]
 fn no_script_has_no_run(rt: HostRuntime) {
-    let (text, answer) = drawn(rt.alloc(), "lab 1\nsession\n", 7);
     let fault = ScriptFault {
         line: 2,
         cause: ScriptCause::NotInJob,
     };
-    assert!(rt; answer == Err(RunFault::Script(fault)) && text.is_empty());
+    let came = drawn(rt.alloc(), "lab 1\nsession\n", 7);
+    is_so(&rt, "", came, Err(RunFault::Script(fault)), b"");
 }
 
 #[test]

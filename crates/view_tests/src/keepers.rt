@@ -2,7 +2,7 @@
 use crate::blocks::{IMPATIENT, SHARED};
 use block_lines::Block;
 use blocking::keepers_by_rounds;
-use lab_plan::{InstrumentNo, JobNo};
+use lab_plan::{InstrumentNo, JobNo, Plan};
 use script_reader::read_plan;
 use std::alloc::Global;
 use std::process::Abort;
@@ -31,11 +31,22 @@ fn check_kept(
     rounds: u32,
     wanted: &[Block],
 ) {
-    let Ok(plan) = read_plan(alloc, script.as_bytes()) else {
-        panic!(rt; "no plan");
-    };
+    match read_plan(alloc, script.as_bytes()) {
+        Ok(plan) => check_run(rt, alloc, &plan, limit, rounds, wanted),
+        Err(_) => panic!(rt; "no plan"),
+    }
+}
+
+fn check_run(
+    rt: &impl Abort,
+    alloc: Global,
+    plan: &Plan<Global>,
+    limit: u32,
+    rounds: u32,
+    wanted: &[Block],
+) {
     assert!(rt; plan.jobs() == 2);
-    let Ok(run) = keepers_by_rounds(alloc, &plan, limit) else {
+    let Ok(run) = keepers_by_rounds(alloc, plan, limit) else {
         panic!(rt; "no memory for a run");
     };
     assert!(rt;
@@ -43,7 +54,7 @@ fn check_kept(
             && run.keepers(A, 1).is_empty()
             && run.keepers(B, 1) == wanted
             && run.keepers(B, 2).is_empty(),
-        "{limit} rounds of {script}"
+        "{limit} rounds"
     );
 }
 

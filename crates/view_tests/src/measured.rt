@@ -1,10 +1,13 @@
 //! The best order that was measured, and what `labview arrange N` writes, by its bytes.
+ghost use Rattle.std.specs.Prelude.{◌<◌, length};
+ghost use Rattle.std.specs.List.{All};
+
 use crate::orders::RING_OF_EIGHT;
 use crate::seen::of_script;
 use arranged_scripts::laws::{arranged_texts_have_short_chains, texts_are_cut_in_one_way};
 use arranged_scripts::{moved, read_back, with_line_end};
 use arranging::has_jobs_of;
-use lab_plan::JobNo;
+use lab_plan::{JobNo, Plan};
 use lab_program::{FromRead, Outcome, RunFault};
 use lab_views::{View, run_view};
 use measured_orders::laws::{best_is_no_worse, one_measure};
@@ -12,7 +15,7 @@ use measured_orders::{Gain, Measure, best_order, is_better, measured};
 use report::ToWrite;
 use script_reader::read_plan;
 use std::alloc::{AllocError, Global};
-use std::test::Fail;
+use std::process::Abort;
 
 fn told(
     alloc: Global,
@@ -28,17 +31,12 @@ fn told(
     (bytes, of_script(answer), gain)
 }
 
-fn finished(rounds: u32, waited: u128) -> Measure {
-    Measure {
-        finished: true,
-        rounds,
-        waited,
-    }
-}
+/// Whether a run is finished, its rounds, and those that were waited.
+type Wanted = (bool, u32, u128);
 
-fn unfinished(rounds: u32, waited: u128) -> Measure {
+fn measure((finished, rounds, waited): Wanted) -> Measure {
     Measure {
-        finished: false,
+        finished,
         rounds,
         waited,
     }
@@ -147,23 +145,45 @@ y read
 end
 ";
 
+/// A script, at most how many rounds, its best order, and the measures of both.
+type Row = (&'static str, u32, &'static str, Wanted, Wanted);
+
+const BEST: [Row; 7] = [
+    (ALIKE, 100, ALIKE, (true, 9, 5), (true, 9, 5)),
+    (PATIENT, 100, GIVES_UP, (true, 9, 5), (true, 5, 2)),
+    (PATIENT, 4, GIVES_UP, (false, 4, 4), (false, 4, 2)),
+    (PATIENT, 0, PATIENT, (false, 0, 0), (false, 0, 0)),
+    (GIVES_UP, 100, GIVES_UP, (true, 5, 2), (true, 5, 2)),
+    (FOUR, 1000, FOUR_BEST, (true, 29, 50), (true, 24, 34)),
+    ("lab 1\n", 5, "lab 1\n", (true, 0, 0), (true, 0, 0)),
+];
+
+fn is_best(
+    rt: &impl Abort,
+    row: &Row,
+    text: &[u8],
+    answer: Result<Outcome, RunFault>,
+    gain: Option<Gain>,
+) {
+    let (script, _, wanted, before, after) = *row;
+    let best = Gain {
+        before: measure(before),
+        after: measure(after),
+    };
+    assert!(rt; answer == Ok(Outcome::Finished), "{script}");
+    assert!(rt; text == wanted.as_bytes(), "{wanted}");
+    assert!(rt; gain == Some(best), "{script}");
+}
+
+fn check(rt: &impl Abort, alloc: Global, row: &Row) {
+    let (text, answer, gain) = told(alloc, row.0, row.1);
+    is_best(rt, row, text.as_slice(), answer, gain);
+}
+
 #[test]
 fn best_orders_by_hand(rt: HostRuntime) {
-    for (script, limit, wanted, before, after) in [
-        (ALIKE, 100, ALIKE, finished(9, 5), finished(9, 5)),
-        (PATIENT, 100, GIVES_UP, finished(9, 5), finished(5, 2)),
-        (PATIENT, 4, GIVES_UP, unfinished(4, 4), unfinished(4, 2)),
-        (PATIENT, 0, PATIENT, unfinished(0, 0), unfinished(0, 0)),
-        (GIVES_UP, 100, GIVES_UP, finished(5, 2), finished(5, 2)),
-        (FOUR, 1000, FOUR_BEST, finished(29, 50), finished(24, 34)),
-        ("lab 1\n", 5, "lab 1\n", finished(0, 0), finished(0, 0)),
-    ] {
-        let (text, answer, gain) = told(rt.alloc(), script, limit);
-        assert!(rt;
-            answer == Ok(Outcome::Finished) && text.as_slice() == wanted.as_bytes(),
-            "{wanted}"
-        );
-        assert!(rt; gain == Some(Gain { before, after }), "{script}");
+    for row in &BEST {
+        check(&rt, rt.alloc(), row);
     }
 }
 
@@ -184,10 +204,30 @@ fn best_of(
     Ok((own, text, best.gain()))
 }
 
+/// The blocks of a script in another order.
+fn in_order(rt: &impl Abort, alloc: Global, script: &str, order: &[JobNo]) -> Vec<u8>
+    requires { All (λ job. job < length order.now) order.now }
+{
+    match moved(alloc, script.as_bytes(), order) {
+        Ok(Some(text)) => text,
+        _ => panic!(rt; "no answer"),
+    }
+}
+
+fn is_ring(rt: &impl Abort, (own, text, gain): &(Measure, Vec<u8>, Gain), wanted: &[u8]) {
+    let best = Gain {
+        before: measure((true, 42, 141)),
+        after: measure((true, 11, 24)),
+    };
+    assert!(rt; *own == best.before);
+    assert!(rt; text.as_slice() == wanted);
+    assert!(rt; *gain == best);
+}
+
 /// As it comes, a job of the ring drinks five rounds after the job behind it. With every second job first, four drink in round 2, having
 /// waited one round, and the other four in round 6, having waited five; and all are retired in round 11.
 #[test]
-fn ring_of_eight(rt: HostRuntime) -> Result<(), Fail> {
+fn ring_of_eight(rt: HostRuntime) {
     let order = [
         JobNo(0),
         JobNo(2),
@@ -198,51 +238,79 @@ fn ring_of_eight(rt: HostRuntime) -> Result<(), Fail> {
         JobNo(5),
         JobNo(7),
     ];
-    let Some(wanted) = moved(rt.alloc(), RING_OF_EIGHT.as_bytes(), order.as_slice())? else {
-        return Err(Fail::new("no answer"));
-    };
-    let (own, text, gain) = best_of(rt.alloc(), RING_OF_EIGHT, 1000)?;
-    assert!(rt; own == finished(42, 141) && text.as_slice() == wanted.as_slice());
-    assert!(rt; gain.before == own && gain.after == finished(11, 24));
-    Ok(())
+    let wanted = in_order(&rt, rt.alloc(), RING_OF_EIGHT, order.as_slice());
+    match best_of(rt.alloc(), RING_OF_EIGHT, 1000) {
+        Ok(best) => is_ring(&rt, &best, wanted.as_slice()),
+        Err(_) => panic!(rt; "no answer"),
+    }
+}
+
+/// Of each pair the first is better, and the second isn't.
+const BETTER: [(Wanted, Wanted); 5] = [
+    ((true, 8, 60), (true, 9, 50)),
+    ((true, 9, 49), (true, 9, 50)),
+    ((true, 9, 50), (false, 9, 0)),
+    ((true, 9, 50), (false, 1, 1)),
+    ((false, 9, 1), (false, 9, 2)),
+];
+
+fn is_first_better(rt: &impl Abort, better: Measure, worse: Measure) {
+    assert!(rt; is_better(better, worse), "{better:?}");
+    assert!(rt; !is_better(worse, better), "{worse:?}");
+    assert!(rt; !is_better(better, better), "{better:?}");
 }
 
 #[test]
 fn measures_by_hand(rt: HostRuntime) {
-    let few = finished(9, 50);
-    for better in [finished(8, 60), finished(9, 49)] {
-        assert!(rt; is_better(better, few) && !is_better(few, better));
+    for (better, worse) in &BETTER {
+        is_first_better(&rt, measure(*better), measure(*worse));
     }
-    for worse in [unfinished(9, 0), unfinished(1, 1)] {
-        assert!(rt; is_better(few, worse) && !is_better(worse, few));
-    }
-    assert!(rt; is_better(unfinished(9, 1), unfinished(9, 2)) && !is_better(few, few));
 }
 
-/// Blocks change places, and what was made is read as the same jobs.
+const SWAPPED: [JobNo; 2] = [JobNo(1), JobNo(0)];
+
+const AS_THEY_COME: [JobNo; 2] = [JobNo(0), JobNo(1)];
+
+/// Blocks change places.
 #[test]
-fn blocks_change_places(rt: HostRuntime) -> Result<(), Fail> {
-    let alloc = rt.alloc();
-    let whole = with_line_end(alloc, b"lab 1")?;
+fn blocks_change_places(rt: HostRuntime) {
     let order = [JobNo(1), JobNo(0)];
-    let Some(text) = moved(alloc, PATIENT.as_bytes(), order.as_slice())? else {
-        return Err(Fail::new("no answer"));
-    };
-    assert!(rt;
-        whole.as_slice() == b"lab 1\n".as_slice() && text.as_slice() == GIVES_UP.as_bytes()
-    );
-    let none = read_back(alloc, b"lab 1\nsession\n")?;
-    assert!(rt; none.is_none());
-    let (Some(plan), Some(other)) = (
-        read_back(alloc, PATIENT.as_bytes())?,
-        read_back(alloc, &text)?,
-    ) else {
-        return Err(Fail::new("no answer"));
-    };
+    let text = in_order(&rt, rt.alloc(), PATIENT, order.as_slice());
+    assert!(rt; text.as_slice() == GIVES_UP.as_bytes());
+}
+
+#[test]
+fn lines_get_their_end(rt: HostRuntime) {
+    match with_line_end(rt.alloc(), b"lab 1") {
+        Ok(text) => assert!(rt; text.as_slice() == b"lab 1\n".as_slice()),
+        Err(_) => panic!(rt; "no memory"),
+    }
+}
+
+/// The plan of a script that was made.
+fn plan_again(rt: &impl Abort, alloc: Global, script: &str) -> Plan<Global> {
+    match read_back(alloc, script.as_bytes()) {
+        Ok(Some(plan)) => plan,
+        _ => panic!(rt; "no plan"),
+    }
+}
+
+fn are_swapped(rt: &impl Abort, plan: &Plan<Global>, other: &Plan<Global>) {
     assert!(rt; plan.jobs() == 2);
-    assert!(rt; has_jobs_of(&plan, order.as_slice(), &other));
-    assert!(rt; !has_jobs_of(&plan, [JobNo(0), JobNo(1)].as_slice(), &other));
-    Ok(())
+    assert!(rt; has_jobs_of(plan, &SWAPPED, other));
+    assert!(rt; !has_jobs_of(plan, &AS_THEY_COME, other));
+}
+
+/// What was made is read as the same jobs; what is no script isn't read.
+#[test]
+fn scripts_are_read_back(rt: HostRuntime) {
+    let plan = plan_again(&rt, rt.alloc(), PATIENT);
+    let other = plan_again(&rt, rt.alloc(), GIVES_UP);
+    are_swapped(&rt, &plan, &other);
+    match read_back(rt.alloc(), b"lab 1\nsession\n") {
+        Ok(None) => (),
+        _ => panic!(rt; "read back"),
+    }
 }
 
 #[test]

@@ -1,12 +1,12 @@
 //! Orders of jobs in which chains at the start are short, and what `labview arrange` writes, by its bytes.
-use crate::seen::of_script_seen;
+use crate::seen::{is_so, of_script_seen};
 use arranging::{colours_of, order_of};
 use lab_plan::JobNo;
 use lab_program::{INPUT_LIMIT, Outcome, RunFault};
 use lab_views::View;
 use script_reader::{ScriptCause, ScriptFault, read_plan};
 use std::alloc::{AllocError, Global};
-use std::test::Fail;
+use std::process::Abort;
 
 fn told(alloc: Global, input: &[u8]) -> (Vec<u8>, Result<Outcome, RunFault>) {
     of_script_seen(alloc, View::Arrange, input)
@@ -172,51 +172,69 @@ ha read
 end
 ";
 
+/// A script, and what is written of it.
+const ARRANGED: [(&str, &str); 6] = [
+    (SHARED, SHARED_ARRANGED),
+    (RETURNS, RETURNS_ARRANGED),
+    (STAR, STAR_ARRANGED),
+    (ONE_THING, ONE_THING),
+    ("lab 1\n", "lab 1\n"),
+    ("# none\nlab 2", "# none\nlab 2\n"),
+];
+
 #[test]
 fn arranged_by_hand(rt: HostRuntime) {
-    for (script, wanted) in [
-        (SHARED, SHARED_ARRANGED),
-        (RETURNS, RETURNS_ARRANGED),
-        (STAR, STAR_ARRANGED),
-        (ONE_THING, ONE_THING),
-        ("lab 1\n", "lab 1\n"),
-        ("# none\nlab 2", "# none\nlab 2\n"),
-    ] {
-        let (text, answer) = told(rt.alloc(), script.as_bytes());
-        assert!(rt;
-            answer == Ok(Outcome::Finished) && text.as_slice() == wanted.as_bytes(),
-            "{wanted}"
-        );
+    for (script, wanted) in &ARRANGED {
+        let came = told(rt.alloc(), script.as_bytes());
+        is_so(&rt, script, came, Ok(Outcome::Finished), wanted.as_bytes());
     }
 }
 
 #[test]
 fn no_script_is_not_arranged(rt: HostRuntime) {
-    let (text, answer) = told(rt.alloc(), b"lab 1\njob a\nsteps\n");
     let fault = ScriptFault {
         line: 3,
         cause: ScriptCause::UnknownWord,
     };
-    assert!(rt; answer == Err(RunFault::Script(fault)) && text.is_empty());
+    let came = told(rt.alloc(), b"lab 1\njob a\nsteps\n");
+    is_so(&rt, "", came, Err(RunFault::Script(fault)), b"");
 }
 
 /// A job, and a comment in the last line, as long as it is let be.
 const LONG: &[u8] = b"lab 1\njob a\nsession\ns read\nend\n#";
 
+/// Of this length.
+fn long(alloc: Global, length: usize) -> Result<Vec<u8>, AllocError> {
+    let mut script = Vec::from_slice(alloc, LONG)?;
+    let dashes = Vec::from_elem(alloc, b'-', INPUT_LIMIT)?;
+    script.extend_from_slice(&dashes)?;
+    script.truncate(length);
+    Ok(script)
+}
+
+fn long_of(rt: &impl Abort, alloc: Global, length: usize) -> Vec<u8> {
+    match long(alloc, length) {
+        Ok(script) => script,
+        Err(_) => panic!(rt; "no memory"),
+    }
+}
+
 /// The last line has no end. If it got one, the longest of all inputs would be longer than a run reads; so it goes out as it was.
 #[test]
-fn longest_input(rt: HostRuntime) -> Result<(), Fail> {
-    let mut script = Vec::from_slice(rt.alloc(), LONG)?;
-    let dashes = Vec::from_elem(rt.alloc(), b'-', INPUT_LIMIT)?;
-    script.extend_from_slice(&dashes)?;
-    script.truncate(INPUT_LIMIT);
-    let (text, answer) = told(rt.alloc(), &script);
-    assert!(rt; answer == Ok(Outcome::Unfinished) && text.as_slice() == script.as_slice());
-    script.truncate(INPUT_LIMIT - 1);
-    let (text, answer) = told(rt.alloc(), &script);
-    script.push(b'\n')?;
-    assert!(rt; answer == Ok(Outcome::Finished) && text.as_slice() == script.as_slice());
-    Ok(())
+fn longest_input(rt: HostRuntime) {
+    let script = long_of(&rt, rt.alloc(), INPUT_LIMIT);
+    let came = told(rt.alloc(), &script);
+    is_so(&rt, "", came, Ok(Outcome::Unfinished), script.as_slice());
+}
+
+/// One that is shorter by a byte gets its end.
+#[test]
+fn second_longest_input(rt: HostRuntime) {
+    let mut script = long_of(&rt, rt.alloc(), INPUT_LIMIT - 1);
+    let came = told(rt.alloc(), &script);
+    let is_ended = script.push(b'\n').is_ok();
+    is_so(&rt, "", came, Ok(Outcome::Finished), script.as_slice());
+    assert!(rt; is_ended);
 }
 
 /// The colours of a script's jobs, how many there are, and the order of the jobs.
@@ -230,32 +248,53 @@ fn arrangement_of(alloc: Global, script: &str) -> Result<(Vec<u8>, usize, Vec<Jo
     Ok((colours, colouring.count(), order))
 }
 
-#[test]
-fn colours_by_hand(rt: HostRuntime) -> Result<(), Fail> {
-    for (script, colours, count, order) in [
-        (SHARED, [0, 1, 0].as_slice(), 2, [0, 2, 1].as_slice()),
-        (STAR, [1, 1, 0, 1].as_slice(), 2, [2, 0, 1, 3].as_slice()),
-        (ONE_THING, [0, 1, 2].as_slice(), 3, [0, 1, 2].as_slice()),
-        (
-            RING,
-            [0, 1, 0, 1, 2].as_slice(),
-            3,
-            [0, 2, 1, 3, 4].as_slice(),
-        ),
-        (
-            RING_OF_EIGHT,
-            [0, 1, 0, 1, 0, 1, 0, 1].as_slice(),
-            2,
-            [0, 2, 4, 6, 1, 3, 5, 7].as_slice(),
-        ),
-        ("lab 1\n", [].as_slice(), 0, [].as_slice()),
-    ] {
-        let (found, many, jobs) = arrangement_of(rt.alloc(), script)?;
-        assert!(rt; found.as_slice() == colours && many == count, "{script}");
-        assert!(rt; jobs.len() == order.len(), "{script}");
-        for (job, wanted) in jobs.iter().zip(order) {
-            assert!(rt; job.0 == *wanted, "{script}");
+/// A script, the colours of its jobs, how many there are, and the order of the jobs.
+type Row = (&'static str, &'static [u8], usize, &'static [u8]);
+
+const COLOURS: [Row; 6] = [
+    (SHARED, &[0, 1, 0], 2, &[0, 2, 1]),
+    (STAR, &[1, 1, 0, 1], 2, &[2, 0, 1, 3]),
+    (ONE_THING, &[0, 1, 2], 3, &[0, 1, 2]),
+    (RING, &[0, 1, 0, 1, 2], 3, &[0, 2, 1, 3, 4]),
+    (
+        RING_OF_EIGHT,
+        &[0, 1, 0, 1, 0, 1, 0, 1],
+        2,
+        &[0, 2, 4, 6, 1, 3, 5, 7],
+    ),
+    ("lab 1\n", &[], 0, &[]),
+];
+
+fn are_jobs(jobs: &[JobNo], numbers: &[u8]) -> bool {
+    if jobs.len() != numbers.len() {
+        return false;
+    }
+    for place in 0..jobs.len() {
+        let job = jobs[place];
+        if job.0 != numbers[place] {
+            return false;
         }
     }
-    Ok(())
+    true
+}
+
+fn is_arrangement(rt: &impl Abort, row: &Row, (found, many, jobs): &(Vec<u8>, usize, Vec<JobNo>)) {
+    let (script, colours, count, order) = *row;
+    assert!(rt; found.as_slice() == colours, "{script}");
+    assert!(rt; *many == count, "{script}");
+    assert!(rt; are_jobs(jobs.as_slice(), order), "{script}");
+}
+
+fn check_colours(rt: &impl Abort, alloc: Global, row: &Row) {
+    match arrangement_of(alloc, row.0) {
+        Ok(found) => is_arrangement(rt, row, &found),
+        Err(_) => panic!(rt; "no arrangement"),
+    }
+}
+
+#[test]
+fn colours_by_hand(rt: HostRuntime) {
+    for row in &COLOURS {
+        check_colours(&rt, rt.alloc(), row);
+    }
 }

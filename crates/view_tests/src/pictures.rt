@@ -1,10 +1,10 @@
 //! The columns of sessions, by hand, the picture by its bytes, and the faults of reports that have no timeline.
 use crate::seen::of_report_seen;
 use lab_views::{PictureFault, View, status_of_picture};
-use report_reader::read_report;
+use report_reader::{Report, read_report};
 use std::alloc::Global;
-use std::test::Fail;
-use timeline::{Span, span_of, timeline_of};
+use std::process::Abort;
+use timeline::{Span, Timeline, span_of, timeline_of};
 
 /// b stands right of a by the scale, and c right of b by the lamp; b has three columns by the lamp. The second session of a stands
 /// right of its first, which has two columns, though no log has both.
@@ -28,32 +28,48 @@ job d sessions 1 of 1 meals 1 retired
 finished
 ";
 
+/// An instrument, an entry of its log, and where the columns of its session start, and how many they are.
+const COLUMNS: [(usize, usize, u32, u32); 7] = [
+    (0, 0, 0, 2),
+    (0, 1, 0, 2),
+    (0, 2, 2, 3),
+    (1, 0, 2, 3),
+    (1, 3, 5, 1),
+    (2, 0, 0, 1),
+    (2, 1, 2, 1),
+];
+
+/// The columns of the entry's session.
+fn span_at(
+    rt: &impl Abort,
+    report: &Report<'_, Global>,
+    timeline: &Timeline<Global>,
+    instrument: usize,
+    place: usize,
+) -> Option<Span> {
+    let logs = report.logs();
+    assert!(rt; instrument < logs.len());
+    let entries = logs[instrument].entries();
+    assert!(rt; place < entries.len());
+    span_of(report.jobs(), timeline.spans(), &entries[place])
+}
+
+fn have_columns(rt: &impl Abort, report: &Report<'_, Global>, timeline: &Timeline<Global>) {
+    assert!(rt; timeline.columns() == 6);
+    for &(instrument, place, start, width) in &COLUMNS {
+        let span = span_at(rt, report, timeline, instrument, place);
+        assert!(rt; span == Some(Span { start, width }), "{instrument} {place}");
+    }
+}
+
 #[test]
 fn sessions_have_columns(rt: HostRuntime) {
     let Ok(report) = read_report(rt.alloc(), THREE.as_bytes()) else {
         panic!(rt; "no report");
     };
-    let Ok(timeline) = timeline_of(rt.alloc(), &report) else {
-        panic!(rt; "no timeline");
-    };
-    assert!(rt; timeline.columns() == 6);
-    // instrument, entry, start, width
-    let wanted = [
-        (0usize, 0usize, 0, 2),
-        (0, 1, 0, 2),
-        (0, 2, 2, 3),
-        (1, 0, 2, 3),
-        (1, 3, 5, 1),
-        (2, 0, 0, 1),
-        (2, 1, 2, 1),
-    ];
-    for (instrument, place, start, width) in wanted {
-        let logs = report.logs();
-        assert!(rt; instrument < logs.len());
-        let entries = logs[instrument].entries();
-        assert!(rt; place < entries.len());
-        let span = span_of(report.jobs(), timeline.spans(), &entries[place]);
-        assert!(rt; span == Some(Span { start, width }), "{instrument} {place}");
+    match timeline_of(rt.alloc(), &report) {
+        Ok(timeline) => have_columns(&rt, &report, &timeline),
+        Err(_) => panic!(rt; "no timeline"),
     }
 }
 
@@ -98,53 +114,72 @@ fn draws_by_its_bytes(rt: HostRuntime) {
     assert!(rt; answer == Ok(()) && bytes.as_slice() == PICTURE.as_bytes());
 }
 
-#[test]
-fn faults_of_reports(rt: HostRuntime) -> Result<(), Fail> {
-    let texts = [
-        ("lab 1\ninstrument x 0\n", "line 3: report not whole"),
-        (
-            "lab 1\ninstrument x 1\na 1 1/1 read = 0\nfinished\n",
-            "instrument 1, entry 1: its job has no job line",
-        ),
-        (
-            "lab 1\njob a sessions 0 of 0 meals 0 retired\njob a sessions 0 of 0 meals 0 retired\nfinished\n",
-            "job line 2: a job of this name stands before it",
-        ),
-        (
-            "lab 1\ninstrument x 1\na 1001 1/1 read = 0\njob a sessions 0 of 0 meals 0 retired\nfinished\n",
-            "instrument 1, entry 1: more sessions or commands than a lab has",
-        ),
-        (
-            "lab 1\ninstrument x 1\na 1 2/1 read = 0\njob a sessions 0 of 0 meals 0 retired\nfinished\n",
-            "instrument 1, entry 1: no such session or place",
-        ),
-        (
-            "lab 1\ninstrument x 2\na 1 1/2 read = 0\na 1 1/2 read = 0\njob a sessions 0 of 0 meals 0 retired\nfinished\n",
-            "instrument 1, entry 2: it doesn't follow the entry before it",
-        ),
-        (
-            "lab 1\ninstrument x 3\na 1 1/2 read = 0\na 2 1/1 read = 0\na 1 2/2 read = 0\njob a sessions 0 of 0 meals 0 retired\nfinished\n",
-            "instrument 1, entry 3: its session stands in two places of the log",
-        ),
-        (
-            "lab 1\ninstrument x 2\na 1 1/1 read = 0\na 2 1/1 read = 0\ninstrument y 2\na 2 1/1 read = 0\na 1 1/1 read = 0\njob a sessions 0 of 0 meals 0 retired\nfinished\n",
-            "the logs contradict each other: no order of the sessions agrees with all of them",
-        ),
-        (
-            "lab 1\ninstrument x 2\na 2 1/1 read = 0\nb 1 1/1 read = 0\ninstrument y 2\nb 1 1/1 read = 0\na 1 1/1 read = 0\njob a sessions 0 of 0 meals 0 retired\njob b sessions 0 of 0 meals 0 retired\nfinished\n",
-            "the logs contradict each other: no order of the sessions agrees with all of them",
-        ),
-    ];
-    for (i, (text, wanted)) in texts.into_iter().enumerate() {
-        let (bytes, answer) = drawn(rt.alloc(), text.as_bytes());
-        assert!(rt;
-            bytes.is_empty() && status_of_picture(&answer) == 1,
-            "line {i}"
-        );
-        if let Err(fault) = answer {
-            let printed = format!(in rt.alloc(); "{fault}")?;
-            assert!(rt; printed.as_str() == wanted, "line {i}");
-        }
+/// A report, and why it has no picture.
+const FAULTS: [(&str, &str); 9] = [
+    ("lab 1\ninstrument x 0\n", "line 3: report not whole"),
+    (
+        "lab 1\ninstrument x 1\na 1 1/1 read = 0\nfinished\n",
+        "instrument 1, entry 1: its job has no job line",
+    ),
+    (
+        "lab 1\njob a sessions 0 of 0 meals 0 retired\njob a sessions 0 of 0 meals 0 retired\nfinished\n",
+        "job line 2: a job of this name stands before it",
+    ),
+    (
+        "lab 1\ninstrument x 1\na 1001 1/1 read = 0\njob a sessions 0 of 0 meals 0 retired\nfinished\n",
+        "instrument 1, entry 1: more sessions or commands than a lab has",
+    ),
+    (
+        "lab 1\ninstrument x 1\na 1 2/1 read = 0\njob a sessions 0 of 0 meals 0 retired\nfinished\n",
+        "instrument 1, entry 1: no such session or place",
+    ),
+    (
+        "lab 1\ninstrument x 2\na 1 1/2 read = 0\na 1 1/2 read = 0\njob a sessions 0 of 0 meals 0 retired\nfinished\n",
+        "instrument 1, entry 2: it doesn't follow the entry before it",
+    ),
+    (
+        "lab 1\ninstrument x 3\na 1 1/2 read = 0\na 2 1/1 read = 0\na 1 2/2 read = 0\njob a sessions 0 of 0 meals 0 retired\nfinished\n",
+        "instrument 1, entry 3: its session stands in two places of the log",
+    ),
+    (
+        "lab 1\ninstrument x 2\na 1 1/1 read = 0\na 2 1/1 read = 0\ninstrument y 2\na 2 1/1 read = 0\na 1 1/1 read = 0\njob a sessions 0 of 0 meals 0 retired\nfinished\n",
+        "the logs contradict each other: no order of the sessions agrees with all of them",
+    ),
+    (
+        "lab 1\ninstrument x 2\na 2 1/1 read = 0\nb 1 1/1 read = 0\ninstrument y 2\nb 1 1/1 read = 0\na 1 1/1 read = 0\njob a sessions 0 of 0 meals 0 retired\njob b sessions 0 of 0 meals 0 retired\nfinished\n",
+        "the logs contradict each other: no order of the sessions agrees with all of them",
+    ),
+];
+
+/// The picture's fault, as it is printed.
+fn fault_of(rt: &impl Abort, alloc: Global, answer: Result<(), PictureFault>) -> String {
+    match answer {
+        Ok(()) => panic!(rt; "no fault"),
+        Err(fault) => match format!(in alloc; "{fault}") {
+            Ok(text) => text,
+            Err(_) => panic!(rt; "no memory"),
+        },
     }
-    Ok(())
+}
+
+fn is_refused(rt: &impl Abort, alloc: Global, report: &str, wanted: &str) {
+    let (bytes, answer) = drawn(alloc, report.as_bytes());
+    nothing_is_drawn(rt, bytes.as_slice(), status_of_picture(&answer), wanted);
+    is_told(rt, fault_of(rt, alloc, answer).as_str(), wanted);
+}
+
+fn nothing_is_drawn(rt: &impl Abort, bytes: &[u8], status: u8, wanted: &str) {
+    assert!(rt; bytes.is_empty(), "{wanted}");
+    assert!(rt; status == 1, "{wanted}");
+}
+
+fn is_told(rt: &impl Abort, came: &str, wanted: &str) {
+    assert!(rt; came == wanted, "{wanted} was wanted, not {came}");
+}
+
+#[test]
+fn faults_of_reports(rt: HostRuntime) {
+    for (report, wanted) in &FAULTS {
+        is_refused(&rt, rt.alloc(), report, wanted);
+    }
 }

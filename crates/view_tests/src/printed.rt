@@ -8,7 +8,6 @@ use report::ToWrite;
 use std::alloc::{AllocError, Global};
 use std::process::Abort;
 use std::sync::Wait;
-use std::test::Fail;
 use std::thread::Threads;
 use workers::NoGate;
 
@@ -78,29 +77,52 @@ fn threaded<R: Threads + Wait + Sync>(rt: &R, alloc: Global, input: &[u8], turns
     bytes
 }
 
+/// The report of a run by rounds has a picture, and so has that of one by threads; its trace is replayed to the same report.
+fn check<R: Threads + Wait + Sync + Abort>(
+    rt: &R,
+    alloc: Global,
+    text: &[u8],
+    limit: u32,
+    round: u32,
+) {
+    let (report, ends) = reported(alloc, text, limit);
+    let threads = threaded(rt, alloc, text, limit);
+    let (trace, answer) = traced(alloc, text, limit);
+    let (again, ended) = replayed(alloc, trace.as_slice());
+    let drawn = (
+        is_drawn(alloc, report.as_slice()),
+        is_drawn(alloc, threads.as_slice()),
+    );
+    let is_same = again.as_slice() == report.as_slice() && ended == ends;
+    is_as_wanted(rt, round, drawn, answer == Ok(Outcome::Finished), is_same);
+}
+
+fn is_as_wanted(
+    rt: &impl Abort,
+    round: u32,
+    drawn: (bool, bool),
+    is_traced: bool,
+    is_replayed: bool,
+) {
+    assert!(rt; drawn.0, "rounds of {round}");
+    assert!(rt; drawn.1, "threads of {round}");
+    assert!(rt; is_traced, "trace of {round}");
+    assert!(rt; is_replayed, "replay of {round}");
+}
+
+fn script_of(rt: &impl Abort, alloc: Global, seed: &mut u32) -> Vec<u8> {
+    match script(alloc, seed) {
+        Ok(text) => text,
+        Err(_) => panic!(rt; "no memory"),
+    }
+}
+
 #[test]
-fn printed_reports_have_pictures(rt: HostRuntime) -> Result<(), Fail> {
+fn printed_reports_have_pictures(rt: HostRuntime) {
     let mut seed = 20_261_123;
     for round in 0..40u32 {
-        let text = script(rt.alloc(), &mut seed)?;
+        let text = script_of(&rt, rt.alloc(), &mut seed);
         let limit = draw(&mut seed, 60);
-        let rounds = reported(rt.alloc(), text.as_slice(), limit);
-        assert!(rt;
-            is_drawn(rt.alloc(), rounds.0.as_slice()),
-            "rounds of {round}"
-        );
-        let threads = threaded(&rt, rt.alloc(), text.as_slice(), limit);
-        assert!(rt;
-            is_drawn(rt.alloc(), threads.as_slice()),
-            "threads of {round}"
-        );
-        let (trace, answer) = traced(rt.alloc(), text.as_slice(), limit);
-        assert!(rt; answer == Ok(Outcome::Finished), "trace of {round}");
-        let again = replayed(rt.alloc(), trace.as_slice());
-        assert!(rt;
-            again.0.as_slice() == rounds.0.as_slice() && again.1 == rounds.1,
-            "replay of {round}"
-        );
+        check(&rt, rt.alloc(), text.as_slice(), limit, round);
     }
-    Ok(())
 }

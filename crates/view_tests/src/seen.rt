@@ -3,6 +3,7 @@ use lab_program::{FromRead, Outcome, RunFault};
 use lab_views::{PictureFault, View, ViewFault, run_view};
 use report::ToWrite;
 use std::alloc::Global;
+use std::process::Abort;
 
 pub(crate) fn seen(
     alloc: Global,
@@ -47,4 +48,17 @@ pub(crate) fn of_report_seen(
         Err(ViewFault::OfReport(fault)) => (bytes, Err(fault)),
         Err(_) => (bytes, Err(PictureFault::Read)),
     }
+}
+
+/// What came of a view: its answer, and just these bytes; the row says which view it was.
+pub(crate) fn is_so(
+    rt: &impl Abort,
+    row: &str,
+    came: (Vec<u8>, Result<Outcome, RunFault>),
+    ends: Result<Outcome, RunFault>,
+    wanted: &[u8],
+) {
+    let (bytes, answer) = came;
+    let told = (answer, bytes.as_slice() == wanted);
+    assert!(rt; told == (ends, true), "{row}: {told:?}");
 }

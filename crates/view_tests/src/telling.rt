@@ -1,10 +1,14 @@
 //! Whole explanations, worked out by hand.
+ghost use Rattle.std.specs.List.{All};
+ghost use Rattle.legal_steps.specs.Steps.{IsStepOf};
+
 use crate::stages::text_at;
 use explaining::explain;
+use interleaving::StepLine;
+use lab_plan::Plan;
 use script_reader::read_steps;
-use std::alloc::Allocator;
+use std::alloc::{Allocator, Global};
 use std::process::Abort;
-use std::test::Fail;
 
 /// At the first stage a's fork is asked for, and so is the scale's bottle.
 const REFUSED: &str =
@@ -42,24 +46,52 @@ fn tells<T: Allocator + Copy>(
     text: &str,
     wanted: &str,
     refused: Option<usize>,
-) -> Result<(), Fail> {
-    let Ok((plan, lines)) = read_steps(alloc, text.as_bytes()) else {
-        panic!(rt; "no steps");
+) {
+    match read_steps(alloc, text.as_bytes()) {
+        Ok((plan, lines)) => explains(rt, alloc, &plan, &lines, wanted, refused),
+        Err(_) => panic!(rt; "no steps"),
+    }
+}
+
+fn explains<T: Allocator + Copy>(
+    rt: &impl Abort,
+    alloc: T,
+    plan: &Plan<T>,
+    lines: &[StepLine],
+    wanted: &str,
+    refused: Option<usize>,
+)
+    requires { All (λ line. IsStepOf plan.now line.step) lines.now }
+{
+    let Ok(told) = explain(alloc, plan, lines) else {
+        panic!(rt; "no memory");
     };
-    let told = explain(alloc, &plan, &lines)?;
-    assert!(rt; told.refused == refused && told.text.as_slice() == wanted.as_bytes());
-    Ok(())
+    let came = (told.refused, told.text.as_slice() == wanted.as_bytes());
+    assert!(rt; came == (refused, true), "{came:?}: {wanted}");
+}
+
+/// The input up to a stage, and these steps.
+fn text_of(rt: &impl Abort, alloc: Global, stage: usize, steps: &str) -> String {
+    let Ok(mut text) = text_at(alloc, stage) else {
+        panic!(rt; "no memory");
+    };
+    let is_added = text.push_str(steps).is_ok();
+    holds(rt, is_added);
+    text
+}
+
+fn holds(rt: &impl Abort, is_added: bool) {
+    assert!(rt; is_added);
 }
 
 #[test]
-fn step_that_is_refused(rt: HostRuntime) -> Result<(), Fail> {
-    let mut text = text_at(rt.alloc(), 1)?;
-    text.push_str("sit a\nretire b\n")?;
-    tells(&rt, rt.alloc(), text.as_str(), REFUSED, Some(21))
+fn step_that_is_refused(rt: HostRuntime) {
+    let text = text_of(&rt, rt.alloc(), 1, "sit a\nretire b\n");
+    tells(&rt, rt.alloc(), text.as_str(), REFUSED, Some(21));
 }
 
 #[test]
-fn steps_that_are_legal(rt: HostRuntime) -> Result<(), Fail> {
-    let text = text_at(rt.alloc(), 4)?;
-    tells(&rt, rt.alloc(), text.as_str(), ALL_LEGAL, None)
+fn steps_that_are_legal(rt: HostRuntime) {
+    let text = text_of(&rt, rt.alloc(), 4, "");
+    tells(&rt, rt.alloc(), text.as_str(), ALL_LEGAL, None);
 }

@@ -1,12 +1,12 @@
 //! What `labview trace` writes, by its bytes, and that a replay of it has the report of rounds.
-use crate::seen::of_script_seen;
+use crate::seen::{is_so, of_script_seen};
 use lab_program::{FromRead, Outcome, RunFault};
 use lab_runs::{run_replay, run_rounds};
 use lab_views::View;
 use report::ToWrite;
 use script_reader::{ScriptCause, ScriptFault};
 use std::alloc::{AllocError, Global};
-use std::test::Fail;
+use std::process::Abort;
 
 pub(crate) fn traced(
     alloc: Global,
@@ -71,47 +71,48 @@ look a b
 look b a\nretire b
 ";
 
-#[test]
-fn two_jobs_by_hand(rt: HostRuntime) -> Result<(), Fail> {
-    let mut wanted = String::new(rt.alloc());
-    wanted.push_str(SHARED)?;
-    wanted.push_str(STEPS)?;
-    let (text, answer) = traced(rt.alloc(), SHARED.as_bytes(), 1000000000);
-    assert!(rt;
-        answer == Ok(Outcome::Finished) && text.as_slice() == wanted.as_bytes(),
-        "{wanted}"
-    );
-    Ok(())
+/// The script of two jobs with this behind it.
+fn shared_with(rt: &impl Abort, alloc: Global, behind: &str) -> String {
+    match joined(alloc, behind) {
+        Ok(text) => text,
+        Err(_) => panic!(rt; "no memory"),
+    }
 }
 
-#[test]
-fn no_rounds_no_steps(rt: HostRuntime) {
-    let (text, answer) = traced(rt.alloc(), b"lab 1\njob a\n", 0);
-    assert!(rt;
-        answer == Ok(Outcome::Finished) && text.as_slice() == b"lab 1\njob a\nsteps\n".as_slice()
-    );
-}
-
-/// The same script with this behind it.
-fn shared_with(alloc: Global, behind: &str) -> Result<String, AllocError> {
-    let mut text = String::new(alloc);
-    text.push_str(SHARED)?;
+fn joined(alloc: Global, behind: &str) -> Result<String, AllocError> {
+    let mut text = String::from_str(alloc, SHARED)?;
     text.push_str(behind)?;
     Ok(text)
 }
 
+const FINISHED: Result<Outcome, RunFault> = Ok(Outcome::Finished);
+
 #[test]
-fn a_run_goes_on(rt: HostRuntime) -> Result<(), Fail> {
-    let wanted = shared_with(rt.alloc(), STEPS)?;
+fn two_jobs_by_hand(rt: HostRuntime) {
+    let wanted = shared_with(&rt, rt.alloc(), STEPS);
+    let came = traced(rt.alloc(), SHARED.as_bytes(), 1000000000);
+    is_so(&rt, "two jobs", came, FINISHED, wanted.as_bytes());
+}
+
+#[test]
+fn no_rounds_no_steps(rt: HostRuntime) {
+    let came = traced(rt.alloc(), b"lab 1\njob a\n", 0);
+    is_so(&rt, "no rounds", came, FINISHED, b"lab 1\njob a\nsteps\n");
+}
+
+/// The run goes on from where it was after so many rounds.
+fn goes_on(rt: &impl Abort, alloc: Global, limit: u32, wanted: &[u8]) {
+    let (begun, _) = traced(alloc, SHARED.as_bytes(), limit);
+    let came = traced(alloc, begun.as_slice(), 1000000000);
+    is_so(rt, "it goes on", came, FINISHED, wanted);
+}
+
+#[test]
+fn a_run_goes_on(rt: HostRuntime) {
+    let wanted = shared_with(&rt, rt.alloc(), STEPS);
     for limit in 0..13 {
-        let (begun, _) = traced(rt.alloc(), SHARED.as_bytes(), limit);
-        let (text, answer) = traced(rt.alloc(), begun.as_slice(), 1000000000);
-        assert!(rt;
-            answer == Ok(Outcome::Finished) && text.as_slice() == wanted.as_bytes(),
-            "{limit}"
-        );
+        goes_on(&rt, rt.alloc(), limit, wanted.as_bytes());
     }
-    Ok(())
 }
 
 /// In the middle of a command and of a line: the act comes first, and each job then takes a turn.
@@ -124,41 +125,38 @@ look b a\nthirst b
 ";
 
 #[test]
-fn a_command_in_hand_is_done(rt: HostRuntime) -> Result<(), Fail> {
-    let begun = shared_with(rt.alloc(), REACHED)?;
-    let wanted = shared_with(rt.alloc(), ACTED)?;
-    let (text, answer) = traced(rt.alloc(), begun.as_bytes(), 1);
-    assert!(rt; answer == Ok(Outcome::Finished) && text.as_slice() == wanted.as_bytes());
-    Ok(())
+fn a_command_in_hand_is_done(rt: HostRuntime) {
+    let begun = shared_with(&rt, rt.alloc(), REACHED);
+    let wanted = shared_with(&rt, rt.alloc(), ACTED);
+    let came = traced(rt.alloc(), begun.as_bytes(), 1);
+    is_so(&rt, "in hand", came, FINISHED, wanted.as_bytes());
 }
 
 #[test]
-fn a_step_that_is_not_legal_is_refused(rt: HostRuntime) -> Result<(), Fail> {
-    let begun = shared_with(rt.alloc(), "\nsteps\nthirst a\nthirst a\n")?;
-    let (text, answer) = traced(rt.alloc(), begun.as_bytes(), 1);
-    assert!(rt; answer == Err(RunFault::Step { line: 13 }) && text.is_empty());
-    Ok(())
+fn a_step_that_is_not_legal_is_refused(rt: HostRuntime) {
+    let begun = shared_with(&rt, rt.alloc(), "\nsteps\nthirst a\nthirst a\n");
+    let came = traced(rt.alloc(), begun.as_bytes(), 1);
+    is_so(&rt, "thirst a", came, Err(RunFault::Step { line: 13 }), b"");
 }
+
+/// A text, and its fault.
+const FAULTS: [(&str, usize, ScriptCause); 4] = [
+    ("lab 1\njob A\nsteps\n", 2, ScriptCause::BadName),
+    ("lab 1\njob a b\nsteps\n", 2, ScriptCause::UnknownWord),
+    (
+        "lab 1\njob a\nsession\nsteps\n",
+        4,
+        ScriptCause::SessionNotClosed,
+    ),
+    ("lab 1\njob a\nsteps\nlook a a\n", 4, ScriptCause::BadStep),
+];
 
 #[test]
 fn faults_before_and_behind_the_line_steps(rt: HostRuntime) {
-    let cases = [
-        (b"lab 1\njob A\nsteps\n".as_slice(), 2, ScriptCause::BadName),
-        (b"lab 1\njob a b\nsteps\n", 2, ScriptCause::UnknownWord),
-        (
-            b"lab 1\njob a\nsession\nsteps\n",
-            4,
-            ScriptCause::SessionNotClosed,
-        ),
-        (b"lab 1\njob a\nsteps\nlook a a\n", 4, ScriptCause::BadStep),
-    ];
-    for (input, line, cause) in cases {
-        let (text, answer) = traced(rt.alloc(), input, 1);
-        let wanted = ScriptFault { line, cause };
-        assert!(rt;
-            answer == Err(RunFault::Script(wanted)) && text.is_empty(),
-            "{cause:?}"
-        );
+    for &(input, line, cause) in &FAULTS {
+        let fault = ScriptFault { line, cause };
+        let came = traced(rt.alloc(), input.as_bytes(), 1);
+        is_so(&rt, input, came, Err(RunFault::Script(fault)), b"");
     }
 }
 
@@ -192,15 +190,16 @@ x read
 end
 ";
 
+fn replays_to(rt: &impl Abort, alloc: Global, limit: u32) {
+    let (text, _) = traced(alloc, TRIANGLE.as_bytes(), limit);
+    let (report, ends) = reported(alloc, TRIANGLE.as_bytes(), limit);
+    let came = replayed(alloc, text.as_slice());
+    is_so(rt, "a replay", came, ends, report.as_slice());
+}
+
 #[test]
 fn replays_have_the_report_of_rounds(rt: HostRuntime) {
     for limit in 0..24 {
-        let (text, _) = traced(rt.alloc(), TRIANGLE.as_bytes(), limit);
-        let replay = replayed(rt.alloc(), text.as_slice());
-        let rounds = reported(rt.alloc(), TRIANGLE.as_bytes(), limit);
-        assert!(rt;
-            replay.1 == rounds.1 && replay.0.as_slice() == rounds.0.as_slice(),
-            "{limit}"
-        );
+        replays_to(&rt, rt.alloc(), limit);
     }
 }

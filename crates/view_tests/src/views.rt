@@ -1,5 +1,5 @@
 //! What `labview` writes, by its bytes, and its words.
-use crate::seen::of_script_seen;
+use crate::seen::{is_so, of_script_seen, seen};
 use crate::stages::text_at;
 use command_line::NoTask;
 use lab_program::{FromRead, Outcome, RunFault};
@@ -10,7 +10,7 @@ use report::ToWrite;
 use script_reader::{ScriptCause, ScriptFault};
 use std::alloc::{AllocError, Global};
 use std::io::{self, Write};
-use std::test::Fail;
+use std::process::Abort;
 
 /// At the first stage the token of the scale's bottle is at a.
 const REFUSED: &str =
@@ -33,61 +33,70 @@ fn explained(alloc: Global, input: &[u8]) -> (Vec<u8>, Result<Outcome, RunFault>
     of_script_seen(alloc, View::Explain, input)
 }
 
-#[test]
-fn explains_by_its_bytes(rt: HostRuntime) -> Result<(), Fail> {
-    let mut text = text_at(rt.alloc(), 1)?;
+/// The input up to the first stage, and a step that isn't legal there.
+fn refused_text(alloc: Global) -> Result<String, AllocError> {
+    let mut text = text_at(alloc, 1)?;
     text.push_str("askbottles b a scale lamp\n")?;
+    Ok(text)
+}
+
+const FINISHED: Result<Outcome, RunFault> = Ok(Outcome::Finished);
+
+#[test]
+fn explains_by_its_bytes(rt: HostRuntime) {
+    let Ok(text) = refused_text(rt.alloc()) else {
+        panic!(rt; "no memory");
+    };
     let bad_step = Err(RunFault::Script(ScriptFault {
         line: 3,
         cause: ScriptCause::BadStep,
     }));
-    let runs = [
-        (text.as_str(), REFUSED, Ok(Outcome::Finished)),
-        ("lab 1", NO_JOB, Ok(Outcome::Finished)),
-        ("lab 1\nsteps\nsit a\n", "", bad_step),
-    ];
-    for (input, wanted, ends) in runs {
-        let (bytes, answer) = explained(rt.alloc(), input.as_bytes());
-        assert!(rt;
-            answer == ends && bytes.as_slice() == wanted.as_bytes(),
-            "{wanted}"
-        );
-    }
-    Ok(())
+    let came = explained(rt.alloc(), text.as_bytes());
+    is_so(&rt, "a stage", came, FINISHED, REFUSED.as_bytes());
+    let came = explained(rt.alloc(), b"lab 1");
+    is_so(&rt, "no job", came, FINISHED, NO_JOB.as_bytes());
+    let came = explained(rt.alloc(), b"lab 1\nsteps\nsit a\n");
+    is_so(&rt, "a bad step", came, bad_step, b"");
 }
 
 const NO_ENTRY: &str = "instrument,entry,job,session,place,length,verb,number,value\n";
 
+/// A view of an input, what is written, and the answer.
+type Row = (View, &'static str, &'static str, Result<Outcome, ViewFault>);
+
+const NO_REPORT: Result<Outcome, ViewFault> = Err(ViewFault::GivenScript {
+    line: 2,
+    view: "table",
+});
+
+const DONE: Result<Outcome, ViewFault> = Ok(Outcome::Finished);
+
+const VIEWS: [Row; 6] = [
+    (View::Explain, "lab 1\n", NO_JOB, DONE),
+    (
+        View::Blocks { limit: 7 },
+        "lab 1\n",
+        "rounds 0 finished\n",
+        DONE,
+    ),
+    (View::Trace { limit: 7 }, "lab 1\n", "lab 1\nsteps\n", DONE),
+    (View::Arrange, "lab 1\n", "lab 1\n", DONE),
+    (View::Table, "lab 1\nfinished\n", NO_ENTRY, DONE),
+    (View::Table, "lab 1\njob a\n", "", NO_REPORT),
+];
+
+fn shows(rt: &impl Abort, alloc: Global, row: &Row) {
+    let (view, input, wanted, ends) = *row;
+    let (bytes, answer) = seen(alloc, view, input.as_bytes());
+    let told = (answer, bytes.as_slice() == wanted.as_bytes());
+    assert!(rt; told == (ends, true), "{view:?}: {told:?}");
+}
+
 /// By the view that is asked for, an input is explained, told of, written or tabulated.
 #[test]
 fn views_by_their_names(rt: HostRuntime) {
-    let no_report = Err(ViewFault::GivenScript {
-        line: 2,
-        view: "table",
-    });
-    let done = Ok(Outcome::Finished);
-    let rows = [
-        (View::Explain, "lab 1\n", NO_JOB, done),
-        (
-            View::Blocks { limit: 7 },
-            "lab 1\n",
-            "rounds 0 finished\n",
-            done,
-        ),
-        (View::Trace { limit: 7 }, "lab 1\n", "lab 1\nsteps\n", done),
-        (View::Arrange, "lab 1\n", "lab 1\n", done),
-        (View::Table, "lab 1\nfinished\n", NO_ENTRY, done),
-        (View::Table, "lab 1\njob a\n", "", no_report),
-    ];
-    for (row, (view, input, wanted, ends)) in rows.into_iter().enumerate() {
-        let mut bytes = Vec::new(rt.alloc());
-        let mut source = FromRead::new(input.as_bytes());
-        let mut sink = ToWrite::new(&mut bytes);
-        let answer = run_view(view, rt.alloc(), &mut source, &mut sink, &mut None);
-        assert!(rt;
-            answer == ends && bytes.as_slice() == wanted.as_bytes(),
-            "row {row}"
-        );
+    for row in &VIEWS {
+        shows(&rt, rt.alloc(), row);
     }
 }
 
@@ -177,87 +186,86 @@ fn is_told(answer: &Result<Task, NoTask>, wanted: Option<View>) -> bool {
     }
 }
 
+/// A command line, and the view that it asks for; none if it is refused.
+const LINES: [(&[&str], Option<View>); 39] = [
+    (&["labview", "explain"], Some(View::Explain)),
+    (&["", "explain"], Some(View::Explain)),
+    (&["labview", "picture"], Some(View::Picture)),
+    (&["labview", "table"], Some(View::Table)),
+    (&["labview", "table", "1"], None),
+    (&[], None),
+    (&["labview"], None),
+    (&["labview", ""], None),
+    (&["labview", "Explain"], None),
+    (&["labview", "explai"], None),
+    (&["labview", "explain", "explain"], None),
+    (&["labview", "explain", "--version"], None),
+    (&["labview", "--hel"], None),
+    (&["labview", "--"], None),
+    (&["labview", "--", "explain"], None),
+    (&["labview", "explain", "--"], Some(View::Explain)),
+    (&["labview", "explain", "--", "--"], None),
+    (&["labview", "help"], None),
+    (&["labview", "replay"], None),
+    (&["explain"], None),
+    (&["labview", "picture", "1"], None),
+    (&["labview", "trace"], None),
+    (&["labview", "explain", "7"], None),
+    (&["labview", "trace", "007"], Some(View::Trace { limit: 7 })),
+    (&["labview", "trace", "+7"], Some(View::Trace { limit: 7 })),
+    (
+        &["labview", "gantt", "--", "7"],
+        Some(View::Gantt { limit: 7 }),
+    ),
+    (
+        &["labview", "blocks", "7", "--"],
+        Some(View::Blocks { limit: 7 }),
+    ),
+    (&["labview", "waits", "-7"], None),
+    (&["labview", "waits", "7", "7"], None),
+    (&["labview", "waits", "74"], Some(View::Waits { limit: 74 })),
+    (&["labview", "arrange"], Some(View::Arrange)),
+    (
+        &["labview", "arrange", "7"],
+        Some(View::ArrangeMeasured { limit: 7 }),
+    ),
+    (&["labview", "waits"], None),
+    (
+        &["labview", "blocks", "74"],
+        Some(View::Blocks { limit: 74 }),
+    ),
+    (&["labview", "blocks"], None),
+    (&["labview", "gantt", "74"], Some(View::Gantt { limit: 74 })),
+    (&["labview", "gantt"], None),
+    (&["labview", "wait", "74"], None),
+    (&["labview", "trace", "1000000001"], None),
+];
+
+const HELP_LINES: [&[&str]; 3] = [
+    &["labview", "--help"],
+    &["labview", "-h"],
+    &["labview", "--help", "explain"],
+];
+
 #[test]
 fn words(rt: HostRuntime) {
-    let lines = [
-        (["labview", "explain"].as_slice(), Some(View::Explain)),
-        (["", "explain"].as_slice(), Some(View::Explain)),
-        (["labview", "picture"].as_slice(), Some(View::Picture)),
-        (["labview", "table"].as_slice(), Some(View::Table)),
-        (["labview", "table", "1"].as_slice(), None),
-        ([].as_slice(), None),
-        (["labview"].as_slice(), None),
-        (["labview", ""].as_slice(), None),
-        (["labview", "Explain"].as_slice(), None),
-        (["labview", "explai"].as_slice(), None),
-        (["labview", "explain", "explain"].as_slice(), None),
-        (["labview", "explain", "--version"].as_slice(), None),
-        (["labview", "--hel"].as_slice(), None),
-        (["labview", "--"].as_slice(), None),
-        (["labview", "--", "explain"].as_slice(), None),
-        (["labview", "explain", "--"].as_slice(), Some(View::Explain)),
-        (["labview", "explain", "--", "--"].as_slice(), None),
-        (["labview", "help"].as_slice(), None),
-        (["labview", "replay"].as_slice(), None),
-        (["explain"].as_slice(), None),
-        (["labview", "picture", "1"].as_slice(), None),
-        (["labview", "trace"].as_slice(), None),
-        (["labview", "explain", "7"].as_slice(), None),
-        (
-            ["labview", "trace", "007"].as_slice(),
-            Some(View::Trace { limit: 7 }),
-        ),
-        (
-            ["labview", "trace", "+7"].as_slice(),
-            Some(View::Trace { limit: 7 }),
-        ),
-        (
-            ["labview", "gantt", "--", "7"].as_slice(),
-            Some(View::Gantt { limit: 7 }),
-        ),
-        (
-            ["labview", "blocks", "7", "--"].as_slice(),
-            Some(View::Blocks { limit: 7 }),
-        ),
-        (["labview", "waits", "-7"].as_slice(), None),
-        (["labview", "waits", "7", "7"].as_slice(), None),
-        (
-            ["labview", "waits", "74"].as_slice(),
-            Some(View::Waits { limit: 74 }),
-        ),
-        (["labview", "arrange"].as_slice(), Some(View::Arrange)),
-        (
-            ["labview", "arrange", "7"].as_slice(),
-            Some(View::ArrangeMeasured { limit: 7 }),
-        ),
-        (["labview", "waits"].as_slice(), None),
-        (
-            ["labview", "blocks", "74"].as_slice(),
-            Some(View::Blocks { limit: 74 }),
-        ),
-        (["labview", "blocks"].as_slice(), None),
-        (
-            ["labview", "gantt", "74"].as_slice(),
-            Some(View::Gantt { limit: 74 }),
-        ),
-        (["labview", "gantt"].as_slice(), None),
-        (["labview", "wait", "74"].as_slice(), None),
-        (["labview", "trace", "1000000001"].as_slice(), None),
-    ];
-    for (i, (words, wanted)) in lines.into_iter().enumerate() {
+    for (i, (words, wanted)) in LINES.iter().enumerate() {
         let answer = read_words(rt.alloc(), words);
-        assert!(rt; is_told(&answer, wanted), "line {i}");
+        assert!(rt; is_told(&answer, *wanted), "line {i}");
     }
-    for words in [
-        ["labview", "--help"].as_slice(),
-        ["labview", "-h"].as_slice(),
-        ["labview", "--help", "explain"].as_slice(),
-    ] {
-        let answer = read_words(rt.alloc(), words);
-        assert!(rt; is_help(&answer, HELP));
+}
+
+fn helps(rt: &impl Abort, alloc: Global, words: &[&str], wanted: &str) {
+    let answer = read_words(alloc, words);
+    assert!(rt; is_help(&answer, wanted));
+}
+
+#[test]
+fn words_that_ask_for_help(rt: HostRuntime) {
+    for words in &HELP_LINES {
+        helps(&rt, rt.alloc(), words, HELP);
     }
-    let answer = read_words(rt.alloc(), &["labview", "gantt", "--help"]);
-    assert!(rt; is_help(&answer, GANTT_HELP));
+    helps(&rt, rt.alloc(), &["labview", "gantt", "--help"], GANTT_HELP);
 }
 
 #[test]

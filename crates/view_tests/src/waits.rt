@@ -1,5 +1,5 @@
 //! What `labview waits` writes, by its bytes.
-use crate::seen::of_script_seen;
+use crate::seen::{is_so, of_script_seen};
 use lab_program::{Outcome, RunFault};
 use lab_views::View;
 use script_reader::{ScriptCause, ScriptFault};
@@ -54,29 +54,29 @@ longest wait 1 a 1
 chain 2 b a
 ";
 
+/// A script, at most how many rounds, and what is written.
+const BY_HAND: [(&str, u32, &str); 5] = [
+    (SHARED, 1000000000, ALL_ROUNDS),
+    (SHARED, 3, THREE_ROUNDS),
+    (SHARED, 0, NO_ROUNDS),
+    (IMPATIENT, 20, GIVEN_UP),
+    ("lab 1\n", 7, "rounds 0 finished\nlongest wait 0\nchain 0\n"),
+];
+
 #[test]
 fn waits_by_hand(rt: HostRuntime) {
-    for (script, limit, wanted) in [
-        (SHARED, 1000000000, ALL_ROUNDS),
-        (SHARED, 3, THREE_ROUNDS),
-        (SHARED, 0, NO_ROUNDS),
-        (IMPATIENT, 20, GIVEN_UP),
-        ("lab 1\n", 7, "rounds 0 finished\nlongest wait 0\nchain 0\n"),
-    ] {
-        let (text, answer) = told(rt.alloc(), script, limit);
-        assert!(rt;
-            answer == Ok(Outcome::Finished) && text.as_slice() == wanted.as_bytes(),
-            "{wanted}"
-        );
+    for (script, limit, wanted) in &BY_HAND {
+        let came = told(rt.alloc(), script, *limit);
+        is_so(&rt, wanted, came, Ok(Outcome::Finished), wanted.as_bytes());
     }
 }
 
 #[test]
 fn no_script_has_no_waits(rt: HostRuntime) {
-    let (text, answer) = told(rt.alloc(), "lab 1\nsession\n", 7);
     let fault = ScriptFault {
         line: 2,
         cause: ScriptCause::NotInJob,
     };
-    assert!(rt; answer == Err(RunFault::Script(fault)) && text.is_empty());
+    let came = told(rt.alloc(), "lab 1\nsession\n", 7);
+    is_so(&rt, "", came, Err(RunFault::Script(fault)), b"");
 }

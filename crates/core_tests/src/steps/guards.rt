@@ -237,7 +237,7 @@ const TABLES: [(&str, &[Do], &[Case]); 7] = [
 
 #[test]
 fn guards(rt: HostRuntime) {
-    for (script, steps, cases) in TABLES {
+    for (script, steps, cases) in &TABLES {
         check(&rt, rt.alloc(), script, steps, cases);
     }
 }
@@ -245,8 +245,8 @@ fn guards(rt: HostRuntime) {
 /// What is seen has to be there.
 #[test]
 fn sights(rt: HostRuntime) {
-    for case in OF_SIGHTS {
-        check_one(&rt, rt.alloc(), TWICE, &STALE_MARK, case);
+    for case in &OF_SIGHTS {
+        check_one(&rt, rt.alloc(), TWICE, &STALE_MARK, *case);
     }
 }
 

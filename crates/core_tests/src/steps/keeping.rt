@@ -1,57 +1,118 @@
 //! The events that a world keeps, and what is left of it once it comes apart.
 use super::{OPENED_EDGE, open};
-use crate::benches::{A, AB, B, TWICE, plan_of};
-use interleaving::{Event, World};
-use lab_plan::{EdgeNo, JobNo};
+use crate::benches::{A, AB, B, Do, TWICE, event_seen, plan_of, step_of};
+use crate::waits::take;
+use interleaving::{JobState, World};
+use lab_plan::{JobNo, Plan};
 use std::alloc::Allocator;
 use std::process::Abort;
 
-const FIRST: Event = Event::Thirst(JobNo(A));
-
-const SECOND: Event = Event::Thirst(JobNo(B));
-
-const THIRD: Event = Event::Look(JobNo(A), EdgeNo(AB), OPENED_EDGE);
-
-/// Does an event that is legal.
-fn step<T: Allocator>(rt: &impl Abort, world: &mut World<T>, event: Event) {
-    assert!(rt; world.step(event).is_ok());
+/// What is done to a world, or what it says then.
+#[derive(Clone, Copy)]
+enum Row {
+    Does(Do),
+    /// From here on so many events are kept.
+    Keeps(usize),
+    /// What is kept is taken.
+    Takes,
+    /// These are kept, there is room for so many more, and whether no other was left out.
+    Kept(&'static [Do], usize, bool),
 }
 
-/// Whether these events are kept, and no other was left out, and whether there is room for so many more.
-fn keeps<T: Allocator>(world: &World<T>, events: &[Event], room: usize) -> bool {
-    world.kept() == events && world.is_whole() && world.kept_room() == room
+const ROWS: [Row; 13] = [
+    // with no room nothing is kept, and then an event is left out
+    Row::Kept(&[], 0, true),
+    Row::Does(Do::Thirst(A)),
+    Row::Kept(&[], 0, false),
+    Row::Keeps(1),
+    Row::Kept(&[], 1, true),
+    Row::Does(Do::Thirst(B)),
+    Row::Kept(&[Do::Thirst(B)], 0, true),
+    Row::Takes,
+    Row::Kept(&[], 1, true),
+    Row::Does(Do::Look(A, AB)),
+    Row::Kept(&[Do::Look(A, AB)], 0, true),
+    Row::Does(Do::Look(A, AB)),
+    Row::Kept(&[Do::Look(A, AB)], 0, false),
+];
+
+/// Whether these events are kept, in which the edge is seen as it opens.
+fn are_kept<T: Allocator>(world: &World<T>, steps: &[Do]) -> bool {
+    let kept = world.kept();
+    if kept.len() != steps.len() {
+        return false;
+    }
+    for place in 0..steps.len() {
+        if kept[place] != event_seen(step_of(steps[place]), OPENED_EDGE, JobState::IDLE) {
+            return false;
+        }
+    }
+    true
+}
+
+fn is_kept<T: Allocator>(
+    rt: &impl Abort,
+    world: &World<T>,
+    number: usize,
+    steps: &[Do],
+    told: (usize, bool),
+) {
+    assert!(rt; are_kept(world, steps), "row {number}");
+    assert!(rt;
+        (world.kept_room(), world.is_whole()) == told,
+        "row {number}"
+    );
+}
+
+fn follow<T: Allocator + Copy>(
+    rt: &impl Abort,
+    alloc: T,
+    world: &mut World<T>,
+    number: usize,
+    row: Row,
+) {
+    match row {
+        Row::Does(it) => take(rt, world, it),
+        Row::Keeps(most) => assert!(rt; world.keep(alloc, most).is_ok()),
+        Row::Takes => world.take_kept(),
+        Row::Kept(steps, room, whole) => is_kept(rt, world, number, steps, (room, whole)),
+    }
+}
+
+fn follow_all<T: Allocator + Copy>(rt: &impl Abort, alloc: T, plan: &Plan<T>) {
+    let mut world = open(rt, alloc, plan);
+    for number in 0..ROWS.len() {
+        follow(rt, alloc, &mut world, number, ROWS[number]);
+    }
 }
 
 #[test]
 fn keeps_what_there_is_room_for(rt: HostRuntime) {
     let plan = plan_of(&rt, rt.alloc(), TWICE);
-    let mut world = open(&rt, rt.alloc(), &plan);
-    // with no room nothing is kept, and then an event is left out
-    assert!(rt; keeps(&world, &[], 0));
-    step(&rt, &mut world, FIRST);
-    assert!(rt; world.kept().is_empty() && !world.is_whole());
-    // from here on
-    assert!(rt; world.keep(rt.alloc(), 1).is_ok() && keeps(&world, &[], 1));
-    step(&rt, &mut world, SECOND);
-    assert!(rt; keeps(&world, &[SECOND], 0));
-    world.take_kept();
-    assert!(rt; keeps(&world, &[], 1));
-    step(&rt, &mut world, THIRD);
-    assert!(rt; keeps(&world, &[THIRD], 0));
-    step(&rt, &mut world, THIRD);
-    assert!(rt; world.kept() == [THIRD].as_slice() && !world.is_whole() && world.kept_room() == 0);
+    follow_all(&rt, rt.alloc(), &plan);
+}
+
+/// Job a sees its fork and its bottle; job b has neither.
+fn has_marks_of_a<T: Allocator>(rt: &impl Abort, world: &World<T>) {
+    assert!(rt; world.plan().jobs() == 2);
+    assert!(rt; world.fork_marks(JobNo(A)) == [true].as_slice());
+    assert!(rt; world.all_bottle_marks(JobNo(A)) == [1].as_slice());
+    assert!(rt; world.all_bottle_marks(JobNo(B)) == [0].as_slice());
+}
+
+/// How many logs a world has once it has come apart.
+fn logs_of<T: Allocator + Copy>(rt: &impl Abort, alloc: T, plan: &Plan<T>) -> usize {
+    let mut world = open(rt, alloc, plan);
+    take(rt, &mut world, Do::Thirst(A));
+    take(rt, &mut world, Do::Look(A, AB));
+    has_marks_of_a(rt, &world);
+    let (logs, _) = world.into_logs();
+    logs.len()
 }
 
 #[test]
 fn comes_apart(rt: HostRuntime) {
     let plan = plan_of(&rt, rt.alloc(), TWICE);
-    let mut world = open(&rt, rt.alloc(), &plan);
-    step(&rt, &mut world, FIRST);
-    step(&rt, &mut world, THIRD);
-    assert!(rt; plan.jobs() == 2 && world.plan().jobs() == 2);
-    assert!(rt; world.fork_marks(JobNo(A)) == [true].as_slice());
-    assert!(rt; world.all_bottle_marks(JobNo(A)) == [1].as_slice());
-    assert!(rt; world.all_bottle_marks(JobNo(B)) == [0].as_slice());
-    let (logs, _) = world.into_logs();
-    assert!(rt; logs.len() == plan.instruments());
+    let logs = logs_of(&rt, rt.alloc(), &plan);
+    assert!(rt; logs == plan.instruments());
 }

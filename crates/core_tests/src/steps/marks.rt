@@ -1,6 +1,8 @@
 //! The marks of jobs after the steps of the stale mark.
 use super::{BOTH, BOTTLE, FORK, Marks, NONE, Way, replayed};
 use crate::benches::{STALE_MARK, TWICE, stage};
+use std::alloc::Allocator;
+use std::process::Abort;
 
 /// A stage, and the marks of a and of b there.
 const TABLE: [(usize, Marks, Marks); 9] = [
@@ -20,16 +22,22 @@ const TABLE: [(usize, Marks, Marks); 9] = [
     (stage::A_LOOKS_AGAIN, FORK, BOTTLE),
 ];
 
+/// The marks of a and of b after so many of the steps.
+fn marks_at<T: Allocator + Copy>(rt: &impl Abort, alloc: T, place: usize) -> (Marks, Marks) {
+    assert!(rt; place <= STALE_MARK.len());
+    let way = Way::Steps(&STALE_MARK[..place]);
+    let (_, shown) = replayed(rt, alloc, TWICE, way);
+    (shown.marks, shown.marks_of_b)
+}
+
+fn check(rt: &impl Abort, place: usize, came: (Marks, Marks), wanted: (Marks, Marks)) {
+    assert!(rt; came == wanted, "after {place} steps: {came:?} of a and b");
+}
+
 #[test]
 fn marks_of_a_stale_mark(rt: HostRuntime) {
-    for (place, of_a, of_b) in TABLE {
-        assert!(rt; place <= STALE_MARK.len());
-        let way = Way::Steps(&STALE_MARK[..place]);
-        let (_, shown) = replayed(&rt, rt.alloc(), TWICE, way);
-        let (came_of_a, came_of_b) = (shown.marks, shown.marks_of_b);
-        assert!(rt;
-            came_of_a == of_a && came_of_b == of_b,
-            "after {place} steps: {came_of_a:?} of a, {came_of_b:?} of b"
-        );
+    for (place, of_a, of_b) in &TABLE {
+        let came = marks_at(&rt, rt.alloc(), *place);
+        check(&rt, *place, came, (*of_a, *of_b));
     }
 }

@@ -71,13 +71,18 @@ const OF_A: [(usize, &[usize]); 8] = [
     (stage::A_LEAVES, &[THIRST]),
 ];
 
+/// A stage of the stale mark.
+fn check_at<T: Allocator + Copy>(rt: &impl Abort, alloc: T, place: usize, wanted: &[usize]) {
+    assert!(rt; place <= STALE_MARK.len());
+    let way = Way::Steps(&STALE_MARK[..place]);
+    let (_, _, (of_a, _)) = told(rt, alloc, TWICE, way);
+    check(rt, place, of_a, wanted);
+}
+
 #[test]
 fn guards_of_phases(rt: HostRuntime) {
-    for (place, wanted) in OF_A {
-        assert!(rt; place <= STALE_MARK.len());
-        let way = Way::Steps(&STALE_MARK[..place]);
-        let (_, _, (of_a, _)) = told(&rt, rt.alloc(), TWICE, way);
-        check(&rt, place, of_a, wanted);
+    for (place, wanted) in &OF_A {
+        check_at(&rt, rt.alloc(), *place, wanted);
     }
     let (_, _, (of_a, _)) = told(&rt, rt.alloc(), TWO, Way::Steps(&ONE_SESSION));
     check(&rt, ONE_SESSION.len(), of_a, &[RETIRE]);

@@ -5,9 +5,8 @@ use interleaving::{EdgeState, End, EndChoice, Event, NoMemory, StartRefusal, Wor
 use lab_plan::{EdgeNo, JobNo, Plan};
 use linked_list_allocator::LocalHeap;
 use script_reader::read_plan;
-use std::alloc::Allocator;
+use std::alloc::{Allocator, Global};
 use std::process::Abort;
-use std::test::Fail;
 
 const LOWER: EndChoice = EndChoice {
     fork: End::Lower,
@@ -46,6 +45,18 @@ fn start<T: Allocator + Copy>(
     start_of(rt, alloc, &plan, choices)
 }
 
+/// The script starts so with these choices.
+fn check<T: Allocator + Copy>(
+    rt: &impl Abort,
+    alloc: T,
+    script: &str,
+    choices: &[EndChoice],
+    wanted: Result<EdgeState, StartRefusal>,
+) {
+    let answer = start(rt, alloc, script, choices);
+    assert!(rt; answer == wanted, "with {choices:?} {answer:?}");
+}
+
 /// Of a triangle, the forks by the edges 0-1, 0-2 and 1-2: at 0, 2 and 1, and the other way round.
 const ROUND: [EndChoice; 3] = [LOWER, HIGHER, LOWER];
 
@@ -76,9 +87,8 @@ const REFUSED: [(&[EndChoice], StartRefusal); 5] = [
 
 #[test]
 fn starts_are_refused(rt: HostRuntime) {
-    for (choices, refusal) in REFUSED {
-        let answer = start(&rt, rt.alloc(), THREE, choices);
-        assert_eq!(rt; answer, Err(refusal), "with {choices:?}");
+    for (choices, refusal) in &REFUSED {
+        check(&rt, rt.alloc(), THREE, choices, Err(*refusal));
     }
 }
 
@@ -115,10 +125,15 @@ const MANY: &str =
 
 #[test]
 fn many_in_common(rt: HostRuntime) {
-    let alloc = rt.alloc();
-    assert!(rt; start(&rt, alloc, MANY, &ALL) == Ok(ALL_HIGHER));
-    assert!(rt; start(&rt, alloc, MANY, &[LOWER]) == Ok(ALL_LOWER));
-    assert!(rt; start(&rt, alloc, MANY, &ONE_MORE) == Err(StartRefusal::BadChoices));
+    check(&rt, rt.alloc(), MANY, &ALL, Ok(ALL_HIGHER));
+    check(&rt, rt.alloc(), MANY, &[LOWER], Ok(ALL_LOWER));
+    check(
+        &rt,
+        rt.alloc(),
+        MANY,
+        &ONE_MORE,
+        Err(StartRefusal::BadChoices),
+    );
 }
 
 /// Whether there is memory for a start; choices that don't fit come first.
@@ -157,23 +172,60 @@ fn begins<T: Allocator + Copy>(rt: &impl Abort, heap: T) -> Option<(bool, bool)>
     Some((started, opened))
 }
 
+/// The same of a heap of this size.
+fn begins_on(rt: &impl Abort, alloc: Global, size: usize) -> Option<(bool, bool)> {
+    match LocalHeap::new(alloc, size) {
+        Ok(heap) => begins(rt, &heap),
+        Err(_) => panic!(rt; "no heap"),
+    }
+}
+
+/// Whether starts and openings were done, and whether some were refused, so far.
+#[derive(Clone, Copy, PartialEq)]
+struct Begun {
+    started: bool,
+    opened: bool,
+    starts_refused: bool,
+    openings_refused: bool,
+}
+
+const NONE_BEGUN: Begun = Begun {
+    started: false,
+    opened: false,
+    starts_refused: false,
+    openings_refused: false,
+};
+
+const ALL_BEGUN: Begun = Begun {
+    started: true,
+    opened: true,
+    starts_refused: true,
+    openings_refused: true,
+};
+
+/// With another heap, on which a start and an opening are done if one was before.
+fn and_then(rt: &impl Abort, so_far: Begun, (started, opened): (bool, bool), size: usize) -> Begun {
+    assert!(rt; started || !so_far.started, "at {size}");
+    assert!(rt; opened || !so_far.opened, "at {size}");
+    Begun {
+        started,
+        opened,
+        starts_refused: so_far.starts_refused || !started,
+        openings_refused: so_far.openings_refused || !opened,
+    }
+}
+
 /// A heap that is a little larger in each run: from the first that does on, each does.
 #[test]
-fn allocations_are_refused(rt: HostRuntime) -> Result<(), Fail> {
-    let (mut started, mut opened) = (false, false);
-    let (mut starts_refused, mut openings_refused) = (false, false);
+fn allocations_are_refused(rt: HostRuntime) {
+    let mut begun = NONE_BEGUN;
     for budget in 0..512 {
-        let heap = LocalHeap::new(rt.alloc(), 64 * budget)?;
-        if let Some((starts, opens)) = begins(&rt, &heap) {
-            assert!(rt; (starts || !started) && (opens || !opened), "at {budget}");
-            starts_refused = starts_refused || !starts;
-            openings_refused = openings_refused || !opens;
-            started = starts;
-            opened = opens;
+        let size = 64 * budget;
+        if let Some(came) = begins_on(&rt, rt.alloc(), size) {
+            begun = and_then(&rt, begun, came, size);
         }
     }
-    assert!(rt; started && opened && starts_refused && openings_refused);
-    Ok(())
+    assert!(rt; begun == ALL_BEGUN);
 }
 
 /// What a world tells that owns its plan.

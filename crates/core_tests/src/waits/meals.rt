@@ -9,9 +9,8 @@ use lab_plan::{EdgeNo, JobNo};
 use linked_list_allocator::LocalHeap;
 use overtaking::laws::{never_stuck, no_cycle, overtaken_once, quiet_is_retired};
 use overtaking::{NoMemory, meals_after_ask, ranking};
-use std::alloc::Allocator;
+use std::alloc::{Allocator, Global};
 use std::process::Abort;
-use std::test::Fail;
 
 /// Takes all of these steps, and adds their events.
 fn record<T: Allocator, V: Allocator>(
@@ -151,24 +150,24 @@ pub(super) fn has_room<T: Allocator>(
     }
 }
 
+/// The same of a heap of this size.
+fn has_room_on(rt: &impl Abort, alloc: Global, size: usize) -> bool {
+    match LocalHeap::new(alloc, size) {
+        Ok(heap) => ask(rt, alloc, THREE, &FORKS_HIGHER, Question::Ranking(&heap)),
+        Err(_) => panic!(rt; "no heap"),
+    }
+}
+
 /// Each allocation is refused in turn, by a heap that is a little larger in each run.
 #[test]
-fn refuses_allocation(rt: HostRuntime) -> Result<(), Fail> {
+fn refuses_allocation(rt: HostRuntime) {
     let (mut refusals, mut answers) = (0u32, 0u32);
     for budget in 1..40usize {
-        let heap = LocalHeap::new(rt.alloc(), 16 * budget)?;
-        if ask(
-            &rt,
-            rt.alloc(),
-            THREE,
-            &FORKS_HIGHER,
-            Question::Ranking(&heap),
-        ) {
+        if has_room_on(&rt, rt.alloc(), 16 * budget) {
             answers = answers.saturating_add(1);
         } else {
             refusals = refusals.saturating_add(1);
         }
     }
     assert!(rt; answers > 1 && refusals > 1);
-    Ok(())
 }

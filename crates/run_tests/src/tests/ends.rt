@@ -1,5 +1,5 @@
 //! Readers and writers that give little, take little, or fail.
-use super::{AMPLE, Pieces, Slow, TWO_ADD, told_at, told_by, told_from};
+use super::{AMPLE, Pieces, Slow, TWO_ADD, Told, is_so, told_at, told_by, told_from};
 use lab_program::{FromRead, Outcome, RunFault, Source};
 use lab_runs::{Task, run_rounds};
 use report::ToWrite;
@@ -30,14 +30,22 @@ const REPORTING: [Task; 3] = [
     },
 ];
 
+/// What a run answers once its report has gone out, and if a write or a read failed.
+const STOPPED: Result<Outcome, RunFault> = Ok(Outcome::Unfinished);
+
+const NOT_WRITTEN: Result<Outcome, RunFault> = Err(RunFault::Write);
+
+const NOT_READ: Result<Outcome, RunFault> = Err(RunFault::Read);
+
+const LENGTHS: [usize; 5] = [1, 2, 7, 80, 5000];
+
 #[test]
 fn pieces_of_any_length(rt: HostRuntime) {
     let text = TWO_ADD.as_bytes();
-    for task in REPORTING {
-        for most in [1, 2, 7, 80, 5000usize] {
-            let (bytes, answer) = told_at(&rt, rt.alloc(), task, text, (most, 1000), AMPLE);
-            assert!(rt; answer == Ok(Outcome::Unfinished), "{most} bytes");
-            assert!(rt; bytes.as_slice() == REPORT, "{most} bytes");
+    for task in &REPORTING {
+        for most in &LENGTHS {
+            let told = told_at(&rt, rt.alloc(), *task, text, (*most, 1000), AMPLE);
+            is_so(&rt, *most, told, STOPPED, REPORT);
         }
     }
 }
@@ -57,37 +65,45 @@ fn reads_fail<R: Threads + Wait + Abort + Sync>(
             calls,
             error,
         };
-        let (bytes, answer) = told_from(rt, alloc, task, pieces, AMPLE);
-        assert!(rt; answer == Err(RunFault::Read), "after {calls} calls");
-        assert!(rt; bytes.is_empty(), "after {calls} calls");
+        let told = told_from(rt, alloc, task, pieces, AMPLE);
+        is_so(rt, calls, told, NOT_READ, b"");
     }
 }
+
+const ERRORS: [ErrorKind; 3] = [
+    ErrorKind::Interrupted,
+    ErrorKind::PermissionDenied,
+    ErrorKind::OutOfMemory,
+];
+
+/// The tasks that read a script, how many lines each writes, what it answers, and those lines.
+const READING: [(Task, usize, Result<Outcome, RunFault>, &[u8]); 5] = [
+    (Task::Replay, 5, STOPPED, REPORT),
+    (Task::Rounds { limit: 0 }, 5, STOPPED, REPORT),
+    (
+        Task::Threads {
+            workers: 2,
+            turns: 0,
+        },
+        5,
+        STOPPED,
+        REPORT,
+    ),
+    (Task::Check, 1, Ok(Outcome::Finished), COUNTS),
+    (Task::Upgrade, 9, Ok(Outcome::Finished), UPGRADED),
+];
 
 /// Each error of a reader is a read fault, also one that tells of memory. With one read more each task writes its text.
 #[test]
 fn reader_fails(rt: HostRuntime) {
     let text = TWO_ADD.as_bytes();
-    let errors = [
-        ErrorKind::Interrupted,
-        ErrorKind::PermissionDenied,
-        ErrorKind::OutOfMemory,
-    ];
-    for error in errors {
-        for task in REPORTING {
-            reads_fail(&rt, rt.alloc(), task, error);
+    for (task, _, ends, wanted) in &READING {
+        for error in &ERRORS {
+            reads_fail(&rt, rt.alloc(), *task, *error);
         }
-        reads_fail(&rt, rt.alloc(), Task::Check, error);
-        reads_fail(&rt, rt.alloc(), Task::Upgrade, error);
+        let told = told_at(&rt, rt.alloc(), *task, text, (1, text.len() + 1), AMPLE);
+        is_so(&rt, text.len() + 1, told, *ends, wanted);
     }
-    let reads = (1, text.len() + 1);
-    for task in REPORTING {
-        let (bytes, answer) = told_at(&rt, rt.alloc(), task, text, reads, AMPLE);
-        assert!(rt; answer == Ok(Outcome::Unfinished) && bytes.as_slice() == REPORT);
-    }
-    let (bytes, answer) = told_at(&rt, rt.alloc(), Task::Check, text, reads, AMPLE);
-    assert!(rt; answer == Ok(Outcome::Finished) && bytes.as_slice() == COUNTS);
-    let (bytes, answer) = told_at(&rt, rt.alloc(), Task::Upgrade, text, reads, AMPLE);
-    assert!(rt; answer == Ok(Outcome::Finished) && bytes.as_slice() == UPGRADED);
 }
 
 /// Gives `#` for ever, and counts what it gave.
@@ -104,18 +120,24 @@ impl Read for &mut Hashes {
     }
 }
 
-#[test]
-fn reader_without_end(rt: HostRuntime) {
-    let mut hashes = Hashes { given: 0 };
+/// What a run by rounds tells of a reader, on which it ends by itself.
+fn told_of_hashes(alloc: Global, hashes: &mut Hashes) -> Told {
     let mut slow = Slow {
-        bytes: Vec::new(rt.alloc()),
+        bytes: Vec::new(alloc),
         most: 4096,
         calls: 1000,
     };
-    let mut source = FromRead::new(&mut hashes);
+    let mut source = FromRead::new(hashes);
     let mut sink = ToWrite::new(&mut slow);
-    let answer = run_rounds(rt.alloc(), &mut source, &mut sink, 9);
-    assert!(rt; answer == Err(RunFault::TooLong) && slow.bytes.is_empty());
+    let answer = run_rounds(alloc, &mut source, &mut sink, 9);
+    (slow.bytes, answer)
+}
+
+#[test]
+fn reader_without_end(rt: HostRuntime) {
+    let mut hashes = Hashes { given: 0 };
+    let told = told_of_hashes(rt.alloc(), &mut hashes);
+    is_so(&rt, 0, told, Err(RunFault::TooLong), b"");
     assert!(rt; hashes.given == 16_777_217);
 }
 
@@ -123,10 +145,9 @@ fn reader_without_end(rt: HostRuntime) {
 #[test]
 fn writer_fails(rt: HostRuntime) {
     let text = TWO_ADD.as_bytes();
-    for task in REPORTING {
-        let (bytes, answer) = told_by(&rt, rt.alloc(), task, text, (4096, 1));
-        assert!(rt; answer == Err(RunFault::Write));
-        assert!(rt; bytes.as_slice() == b"lab 1\n".as_slice());
+    for task in &REPORTING {
+        let told = told_by(&rt, rt.alloc(), *task, text, (4096, 1));
+        is_so(&rt, 1, told, NOT_WRITTEN, b"lab 1\n");
     }
 }
 
@@ -134,15 +155,24 @@ fn writer_fails(rt: HostRuntime) {
 #[test]
 fn writer_takes_a_byte(rt: HostRuntime) {
     let text = TWO_ADD.as_bytes();
-    for task in REPORTING {
+    for task in &REPORTING {
         for calls in 0..REPORT.len() + 1 {
-            let (bytes, answer) = told_by(&rt, rt.alloc(), task, text, (1, calls));
-            assert!(rt; answer == Err(RunFault::Write), "after {calls} calls");
-            assert!(rt; bytes.as_slice() == &REPORT[..calls], "after {calls} calls");
+            let told = told_by(&rt, rt.alloc(), *task, text, (1, calls));
+            is_so(&rt, calls, told, NOT_WRITTEN, &REPORT[..calls]);
         }
-        let (bytes, answer) = told_by(&rt, rt.alloc(), task, text, (1, 1000));
-        assert!(rt; answer == Ok(Outcome::Unfinished) && bytes.as_slice() == REPORT);
+        let told = told_by(&rt, rt.alloc(), *task, text, (1, 1000));
+        is_so(&rt, 1000, told, STOPPED, REPORT);
     }
+}
+
+/// Whether a write failed, and whether all of the text had gone out by then.
+fn is_cut(rt: &impl Abort, calls: usize, came: Told, text: &[u8], is_whole: bool) {
+    let (written, answer) = came;
+    let told = (answer, written.as_slice() == text);
+    assert!(rt;
+        told == (NOT_WRITTEN, is_whole),
+        "after {calls} calls: {told:?}"
+    );
 }
 
 /// A run that writes this text, of this many lines: a write of a line that fails is reported, and so is the flush behind them.
@@ -150,43 +180,44 @@ fn flushes<R: Threads + Wait + Abort + Sync>(
     rt: &R,
     alloc: Global,
     task: Task,
-    lines: u8,
+    lines: usize,
+    ends: Result<Outcome, RunFault>,
     text: &[u8],
 ) {
-    let lines = usize::from(lines);
-    for calls in 0..lines + 1 {
-        let (bytes, answer) = told_by(rt, alloc, task, TWO_ADD.as_bytes(), (4096, calls));
-        assert!(rt; answer == Err(RunFault::Write), "after {calls} calls");
-        assert!(rt;
-            (bytes.as_slice() == text) == (calls == lines),
-            "after {calls} calls"
-        );
+    let all = lines.saturating_add(1);
+    for calls in 0..all {
+        let told = told_by(rt, alloc, task, TWO_ADD.as_bytes(), (4096, calls));
+        is_cut(rt, calls, told, text, calls == lines);
     }
-    let (bytes, answer) = told_by(rt, alloc, task, TWO_ADD.as_bytes(), (4096, lines + 1));
-    assert!(rt; answer.is_ok() && bytes.as_slice() == text);
+    let told = told_by(rt, alloc, task, TWO_ADD.as_bytes(), (4096, all));
+    is_so(rt, all, told, ends, text);
 }
 
 /// Each run goes out a line a call, and then one flush, whose failure is reported.
 #[test]
 fn flush_fails(rt: HostRuntime) {
-    for task in REPORTING {
-        flushes(&rt, rt.alloc(), task, 5, REPORT);
+    for (task, lines, ends, text) in &READING {
+        flushes(&rt, rt.alloc(), *task, *lines, *ends, text);
     }
-    flushes(&rt, rt.alloc(), Task::Check, 1, COUNTS);
-    flushes(&rt, rt.alloc(), Task::Upgrade, 9, UPGRADED);
 }
 
 #[test]
 fn writer_takes_nothing(rt: HostRuntime) {
     let text = TWO_ADD.as_bytes();
-    for task in REPORTING {
-        let (bytes, answer) = told_by(&rt, rt.alloc(), task, text, (0, 1000));
-        assert!(rt; answer == Err(RunFault::Write) && bytes.is_empty());
+    for (task, _, _, _) in &READING {
+        let told = told_by(&rt, rt.alloc(), *task, text, (0, 1000));
+        is_so(&rt, 0, told, NOT_WRITTEN, b"");
     }
-    for task in [Task::Check, Task::Upgrade] {
-        let (bytes, answer) = told_by(&rt, rt.alloc(), task, text, (0, 1000));
-        assert!(rt; answer == Err(RunFault::Write) && bytes.is_empty());
-    }
+}
+
+/// How many bytes a read gives, and what then stands in the first of them.
+fn read_into(source: &mut impl Source, buffer: &mut [u8; 8]) -> (Option<usize>, [u8; 3]) {
+    let count = source.read(buffer.as_mut_slice()).ok();
+    (count, [buffer[0], buffer[1], buffer[2]])
+}
+
+fn gives(rt: &impl Abort, came: (Option<usize>, [u8; 3]), wanted: (Option<usize>, [u8; 3])) {
+    assert!(rt; came == wanted, "{wanted:?} was wanted, not {came:?}");
 }
 
 /// A source is read to its end, and gives nothing more there.
@@ -200,7 +231,8 @@ fn source_reads(rt: HostRuntime) {
     };
     let mut source = FromRead::new(&mut pieces);
     let mut buffer = [0u8; 8];
-    assert!(rt; source.read(&mut buffer) == Ok(3) && &buffer[..3] == b"lam".as_slice());
-    assert!(rt; source.read(&mut buffer) == Ok(1) && buffer[0] == b'p');
-    assert!(rt; source.read(&mut buffer) == Ok(0) && source.read(&mut buffer).is_err());
+    gives(&rt, read_into(&mut source, &mut buffer), (Some(3), *b"lam"));
+    gives(&rt, read_into(&mut source, &mut buffer), (Some(1), *b"pam"));
+    gives(&rt, read_into(&mut source, &mut buffer), (Some(0), *b"pam"));
+    gives(&rt, read_into(&mut source, &mut buffer), (None, *b"pam"));
 }

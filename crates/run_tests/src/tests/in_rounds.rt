@@ -1,12 +1,11 @@
 //! Scripts by rounds: what stands in the report after how many.
-use super::{TWO_ADD, is_told, tells, told, told_by};
+use super::{TWO_ADD, Told, is_so, tells, told, told_by};
 use lab_program::{Outcome, RunFault};
 use lab_runs::Task;
 use script_reader::{ScriptCause, ScriptFault};
 use std::alloc::{AllocError, Global};
 use std::process::Abort;
 use std::sync::Wait;
-use std::test::Fail;
 use std::thread::Threads;
 
 /// A run in rounds of this script ends so, and writes this report.
@@ -45,8 +44,8 @@ fn empty_input(rt: HostRuntime) {
         line: 1,
         cause: ScriptCause::NoHeader,
     });
-    for task in TASKS {
-        tells(&rt, rt.alloc(), task, "", Err(fault), "");
+    for task in &TASKS {
+        tells(&rt, rt.alloc(), *task, "", Err(fault), "");
     }
 }
 
@@ -57,9 +56,9 @@ fn steps_are_refused(rt: HostRuntime) {
         line: 2,
         cause: ScriptCause::UnknownWord,
     });
-    for task in TASKS {
-        if task != Task::Replay {
-            tells(&rt, rt.alloc(), task, "lab 1\nsteps\n", Err(fault), "");
+    for task in &TASKS {
+        if *task != Task::Replay {
+            tells(&rt, rt.alloc(), *task, "lab 1\nsteps\n", Err(fault), "");
         }
     }
     tells(
@@ -94,11 +93,11 @@ const OF_NOBODY: [Task; 6] = [
 #[test]
 fn header_alone(rt: HostRuntime) {
     let finished = Ok(Outcome::Finished);
-    for task in OF_NOBODY {
+    for task in &OF_NOBODY {
         tells(
             &rt,
             rt.alloc(),
-            task,
+            *task,
             "lab 1",
             finished,
             "lab 1\nfinished\n",
@@ -228,66 +227,72 @@ fn writer_fails(rt: HostRuntime) {
     let task = Task::Rounds { limit: 9 };
     let text = TWO_ADD.as_bytes();
     let report = BOTH_ADDED.as_bytes();
-    let (bytes, answer) = told_by(&rt, rt.alloc(), task, text, (4096, 1));
-    assert!(rt; answer == Err(RunFault::Write));
-    assert!(rt; bytes.as_slice() == b"lab 1\n".as_slice());
+    let fails = Err(RunFault::Write);
+    let told = told_by(&rt, rt.alloc(), task, text, (4096, 1));
+    is_so(&rt, 1, told, fails, b"lab 1\n");
     for calls in 0..report.len() + 1 {
-        let (bytes, answer) = told_by(&rt, rt.alloc(), task, text, (1, calls));
-        assert!(rt; answer == Err(RunFault::Write), "after {calls} calls");
-        assert!(rt; bytes.as_slice() == &report[..calls], "after {calls} calls");
+        let told = told_by(&rt, rt.alloc(), task, text, (1, calls));
+        is_so(&rt, calls, told, fails, &report[..calls]);
     }
-    let (bytes, answer) = told_by(&rt, rt.alloc(), task, text, (1, 1000));
-    assert!(rt; answer == Ok(Outcome::Finished) && bytes.as_slice() == report);
+    let told = told_by(&rt, rt.alloc(), task, text, (1, 1000));
+    is_so(&rt, 1000, told, Ok(Outcome::Finished), report);
 }
 
-/// The report of two jobs in version 2 that are retired, with these entries; the second did this many sessions and meals.
-fn patient(alloc: Global, entries: &str, done: u32, meals: u32) -> Result<String, AllocError> {
-    let withdrawn = if done == 0 { 1 } else { 0 };
+/// The script of two jobs whose second session has this patience.
+fn with_patience(alloc: Global, patience: u32) -> Result<String, AllocError> {
     format!(in alloc;
-        "lab 2\n{entries}job a sessions 1 of 1 withdrawn 0 meals 0 retired\njob b sessions {done} of 1 withdrawn {withdrawn} meals {meals} retired\nfinished\n"
+        "lab 2\njob a\nsession\nscale add 1\nend\njob b\nsession patience {patience}\nscale add 1\nend\n"
     )
 }
+
+/// A run in rounds of that script finishes after so many, and not before, with this report.
+fn ends_at<R: Threads + Wait + Abort + Sync>(
+    rt: &R,
+    alloc: Global,
+    patience: u32,
+    limit: u32,
+    report: &str,
+) {
+    let Ok(script) = with_patience(alloc, patience) else {
+        panic!(rt; "no memory");
+    };
+    let task = Task::Rounds {
+        limit: limit.saturating_sub(1),
+    };
+    ends(rt, alloc, limit, script.as_str(), Outcome::Finished, report);
+    is_stopped(rt, patience, told(rt, alloc, task, script.as_bytes()));
+}
+
+fn is_stopped(rt: &impl Abort, patience: u32, came: Told) {
+    let (_, answer) = came;
+    assert!(rt; answer == Ok(Outcome::Unfinished), "patience {patience}");
+}
+
+/// Job b gives up before it is hungry; after its meal; not at all.
+const AT_ONCE: &str =
+    "lab 2\ninstrument scale 1\na 1 1/1 add 1 = 1\njob a sessions 1 of 1 withdrawn 0 meals 0 retired\njob b sessions 0 of 1 withdrawn 1 meals 0 retired\nfinished\n";
+
+const LATER: &str =
+    "lab 2\ninstrument scale 1\na 1 1/1 add 1 = 1\njob a sessions 1 of 1 withdrawn 0 meals 0 retired\njob b sessions 0 of 1 withdrawn 1 meals 1 retired\nfinished\n";
+
+const NEVER: &str =
+    "lab 2\ninstrument scale 2\na 1 1/1 add 1 = 1\nb 1 1/1 add 1 = 2\njob a sessions 1 of 1 withdrawn 0 meals 0 retired\njob b sessions 1 of 1 withdrawn 0 meals 1 retired\nfinished\n";
 
 /// The second job waits in rounds 2 to 4, and would drink in round 5. With no patience it withdraws in round 2, before it
 /// is hungry; with a patience of 1 in round 3, after it asked for the fork, so that it eats first; a patience of 3 is enough.
 #[test]
-fn patience_runs_out(rt: HostRuntime) -> Result<(), Fail> {
-    let one = "instrument scale 1\na 1 1/1 add 1 = 1\n";
-    let both = "instrument scale 2\na 1 1/1 add 1 = 1\nb 1 1/1 add 1 = 2\n";
-    for (patience, limit, entries, done, meals) in [
-        (0, 5, one, 0, 0),
-        (1, 6, one, 0, 1),
-        (3, 9, both, 1, 1u32),
-    ] {
-        let script = format!(in rt.alloc();
-            "lab 2\njob a\nsession\nscale add 1\nend\njob b\nsession patience {patience}\nscale add 1\nend\n"
-        )?;
-        let report = patient(rt.alloc(), entries, done, meals)?;
-        ends(
-            &rt,
-            rt.alloc(),
-            limit,
-            script.as_str(),
-            Outcome::Finished,
-            report.as_str(),
-        );
-        let task = Task::Rounds { limit: limit - 1 };
-        let (_, answer) = told(&rt, rt.alloc(), task, script.as_bytes());
-        assert!(rt; answer == Ok(Outcome::Unfinished), "patience {patience}");
-    }
-    Ok(())
+fn patience_runs_out(rt: HostRuntime) {
+    ends_at(&rt, rt.alloc(), 0, 5, AT_ONCE);
+    ends_at(&rt, rt.alloc(), 1, 6, LATER);
+    ends_at(&rt, rt.alloc(), 3, 9, NEVER);
 }
 
 /// What an upgrade writes runs as the script did, but for the version.
 #[test]
-fn upgraded_script(rt: HostRuntime) -> Result<(), Fail> {
+fn upgraded_script(rt: HostRuntime) {
     let (script, _) = told(&rt, rt.alloc(), Task::Upgrade, TWO_ADD.as_bytes());
-    let (bytes, answer) = told(&rt, rt.alloc(), Task::Rounds { limit: 9 }, &script);
-    let both = "instrument scale 2\na 1 1/1 add 1 = 1\nb 1 1/1 add 1 = 2\n";
-    let report = patient(rt.alloc(), both, 1, 1)?;
-    let finished = Ok(Outcome::Finished);
-    is_told(&rt, bytes.as_slice(), answer, finished, report.as_str());
-    Ok(())
+    let told = told(&rt, rt.alloc(), Task::Rounds { limit: 9 }, &script);
+    is_so(&rt, 9, told, Ok(Outcome::Finished), NEVER.as_bytes());
 }
 
 /// The first job has a second session.
@@ -335,32 +340,35 @@ fn stopped(alloc: Global, limit: usize) -> Result<String, AllocError> {
     Ok(text)
 }
 
+/// A run by this task stops so after this many rounds.
+fn stops_at<R: Threads + Wait + Abort + Sync>(rt: &R, alloc: Global, limit: u32, task: Task) {
+    let Ok(report) = stopped(alloc, limit as usize) else {
+        panic!(rt; "no memory");
+    };
+    let outcome = if limit == 14 {
+        Outcome::Finished
+    } else {
+        Outcome::Unfinished
+    };
+    tells(
+        rt,
+        alloc,
+        task,
+        SECOND_SESSION,
+        Ok(outcome),
+        report.as_str(),
+    );
+}
+
 /// A stop after each round; one worker takes the same turns in the same order.
 #[test]
-fn stops_at_each_turn(rt: HostRuntime) -> Result<(), Fail> {
+fn stops_at_each_turn(rt: HostRuntime) {
     for limit in 0..15u32 {
-        let report = stopped(rt.alloc(), limit as usize)?;
-        for task in [
-            Task::Rounds { limit },
-            Task::Threads {
-                workers: 1,
-                turns: limit,
-            },
-        ] {
-            let outcome = if limit == 14 {
-                Outcome::Finished
-            } else {
-                Outcome::Unfinished
-            };
-            tells(
-                &rt,
-                rt.alloc(),
-                task,
-                SECOND_SESSION,
-                Ok(outcome),
-                report.as_str(),
-            );
-        }
+        let by_one = Task::Threads {
+            workers: 1,
+            turns: limit,
+        };
+        stops_at(&rt, rt.alloc(), limit, Task::Rounds { limit });
+        stops_at(&rt, rt.alloc(), limit, by_one);
     }
-    Ok(())
 }
