@@ -389,7 +389,11 @@ mod bad_disk {
         let turned = bench.turn_page();
         let is_through = DISK.with(Cell::get).0 < bad;
         assert!(if is_through { turned.is_ok() } else { matches!(turned, Err(Error::Journal { .. })) }, "{turned:?}");
-        if !is_one && !is_through {
+        // (nor does a page that was turned need more to be written before somebody holds)
+        if is_through {
+            disk(1, u32::MAX);
+        }
+        if !is_one || is_through {
             assert!(matches!(holds(&board, &["scope"]), Err(Error::Journal { .. })));
             assert!(matches!(guest.add(&["scope"]), Err(Error::Journal { .. })));
             assert!(matches!(bench.turn_page(), Err(Error::Journal { .. })));
@@ -457,9 +461,6 @@ mod bad_disk {
 extern "C" {
     fn setrlimit(what: i32, to: *const [u64; 2]) -> i32;
     fn signal(number: i32, to: usize) -> usize;
-    fn fork() -> i32;
-    fn waitpid(process: i32, status: *mut i32, options: i32) -> i32;
-    fn _exit(status: i32) -> !;
 }
 
 /// The files of this process may not grow beyond so many bytes.
@@ -469,19 +470,21 @@ fn limit(bytes: usize) {
     assert_eq!(unsafe { setrlimit(1, &to) }, 0);
 }
 
-/// In a child, because the limit is the whole process's.
+const CHILD: &str = "LABRUN_TEST_CHILD";
+
+/// A test in a process of its own, because the limit is the whole process's.
+fn alone(name: &str, test: fn()) {
+    if std::env::var_os(CHILD).is_some() {
+        return test();
+    }
+    let it = std::env::current_exe().unwrap();
+    let ran = std::process::Command::new(it).args(["--exact", name, "--nocapture"]).env(CHILD, "1").output().unwrap();
+    assert!(ran.status.success(), "{}", String::from_utf8_lossy(&ran.stderr));
+}
+
 #[test]
 fn no_room() {
-    // SAFETY: the child is one thread, and leaves by `_exit`.
-    let child = unsafe { fork() };
-    if child == 0 {
-        let done = std::panic::catch_unwind(without_room).is_ok();
-        unsafe { _exit(i32::from(!done)) };
-    }
-    let mut status = 0;
-    // SAFETY: the child's number, and a place for its status.
-    assert_eq!(unsafe { waitpid(child, &mut status, 0) }, child);
-    assert_eq!(status, 0);
+    alone("no_room", without_room);
 }
 
 /// What can't be written isn't held, and isn't there; who can't let go holds still.
@@ -526,20 +529,12 @@ impl Chance {
     }
 }
 
-const CHILD: &str = "LABRUN_TEST_CHILD";
-
-/// Threads hold at random, while writes fail now and then and pages are turned: each that held is in one journal. (In a process of its own,
-/// because the limit is the whole process's.)
 #[test]
 fn load() {
-    if std::env::var_os(CHILD).is_some() {
-        return loaded();
-    }
-    let it = std::env::current_exe().unwrap();
-    let ran = std::process::Command::new(it).args(["--exact", "load", "--nocapture"]).env(CHILD, "1").output().unwrap();
-    assert!(ran.status.success(), "{}", String::from_utf8_lossy(&ran.stderr));
+    alone("load", loaded);
 }
 
+/// Threads hold at random, while writes fail now and then and pages are turned: each that held is in one journal.
 fn loaded() {
     // SAFETY: SIGXFSZ is ignored.
     unsafe { signal(25, 1) };
