@@ -34,7 +34,7 @@ enum Row {
     /// A session of one command on the scale comes to the job, or why it doesn't.
     Comes(usize, Option<Result<(), AddRefusal>>),
     /// The job has this session, and none behind it.
-    Last(usize, u32),
+    Last(u32, u32),
     /// The job's session ends, or it holds none.
     Ends(usize, bool),
     /// The job retires in at most so many turns, or doesn't.
@@ -45,7 +45,7 @@ fn adds(lab: &mut Lab, job: usize) -> Option<Result<(), AddRefusal>> {
     lab.add_session(job, Some(3), &[(InstrumentNo(0), Verb::Read)])
 }
 
-fn is_last(lab: &Lab, job: usize, session: u32) -> bool {
+fn is_last(lab: &Lab, job: u32, session: u32) -> bool {
     lab.session(job, session).is_some() && lab.session(job, session.saturating_add(1)).is_none()
 }
 
