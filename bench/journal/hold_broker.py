@@ -3,12 +3,13 @@
 
 usage: hold_broker.py SCRIPT JOURNAL WORK REPORT SYNC PAGE NAME=PORT ..      as broker.py; of the script it takes what each job is to do, in what order
 
-A page lasts PAGE seconds. WORK says which of these session N is, not its number in the journal. At the end the report of the last page is in
+A page lasts PAGE seconds, or until it is nearly full. WORK says which of these session N is, not its number in the journal. At the end the report of the last page is in
 REPORT."""
 
 import os
 import sys
 import threading
+import time
 from contextlib import ExitStack
 
 sys.path.insert(0, os.path.join(os.path.dirname(os.path.realpath(__file__)), "..", "..", "examples", "broker"))
@@ -74,8 +75,11 @@ def main(script, journal, work, report, sync, page, *ports):
             works(job.hold(commands=commands), number)
 
     def turns(bench):
-        while not ended.wait(float(page)):
-            bench.turn_page()
+        turned = time.monotonic()
+        while not ended.wait(0.02):
+            if time.monotonic() - turned >= float(page) or bench.room.is_low:
+                bench.turn_page()
+                turned = time.monotonic()
 
     print("opens", flush=True)
     ended = threading.Event()
