@@ -304,7 +304,8 @@ enum class asked { waits, holds, withdrawn, failed };
 struct seat {
     std::vector<lab_session> sessions;
     std::uint32_t in = 0, last = 0; // the session that it is in, which waits or holds, or 0; and the one that it is in or was in last
-    asked how = asked::waits;
+    std::uint64_t asks = 0; // how many asks there were: the last one is the seat's
+    asked *to = nullptr;    // where that ask is told what became of it, until its thread has woken (an earlier one may not have woken yet, either)
     std::uint32_t held = 0, done = 0; // a session that held before it was asked for, by a journal, and how many of its commands are done
     std::exception_ptr fault;         // why a session that went could not let go
     using clock = std::chrono::steady_clock;
@@ -322,7 +323,6 @@ struct seat {
         sessions = std::move(those);
         leaves();
         last = taken = done = 0;
-        how = asked::waits;
         limit = std::nullopt;
     }
 
@@ -878,10 +878,8 @@ struct core {
             if (undone(lapsed, job)) left |= bit(job);
             if (undone(taken, job)) it.taken = 0;
             if (!it.in) left &= ~bit(job);
-            it.how = asked::failed;
-            it.woken.notify_one();
+            tell(job, asked::failed);
         }
-        waiting = 0;
         try {
             give_up_unheld();
         } catch (const std::exception &) {
@@ -914,11 +912,18 @@ struct core {
 
     // The session of a job has come to something; whoever waits for it is woken.
     void comes_to(std::uint32_t job, asked how) {
+        if (how == asked::withdrawn) seats[job].leaves();
+        // (whoever waits takes it, also if another thread gave it up in vain)
+        if (how == asked::holds) left &= ~bit(job);
+        tell(job, how);
+    }
+
+    // (all that sleep there: one that was told before may not have woken yet)
+    void tell(std::uint32_t job, asked how) {
         seat &it = seats[job];
-        it.how = how;
-        if (how == asked::withdrawn) it.leaves();
+        if (it.to) *it.to = how;
         waiting &= ~bit(job);
-        it.woken.notify_one();
+        it.woken.notify_all();
     }
 
     // One that came to hold does so from now on. Whoever waits for one that may hold for so long only is to know.
@@ -931,7 +936,7 @@ struct core {
 
     // Those that wait reckon anew how long they sleep.
     void rouse() {
-        each(waiting, [this](std::uint32_t job) { seats[job].woken.notify_one(); });
+        each(waiting, [this](std::uint32_t job) { seats[job].woken.notify_all(); });
     }
 
     // Whether a job has asked, and its session isn't begun yet.
@@ -966,8 +971,8 @@ struct core {
         }
         const bool is_gone = lab_withdraw(&handle, job) == 0;
         told();
-        if (is_gone && may) comes_to(job, asked::withdrawn);
-        else if (is_gone) it.last = it.leaves() - 1; // it wasn't begun, and is the next again
+        if (is_gone && !may) it.last = it.in - 1; // it wasn't begun, and is the next again
+        if (is_gone) comes_to(job, asked::withdrawn);
         else left |= bit(job);
         return is_gone && may;
     }
@@ -1034,15 +1039,34 @@ struct core {
         lapsed.emplace_back(jobs[job], seats[job].leaves());
     }
 
-    // Sleeps until the session of a job has come to something, or one of these times has.
-    void sleep(std::unique_lock<std::mutex> &guard, std::uint32_t job, std::optional<seat::clock::time_point> until,
+    // Asks for the session that a job is in, and sleeps until it has come to something: what. (It waits still if the bench is closed.)
+    asked comes_of(std::unique_lock<std::mutex> &guard, std::uint32_t job, const times &times) {
+        seat &me = seats[job];
+        // (of its own: a session that is over leaves the seat to the next that asks, who may come before this thread wakes)
+        asked how = asked::waits;
+        me.to = &how;
+        waiting |= bit(job);
+        // (it leaves also by an exception; what is another's by then stays)
+        const auto leaves = [&](asked *mine) {
+            if (me.to != mine) return;
+            me.to = nullptr;
+            waiting &= ~bit(job);
+        };
+        const std::unique_ptr<asked, decltype(leaves)> at_the_end(&how, leaves);
+        settle();
+        sleep(guard, job, how, times.until, seat::later(me.asked_at.value_or(seat::clock::time_point()), times.patience));
+        return how;
+    }
+
+    // Sleeps until an ask has come to something, or one of these times has.
+    void sleep(std::unique_lock<std::mutex> &guard, std::uint32_t job, const asked &how, std::optional<seat::clock::time_point> until,
                std::optional<seat::clock::time_point> gives_up) {
         using clock = seat::clock;
         seat &me = seats[job];
         // (a patience runs out by the calls of `lab_settle`, so one of those that wait makes one now and then)
         const bool ticks = me.is_patient();
         clock::time_point looked = clock::now();
-        while (me.how == asked::waits && !is_closed) {
+        while (how == asked::waits && !is_closed) {
             // (what nobody waits for is not taken away: it is looked at again later)
             std::optional<clock::time_point> wakes = limit_ends();
             if (wakes) wakes = std::max(*wakes, looked);
@@ -1052,21 +1076,22 @@ struct core {
                 me.woken.wait(guard);
                 continue;
             }
-            if (me.woken.wait_until(guard, *wakes) == std::cv_status::no_timeout || is_closed) continue;
-            look(job, ticks, until, gives_up);
+            if (me.woken.wait_until(guard, *wakes) == std::cv_status::no_timeout || how != asked::waits || is_closed) continue;
+            look(job, how, ticks, until, gives_up);
             looked = clock::now() + TICK;
         }
     }
 
     // What one that waits does at such a time.
-    void look(std::uint32_t job, bool ticks, std::optional<seat::clock::time_point> until, std::optional<seat::clock::time_point> gives_up) {
+    void look(std::uint32_t job, const asked &how, bool ticks, std::optional<seat::clock::time_point> until,
+              std::optional<seat::clock::time_point> gives_up) {
         const seat::clock::time_point now = seat::clock::now();
         take_overdue();
         if (ticks && now - ticked >= TICK / 2) {
             ticked = now;
             settle();
         }
-        if (seats[job].how != asked::waits) return;
+        if (how != asked::waits) return;
         const bool is_over = gives_up && now >= *gives_up;
         if (!is_over && !(until && now >= *until)) return;
         std::vector<keeper> keepers = this->keepers(job);
@@ -1280,8 +1305,9 @@ struct core {
     }
 
     // A session of `hold` that didn't come to hold is over. Whether it holds after all, where a write failed and the file has that.
-    bool pass(std::uint32_t job, std::uint32_t number) {
-        if (is_closed || seats[job].in != number) return false;
+    // (After such a write another thread may have asked for a session of the same number.)
+    bool pass(std::uint32_t job, std::uint32_t number, std::uint64_t ask) {
+        if (is_closed || seats[job].in != number || seats[job].asks != ask) return false;
         if (does_hold(job)) {
             seats[job].held = 0;
             return true;
@@ -1636,37 +1662,36 @@ class session {
   private:
     friend class desk;
     friend class job;
-    session(detail::core *core, std::uint32_t job, std::uint32_t number, std::uint64_t needs, std::uint32_t done, bool resumed)
-        : core_(core), job_(job), number_(number), needs_(needs), done_(done), resumed_(resumed), page_(core->page) {}
+    session(detail::core *core, std::uint32_t job, std::uint32_t number, std::uint64_t needs, std::uint32_t done, bool resumed, std::uint64_t page)
+        : core_(core), job_(job), number_(number), needs_(needs), done_(done), resumed_(resumed), page_(page) {}
 
     // Asks for this session, which is the next one or the one that the job is in, and sleeps until it holds. One that `passes` is given up when its
     // time is over.
     static session ask(detail::core *core, std::unique_lock<std::mutex> &guard, std::uint32_t job, std::uint32_t number, const detail::times &times,
                        bool passes) {
         detail::seat &me = core->seats[job];
-        const lab_session what = me.sessions[number - 1];
-        const std::uint32_t bit = detail::core::bit(job);
+        if (core->waiting & detail::core::bit(job)) throw not_now("another thread waits for a session of " + core->jobs[job]);
+        const std::uint64_t needs = me.sessions[number - 1].needs, page = core->page, mine = ++me.asks;
         me.in = me.last = number;
-        me.how = detail::asked::waits;
         me.limit = times.limit;
         if (times.patience && !me.asked_at) me.asked_at = detail::seat::clock::now();
         if (me.limit && me.since) core->rouse();
-        core->left &= ~bit;
-        core->waiting |= bit;
-        core->settle();
+        core->left &= ~detail::core::bit(job);
+        detail::asked how = detail::asked::waits;
         try {
-            core->sleep(guard, job, times.until, detail::seat::later(me.asked_at.value_or(detail::seat::clock::time_point()), times.patience));
+            how = core->comes_of(guard, job, times);
         } catch (const timed_out &) {
-            if (passes) core->pass(job, number);
+            if (passes) core->pass(job, number, mine);
             throw;
         }
-        core->waiting &= ~bit;
-        if (me.how == detail::asked::withdrawn) throw withdrawn();
-        if (me.how == detail::asked::failed && !(passes && core->pass(job, number)))
+        if (how == detail::asked::withdrawn) throw withdrawn();
+        if (how == detail::asked::failed && !(passes && core->pass(job, number, mine)))
             throw journal_error(core->log->path(), "a write failed while it waited");
-        if (me.how == detail::asked::waits) throw closed();
+        if (how == detail::asked::waits) throw closed();
+        // (it held, and was ended by another before this thread woke; what the job is in by now is another's)
+        if (me.asks != mine) throw taken_away();
         const bool is_resumed = !passes && me.held == number;
-        session begun(core, job, number, what.needs, is_resumed ? me.done : 0, is_resumed);
+        session begun(core, job, number, needs, is_resumed ? me.done : 0, is_resumed, page);
         const detail::journal::ticket ticket = core->ticket();
         guard.unlock();
         try {
@@ -1674,7 +1699,7 @@ class session {
         } catch (...) {
             guard.lock();
             // (what others added behind it may be what couldn't be written)
-            if (passes && core->pass(job, number)) return begun;
+            if (passes && core->pass(job, number, mine)) return begun;
             begun.core_ = nullptr;
             throw;
         }
