@@ -289,7 +289,8 @@ struct Seat {
     /// The session that it is in, which waits or holds, or 0; and the one that it is in or was in last.
     now: u32,
     last: u32,
-    came: Came,
+    /// The number of the last ask for a session of the job: that ask is the seat's.
+    ask: u64,
     /// A session that held before it was asked for, by a journal, and how many of its commands are done.
     held: u32,
     done: u32,
@@ -315,7 +316,7 @@ impl Seat {
             sessions,
             now: 0,
             last: 0,
-            came: Came::Waits,
+            ask: 0,
             held: 0,
             done: 0,
             fault: None,
@@ -370,6 +371,10 @@ struct Core {
     seats: Vec<Seat>,
     /// The jobs whose threads wait, as a set of bits.
     waiting: u32,
+    /// How many asks there were; and what became of each whose thread hasn't woken yet. (Of its own: a session that is over leaves the seat to
+    /// the next that asks, who may come before that thread wakes.)
+    asks: u64,
+    came: HashMap<u64, Came>,
     ticked: Option<Instant>,
     /// The jobs whose sessions were given up and can't be withdrawn, and those sessions that lapsed.
     left: u32,
@@ -479,7 +484,9 @@ impl Inner {
         if is_back {
             core.comes_back();
             for (job, seat) in core.seats.iter_mut().enumerate() {
-                seat.came = Came::Failed;
+                if let Some(came) = core.came.get_mut(&seat.ask) {
+                    *came = Came::Failed;
+                }
                 let session = (self.jobs[job].clone(), seat.now);
                 if core.lapsed.contains(&session) {
                     core.lapsed.retain(|it| *it != session);
@@ -505,12 +512,19 @@ impl Inner {
     /// The session of a job has come to something; whoever waits for it is woken.
     fn comes_to(&self, core: &mut Core, job: u32, came: Came) {
         let seat = &mut core.seats[job as usize];
-        seat.came = came;
         if came == Came::Withdrawn {
             seat.leaves();
         }
+        if came == Came::Holds {
+            // (whoever waits takes it, also if another thread gave it up in vain)
+            core.left &= !(1 << job);
+        }
+        if let Some(told) = core.came.get_mut(&seat.ask) {
+            *told = came;
+        }
         core.waiting &= !(1 << job);
-        self.woken[job as usize].notify_one();
+        // (all that sleep there: one that was told before may not have woken yet)
+        self.woken[job as usize].notify_all();
     }
 
     /// Those that came to hold do so from now on. Whoever waits for one that may hold for so long only is to know.
@@ -530,7 +544,7 @@ impl Inner {
 
     /// Those that wait reckon anew how long they sleep.
     fn rouse(&self, core: &Core) {
-        members(core.waiting).for_each(|job| self.woken[job as usize].notify_one());
+        members(core.waiting).for_each(|job| self.woken[job as usize].notify_all());
     }
 
     /// Those that wait for more than their turn look again.
@@ -556,13 +570,39 @@ impl Inner {
         Ok(gone)
     }
 
-    /// Sleeps until the session of a job has come to something, or one of these times has. Why it doesn't hold, if so.
-    fn sleep<'c>(&self, mut core: MutexGuard<'c, Core>, job: u32, until: Option<Instant>, gives_up: Option<Instant>) -> Woken<'c> {
+    /// Asks for the session that a job is in, and sleeps until it holds. Why it doesn't, if so.
+    fn wait<'c>(&self, mut core: MutexGuard<'c, Core>, job: u32, ask: u64, until: Option<Instant>, gives_up: Option<Instant>) -> Woken<'c> {
+        core.waiting |= 1 << job;
+        core.came.insert(ask, Came::Waits);
+        let mut ended = self.settle(&mut core);
+        if ended.is_ok() {
+            (core, ended) = self.sleep(core, job, ask, until, gives_up);
+        }
+        core.came.remove(&ask);
+        // (if another thread has asked since, the seat and the bit are that one's)
+        if core.seats[job as usize].ask == ask {
+            core.waiting &= !(1 << job);
+        } else if ended.is_ok() {
+            // (it held, and was ended by another before this thread woke)
+            ended = Err(Error::TakenAway);
+        }
+        (core, ended)
+    }
+
+    /// Sleeps until an ask for a session of a job has come to something, or one of these times has. Why it doesn't hold, if so.
+    fn sleep<'c>(
+        &self,
+        mut core: MutexGuard<'c, Core>,
+        job: u32,
+        ask: u64,
+        until: Option<Instant>,
+        gives_up: Option<Instant>,
+    ) -> Woken<'c> {
         // (a patience runs out by the calls of `lab_settle`, so one of those that wait makes one now and then)
         let tick = core.seats[job as usize].patience().map(|_| TICK);
         let mut looked = Instant::now();
         loop {
-            match core.seats[job as usize].came {
+            match core.came[&ask] {
                 Came::Holds => return (core, Ok(())),
                 Came::Withdrawn => return (core, Err(Error::Withdrawn)),
                 Came::Failed => return (core, Err(self.log.as_ref().map_or(Error::Closed, Journal::failed))),
@@ -580,10 +620,10 @@ impl Inner {
             };
             let over;
             (core, over) = woken.wait_timeout(core, wakes - now.min(wakes)).unwrap_or_else(|poisoned| poisoned.into_inner());
-            if !over.timed_out() || core.closed {
+            if !over.timed_out() || core.came[&ask] != Came::Waits || core.closed {
                 continue;
             }
-            if let Err(fault) = self.look(&mut core, job, tick, until, gives_up) {
+            if let Err(fault) = self.look(&mut core, job, ask, tick, until, gives_up) {
                 return (core, Err(fault));
             }
             looked = Instant::now() + TICK;
@@ -595,6 +635,7 @@ impl Inner {
         &self,
         core: &mut Core,
         job: u32,
+        ask: u64,
         tick: Option<Duration>,
         until: Option<Instant>,
         gives_up: Option<Instant>,
@@ -605,7 +646,7 @@ impl Inner {
             core.ticked = Some(now);
             self.settle(core)?;
         }
-        if core.seats[job as usize].came != Came::Waits {
+        if core.came[&ask] != Came::Waits {
             return Ok(());
         }
         if gives_up.is_some_and(|it| now >= it) {
@@ -638,12 +679,13 @@ impl Inner {
         }
         let gone = withdraw(core);
         self.told(core)?;
-        if gone && may {
-            self.comes_to(core, job, Came::Withdrawn);
-        } else if gone {
+        if gone && !may {
             // it wasn't begun, and is the next again
             let seat = &mut core.seats[job as usize];
-            seat.last = seat.leaves() - 1;
+            seat.last = seat.now - 1;
+        }
+        if gone {
+            self.comes_to(core, job, Came::Withdrawn);
         } else {
             core.left |= 1 << job;
         }
@@ -707,30 +749,32 @@ impl Inner {
         passes: bool,
     ) -> Result<Session<'d>, Error> {
         let bit = 1 << job;
+        if core.waiting & bit != 0 {
+            return Err(Error::NotNow(format!("another thread waits for a session of {}", self.jobs[job as usize])));
+        }
+        core.asks += 1;
+        let (ask, page) = (core.asks, core.page);
         let seat = &mut core.seats[job as usize];
         let needs = seat.sessions[number as usize - 1].needs;
-        (seat.now, seat.last, seat.came, seat.limit) = (number, number, Came::Waits, times.limit);
+        (seat.now, seat.last, seat.ask, seat.limit) = (number, number, ask, times.limit);
         let gives_up = times.patience.and_then(|it| seat.asked.get_or_insert_with(Instant::now).checked_add(it));
         if seat.limit.is_some() && seat.since.is_some() {
             self.rouse(&core);
         }
         core.left &= !bit;
-        core.waiting |= bit;
-        self.settle(&mut core)?;
         let mut ended;
-        (core, ended) = self.sleep(core, job, times.until, gives_up);
-        core.waiting &= !bit;
-        if passes && ended.is_err() && self.pass(&mut core, job, number)? {
+        (core, ended) = self.wait(core, job, ask, times.until, gives_up);
+        if passes && ended.is_err() && self.pass(&mut core, job, number, ask)? {
             ended = Ok(());
         }
-        let (seat, ticket, page) = (&core.seats[job as usize], self.ticket(), core.page);
+        let (seat, ticket) = (&core.seats[job as usize], self.ticket());
         let resumed = !passes && seat.held == number;
         let done = if resumed { seat.done } else { 0 };
         drop(core);
         ended?;
         if let Err(fault) = self.commit(ticket) {
             // (what others added behind it may be what couldn't be written)
-            if !passes || !self.pass(&mut *self.open()?, job, number)? {
+            if !passes || !self.pass(&mut *self.open()?, job, number, ask)? {
                 return Err(fault);
             }
         }
@@ -754,6 +798,8 @@ impl Core {
             closed: false,
             seats: Vec::new(),
             waiting: 0,
+            asks: 0,
+            came: HashMap::new(),
             ticked: None,
             left: 0,
             lapsed: Vec::new(),
