@@ -307,6 +307,7 @@ struct seat {
     std::uint64_t asks = 0; // how many asks there were: the last one is the seat's
     asked *to = nullptr;    // where that ask is told what became of it, until its thread has woken (an earlier one may not have woken yet, either)
     std::uint32_t held = 0, done = 0; // a session that held before it was asked for, by a journal, and how many of its commands are done
+    bool is_had = false;              // a thread has the session that it is in, and holds
     std::exception_ptr fault;         // why a session that went could not let go
     using clock = std::chrono::steady_clock;
     std::optional<clock::time_point> asked_at, since; // when the session was asked for, and since when it holds
@@ -332,7 +333,7 @@ struct seat {
     std::uint32_t leaves() {
         asked_at = since = std::nullopt;
         held = outside = 0;
-        is_old = false;
+        is_old = is_had = false;
         return std::exchange(in, 0);
     }
 
@@ -844,7 +845,9 @@ struct core {
             const struct lab_state found = state(job);
             const bool holds = found.drinking == 2 || found.drinking == 3;
             seat &it = seats[job];
+            const bool was_had = it.is_had;
             it.leaves();
+            it.is_had = was_had && holds;
             it.sessions.resize(found.sessions);
             it.last = found.session;
             it.in = holds || found.drinking == 1 ? found.session : 0;
@@ -1197,6 +1200,11 @@ struct core {
     // Whether its instruments aren't free: it is in line, or holds. (One that was left and holds lets go as soon as somebody waits.)
     bool is_in_use(std::uint32_t job) { return seats[job].in && !is_outside(job) && !is_left(job); }
 
+    [[noreturn]] void is_in_one(std::uint32_t job) const {
+        throw not_now(jobs[job] + " is in a session, its " + std::to_string(seats[job].in) +
+                      ", and is in one at a time: threads that hold at once need a job each");
+    }
+
     // A job has no session to begin, and is in none, but for one that was left and is over now; else this says why another can't come.
     void comes_next(std::uint32_t job) {
         next_of(job);
@@ -1205,8 +1213,7 @@ struct core {
             lapse(job);
             settle();
         }
-        if (me.in)
-            throw not_now(jobs[job] + " is in a session, its " + std::to_string(me.in) + ", and is in one at a time: threads that hold at once need a job each");
+        if (me.in) is_in_one(job);
         if (me.has_more())
             throw not_now(jobs[job] + " has sessions left to begin, from " + std::to_string(me.last + 1) + " to " + std::to_string(me.sessions.size()) +
                           ": they come first");
@@ -1579,6 +1586,7 @@ class session {
         } catch (...) {
             std::lock_guard<std::mutex> guard(core->mutex);
             core->seats[job_].fault = std::current_exception();
+            if (core->seats[job_].in == number_) core->seats[job_].is_had = false;
         }
     }
 
@@ -1670,7 +1678,8 @@ class session {
     static session ask(detail::core *core, std::unique_lock<std::mutex> &guard, std::uint32_t job, std::uint32_t number, const detail::times &times,
                        bool passes) {
         detail::seat &me = core->seats[job];
-        if (core->waiting & detail::core::bit(job)) throw not_now("another thread waits for a session of " + core->jobs[job]);
+        // (another thread has it, or asked for it and hasn't woken yet)
+        if (me.in && (me.is_had || me.to)) core->is_in_one(job);
         const std::uint64_t needs = me.sessions[number - 1].needs, page = core->page, mine = ++me.asks;
         me.in = me.last = number;
         me.limit = times.limit;
@@ -1690,6 +1699,7 @@ class session {
         if (how == detail::asked::waits) throw closed();
         // (it held, and was ended by another before this thread woke; what the job is in by now is another's)
         if (me.asks != mine) throw taken_away();
+        me.is_had = true;
         const bool is_resumed = !passes && me.held == number;
         session begun(core, job, number, needs, is_resumed ? me.done : 0, is_resumed, page);
         const detail::journal::ticket ticket = core->ticket();
@@ -1701,6 +1711,7 @@ class session {
             // (what others added behind it may be what couldn't be written)
             if (passes && core->pass(job, number, mine)) return begun;
             begun.core_ = nullptr;
+            if (me.asks == mine) me.is_had = false;
             throw;
         }
         return begun;
@@ -1754,7 +1765,9 @@ class desk {
     bool give_up() {
         core_->belongs_here();
         std::unique_lock<std::mutex> guard(core_->mutex);
-        if (core_->is_closed || !core_->seats[job_].in) return false;
+        const detail::seat &it = core_->seats[job_];
+        // (nor one that a thread has, or will have once it wakes)
+        if (core_->is_closed || !it.in || it.is_had || (it.to && *it.to == detail::asked::holds)) return false;
         const bool gone = core_->give_up(job_);
         core_->settle();
         const detail::journal::ticket ticket = core_->ticket();

@@ -356,6 +356,11 @@ impl Inner {
         }
     }
 
+    pub(crate) fn is_in_one(&self, core: &Core, job: u32) -> Error {
+        let (name, now) = (&self.jobs[job as usize], core.seats[job as usize].now);
+        Error::NotNow(format!("{name} is in a session, its {now}, and is in one at a time: threads that hold at once need a job each"))
+    }
+
     /// A job has no session to begin, and is in none, but for one that was left and is over now; else this says why another can't come.
     pub(crate) fn comes_next(&self, core: &mut Core, job: u32) -> Result<(), Error> {
         self.next_of(core, job)?;
@@ -365,9 +370,7 @@ impl Inner {
         }
         let (name, seat) = (&self.jobs[job as usize], &core.seats[job as usize]);
         if seat.now != 0 {
-            let why =
-                format!("{name} is in a session, its {}, and is in one at a time: threads that hold at once need a job each", seat.now);
-            return Err(Error::NotNow(why));
+            return Err(self.is_in_one(core, job));
         }
         if (seat.last as usize) < seat.sessions.len() {
             let why = format!("{name} has sessions left to begin, from {} to {}: they come first", seat.last + 1, seat.sessions.len());

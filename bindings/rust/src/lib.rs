@@ -291,6 +291,8 @@ struct Seat {
     last: u32,
     /// The number of the last ask for a session of the job: that ask is the seat's.
     ask: u64,
+    /// Whether somebody has the session that it is in, and holds.
+    had: bool,
     /// A session that held before it was asked for, by a journal, and how many of its commands are done.
     held: u32,
     done: u32,
@@ -317,6 +319,7 @@ impl Seat {
             now: 0,
             last: 0,
             ask: 0,
+            had: false,
             held: 0,
             done: 0,
             fault: None,
@@ -331,7 +334,7 @@ impl Seat {
 
     /// The job is in no session any more; the number of the one that it was in.
     fn leaves(&mut self) -> u32 {
-        (self.held, self.outside, self.asked, self.since, self.is_old) = (0, 0, None, None, false);
+        (self.held, self.outside, self.asked, self.since, self.is_old, self.had) = (0, 0, None, None, false, false);
         std::mem::take(&mut self.now)
     }
 
@@ -749,8 +752,10 @@ impl Inner {
         passes: bool,
     ) -> Result<Session<'d>, Error> {
         let bit = 1 << job;
-        if core.waiting & bit != 0 {
-            return Err(Error::NotNow(format!("another thread waits for a session of {}", self.jobs[job as usize])));
+        let seat = &core.seats[job as usize];
+        // (somebody has it, or asked for it and hasn't woken yet)
+        if seat.now != 0 && (seat.had || core.came.contains_key(&seat.ask)) {
+            return Err(self.is_in_one(&core, job));
         }
         core.asks += 1;
         let (ask, page) = (core.asks, core.page);
@@ -767,14 +772,17 @@ impl Inner {
         if passes && ended.is_err() && self.pass(&mut core, job, number, ask)? {
             ended = Ok(());
         }
-        let (seat, ticket) = (&core.seats[job as usize], self.ticket());
+        let (seat, ticket) = (&mut core.seats[job as usize], self.ticket());
+        seat.had |= ended.is_ok();
         let resumed = !passes && seat.held == number;
         let done = if resumed { seat.done } else { 0 };
         drop(core);
         ended?;
         if let Err(fault) = self.commit(ticket) {
+            let Ok(mut core) = self.open() else { return Err(fault) };
             // (what others added behind it may be what couldn't be written)
-            if !passes || !self.pass(&mut *self.open()?, job, number, ask)? {
+            if !passes || !self.pass(&mut core, job, number, ask)? {
+                core.seats[job as usize].had &= core.seats[job as usize].ask != ask;
                 return Err(fault);
             }
         }
@@ -829,7 +837,9 @@ impl Core {
         for job in 0..self.seats.len() {
             let state = self.state(job as u32);
             let (holds, seat) = (HOLDS.contains(&state.drinking), &mut self.seats[job]);
+            let had = seat.had;
             seat.leaves();
+            seat.had = had && holds;
             seat.sessions.truncate(state.sessions as usize);
             seat.last = state.session;
             seat.now = if holds || state.drinking == THIRSTY { state.session } else { 0 };
@@ -1085,7 +1095,9 @@ impl Desk {
     pub fn give_up(&mut self) -> bool {
         let (inner, job) = (&*self.inner, self.job);
         let Ok(mut core) = inner.open() else { return false };
-        if core.seats[job as usize].now == 0 {
+        let seat = &core.seats[job as usize];
+        // (nor one that somebody has, or will have once that thread wakes)
+        if seat.now == 0 || seat.had || core.came.get(&seat.ask) == Some(&Came::Holds) {
             return false;
         }
         let gone = inner.give_up(&mut core, job);
@@ -1208,8 +1220,19 @@ impl Session<'_> {
     pub fn finish(self) -> Result<(), Error> {
         let mut me = self;
         let ended = me.end();
+        if ended.is_err() {
+            me.is_had_no_more(None);
+        }
         me.gone = true; // (it has no more to do when it is dropped)
         ended
+    }
+
+    /// If it holds still, whoever begins next gets it, and first why it couldn't let go.
+    fn is_had_no_more(&self, fault: Option<Error>) {
+        let Ok(mut core) = self.inner.open() else { return };
+        let seat = &mut core.seats[self.job as usize];
+        seat.had &= seat.now != self.number;
+        seat.fault = fault.or(seat.fault.take());
     }
 
     fn end(&mut self) -> Result<(), Error> {
@@ -1239,9 +1262,7 @@ impl Drop for Session<'_> {
             return;
         }
         if let Err(fault) = self.end() {
-            if let Ok(mut core) = self.inner.open() {
-                core.seats[self.job as usize].fault = Some(fault);
-            }
+            self.is_had_no_more(Some(fault));
         }
     }
 }

@@ -621,6 +621,34 @@ fn two_threads_at_a_job() {
     assert_eq!((withdrawn.into_inner(), closed(bench).log("scope").len()), (100, 200));
 }
 
+/// Threads take what was added to one job: each session has one owner, and others are told that the job is in one.
+#[test]
+fn threads_take_what_comes() {
+    let (bench, inside, done) = (bay(64), AtomicU32::new(0), AtomicU32::new(0));
+    let guest = job(&bench, "guest");
+    (0..200).for_each(|_| guest.add(&["scope"]).unwrap());
+    let works = || loop {
+        match guest.begin() {
+            Ok(Some(_session)) => {
+                assert_eq!(inside.fetch_add(1, SeqCst), 0);
+                thread::sleep(Duration::from_micros(10));
+                done.fetch_add(1, SeqCst);
+                inside.fetch_sub(1, SeqCst);
+            }
+            Ok(None) => return,
+            Err(fault) => {
+                assert!(matches!(fault, Error::NotNow(_)));
+                thread::sleep(Duration::from_micros(10));
+            }
+        }
+    };
+    thread::scope(|threads| {
+        (0..3).for_each(|_| drop(threads.spawn(works)));
+        until(|| done.load(SeqCst) >= 200 && guest.retire().is_ok());
+    });
+    assert_eq!(closed(bench).log("scope").len(), 200);
+}
+
 #[test]
 fn load() {
     let (jobs, mut chance) = (32, Chance(7));
