@@ -1576,7 +1576,7 @@ class session {
   public:
     session(session &&other) noexcept
         : core_(std::exchange(other.core_, nullptr)), job_(other.job_), number_(other.number_), needs_(other.needs_), done_(other.done_),
-          resumed_(other.resumed_), page_(other.page_), is_gone_(other.is_gone_) {}
+          resumed_(other.resumed_), page_(other.page_), ask_(other.ask_), is_gone_(other.is_gone_) {}
     session &operator=(session &&) = delete;
     ~session() {
         detail::core *core = core_;
@@ -1586,7 +1586,7 @@ class session {
         } catch (...) {
             std::lock_guard<std::mutex> guard(core->mutex);
             core->seats[job_].fault = std::current_exception();
-            if (core->seats[job_].in == number_) core->seats[job_].is_had = false;
+            if (has()) core->seats[job_].is_had = false;
         }
     }
 
@@ -1600,7 +1600,7 @@ class session {
     bool is_held() const {
         if (!core_ || is_gone_ || !core_->is_here()) return false;
         std::lock_guard<std::mutex> guard(core_->mutex);
-        return !core_->is_closed && core_->page == page_ && core_->seats[job_].in == number_;
+        return !core_->is_closed && core_->page == page_ && has();
     }
 
     // The names of the instruments that it holds.
@@ -1619,7 +1619,7 @@ class session {
         if (core_->is_closed) throw closed();
         is_held_yet();
         lab_entry entry{};
-        if (core_->seats[job_].in != number_) return std::nullopt;
+        if (!has()) return std::nullopt;
         if (lab_command(&core_->handle, job_, &entry)) return std::nullopt;
         core_->told();
         const detail::journal::ticket ticket = core_->ticket();
@@ -1650,7 +1650,7 @@ class session {
         if (core_->is_closed) return;
         is_held_yet();
         // (it may be over, and another one begun, if the job was told that it was taken away)
-        if (core_->seats[job_].in != number_) {
+        if (!has()) {
             core_ = nullptr;
             return;
         }
@@ -1671,7 +1671,8 @@ class session {
     friend class desk;
     friend class job;
     session(detail::core *core, std::uint32_t job, std::uint32_t number, std::uint64_t needs, std::uint32_t done, bool resumed, std::uint64_t page)
-        : core_(core), job_(job), number_(number), needs_(needs), done_(done), resumed_(resumed), page_(page) {}
+        : core_(core), job_(job), number_(number), needs_(needs), done_(done), resumed_(resumed), page_(page),
+          ask_(core->seats[job].asks) {}
 
     // Asks for this session, which is the next one or the one that the job is in, and sleeps until it holds. One that `passes` is given up when its
     // time is over.
@@ -1717,6 +1718,9 @@ class session {
         return begun;
     }
 
+    // Whether the session that the job is in is this one, and nobody has asked for it since.
+    bool has() const { return core_->seats[job_].in == number_ && core_->seats[job_].asks == ask_; }
+
     // Whether it holds still, for a call of its owner, who is told once that it was taken away. (A page is only turned when no other is held.)
     void is_held_yet() {
         is_gone_ = is_gone_ || core_->page != page_;
@@ -1729,7 +1733,7 @@ class session {
     std::uint64_t needs_;
     std::uint32_t done_;
     bool resumed_;
-    std::uint64_t page_; // the page that it is of
+    std::uint64_t page_, ask_; // the page that it is of, and the ask of the job's that it is
     bool is_gone_ = false; // it was taken away, and its owner knows
 };
 

@@ -486,8 +486,7 @@ impl Inner {
     /// A session of `hold` that didn't come to hold is over. Whether it holds after all, where a write failed and the file has that.
     /// (After such a write another thread may have asked for a session of the same number.)
     pub(crate) fn pass(&self, core: &mut Core, job: u32, number: u32, ask: u64) -> Result<bool, Error> {
-        let seat = &core.seats[job as usize];
-        if core.closed || seat.now != number || seat.ask != ask {
+        if core.closed || !core.seats[job as usize].is_in(number, ask) {
             return Ok(false);
         }
         if HOLDS.contains(&core.state(job).drinking) {

@@ -338,13 +338,18 @@ impl Seat {
         std::mem::take(&mut self.now)
     }
 
+    /// Whether the session that it is in is this one, and nobody has asked for it since.
+    fn is_in(&self, number: u32, ask: u64) -> bool {
+        self.now == number && self.ask == ask
+    }
+
     /// Whether its owner still holds this session. That it was taken away is told once.
-    fn is_held_yet(&mut self, number: u32, gone: &mut bool) -> Result<(), Error> {
+    fn is_held_yet(&mut self, number: u32, ask: u64, gone: &mut bool) -> Result<(), Error> {
         if self.taken == number {
             self.taken = 0;
         }
         // (it may be over, and another one begun, if somebody else was told that)
-        *gone |= self.now != number;
+        *gone |= !self.is_in(number, ask);
         if *gone {
             Err(Error::TakenAway)
         } else {
@@ -786,7 +791,7 @@ impl Inner {
                 return Err(fault);
             }
         }
-        Ok(Session { inner: Arc::clone(self), job, number, needs, done, resumed, page, gone: false, desk: PhantomData })
+        Ok(Session { inner: Arc::clone(self), job, number, needs, done, resumed, page, ask, gone: false, desk: PhantomData })
     }
 }
 
@@ -1127,6 +1132,8 @@ pub struct Session<'d> {
     resumed: bool,
     /// The page that it is of.
     page: u64,
+    /// The ask that it is of.
+    ask: u64,
     /// It was taken away, and its owner knows.
     gone: bool,
     /// A desk begins no other meanwhile.
@@ -1151,7 +1158,7 @@ impl Session<'_> {
 
     /// Whether it still holds: no if it was taken away. (Its owner is told by the next call, even if it asked this.)
     pub fn is_held(&self) -> bool {
-        let seat = |core: MutexGuard<'_, Core>| core.page == self.page && core.seats[self.job as usize].now == self.number;
+        let seat = |core: MutexGuard<'_, Core>| core.page == self.page && core.seats[self.job as usize].is_in(self.number, self.ask);
         !self.gone && self.inner.open().is_ok_and(seat)
     }
 
@@ -1161,7 +1168,7 @@ impl Session<'_> {
         if self.gone {
             return Err(Error::TakenAway);
         }
-        core.seats[self.job as usize].is_held_yet(self.number, &mut self.gone)
+        core.seats[self.job as usize].is_held_yet(self.number, self.ask, &mut self.gone)
     }
 
     /// How many of its commands are done.
@@ -1231,7 +1238,7 @@ impl Session<'_> {
     fn is_had_no_more(&self, fault: Option<Error>) {
         let Ok(mut core) = self.inner.open() else { return };
         let seat = &mut core.seats[self.job as usize];
-        seat.had &= seat.now != self.number;
+        seat.had &= !seat.is_in(self.number, self.ask);
         seat.fault = fault.or(seat.fault.take());
     }
 
