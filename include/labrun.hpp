@@ -1317,6 +1317,7 @@ struct core {
         if (is_closed || seats[job].in != number || seats[job].asks != ask) return false;
         if (does_hold(job)) {
             seats[job].held = 0;
+            seats[job].is_had = true;
             return true;
         }
         give_up(job);
@@ -1700,7 +1701,7 @@ class session {
         if (how == detail::asked::waits) throw closed();
         // (it held, and was ended by another before this thread woke; what the job is in by now is another's)
         if (me.asks != mine) throw taken_away();
-        me.is_had = true;
+        me.is_had = me.in == number; // (else it was ended before this thread woke, and it is told by its next call)
         const bool is_resumed = !passes && me.held == number;
         session begun(core, job, number, needs, is_resumed ? me.done : 0, is_resumed, page);
         const detail::journal::ticket ticket = core->ticket();

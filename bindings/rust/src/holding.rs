@@ -490,7 +490,7 @@ impl Inner {
             return Ok(false);
         }
         if HOLDS.contains(&core.state(job).drinking) {
-            core.seats[job as usize].held = 0;
+            (core.seats[job as usize].held, core.seats[job as usize].had) = (0, true);
             return Ok(true);
         }
         self.give_up(core, job)?;

@@ -778,7 +778,8 @@ impl Inner {
             ended = Ok(());
         }
         let (seat, ticket) = (&mut core.seats[job as usize], self.ticket());
-        seat.had |= ended.is_ok();
+        // (it may have been ended before this thread woke: then it is told by its next call)
+        seat.had |= ended.is_ok() && seat.is_in(number, ask);
         let resumed = !passes && seat.held == number;
         let done = if resumed { seat.done } else { 0 };
         drop(core);
