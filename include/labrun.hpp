@@ -1873,7 +1873,7 @@ class job {
     }
 
     // Begins the job's next session, and blocks until it holds. Nothing if no session is left; on a bench of create() it waits for one that is
-    // added, until the job is retired.
+    // added, until the job is retired. not_now if another thread has a session of the job, or waits for one.
     std::optional<session> begin() const {
         std::unique_lock<std::mutex> guard = open();
         for (;;) {

@@ -118,7 +118,7 @@ impl Job {
     }
 
     /// Begins the job's next session, and blocks until it holds. None if no session is left; on a bench of [`Bench::new`] it waits for one that
-    /// is added, until the job is retired.
+    /// is added, until the job is retired. [`Error::NotNow`] if somebody has a session of the job, or waits for one.
     ///
     /// ```
     /// let bench = labrun::Bench::new([("drive", ["supply"])])?;
