@@ -846,8 +846,7 @@ struct core {
             const bool holds = found.drinking == 2 || found.drinking == 3;
             seat &it = seats[job];
             const bool was_had = it.is_had;
-            it.leaves();
-            it.is_had = was_had && holds;
+            it.is_had = it.leaves() == found.session && was_had && holds;
             it.sessions.resize(found.sessions);
             it.last = found.session;
             it.in = holds || found.drinking == 1 ? found.session : 0;
@@ -1719,8 +1718,11 @@ class session {
         return begun;
     }
 
-    // Whether the session that the job is in is this one, and nobody has asked for it since.
-    bool has() const { return core_->seats[job_].in == number_ && core_->seats[job_].asks == ask_; }
+    // Whether the job is in this session, and no other thread has it by now. (One may have asked since, and been undone by a write that failed.)
+    bool has() const {
+        const detail::seat &it = core_->seats[job_];
+        return it.in == number_ && (it.asks == ask_ || !it.is_had);
+    }
 
     // Whether it holds still, for a call of its owner, who is told once that it was taken away. (A page is only turned when no other is held.)
     void is_held_yet() {

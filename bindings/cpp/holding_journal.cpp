@@ -430,6 +430,26 @@ static void two_threads_at_a_job() {
     expect("nobody meets at a job", meetings == 0);
 }
 
+// A session that couldn't be finished may be finished again, though another thread asked for the next one meanwhile.
+static void finished_again() {
+    begin();
+    bench of = opened();
+    const labrun::job guest = of.job("guest");
+    labrun::session session = guest.hold({"scope"});
+    std::future<bool> is_told;
+    meanwhile = [&] {
+        is_told = std::async(std::launch::async, [&] { return throws<labrun::journal_error>([&] { guest.hold({"scope"}); }); });
+        until([&] { return of.room().sessions[1].second == 997; });
+    };
+    disk(1, 1);
+    expect("not finished", throws<labrun::journal_error>([&] { session.finish(); }));
+    meanwhile = nullptr;
+    expect("nor held by another", is_told.get() && session.is_held());
+    session.finish();
+    expect("the next", guest.hold({"scope"}).number() == 3);
+    finished(of);
+}
+
 // Threads hold at random, while writes fail now and then and pages are turned: each that held is in one journal.
 static void load(bool has_room) {
     begin();
@@ -486,6 +506,7 @@ int main(int, char **words) {
         for (const bool is_one : {true, false}) turns_that_fail(how, is_one);
     waits_while_a_turn_fails();
     two_threads_at_a_job();
+    finished_again();
     load(true);
     load(false);
     std::cout << passed << " passed, " << failed << " failed\n";

@@ -343,13 +343,18 @@ impl Seat {
         self.now == number && self.ask == ask
     }
 
+    /// Whether it is in this session, and nobody else has it by now. (Somebody may have asked since, and been undone by a write that failed.)
+    fn is_still(&self, number: u32, ask: u64) -> bool {
+        self.now == number && (self.ask == ask || !self.had)
+    }
+
     /// Whether its owner still holds this session. That it was taken away is told once.
     fn is_held_yet(&mut self, number: u32, ask: u64, gone: &mut bool) -> Result<(), Error> {
         if self.taken == number {
             self.taken = 0;
         }
         // (it may be over, and another one begun, if somebody else was told that)
-        *gone |= !self.is_in(number, ask);
+        *gone |= !self.is_still(number, ask);
         if *gone {
             Err(Error::TakenAway)
         } else {
@@ -844,8 +849,7 @@ impl Core {
             let state = self.state(job as u32);
             let (holds, seat) = (HOLDS.contains(&state.drinking), &mut self.seats[job]);
             let had = seat.had;
-            seat.leaves();
-            seat.had = had && holds;
+            seat.had = seat.leaves() == state.session && had && holds;
             seat.sessions.truncate(state.sessions as usize);
             seat.last = state.session;
             seat.now = if holds || state.drinking == THIRSTY { state.session } else { 0 };
@@ -1159,7 +1163,7 @@ impl Session<'_> {
 
     /// Whether it still holds: no if it was taken away. (Its owner is told by the next call, even if it asked this.)
     pub fn is_held(&self) -> bool {
-        let seat = |core: MutexGuard<'_, Core>| core.page == self.page && core.seats[self.job as usize].is_in(self.number, self.ask);
+        let seat = |core: MutexGuard<'_, Core>| core.page == self.page && core.seats[self.job as usize].is_still(self.number, self.ask);
         !self.gone && self.inner.open().is_ok_and(seat)
     }
 
@@ -1239,7 +1243,7 @@ impl Session<'_> {
     fn is_had_no_more(&self, fault: Option<Error>) {
         let Ok(mut core) = self.inner.open() else { return };
         let seat = &mut core.seats[self.job as usize];
-        seat.had &= !seat.is_in(self.number, self.ask);
+        seat.had &= !seat.is_still(self.number, self.ask);
         seat.fault = fault.or(seat.fault.take());
     }
 
