@@ -304,8 +304,10 @@ enum class asked { waits, holds, withdrawn, failed };
 struct seat {
     std::vector<lab_session> sessions;
     std::uint32_t in = 0, last = 0; // the session that it is in, which waits or holds, or 0; and the one that it is in or was in last
-    asked how = asked::waits;
+    std::uint64_t asks = 0; // how many asks there were: the last one is the seat's
+    asked *to = nullptr;    // where that ask is told what became of it, until its thread has woken (an earlier one may not have woken yet, either)
     std::uint32_t held = 0, done = 0; // a session that held before it was asked for, by a journal, and how many of its commands are done
+    bool is_had = false;              // a thread has the session that it is in, and holds
     std::exception_ptr fault;         // why a session that went could not let go
     using clock = std::chrono::steady_clock;
     std::optional<clock::time_point> asked_at, since; // when the session was asked for, and since when it holds
@@ -322,7 +324,6 @@ struct seat {
         sessions = std::move(those);
         leaves();
         last = taken = done = 0;
-        how = asked::waits;
         limit = std::nullopt;
     }
 
@@ -332,7 +333,7 @@ struct seat {
     std::uint32_t leaves() {
         asked_at = since = std::nullopt;
         held = outside = 0;
-        is_old = false;
+        is_old = is_had = false;
         return std::exchange(in, 0);
     }
 
@@ -844,7 +845,8 @@ struct core {
             const struct lab_state found = state(job);
             const bool holds = found.drinking == 2 || found.drinking == 3;
             seat &it = seats[job];
-            it.leaves();
+            const bool was_had = it.is_had;
+            it.is_had = it.leaves() == found.session && was_had && holds;
             it.sessions.resize(found.sessions);
             it.last = found.session;
             it.in = holds || found.drinking == 1 ? found.session : 0;
@@ -878,10 +880,8 @@ struct core {
             if (undone(lapsed, job)) left |= bit(job);
             if (undone(taken, job)) it.taken = 0;
             if (!it.in) left &= ~bit(job);
-            it.how = asked::failed;
-            it.woken.notify_one();
+            tell(job, asked::failed);
         }
-        waiting = 0;
         try {
             give_up_unheld();
         } catch (const std::exception &) {
@@ -914,11 +914,18 @@ struct core {
 
     // The session of a job has come to something; whoever waits for it is woken.
     void comes_to(std::uint32_t job, asked how) {
+        if (how == asked::withdrawn) seats[job].leaves();
+        // (whoever waits takes it, also if another thread gave it up in vain)
+        if (how == asked::holds) left &= ~bit(job);
+        tell(job, how);
+    }
+
+    // (all that sleep there: one that was told before may not have woken yet)
+    void tell(std::uint32_t job, asked how) {
         seat &it = seats[job];
-        it.how = how;
-        if (how == asked::withdrawn) it.leaves();
+        if (it.to) *it.to = how;
         waiting &= ~bit(job);
-        it.woken.notify_one();
+        it.woken.notify_all();
     }
 
     // One that came to hold does so from now on. Whoever waits for one that may hold for so long only is to know.
@@ -931,7 +938,7 @@ struct core {
 
     // Those that wait reckon anew how long they sleep.
     void rouse() {
-        each(waiting, [this](std::uint32_t job) { seats[job].woken.notify_one(); });
+        each(waiting, [this](std::uint32_t job) { seats[job].woken.notify_all(); });
     }
 
     // Whether a job has asked, and its session isn't begun yet.
@@ -966,8 +973,8 @@ struct core {
         }
         const bool is_gone = lab_withdraw(&handle, job) == 0;
         told();
-        if (is_gone && may) comes_to(job, asked::withdrawn);
-        else if (is_gone) it.last = it.leaves() - 1; // it wasn't begun, and is the next again
+        if (is_gone && !may) it.last = it.in - 1; // it wasn't begun, and is the next again
+        if (is_gone) comes_to(job, asked::withdrawn);
         else left |= bit(job);
         return is_gone && may;
     }
@@ -1034,15 +1041,34 @@ struct core {
         lapsed.emplace_back(jobs[job], seats[job].leaves());
     }
 
-    // Sleeps until the session of a job has come to something, or one of these times has.
-    void sleep(std::unique_lock<std::mutex> &guard, std::uint32_t job, std::optional<seat::clock::time_point> until,
+    // Asks for the session that a job is in, and sleeps until it has come to something: what. (It waits still if the bench is closed.)
+    asked comes_of(std::unique_lock<std::mutex> &guard, std::uint32_t job, const times &times) {
+        seat &me = seats[job];
+        // (of its own: a session that is over leaves the seat to the next that asks, who may come before this thread wakes)
+        asked how = asked::waits;
+        me.to = &how;
+        waiting |= bit(job);
+        // (it leaves also by an exception; what is another's by then stays)
+        const auto leaves = [&](asked *mine) {
+            if (me.to != mine) return;
+            me.to = nullptr;
+            waiting &= ~bit(job);
+        };
+        const std::unique_ptr<asked, decltype(leaves)> at_the_end(&how, leaves);
+        settle();
+        sleep(guard, job, how, times.until, seat::later(me.asked_at.value_or(seat::clock::time_point()), times.patience));
+        return how;
+    }
+
+    // Sleeps until an ask has come to something, or one of these times has.
+    void sleep(std::unique_lock<std::mutex> &guard, std::uint32_t job, const asked &how, std::optional<seat::clock::time_point> until,
                std::optional<seat::clock::time_point> gives_up) {
         using clock = seat::clock;
         seat &me = seats[job];
         // (a patience runs out by the calls of `lab_settle`, so one of those that wait makes one now and then)
         const bool ticks = me.is_patient();
         clock::time_point looked = clock::now();
-        while (me.how == asked::waits && !is_closed) {
+        while (how == asked::waits && !is_closed) {
             // (what nobody waits for is not taken away: it is looked at again later)
             std::optional<clock::time_point> wakes = limit_ends();
             if (wakes) wakes = std::max(*wakes, looked);
@@ -1052,21 +1078,22 @@ struct core {
                 me.woken.wait(guard);
                 continue;
             }
-            if (me.woken.wait_until(guard, *wakes) == std::cv_status::no_timeout || is_closed) continue;
-            look(job, ticks, until, gives_up);
+            if (me.woken.wait_until(guard, *wakes) == std::cv_status::no_timeout || how != asked::waits || is_closed) continue;
+            look(job, how, ticks, until, gives_up);
             looked = clock::now() + TICK;
         }
     }
 
     // What one that waits does at such a time.
-    void look(std::uint32_t job, bool ticks, std::optional<seat::clock::time_point> until, std::optional<seat::clock::time_point> gives_up) {
+    void look(std::uint32_t job, const asked &how, bool ticks, std::optional<seat::clock::time_point> until,
+              std::optional<seat::clock::time_point> gives_up) {
         const seat::clock::time_point now = seat::clock::now();
         take_overdue();
         if (ticks && now - ticked >= TICK / 2) {
             ticked = now;
             settle();
         }
-        if (seats[job].how != asked::waits) return;
+        if (how != asked::waits) return;
         const bool is_over = gives_up && now >= *gives_up;
         if (!is_over && !(until && now >= *until)) return;
         std::vector<keeper> keepers = this->keepers(job);
@@ -1172,6 +1199,11 @@ struct core {
     // Whether its instruments aren't free: it is in line, or holds. (One that was left and holds lets go as soon as somebody waits.)
     bool is_in_use(std::uint32_t job) { return seats[job].in && !is_outside(job) && !is_left(job); }
 
+    [[noreturn]] void is_in_one(std::uint32_t job) const {
+        throw not_now(jobs[job] + " is in a session, its " + std::to_string(seats[job].in) +
+                      ", and is in one at a time: threads that hold at once need a job each");
+    }
+
     // A job has no session to begin, and is in none, but for one that was left and is over now; else this says why another can't come.
     void comes_next(std::uint32_t job) {
         next_of(job);
@@ -1180,8 +1212,7 @@ struct core {
             lapse(job);
             settle();
         }
-        if (me.in)
-            throw not_now(jobs[job] + " is in a session, its " + std::to_string(me.in) + ", and is in one at a time: threads that hold at once need a job each");
+        if (me.in) is_in_one(job);
         if (me.has_more())
             throw not_now(jobs[job] + " has sessions left to begin, from " + std::to_string(me.last + 1) + " to " + std::to_string(me.sessions.size()) +
                           ": they come first");
@@ -1280,10 +1311,12 @@ struct core {
     }
 
     // A session of `hold` that didn't come to hold is over. Whether it holds after all, where a write failed and the file has that.
-    bool pass(std::uint32_t job, std::uint32_t number) {
-        if (is_closed || seats[job].in != number) return false;
+    // (After such a write another thread may have asked for a session of the same number.)
+    bool pass(std::uint32_t job, std::uint32_t number, std::uint64_t ask) {
+        if (is_closed || seats[job].in != number || seats[job].asks != ask) return false;
         if (does_hold(job)) {
             seats[job].held = 0;
+            seats[job].is_had = true;
             return true;
         }
         give_up(job);
@@ -1543,7 +1576,7 @@ class session {
   public:
     session(session &&other) noexcept
         : core_(std::exchange(other.core_, nullptr)), job_(other.job_), number_(other.number_), needs_(other.needs_), done_(other.done_),
-          resumed_(other.resumed_), page_(other.page_), is_gone_(other.is_gone_) {}
+          resumed_(other.resumed_), page_(other.page_), ask_(other.ask_), is_gone_(other.is_gone_) {}
     session &operator=(session &&) = delete;
     ~session() {
         detail::core *core = core_;
@@ -1553,6 +1586,7 @@ class session {
         } catch (...) {
             std::lock_guard<std::mutex> guard(core->mutex);
             core->seats[job_].fault = std::current_exception();
+            if (has()) core->seats[job_].is_had = false;
         }
     }
 
@@ -1566,7 +1600,7 @@ class session {
     bool is_held() const {
         if (!core_ || is_gone_ || !core_->is_here()) return false;
         std::lock_guard<std::mutex> guard(core_->mutex);
-        return !core_->is_closed && core_->page == page_ && core_->seats[job_].in == number_;
+        return !core_->is_closed && core_->page == page_ && has();
     }
 
     // The names of the instruments that it holds.
@@ -1585,7 +1619,7 @@ class session {
         if (core_->is_closed) throw closed();
         is_held_yet();
         lab_entry entry{};
-        if (core_->seats[job_].in != number_) return std::nullopt;
+        if (!has()) return std::nullopt;
         if (lab_command(&core_->handle, job_, &entry)) return std::nullopt;
         core_->told();
         const detail::journal::ticket ticket = core_->ticket();
@@ -1616,7 +1650,7 @@ class session {
         if (core_->is_closed) return;
         is_held_yet();
         // (it may be over, and another one begun, if the job was told that it was taken away)
-        if (core_->seats[job_].in != number_) {
+        if (!has()) {
             core_ = nullptr;
             return;
         }
@@ -1636,37 +1670,39 @@ class session {
   private:
     friend class desk;
     friend class job;
-    session(detail::core *core, std::uint32_t job, std::uint32_t number, std::uint64_t needs, std::uint32_t done, bool resumed)
-        : core_(core), job_(job), number_(number), needs_(needs), done_(done), resumed_(resumed), page_(core->page) {}
+    session(detail::core *core, std::uint32_t job, std::uint32_t number, std::uint64_t needs, std::uint32_t done, bool resumed, std::uint64_t page)
+        : core_(core), job_(job), number_(number), needs_(needs), done_(done), resumed_(resumed), page_(page),
+          ask_(core->seats[job].asks) {}
 
     // Asks for this session, which is the next one or the one that the job is in, and sleeps until it holds. One that `passes` is given up when its
     // time is over.
     static session ask(detail::core *core, std::unique_lock<std::mutex> &guard, std::uint32_t job, std::uint32_t number, const detail::times &times,
                        bool passes) {
         detail::seat &me = core->seats[job];
-        const lab_session what = me.sessions[number - 1];
-        const std::uint32_t bit = detail::core::bit(job);
+        // (another thread has it, or asked for it and hasn't woken yet)
+        if (me.in && (me.is_had || me.to)) core->is_in_one(job);
+        const std::uint64_t needs = me.sessions[number - 1].needs, page = core->page, mine = ++me.asks;
         me.in = me.last = number;
-        me.how = detail::asked::waits;
         me.limit = times.limit;
         if (times.patience && !me.asked_at) me.asked_at = detail::seat::clock::now();
         if (me.limit && me.since) core->rouse();
-        core->left &= ~bit;
-        core->waiting |= bit;
-        core->settle();
+        core->left &= ~detail::core::bit(job);
+        detail::asked how = detail::asked::waits;
         try {
-            core->sleep(guard, job, times.until, detail::seat::later(me.asked_at.value_or(detail::seat::clock::time_point()), times.patience));
+            how = core->comes_of(guard, job, times);
         } catch (const timed_out &) {
-            if (passes) core->pass(job, number);
+            if (passes) core->pass(job, number, mine);
             throw;
         }
-        core->waiting &= ~bit;
-        if (me.how == detail::asked::withdrawn) throw withdrawn();
-        if (me.how == detail::asked::failed && !(passes && core->pass(job, number)))
+        if (how == detail::asked::withdrawn) throw withdrawn();
+        if (how == detail::asked::failed && !(passes && core->pass(job, number, mine)))
             throw journal_error(core->log->path(), "a write failed while it waited");
-        if (me.how == detail::asked::waits) throw closed();
+        if (how == detail::asked::waits) throw closed();
+        // (it held, and was ended by another before this thread woke; what the job is in by now is another's)
+        if (me.asks != mine) throw taken_away();
+        me.is_had = me.in == number; // (else it was ended before this thread woke, and it is told by its next call)
         const bool is_resumed = !passes && me.held == number;
-        session begun(core, job, number, what.needs, is_resumed ? me.done : 0, is_resumed);
+        session begun(core, job, number, needs, is_resumed ? me.done : 0, is_resumed, page);
         const detail::journal::ticket ticket = core->ticket();
         guard.unlock();
         try {
@@ -1674,11 +1710,18 @@ class session {
         } catch (...) {
             guard.lock();
             // (what others added behind it may be what couldn't be written)
-            if (passes && core->pass(job, number)) return begun;
+            if (passes && core->pass(job, number, mine)) return begun;
             begun.core_ = nullptr;
+            if (me.asks == mine) me.is_had = false;
             throw;
         }
         return begun;
+    }
+
+    // Whether the job is in this session, and no other thread has it by now. (One may have asked since, and been undone by a write that failed.)
+    bool has() const {
+        const detail::seat &it = core_->seats[job_];
+        return it.in == number_ && (it.asks == ask_ || !it.is_had);
     }
 
     // Whether it holds still, for a call of its owner, who is told once that it was taken away. (A page is only turned when no other is held.)
@@ -1693,7 +1736,7 @@ class session {
     std::uint64_t needs_;
     std::uint32_t done_;
     bool resumed_;
-    std::uint64_t page_; // the page that it is of
+    std::uint64_t page_, ask_; // the page that it is of, and the ask of the job's that it is
     bool is_gone_ = false; // it was taken away, and its owner knows
 };
 
@@ -1729,7 +1772,9 @@ class desk {
     bool give_up() {
         core_->belongs_here();
         std::unique_lock<std::mutex> guard(core_->mutex);
-        if (core_->is_closed || !core_->seats[job_].in) return false;
+        const detail::seat &it = core_->seats[job_];
+        // (nor one that a thread has, or will have once it wakes)
+        if (core_->is_closed || !it.in || it.is_had || (it.to && *it.to == detail::asked::holds)) return false;
         const bool gone = core_->give_up(job_);
         core_->settle();
         const detail::journal::ticket ticket = core_->ticket();
@@ -1830,7 +1875,7 @@ class job {
     }
 
     // Begins the job's next session, and blocks until it holds. Nothing if no session is left; on a bench of create() it waits for one that is
-    // added, until the job is retired.
+    // added, until the job is retired. not_now if another thread has a session of the job, or waits for one.
     std::optional<session> begin() const {
         std::unique_lock<std::mutex> guard = open();
         for (;;) {

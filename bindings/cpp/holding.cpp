@@ -463,6 +463,66 @@ static void a_page_waits_for_who_holds() {
 }
 
 // Threads that hold at random, with a time limit or without, while pages are turned: no instrument has two holders, and nothing is lost.
+// Two threads use one job. One gives up what the other waits for, and asks at once, before the other wakes: only one of them holds.
+static void two_threads_at_a_job() {
+    labrun::bench bench = bay();
+    const labrun::job guest = bench.job("guest");
+    std::atomic<int> inside{0}, meetings{0}, withdrawn{0};
+    std::atomic<bool> is_given_up{false};
+    const auto holds = [&] {
+        try {
+            const labrun::session session = guest.hold({"scope"});
+            meetings += inside.fetch_add(1) != 0;
+            std::this_thread::sleep_for(1ms);
+            inside--;
+        } catch (const labrun::withdrawn &) {
+            withdrawn++;
+        }
+    };
+    const int rounds = 100;
+    for (int round = 0; round < rounds; round++) {
+        is_given_up = false;
+        std::optional<labrun::session> board = bench.job("board").hold({"scope"});
+        const auto one = later(holds);
+        until([&] { return !bench.waits_for("guest").empty(); });
+        const auto other = later([&] {
+            is_given_up = bench.desks()[1].give_up();
+            holds();
+        });
+        until([&] { return is_given_up && !bench.waits_for("guest").empty(); });
+        board.reset();
+    }
+    const labrun::report report = closed(bench);
+    expect("nobody meets at a job", meetings == 0 && withdrawn == rounds);
+    expect("each that held is logged", log_of(report, "scope").size() == 2 * rounds);
+}
+
+// Threads take what was added to one job: each session has one owner, and others are told that the job is in one.
+static void threads_take_what_comes() {
+    labrun::bench bench = bay();
+    const labrun::job guest = bench.job("guest");
+    const int sessions = 200;
+    for (int at = 0; at < sessions; at++) guest.add({"scope"});
+    std::atomic<int> inside{0}, meetings{0}, done{0};
+    std::vector<std::thread> threads;
+    for (int at = 0; at < 3; at++)
+        threads.emplace_back([&] {
+            for (;;) try {
+                    const std::optional<labrun::session> session = guest.begin();
+                    if (!session) return;
+                    meetings += inside++ != 0;
+                    std::this_thread::sleep_for(10us);
+                    done++;
+                    inside--;
+                } catch (const labrun::not_now &) {
+                    std::this_thread::sleep_for(10us);
+                }
+        });
+    until([&] { return done >= sessions && !throws<labrun::not_now>([&] { guest.retire(); }); });
+    for (std::thread &thread : threads) thread.join();
+    expect("each has one owner", meetings == 0 && log_of(closed(bench), "scope").size() == sessions);
+}
+
 static void load() {
     constexpr unsigned JOBS = 32, INSTRUMENTS = 20, EACH = 6;
     std::mt19937 chance(7);
@@ -523,7 +583,8 @@ static void load() {
 
 int main() {
     for (const auto &test : {hold, commands, may_not_use, behind_a_script, times, taken_away_and_late, waiting, choices, waits_for_either, created, of_a_text,
-                             sessions_go_on, room, pages, a_page_waits_for_who_holds, load})
+                             sessions_go_on, room, pages, a_page_waits_for_who_holds, two_threads_at_a_job, threads_take_what_comes,
+                             load})
         test();
     std::cout << passed << " passed, " << failed << " failed\n";
     return failed != 0;

@@ -23,6 +23,7 @@ static std::string path;
 
 // The calls that change files, in place of the system's: of those that are made from now on, the ones from the first to the last of these fail.
 static std::atomic<long> made{0}, first_bad{0}, last_bad{0};
+static std::function<void()> meanwhile; // what happens before one fails, or nothing
 
 static void disk(long first, long last) {
     last_bad = 0;
@@ -33,6 +34,7 @@ static void disk(long first, long last) {
 static bool is_bad() {
     const long at = ++made;
     if (at < first_bad || at > last_bad) return false;
+    if (meanwhile) meanwhile();
     errno = ENOSPC;
     return true;
 }
@@ -396,6 +398,58 @@ static void waits_while_a_turn_fails() {
     }
 }
 
+// Two threads use one job. A write fails while one waits, and the other asks at once, before the first wakes; its session has the same number, because
+// the file doesn't have the first one's. Only one of them holds.
+static void two_threads_at_a_job() {
+    std::atomic<int> inside{0}, meetings{0};
+    for (int round = 0; round < 200; round++) {
+        begin();
+        bench of = opened();
+        const auto holds = [&] {
+            const labrun::session session = of.job("guest").hold({"scope"});
+            meetings += inside++ != 0;
+            std::this_thread::sleep_for(1ms);
+            inside--;
+        };
+        std::future<bool> is_told;
+        meanwhile = [&] {
+            is_told = std::async(std::launch::async, [&] { return throws<labrun::journal_error>(holds); });
+            until([&] { return !of.waits_for("guest").empty(); });
+        };
+        disk(1, 1);
+        try {
+            of.job("board").hold({"scope"});
+        } catch (const labrun::journal_error &) {
+            holds();
+        }
+        meanwhile = nullptr;
+        expect("the other is told", is_told.get());
+        const labrun::report report = finished(of);
+        expect("one held", count(report.text, "\ninstrument scope 1\nguest 2 1/1 read = 0\n") == 1);
+    }
+    expect("nobody meets at a job", meetings == 0);
+}
+
+// A session that couldn't be finished may be finished again, though another thread asked for the next one meanwhile.
+static void finished_again() {
+    begin();
+    bench of = opened();
+    const labrun::job guest = of.job("guest");
+    labrun::session session = guest.hold({"scope"});
+    std::future<bool> is_told;
+    meanwhile = [&] {
+        is_told = std::async(std::launch::async, [&] { return throws<labrun::journal_error>([&] { guest.hold({"scope"}); }); });
+        until([&] { return of.room().sessions[1].second == 997; });
+    };
+    disk(1, 1);
+    expect("not finished", throws<labrun::journal_error>([&] { session.finish(); }));
+    meanwhile = nullptr;
+    expect("nor held by another", is_told.get() && session.is_held());
+    session.finish();
+    expect("the next", guest.hold({"scope"}).number() == 3);
+    finished(of);
+}
+
 // Threads hold at random, while writes fail now and then and pages are turned: each that held is in one journal.
 static void load(bool has_room) {
     begin();
@@ -451,6 +505,8 @@ int main(int, char **words) {
     for (const auto how : {labrun::sync::none, labrun::sync::data})
         for (const bool is_one : {true, false}) turns_that_fail(how, is_one);
     waits_while_a_turn_fails();
+    two_threads_at_a_job();
+    finished_again();
     load(true);
     load(false);
     std::cout << passed << " passed, " << failed << " failed\n";

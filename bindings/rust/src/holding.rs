@@ -118,7 +118,7 @@ impl Job {
     }
 
     /// Begins the job's next session, and blocks until it holds. None if no session is left; on a bench of [`Bench::new`] it waits for one that
-    /// is added, until the job is retired.
+    /// is added, until the job is retired. [`Error::NotNow`] if somebody has a session of the job, or waits for one.
     ///
     /// ```
     /// let bench = labrun::Bench::new([("drive", ["supply"])])?;
@@ -356,6 +356,11 @@ impl Inner {
         }
     }
 
+    pub(crate) fn is_in_one(&self, core: &Core, job: u32) -> Error {
+        let (name, now) = (&self.jobs[job as usize], core.seats[job as usize].now);
+        Error::NotNow(format!("{name} is in a session, its {now}, and is in one at a time: threads that hold at once need a job each"))
+    }
+
     /// A job has no session to begin, and is in none, but for one that was left and is over now; else this says why another can't come.
     pub(crate) fn comes_next(&self, core: &mut Core, job: u32) -> Result<(), Error> {
         self.next_of(core, job)?;
@@ -365,9 +370,7 @@ impl Inner {
         }
         let (name, seat) = (&self.jobs[job as usize], &core.seats[job as usize]);
         if seat.now != 0 {
-            let why =
-                format!("{name} is in a session, its {}, and is in one at a time: threads that hold at once need a job each", seat.now);
-            return Err(Error::NotNow(why));
+            return Err(self.is_in_one(core, job));
         }
         if (seat.last as usize) < seat.sessions.len() {
             let why = format!("{name} has sessions left to begin, from {} to {}: they come first", seat.last + 1, seat.sessions.len());
@@ -481,12 +484,13 @@ impl Inner {
     }
 
     /// A session of `hold` that didn't come to hold is over. Whether it holds after all, where a write failed and the file has that.
-    pub(crate) fn pass(&self, core: &mut Core, job: u32, number: u32) -> Result<bool, Error> {
-        if core.closed || core.seats[job as usize].now != number {
+    /// (After such a write another thread may have asked for a session of the same number.)
+    pub(crate) fn pass(&self, core: &mut Core, job: u32, number: u32, ask: u64) -> Result<bool, Error> {
+        if core.closed || !core.seats[job as usize].is_in(number, ask) {
             return Ok(false);
         }
         if HOLDS.contains(&core.state(job).drinking) {
-            core.seats[job as usize].held = 0;
+            (core.seats[job as usize].held, core.seats[job as usize].had) = (0, true);
             return Ok(true);
         }
         self.give_up(core, job)?;

@@ -289,7 +289,10 @@ struct Seat {
     /// The session that it is in, which waits or holds, or 0; and the one that it is in or was in last.
     now: u32,
     last: u32,
-    came: Came,
+    /// The number of the last ask for a session of the job: that ask is the seat's.
+    ask: u64,
+    /// Whether somebody has the session that it is in, and holds.
+    had: bool,
     /// A session that held before it was asked for, by a journal, and how many of its commands are done.
     held: u32,
     done: u32,
@@ -315,7 +318,8 @@ impl Seat {
             sessions,
             now: 0,
             last: 0,
-            came: Came::Waits,
+            ask: 0,
+            had: false,
             held: 0,
             done: 0,
             fault: None,
@@ -330,17 +334,27 @@ impl Seat {
 
     /// The job is in no session any more; the number of the one that it was in.
     fn leaves(&mut self) -> u32 {
-        (self.held, self.outside, self.asked, self.since, self.is_old) = (0, 0, None, None, false);
+        (self.held, self.outside, self.asked, self.since, self.is_old, self.had) = (0, 0, None, None, false, false);
         std::mem::take(&mut self.now)
     }
 
+    /// Whether the session that it is in is this one, and nobody has asked for it since.
+    fn is_in(&self, number: u32, ask: u64) -> bool {
+        self.now == number && self.ask == ask
+    }
+
+    /// Whether it is in this session, and nobody else has it by now. (Somebody may have asked since, and been undone by a write that failed.)
+    fn is_still(&self, number: u32, ask: u64) -> bool {
+        self.now == number && (self.ask == ask || !self.had)
+    }
+
     /// Whether its owner still holds this session. That it was taken away is told once.
-    fn is_held_yet(&mut self, number: u32, gone: &mut bool) -> Result<(), Error> {
+    fn is_held_yet(&mut self, number: u32, ask: u64, gone: &mut bool) -> Result<(), Error> {
         if self.taken == number {
             self.taken = 0;
         }
         // (it may be over, and another one begun, if somebody else was told that)
-        *gone |= self.now != number;
+        *gone |= !self.is_still(number, ask);
         if *gone {
             Err(Error::TakenAway)
         } else {
@@ -370,6 +384,10 @@ struct Core {
     seats: Vec<Seat>,
     /// The jobs whose threads wait, as a set of bits.
     waiting: u32,
+    /// How many asks there were; and what became of each whose thread hasn't woken yet. (Of its own: a session that is over leaves the seat to
+    /// the next that asks, who may come before that thread wakes.)
+    asks: u64,
+    came: HashMap<u64, Came>,
     ticked: Option<Instant>,
     /// The jobs whose sessions were given up and can't be withdrawn, and those sessions that lapsed.
     left: u32,
@@ -479,7 +497,9 @@ impl Inner {
         if is_back {
             core.comes_back();
             for (job, seat) in core.seats.iter_mut().enumerate() {
-                seat.came = Came::Failed;
+                if let Some(came) = core.came.get_mut(&seat.ask) {
+                    *came = Came::Failed;
+                }
                 let session = (self.jobs[job].clone(), seat.now);
                 if core.lapsed.contains(&session) {
                     core.lapsed.retain(|it| *it != session);
@@ -505,12 +525,19 @@ impl Inner {
     /// The session of a job has come to something; whoever waits for it is woken.
     fn comes_to(&self, core: &mut Core, job: u32, came: Came) {
         let seat = &mut core.seats[job as usize];
-        seat.came = came;
         if came == Came::Withdrawn {
             seat.leaves();
         }
+        if came == Came::Holds {
+            // (whoever waits takes it, also if another thread gave it up in vain)
+            core.left &= !(1 << job);
+        }
+        if let Some(told) = core.came.get_mut(&seat.ask) {
+            *told = came;
+        }
         core.waiting &= !(1 << job);
-        self.woken[job as usize].notify_one();
+        // (all that sleep there: one that was told before may not have woken yet)
+        self.woken[job as usize].notify_all();
     }
 
     /// Those that came to hold do so from now on. Whoever waits for one that may hold for so long only is to know.
@@ -530,7 +557,7 @@ impl Inner {
 
     /// Those that wait reckon anew how long they sleep.
     fn rouse(&self, core: &Core) {
-        members(core.waiting).for_each(|job| self.woken[job as usize].notify_one());
+        members(core.waiting).for_each(|job| self.woken[job as usize].notify_all());
     }
 
     /// Those that wait for more than their turn look again.
@@ -556,13 +583,39 @@ impl Inner {
         Ok(gone)
     }
 
-    /// Sleeps until the session of a job has come to something, or one of these times has. Why it doesn't hold, if so.
-    fn sleep<'c>(&self, mut core: MutexGuard<'c, Core>, job: u32, until: Option<Instant>, gives_up: Option<Instant>) -> Woken<'c> {
+    /// Asks for the session that a job is in, and sleeps until it holds. Why it doesn't, if so.
+    fn wait<'c>(&self, mut core: MutexGuard<'c, Core>, job: u32, ask: u64, until: Option<Instant>, gives_up: Option<Instant>) -> Woken<'c> {
+        core.waiting |= 1 << job;
+        core.came.insert(ask, Came::Waits);
+        let mut ended = self.settle(&mut core);
+        if ended.is_ok() {
+            (core, ended) = self.sleep(core, job, ask, until, gives_up);
+        }
+        core.came.remove(&ask);
+        // (if another thread has asked since, the seat and the bit are that one's)
+        if core.seats[job as usize].ask == ask {
+            core.waiting &= !(1 << job);
+        } else if ended.is_ok() {
+            // (it held, and was ended by another before this thread woke)
+            ended = Err(Error::TakenAway);
+        }
+        (core, ended)
+    }
+
+    /// Sleeps until an ask for a session of a job has come to something, or one of these times has. Why it doesn't hold, if so.
+    fn sleep<'c>(
+        &self,
+        mut core: MutexGuard<'c, Core>,
+        job: u32,
+        ask: u64,
+        until: Option<Instant>,
+        gives_up: Option<Instant>,
+    ) -> Woken<'c> {
         // (a patience runs out by the calls of `lab_settle`, so one of those that wait makes one now and then)
         let tick = core.seats[job as usize].patience().map(|_| TICK);
         let mut looked = Instant::now();
         loop {
-            match core.seats[job as usize].came {
+            match core.came[&ask] {
                 Came::Holds => return (core, Ok(())),
                 Came::Withdrawn => return (core, Err(Error::Withdrawn)),
                 Came::Failed => return (core, Err(self.log.as_ref().map_or(Error::Closed, Journal::failed))),
@@ -580,10 +633,10 @@ impl Inner {
             };
             let over;
             (core, over) = woken.wait_timeout(core, wakes - now.min(wakes)).unwrap_or_else(|poisoned| poisoned.into_inner());
-            if !over.timed_out() || core.closed {
+            if !over.timed_out() || core.came[&ask] != Came::Waits || core.closed {
                 continue;
             }
-            if let Err(fault) = self.look(&mut core, job, tick, until, gives_up) {
+            if let Err(fault) = self.look(&mut core, job, ask, tick, until, gives_up) {
                 return (core, Err(fault));
             }
             looked = Instant::now() + TICK;
@@ -595,6 +648,7 @@ impl Inner {
         &self,
         core: &mut Core,
         job: u32,
+        ask: u64,
         tick: Option<Duration>,
         until: Option<Instant>,
         gives_up: Option<Instant>,
@@ -605,7 +659,7 @@ impl Inner {
             core.ticked = Some(now);
             self.settle(core)?;
         }
-        if core.seats[job as usize].came != Came::Waits {
+        if core.came[&ask] != Came::Waits {
             return Ok(());
         }
         if gives_up.is_some_and(|it| now >= it) {
@@ -638,12 +692,13 @@ impl Inner {
         }
         let gone = withdraw(core);
         self.told(core)?;
-        if gone && may {
-            self.comes_to(core, job, Came::Withdrawn);
-        } else if gone {
+        if gone && !may {
             // it wasn't begun, and is the next again
             let seat = &mut core.seats[job as usize];
-            seat.last = seat.leaves() - 1;
+            seat.last = seat.now - 1;
+        }
+        if gone {
+            self.comes_to(core, job, Came::Withdrawn);
         } else {
             core.left |= 1 << job;
         }
@@ -707,34 +762,42 @@ impl Inner {
         passes: bool,
     ) -> Result<Session<'d>, Error> {
         let bit = 1 << job;
+        let seat = &core.seats[job as usize];
+        // (somebody has it, or asked for it and hasn't woken yet)
+        if seat.now != 0 && (seat.had || core.came.contains_key(&seat.ask)) {
+            return Err(self.is_in_one(&core, job));
+        }
+        core.asks += 1;
+        let (ask, page) = (core.asks, core.page);
         let seat = &mut core.seats[job as usize];
         let needs = seat.sessions[number as usize - 1].needs;
-        (seat.now, seat.last, seat.came, seat.limit) = (number, number, Came::Waits, times.limit);
+        (seat.now, seat.last, seat.ask, seat.limit) = (number, number, ask, times.limit);
         let gives_up = times.patience.and_then(|it| seat.asked.get_or_insert_with(Instant::now).checked_add(it));
         if seat.limit.is_some() && seat.since.is_some() {
             self.rouse(&core);
         }
         core.left &= !bit;
-        core.waiting |= bit;
-        self.settle(&mut core)?;
         let mut ended;
-        (core, ended) = self.sleep(core, job, times.until, gives_up);
-        core.waiting &= !bit;
-        if passes && ended.is_err() && self.pass(&mut core, job, number)? {
+        (core, ended) = self.wait(core, job, ask, times.until, gives_up);
+        if passes && ended.is_err() && self.pass(&mut core, job, number, ask)? {
             ended = Ok(());
         }
-        let (seat, ticket, page) = (&core.seats[job as usize], self.ticket(), core.page);
+        let (seat, ticket) = (&mut core.seats[job as usize], self.ticket());
+        // (it may have been ended before this thread woke: then it is told by its next call)
+        seat.had |= ended.is_ok() && seat.is_in(number, ask);
         let resumed = !passes && seat.held == number;
         let done = if resumed { seat.done } else { 0 };
         drop(core);
         ended?;
         if let Err(fault) = self.commit(ticket) {
+            let Ok(mut core) = self.open() else { return Err(fault) };
             // (what others added behind it may be what couldn't be written)
-            if !passes || !self.pass(&mut *self.open()?, job, number)? {
+            if !passes || !self.pass(&mut core, job, number, ask)? {
+                core.seats[job as usize].had &= core.seats[job as usize].ask != ask;
                 return Err(fault);
             }
         }
-        Ok(Session { inner: Arc::clone(self), job, number, needs, done, resumed, page, gone: false, desk: PhantomData })
+        Ok(Session { inner: Arc::clone(self), job, number, needs, done, resumed, page, ask, gone: false, desk: PhantomData })
     }
 }
 
@@ -754,6 +817,8 @@ impl Core {
             closed: false,
             seats: Vec::new(),
             waiting: 0,
+            asks: 0,
+            came: HashMap::new(),
             ticked: None,
             left: 0,
             lapsed: Vec::new(),
@@ -783,7 +848,8 @@ impl Core {
         for job in 0..self.seats.len() {
             let state = self.state(job as u32);
             let (holds, seat) = (HOLDS.contains(&state.drinking), &mut self.seats[job]);
-            seat.leaves();
+            let had = seat.had;
+            seat.had = seat.leaves() == state.session && had && holds;
             seat.sessions.truncate(state.sessions as usize);
             seat.last = state.session;
             seat.now = if holds || state.drinking == THIRSTY { state.session } else { 0 };
@@ -1039,7 +1105,9 @@ impl Desk {
     pub fn give_up(&mut self) -> bool {
         let (inner, job) = (&*self.inner, self.job);
         let Ok(mut core) = inner.open() else { return false };
-        if core.seats[job as usize].now == 0 {
+        let seat = &core.seats[job as usize];
+        // (nor one that somebody has, or will have once that thread wakes)
+        if seat.now == 0 || seat.had || core.came.get(&seat.ask) == Some(&Came::Holds) {
             return false;
         }
         let gone = inner.give_up(&mut core, job);
@@ -1069,6 +1137,8 @@ pub struct Session<'d> {
     resumed: bool,
     /// The page that it is of.
     page: u64,
+    /// The ask that it is of.
+    ask: u64,
     /// It was taken away, and its owner knows.
     gone: bool,
     /// A desk begins no other meanwhile.
@@ -1093,7 +1163,7 @@ impl Session<'_> {
 
     /// Whether it still holds: no if it was taken away. (Its owner is told by the next call, even if it asked this.)
     pub fn is_held(&self) -> bool {
-        let seat = |core: MutexGuard<'_, Core>| core.page == self.page && core.seats[self.job as usize].now == self.number;
+        let seat = |core: MutexGuard<'_, Core>| core.page == self.page && core.seats[self.job as usize].is_still(self.number, self.ask);
         !self.gone && self.inner.open().is_ok_and(seat)
     }
 
@@ -1103,7 +1173,7 @@ impl Session<'_> {
         if self.gone {
             return Err(Error::TakenAway);
         }
-        core.seats[self.job as usize].is_held_yet(self.number, &mut self.gone)
+        core.seats[self.job as usize].is_held_yet(self.number, self.ask, &mut self.gone)
     }
 
     /// How many of its commands are done.
@@ -1162,8 +1232,19 @@ impl Session<'_> {
     pub fn finish(self) -> Result<(), Error> {
         let mut me = self;
         let ended = me.end();
+        if ended.is_err() {
+            me.is_had_no_more(None);
+        }
         me.gone = true; // (it has no more to do when it is dropped)
         ended
+    }
+
+    /// If it holds still, whoever begins next gets it, and first why it couldn't let go.
+    fn is_had_no_more(&self, fault: Option<Error>) {
+        let Ok(mut core) = self.inner.open() else { return };
+        let seat = &mut core.seats[self.job as usize];
+        seat.had &= !seat.is_still(self.number, self.ask);
+        seat.fault = fault.or(seat.fault.take());
     }
 
     fn end(&mut self) -> Result<(), Error> {
@@ -1193,9 +1274,7 @@ impl Drop for Session<'_> {
             return;
         }
         if let Err(fault) = self.end() {
-            if let Ok(mut core) = self.inner.open() {
-                core.seats[self.job as usize].fault = Some(fault);
-            }
+            self.is_had_no_more(Some(fault));
         }
     }
 }

@@ -587,6 +587,68 @@ impl Chance {
 }
 
 /// Threads that hold at random, with a time limit or without, while pages are turned: no instrument has two holders, and nothing is lost.
+/// Two threads use one job. One gives up what the other waits for, and asks at once, before the other wakes: only one of them holds.
+#[test]
+fn two_threads_at_a_job() {
+    let script = b"bench 1\njob board\nuses scope\njob guest\nuses scope\n";
+    let (bench, desks) = Bench::from_text(script).unwrap();
+    let [_board, mut desk] = <[_; 2]>::try_from(desks).ok().unwrap();
+    let (guest, inside, withdrawn) = (job(&bench, "guest"), AtomicU32::new(0), AtomicU32::new(0));
+    let holds = || match guest.hold(&["scope"]).begin() {
+        Ok(_session) => {
+            assert_eq!(inside.fetch_add(1, SeqCst), 0);
+            thread::sleep(Duration::from_millis(1));
+            inside.fetch_sub(1, SeqCst);
+        }
+        Err(fault) => {
+            assert_eq!(fault, Error::Withdrawn);
+            withdrawn.fetch_add(1, SeqCst);
+        }
+    };
+    for _ in 0..100 {
+        let (board, is_given_up) = (held(&bench, "board", &["scope"]), AtomicBool::new(false));
+        thread::scope(|threads| {
+            threads.spawn(holds);
+            until(|| waits(&bench, "guest"));
+            threads.spawn(|| {
+                is_given_up.store(desk.give_up(), SeqCst);
+                holds();
+            });
+            until(|| is_given_up.load(SeqCst) && waits(&bench, "guest"));
+            drop(board);
+        });
+    }
+    assert_eq!((withdrawn.into_inner(), closed(bench).log("scope").len()), (100, 200));
+}
+
+/// Threads take what was added to one job: each session has one owner, and others are told that the job is in one.
+#[test]
+fn threads_take_what_comes() {
+    let (bench, inside, done) = (bay(64), AtomicU32::new(0), AtomicU32::new(0));
+    let guest = job(&bench, "guest");
+    (0..200).for_each(|_| guest.add(&["scope"]).unwrap());
+    let works = || loop {
+        match guest.begin() {
+            Ok(Some(_session)) => {
+                assert_eq!(inside.fetch_add(1, SeqCst), 0);
+                thread::sleep(Duration::from_micros(10));
+                done.fetch_add(1, SeqCst);
+                inside.fetch_sub(1, SeqCst);
+            }
+            Ok(None) => return,
+            Err(fault) => {
+                assert!(matches!(fault, Error::NotNow(_)));
+                thread::sleep(Duration::from_micros(10));
+            }
+        }
+    };
+    thread::scope(|threads| {
+        (0..3).for_each(|_| drop(threads.spawn(works)));
+        until(|| done.load(SeqCst) >= 200 && guest.retire().is_ok());
+    });
+    assert_eq!(closed(bench).log("scope").len(), 200);
+}
+
 #[test]
 fn load() {
     let (jobs, mut chance) = (32, Chance(7));

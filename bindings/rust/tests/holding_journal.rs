@@ -519,6 +519,47 @@ fn without_room() {
     finished(&folder, bench);
 }
 
+#[test]
+fn two_threads_at_a_job() {
+    alone("two_threads_at_a_job", two_threads);
+}
+
+/// A write fails while one thread waits for a session of a job, and another asks at once, before the first wakes; its session has the same number,
+/// because the file doesn't have the first one's. Only one of them holds.
+fn two_threads() {
+    // SAFETY: SIGXFSZ is ignored.
+    unsafe { signal(25, 1) };
+    for round in 0..100 {
+        let folder = Folder::new(&format!("two-{round}"));
+        let bench = folder.opened(64).unwrap();
+        let (board, guest) = (job(&bench, "board").hold(&["scope"]).begin().unwrap(), job(&bench, "guest"));
+        let (is_told, inside) = (AtomicBool::new(false), AtomicUsize::new(0));
+        let waits = || !bench.waits_for("guest").unwrap().is_empty();
+        let holds = || {
+            let session = guest.hold(&["scope"]).begin()?;
+            assert_eq!((session.number(), inside.fetch_add(1, SeqCst)), (2, 0));
+            thread::sleep(Duration::from_millis(1));
+            inside.fetch_sub(1, SeqCst);
+            session.finish()
+        };
+        thread::scope(|threads| {
+            let one = threads.spawn(holds);
+            until(waits);
+            let other = threads.spawn(|| {
+                limit(folder.text().len());
+                is_told.store(matches!(job(&bench, "host").hold(&["load-1"]).begin(), Err(Error::Journal { .. })), SeqCst);
+                holds()
+            });
+            until(|| is_told.load(SeqCst) && waits());
+            limit(1 << 40);
+            drop(board);
+            assert!(matches!(one.join().unwrap(), Err(Error::Journal { .. })));
+            assert_eq!(other.join().unwrap(), Ok(()));
+        });
+        finished(&folder, bench);
+    }
+}
+
 /// Numbers by a generator of their own.
 struct Chance(u64);
 
