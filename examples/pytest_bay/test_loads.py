@@ -10,7 +10,7 @@ import pytest
 def test_it_keeps_what_it_is_set_to(bench, instruments, amps):
     (load,) = instruments
     bench[load].write(f"CURR {amps}")
-    time.sleep(0.4)
+    time.sleep(0.6)
     assert float(bench[load].query("CURR?")) == amps
     instruments.note(f"{amps} A at {load}")
 
@@ -19,5 +19,5 @@ def test_it_keeps_what_it_is_set_to(bench, instruments, amps):
 def test_they_are_two(bench):
     bench["load-1"].write("CURR 1.0")
     bench["load-2"].write("CURR 2.0")
-    time.sleep(0.4)
+    time.sleep(0.6)
     assert float(bench["load-1"].query("CURR?")) == 1.0

@@ -10,7 +10,7 @@ pytestmark = pytest.mark.instruments("supply")
 @pytest.mark.parametrize("volts", [1.0, 3.3, 5.0, 12.0])
 def test_it_keeps_what_it_is_set_to(bench, volts):
     bench["supply"].write(f"VOLT {volts}")
-    time.sleep(0.3)
+    time.sleep(0.45)
     assert float(bench["supply"].query("VOLT?")) == volts
 
 
@@ -26,12 +26,12 @@ class TestOutput:
     def test_the_meter_sees_it(self, bench, volts):
         bench["supply"].write(f"VOLT {volts}")
         bench["supply"].write("OUTP ON")
-        time.sleep(0.3)
+        time.sleep(0.45)
         assert float(bench["meter"].query("MEAS:VOLT?")) == volts
 
     def test_it_drops_by_half_an_ohm(self, bench):
         bench["supply"].write("VOLT 5.0")
         bench["supply"].write("OUTP ON")
         bench["load-2"].write("CURR 2.0")
-        time.sleep(0.3)
+        time.sleep(0.45)
         assert float(bench["meter"].query("MEAS:VOLT?")) == 4.0
