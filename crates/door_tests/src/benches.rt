@@ -1,6 +1,6 @@
 //! Texts `bench 1`: what they stand for, and the labs that are opened for them, with answers that were reckoned by hand.
 use bench_opening::open;
-use bench_texts::{NotScript, lab_script, users};
+use bench_texts::{NotScript, is_for_bench, lab_script, origin, users};
 use c_handles::Handle;
 use c_tells::Told;
 use lab_program::RunFault;
@@ -48,6 +48,21 @@ fn texts_stand_for_scripts(rt: HostRuntime) {
         b"bench 1\njob a\nuses x x",
         b"lab 2\njob a\nsession patience 0\nx read\nx read\nend\n",
     );
+}
+
+/// The first line that is neither empty nor a comment says what a text is for; a line of the script came from one of the text, and the end from the end.
+#[test]
+fn texts_for_a_bench_are_known(rt: HostRuntime) {
+    assert!(rt;
+        is_for_bench(BAY)
+            && !is_for_bench(NO_BENCH)
+            && !is_for_bench(b"bench 2\njob a\n")
+            && !is_for_bench(b"")
+    );
+    assert!(rt;
+        origin(BAY, 9) == 6 && origin(BAY, 10) == 7 && origin(BAY, 13) == 8 && origin(BAY, 18) == 13
+    );
+    assert!(rt; origin(NO_BENCH, 4) == 4);
 }
 
 fn has_fault(rt: &impl Abort, alloc: Global, text: &[u8], line: usize, cause: ScriptCause) {
