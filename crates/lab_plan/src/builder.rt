@@ -206,8 +206,9 @@ impl<A: Allocator + Copy> PlanBuilder<A> {
 
 /// The slot of a name, by its bytes. If two names share one, the guess may be wrong, and costs a search.
 fn slot(name: &[u8]) -> u8 {
-    name.iter().fold(
-        0,
-        |slot: u8, byte| slot.wrapping_mul(31).wrapping_add(*byte),
-    )
+    let mut slot = 0u8;
+    for byte in name {
+        slot = slot.wrapping_mul(31).wrapping_add(*byte);
+    }
+    slot
 }

@@ -118,7 +118,6 @@ impl Naming {
     }
 }
 
-#[tactic(auto, using(crate::proofs::Small::small, crate::proofs::Crowded::crowded_is))]
 /// Whether two jobs have too many instruments in common.
 pub(crate) fn has_too_many_in_common<A: Allocator>(draft: &Draft<A>) -> bool
     requires { IsDraft draft.now }

@@ -7,6 +7,18 @@ use Rattle.lab_plan.proofs.Drafts.{draft_with_command}
 use Rattle.lab_plan.specs.IsPlan.{IsDraft}
 use Rattle.lab_plan.proofs.builder.PlanBuilder.command.Goals as goal
 
+pub place-place-requires : goal.place-place-requires
+place-place-requires g c = c.self.invariant.is_draft.instruments_distinct
+
+pub push_at-requires-clause-session : goal.push_at-requires-clause-session
+push_at-requires-clause-session g c = subst (λ (p : LabPlan). has_session p ≡ true) (sym c.self.view_is) c.requires.session
+
+pub push_at-requires-clause-place : goal.push_at-requires-clause-place
+push_at-requires-clause-place g c = c.place-place.ensures
+
+pub push_at-requires-clause-most : goal.push_at-requires-clause-most
+push_at-requires-clause-most g c = c.self.invariant.is_draft.few_instruments
+
 pub invariant_of-self-2 : goal.invariant_of-self-2
 invariant_of-self-2 g c =
     let name = c.args.instrument.now in
