@@ -1,9 +1,9 @@
 -- What a call on a desk owes and gives, by what the step told.
-use Rattle.std.proofs.Common.{◌≡◌, ◌≢◌, ℕ, zero, suc, ◌/◌, ◌<◌, ◌≤◌, Bool, true, false, List, [], ◌∷◌, ◌++◌, length, get_or, set, refl, sym, ap, ◌∙◌, subst, inl, inr, arith, get_or-set_same, get_or-set_other}
+use Rattle.std.proofs.Common.{◌≡◌, ◌≢◌, ℕ, zero, suc, ◌<◌, ◌≤◌, Bool, true, false, List, [], ◌∷◌, ◌++◌, length, get_or, set, refl, sym, ap, ◌∙◌, subst, inl, inr, arith, get_or-set_same, get_or-set_other}
 use Rattle.std.proofs.lemmas.List.{set-get_or}
 use Rattle.std.proofs.lemmas.Bool.{cases_eq}
 use mathlib.Core.Option.{none}
-use Rattle.atomic_table.specs.Table.{Me, step, Allows}
+use Rattle.atomic_table.specs.Table.{Me, Allows}
 use Rattle.atomic_table.specs.declared.shared.Seat.{Seat as TableSeat}
 use Rattle.lab_plan.specs.LabPlan.{LabPlan, edges, bottles}
 use Rattle.instrument_log.specs.InstrumentLog.{LogView}
@@ -28,9 +28,9 @@ use Rattle.legal_steps.specs.Counting.{counts_of}
 use Rattle.edge_rule.proofs.CountsKept.{IsUncounted, counts_stay}
 use Rattle.edge_rule.specs.declared.bench.Bench.TheInside as bench_fields
 use Rattle.turns.specs.History.{events_by, learned_all, known_by, IsHistory}
-use Rattle.one_history.specs.Rule.{edge_place, word_count, Kept}
+use Rattle.one_history.specs.Rule.{word_count, Kept}
 use Rattle.turns.specs.Lists.{Each}
-use Rattle.one_history.specs.Grow.{hand_or, hand_in, rest_hands, adding, IsLed, IsMine, mine, Grows, Does, looked}
+use Rattle.one_history.specs.Grow.{hand_or, hand_in, rest_hands, adding, IsLed, IsMine, mine, Grows, Does}
 use Rattle.one_history.specs.Groups.{with_group, all_of, StandUnbroken}
 use Rattle.one_history.proofs.Groups.{stand_in_more, with_group_stands, all_with_group}
 use Rattle.edge_rule.specs.DeskView.{DeskView, BenchView, Owns, Adds, known}
@@ -47,7 +47,6 @@ use Rattle.turns.specs.Changes.{seat_after}
 use Rattle.turns.proofs.Frame.{learned_seat}
 use Rattle.turns.proofs.Runs.{learned_all-append, learned_all_seats, learned_all_edges, opening_seats, opening_edges, own_known}
 use Rattle.turns.proofs.Histories.{history_fits}
-use Rattle.one_history.proofs.Looking.{looks}
 
 pub got : {A : Type 0} (l : List A) (i : ℕ) (a dflt : A) → i < length l → a ≡ get_or l i a → a ≡ get_or l i dflt
 got [] i a dflt h e = absurd (omega arith)
@@ -241,11 +240,6 @@ module _ {A : Type 0} (b : bench_fields.Inside A) (d : Inside A) (is_bench : IsB
   pub plan_known : b.plan.now ≡ mine_plan
   plan_known = sym is_bench.plan ∙ sym owns.1
 
-  pub look_requires : (e n : ℕ) → n ≡ edge_place e → IsOwn mine_plan (hand_in d.seat.me.0).job e → Framed n (λ n. n) (looked (step slots n 0 0 none) d.seat.me)
-  look_requires e n is own = subst (λ z. Framed z (λ n. n) (looked (step slots z 0 0 none) d.seat.me)) (sym is)
-      (let inside = own.is_edge in framed (edge_place e) (λ n. n) (looked (step slots (edge_place e) 0 0 none) d.seat.me) (omega arith)
-      (looks mine_plan slots d.seat.id d.seat.me.0 d.seat.me.1 (led d.seat.me.0 ok.at_rest.mine) ok.at_rest.inside e own))
-
   few : (e : ℕ) → e < length (edges mine_plan) → length (bottles mine_plan e) ≤ 28
   few e inside =
       subst (λ (z : LabPlan). length (bottles z e) ≤ 28) (sym owns.1)
@@ -373,20 +367,3 @@ look_shows d s' e x inside t =
     let event : Event = Look (hand_in v).job e x in
     sym (ap (λ (z : State). edge z e) (mine_grown v s'.me.0 (event ∷ []) t)
     ∙ get_or-set_same (mine v).edges e x no_edge (let l = mine_edges v in omega arith))
-
--- what a look tells, of the word that was unpacked
-module _ {A : Type 0} (b : bench_fields.Inside A) (d : Inside A) (is_bench : IsBench b) (ok : IsDesk d) (owns : Owns (bench_of b) (view_of d)) where
-  pub look_told : (s' : TableSeat LogView View) (e n m : ℕ) (x : EdgeState) → n ≡ edge_place e
-      → IsOwn (hand_in d.seat.me.0).plan (hand_in d.seat.me.0).job e → word_of x ≡ m → IsOfBottles (length (bottles b.plan.now e)) x
-      → looked (step b.table.shared.table_id.slots n 0 0 none) d.seat.me m s'.me
-      → Does d.seat.me.0 (Look (hand_in d.seat.me.0).job e x) s'.me.0 × (s'.me.1 ≡ d.seat.me.1)
-  look_told s' e n m x is own word fits t =
-      let p : LabPlan = (hand_in d.seat.me.0).plan in
-      let at : n / 16 ≡ e = omega arith in
-      let plan = plan_known b d is_bench ok owns in
-      let few : length (bottles p e) ≤ 28 =
-      subst (λ (z : LabPlan). length (bottles z e) ≤ 28) (sym owns.1)
-      (is_bench.is_plan.few_bottles e (subst (λ (z : LabPlan). e < length (edges z)) owns.1 own.is_edge)) in
-      let same : t.0 ≡ x = no_two_edges t.0 x (IsOfBottles-28 _ t.0 few (subst (λ z. IsOfBottles (length (bottles p z)) t.0) at t.2))
-      (IsOfBottles-28 _ x few (subst (λ (z : LabPlan). IsOfBottles (length (bottles z e)) x) plan fits)) (sym t.1 ∙ sym word) in
-      (subst (λ (z : ℕ × EdgeState). Does d.seat.me.0 (Look (hand_in d.seat.me.0).job z.0 z.1) s'.me.0) (λ i. (at i, same i)) t.3, t.4)

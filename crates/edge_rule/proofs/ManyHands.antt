@@ -2,7 +2,7 @@
 use Rattle.std.proofs.Common.{zero, suc, false, ◌==◌, take, drop, get_or, arith, ◌≡◌, ◌≢◌, ℕ, ◌<◌, List, [], ◌∷◌, ◌++◌, length, set, refl, sym, ap, ◌∙◌, subst}
 use lib.Seq.{set-get_or}
 use mathlib.Core.Option.{none}
-use Rattle.atomic_table.specs.Table.{step, keeps, Allows, Splits}
+use Rattle.atomic_table.specs.Table.{Me, step, keeps, Allows, Splits}
 use Rattle.lab_plan.specs.LabPlan.{LabPlan}
 use Rattle.legal_steps.specs.State.{seat}
 use Rattle.legal_steps.specs.Counting.{counts_of}
@@ -13,8 +13,8 @@ use Rattle.edge_rule.specs.DeskInside.{kept, AreOfPlan, AtRest, IsDesk}
 use Rattle.edge_rule.specs.declared.desk.Desk.TheInside.{Inside}
 use Rattle.atomic_table.specs.declared.shared.Seat.{Seat}
 use Rattle.edge_rule.specs.DeskView.{DeskView}
-use Rattle.edge_rule.specs.Company.{Distinct, jobs_of}
-use Rattle.atomic_table.specs.Seated.{TableId}
+use Rattle.edge_rule.specs.Company.{jobs_of}
+use Rattle.edge_rule.specs.Lending.{HasLast}
 use Rattle.one_history.specs.declared.board.Hand.{Hand}
 use Rattle.one_history.specs.declared.board.View.{View}
 use Rattle.instrument_log.specs.InstrumentLog.{LogView}
@@ -74,22 +74,38 @@ module _ (v o : View) (led : IsLed v) (theirs : IsMine o) where
   pub leads_all : hand_in (glued v o) ≡ hand_in v
   leads_all = ap hand_or hands_are
 
-  pub led_all : Each (λ (y : Hand). y.job ≢ (hand_in o).job) v.hands → IsLed (glued v o)
+  led_all : Each (λ (y : Hand). y.job ≢ (hand_in o).job) v.hands → IsLed (glued v o)
   led_all apart = let a = subst (Each (λ (y : Hand). y.job ≢ (hand_in o).job)) led.0 apart in (
     hands_are ∙ (λ i. sym leads_all i ∷ ap rest_hands (sym hands_are) i),
     subst (λ (z : Hand × List Hand). Each (λ (y : Hand). y.job ≢ z.0.job) z.1) (λ i. (sym leads_all i, ap rest_hands (sym hands_are) i))
         (each-append (λ (y : Hand). y.job ≢ (hand_in v).job) (rest_hands v.hands) (hand_in o ∷ []) led.1 ((λ e. a.0 (sym e)), tt)),
   )
 
-  module _ (w : View) (t : Grows (glued v o) [] w) where
-    pub hands_then : w.hands ≡ adding (hand_in v) [] ∷ (rest_hands v.hands ++ hand_in o ∷ [])
+  pub led_lent : (u : View) → u ≡ glued v o → Each (λ (y : Hand). y.job ≢ (hand_in o).job) v.hands → IsLed u
+  led_lent u is apart = subst IsLed (sym is) (led_all apart)
+
+  -- what the load told, of the view before it and that after it
+  module _ (u w : View) (is : u ≡ glued v o) (grown : Grows u [] w) where
+    t : Grows (glued v o) [] w
+    t = subst (λ (z : View). Grows z [] w) is grown
+
+    hands_then : w.hands ≡ adding (hand_in v) [] ∷ (rest_hands v.hands ++ hand_in o ∷ [])
     hands_then = t.hands ∙ (λ i. adding (leads_all i) [] ∷ ap rest_hands hands_are i)
 
     beside_all : Each (λ (y : Hand). events_by y.job w.front ≡ y.deeds) (rest_hands v.hands ++ hand_in o ∷ [])
     beside_all = subst (Each (λ (y : Hand). events_by y.job w.front ≡ y.deeds)) (ap rest_hands hands_are) t.beside
 
-    pub grows_back : Grows v [] (backed_left w)
-    grows_back = record {
+    pub has_last : Each (λ (y : Hand). y.job ≢ (hand_in o).job) v.hands → HasLast w
+    has_last apart = record {
+      own = adding (hand_in v) [];
+      before = rest_hands v.hands;
+      last = hand_in o;
+      hands = hands_then;
+      apart = subst (Each (λ (y : Hand). y.job ≢ (hand_in o).job)) led.0 apart;
+    }
+
+    pub grows_back : (b : View) → b ≡ backed_left w → Grows v [] b
+    grows_back b left = subst (Grows v []) (sym left) (record {
       hands = ap but_last hands_then ∙ but_last_snoc (adding (hand_in v) []) (rest_hands v.hands) (hand_in o);
       between = t.between;
       front = t.front;
@@ -98,7 +114,7 @@ module _ (v o : View) (led : IsLed v) (theirs : IsMine o) where
       legal = subst (λ (z : Hand). IsHistory z.plan w.front) leads_all t.legal;
       whole = subst (λ (z : Hand). events_by z.job w.front ≡ z.deeds ++ []) leads_all t.whole;
       beside = each_begin (λ (y : Hand). events_by y.job w.front ≡ y.deeds) (rest_hands v.hands) (hand_in o ∷ []) beside_all;
-    }
+    })
 
     pub starts_there : StartsWith w.front o.front
     starts_there = (each_end (StartsWith w.front) v.told (o.front ∷ o.told) t.told).0
@@ -106,12 +122,16 @@ module _ (v o : View) (led : IsLed v) (theirs : IsMine o) where
     pub whole_there : events_by (hand_in o).job w.front ≡ (hand_in o).deeds
     whole_there = (each_end (λ (y : Hand). events_by y.job w.front ≡ y.deeds) (rest_hands v.hands) (hand_in o ∷ []) beside_all).0
 
-    pub as_it_was : o.told ≡ [] → taken_back (lent_left o) (backed_right w) ≡ o
-    as_it_was none_told = λ i. record {
-      hands = ((ap last_hand hands_then ∙ last_snoc (adding (hand_in v) []) (rest_hands v.hands) (hand_in o)) ∙ sym theirs) i;
-      front = o.front;
-      told = sym none_told i;
-    }
+    -- the other seat, after it lent its hand and got it back
+    pub as_it_was : (slots : List (ℕ × LogView)) (a b : Me LogView View) → a ≡ (lent_left o, slots) → b ≡ (taken_back a.0 (backed_right w), a.1)
+        → o.told ≡ [] → b ≡ (o, slots)
+    as_it_was slots a b lent back none_told =
+        let same : taken_back (lent_left o) (backed_right w) ≡ o = λ i. record {
+          hands = ((ap last_hand hands_then ∙ last_snoc (adding (hand_in v) []) (rest_hands v.hands) (hand_in o)) ∙ sym theirs) i;
+          front = o.front;
+          told = sym none_told i;
+        } in
+        back ∙ ((λ i. (taken_back (lent i).0 (backed_right w), (lent i).1)) ∙ (λ i. (same i, slots)))
 
 -- a list that was split behind its first
 pub split_first : {A : Type 0} (l front back : List A) (y : A) → 0 < length l → front ≡ take 1 l
@@ -132,25 +152,6 @@ pub apart_more : (hands : List Hand) (h : Hand) (back : List DeskView) → Each 
 apart_more hands h [] a e = tt
 apart_more hands h (d ∷ back) a e = (each-append (λ (y : Hand). y.job ≢ d.job) hands (h ∷ []) a.0 ((λ q. e.0 (sym q)), tt), apart_more hands h back a.1 e.1)
 
--- the first desk of the row, by what the row says
-pub record Row (id : TableId) (hands : List Hand) (x : DeskView) (back : List DeskView) : Type 0 where
-  pub table : x.table ≡ id
-  pub tables : Each (λ (d : DeskView). d.table ≡ id) back
-  pub away : Each (λ (y : Hand). y.job ≢ x.job) hands
-  pub aways : Each (λ (d : DeskView). Each (λ (y : Hand). y.job ≢ d.job) hands) back
-  pub other : Each (λ (k : ℕ). k ≢ x.job) (jobs_of back)
-  pub others : Distinct (jobs_of back)
-
-pub row : (id : TableId) (hands : List Hand) (l front back : List DeskView) (y : DeskView)
-    → false ≡ (length l == 0) → front ≡ take 1 l → back ≡ drop 1 l → Each (λ (d : DeskView). d.table ≡ id) l
-    → Each (λ (d : DeskView). Each (λ (y : Hand). y.job ≢ d.job) hands) l → Distinct (jobs_of l) → Row id hands (get_or front 0 y) back
-row id hands l front back y some f b tables aways distinct =
-    let is : l ≡ get_or front 0 y ∷ back = (split_first l front back y (some_left (length l) some) f b).0 in
-    let t = subst (Each (λ (d : DeskView). d.table ≡ id)) is tables in
-    let a = subst (Each (λ (d : DeskView). Each (λ (y : Hand). y.job ≢ d.job) hands)) is aways in
-    let d = subst (λ (z : List DeskView). Distinct (jobs_of z)) is distinct in
-    record { table = t.0; tables = t.1; away = a.0; aways = a.1; other = d.0; others = d.1 }
-
 -- a desk whose seat is as before
 pub desk_still : {A : Type 0} (d : Inside A) (s : Seat LogView View) → s.me ≡ d.seat.me → IsDesk d
     → IsDesk record {
@@ -167,9 +168,9 @@ pub desk_still : {A : Type 0} (d : Inside A) (s : Seat LogView View) → s.me �
       counts = d.counts;
       apart = d.apart;
     }
-desk_still d s e ok = let v = sym (ap (λ m. m.0) e) in record {
+desk_still d s e ok = let v = sym (ap (λ (m : Me LogView View). m.0) e) in record {
   at_rest = subst AtRest v ok.at_rest;
-  empty = ap (λ m. m.1) e ∙ ok.empty;
+  empty = ap (λ (m : Me LogView View). m.1) e ∙ ok.empty;
   job = subst (λ z. (hand_in z).job ≡ d.job) v ok.job;
   counts = subst (λ z. counts_of (hand_in z).job (hand_in z).deeds ≡ d.counts) v ok.counts;
   own = subst (λ z. seat (mine z) (hand_in z).job ≡ kept d) v ok.own;

@@ -5,6 +5,7 @@ pub mod NeededBottles
 pub mod DeskInside
 pub mod BenchInside
 pub mod Company
+pub mod Lending
 pub mod Ending
 pub mod ClosedView
 pub mod ClosedInside

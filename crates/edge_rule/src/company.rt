@@ -8,10 +8,11 @@ ghost use Rattle.turns.specs.Lists.{Each, StartsWith};
 
 use crate::bench::Bench;
 use crate::desk::Desk;
+use crate::lending::{give_back, lend};
 use crate::words::SOME_WORD;
 use atomic_table::Seat;
 use instrument_log::InstrumentLog;
-use one_history::board::{Backs, Board, Lends, Notes, Notices, Returns, View};
+use one_history::board::{Board, Notices, View};
 use std::alloc::Allocator;
 
 /// All hands of the others are lent to `me` for one load, which is no event.
@@ -37,11 +38,9 @@ fn hear<A: Allocator>(
     }
     let (front, later) = others.split_at_mut(1);
     let other = &mut front[0];
-    let lent = table.shared.split_seat::<Lends>(&mut other.seat);
-    table.shared.join_seat::<Notes>(me, lent);
+    lend(table, me, &mut other.seat);
     hear(table, me, later);
-    let back = table.shared.split_seat::<Backs>(me);
-    table.shared.join_seat::<Returns>(&mut other.seat, back);
+    give_back(table, me, &mut other.seat);
 }
 
 /// The first desk hears of all others: its front has every record whole.

@@ -15,6 +15,7 @@ mod commands;
 mod company;
 mod desk;
 mod job_knowledge;
+mod lending;
 mod meeting;
 mod needed;
 mod opening;

@@ -11,12 +11,13 @@ ghost use Rattle.legal_steps.specs.declared.phase.JobState.{JobState};
 
 use crate::bench::Bench;
 use crate::desk::Desk;
+use crate::lending::lend;
 use crate::words::{phase_place, unpacked_phase};
 use atomic_table::Seat;
 use edge_word::PhaseWord;
 use instrument_log::InstrumentLog;
 use lab_plan::JobNo;
-use one_history::board::{Board, Glances, Lends, Notes, Returns, View};
+use one_history::board::{Board, Glances, Returns, View};
 use std::alloc::Allocator;
 
 /// The other's hand is lent to `me` for one load of the word, which is the other's phase word.
@@ -43,8 +44,7 @@ fn glance_at<A: Allocator>(
         × (events_by (hand_in other.old.me.0).job me.new.me.0.front ≡ (hand_in other.old.me.0).deeds) }
 {
     // With the other's hand the history that the load sees has the other's record whole; nobody acts by it meanwhile.
-    let lent = table.shared.split_seat::<Lends>(other);
-    table.shared.join_seat::<Notes>(me, lent);
+    lend(table, me, other);
     let found = table.shared.load::<Glances>(me, word);
     let back = table.shared.split_seat::<Returns>(me);
     table.shared.join_seat::<Returns>(other, back);

@@ -6,9 +6,10 @@ use Rattle.edge_rule.specs.Company.{Met, Hears, Distinct, jobs_of}
 use Rattle.turns.specs.History.{events_by}
 use Rattle.one_history.specs.Grow.{hand_in}
 use Rattle.turns.specs.Lists.{Each, StartsWith}
-use Rattle.edge_rule.proofs.DeskSteps.{seat_adds, desk_keeps}
+use Rattle.edge_rule.proofs.DeskSteps.{led, seat_adds, desk_keeps}
 use Rattle.turns.proofs.Runs.{each_map}
 use Rattle.edge_rule.proofs.ManyHands.{split_first, some_left, apart_more}
+use Rattle.edge_rule.proofs.LentRow.{none_met, some_word, own_table}
 use Rattle.edge_rule.proofs.company.meet_all.Goals as goal
 
 nobody : (l : List DeskView) → Each (λ (d : DeskView). Each (λ (y : Hand). y.job ≢ d.job) []) l
@@ -31,6 +32,22 @@ hears d l e a starts wholes = record {
   starts = starts;
   wholes = wholes;
 }
+
+pub returns-then-is_empty : goal.returns-then-is_empty
+returns-then-is_empty g0 c = none_met c.args.desks.now c.if-is_empty.ensures
+
+pub hear-requires-clause-table : goal.hear-requires-clause-table
+hear-requires-clause-table g0 c = (
+  own_table c.args.desks.now c.split_at_mut-front.result.0.now c.split_at_mut-front.result.1.now c.index-front-0.result
+      c.if-is_empty.ensures c.split_at_mut-front.ensures.front c.split_at_mut-front.ensures.back c.first.inside.clock c.first.inside.seat c.first.view_is
+      c.bench.inside.table.shared.table_id
+      (each_map (Owns c.args.bench.now) (λ (d : DeskView). d.table ≡ c.bench.inside.table.shared.table_id)
+      (λ d o. o.0 ∙ sym (ap (λ (b : BenchView). b.table) c.bench.view_is)) c.args.desks.now c.requires.own),
+  some_word c.bench.inside c.bench.invariant,
+)
+
+pub hear-requires-clause-led : goal.hear-requires-clause-led
+hear-requires-clause-led g0 c = (led c.first.inside.seat.me.0 c.first.invariant.at_rest.mine, c.first.invariant.empty)
 
 pub hear-requires-clause-own : goal.hear-requires-clause-own
 hear-requires-clause-own g0 c =
