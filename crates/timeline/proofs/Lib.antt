@@ -8,3 +8,6 @@ pub mod OwnPairs
 pub mod Stuck
 pub mod Apart
 pub mod Complete
+pub mod TwoSlots
+pub mod FaultAt
+pub mod Ready

@@ -98,6 +98,13 @@ placed_next pairs left spans end s slots is first p =
       room = let room = p.room in let one = count_unset left s is in omega (arith, room, one);
     }
 
+pub placed_inside : (pairs : List (ℕ × ℕ)) (left : List Bool) (spans : List Span) (end s : ℕ) → IsOpen left s → Placed pairs left spans end → s < length spans
+placed_inside pairs left spans end s is p =
+    let within : s < length left = open_within left s is in
+    let long = p.long in
+    let long_spans = p.long_spans in
+    omega (arith, within, long, long_spans)
+
 pub placed_end : (pairs : List (ℕ × ℕ)) (left : List Bool) (spans : List Span) (end : ℕ) → ((y : ℕ) → ¬ IsOpen left y) → Placed pairs left spans end
     → AreOrdered pairs spans end
 placed_end pairs left spans end none p = record {

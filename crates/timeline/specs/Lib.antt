@@ -3,3 +3,4 @@ pub mod Timelines
 pub mod Orders
 pub mod Faults
 pub mod Clean
+pub mod TwoSlots

@@ -6,7 +6,7 @@ ghost use Rattle.timeline.specs.Orders.{AreRight, IsRight};
 ghost use Rattle.timeline.specs.Timelines.{TimelineView, Stands, GoesOn, IsRightOf, AllAgree, IsNextOf, EachNext};
 
 use crate::entries::same_session;
-use crate::span::{Span, span_of};
+use crate::span::{Span, span_at, span_of};
 use report_reader::{EntryLine, JobLine, Log};
 use std::alloc::Allocator;
 
@@ -106,10 +106,10 @@ pub(crate) fn all_agree<'a, A: Allocator>(
 fn is_right(spans: &[Span], x: usize, y: usize) -> bool
     ensures { result ≡ true → IsRight spans.now x y }
 {
-    let Some(&left) = spans.get(x) else {
+    let Some(left) = span_at(spans, x) else {
         return false;
     };
-    let Some(&right) = spans.get(y) else {
+    let Some(right) = span_at(spans, y) else {
         return false;
     };
     ends_before(left, right)

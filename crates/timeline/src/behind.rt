@@ -2,24 +2,34 @@
 ghost use Rattle.std.specs.Prelude.{◌≡◌, ◌<◌, ◌+◌, ℕ, List, slice_index_or, true, false, None, map, length, IfSome, IfOk};
 ghost use Rattle.report_reader.specs.Form.{entry_text, job_text};
 ghost use Rattle.timeline.specs.Orders.{AreOf, IsOpen, Adds, ArePairs, AreBehindBelow, AreBehind};
+ghost use Rattle.timeline.specs.TwoSlots.{two_slots};
 
 use crate::own::own_pairs;
 use crate::span::slot_of;
 use report_reader::{EntryLine, JobLine, Log};
 use std::alloc::{AllocError, Allocator};
 
+/// Both slots, if they are two.
+fn two_slots(x: Option<usize>, y: Option<usize>) -> Option<(usize, usize)>
+    ensures { result ≡ two_slots x y }
+{
+    let x = x?;
+    let y = y?;
+    if x == y { None } else { Some((x, y)) }
+}
+
 /// The slots of two entries, if they are of two sessions.
 fn slots(jobs: &[JobLine], before: &EntryLine, entry: &EntryLine) -> Option<(usize, usize)>
     ensures some { IfSome result (λ (x, y). AreOf (map job_text jobs.now) (entry_text before.now) (entry_text entry.now) x y) }
     ensures none { result ≡ None → (x y : ℕ) → AreOf (map job_text jobs.now) (entry_text before.now) (entry_text entry.now) x y → ⊥ }
 {
-    let x = slot_of(jobs, before)?;
-    let y = slot_of(jobs, entry)?;
-    if x == y { None } else { Some((x, y)) }
+    let x = slot_of(jobs, before);
+    let y = slot_of(jobs, entry);
+    two_slots(x, y)
 }
 
 /// Whether a slot is marked.
-fn is_open(marks: &[bool], slot: usize) -> bool
+pub(crate) fn is_open(marks: &[bool], slot: usize) -> bool
     ensures yes { result ≡ true → IsOpen marks.now slot }
     ensures no { result ≡ false → IsOpen marks.now slot → ⊥ }
 {

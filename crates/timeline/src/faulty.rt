@@ -1,5 +1,5 @@
 //! Faults of a report that a look at each log by itself finds.
-ghost use Rattle.std.specs.Prelude.{◌≡◌, ◌+◌, ◌<◌, ◌≤◌, true, None, length, map, IfSome, IfOk, IfErr};
+ghost use Rattle.std.specs.Prelude.{◌≡◌, ◌+◌, ◌<◌, ◌≤◌, true, false, None, length, map, IfSome, IfOk, IfErr};
 ghost use Rattle.lab_plan.specs.Limits.{most_jobs, most_instruments};
 ghost use Rattle.report_reader.specs.Form.{entry_text, job_text};
 ghost use Rattle.timeline.specs.Faults.{FailsAt, HasFault, IsFaultOf, IsTwice, HasNone};
@@ -65,14 +65,12 @@ fn mark(seen: &mut [bool], slot: Option<usize>) -> bool {
     let Some(slot) = slot else {
         return false;
     };
-    match seen.get_mut(slot) {
-        Some(seen) => {
-            let before = *seen;
-            *seen = true;
-            before
-        }
-        None => false,
+    if slot >= seen.len() {
+        return false;
     }
+    let before = seen[slot];
+    seen[slot] = true;
+    before
 }
 
 /// The first entry of a log, counted from 0, whose session the log has before it with another between.
@@ -125,26 +123,42 @@ fn twice_fault<'a, A: Allocator + Copy>(
     Ok(None)
 }
 
+/// Looks at each log by itself.
+fn check_logs<A: Allocator>(report: &Report<'_, A>) -> Result<(), TimelineFault>
+    ensures clean { IfOk result (λ done. AllClean report.now.jobs report.now.logs) }
+    ensures fault { IfErr result (λ fault. IsFaultOf report.now fault) }
+{
+    match entry_fault(report.jobs(), report.logs()) {
+        Some(found) => Err(TimelineFault::Entry {
+            instrument: found.0,
+            entry: found.1,
+            cause: found.2,
+        }),
+        None => Ok(()),
+    }
+}
+
+/// Whether a report has no more jobs and instruments than a lab.
+fn is_small<A: Allocator>(report: &Report<'_, A>) -> bool
+    ensures yes { result ≡ true → (length report.now.jobs ≤ most_jobs) × (length report.now.logs ≤ most_instruments) }
+    ensures no { result ≡ false → IsFaultOf report.now TimelineFault.LimitPassed }
+{
+    report.jobs().len() <= MOST_JOBS && report.logs().len() <= MOST_INSTRUMENTS
+}
+
 /// Looks at the limits, at the job lines, and at each log by itself.
 pub(crate) fn check<A: Allocator>(report: &Report<'_, A>) -> Result<(), TimelineFault>
     ensures few { IfOk result (λ done. (length report.now.jobs ≤ most_jobs) × (length report.now.logs ≤ most_instruments)) }
     ensures clean { IfOk result (λ done. AllClean report.now.jobs report.now.logs) }
     ensures fault { IfErr result (λ fault. IsFaultOf report.now fault) }
 {
-    if report.jobs().len() > MOST_JOBS || report.logs().len() > MOST_INSTRUMENTS {
+    if !is_small(report) {
         return Err(TimelineFault::LimitPassed);
     }
     if let Some(number) = job_twice(report.jobs()) {
         return Err(TimelineFault::JobTwice { job: number + 1 });
     }
-    match entry_fault(report.jobs(), report.logs()) {
-        Some((instrument, entry, cause)) => Err(TimelineFault::Entry {
-            instrument,
-            entry,
-            cause,
-        }),
-        None => Ok(()),
-    }
+    check_logs(report)
 }
 
 /// The fault of a report whose logs agree with no columns.

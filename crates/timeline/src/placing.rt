@@ -44,6 +44,15 @@ impl<A: Allocator> Row<A> {
     }
 }
 
+/// Whether both are one slot, or none.
+fn is_same(one: Option<usize>, other: Option<usize>) -> bool {
+    match (one, other) {
+        (Some(one), Some(other)) => one == other,
+        (None, None) => true,
+        _ => false,
+    }
+}
+
 /// The parts of a log.
 fn row_of<A: Allocator + Copy>(
     alloc: A,
@@ -54,7 +63,7 @@ fn row_of<A: Allocator + Copy>(
     let mut last = None;
     for entry in entries {
         let slot = slot_of(jobs, entry);
-        if slot != last {
+        if !is_same(slot, last) {
             if let Some(slot) = slot {
                 let length = entry.length;
                 parts.push(Part { slot, length })?;
@@ -120,8 +129,9 @@ fn add_own_rows<A: Allocator + Copy>(
 /// Counts the parts of a row, each for its session.
 fn count_row<A: Allocator>(counts: &mut [u32], row: &Row<A>) {
     for part in &row.parts {
-        if let Some(count) = counts.get_mut(part.slot) {
-            *count = count.saturating_add(1);
+        let slot = part.slot;
+        if slot < counts.len() {
+            counts[slot] = counts[slot].saturating_add(1);
         }
     }
 }
@@ -168,12 +178,12 @@ fn place_part<A: Allocator>(
     slot: usize,
 ) -> bool {
     let waiting = waiting_for(rows, slot);
-    if counts.get(slot).copied() != Some(waiting.rows) {
+    if slot >= counts.len() || counts[slot] != waiting.rows {
         return false;
     }
     let Waiting { start, width, .. } = waiting;
-    if let Some(span) = spans.get_mut(slot) {
-        *span = Span { start, width };
+    if slot < spans.len() {
+        spans[slot] = Span { start, width };
     }
     pass_all(rows, slot, start.saturating_add(width));
     true

@@ -1,5 +1,5 @@
 //! The columns of a session.
-ghost use Rattle.std.specs.Prelude.{◌≡◌, map};
+ghost use Rattle.std.specs.Prelude.{◌≡◌, map, slice_get};
 ghost use Rattle.report_reader.specs.Form.{entry_text, job_text};
 ghost use Rattle.timeline.specs.Spans.{slot_of, span_of};
 
@@ -30,11 +30,18 @@ pub(crate) fn slot_of(jobs: &[JobLine], entry: &EntryLine) -> Option<usize>
     }
 }
 
+/// The columns that are kept in a slot.
+pub(crate) fn span_at(spans: &[Span], slot: usize) -> Option<Span>
+    ensures { result ≡ slice_get spans.now slot }
+{
+    spans.get(slot).copied()
+}
+
 /// The columns of an entry's session, if it has some.
 #[tactic(auto, unfolding(crate::specs::Spans::span_of))]
 pub fn span_of(jobs: &[JobLine], spans: &[Span], entry: &EntryLine) -> Option<Span>
     ensures { result ≡ span_of (map job_text jobs.now) spans.now (entry_text entry.now) }
 {
     let slot = slot_of(jobs, entry)?;
-    spans.get(slot).copied()
+    span_at(spans, slot)
 }
