@@ -15,6 +15,7 @@ use crate::places::Place;
 use block_lines::Block;
 use edge_rule::Desk;
 use lab_plan::{EdgeNo, JobNo, Plan};
+use legal_steps::neighbour;
 use std::alloc::{AllocError, Allocator};
 
 /// The bottles of an edge for which its job waits in a round, and what the neighbour holds then.
@@ -30,16 +31,6 @@ impl Wait {
         bottles: 0,
         held: 0,
     };
-}
-
-/// The job at the other end of an edge.
-fn neighbour<A: Allocator>(plan: &Plan<A>, job: JobNo, edge: EdgeNo) -> JobNo
-    requires { IsOwn plan.now job edge }
-    ensures neighbour { result ≡ neighbour plan.now job edge }
-    ensures inside { result < length plan.now.jobs }
-{
-    let (lower, higher) = plan.ends(edge);
-    if lower == job { higher } else { lower }
 }
 
 /// A place at which no round was counted yet.

@@ -1,5 +1,7 @@
 //! The two ends of an edge.
-ghost use Rattle.std.specs.Prelude.{◌≡◌};
+ghost use Rattle.std.specs.Prelude.{◌≡◌, ◌<◌, length};
+ghost use Rattle.lab_plan.specs.LabPlan.{edges};
+ghost use Rattle.legal_steps.specs.State.{neighbour as neighbour_of};
 
 use lab_plan::{EdgeNo, JobNo, Plan};
 use std::alloc::Allocator;
@@ -40,4 +42,14 @@ impl End {
             End::Higher => End::Lower,
         }
     }
+}
+
+/// The job at the other end of an edge of the job.
+pub fn neighbour<A: Allocator>(plan: &Plan<A>, job: JobNo, edge: EdgeNo) -> JobNo
+    requires { edge < length (edges plan.now) }
+    ensures value { result ≡ neighbour_of plan.now job edge }
+    ensures of_plan { result < length plan.now.jobs }
+{
+    let (lower, higher) = plan.ends(edge);
+    if lower == job { higher } else { lower }
 }

@@ -14,6 +14,6 @@ pub mod phase;
 pub use bottles::{bottle_end, has};
 pub use counts::{Counts, NO_COUNTS};
 pub use edge_state::{EdgeState, EndChoice};
-pub use end::End;
+pub use end::{End, neighbour};
 pub use event::{Event, NotLegal, Step, StepLine};
 pub use phase::{Dining, Drinking, JobState};

@@ -9,6 +9,7 @@ ghost use Rattle.overtaking.specs.Overtaking.{before_meal, overtaking};
 
 use interleaving::Event;
 use lab_plan::{EdgeNo, JobNo, Plan};
+use legal_steps::neighbour;
 use std::alloc::Allocator;
 
 /// The overtaking at a place of a list of events, counted from 0, where the job asks for the fork of the edge:
@@ -30,15 +31,6 @@ pub fn meals_after_ask<A: Allocator>(
     ensures at_most_one { (opening : State) → IsOpening plan.now opening → IsLegalFrom plan.now opening events.now → result ≤ 1 }
 {
     meals_before(&events[place + 1..], neighbour(plan, job, edge), job)
-}
-
-/// The job at the other end of the edge.
-fn neighbour<A: Allocator>(plan: &Plan<A>, job: JobNo, edge: EdgeNo) -> JobNo
-    requires { IsOwn plan.now job edge }
-    ensures { result ≡ neighbour_of plan.now job edge }
-{
-    let (lower, higher) = plan.ends(edge);
-    if lower == job { higher } else { lower }
 }
 
 /// How many meals the eater begins before the next meal of the job that waits.

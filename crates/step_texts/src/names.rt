@@ -6,17 +6,8 @@ ghost use Rattle.legal_steps.specs.State.{neighbour as neighbour_of};
 ghost use Rattle.step_texts.specs.Names.{other_name, bottle_name};
 
 use lab_plan::{EdgeNo, JobNo, Plan};
+use legal_steps::neighbour;
 use std::alloc::{AllocError, Allocator};
-
-/// The job at the other end of the edge.
-fn neighbour<A: Allocator>(plan: &Plan<A>, job: JobNo, edge: EdgeNo) -> JobNo
-    requires { edge < length (edges plan.now) }
-    ensures value { result ≡ neighbour_of plan.now job edge }
-    ensures of_plan { result < length plan.now.jobs }
-{
-    let (lower, higher) = plan.ends(edge);
-    if lower == job { higher } else { lower }
-}
 
 pub fn add_job<A: Allocator, B: Allocator>(
     out: &mut Vec<u8, A>,
