@@ -14,7 +14,7 @@ use Rattle.lab_plan.specs.declared.verb.Verb.TheVariants.{Set, Add, Read}
 use Rattle.lab_plan.specs.Names.{is_name, IsName}
 use Rattle.report_reader.specs.Number.{number_of}
 use Rattle.report_reader.specs.Line.{Line, Header, Instrument, Entry, Job, Last, EntryText, JobText, words_of, verb_words, withdrawn_words, state_word}
-use Rattle.report_reader.specs.Read.{header_of, part_of, verb_of, read_of, entry_of, done_of, withdrawn_of, state_of, meals_of, job_of, line_of}
+use Rattle.report_reader.specs.Read.{last_of, header_of, instrument_of, part_of, verb_of, read_of, entry_of, done_of, withdrawn_of, state_of, meals_of, job_of, line_of}
 use Rattle.report_reader.specs.Fits.{LineFits, IsSmall, HasSmall, VerbFits}
 use Rattle.report_reader.proofs.Numbers.{number_is}
 
@@ -76,7 +76,7 @@ add_is n small = ap (option_map (λ m. Add m)) (number n small)
 
 entry_line_is : (e : EntryText) (v : Verb) → v ≡ e.verb → LineFits (Entry e)
     → line_of (e.job ∷ decimal e.session ∷ (decimal e.place ++ 47 ∷ decimal e.length) ∷ (verb_words v ++ codes "=" ∷ decimal e.value ∷ [])) ≡ Some (Entry e)
-unfolding line_of
+unfolding line_of read_of
 entry_line_is e (Set n) is fits = entry_is e (verb_of (codes "set") (decimal n)) fits (set_is n (subst VerbFits (sym is) fits.4) ∙ ap (λ w. Some w) is)
 entry_line_is e (Add n) is fits = entry_is e (verb_of (codes "add") (decimal n)) fits (add_is n (subst VerbFits (sym is) fits.4) ∙ ap (λ w. Some w) is)
 entry_line_is e Read is fits = entry_is e (read_of (codes "read")) fits (ap (λ w. Some w) is)
@@ -94,6 +94,7 @@ unfolding withdrawn_of
 withdrawn_is n small = ap (option_map (λ m. Some m)) (number n small)
 
 state_is : (b : Bool) → state_of (state_word b) ≡ Some b
+unfolding state_of
 state_is true = refl
 state_is false = refl
 
@@ -129,7 +130,7 @@ two : decimal 2 ≡ codes "2"
 two = decimal_digit 2 (omega arith)
 
 pub line_is : (x : Line) → LineFits x → line_of (words_of x) ≡ Some x
-unfolding line_of
+unfolding line_of last_of header_of instrument_of
 line_is (Header version) (inl is) = ap (λ v. header_of (codes "lab") (decimal v)) is ∙ ap (header_of (codes "lab")) one ∙ ap (λ v. Some (Header v)) (sym is)
 line_is (Header version) (inr is) = ap (λ v. header_of (codes "lab") (decimal v)) is ∙ ap (header_of (codes "lab")) two ∙ ap (λ v. Some (Header v)) (sym is)
 line_is (Instrument name entries) fits =

@@ -49,6 +49,7 @@ eq a b h = (bytes_eq-Decides a b).0 h
 -- ---- each line
 
 last_was : (word : List ℕ) (x : Line) → last_of word ≡ Some x → word ∷ [] ≡ words_of x
+unfolding last_of
 last_was word x e =
     ⊎_elim (λ h. ap (λ w. w ∷ []) (eq word (codes "finished") h.0) ∙ ap words_of (some_is (Last true) x h.1))
     (λ h. let k = kept (bytes_eq word (codes "unfinished")) (Some (Last false)) x h.1 in
@@ -62,6 +63,7 @@ decimal_two : decimal 2 ≡ codes "2"
 decimal_two = decimal_digit 2 (omega arith)
 
 header_was : (word version : List ℕ) (x : Line) → header_of word version ≡ Some x → word ∷ version ∷ [] ≡ words_of x
+unfolding header_of
 header_was word version x e =
     let two = if bytes_eq version (codes "2") then Some (Header 2) else None in
     let k = kept (bytes_eq word (codes "lab")) (if bytes_eq version (codes "1") then Some (Header 1) else two) x e in
@@ -72,6 +74,7 @@ header_was word version x e =
     (either (bytes_eq version (codes "1")) (Some (Header 1)) two x k.1)
 
 instrument_was : (word name entries : List ℕ) (x : Line) → instrument_of word name entries ≡ Some x → word ∷ name ∷ entries ∷ [] ≡ words_of x
+unfolding instrument_of
 instrument_was word name entries x e =
     let k = kept (bytes_eq word (codes "instrument") && is_name name) (option_map (λ n. Instrument name n) (number_of entries)) x e in
     let first = (and_parts (bytes_eq word (codes "instrument")) (is_name name) k.0).0 in
@@ -111,6 +114,7 @@ verb_was word number v e =
     (either (bytes_eq word (codes "set")) (option_map (λ n. Set n) (number_of number)) adds v e)
 
 read_was : (word : List ℕ) (v : Verb) → read_of word ≡ Some v → word ∷ [] ≡ verb_words v
+unfolding read_of
 read_was word v e =
     let k = kept (bytes_eq word (codes "read")) (Some Read) v e in
     ap (λ w. w ∷ []) (eq word (codes "read") k.0) ∙ ap verb_words (some_is Read v k.1)
@@ -163,6 +167,7 @@ withdrawn_was word number w e =
     (λ i. eq word (codes "withdrawn") k.0 i ∷ (number_was number n.0 n.1).0 i ∷ []) ∙ ap withdrawn_words n.2
 
 state_was : (word : List ℕ) (b : Bool) → state_of word ≡ Some b → word ≡ state_word b
+unfolding state_of
 state_was word b e =
     ⊎_elim (λ h. eq word (codes "retired") h.0 ∙ ap state_word (some_is true b h.1))
     (λ h. let k = kept (bytes_eq word (codes "waiting")) (Some false) b h.1 in eq word (codes "waiting") k.0 ∙ ap state_word (some_is false b k.1))

@@ -8,7 +8,7 @@ use Rattle.lab_plan.specs.Building.{on_last}
 use Rattle.report_reader.specs.declared.fault.ReportCause.TheVariants.{OutOfPlace, OtherVersion, WrongEnd}
 use Rattle.report_reader.specs.Line.{Line, Entry, Job, Last, EntryText, JobText}
 use Rattle.report_reader.specs.Report.{LogText, ReportText, log_lines, lines_of}
-use Rattle.report_reader.specs.State.{State, opening, at, is_two, is_same, with_entry, after}
+use Rattle.report_reader.specs.State.{State, opening, at, is_two, is_same, with_entry, cause_in, after}
 use Rattle.report_reader.specs.Reading.{Leads}
 use Rattle.report_reader.specs.Laws.{IsReport}
 
@@ -37,6 +37,7 @@ named name entries = record { name = name; entries = entries }
 entries_lead : (version : ℕ) (done : List LogText) (name : List ℕ) (sofar entries : List EntryText) →
     Leads (state version (done ++ named name sofar ∷ []) (length entries) []) (map (λ entry. Entry entry) entries)
     (state version (done ++ named name (sofar ++ entries) ∷ []) 0 [])
+unfolding cause_in after
 entries_lead version done name sofar [] = ap (λ l. state version (done ++ named name l ∷ []) 0 []) (sym (append-nil sofar))
 entries_lead version done name sofar (entry ∷ entries) =
     let log = named name sofar in
@@ -52,6 +53,7 @@ entries_lead version done name sofar (entry ∷ entries) =
     )
 
 logs_lead : (version : ℕ) (done logs : List LogText) → Leads (state version done 0 []) (flat_map log_lines logs) (state version (done ++ logs) 0 [])
+unfolding cause_in after
 logs_lead version done [] = ap (λ l. state version l 0 []) (sym (append-nil done))
 logs_lead version done (log ∷ logs) =
     leads-append (state version done 0 []) (log_lines log) (state version (done ++ log ∷ []) 0 []) (flat_map log_lines logs)
@@ -63,6 +65,7 @@ logs_lead version done (log ∷ logs) =
 jobs_lead : (version : ℕ) (logs : List LogText) (done jobs : List JobText)
     → AllByRecursion (λ (job : JobText). is_same (is_some job.withdrawn) (is_two (Some version)) ≡ true) jobs →
     Leads (state version logs 0 done) (map (λ job. Job job) jobs) (state version logs 0 (done ++ jobs))
+unfolding cause_in after
 jobs_lead version logs done [] forms = ap (state version logs 0) (sym (append-nil done))
 jobs_lead version logs done (job ∷ jobs) forms = (
   (λ i. at (not (forms.0 i)) OtherVersion None),
@@ -74,6 +77,7 @@ abbrev pub ended : ReportText → State
 ended report = record { version = Some report.version; logs = report.logs; due = 0; jobs = report.jobs; last = Some report.is_finished }
 
 pub report_leads : (report : ReportText) → IsReport report → Leads opening (lines_of report) (ended report)
+unfolding cause_in after
 report_leads report h =
     let v = report.version in (
       refl,

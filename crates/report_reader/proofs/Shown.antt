@@ -137,6 +137,7 @@ abbrev Goes : State → Line → Type 0
 Goes s line = (shown (after s line) ≡ shown s ++ line ∷ []) × IsTied (after s line)
 
 header_goes : (s : State) (version : ℕ) → IsTied s → cause_in s (Header version) ≡ None → Goes s (Header version)
+unfolding cause_in after
 header_goes s version t e =
     let none = no_value s.version (at_none (is_some s.version) OutOfPlace None e).0 in
     let f = t.fresh none in (
@@ -145,6 +146,7 @@ header_goes s version t e =
     )
 
 instrument_goes : (s : State) (name : List ℕ) (entries : ℕ) → IsTied s → cause_in s (Instrument name entries) ≡ None → Goes s (Instrument name entries)
+unfolding cause_in after
 instrument_goes s name entries t e =
     let test = (at_none (not (is_within s) || nat_lt 0 s.due || nat_lt 0 (length s.jobs)) OutOfPlace None e).0 in
     let one = or_false (not (is_within s) || nat_lt 0 s.due) (nat_lt 0 (length s.jobs)) test in
@@ -161,6 +163,7 @@ instrument_goes s name entries t e =
     )
 
 entry_goes : (s : State) (entry : EntryText) → IsTied s → cause_in s (Entry entry) ≡ None → Goes s (Entry entry)
+unfolding cause_in after
 entry_goes s entry t e =
     let test = (at_none (not (is_within s) || not (is_due s)) OutOfPlace None e).0 in
     let two = or_false (not (is_within s)) (not (is_due s)) test in
@@ -176,6 +179,7 @@ entry_goes s entry t e =
     )
 
 job_goes : (s : State) (job : JobText) → IsTied s → cause_in s (Job job) ≡ None → Goes s (Job job)
+unfolding cause_in after
 job_goes s job t e =
     let test = (at_none (not (is_within s) || nat_lt 0 s.due) OutOfPlace _ e).0 in
     let two = or_false (not (is_within s)) (nat_lt 0 s.due) test in
@@ -188,6 +192,7 @@ job_goes s job t e =
     )
 
 end_goes : (s : State) (is_finished : Bool) → IsTied s → cause_in s (Last is_finished) ≡ None → Goes s (Last is_finished)
+unfolding cause_in after
 end_goes s is_finished t e =
     let test = (at_none (not (is_within s) || nat_lt 0 s.due) OutOfPlace _ e).0 in
     let two = or_false (not (is_within s)) (nat_lt 0 s.due) test in

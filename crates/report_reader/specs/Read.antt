@@ -10,17 +10,17 @@ use Rattle.report_reader.specs.Number.{number_of}
 use Rattle.report_reader.specs.Line.{Line, Header, Instrument, Entry, Job, Last}
 
 -- `finished` or `unfinished`
-abbrev pub last_of : List ℕ → Option Line
+unfoldable pub last_of : List ℕ → Option Line
 last_of word = if bytes_eq word (codes "finished") then Some (Last true) else (if bytes_eq word (codes "unfinished") then Some (Last false) else None)
 
 -- `lab 1` or `lab 2`
-abbrev pub header_of : List ℕ → List ℕ → Option Line
+unfoldable pub header_of : List ℕ → List ℕ → Option Line
 header_of word version =
     if bytes_eq word (codes "lab") then (if bytes_eq version (codes "1") then Some (Header 1) else
     (if bytes_eq version (codes "2") then Some (Header 2) else None)) else None
 
 -- `instrument NAME N`
-abbrev pub instrument_of : List ℕ → List ℕ → List ℕ → Option Line
+unfoldable pub instrument_of : List ℕ → List ℕ → List ℕ → Option Line
 instrument_of word name entries = if bytes_eq word (codes "instrument") && is_name name then option_map (λ n. Instrument name n) (number_of entries) else None
 
 -- `PLACE/LENGTH`
@@ -35,7 +35,7 @@ verb_of word number =
     (if bytes_eq word (codes "add") then option_map (λ n. Add n) (number_of number) else None)
 
 -- `read`
-abbrev pub read_of : List ℕ → Option Verb
+unfoldable pub read_of : List ℕ → Option Verb
 read_of word = if bytes_eq word (codes "read") then Some Read else None
 
 -- `JOB SESSION PLACE/LENGTH`, a verb, and `= VALUE`
@@ -59,7 +59,7 @@ unfoldable pub withdrawn_of : List ℕ → List ℕ → Option (Option ℕ)
 withdrawn_of word number = if bytes_eq word (codes "withdrawn") then option_map (λ n. Some n) (number_of number) else None
 
 -- `retired` or `waiting`
-abbrev pub state_of : List ℕ → Option Bool
+unfoldable pub state_of : List ℕ → Option Bool
 state_of word = if bytes_eq word (codes "retired") then Some true else (if bytes_eq word (codes "waiting") then Some false else None)
 
 -- `meals M STATE`
@@ -73,15 +73,15 @@ job_of head withdrawn tail =
     withdrawn) head
 
 -- the beginning of a job's line, `withdrawn X`, and its end
-abbrev pub head_of : List (List ℕ) → Option (List ℕ × ℕ × ℕ)
+unfoldable pub head_of : List (List ℕ) → Option (List ℕ × ℕ × ℕ)
 head_of (job ∷ name ∷ a ∷ done ∷ b ∷ sessions ∷ []) = done_of job name a done b sessions
 head_of _ = None
 
-abbrev pub middle_of : List (List ℕ) → Option (Option ℕ)
+unfoldable pub middle_of : List (List ℕ) → Option (Option ℕ)
 middle_of (word ∷ withdrawn ∷ []) = withdrawn_of word withdrawn
 middle_of _ = None
 
-abbrev pub tail_of : List (List ℕ) → Option (ℕ × Bool)
+unfoldable pub tail_of : List (List ℕ) → Option (ℕ × Bool)
 tail_of (word ∷ meals ∷ state ∷ []) = meals_of word meals state
 tail_of _ = None
 

@@ -43,7 +43,7 @@ abbrev pub is_due : State → Bool
 is_due s = nat_lt 0 s.due && nat_lt 0 (length s.logs)
 
 -- the cause that the next line meets
-abbrev pub cause_in : State → Line → Option ReportCause
+unfoldable pub cause_in : State → Line → Option ReportCause
 cause_in s (Header version) = at (is_some s.version) OutOfPlace None
 cause_in s (Instrument name entries) = at (not (is_within s) || nat_lt 0 s.due || nat_lt 0 (length s.jobs)) OutOfPlace None
 cause_in s (Entry entry) = at (not (is_within s) || not (is_due s)) OutOfPlace None
@@ -54,7 +54,7 @@ abbrev pub with_entry : EntryText → LogText → LogText
 with_entry entry log = record log { entries = log.entries ++ entry ∷ [] }
 
 -- what is known behind it
-abbrev pub after : State → Line → State
+unfoldable pub after : State → Line → State
 after s (Header version) = record s { version = Some version }
 after s (Instrument name entries) = record s { logs = s.logs ++ record { name = name; entries = [] } ∷ []; due = entries }
 after s (Entry entry) = record s { logs = on_last (with_entry entry) s.logs; due = s.due - 1 }

@@ -13,6 +13,7 @@ use bstr::ByteSlice;
 use lab_plan::Verb;
 use lab_plan::name::is_name;
 
+#[tactic(auto, unfolding(crate::specs::Read::last_of))]
 fn last_of(word: &[u8]) -> Option<Form>
     ensures { MatchOption result (last_of word.now ≡ None) (λ form. last_of word.now ≡ Some (line_text form)) }
 {
@@ -25,6 +26,7 @@ fn last_of(word: &[u8]) -> Option<Form>
     }
 }
 
+#[tactic(auto, unfolding(crate::specs::Read::header_of))]
 fn header_of<'a>(word: &[u8], version: &'a [u8]) -> Option<Form<'a>>
     ensures { MatchOption result (header_of word.now version.now ≡ None) (λ form. header_of word.now version.now ≡ Some (line_text form)) }
 {
@@ -40,6 +42,7 @@ fn header_of<'a>(word: &[u8], version: &'a [u8]) -> Option<Form<'a>>
     }
 }
 
+#[tactic(auto, unfolding(crate::specs::Read::instrument_of))]
 fn instrument_of<'a>(word: &[u8], name: &'a [u8], entries: &[u8]) -> Option<Form<'a>>
     ensures { MatchOption result (instrument_of word.now name.now entries.now ≡ None)
         (λ form. instrument_of word.now name.now entries.now ≡ Some (line_text form)) }
@@ -87,6 +90,7 @@ fn verb_of(word: &[u8], number: &[u8]) -> Option<Verb>
 }
 
 /// The verb without a number.
+#[tactic(auto, unfolding(crate::specs::Read::read_of))]
 fn read_of(word: &[u8]) -> Option<Verb>
     ensures { result ≡ read_of word.now }
 {
@@ -162,6 +166,7 @@ fn withdrawn_of(word: &[u8], number: &[u8]) -> Option<Option<u32>>
 }
 
 /// `retired` or `waiting`.
+#[tactic(auto, unfolding(crate::specs::Read::state_of))]
 fn state_of(word: &[u8]) -> Option<bool>
     ensures { result ≡ state_of word.now }
 {
@@ -210,7 +215,7 @@ fn job_of<'a>(
 }
 
 /// `job NAME sessions D of S`, from its words.
-#[tactic(auto, using(crate::proofs::Lengths::six))]
+#[tactic(auto, using(crate::proofs::Lengths::six), unfolding(crate::specs::Read::head_of))]
 fn head_of<'a>(words: &[&'a [u8]]) -> Option<(&'a [u8], u32, u32)>
     requires { length words.now ≡ 6 }
     ensures { option_map head_text result ≡ head_of (map (λ word. word.now) words.now) }
@@ -219,7 +224,7 @@ fn head_of<'a>(words: &[&'a [u8]]) -> Option<(&'a [u8], u32, u32)>
 }
 
 /// `withdrawn X`, from its words.
-#[tactic(auto, using(crate::proofs::Lengths::two))]
+#[tactic(auto, using(crate::proofs::Lengths::two), unfolding(crate::specs::Read::middle_of))]
 fn middle_of(words: &[&[u8]]) -> Option<Option<u32>>
     requires { length words.now ≡ 2 }
     ensures { result ≡ middle_of (map (λ word. word.now) words.now) }
@@ -228,7 +233,7 @@ fn middle_of(words: &[&[u8]]) -> Option<Option<u32>>
 }
 
 /// `meals M STATE`, from its words.
-#[tactic(auto, using(crate::proofs::Lengths::three))]
+#[tactic(auto, using(crate::proofs::Lengths::three), unfolding(crate::specs::Read::tail_of))]
 fn tail_of(words: &[&[u8]]) -> Option<(u32, bool)>
     requires { length words.now ≡ 3 }
     ensures { result ≡ tail_of (map (λ word. word.now) words.now) }

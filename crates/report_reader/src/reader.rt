@@ -83,6 +83,7 @@ impl<'a, A: Allocator + Copy> Reader<'a, A> {
         self.due > 0 && !self.logs.is_empty()
     }
 
+    #[tactic(auto, unfolding(crate::specs::State::cause_in, crate::specs::State::after))]
     fn header(&mut self, version: u8) -> Result<(), ReportCause>
         ensures { Takes self.old (Header version) result self.new }
     {
@@ -93,6 +94,7 @@ impl<'a, A: Allocator + Copy> Reader<'a, A> {
         Ok(())
     }
 
+    #[tactic(auto, unfolding(crate::specs::State::cause_in, crate::specs::State::after))]
     fn instrument(&mut self, name: &'a [u8], entries: u32) -> Result<(), ReportCause>
         ensures { Takes self.old (Instrument name.now entries) result self.new }
     {
@@ -108,6 +110,7 @@ impl<'a, A: Allocator + Copy> Reader<'a, A> {
         }
     }
 
+    #[tactic(auto, unfolding(crate::specs::State::cause_in, crate::specs::State::after))]
     fn entry(&mut self, entry: EntryLine<'a>) -> Result<(), ReportCause>
         ensures { Takes self.old (Entry (entry_text entry.entry)) result self.new }
     {
@@ -123,6 +126,7 @@ impl<'a, A: Allocator + Copy> Reader<'a, A> {
         }
     }
 
+    #[tactic(auto, unfolding(crate::specs::State::cause_in, crate::specs::State::after))]
     fn job(&mut self, job: JobLine<'a>) -> Result<(), ReportCause>
         ensures { Takes self.old (Job (job_text job.entry)) result self.new }
     {
@@ -138,7 +142,7 @@ impl<'a, A: Allocator + Copy> Reader<'a, A> {
         }
     }
 
-    #[tactic(auto, using(crate::proofs::Texts::all_texts))]
+    #[tactic(auto, using(crate::proofs::Texts::all_texts), unfolding(crate::specs::State::cause_in, crate::specs::State::after))]
     fn last(&mut self, is_finished: bool) -> Result<(), ReportCause>
         ensures { Takes self.old (Last is_finished) result self.new }
     {
