@@ -77,7 +77,6 @@ pub(crate) enum Answer {
     Lost,
     Does(Due),
     Acted(u32),
-    Moved,
     Idle,
     Stored(PhaseEvent),
     Yes,
@@ -104,7 +103,7 @@ fn of_exchange(what: Stepped) -> Answer {
 fn of_turn(what: Turned) -> Answer {
     match what {
         Turned::Acted(count) => Answer::Acted(count),
-        Turned::Moved => Answer::Moved,
+        Turned::Moved => Answer::Lost,
         Turned::Idle => Answer::Idle,
     }
 }
