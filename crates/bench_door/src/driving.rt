@@ -3,9 +3,9 @@ ghost use Rattle.desk_user.specs.Use.{Keeps};
 ghost use Rattle.edge_rule.specs.DeskView.{Owns};
 ghost use Rattle.bench_door.specs.Doors.{Withdraws, Reaches};
 
-use desk_calls::{may_command, may_withdraw};
 use edge_rule::{Bench, Desk, PhaseEvent, command, store_phase};
 use instrument_log::Entry;
+use session_layer::{may_reach, may_withdraw};
 use std::alloc::Global;
 
 /// Does the next command of the desk's job, if it holds and has one left. Answers its entry.
@@ -14,7 +14,7 @@ pub fn next_command(bench: &Bench<Global>, desk: &mut Desk<Global>) -> Option<En
     ensures keeps { Keeps bench.now desk.old desk.new }
     ensures reached { Reaches desk.old result desk.new }
 {
-    if !may_command(bench, desk) {
+    if !may_reach(bench, desk) {
         return None;
     }
     Some(command(bench, desk))

@@ -64,7 +64,7 @@ const FORKS: [Line; 24] = [
     (A, Try(AskFork, AB), Word(DIRTY_B_ASKED_BOTTLE_A)),
     (B, Look(AB), Word(DIRTY_B_ASKED_BOTTLE_A)),
     (B, Call::Marks(AB), Answer::Marks(true, 0)),
-    (B, May(GiveFork, AB), Is(false)),
+    (B, May(EdgeMoves::GIVE_FORK, AB), Is(false)),
 ];
 
 /// Fork and bottle go to b, which drinks before its meal; a asks for the bottle again.
@@ -77,7 +77,7 @@ const BOTTLES: [Line; 19] = [
     (B, Try(AskFork, AB), Word(DIRTY_A_ASKED_BOTTLE_A_ASKED)),
     (A, Look(AB), Word(DIRTY_A_ASKED_BOTTLE_A_ASKED)),
     // thirsty, and the fork is still here
-    (A, May(GiveBottles(1), AB), Is(false)),
+    (A, May(GIVE_BOTTLE, AB), Is(false)),
     (A, Try(GiveFork, AB), Word(CLEAN_B_BOTTLE_A_ASKED)),
     (A, Try(GiveBottles(1), AB), Word(CLEAN_B_BOTTLE_B)),
     (A, Call::Marks(AB), Answer::Marks(false, 0)),
@@ -88,7 +88,7 @@ const BOTTLES: [Line; 19] = [
     (A, Try(AskBottles(1), AB), Word(CLEAN_B_BOTTLE_B_ASKED)),
     (B, Look(AB), Word(CLEAN_B_BOTTLE_B_ASKED)),
     // it drinks
-    (B, May(GiveBottles(1), AB), Is(false)),
+    (B, May(GIVE_BOTTLE, AB), Is(false)),
     (A, Glance(B), Far(DRINKS_HUNGRY)),
 ];
 
@@ -109,11 +109,6 @@ const AT_ONCE: [Line; 10] = [
 const ASK_BOTH: EdgeMoves = EdgeMoves {
     ask_fork: true,
     ask_bottles: 1,
-    ..EdgeMoves::NONE
-};
-
-const ASK_FORK: EdgeMoves = EdgeMoves {
-    ask_fork: true,
     ..EdgeMoves::NONE
 };
 
@@ -148,14 +143,14 @@ const IN_GROUPS: [Line; 17] = [
     (A, Store(Thirst), Far(THIRSTY)),
     (A, Store(Hunger), Far(THIRSTY_HUNGRY)),
     // a tranquil job asks for nothing
-    (B, May(These(ASK_BOTH), AB), Is(false)),
+    (B, May(ASK_BOTH, AB), Is(false)),
     (B, Store(Thirst), Far(THIRSTY)),
     (B, Store(Hunger), Far(THIRSTY_HUNGRY)),
-    (B, May(These(ASK_BOTH), AB), Is(true)),
-    (B, May(These(EdgeMoves::NONE), AB), Is(false)),
+    (B, May(ASK_BOTH, AB), Is(true)),
+    (B, May(EdgeMoves::NONE, AB), Is(false)),
     // of two jobs there is but one edge
-    (B, May(These(ASK_BOTH), AC), Is(false)),
-    (B, May(These(ASK_NO_BOTTLE_OF_THE_EDGE), AB), Is(false)),
+    (B, May(ASK_BOTH, AC), Is(false)),
+    (B, May(ASK_NO_BOTTLE_OF_THE_EDGE, AB), Is(false)),
     (
         B,
         Try(These(ASK_BOTH), AB),
@@ -163,12 +158,12 @@ const IN_GROUPS: [Line; 17] = [
     ),
     (A, Look(AB), Word(DIRTY_A_ASKED_BOTTLE_A_ASKED)),
     // the fork is here
-    (A, May(These(ASK_FORK), AB), Is(false)),
+    (A, May(EdgeMoves::ASK_FORK, AB), Is(false)),
     // the bottle is kept as long as the fork is here
-    (A, May(These(GIVE_BOTTLE), AB), Is(false)),
-    (A, May(These(GIVE_BOTH), AB), Is(true)),
+    (A, May(GIVE_BOTTLE, AB), Is(false)),
+    (A, May(GIVE_BOTH, AB), Is(true)),
     // it doesn't eat
-    (A, May(These(GIVE_BOTH_AND_SOIL), AB), Is(false)),
+    (A, May(GIVE_BOTH_AND_SOIL, AB), Is(false)),
     (
         A,
         Try(These(GIVE_BOTH_AND_ASK), AB),
@@ -186,8 +181,8 @@ const ASK_THREE: EdgeMoves = EdgeMoves {
 /// The same moves on an edge of the job, and on one of the others.
 const OF_OTHERS: [Line; 3] = [
     (C, Store(Thirst), Far(THIRSTY)),
-    (C, May(These(ASK_THREE), BC), Is(true)),
-    (C, May(These(ASK_THREE), AB), Is(false)),
+    (C, May(ASK_THREE, BC), Is(true)),
+    (C, May(ASK_THREE, AB), Is(false)),
 ];
 
 /// Job b gives its session up. Its desk counts the turns in which the session waited, and no other.

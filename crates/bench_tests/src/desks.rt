@@ -1,14 +1,12 @@
 //! The ends of the edges of two or three jobs, the desks of two, and calls on a desk that have to be legal.
-ghost use Rattle.std.specs.Prelude.{IsTrue};
-ghost use Rattle.legal_steps.specs.State.{IsOwn};
 ghost use Rattle.turns.specs.Lists.{Each};
 ghost use Rattle.edge_rule.specs.DeskView.{Owns};
 
-use desk_calls::{may_command, may_phase};
 use edge_rule::{Bench, Desk, PhaseEvent, command, glance, store_phase};
 use edge_word::PhaseWord;
 use instrument_log::Entry;
-use lab_plan::{EdgeNo, JobNo, Plan};
+use lab_plan::JobNo;
+use session_layer::{may_phase, may_reach};
 use std::alloc::Allocator;
 use std::process::Abort;
 
@@ -25,27 +23,6 @@ pub(crate) const AB: u16 = 0;
 pub(crate) const AC: u16 = 1;
 
 pub(crate) const BC: u16 = 2;
-
-/// Whether the edge is one of the job's.
-fn has_end<T: Allocator>(plan: &Plan<T>, job: JobNo, edge: EdgeNo) -> bool
-    ensures { IsTrue result → IsOwn plan.now job edge }
-{
-    if edge.0 >= plan.edges() {
-        return false;
-    }
-    let (lower, higher) = plan.ends(edge);
-    lower == job || higher == job
-}
-
-/// Whether the edge is one of the desk's job.
-pub(crate) fn is_own<T: Allocator>(bench: &Bench<T>, desk: &Desk<T>, edge: EdgeNo) -> bool
-    requires own { Owns bench.now desk.now }
-    ensures { IsTrue result → IsOwn desk.now.plan desk.now.job edge }
-{
-    let job = desk.job();
-    let plan = bench.plan();
-    has_end(plan, job, edge)
-}
 
 /// The desks of a bench for two jobs.
 pub(crate) fn both<'p, T: Allocator>(
@@ -88,7 +65,7 @@ pub(crate) fn commanded<T: Allocator>(
     requires own { Owns bench.now desk.old }
     ensures { Owns bench.now desk.new }
 {
-    assert!(rt; may_command(bench, desk));
+    assert!(rt; may_reach(bench, desk));
     command(bench, desk)
 }
 

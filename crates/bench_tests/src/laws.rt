@@ -36,7 +36,7 @@ fn laws_of_turns() {
     turns::idle_turn_is_calm();
     session_layer::took_is_turn();
     session_layer::idle_is_idle();
-    session_layer::moved_did_nothing();
+    session_layer::lost_did_nothing();
     session_layer::one_turn();
     session_layer::no_turn();
     session_layer::turns_go_on();

@@ -3,16 +3,15 @@ ghost use Rattle.legal_steps.specs.State.{IsOwn};
 ghost use Rattle.turns.specs.Lists.{Each};
 ghost use Rattle.edge_rule.specs.DeskView.{Owns};
 
-use crate::desks::{commanded, glanced, is_own, store};
+use crate::desks::{commanded, glanced, store};
 use crate::labs::{opened, plan_of};
 use crate::words::{edge, phase};
-use desk_calls::{
-    ask_bottles, ask_fork, give_bottles, give_fork, may_ask_bottles, may_ask_fork, may_exchange,
-    may_give_bottles, may_give_fork, may_soil, soil,
+use dining_layer::{fork_moves, may_ask, may_give, may_soil};
+use drinking_layer::{is_own_edge, may_ask_bottles, may_exchange, may_give_bottles, with_bottles};
+use edge_rule::{
+    Bench, Counts, Desk, PhaseEvent, Stepped, ask_bottles, ask_fork, exchange, give_bottles,
+    give_fork, look, soil,
 };
-use dining_layer::fork_moves;
-use drinking_layer::with_bottles;
-use edge_rule::{Bench, Counts, Desk, PhaseEvent, Stepped, exchange, look};
 use edge_word::{EdgeMoves, PhaseWord};
 use instrument_log::Entry;
 use lab_plan::{EdgeNo, JobNo, Verb};
@@ -37,7 +36,7 @@ pub(crate) enum Move {
 pub(crate) enum Call {
     Look(u16),
     Try(Move, u16),
-    May(Move, u16),
+    May(EdgeMoves, u16),
     Store(PhaseEvent),
     Command,
     Glance(u8),
@@ -77,12 +76,12 @@ fn looked<T: Allocator>(
     requires own { Owns bench.now desk.old }
     ensures { Owns bench.now desk.new }
 {
-    assert!(rt; is_own(bench, desk, edge));
+    assert!(rt; is_own_edge(bench, desk, edge));
     Answer::Word(look(bench, desk, edge).pack())
 }
 
 /// Moves that are seen to be legal.
-pub(crate) fn moved<T: Allocator>(
+fn moved<T: Allocator>(
     rt: &impl Abort,
     bench: &Bench<T>,
     desk: &mut Desk<T>,
@@ -95,7 +94,7 @@ pub(crate) fn moved<T: Allocator>(
 {
     match what {
         Move::GiveFork => {
-            assert!(rt; may_give_fork(bench, desk, edge));
+            assert!(rt; may_give(bench, desk, edge));
             give_fork(bench, desk, edge)
         }
         Move::GiveBottles(set) => {
@@ -103,7 +102,7 @@ pub(crate) fn moved<T: Allocator>(
             give_bottles(bench, desk, edge, set)
         }
         Move::AskFork => {
-            assert!(rt; may_ask_fork(bench, desk, edge));
+            assert!(rt; may_ask(bench, desk, edge));
             ask_fork(bench, desk, edge)
         }
         Move::AskBottles(set) => {
@@ -130,7 +129,7 @@ pub(crate) fn moved<T: Allocator>(
 fn seen<T: Allocator>(rt: &impl Abort, bench: &Bench<T>, desk: &Desk<T>, edge: EdgeNo) -> u64
     requires own { Owns bench.now desk.now }
 {
-    assert!(rt; is_own(bench, desk, edge));
+    assert!(rt; is_own_edge(bench, desk, edge));
     desk.seen(edge).pack()
 }
 
@@ -144,34 +143,10 @@ fn tried<T: Allocator>(
     requires own { Owns bench.now desk.old }
     ensures { Owns bench.now desk.new }
 {
-    assert!(rt; is_own(bench, desk, edge));
+    assert!(rt; is_own_edge(bench, desk, edge));
     match moved(rt, bench, desk, what, edge) {
         Stepped::Done => Answer::Word(seen(rt, bench, desk, edge)),
         Stepped::Moved(found) => Answer::Found(found.pack()),
-    }
-}
-
-/// Whether a single move, or a group of them, is legal by the word last seen.
-fn may<T: Allocator>(
-    rt: &impl Abort,
-    bench: &Bench<T>,
-    desk: &Desk<T>,
-    what: Move,
-    edge: EdgeNo,
-) -> bool
-    requires own { Owns bench.now desk.now }
-{
-    if let Move::These(moves) = what {
-        return may_exchange(bench, desk, edge, moves);
-    }
-    assert!(rt; is_own(bench, desk, edge));
-    match what {
-        Move::GiveFork => may_give_fork(bench, desk, edge),
-        Move::GiveBottles(set) => may_give_bottles(bench, desk, edge, set),
-        Move::AskFork => may_ask_fork(bench, desk, edge),
-        Move::AskBottles(set) => may_ask_bottles(bench, desk, edge, set),
-        Move::Soil => may_soil(bench, desk, edge),
-        Move::AllDue | Move::These(_) => true,
     }
 }
 
@@ -215,7 +190,7 @@ fn noted<T: Allocator>(bench: &Bench<T>, desk: &mut Desk<T>, thirsty_at_start: b
 fn marks<T: Allocator>(rt: &impl Abort, bench: &Bench<T>, desk: &Desk<T>, edge: EdgeNo) -> Answer
     requires own { Owns bench.now desk.now }
 {
-    assert!(rt; is_own(bench, desk, edge));
+    assert!(rt; is_own_edge(bench, desk, edge));
     Answer::Marks(desk.fork_mark(edge), desk.bottle_marks(edge))
 }
 
@@ -239,7 +214,7 @@ pub(crate) fn called<T: Allocator>(
     match call {
         Call::Look(edge) => looked(rt, bench, desk, EdgeNo(edge)),
         Call::Try(what, edge) => tried(rt, bench, desk, what, EdgeNo(edge)),
-        Call::May(what, edge) => Answer::Is(may(rt, bench, desk, what, EdgeNo(edge))),
+        Call::May(moves, edge) => Answer::Is(may_exchange(bench, desk, EdgeNo(edge), moves)),
         Call::Store(what) => {
             store(rt, bench, desk, what);
             Answer::Far(phase_of(rt, desk))

@@ -2,13 +2,14 @@
 ghost use Rattle.turns.specs.Lists.{Each};
 ghost use Rattle.edge_rule.specs.DeskView.{Owns};
 
-use crate::desks::{A, AB, AC, B, BC, C, both, is_own};
+use crate::desks::{A, AB, AC, B, BC, C, both};
 use crate::labs::{THREE, TWO, opened, plan_of};
 use crate::lines::Answer::{Far, Word};
 use crate::lines::Call::{Glance, Look, Seen, Store, Try};
 use crate::lines::Move::AllDue;
 use crate::lines::{Answer, Call, Line, called, do_all};
 use crate::words::{DIRTY_A_BOTTLE_A_ASKED, OPEN, OPEN_OF_THREE, THIRSTY};
+use drinking_layer::is_own_edge;
 use edge_rule::PhaseEvent::Thirst;
 use edge_rule::{Bench, Desk, heed, look, meet, meet_all, tell};
 use lab_plan::EdgeNo;
@@ -28,7 +29,7 @@ fn both_look<R: Threads + Sync + Abort, T: Allocator + Send + Sync>(
     ensures { Owns bench.now a.new × Owns bench.now b.new }
 {
     let edge = EdgeNo(AB);
-    assert!(rt; is_own(bench, a, edge) && is_own(bench, b, edge));
+    assert!(rt; is_own_edge(bench, a, edge) && is_own_edge(bench, b, edge));
     join_mut(
         rt,
         &mut || look(bench, a, edge),
@@ -40,7 +41,7 @@ fn edge_of<T: Allocator>(rt: &impl Abort, bench: &Bench<T>, desk: &Desk<T>) -> E
     requires own { Owns bench.now desk.now }
 {
     let edge = EdgeNo(AB);
-    assert!(rt; is_own(bench, desk, edge));
+    assert!(rt; is_own_edge(bench, desk, edge));
     desk.seen(edge).unpacked()
 }
 

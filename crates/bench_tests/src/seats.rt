@@ -3,16 +3,10 @@ ghost use Rattle.turns.specs.Lists.{Each};
 ghost use Rattle.legal_steps.specs.State.{IsOwn};
 ghost use Rattle.edge_rule.specs.DeskView.{Owns};
 
-use crate::desks::{commanded, glanced, is_own, store};
-use crate::lines::{self, moved};
-use desk_calls::{
-    may_ask_bottles, may_ask_fork, may_command, may_drink, may_give_bottles, may_give_fork,
-    may_hunger, may_leave, may_phase, may_quit, may_retire, may_sit, may_soil, may_thirst,
-    may_withdraw,
-};
+use crate::desks::{commanded, glanced, store};
 use dining_layer::{Tried, ask, dine, fork_moves, give, soil, table};
-use drinking_layer::{drink, due_moves, serve_bottles, want_bottles};
-use edge_rule::{Bench, Desk, PhaseEvent, Stepped, look};
+use drinking_layer::{drink, due_moves, is_own_edge, serve_bottles, want_bottles};
+use edge_rule::{Bench, Desk, PhaseEvent, look};
 use edge_word::{EdgeMoves, PhaseWord};
 use lab_plan::{EdgeNo, JobNo};
 use legal_steps::{Dining, Drinking};
@@ -39,10 +33,6 @@ pub(crate) enum Move {
     /// the moves that are due there, of which nothing is done
     Forks,
     Due,
-    /// all that is legal, as a set
-    Legal,
-    /// one named move, which has to be legal
-    Named(lines::Move),
 }
 
 /// A call of a job. Jobs and edges are plain numbers here: a table with an `EdgeNo` in it isn't a constant to the prover, and is costly.
@@ -77,13 +67,11 @@ pub(crate) enum Answer {
     Lost,
     Does(Due),
     Acted(u32),
-    Moved,
     Idle,
     Stored(PhaseEvent),
     Yes,
     No,
     Value(u32),
-    Legal(u32),
 }
 
 fn of_try(what: Tried) -> Answer {
@@ -94,17 +82,10 @@ fn of_try(what: Tried) -> Answer {
     }
 }
 
-fn of_exchange(what: Stepped) -> Answer {
-    match what {
-        Stepped::Done => Answer::Done,
-        Stepped::Moved(word) => Answer::Found(word.pack()),
-    }
-}
-
 fn of_turn(what: Turned) -> Answer {
     match what {
         Turned::Acted(count) => Answer::Acted(count),
-        Turned::Moved => Answer::Moved,
+        Turned::Moved => Answer::Lost,
         Turned::Idle => Answer::Idle,
     }
 }
@@ -174,107 +155,6 @@ fn due<A: Allocator>(bench: &Bench<A>, desk: &Desk<A>, edge: EdgeNo, bottles: bo
     Answer::Moves(fork_moves(bench, desk, edge))
 }
 
-/// What is legal at a job and on its edge: the moves by the word last seen there, with the first bottle, and the acts.
-pub(crate) const MAY_ASK: u32 = 1;
-
-pub(crate) const MAY_GIVE: u32 = 2;
-
-pub(crate) const MAY_SOIL: u32 = 4;
-
-pub(crate) const MAY_ASK_BOTTLE: u32 = 8;
-
-pub(crate) const MAY_GIVE_BOTTLE: u32 = 16;
-
-pub(crate) const MAY_COMMAND: u32 = 32;
-
-pub(crate) const MAY_THIRST: u32 = 64;
-
-pub(crate) const MAY_HUNGER: u32 = 128;
-
-pub(crate) const MAY_SIT: u32 = 256;
-
-pub(crate) const MAY_LEAVE: u32 = 512;
-
-pub(crate) const MAY_DRINK: u32 = 1024;
-
-pub(crate) const MAY_QUIT: u32 = 2048;
-
-pub(crate) const MAY_RETIRE: u32 = 4096;
-
-pub(crate) const MAY_WITHDRAW: u32 = 8192;
-
-const PHASES: [(PhaseEvent, u32); 8] = [
-    (PhaseEvent::Thirst, MAY_THIRST),
-    (PhaseEvent::Hunger, MAY_HUNGER),
-    (PhaseEvent::Sit, MAY_SIT),
-    (PhaseEvent::Leave, MAY_LEAVE),
-    (PhaseEvent::Drink, MAY_DRINK),
-    (PhaseEvent::Quit, MAY_QUIT),
-    (PhaseEvent::Retire, MAY_RETIRE),
-    (PhaseEvent::Withdraw, MAY_WITHDRAW),
-];
-
-/// The members of a list of answers, the first the lowest.
-fn set_of(answers: &[bool]) -> u32 {
-    let mut set = 0u32;
-    for (place, yes) in answers.iter().enumerate() {
-        if *yes && place < 32 {
-            set |= 1 << place;
-        }
-    }
-    set
-}
-
-fn legal_moves<A: Allocator>(bench: &Bench<A>, desk: &Desk<A>, edge: EdgeNo) -> u32
-    requires own { Owns bench.now desk.now }
-    requires edge { IsOwn desk.now.plan desk.now.job edge }
-{
-    set_of(&[
-        may_ask_fork(bench, desk, edge),
-        may_give_fork(bench, desk, edge),
-        may_soil(bench, desk, edge),
-        may_ask_bottles(bench, desk, edge, 1),
-        may_give_bottles(bench, desk, edge, 1),
-    ])
-}
-
-fn legal_acts<A: Allocator>(bench: &Bench<A>, desk: &Desk<A>) -> u32
-    requires { Owns bench.now desk.now }
-{
-    set_of(&[
-        false,
-        false,
-        false,
-        false,
-        false,
-        may_command(bench, desk),
-        may_thirst(bench, desk),
-        may_hunger(bench, desk),
-        may_sit(bench, desk),
-        may_leave(bench, desk),
-        may_drink(bench, desk),
-        may_quit(bench, desk),
-        may_retire(bench, desk),
-        may_withdraw(bench, desk),
-    ])
-}
-
-/// All that is legal; the one test for every phase says the same as each test by its name.
-fn legal<A: Allocator>(rt: &impl Abort, bench: &Bench<A>, desk: &Desk<A>, edge: EdgeNo) -> Answer
-    requires own { Owns bench.now desk.now }
-    requires edge { IsOwn desk.now.plan desk.now.job edge }
-{
-    let acts = legal_acts(bench, desk);
-    for phase in &PHASES {
-        let (what, bit) = *phase;
-        assert!(rt;
-            may_phase(bench, desk, what) == (acts & bit != 0),
-            "{what:?}"
-        );
-    }
-    Answer::Legal(acts | legal_moves(bench, desk, edge))
-}
-
 /// A call on one edge.
 fn on_edge<A: Allocator>(
     rt: &impl Abort,
@@ -286,12 +166,10 @@ fn on_edge<A: Allocator>(
     requires { Owns bench.now desk.old }
     ensures { Owns bench.now desk.new }
 {
-    assert!(rt; is_own(bench, desk, edge));
+    assert!(rt; is_own_edge(bench, desk, edge));
     match what {
         Move::Forks => due(bench, desk, edge, false),
         Move::Due => due(bench, desk, edge, true),
-        Move::Legal => legal(rt, bench, desk, edge),
-        Move::Named(named) => of_exchange(moved(rt, bench, desk, named, edge)),
         _ => layer_move(bench, desk, edge, what),
     }
 }
@@ -362,7 +240,7 @@ impl<A: Allocator> Seat<'_, '_, A> {
     /// The word that the job saw last on this one of its edges.
     pub(crate) fn seen(&self, rt: &impl Abort, place: usize) -> u64 {
         let own = self.bench.plan().edges_of(self.desk.job());
-        assert!(rt; place < own.len() && is_own(self.bench, &self.desk, own[place]));
+        assert!(rt; place < own.len() && is_own_edge(self.bench, &self.desk, own[place]));
         self.desk.seen(own[place]).pack()
     }
 }

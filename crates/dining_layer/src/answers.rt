@@ -5,13 +5,14 @@ ghost use Rattle.dining_layer.specs.Tries.{tried_as};
 use edge_rule::Stepped;
 use edge_word::EdgeWord;
 
-/// What became of a move. `Moved` is said of the edge: the move is lost.
+/// What became of a move.
 #[must_use]
 #[derive(Clone, Copy, PartialEq, Eq, Debug)]
 pub enum Tried {
     /// It was done.
     Done,
     /// Lost: it was legal by the word last seen, but another job changed the word first, to the edge told here; nothing was done.
+    /// It isn't called so, because callers know this answer as `Moved`: the edge has moved on.
     Moved(EdgeWord),
     /// It isn't legal by the word last seen.
     NotLegal,

@@ -84,7 +84,7 @@ pub fn due_moves_seen<A: Allocator>(
 
 /// The greatest sets of bottles that may be given and asked for in such a group: each after the moves of the group that
 /// come before it, whether or not those are legal.
-pub fn greatest_sets<A: Allocator>(
+pub(crate) fn greatest_sets<A: Allocator>(
     bench: &Bench<A>,
     desk: &Desk<A>,
     edge: EdgeNo,
@@ -105,7 +105,7 @@ pub fn greatest_sets<A: Allocator>(
 }
 
 /// All bottles that may be given, by the word last seen.
-pub fn all_gifts<A: Allocator>(bench: &Bench<A>, desk: &Desk<A>, edge: EdgeNo) -> u32
+pub(crate) fn all_gifts<A: Allocator>(bench: &Bench<A>, desk: &Desk<A>, edge: EdgeNo) -> u32
     requires own { Owns bench.now desk.now }
     requires edge { IsOwn desk.now.plan desk.now.job edge }
     ensures { IsGreatest desk.now.plan edge result (MayGiveBottle desk.now.plan (known desk.now) desk.now.job edge) }
@@ -114,7 +114,7 @@ pub fn all_gifts<A: Allocator>(bench: &Bench<A>, desk: &Desk<A>, edge: EdgeNo) -
 }
 
 /// All bottles that may be asked for, by the word last seen.
-pub fn all_wishes<A: Allocator>(bench: &Bench<A>, desk: &Desk<A>, edge: EdgeNo) -> u32
+pub(crate) fn all_wishes<A: Allocator>(bench: &Bench<A>, desk: &Desk<A>, edge: EdgeNo) -> u32
     requires own { Owns bench.now desk.now }
     requires edge { IsOwn desk.now.plan desk.now.job edge }
     ensures { IsGreatest desk.now.plan edge result

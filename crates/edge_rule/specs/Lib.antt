@@ -14,3 +14,4 @@ pub mod Standing
 pub mod Knowing
 pub mod Telling
 pub mod NewsInside
+pub mod Made

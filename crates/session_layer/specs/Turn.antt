@@ -119,5 +119,5 @@ pub record OnlyLooked (d d' : DeskView) : Type 0 where
   pub front : d'.front ≡ d.front ++ more
   pub stand : Stands d.plan (shown d) (visits_groups d.job visits) more
 
-abbrev pub MovedDidNothing : Type 0
-MovedDidNothing = (d d' : DeskView) → Took d Moved d' → OnlyLooked d d'
+abbrev pub LostDidNothing : Type 0
+LostDidNothing = (d d' : DeskView) → Took d Moved d' → OnlyLooked d d'

@@ -1,5 +1,5 @@
 //! What holds of all turns.
-ghost use Rattle.session_layer.specs.Turn.{TookIsTurn, IdleIsIdle, MovedDidNothing};
+ghost use Rattle.session_layer.specs.Turn.{TookIsTurn, IdleIsIdle, LostDidNothing};
 
 /// What a desk did in a turn is a turn of its record.
 pub fn took_is_turn()
@@ -12,6 +12,6 @@ pub fn idle_is_idle()
 {}
 
 /// Moved is answered only if nothing but looks was added to the record, and an exchange that was due by what its look saw found another word.
-pub fn moved_did_nothing()
-    ensures { MovedDidNothing }
+pub fn lost_did_nothing()
+    ensures { LostDidNothing }
 {}

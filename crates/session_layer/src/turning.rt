@@ -25,13 +25,14 @@ pub enum Visited {
     Calm,
 }
 
-/// What became of a turn. `Moved` is said of edges: each exchange that was due is lost.
+/// What became of a turn.
 #[must_use]
 #[derive(Clone, Copy, PartialEq, Eq, Debug)]
 pub enum Turned {
     /// The number of exchanges that were done, with the phase act.
     Acted(u32),
-    /// Lost: something was due, but another job changed the word first; nothing was done.
+    /// Lost: each exchange that was due found a word that another job had changed first, and no act was due; nothing was done. It isn't
+    /// called so, because callers know this answer as `Moved`: the edge has moved on.
     Moved,
     /// Nothing was legal, by the words seen.
     Idle,

@@ -2,9 +2,12 @@
 ghost use Rattle.legal_steps.specs.declared.event.Event.TheVariants.{GiveFork, AskFork, Soil, GiveBottles, AskBottles};
 ghost use Rattle.legal_steps.specs.Legal.{May};
 ghost use Rattle.edge_rule.specs.DeskView.{Owns, known};
-ghost use Rattle.desk_calls.specs.Made.{Made};
+ghost use Rattle.edge_rule.specs.Made.{Made};
 
-use edge_rule::{Bench, Desk, Stepped, exchange};
+use crate::bench::Bench;
+use crate::calls::Stepped;
+use crate::desk::Desk;
+use crate::steps::exchange;
 use edge_word::EdgeMoves;
 use lab_plan::EdgeNo;
 use std::alloc::Allocator;

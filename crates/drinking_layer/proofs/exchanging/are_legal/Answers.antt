@@ -5,9 +5,9 @@ use Rattle.legal_steps.specs.declared.phase.Dining.{Dining}
 use Rattle.legal_steps.specs.declared.edge_state.EdgeState.{EdgeState}
 use Rattle.edge_rule.specs.DeskView.{DeskView, known}
 use Rattle.drinking_layer.proofs.AddedSets.{edge_there, seat_there}
-use Rattle.desk_calls.specs.Exchanging.{AreForkMovesLegal}
-use Rattle.desk_calls.proofs.Groups.{legal_moves, fork_moves, gifts_part, wishes_part}
-use Rattle.desk_calls.proofs.exchanging.are_legal.Goals as goal
+use Rattle.drinking_layer.specs.Exchanging.{AreForkMovesLegal}
+use Rattle.drinking_layer.proofs.Groups.{legal_moves, fork_moves, gifts_part, wishes_part}
+use Rattle.drinking_layer.proofs.exchanging.are_legal.Goals as goal
 
 pub returns-then-not-are_fork_moves : goal.returns-then-not-are_fork_moves
 returns-then-not-are_fork_moves g c =

@@ -1,4 +1,4 @@
--- What the answer Moved says: looks alone, and an exchange that was due and found another word.
+-- What is said of a turn that lost its exchanges: looks alone, and an exchange that was due and found another word.
 use Rattle.std.proofs.Common.{◌≡◌, ℕ, ◌+◌, Bool, true, false, not, ◌&&◌, if◌then◌else◌, List, [], ◌∷◌, ◌++◌, map, arith, refl, ap, ◌∙◌, subst, append-nil}
 use Rattle.legal_steps.specs.declared.event.Event.{Event}
 use Rattle.legal_steps.specs.declared.event.Event.TheVariants.{Look}
@@ -7,7 +7,7 @@ use Rattle.edge_rule.specs.DeskView.{DeskView, shown}
 use Rattle.turns.specs.Turn.{Visit, visits_events, count, once, is_done}
 use Rattle.turns.specs.Turns.{Group, Stands, turn_groups, visits_groups}
 use Rattle.turns.proofs.Idle.{no_events}
-use Rattle.session_layer.specs.Turn.{MovedDidNothing}
+use Rattle.session_layer.specs.Turn.{LostDidNothing}
 use Rattle.session_layer.specs.declared.turning.Turned.TheVariants.{Moved}
 use Rattle.session_layer.proofs.EventTurns.{visits_did, deeds_then}
 use Rattle.session_layer.proofs.Grows.{Goes, took_goes}
@@ -29,8 +29,8 @@ none_at_all : (acts : List Event) → once acts ≡ 0 → acts ≡ []
 none_at_all [] h = refl
 none_at_all (x ∷ acts) h = absurd (omega (arith, h))
 
-pub moved_did_nothing : MovedDidNothing
-moved_did_nothing = λ d d' t.
+pub lost_did_nothing : LostDidNothing
+lost_did_nothing = λ d d' t.
     let none = t.says.0 in
     let no_acts : t.acts ≡ [] = none_at_all t.acts (omega (arith, none)) in
     let looks : visits_events d.job t.visits ++ t.acts ≡ map (λ (v : Visit). Look d.job v.edge v.saw) t.visits =

@@ -1,13 +1,15 @@
 //! Where an exchange may be made.
 ghost use Rattle.std.specs.Prelude.{◌≡◌, ◌↔◌, ◌==◌, IsTrue, bit_and};
+ghost use Rattle.legal_steps.specs.declared.event.Event.TheVariants.{GiveBottles, AskBottles};
 ghost use Rattle.legal_steps.specs.State.{IsOwn};
+ghost use Rattle.legal_steps.specs.Legal.{May};
 ghost use Rattle.legal_steps.specs.Run.{IsLegalFrom};
 ghost use Rattle.edge_word.specs.Moves.{events_of};
 ghost use Rattle.edge_rule.specs.DeskView.{Owns, known};
-ghost use Rattle.desk_calls.specs.Exchanging.{MayExchange, AreForkMovesLegal};
+ghost use Rattle.drinking_layer.specs.Exchanging.{MayExchange, AreForkMovesLegal};
 
+use crate::bottles::{all_gifts, all_wishes, greatest_sets};
 use dining_layer::at_edge;
-use drinking_layer::greatest_sets;
 use edge_rule::{Bench, Desk};
 use edge_word::EdgeMoves;
 use lab_plan::{EdgeNo, JobNo, Plan};
@@ -90,4 +92,32 @@ pub fn may_exchange<A: Allocator>(
         return false;
     }
     are_legal(bench, desk, edge, moves)
+}
+
+/// Whether these bottles may be asked for, by the word last seen.
+pub fn may_ask_bottles<A: Allocator>(
+    bench: &Bench<A>,
+    desk: &Desk<A>,
+    edge: EdgeNo,
+    set: u32,
+) -> bool
+    requires own { Owns bench.now desk.now }
+    requires edge { IsOwn desk.now.plan desk.now.job edge }
+    ensures { IsTrue result ↔ May desk.now.plan (known desk.now) (AskBottles desk.now.job edge set) }
+{
+    set != 0 && set & all_wishes(bench, desk, edge) == set
+}
+
+/// Whether these bottles may be given, by the word last seen.
+pub fn may_give_bottles<A: Allocator>(
+    bench: &Bench<A>,
+    desk: &Desk<A>,
+    edge: EdgeNo,
+    set: u32,
+) -> bool
+    requires own { Owns bench.now desk.now }
+    requires edge { IsOwn desk.now.plan desk.now.job edge }
+    ensures { IsTrue result ↔ May desk.now.plan (known desk.now) (GiveBottles desk.now.job edge set) }
+{
+    set != 0 && set & all_gifts(bench, desk, edge) == set
 }

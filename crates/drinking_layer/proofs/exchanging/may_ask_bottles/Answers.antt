@@ -1,6 +1,6 @@
 use Rattle.edge_rule.specs.DeskView.{known}
-use Rattle.desk_calls.proofs.Subsets.{may_ask}
-use Rattle.desk_calls.proofs.guards.may_ask_bottles.Goals as goal
+use Rattle.drinking_layer.proofs.Subsets.{may_ask}
+use Rattle.drinking_layer.proofs.exchanging.may_ask_bottles.Goals as goal
 
 pub returns-then-set-ne0 : goal.returns-then-set-ne0
 returns-then-set-ne0 g0 c =

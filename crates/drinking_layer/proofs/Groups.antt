@@ -16,8 +16,8 @@ use Rattle.edge_word.specs.Moves.{on, events_of}
 use Rattle.turns.specs.Due.{after_if, fork_gone, bottles_gone, fork_asked_for, all_asked_for, IsGreatest}
 use Rattle.turns.proofs.ForkGuards.{ask_at, soil_at}
 use Rattle.turns.proofs.Stages.{stage_three}
-use Rattle.desk_calls.specs.Exchanging.{MayMoveFork, MayMoveBottles, AreForkMovesLegal}
-use Rattle.desk_calls.proofs.Subsets.{may_give, may_ask}
+use Rattle.drinking_layer.specs.Exchanging.{MayMoveFork, MayMoveBottles, AreForkMovesLegal}
+use Rattle.drinking_layer.proofs.Subsets.{may_give, may_ask}
 
 legal_on : (plan : LabPlan) (b : Bool) (event : Event) (rest : List Event) (s : State)
     → IsLegalFrom plan s (on b event rest) ↔ ((b ≡ true → May plan s event) × IsLegalFrom plan (after_if plan b event s) rest)
