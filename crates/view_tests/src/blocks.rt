@@ -151,24 +151,6 @@ scope-4 read
 end
 ";
 
-/// By a reckoning of its own: each waits longest for the next, which keeps a bottle because it is thirsty itself.
-const RING_BLOCKS: &str = "rounds 74 finished
-blocked bench-2 by bench-3 on supply-2 rounds 41 held 5
-blocked bench-3 by bench-4 on scope-2 rounds 35 held 4
-blocked bench-1 by bench-2 on scope-1 rounds 33 held 4
-blocked bench-4 by bench-5 on supply-3 rounds 29 held 5
-blocked bench-5 by bench-6 on scope-3 rounds 23 held 4
-blocked bench-6 by bench-7 on supply-4 rounds 17 held 5
-blocked bench-7 by bench-8 on scope-4 rounds 11 held 4
-blocked bench-8 by bench-1 on supply-1 rounds 9 held 6
-";
-
-#[test]
-fn blocks_of_a_ring(rt: HostRuntime) {
-    let (text, answer) = told(rt.alloc(), RING, 10000);
-    assert!(rt; answer == Ok(Outcome::Finished) && text.starts_with(RING_BLOCKS.as_bytes()));
-}
-
 #[test]
 fn no_script_has_no_blocks(rt: HostRuntime) {
     let fault = ScriptFault {

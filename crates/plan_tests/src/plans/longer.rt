@@ -8,19 +8,14 @@ use lab_plan::{EdgeNo, InstrumentNo, JobNo, MoreRefusal, Place, Plan, PlanBuilde
 use std::alloc::{Allocator, Global};
 use std::process::Abort;
 
-/// A session that is offered: its job, its patience, its commands, and what is answered.
-type Offer<'a> = (
-    u8,
-    Option<u32>,
-    &'a [(InstrumentNo, Verb)],
-    Option<MoreRefusal>,
-);
+/// A session that is offered: its job, its patience, its commands by the numbers of their instruments, and what is answered.
+type Offer = (u8, Option<u32>, &'static [(u8, Verb)], Option<MoreRefusal>);
 
-const LAMP: InstrumentNo = InstrumentNo(0);
+const LAMP: u8 = 0;
 
-const SCALE: InstrumentNo = InstrumentNo(1);
+const SCALE: u8 = 1;
 
-const PUMP: InstrumentNo = InstrumentNo(2);
+const PUMP: u8 = 2;
 
 fn add<A: Allocator>(
     rt: &impl Abort,
@@ -33,166 +28,259 @@ fn add<A: Allocator>(
     plan.add_session(JobNo(job), patience, commands).err()
 }
 
-/// Offers each session in turn.
-fn offer<A: Allocator>(rt: &impl Abort, plan: &mut Plan<A>, offers: &[Offer]) {
-    for (row, &(job, patience, commands, wanted)) in offers.iter().enumerate() {
-        check(rt, row, add(rt, plan, job, patience, commands), wanted);
+/// Why the plan would refuse the session, asked before it is added.
+fn why_not<A: Allocator>(
+    rt: &impl Abort,
+    plan: &Plan<A>,
+    job: u8,
+    patience: Option<u32>,
+    commands: &[(InstrumentNo, Verb)],
+) -> Option<MoreRefusal> {
+    assert!(rt; (job as usize) < plan.jobs());
+    plan.more_refusal(JobNo(job), patience, commands)
+}
+
+fn commands_of<A: Allocator>(
+    rt: &impl Abort,
+    alloc: A,
+    commands: &[(u8, Verb)],
+) -> Vec<(InstrumentNo, Verb), A> {
+    let mut all = Vec::new(alloc);
+    for &(instrument, verb) in commands {
+        let is_added = all.push((InstrumentNo(instrument), verb)).is_ok();
+        check(rt, instrument, is_added, true);
     }
+    all
+}
+
+/// Offers each session in turn, and asks before it what will be answered.
+fn offer<A: Allocator + Copy>(rt: &impl Abort, alloc: A, plan: &mut Plan<A>, offers: &[Offer]) {
+    for &(job, patience, commands, wanted) in offers {
+        let session = commands_of(rt, alloc, commands);
+        let told = why_not(rt, plan, job, patience, &session);
+        let came = add(rt, plan, job, patience, &session);
+        check(
+            rt,
+            (job, patience, commands),
+            (told, came),
+            (wanted, wanted),
+        );
+    }
+}
+
+/// What is looked at in a plan to which sessions were offered.
+#[derive(Clone, Copy)]
+enum Looked {
+    AtThird,
+    AtPatience,
+    AtExample,
+    AtThousand,
+    AtNames,
+}
+
+fn look<A: Allocator>(rt: &impl Abort, plan: &mut Plan<A>, looked: Looked) {
+    match looked {
+        Looked::AtThird => check_third(rt, plan),
+        Looked::AtPatience => check_patience(rt, plan),
+        Looked::AtExample => check_example(rt, plan),
+        Looked::AtThousand => fill_to_thousand(rt, plan),
+        Looked::AtNames => check_names(rt, plan),
+    }
+}
+
+/// The plan of these lines is offered these sessions, and looked at.
+fn offer_to<A: Allocator + Copy>(
+    rt: &impl Abort,
+    alloc: A,
+    builder: PlanBuilder<A>,
+    lines: &[Line],
+    offers: &[Offer],
+    looked: Looked,
+) {
+    let mut plan = plan_of(rt, builder, lines);
+    offer(rt, alloc, &mut plan, offers);
+    look(rt, &mut plan, looked);
+}
+
+/// The same of the example.
+fn offer_to_example(rt: &impl Abort, alloc: Global, offers: &[Offer], looked: Looked) {
+    let builder = PlanBuilder::new(alloc);
+    offer_to(rt, alloc, builder, &EXAMPLE, offers, looked);
 }
 
 /// The third session of the first job, on lamp, pump and lamp again.
 const THIRD: [(InstrumentNo, Verb); 3] = [
-    (LAMP, Verb::Add(999_999)),
-    (PUMP, Verb::Set(0)),
-    (LAMP, Verb::Read),
+    (InstrumentNo(LAMP), Verb::Add(999_999)),
+    (InstrumentNo(PUMP), Verb::Set(0)),
+    (InstrumentNo(LAMP), Verb::Read),
 ];
 
-#[test]
-fn has_one_more_session(rt: HostRuntime) {
-    let mut plan = plan_of(&rt, PlanBuilder::new(rt.alloc()), &EXAMPLE);
-    offer(&rt, &mut plan, &[(0, None, &THIRD, None)]);
-    check(&rt, "counts", counts(&plan), (3, 3, 1));
+const ONE_MORE: [Offer; 1] = [(
+    0,
+    None,
+    &[
+        (LAMP, Verb::Add(999_999)),
+        (PUMP, Verb::Set(0)),
+        (LAMP, Verb::Read),
+    ],
+    None,
+)];
+
+/// The sessions of the first job are as they were, with the third behind them; edges and instruments stay as they are.
+fn check_third<A: Allocator>(rt: &impl Abort, plan: &Plan<A>) {
+    let ends = ((JobNo(0), JobNo(2)), 1);
+    let job = (b"grow-some-cells1".as_slice(), 3, [EdgeNo(0)].as_slice());
+    let place = Place {
+        place: 2,
+        length: 2,
+    };
+    check(rt, "counts", counts(plan), (3, 3, 1));
+    check(rt, "edge", ends_of(rt, plan, 0), ends);
+    check(rt, "job", job_of(rt, plan, 0), job);
     check(
-        &rt,
-        "edge",
-        ends_of(&rt, &plan, 0),
-        ((JobNo(0), JobNo(2)), 1),
-    );
-    let edge = [EdgeNo(0)];
-    check(
-        &rt,
-        "job",
-        job_of(&rt, &plan, 0),
-        (b"grow-some-cells1", 3, &edge),
-    );
-    check(
-        &rt,
+        rt,
         "first",
-        session_of(&rt, &plan, 0, 1),
+        session_of(rt, plan, 0, 1),
         (None, 0b011, &FIRST),
     );
     check(
-        &rt,
+        rt,
         "third",
-        session_of(&rt, &plan, 0, 3),
+        session_of(rt, plan, 0, 3),
         (None, 0b101, &THIRD),
     );
-    check(
-        &rt,
-        "place",
-        place_of(&rt, &plan, 0, 3, 2),
-        Place {
-            place: 2,
-            length: 2,
-        },
-    );
-    check(&rt, "all", plan.all_commands(), 8);
+    check(rt, "place", place_of(rt, plan, 0, 3, 2), place);
+    check(rt, "all", plan.all_commands(), 8);
+}
+
+#[test]
+fn has_one_more_session(rt: HostRuntime) {
+    offer_to_example(&rt, rt.alloc(), &ONE_MORE, Looked::AtThird);
+}
+
+const WASH: [Line<'static>; 3] = [
+    Line::Job(b"wash"),
+    Line::Patient(1),
+    Line::Command(b"lamp", Verb::Read),
+];
+
+const PATIENT: [Offer; 3] = [
+    (
+        0,
+        Some(1_000_000),
+        &[(LAMP, Verb::Read)],
+        Some(MoreRefusal::NotPatient),
+    ),
+    (0, Some(999_999), &[(LAMP, Verb::Read)], None),
+    (0, None, &[(LAMP, Verb::Read)], None),
+];
+
+fn check_patience<A: Allocator>(rt: &impl Abort, plan: &Plan<A>) {
+    let read = [(InstrumentNo(LAMP), Verb::Read)];
+    let (second, third) = (session_of(rt, plan, 0, 2), session_of(rt, plan, 0, 3));
+    check(rt, 2, second, (Some(999_999), 1, &read));
+    check(rt, 3, third, (None, 1, &read));
 }
 
 /// A plan of version 2 takes a patience.
 #[test]
 fn has_one_more_patient_session(rt: HostRuntime) {
-    let lines = [
-        Line::Job(b"wash"),
-        Line::Patient(1),
-        Line::Command(b"lamp", Verb::Read),
-    ];
-    let mut plan = plan_of(&rt, PlanBuilder::new_two(rt.alloc()), &lines);
-    let read = [(LAMP, Verb::Read)];
-    offer(
+    let builder = PlanBuilder::new_two(rt.alloc());
+    offer_to(
         &rt,
-        &mut plan,
-        &[
-            (0, Some(1_000_000), &read, Some(MoreRefusal::NotPatient)),
-            (0, Some(999_999), &read, None),
-            (0, None, &read, None),
-        ],
+        rt.alloc(),
+        builder,
+        &WASH,
+        &PATIENT,
+        Looked::AtPatience,
     );
-    check(
-        &rt,
-        2,
-        session_of(&rt, &plan, 0, 2),
-        (Some(999_999), 1, &read),
-    );
-    check(&rt, 3, session_of(&rt, &plan, 0, 3), (None, 1, &read));
 }
+
+const LARGE: Verb = Verb::Set(1_000_000);
+
+/// Sessions that have a fault, and some of them another behind it.
+const REFUSED: [Offer; 8] = [
+    (0, Some(3), &[], Some(MoreRefusal::Empty)),
+    (2, Some(3), &[(PUMP, LARGE)], Some(MoreRefusal::NotItsOwn)),
+    (
+        2,
+        None,
+        &[(LAMP, Verb::Read), (SCALE, Verb::Read)],
+        Some(MoreRefusal::NotItsOwn),
+    ),
+    (0, None, &[(3, Verb::Read)], Some(MoreRefusal::NotItsOwn)),
+    (0, None, &[(255, Verb::Read)], Some(MoreRefusal::NotItsOwn)),
+    (1, None, &[(LAMP, Verb::Read)], Some(MoreRefusal::NotItsOwn)),
+    (2, Some(3), &[(LAMP, LARGE)], Some(MoreRefusal::NotPatient)),
+    (
+        2,
+        None,
+        &[(LAMP, Verb::Read), (LAMP, LARGE)],
+        Some(MoreRefusal::TooLarge),
+    ),
+];
 
 /// Each is refused for the first of its reasons, and the plan stays as it was.
 #[test]
 fn refuses_one_more_session(rt: HostRuntime) {
-    let mut plan = plan_of(&rt, PlanBuilder::new(rt.alloc()), &EXAMPLE);
-    let large = Verb::Set(1_000_000);
-    offer(
-        &rt,
-        &mut plan,
-        &[
-            (0, Some(3), &[], Some(MoreRefusal::Empty)),
-            (2, Some(3), &[(PUMP, large)], Some(MoreRefusal::NotItsOwn)),
-            (
-                2,
-                None,
-                &[(LAMP, Verb::Read), (SCALE, Verb::Read)],
-                Some(MoreRefusal::NotItsOwn),
-            ),
-            (
-                0,
-                None,
-                &[(InstrumentNo(3), Verb::Read)],
-                Some(MoreRefusal::NotItsOwn),
-            ),
-            (
-                0,
-                None,
-                &[(InstrumentNo(255), Verb::Read)],
-                Some(MoreRefusal::NotItsOwn),
-            ),
-            (1, None, &[(LAMP, Verb::Read)], Some(MoreRefusal::NotItsOwn)),
-            (2, Some(3), &[(LAMP, large)], Some(MoreRefusal::NotPatient)),
-            (
-                2,
-                None,
-                &[(LAMP, Verb::Read), (LAMP, large)],
-                Some(MoreRefusal::TooLarge),
-            ),
-        ],
-    );
-    check_example(&rt, &plan);
+    offer_to_example(&rt, rt.alloc(), &REFUSED, Looked::AtExample);
 }
 
 /// Adds sessions until the job has 1000; the next is one too many.
+fn fill_to_thousand<A: Allocator>(rt: &impl Abort, plan: &mut Plan<A>) {
+    let (lamp, pump) = (
+        [(InstrumentNo(LAMP), Verb::Read)],
+        [(InstrumentNo(PUMP), Verb::Read)],
+    );
+    for row in 1..1000u32 {
+        check(rt, row, add(rt, plan, 2, None, &lamp), None);
+    }
+    let told = why_not(rt, plan, 2, None, &pump);
+    let more = (told, add(rt, plan, 2, None, &pump));
+    let passed = Some(MoreRefusal::LimitPassed);
+    check(rt, 1000, more, (passed, passed));
+    check(rt, "job", job_of(rt, plan, 2).1, 1000);
+}
+
 #[test]
 fn refuses_the_thousand_and_first_session(rt: HostRuntime) {
-    let mut plan = plan_of(&rt, PlanBuilder::new(rt.alloc()), &EXAMPLE);
-    for row in 1..1000u32 {
-        check(
-            &rt,
-            row,
-            add(&rt, &mut plan, 2, None, &[(LAMP, Verb::Read)]),
-            None,
-        );
+    offer_to_example(&rt, rt.alloc(), &[], Looked::AtThousand);
+}
+
+/// A name that is asked for, and the number of the instrument and of the job that has it.
+const NAMED: [(&[u8], Option<u8>, Option<u8>); 4] = [
+    (b"lamp", Some(0), None),
+    (b"pump", Some(2), None),
+    (b"idle", None, Some(1)),
+    (b"wash", None, Some(2)),
+];
+
+/// Whether the third job names the instrument of this number; of 200 there is none.
+const OF_THIRD: [(u8, bool); 3] = [(LAMP, true), (PUMP, false), (200, false)];
+
+fn instrument_named<A: Allocator>(plan: &Plan<A>, name: &[u8]) -> Option<u8> {
+    Some(plan.instrument_named(name)?.0)
+}
+
+fn job_named<A: Allocator>(plan: &Plan<A>, name: &[u8]) -> Option<u8> {
+    Some(plan.job_named(name)?.0)
+}
+
+fn check_names<A: Allocator>(rt: &impl Abort, plan: &Plan<A>) {
+    for &(name, instrument, job) in &NAMED {
+        let came = (instrument_named(plan, name), job_named(plan, name));
+        check(rt, name, came, (instrument, job));
     }
-    let more = add(&rt, &mut plan, 2, None, &[(PUMP, Verb::Read)]);
-    check(&rt, 1000, more, Some(MoreRefusal::LimitPassed));
-    check(&rt, "job", job_of(&rt, &plan, 2).1, 1000);
+    assert!(rt; plan.jobs() == 3);
+    for &(instrument, names) in &OF_THIRD {
+        let came = plan.names(JobNo(2), InstrumentNo(instrument));
+        check(rt, instrument, came, names);
+    }
 }
 
 #[test]
 fn knows_names(rt: HostRuntime) {
-    let plan = plan_of(&rt, PlanBuilder::new(rt.alloc()), &EXAMPLE);
-    check(&rt, "lamp", plan.instrument_named(b"lamp"), Some(LAMP));
-    check(&rt, "pump", plan.instrument_named(b"pump"), Some(PUMP));
-    check(&rt, "idle", plan.instrument_named(b"idle"), None);
-    check(&rt, "a job", plan.job_named(b"idle"), Some(JobNo(1)));
-    check(&rt, "no job", plan.job_named(b"lamp"), None);
-    assert!(rt; plan.jobs() == 3);
-    check(&rt, "names", plan.names(JobNo(2), LAMP), true);
-    check(&rt, "names not", plan.names(JobNo(2), PUMP), false);
-    check(
-        &rt,
-        "no number",
-        plan.names(JobNo(2), InstrumentNo(200)),
-        false,
-    );
+    offer_to_example(&rt, rt.alloc(), &[], Looked::AtNames);
 }
 
 /// Adds a session while so many blocks of a heap are free, and tells whether that was refused. A refused one goes through once

@@ -35,22 +35,6 @@ const STALE_MARK_REPORT: &str =
 const STOPPED: Result<Outcome, RunFault> = Ok(Outcome::Unfinished);
 
 #[test]
-fn eats_before_drinking(rt: HostRuntime) -> Result<(), Fail> {
-    let text = format!(in rt.alloc(); "{TWO_ADD}steps\nthirst a\nhunger a\nlook a b\nsit a\n")?;
-    let report =
-        "lab 1\ninstrument scale 0\njob a sessions 0 of 1 meals 1 waiting\njob b sessions 0 of 1 meals 0 waiting\nunfinished\n";
-    tells(
-        &rt,
-        rt.alloc(),
-        Task::Replay,
-        text.as_str(),
-        STOPPED,
-        report,
-    );
-    Ok(())
-}
-
-#[test]
 fn illegal_step(rt: HostRuntime) -> Result<(), Fail> {
     let text = format!(in rt.alloc(); "{TWO_ADD}steps\nthirst a\nhunger a\nsit a\n")?;
     let fault = Err(RunFault::Step { line: 13 });
@@ -94,29 +78,5 @@ fn stale_mark_with_a_step_put_in(rt: HostRuntime) -> Result<(), Fail> {
         let fault = Err(RunFault::Step { line: 14 + place });
         tells(&rt, rt.alloc(), Task::Replay, text.as_str(), fault, "");
     }
-    Ok(())
-}
-
-/// The first job gives the fork that was asked for, the second eats, and then the first its second meal.
-#[test]
-fn stale_mark_goes_on(rt: HostRuntime) -> Result<(), Fail> {
-    let mut text = String::from_str(rt.alloc(), TWO_SESSIONS)?;
-    for line in STALE_MARK {
-        text.push_str(line)?;
-    }
-    text.push_str(
-        "givefork a b\nlook b a\nsit b\naskbottles b a scale\ngivebottles a b scale\nlook b a\ndrink b\naskfork a b\n",
-    )?;
-    text.push_str("soil b a\nleave b\ngivefork b a\nlook a b\nsit a\n")?;
-    let report =
-        "lab 1\ninstrument scale 1\na 1 1/1 add 1 = 1\njob a sessions 1 of 2 meals 2 waiting\njob b sessions 0 of 1 meals 1 waiting\nunfinished\n";
-    tells(
-        &rt,
-        rt.alloc(),
-        Task::Replay,
-        text.as_str(),
-        STOPPED,
-        report,
-    );
     Ok(())
 }
