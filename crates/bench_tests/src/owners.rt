@@ -5,7 +5,7 @@ ghost use Rattle.desk_user.specs.Use.{Keeps};
 use crate::gates::{Meeting, TWO_MEET};
 use crate::labs::{FOUR, NOBODY, TWO, closed, opened, plan_of};
 use crate::teams::{all_count_up, are_full, ended_all};
-use desk_user::{Bell, How, Owner, Waiting, on_threads, turns_until_all_retired};
+use desk_user::{Bell, How, Owner, Pause, on_threads, turns_until_all_retired};
 use edge_rule::{Bench, Desk};
 use lab_plan::Plan;
 use std::alloc::{Allocator, Global};
@@ -28,7 +28,7 @@ struct Owners<'w, R> {
 impl<R: Wait + Sync> Owner for Owners<'_, R> {
     fn work<A: Allocator>(&self, bench: &Bench<A>, desk: &mut Desk<A>) {
         self.meeting.pass(desk.job(), 1);
-        let mut waiting = Waiting::new(How::Sleep, self.rt, self.bell);
+        let mut waiting = Pause::new(How::Sleep, self.rt, self.bell);
         let _ = turns_until_all_retired(bench, desk, TURNS, &mut waiting);
     }
 }

@@ -7,7 +7,7 @@ ghost use Rattle.desk_user.specs.Use.{Keeps};
 use crate::labs::{closed, opened, plan_of};
 use crate::teams::{all_count_up, are_full, ended_all};
 use desk_user::{
-    Bell, How, Owner, Until, Waiting, is_at, on_threads, take_turn, turns_until_all_retired,
+    Bell, How, Owner, Pause, Until, is_at, on_threads, take_turn, turns_until_all_retired,
 };
 use edge_rule::{Bench, Desk};
 use lab_plan::Plan;
@@ -57,7 +57,7 @@ fn turns_held<R: Wait, A: Allocator>(
     bench: &Bench<A>,
     desk: &mut Desk<A>,
     until: Until,
-    waiting: &mut Waiting<'_, R>,
+    waiting: &mut Pause<'_, R>,
 ) -> bool
     requires own { Owns bench.now desk.old }
     ensures { Keeps bench.now desk.old desk.new }
@@ -75,7 +75,7 @@ fn turns_held<R: Wait, A: Allocator>(
 
 impl<R: Wait + Clock + Sync> Owner for Sleepers<'_, R> {
     fn work<A: Allocator>(&self, bench: &Bench<A>, desk: &mut Desk<A>) {
-        let mut waiting = Waiting::new(How::Sleep, self.rt, self.bell);
+        let mut waiting = Pause::new(How::Sleep, self.rt, self.bell);
         if turns_held(self, bench, desk, Until::Holds, &mut waiting) {
             // All others fall asleep.
             sleep(self.rt, Duration::from_millis(self.holds));

@@ -4,8 +4,8 @@ use Rattle.bell.specs.declared.listener.Listener.{Listener}
 use Rattle.bell.specs.Listening.{Acted, Idled}
 use Rattle.session_layer.specs.declared.turning.Turned.{Turned}
 use Rattle.session_layer.specs.declared.turning.Turned.TheVariants as turns
-use Rattle.desk_user.specs.declared.waiting.How.{How}
-use Rattle.desk_user.specs.declared.waiting.How.TheVariants.{Spin, Yield, Sleep}
+use Rattle.desk_user.specs.declared.pause.How.{How}
+use Rattle.desk_user.specs.declared.pause.How.TheVariants.{Spin, Yield, Sleep}
 
 -- after an idle turn: who sleeps counts it, and may sleep after many of them; nobody else counts
 abbrev pub Waits : How → Listener → Listener → Type 0

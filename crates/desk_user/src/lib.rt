@@ -6,16 +6,16 @@
 
 mod opening;
 mod owners;
+mod pause;
 mod serving;
 mod taking;
 mod until;
-mod waiting;
 
 pub use bell::Bell;
 pub use opening::open;
 pub use owners::{Owner, on_threads};
+pub use pause::{How, Pause};
 pub use serving::{meal, serve, serve_and_wait};
 pub use session_layer::visit_all;
 pub use taking::{take_turn, turns_until, turns_until_all_retired};
 pub use until::{Until, is_at};
-pub use waiting::{How, Waiting};

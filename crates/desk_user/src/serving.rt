@@ -5,7 +5,7 @@ ghost use Rattle.desk_user.specs.Use.{Keeps};
 ghost use Rattle.desk_user.specs.Serving.{IsMeal, Served};
 ghost use Rattle.desk_user.specs.Waits.{Heeds};
 
-use crate::waiting::Waiting;
+use crate::pause::Pause;
 use dining_layer::{may_leave, may_sit};
 use edge_rule::{Bench, Desk, PhaseEvent, store_phase};
 use session_layer::{Turned, visit_all};
@@ -45,15 +45,15 @@ pub fn serve<A: Allocator>(bench: &Bench<A>, desk: &mut Desk<A>) -> Turned
 pub fn serve_and_wait<R: Wait, A: Allocator>(
     bench: &Bench<A>,
     desk: &mut Desk<A>,
-    waiting: &mut Waiting<'_, R>,
+    pause: &mut Pause<'_, R>,
 ) -> Turned
     requires own { Owns bench.now desk.old }
     ensures keeps { Keeps bench.now desk.old desk.new }
     ensures served { Served desk.old result desk.new }
-    ensures how { waiting.new.how ≡ waiting.old.how }
-    ensures heeds { Heeds waiting.old.how result waiting.old.listener waiting.new.listener }
+    ensures how { pause.new.how ≡ pause.old.how }
+    ensures heeds { Heeds pause.old.how result pause.old.listener pause.new.listener }
 {
     let turned = serve(bench, desk);
-    waiting.after(turned);
+    pause.after(turned);
     turned
 }

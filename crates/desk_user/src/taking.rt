@@ -5,8 +5,8 @@ ghost use Rattle.turns.specs.AtTheEnd.{AllRetired};
 ghost use Rattle.session_layer.specs.Turn.{Took};
 ghost use Rattle.desk_user.specs.Use.{IsAt, Keeps, Looked, TookUntil, TookUntilAll, TookUpTo};
 
+use crate::pause::Pause;
 use crate::until::{Until, is_at};
-use crate::waiting::Waiting;
 use edge_rule::{Bench, Desk};
 use session_layer::{Turned, all_retired, turn};
 use std::alloc::Allocator;
@@ -28,25 +28,25 @@ pub fn turns_until<R: Wait, A: Allocator>(
     desk: &mut Desk<A>,
     until: Until,
     most: u32,
-    waiting: &mut Waiting<'_, R>,
+    pause: &mut Pause<'_, R>,
 ) -> bool
     requires own { Owns bench.now desk.old }
     ensures keeps { Keeps bench.now desk.old desk.new }
     ensures took { TookUpTo most desk.old desk.new }
     ensures says { IsTrue result ↔ IsAt until desk.new }
     ensures stops { TookUntil until most desk.old result desk.new }
-    ensures how { waiting.new.how ≡ waiting.old.how }
-    ensures awake { IsNone waiting.new.listener.heard }
+    ensures how { pause.new.how ≡ pause.old.how }
+    ensures awake { IsNone pause.new.listener.heard }
 {
     for _number in 0..most {
         if is_at(bench, desk, until) {
-            waiting.leave();
+            pause.leave();
             return true;
         }
         let turned = turn(bench, desk);
-        waiting.after(turned);
+        pause.after(turned);
     }
-    waiting.leave();
+    pause.leave();
     is_at(bench, desk, until)
 }
 
@@ -68,25 +68,25 @@ pub fn turns_until_all_retired<R: Wait, A: Allocator>(
     bench: &Bench<A>,
     desk: &mut Desk<A>,
     most: u32,
-    waiting: &mut Waiting<'_, R>,
+    pause: &mut Pause<'_, R>,
 ) -> bool
     requires own { Owns bench.now desk.old }
     ensures keeps { Keeps bench.now desk.old desk.new }
     ensures took { TookUpTo most desk.old desk.new }
     ensures done { IsTrue result → AllRetired desk.new.plan desk.new.front }
     ensures stops { TookUntilAll most desk.old result desk.new }
-    ensures how { waiting.new.how ≡ waiting.old.how }
-    ensures awake { IsNone waiting.new.listener.heard }
+    ensures how { pause.new.how ≡ pause.old.how }
+    ensures awake { IsNone pause.new.listener.heard }
 {
     for _number in 0..most {
         // The last job to retire rings: this look too comes after the thread has said that it may sleep.
         if saw_all_retired(bench, desk) {
-            waiting.leave();
+            pause.leave();
             return true;
         }
         let turned = turn(bench, desk);
-        waiting.after(turned);
+        pause.after(turned);
     }
-    waiting.leave();
+    pause.leave();
     saw_all_retired(bench, desk)
 }

@@ -36,17 +36,40 @@ const LINES: [Line; 20] = [
     Line::Command("scale", Verb::Read),
 ];
 
-/// What a call of the builder asks is tested right before it: then nothing about the lines has to be proved.
+// What a call of the builder asks is tested right before it: then nothing about the lines has to be proved.
+
+fn put_job(builder: &mut PlanBuilder, name: &[u8]) -> bool {
+    if !is_name(name) {
+        return false;
+    }
+    builder.job(name).is_ok()
+}
+
+fn put_session(builder: &mut PlanBuilder) -> bool {
+    if !builder.has_job() {
+        return false;
+    }
+    builder.session().is_ok()
+}
+
+fn put_command(builder: &mut PlanBuilder, name: &[u8], verb: Verb) -> bool {
+    if !is_name(name) {
+        return false;
+    }
+    if !verb.fits() {
+        return false;
+    }
+    if !builder.has_session() {
+        return false;
+    }
+    builder.command(name, verb).is_ok()
+}
+
 fn put(builder: &mut PlanBuilder, line: Line) -> bool {
     match line {
-        Line::Job(name) => is_name(name.as_bytes()) && builder.job(name.as_bytes()).is_ok(),
-        Line::Session => builder.has_job() && builder.session().is_ok(),
-        Line::Command(name, verb) => {
-            is_name(name.as_bytes())
-                && verb.fits()
-                && builder.has_session()
-                && builder.command(name.as_bytes(), verb).is_ok()
-        }
+        Line::Job(name) => put_job(builder, name.as_bytes()),
+        Line::Session => put_session(builder),
+        Line::Command(name, verb) => put_command(builder, name.as_bytes(), verb),
     }
 }
 

@@ -9,7 +9,7 @@ mod work;
 use desk_user::{Bell, on_threads, open};
 use edge_rule::{Closed, Desk};
 use lab::{INSTRUMENTS, JOBS, planned};
-use lab_plan::{InstrumentNo, JobNo};
+use lab_plan::{InstrumentNo, JobNo, Plan};
 use shop::Shop;
 use std::alloc::Global;
 use std::io;
@@ -65,26 +65,41 @@ fn print_instruments(rt: &impl Print, closed: &Closed, shop: &Shop) -> io::Resul
     Ok(())
 }
 
-fn run<R: Threads + Wait + Sync + Print + Eprint>(rt: &R, alloc: Global) -> Result<(), Stopped> {
-    let Some(plan) = planned(alloc) else {
-        return Err(Stopped::NoPlan);
-    };
-    let (bench, mut desks) = open(alloc, &plan).map_err(|_| Stopped::NoMemory)?;
-    let shop = Shop::new();
+fn print_all(rt: &impl Print, closed: &Closed, shop: &Shop) -> io::Result<()> {
+    print_jobs(rt, closed)?;
+    print_instruments(rt, closed, shop)
+}
+
+/// A bench at which each owner has worked, closed.
+fn worked<'p, R: Threads + Wait + Sync + Eprint>(
+    rt: &R,
+    alloc: Global,
+    plan: &'p Plan,
+    shop: &Shop,
+) -> Result<Closed<'p>, Stopped> {
+    let (bench, mut desks) = open(alloc, plan).map_err(|_| Stopped::NoMemory)?;
     let bell = Bell::new();
     let owners = Owners {
         rt,
-        shop: &shop,
+        shop,
         bell: &bell,
     };
     // Each desk is worked at by a thread of its own; all have ended when this returns.
     on_threads(rt, &bench, desks.as_mut_slice(), &owners);
-    tell_turns(rt, desks.as_slice(), &shop).map_err(Stopped::NotPrinted)?;
-    let Ok(closed) = bench.close(alloc, desks) else {
-        return Err(Stopped::NoMemory);
+    tell_turns(rt, desks.as_slice(), shop).map_err(Stopped::NotPrinted)?;
+    match bench.close(alloc, desks) {
+        Ok(closed) => Ok(closed),
+        Err(_) => Err(Stopped::NoMemory),
+    }
+}
+
+fn run<R: Threads + Wait + Sync + Print + Eprint>(rt: &R, alloc: Global) -> Result<(), Stopped> {
+    let Some(plan) = planned(alloc) else {
+        return Err(Stopped::NoPlan);
     };
-    print_jobs(rt, &closed).map_err(Stopped::NotPrinted)?;
-    print_instruments(rt, &closed, &shop).map_err(Stopped::NotPrinted)
+    let shop = Shop::new();
+    let closed = worked(rt, alloc, &plan, &shop)?;
+    print_all(rt, &closed, &shop).map_err(Stopped::NotPrinted)
 }
 
 fn main(rt: HostRuntime) -> Result<(), Stopped> {

@@ -4,7 +4,7 @@ ghost use Rattle.desk_user.specs.Use.{Keeps};
 
 use crate::shop::Shop;
 use desk_user::{
-    Bell, How, Owner, Until, Waiting, serve_and_wait, turns_until, turns_until_all_retired,
+    Bell, How, Owner, Pause, Until, serve_and_wait, turns_until, turns_until_all_retired,
 };
 use edge_rule::{Bench, Desk};
 use lab_plan::JobNo;
@@ -24,7 +24,7 @@ fn wait_for_work<R: Wait, A: Allocator>(
     shop: &Shop,
     bench: &Bench<A>,
     desk: &mut Desk<A>,
-    waiting: &mut Waiting<'_, R>,
+    pause: &mut Pause<'_, R>,
 )
     requires own { Owns bench.now desk.old }
     ensures { Keeps bench.now desk.old desk.new }
@@ -33,7 +33,7 @@ fn wait_for_work<R: Wait, A: Allocator>(
         if shop.has_work(desk.job()) {
             return;
         }
-        let _ = serve_and_wait(bench, desk, waiting);
+        let _ = serve_and_wait(bench, desk, pause);
     }
 }
 
@@ -41,17 +41,17 @@ fn wait_for_work<R: Wait, A: Allocator>(
 fn work_at_them<R: Wait, A: Allocator>(
     bench: &Bench<A>,
     desk: &mut Desk<A>,
-    waiting: &mut Waiting<'_, R>,
+    pause: &mut Pause<'_, R>,
 )
     requires own { Owns bench.now desk.old }
     ensures { Keeps bench.now desk.old desk.new }
 {
     // It has work to do, so it doesn't sleep.
-    waiting.change(How::Yield);
+    pause.change(How::Yield);
     for _number in 0..1000u32 {
-        let _ = serve_and_wait(bench, desk, waiting);
+        let _ = serve_and_wait(bench, desk, pause);
     }
-    waiting.change(How::Sleep);
+    pause.change(How::Sleep);
 }
 
 /// One session, from waiting for work to the end. Answers whether it came to its end within the turns.
@@ -60,27 +60,27 @@ fn one_session<R: Wait, A: Allocator>(
     bench: &Bench<A>,
     desk: &mut Desk<A>,
     session: u32,
-    waiting: &mut Waiting<'_, R>,
+    pause: &mut Pause<'_, R>,
 ) -> bool
     requires own { Owns bench.now desk.old }
     ensures { Keeps bench.now desk.old desk.new }
 {
     let job = desk.job();
-    wait_for_work(shop, bench, desk, waiting);
+    wait_for_work(shop, bench, desk, pause);
     let before = desk.turns();
-    if !turns_until(bench, desk, Until::Holds, TURNS, waiting) {
+    if !turns_until(bench, desk, Until::Holds, TURNS, pause) {
         return false;
     }
     shop.add_waited(job, desk.turns().saturating_sub(before));
     shop.take(job, session);
-    work_at_them(bench, desk, waiting);
-    let done = turns_until(bench, desk, Until::CommandsDone, TURNS, waiting);
+    work_at_them(bench, desk, pause);
+    let done = turns_until(bench, desk, Until::CommandsDone, TURNS, pause);
     // Before the turn that ends the session: from then on another may hold them.
     shop.put_back(job, session);
-    let out = turns_until(bench, desk, Until::IsOut, TURNS, waiting);
+    let out = turns_until(bench, desk, Until::IsOut, TURNS, pause);
     shop.has_done(job);
     // Another may wait for just this, and the bench knows nothing of it.
-    waiting.ring();
+    pause.ring();
     done && out
 }
 
@@ -88,13 +88,13 @@ fn all_sessions<R: Wait, A: Allocator>(
     shop: &Shop,
     bench: &Bench<A>,
     desk: &mut Desk<A>,
-    waiting: &mut Waiting<'_, R>,
+    pause: &mut Pause<'_, R>,
 ) -> bool
     requires own { Owns bench.now desk.old }
     ensures { Keeps bench.now desk.old desk.new }
 {
     for session in 0..sessions_of(desk.job()) {
-        if !one_session(shop, bench, desk, session + 1, waiting) {
+        if !one_session(shop, bench, desk, session + 1, pause) {
             return false;
         }
     }
@@ -112,10 +112,10 @@ pub(crate) struct Owners<'w, R> {
 impl<R: Wait + Sync> Owner for Owners<'_, R> {
     fn work<A: Allocator>(&self, bench: &Bench<A>, desk: &mut Desk<A>) {
         // Whoever waits sleeps, however long another works.
-        let mut waiting = Waiting::new(How::Sleep, self.rt, self.bell);
-        if all_sessions(self.shop, bench, desk, &mut waiting) {
+        let mut pause = Pause::new(How::Sleep, self.rt, self.bell);
+        if all_sessions(self.shop, bench, desk, &mut pause) {
             // A retired job goes on giving what it is asked for, until nobody can ask any more.
-            let _ = turns_until_all_retired(bench, desk, TURNS, &mut waiting);
+            let _ = turns_until_all_retired(bench, desk, TURNS, &mut pause);
         }
     }
 }

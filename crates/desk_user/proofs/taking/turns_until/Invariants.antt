@@ -5,4 +5,4 @@ use Rattle.desk_user.specs.Use.{TookBefore}
 use Rattle.desk_user.proofs.taking.turns_until.Given as goal
 
 abbrev pub invariant-loop-number : goal.invariant-loop-number
-invariant-loop-number g l = TookTurns l._number l.fn.desk l.desk × TookBefore l.until l._number l.fn.desk l.desk × (l.waiting.how ≡ l.fn.waiting.how)
+invariant-loop-number g l = TookTurns l._number l.fn.desk l.desk × TookBefore l.until l._number l.fn.desk l.desk × (l.pause.how ≡ l.fn.pause.how)

@@ -23,20 +23,20 @@ pub enum How {
 /// How a thread waits, and the bell by which others wait for it: whoever does something rings, however it waits itself. So let all owners
 /// of one bench have the same bell.
 #[derive(Drop)]
-pub struct Waiting<'w, R: Wait> {
+pub struct Pause<'w, R: Wait> {
     how: How,
     rt: &'w R,
     listener: Listener<'w>,
 }
 
-impl<'w, R: Wait> Waiting<'w, R> {
+impl<'w, R: Wait> Pause<'w, R> {
     /// A thread that waits so, by this bell.
-    pub fn new(how: How, rt: &'w R, bell: &'w Bell) -> Waiting<'w, R>
+    pub fn new(how: How, rt: &'w R, bell: &'w Bell) -> Pause<'w, R>
         ensures how { result.how ≡ how }
         ensures count { result.listener.idle ≡ 0 }
         ensures awake { IsNone result.listener.heard }
     {
-        Waiting {
+        Pause {
             how,
             rt,
             listener: Listener::new(bell),
