@@ -7,11 +7,8 @@ use crate::cutting::{moved, with_line_end};
 use arranging::{colours_of, is_arrangement, order_of};
 use lab_plan::Plan;
 use script_reader::laws::one_meaning;
-use script_reader::{ScriptCause, read_plan};
+use script_reader::{MOST_BYTES, ScriptCause, read_plan};
 use std::alloc::{AllocError, Allocator};
-
-/// The longest text that a run reads; `INPUT_LIMIT` of `lab_program`, which isn't below this crate.
-pub const MOST_BYTES: usize = 16_777_216;
 
 /// The plan that a text is read as; none if it is no script.
 pub fn read_back<A: Allocator + Copy>(alloc: A, text: &[u8]) -> Result<Option<Plan<A>>, AllocError>

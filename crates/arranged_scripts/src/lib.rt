@@ -7,4 +7,4 @@ pub mod judging;
 pub mod laws;
 
 pub use cutting::{moved, with_line_end};
-pub use judging::{MOST_BYTES, arranged_script, read_back};
+pub use judging::{arranged_script, read_back};

@@ -30,7 +30,7 @@ use Rattle.bench_calls.specs.declared.told.LabPlanned.{LabPlanned}
 use Rattle.bench_calls.specs.declared.told.LabKeepers.{LabKeepers}
 use Rattle.bench_calls.specs.declared.told.LabOutside.{LabOutside}
 use Rattle.bench_calls.specs.Telling.{turned_of, came_of, session_of, state_of, planned_of, keepers_of, outside_of}
-use Rattle.bench_calls.specs.Telling.{IfTold, TellsAs, TellsDid, TellsBegun, TellsRetired, TellsEnded, TellsEntry}
+use Rattle.bench_calls.specs.Telling.{IfTold, TellsAs, TellsDid, TellsBegun, TellsRetired, TellsRelease, TellsEntry}
 
 -- ---- opening
 
@@ -109,7 +109,7 @@ DoesNext job = ByJob Commands TellsEntry job
 
 -- the job did the commands that were left and let go, and all was done that this made due (0); or it doesn't hold (8)
 abbrev pub LetsGo : ℕ → LabView → LabView → LabTurned → LabTurned → ℕ → Type 0
-LetsGo job = ByJob EndsSession TellsEnded job
+LetsGo job = ByJob EndsSession TellsRelease job
 
 -- the job waits outside no more, or its session was given up (0); or it isn't outside, and isn't thirsty or has no patience (8)
 abbrev pub GivesUp : ℕ → LabView → LabView → Unit {0} → Unit {0} → ℕ → Type 0

@@ -13,8 +13,8 @@ use Rattle.live_lab.specs.declared.stage.Aim.{Aim}
 use Rattle.live_lab.specs.declared.stage.Aim.TheVariants.{Hold, Retire}
 use Rattle.live_lab.specs.declared.stage.Stage.{Stage}
 use Rattle.live_lab.specs.declared.stage.Stage.TheVariants.{There, OnTheWay, Barred}
-use Rattle.live_lab.specs.declared.ending.Ended.{Ended}
-use Rattle.live_lab.specs.declared.ending.Ended.TheVariants.{NotHeld, LetGo}
+use Rattle.live_lab.specs.declared.ending.Release.{Release}
+use Rattle.live_lab.specs.declared.ending.Release.TheVariants.{NotHeld, LetGo}
 use Rattle.live_lab.specs.declared.settle.Came.{Came}
 use Rattle.live_lab.specs.declared.keeping.Keepers.{Keepers}
 use Rattle.live_lab.specs.declared.readers.SessionFacts.{SessionFacts}
@@ -42,9 +42,9 @@ stage_status Hold Barred = 9
 stage_status Retire Barred = 10
 
 -- it let go (0); or it never held, and nothing is told (8)
-abbrev pub TellsEnded : Ended → LabTurned → LabTurned → ℕ → Type 0
-TellsEnded (LetGo r) told told' status = (status ≡ 0) × (told' ≡ turned_of r)
-TellsEnded NotHeld told told' status = (status ≡ 8) × (told' ≡ told)
+abbrev pub TellsRelease : Release → LabTurned → LabTurned → ℕ → Type 0
+TellsRelease (LetGo r) told told' status = (status ≡ 0) × (told' ≡ turned_of r)
+TellsRelease NotHeld told told' status = (status ≡ 8) × (told' ≡ told)
 
 -- the sets and the number of deeds as they are
 abbrev pub came_of : Came → LabCame

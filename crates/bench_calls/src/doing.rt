@@ -4,7 +4,7 @@ ghost use Rattle.bench_calls.specs.Calls.{InLab, InRoom, settles_of, Turns, Serv
 ghost use Rattle.bench_calls.specs.Calls.{DoesNext, LetsGo, GivesUp, GoesToEnd, SetsOvertakes};
 
 use crate::statuses::{
-    JOURNAL_FULL, tell_begun, tell_came, tell_command, tell_ended, tell_retired, tell_turned,
+    JOURNAL_FULL, tell_begun, tell_came, tell_command, tell_release, tell_retired, tell_turned,
     tell_withdrew,
 };
 use crate::told::{LabCame, LabEntry, LabTurned};
@@ -87,7 +87,7 @@ fn end_in(lab: &mut Lab, job: u32, turned: &mut LabTurned) -> u32
     if !has_room(lab) {
         return JOURNAL_FULL;
     }
-    tell_ended(lab.end(job as usize), turned)
+    tell_release(lab.end(job as usize), turned)
 }
 
 fn withdraw_in(lab: &mut Lab, job: u32) -> u32

@@ -1,7 +1,7 @@
 //! The statuses, and what is told with them of what a lab answered.
 ghost use Rattle.std.specs.Prelude.{◌≡◌, if◌then◌else◌, length};
 ghost use Rattle.c_tells.specs.Telling.{Gives};
-ghost use Rattle.bench_calls.specs.Telling.{stage_status, TellsEntry, TellsDid, TellsBegun, TellsRetired, TellsEnded, TellsAs, IfTold};
+ghost use Rattle.bench_calls.specs.Telling.{stage_status, TellsEntry, TellsDid, TellsBegun, TellsRetired, TellsRelease, TellsAs, IfTold};
 ghost use Rattle.bench_calls.specs.Telling.{turned_of, came_of, session_of, state_of, planned_of, keepers_of, outside_of};
 
 use crate::told::{
@@ -10,7 +10,7 @@ use crate::told::{
 };
 use c_tells::put;
 use instrument_log::Entry;
-use live_lab::{Aim, Came, Ended, Keepers, Planned, SessionFacts, Stage, Standing};
+use live_lab::{Aim, Came, Keepers, Planned, Release, SessionFacts, Stage, Standing};
 use session_layer::Turned;
 
 /// The status if there is no such job, session or instrument.
@@ -113,15 +113,15 @@ pub(crate) fn tell_retired(answer: Option<(Stage, Turned)>, told: &mut LabTurned
     stage_status(Aim::Retire, stage)
 }
 
-pub(crate) fn tell_ended(answer: Option<Ended>, told: &mut LabTurned) -> u32
-    ensures { IfTold TellsEnded answer told.old told.new result }
+pub(crate) fn tell_release(answer: Option<Release>, told: &mut LabTurned) -> u32
+    ensures { IfTold TellsRelease answer told.old told.new result }
 {
     match answer {
-        Some(Ended::LetGo(turned)) => {
+        Some(Release::LetGo(turned)) => {
             *told = turned_of(turned);
             0
         }
-        Some(Ended::NotHeld) => NOT_NOW,
+        Some(Release::NotHeld) => NOT_NOW,
         None => NO_JOB,
     }
 }

@@ -14,8 +14,8 @@ use Rattle.live_lab.specs.declared.stage.Aim.{Aim}
 use Rattle.live_lab.specs.declared.stage.Aim.TheVariants.{Hold, Retire}
 use Rattle.live_lab.specs.declared.stage.Stage.{Stage}
 use Rattle.live_lab.specs.declared.stage.Stage.TheVariants.{There, OnTheWay, Barred}
-use Rattle.bench_door.specs.declared.going.Ended.{Ended}
-use Rattle.bench_door.specs.declared.going.Ended.TheVariants.{NotHeld, LetGo, StillHeld}
+use Rattle.bench_door.specs.declared.going.DeskRelease.{DeskRelease}
+use Rattle.bench_door.specs.declared.going.DeskRelease.TheVariants.{NotHeld, LetGo, StillHeld}
 
 -- what two answers say together: all acts that were done, as far as 32 bits go; or else whether an exchange found another word
 abbrev pub both : Turned → Turned → Turned
@@ -58,7 +58,7 @@ abbrev pub TookAndServed : DeskView → Bool → Turned → DeskView → Type 0
 TookAndServed d holds r e = (s : Turned) × (m : DeskView) × (t : Turned) × TookHeld d holds s m × Served m t e × (r ≡ both s t)
 
 -- the job held, and let go; or it still holds, after as many turns as there may be; or it didn't hold, and nothing was done
-abbrev pub EndsSession : DeskView → Ended → DeskView → Type 0
+abbrev pub EndsSession : DeskView → DeskRelease → DeskView → Type 0
 EndsSession d (LetGo r) e = IsAt Holds d × TookAndServed d false r e
 EndsSession d (StillHeld r) e = IsAt Holds d × TookAndServed d true r e
 EndsSession d NotHeld e = (IsAt Holds d → ⊥) × (e ≡ d)

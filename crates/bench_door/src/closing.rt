@@ -4,7 +4,7 @@ ghost use Rattle.edge_rule.specs.Ending.{IsEnd};
 ghost use Rattle.bench_door.specs.Ends.{IsEndOfDesks, IsPrint, EndsHaveReports};
 
 use crate::lab::Lab;
-use c_tells::Kept;
+use c_tells::MemorySink;
 use edge_rule::{CloseCause, CloseRefused, Closed};
 use headline::holds_of_every_run;
 use lab_program::Outcome;
@@ -51,7 +51,7 @@ fn written(alloc: Global, closed: &Closed<'static, Global>) -> Option<(Vec<u8, G
 {
     one_report();
     let run = AtEnd { closed };
-    let mut sink = Kept::new(alloc);
+    let mut sink = MemorySink::new(alloc);
     match write_report(&run, &mut sink) {
         Ok(()) => {
             let outcome = if all_retired(&run) {

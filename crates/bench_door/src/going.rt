@@ -14,7 +14,7 @@ use std::alloc::Global;
 
 /// What became of a session that was to be ended.
 #[derive(Clone, Copy, PartialEq, Eq, Debug)]
-pub enum Ended {
+pub enum DeskRelease {
     /// The job doesn't hold, and nothing was done.
     NotHeld,
     /// The commands that were left are done, and the job has let go.
@@ -106,19 +106,19 @@ fn turns_held(bench: &Bench<Global>, desk: &mut Desk<Global>) -> (bool, Turned)
 }
 
 /// Does the commands that are left of the session of the desk's job, ends it, and serves the neighbours, if the job holds.
-pub fn end_session(bench: &Bench<Global>, desk: &mut Desk<Global>) -> Ended
+pub fn end_session(bench: &Bench<Global>, desk: &mut Desk<Global>) -> DeskRelease
     requires own { Owns bench.now desk.old }
     ensures keeps { Keeps bench.now desk.old desk.new }
     ensures ended { EndsSession desk.old result desk.new }
 {
     if !is_at(bench, desk, Until::Holds) {
-        return Ended::NotHeld;
+        return DeskRelease::NotHeld;
     }
     let (holds, turns) = turns_held(bench, desk);
     let all = both(turns, serve(bench, desk));
     if holds {
-        Ended::StillHeld(all)
+        DeskRelease::StillHeld(all)
     } else {
-        Ended::LetGo(all)
+        DeskRelease::LetGo(all)
     }
 }

@@ -13,11 +13,8 @@ use desk_user::open;
 use edge_rule::{Bench, Desk};
 use lab_plan::Plan;
 use lab_program::RunFault;
-use script_reader::read_plan;
+use script_reader::{MOST_BYTES, read_plan};
 use std::alloc::Global;
-
-/// The most bytes that a script may have.
-const MOST_BYTES: usize = 16_777_216;
 
 /// A bench over a plan that lives for ever, and its desks.
 #[derive(Drop)]

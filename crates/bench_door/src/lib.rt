@@ -3,15 +3,15 @@
 
 mod closing;
 mod coming_back;
-mod driving;
 mod ending;
 mod going;
 mod lab;
 mod readers;
+mod steps;
 
 pub use closing::{LabEnd, print};
-pub use driving::{give_up, next_command};
 pub use ending::{Held, ended};
-pub use going::{Ended, both, end_session, is_idle, stage_of};
+pub use going::{DeskRelease, both, end_session, is_idle, stage_of};
 pub use lab::Lab;
 pub use readers::standing_at;
+pub use steps::{give_up, next_command};

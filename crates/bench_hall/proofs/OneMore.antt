@@ -7,7 +7,7 @@ use Rattle.session_layer.specs.Turn.{Took}
 use Rattle.live_lab.specs.declared.stage.Aim.{Aim}
 use Rattle.live_lab.specs.declared.stage.Stage.TheVariants.{OnTheWay}
 use Rattle.bench_door.specs.Going.{both, IsStage}
-use Rattle.bench_hall.specs.Seats.{TurnsGoing}
+use Rattle.bench_hall.specs.AtDesk.{TurnsGoing}
 
 pub one_more_going : (aim : Aim) (n : ℕ) (d m e : DeskView) (s t : Turned) → TurnsGoing aim n d s m → IsStage aim m OnTheWay → Took m t e → t ≢ Idle
     → TurnsGoing aim (n + 1) d (both s t) e

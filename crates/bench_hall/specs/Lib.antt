@@ -1,4 +1,4 @@
 pub mod Places
 pub mod Rows
-pub mod Seats
+pub mod AtDesk
 pub mod Resumed

@@ -1,7 +1,7 @@
 //! Turns of one desk until something is so.
 ghost use Rattle.edge_rule.specs.DeskView.{Owns};
 ghost use Rattle.desk_user.specs.Use.{Keeps};
-ghost use Rattle.bench_hall.specs.Seats.{GoesAlone};
+ghost use Rattle.bench_hall.specs.AtDesk.{GoesAlone};
 
 use bench_door::{both, is_idle, stage_of};
 use desk_user::take_turn;

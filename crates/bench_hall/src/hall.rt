@@ -124,25 +124,25 @@ impl Hall {
 
     /// The lab of a hall that nobody else has, with the desks at their places: all, because otherwise the hall comes back. So it does while somebody has a
     /// desk, once somebody dropped one instead of giving it back, and if memory is refused.
-    pub fn into_lab(hall: Arc<Hall, Global>, alloc: Global) -> Result<Lab, Stays>
+    pub fn into_lab(hall: Arc<Hall, Global>, alloc: Global) -> Result<Lab, StillOpen>
         ensures lab { IfOk result (λ lab. lab.bench ≡ (arc_value hall).bench) }
         ensures stays { IfErr result (λ s. s.hall ≡ hall) }
     {
         let Ok(room) = Vec::with_capacity(alloc, hall.bench.plan().jobs()) else {
-            return Err(Stays {
+            return Err(StillOpen {
                 why: WhyOpen::NoMemory,
                 hall,
             });
         };
         // Nobody else has the hall, so no desk leaves it any more.
         if Arc::strong_count(&hall) > 1 || !hall.is_whole() {
-            return Err(Stays {
+            return Err(StillOpen {
                 why: WhyOpen::DesksOut,
                 hall,
             });
         }
         let Some(desks) = hall.all_desks(room) else {
-            return Err(Stays {
+            return Err(StillOpen {
                 why: WhyOpen::DesksOut,
                 hall,
             });
@@ -152,7 +152,7 @@ impl Hall {
                 let Hall { bench, spots: _ } = whole;
                 Ok(Lab { bench, desks })
             }
-            Err(hall) => Err(Stays {
+            Err(hall) => Err(StillOpen {
                 why: WhyOpen::DesksOut,
                 hall,
             }),
@@ -171,7 +171,7 @@ pub enum WhyOpen {
 
 /// A hall that isn't taken apart.
 #[derive(Drop)]
-pub struct Stays {
+pub struct StillOpen {
     pub why: WhyOpen,
     pub hall: Arc<Hall, Global>,
 }

@@ -3,15 +3,15 @@
 #![tactic(auto)]
 
 mod alone;
+mod at_desk;
 mod hall;
 mod opening;
 mod place;
-mod seat;
-mod seated;
 mod spot;
+mod taken_desk;
 
-pub use hall::{Hall, Stays, WhyOpen};
+pub use at_desk::{NotTaken, give_back, take_desk};
+pub use hall::{Hall, StillOpen, WhyOpen};
 pub use place::{Place, Resting};
-pub use seat::{NotTaken, sit, stand};
-pub use seated::Seated;
 pub use spot::Spot;
+pub use taken_desk::TakenDesk;

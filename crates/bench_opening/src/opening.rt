@@ -9,10 +9,8 @@ use crate::giving_up::give_up_first;
 use bench_texts::{NotScript, at_origin, lab_script, lab_text, users};
 use lab_program::RunFault;
 use live_lab::Lab;
+use script_reader::MOST_BYTES;
 use std::alloc::{AllocError, Global};
-
-/// The most bytes that a script may have.
-const MOST_BYTES: usize = 16_777_216;
 
 /// A fault of the script that a text stands for, at the line of the text from which it came.
 fn from_script(text: &[u8], fault: RunFault) -> RunFault

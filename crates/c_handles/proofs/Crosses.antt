@@ -28,7 +28,7 @@ use Rattle.late_thirst.proofs.line.Line.TheSendSync as lines
 use Rattle.live_lab.proofs.printing.Printed.TheSendSync as printed
 use Rattle.bench_hall.specs.contracts.hall.Hall as Hall
 use Rattle.bench_hall.proofs.hall.Hall.TheSendSync as halls
-use Rattle.bench_hall.proofs.seated.Seated.TheSendSync as seats
+use Rattle.bench_hall.proofs.taken_desk.TakenDesk.TheSendSync as taken
 use Rattle.bench_door.proofs.Crosses.{held_send}
 use Rattle.c_handles.specs.contracts.inside.Inside as Inside
 
@@ -58,4 +58,4 @@ lab_send = view_send _ _ _ _ _ (declared_send InLab.the_type
 
 pub inside_send : IsSend Inside.the_row
 inside_send = variants_send Inside.enum
-    ((lab_send, tt), ((printed.the_send, tt), ((heap.Arc-send Hall.the_row halls.the_send halls.the_sync, tt), ((held_send, tt), ((seats.the_send, tt), (tt, tt))))))
+    ((lab_send, tt), ((printed.the_send, tt), ((heap.Arc-send Hall.the_row halls.the_send halls.the_sync, tt), ((held_send, tt), ((taken.the_send, tt), (tt, tt))))))

@@ -1,6 +1,6 @@
 //! What a handle has.
 use bench_door::Held;
-use bench_hall::{Hall, Seated};
+use bench_hall::{Hall, TakenDesk};
 use live_lab::{Lab, Printed};
 use std::alloc::Global;
 use std::sync::Arc;
@@ -17,7 +17,7 @@ pub enum Inside {
     /// Such a bench at its end, whose desks are all back.
     Closing(Held),
     /// A desk that was taken.
-    Seat(Seated),
+    Desk(TakenDesk),
     /// Nothing, within a call that puts something else there before it returns.
     Moved,
 }

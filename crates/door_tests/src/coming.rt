@@ -3,7 +3,7 @@ use crate::rows::check;
 use c_handles::Handle;
 use c_tells::Told;
 use lab_plan::{InstrumentNo, Verb};
-use live_lab::{AddRefusal, Ended, Lab, NotAdded, Stage};
+use live_lab::{AddRefusal, Lab, NotAdded, Release, Stage};
 use script_reader::{ScriptCause, ScriptFault};
 use session_layer::Turned;
 use std::alloc::Global;
@@ -51,7 +51,7 @@ fn is_last(lab: &Lab, job: u32, session: u32) -> bool {
 
 fn ends(lab: &mut Lab, job: usize) -> bool {
     match lab.end(job) {
-        Some(Ended::NotHeld) | None => false,
+        Some(Release::NotHeld) | None => false,
         Some(_) => true,
     }
 }

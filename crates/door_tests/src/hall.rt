@@ -1,8 +1,8 @@
 //! Halls: desks that are taken, driven and given back, and the end with its report.
 use crate::rows::check;
 use crate::runs::{TWO_BENCHES, TWO_BENCHES_REPORT};
-use bench_door::{Ended, print};
-use bench_hall::{Hall, NotTaken, Seated, WhyOpen, sit, stand};
+use bench_door::{DeskRelease, print};
+use bench_hall::{Hall, NotTaken, TakenDesk, WhyOpen, give_back, take_desk};
 use lab_program::{Outcome, RunFault};
 use legal_steps::Drinking;
 use live_lab::{Aim, Printed, Stage};
@@ -31,23 +31,23 @@ fn hall_of(rt: &impl Abort, alloc: Global, script: &[u8]) -> Arc<Hall, Global> {
     }
 }
 
-fn seat_of(rt: &impl Abort, hall: &Arc<Hall, Global>, job: u32) -> Seated {
-    match sit(hall, job) {
-        Ok(seated) => seated,
-        Err(_) => panic!(rt; "no seat"),
+fn desk_of(rt: &impl Abort, hall: &Arc<Hall, Global>, job: u32) -> TakenDesk {
+    match take_desk(hall, job) {
+        Ok(desk) => desk,
+        Err(_) => panic!(rt; "no desk"),
     }
 }
 
 /// Why the desk can't be taken, if it can't.
 fn refusal(hall: &Arc<Hall, Global>, job: u32) -> Option<NotTaken> {
-    match sit(hall, job) {
+    match take_desk(hall, job) {
         Ok(_) => None,
         Err(why) => Some(why),
     }
 }
 
-fn back(rt: &impl Abort, seated: Seated) {
-    check(rt, 1, stand(seated).is_ok(), true);
+fn back(rt: &impl Abort, desk: TakenDesk) {
+    check(rt, 1, give_back(desk).is_ok(), true);
 }
 
 fn printed(rt: &impl Abort, alloc: Global, hall: Arc<Hall, Global>) -> Printed {
@@ -67,9 +67,9 @@ fn printed(rt: &impl Abort, alloc: Global, hall: Arc<Hall, Global>) -> Printed {
 fn out_once(rt: HostRuntime) {
     let hall = hall_of(&rt, rt.alloc(), TWO_BENCHES);
     check(&rt, 1, refusal(&hall, 2), Some(NotTaken::NoJob));
-    let first = seat_of(&rt, &hall, 0);
+    let first = desk_of(&rt, &hall, 0);
     check(&rt, 2, refusal(&hall, 0), Some(NotTaken::Out));
-    let second = seat_of(&rt, &hall, 1);
+    let second = desk_of(&rt, &hall, 1);
     back(&rt, first);
     check(&rt, 3, refusal(&hall, 1), Some(NotTaken::Out));
     check(&rt, 4, refusal(&hall, 0).is_none(), true);
@@ -79,7 +79,7 @@ fn out_once(rt: HostRuntime) {
 #[test]
 fn stays_open_with_a_desk_out(rt: HostRuntime) {
     let hall = hall_of(&rt, rt.alloc(), TWO_BENCHES);
-    let first = seat_of(&rt, &hall, 0);
+    let first = desk_of(&rt, &hall, 0);
     let Err(stays) = Hall::into_lab(hall, rt.alloc()) else {
         panic!(rt; "a desk is out");
     };
@@ -93,7 +93,7 @@ fn stays_open_with_a_desk_out(rt: HostRuntime) {
 #[test]
 fn stays_open_with_a_desk_lost(rt: HostRuntime) {
     let hall = hall_of(&rt, rt.alloc(), TWO_BENCHES);
-    drop(seat_of(&rt, &hall, 0));
+    drop(desk_of(&rt, &hall, 0));
     let Err(stays) = Hall::into_lab(hall, rt.alloc()) else {
         panic!(rt; "a desk is lost");
     };
@@ -106,7 +106,7 @@ fn stays_open_with_a_desk_lost(rt: HostRuntime) {
 fn each_of_the_most_jobs_has_a_desk(rt: HostRuntime) {
     let hall = hall_of(&rt, rt.alloc(), MOST_JOBS);
     for job in 0..32u32 {
-        back(&rt, seat_of(&rt, &hall, job));
+        back(&rt, desk_of(&rt, &hall, job));
     }
     check(&rt, 1, refusal(&hall, 32), Some(NotTaken::NoJob));
     let report = printed(&rt, rt.alloc(), hall);
@@ -117,7 +117,7 @@ fn each_of_the_most_jobs_has_a_desk(rt: HostRuntime) {
 #[test]
 fn stops_when_nothing_is_due(rt: HostRuntime) {
     let hall = hall_of(&rt, rt.alloc(), PATIENT);
-    let mut second = seat_of(&rt, &hall, 1);
+    let mut second = desk_of(&rt, &hall, 1);
     let (stage, turned) = second.go(Aim::Hold, u32::MAX);
     check(
         &rt,
@@ -140,20 +140,20 @@ fn stops_when_nothing_is_due(rt: HostRuntime) {
 fn goes_back_to_its_own(rt: HostRuntime) {
     let one = hall_of(&rt, rt.alloc(), TWO_BENCHES);
     let other = hall_of(&rt, rt.alloc(), TWO_BENCHES);
-    let idle = seat_of(&rt, &one, 0);
-    let mut busy = seat_of(&rt, &other, 0);
+    let idle = desk_of(&rt, &one, 0);
+    let mut busy = desk_of(&rt, &other, 0);
     check(&rt, 1, busy.turn() != Turned::Idle, true);
     back(&rt, busy);
     back(&rt, idle);
-    check(&rt, 2, seat_of(&rt, &one, 0).standing().turns, 0);
-    check(&rt, 3, seat_of(&rt, &other, 0).standing().turns, 1);
+    check(&rt, 2, desk_of(&rt, &one, 0).standing().turns, 0);
+    check(&rt, 3, desk_of(&rt, &other, 0).standing().turns, 1);
 }
 
 #[test]
 fn prints_two_benches(rt: HostRuntime) {
     let hall = hall_of(&rt, rt.alloc(), TWO_BENCHES);
-    let mut first = seat_of(&rt, &hall, 0);
-    let mut second = seat_of(&rt, &hall, 1);
+    let mut first = desk_of(&rt, &hall, 0);
+    let mut second = desk_of(&rt, &hall, 1);
     for _round in 0..20u32 {
         let _ = first.turn();
         let _ = second.turn();
@@ -166,9 +166,9 @@ fn prints_two_benches(rt: HostRuntime) {
 }
 
 /// Goes on until it holds, while the other serves.
-fn hold(rt: &impl Abort, seated: &mut Seated, other: &mut Seated) {
+fn hold(rt: &impl Abort, desk: &mut TakenDesk, other: &mut TakenDesk) {
     for _pass in 0..50u32 {
-        let (stage, _) = seated.go(Aim::Hold, 10);
+        let (stage, _) = desk.go(Aim::Hold, 10);
         if stage == Stage::There {
             return;
         }
@@ -177,7 +177,7 @@ fn hold(rt: &impl Abort, seated: &mut Seated, other: &mut Seated) {
     panic!(rt; "it never holds");
 }
 
-fn alone(rt: &impl Abort, first: &mut Seated, second: &mut Seated) {
+fn alone(rt: &impl Abort, first: &mut TakenDesk, second: &mut TakenDesk) {
     check(rt, 1, second.turn(), Turned::Acted(1));
     check(rt, 2, second.withdraw(), true);
     check(rt, 3, second.withdraw(), false);
@@ -195,10 +195,10 @@ fn alone(rt: &impl Abort, first: &mut Seated, second: &mut Seated) {
         (Stage::Barred, Turned::Idle),
     );
     match first.end() {
-        Ended::LetGo(_) => (),
+        DeskRelease::LetGo(_) => (),
         _ => panic!(rt; "it didn't let go"),
     }
-    check(rt, 8, first.end(), Ended::NotHeld);
+    check(rt, 8, first.end(), DeskRelease::NotHeld);
     let (stage, _) = first.go(Aim::Retire, 100);
     check(rt, 9, stage, Stage::There);
 }
@@ -206,8 +206,8 @@ fn alone(rt: &impl Abort, first: &mut Seated, second: &mut Seated) {
 #[test]
 fn drives_alone(rt: HostRuntime) {
     let hall = hall_of(&rt, rt.alloc(), PATIENT);
-    let mut first = seat_of(&rt, &hall, 0);
-    let mut second = seat_of(&rt, &hall, 1);
+    let mut first = desk_of(&rt, &hall, 0);
+    let mut second = desk_of(&rt, &hall, 1);
     alone(&rt, &mut first, &mut second);
     back(&rt, first);
     back(&rt, second);

@@ -3,7 +3,7 @@ use crate::rows::check;
 use lab_journal::{NotTaken, has_room, journal, open_kept, resume, take_journal};
 use lab_program::RunFault;
 use legal_steps::Drinking;
-use live_lab::{Ended, Lab, Stage};
+use live_lab::{Lab, Release, Stage};
 use script_reader::ScriptCause;
 use session_layer::Turned;
 use std::alloc::Global;
@@ -105,7 +105,7 @@ fn is_so_far(rt: &impl Abort, lab: &Lab, job: usize, wanted: Drinking) {
 fn are_gone_on_with(rt: HostRuntime) {
     let mut lab = resumed(&rt, rt.alloc(), BOTH, 275);
     takes(&rt, rt.alloc(), &mut lab, b"");
-    check(&rt, 1, lab.end(0), Some(Ended::LetGo(Turned::Acted(8))));
+    check(&rt, 1, lab.end(0), Some(Release::LetGo(Turned::Acted(8))));
     check(&rt, 2, lab.begin(1, 1), Some((Stage::There, Turned::Idle)));
 }
 

@@ -3,7 +3,7 @@ use crate::rows::check;
 use lab_plan::Verb;
 use lab_program::{Outcome, RunFault};
 use legal_steps::Drinking;
-use live_lab::{Came, Ended, Keepers, Lab, Stage};
+use live_lab::{Came, Keepers, Lab, Release, Stage};
 use session_layer::Turned;
 use std::alloc::Global;
 use std::process::Abort;
@@ -80,11 +80,11 @@ fn adds_one(rt: &impl Abort, lab: &mut Lab) {
 
 /// Job a reads, quits and gives the bottle; job b drinks and leaves its meal. Then job b sets and quits.
 fn both_end(rt: &impl Abort, lab: &mut Lab) {
-    check(rt, 1, lab.end(0), Some(Ended::LetGo(Turned::Acted(6))));
-    check(rt, 2, lab.end(0), Some(Ended::NotHeld));
+    check(rt, 1, lab.end(0), Some(Release::LetGo(Turned::Acted(6))));
+    check(rt, 2, lab.end(0), Some(Release::NotHeld));
     settles(rt, lab, 1, came(2, 0, 1, 0));
     check(rt, 3, lab.retire(1, 9), Some((Stage::Barred, Turned::Idle)));
-    check(rt, 4, lab.end(1), Some(Ended::LetGo(Turned::Acted(3))));
+    check(rt, 4, lab.end(1), Some(Release::LetGo(Turned::Acted(3))));
 }
 
 fn both_retire(rt: &impl Abort, lab: &mut Lab) {
@@ -190,7 +190,7 @@ fn begins_until_nothing_is_due(rt: HostRuntime) {
         lab.begin(1, u32::MAX),
         Some((Stage::OnTheWay, Turned::Acted(7))),
     );
-    check(&rt, 4, lab.end(0), Some(Ended::LetGo(Turned::Acted(8))));
+    check(&rt, 4, lab.end(0), Some(Release::LetGo(Turned::Acted(8))));
     check(
         &rt,
         5,

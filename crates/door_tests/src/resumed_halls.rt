@@ -1,8 +1,8 @@
 //! Benches of desks that go on where a journal ends.
 use crate::journals::BOTH;
 use crate::rows::check;
-use bench_door::{Ended, Lab, print};
-use bench_hall::{Hall, Seated, sit, stand};
+use bench_door::{DeskRelease, Lab, print};
+use bench_hall::{Hall, TakenDesk, give_back, take_desk};
 use c_handles::Handle;
 use c_tells::Told;
 use lab_program::Outcome;
@@ -17,34 +17,34 @@ use std::sync::Arc;
 const GONE_ON: &[u8] =
     b"lab 2\ninstrument scale 3\na 1 1/2 add 1 = 1\na 1 2/2 read = 1\nb 1 1/1 set 5 = 5\njob a sessions 1 of 1 withdrawn 0 meals ";
 
-fn seat_of(rt: &impl Abort, hall: &Arc<Hall, Global>, job: u32, wanted: Drinking) -> Seated {
-    match sit(hall, job) {
-        Ok(seated) => {
-            check(rt, 1, seated.standing().phase.drinking, wanted);
-            seated
+fn desk_of(rt: &impl Abort, hall: &Arc<Hall, Global>, job: u32, wanted: Drinking) -> TakenDesk {
+    match take_desk(hall, job) {
+        Ok(desk) => {
+            check(rt, 1, desk.standing().phase.drinking, wanted);
+            desk
         }
-        Err(_) => panic!(rt; "no seat"),
+        Err(_) => panic!(rt; "no desk"),
     }
 }
 
-fn ends(rt: &impl Abort, seated: &mut Seated) {
-    match seated.end() {
-        Ended::LetGo(_) => {}
+fn ends(rt: &impl Abort, desk: &mut TakenDesk) {
+    match desk.end() {
+        DeskRelease::LetGo(_) => {}
         _ => panic!(rt; "it holds on"),
     }
 }
 
 /// Job a ends its session, and job b gets the bottle that it asked for before.
 fn goes_on(rt: &impl Abort, hall: &Arc<Hall, Global>) {
-    let mut first = seat_of(rt, hall, 0, Drinking::Drinking);
-    let mut second = seat_of(rt, hall, 1, Drinking::Thirsty);
+    let mut first = desk_of(rt, hall, 0, Drinking::Drinking);
+    let mut second = desk_of(rt, hall, 1, Drinking::Thirsty);
     ends(rt, &mut first);
     check(rt, 1, second.go(Aim::Hold, 5).0, Stage::There);
     ends(rt, &mut second);
     check(rt, 2, first.go(Aim::Retire, 5).0, Stage::There);
     check(rt, 3, second.go(Aim::Retire, 5).0, Stage::There);
-    check(rt, 4, stand(first).is_ok(), true);
-    check(rt, 5, stand(second).is_ok(), true);
+    check(rt, 4, give_back(first).is_ok(), true);
+    check(rt, 5, give_back(second).is_ok(), true);
 }
 
 fn reports(rt: &impl Abort, alloc: Global, lab: Lab, wanted: &[u8], outcome: Outcome) {

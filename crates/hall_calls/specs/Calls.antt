@@ -12,16 +12,16 @@ use Rattle.lab_program.specs.Faults.{status_of}
 use Rattle.bench_door.specs.declared.lab.Lab.{Lab}
 use Rattle.live_lab.specs.declared.stage.Aim.{Aim}
 use Rattle.live_lab.specs.declared.stage.Stage.{Stage}
-use Rattle.bench_door.specs.declared.going.Ended.{Ended as HowItEnded}
-use Rattle.bench_door.specs.declared.going.Ended.TheVariants.{NotHeld, LetGo, StillHeld}
+use Rattle.bench_door.specs.declared.going.DeskRelease.{DeskRelease}
+use Rattle.bench_door.specs.declared.going.DeskRelease.TheVariants.{NotHeld, LetGo, StillHeld}
 use Rattle.bench_door.specs.Going.{EndsSession}
 use Rattle.live_lab.specs.Labs.{IsWhyNot}
 use Rattle.bench_door.specs.Doors.{Withdraws, Reaches, standing_of}
 use Rattle.bench_hall.specs.declared.hall.Hall.{Hall}
-use Rattle.bench_hall.specs.declared.seated.Seated.{Seated}
-use Rattle.bench_hall.specs.declared.seat.NotTaken.{NotTaken}
-use Rattle.bench_hall.specs.declared.seat.NotTaken.TheVariants.{NoJob, Out, NoMemory}
-use Rattle.bench_hall.specs.Seats.{Stays, GoesAlone}
+use Rattle.bench_hall.specs.declared.taken_desk.TakenDesk.{TakenDesk}
+use Rattle.bench_hall.specs.declared.at_desk.NotTaken.{NotTaken}
+use Rattle.bench_hall.specs.declared.at_desk.NotTaken.TheVariants.{NoJob, Out, NoMemory}
+use Rattle.bench_hall.specs.AtDesk.{Stays, GoesAlone}
 use Rattle.c_tells.specs.declared.telling.Told.{Told}
 use Rattle.c_tells.specs.Telling.{told_of}
 use Rattle.bench_door.specs.declared.ending.Held.{Held}
@@ -33,7 +33,7 @@ use Rattle.bench_calls.specs.declared.told.LabEntry.{LabEntry}
 use Rattle.bench_calls.specs.Telling.{turned_of, state_of, stage_status, TellsEntry}
 use Rattle.bench_door.specs.Closing.{ClosesHeld, NoRoomYet}
 use Rattle.c_handles.specs.declared.inside.Inside.{Inside}
-use Rattle.c_handles.specs.declared.inside.Inside.TheVariants.{Shared, Closing, Seat}
+use Rattle.c_handles.specs.declared.inside.Inside.TheVariants.{Shared, Closing, Desk}
 
 -- a bench that threads share
 abbrev pub Bench : Type 0
@@ -70,9 +70,9 @@ TellsSize a told told' status =
 -- ---- taking a desk, and giving it back
 
 -- the desk that was taken is of this open bench, and of this job
-abbrev pub IsSeatIn : Inside → ℕ → Seated → Type 0
-IsSeatIn (Shared a) job s = (arc_value s.hall ≡ arc_value a) × (s.desk.value.job ≡ job)
-IsSeatIn other job s = ⊥
+abbrev pub IsDeskIn : Inside → ℕ → TakenDesk → Type 0
+IsDeskIn (Shared a) job s = (arc_value s.hall ≡ arc_value a) × (s.desk.value.job ≡ job)
+IsDeskIn other job s = ⊥
 
 abbrev pub why_number : NotTaken → ℕ
 why_number NoJob = 2
@@ -85,24 +85,24 @@ IsWhyNone (Shared a) job status = (why : NotTaken) × (status ≡ why_number why
 IsWhyNone other job status = status ≡ 7
 
 -- such a desk, as a handle has it
-abbrev pub IsSeated : Inside → ℕ → Inside → Type 0
-IsSeated a job new = (s : Seated) × IsSeatIn a job s × (new ≡ Seat s)
+abbrev pub HasDeskOf : Inside → ℕ → Inside → Type 0
+HasDeskOf a job new = (s : TakenDesk) × IsDeskIn a job s × (new ≡ Desk s)
 
 -- there was no memory for the handle's part (5), or the bench says why
-abbrev pub IsWhyNoSeat : Inside → ℕ → ℕ → Type 0
-IsWhyNoSeat a job status = (status ≡ 5) ⊎ IsWhyNone a job status
+abbrev pub IsWhyNoDesk : Inside → ℕ → ℕ → Type 0
+IsWhyNoDesk a job status = (status ≡ 5) ⊎ IsWhyNone a job status
 
 -- The desk's handle is in use, and stays as it is (11); or it is empty, and has the job's desk now (0), or there was none, and the status says why: the
 -- bench's handle is empty (7), there was no memory for the desk's (5), or the bench says why
 abbrev pub Takes : ℕ → Option Inside → Option Inside → Option Inside → ℕ → Type 0
 Takes job bench (Some held) new status = (status ≡ 11) × (new ≡ Some held)
 Takes job (Some a) None new status =
-    ((status ≡ 0) × (h : Inside) × (new ≡ Some h) × IsSeated a job h) ⊎ ((new ≡ None) × IsWhyNoSeat a job status)
+    ((status ≡ 0) × (h : Inside) × (new ≡ Some h) × HasDeskOf a job h) ⊎ ((new ≡ None) × IsWhyNoDesk a job status)
 Takes job None None new status = (status ≡ 7) × (new ≡ None)
 
 -- a desk was given back, and nothing is left (0); or its place has a desk, and it stays (8). What is no desk stays, too (7)
 abbrev pub GivesIn : Inside → Option Inside → ℕ → Type 0
-GivesIn (Seat s) new status = ((status ≡ 0) × (new ≡ None)) ⊎ ((status ≡ 8) × (new ≡ Some (Seat s)))
+GivesIn (Desk s) new status = ((status ≡ 0) × (new ≡ None)) ⊎ ((status ≡ 8) × (new ≡ Some (Desk s)))
 GivesIn other new status = (status ≡ 7) × (new ≡ Some other)
 
 -- the same of a handle, which may have nothing (7)
@@ -113,13 +113,13 @@ GivesBack None new status = (status ≡ 7) × (new ≡ None)
 -- ---- calls on a desk
 
 -- the desk did so, and is still of its bench and its job
-pub record AtDesk {T : Type 0} (Did : DeskView → DeskView → T → T → ℕ → Type 0) (a b : Seated) (told told' : T) (status : ℕ) : Type 0 where
+pub record AtDesk {T : Type 0} (Did : DeskView → DeskView → T → T → ℕ → Type 0) (a b : TakenDesk) (told told' : T) (status : ℕ) : Type 0 where
   pub stays : Stays a b
   pub did : Did a.desk.value b.desk.value told told' status
 
 -- so did the desk that the handle has; what is no desk stays as it is (7)
 abbrev pub InDesk : {T : Type 0} → (DeskView → DeskView → T → T → ℕ → Type 0) → Inside → Inside → T → T → ℕ → Type 0
-InDesk Did (Seat a) new told told' status = (b : Seated) × (new ≡ Seat b) × AtDesk Did a b told told' status
+InDesk Did (Desk a) new told told' status = (b : TakenDesk) × (new ≡ Desk b) × AtDesk Did a b told told' status
 InDesk Did other new told told' status = (status ≡ 7) × (new ≡ other) × (told' ≡ told)
 
 -- the same of a handle, which may have nothing (7)
@@ -137,14 +137,14 @@ GoesOn aim most d e told told' status = (stage : Stage) × (r : Turned) × GoesA
     × (told' ≡ turned_of r)
 
 -- it let go (0); or it still holds, or it never held and nothing is told (8)
-abbrev pub TellsEnded : HowItEnded → LabTurned → LabTurned → ℕ → Type 0
-TellsEnded (LetGo r) told told' status = (status ≡ 0) × (told' ≡ turned_of r)
-TellsEnded (StillHeld r) told told' status = (status ≡ 8) × (told' ≡ turned_of r)
-TellsEnded NotHeld told told' status = (status ≡ 8) × (told' ≡ told)
+abbrev pub TellsRelease : DeskRelease → LabTurned → LabTurned → ℕ → Type 0
+TellsRelease (LetGo r) told told' status = (status ≡ 0) × (told' ≡ turned_of r)
+TellsRelease (StillHeld r) told told' status = (status ≡ 8) × (told' ≡ turned_of r)
+TellsRelease NotHeld told told' status = (status ≡ 8) × (told' ≡ told)
 
 -- the job did the commands that were left and let go (0); or it doesn't hold, and nothing changed (8)
 abbrev pub LetsGo : DeskView → DeskView → LabTurned → LabTurned → ℕ → Type 0
-LetsGo d e told told' status = (how : HowItEnded) × EndsSession d how e × TellsEnded how told told' status
+LetsGo d e told told' status = (how : DeskRelease) × EndsSession d how e × TellsRelease how told told' status
 
 -- the job's next command was done, and its entry is told (0); or it doesn't hold or no command is left, and nothing changed (8)
 abbrev pub DoesNext : DeskView → DeskView → LabEntry → LabEntry → ℕ → Type 0

@@ -2,14 +2,14 @@
 //! run beside one another.
 #![tactic(auto)]
 
+mod at_desk;
 mod coming_back;
-mod driving;
+mod desks;
 mod ending;
-mod seats;
 mod sharing;
 
+pub use at_desk::{begin, command, end, retire, serve, state, turn, withdraw};
 pub use coming_back::resume;
-pub use driving::{begin, command, end, retire, serve, state, turn, withdraw};
+pub use desks::{give, take_desk};
 pub use ending::{close, free};
-pub use seats::{give, take_desk};
 pub use sharing::{open, size};

@@ -12,7 +12,7 @@ mod bytes;
 mod telling;
 
 use bytes::Bytes;
-use c_tells::{Kept, Told};
+use c_tells::{MemorySink, Told};
 use lab_runs::{run_check, run_replay, run_rounds, run_upgrade};
 use std::alloc::Global;
 use telling::tell;
@@ -32,7 +32,7 @@ pub extern "C" fn lab_rounds(
     ensures answer { Answers (RunsInRounds limit) ScriptRefuses script.now report.old report.new told.new result }
     ensures one { HasOneRun }
 {
-    let mut sink = Kept::new(alloc);
+    let mut sink = MemorySink::new(alloc);
     let answer = run_rounds(alloc, &mut Bytes::new(script), &mut sink, limit);
     tell(answer, sink.bytes(), report, told)
 }
@@ -47,7 +47,7 @@ pub extern "C" fn lab_replay(
 ) -> u32
     ensures { Answers ReplaysScript ReplayRefuses script.now report.old report.new told.new result }
 {
-    let mut sink = Kept::new(alloc);
+    let mut sink = MemorySink::new(alloc);
     let answer = run_replay(alloc, &mut Bytes::new(script), &mut sink);
     tell(answer, sink.bytes(), report, told)
 }
@@ -57,7 +57,7 @@ pub extern "C" fn lab_replay(
 pub extern "C" fn lab_check(alloc: Global, script: &[u8], report: &mut [u8], told: &mut Told) -> u32
     ensures { Answers Checks ScriptRefuses script.now report.old report.new told.new result }
 {
-    let mut sink = Kept::new(alloc);
+    let mut sink = MemorySink::new(alloc);
     let answer = run_check(alloc, &mut Bytes::new(script), &mut sink);
     tell(answer, sink.bytes(), report, told)
 }
@@ -73,7 +73,7 @@ pub extern "C" fn lab_upgrade(
     ensures answer { Answers Upgrades ScriptRefuses script.now report.old report.new told.new result }
     ensures stable { UpgradeIsStable }
 {
-    let mut sink = Kept::new(alloc);
+    let mut sink = MemorySink::new(alloc);
     let answer = run_upgrade(alloc, &mut Bytes::new(script), &mut sink);
     tell(answer, sink.bytes(), report, told)
 }

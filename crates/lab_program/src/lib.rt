@@ -10,6 +10,6 @@ mod source;
 
 pub use ending::{end, tell};
 pub use faults::{Outcome, RunFault, status_of};
-pub use reading::{INPUT_LIMIT, ReadFault, read_input};
+pub use reading::{ReadFault, read_input};
 pub use sending::{pass_on, send_text};
 pub use source::{FromRead, Source};

@@ -4,10 +4,8 @@ ghost use Rattle.lab_program.specs.Input.{ConsumesUpTo, Grows, IsTooLong};
 ghost use Rattle.lab_program.specs.Faults.{read_failures};
 
 use crate::source::Source;
+use script_reader::MOST_BYTES;
 use std::alloc::Allocator;
-
-/// The most bytes that an input may have.
-pub const INPUT_LIMIT: usize = 16_777_216;
 
 /// Why an input was not read.
 #[derive(Clone, Copy, Debug, PartialEq, Eq, Drop)]
@@ -33,7 +31,7 @@ fn read_piece<R: Source, A: Allocator>(
     ensures short { IsErrOf result ReadFault.TooLong → ⊥ }
 {
     let mut buffer = [0u8; 4096];
-    let room = (INPUT_LIMIT + 1 - bytes.len()).min(4096);
+    let room = (MOST_BYTES + 1 - bytes.len()).min(4096);
     let Ok(n) = source.read(&mut buffer[..room]) else {
         return Err(ReadFault::Read);
     };
@@ -55,7 +53,7 @@ pub fn read_input<R: Source, A: Allocator>(
     ensures count { R.failures source.new ≡ R.failures source.old + read_failures result }
 {
     let mut bytes = Vec::new(alloc);
-    while bytes.len() <= INPUT_LIMIT {
+    while bytes.len() <= MOST_BYTES {
         if read_piece(source, &mut bytes)? == 0 {
             return Ok(bytes);
         }

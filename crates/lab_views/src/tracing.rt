@@ -13,13 +13,13 @@ ghost use Rattle.lab_program.specs.Reports.{outcome_of};
 ghost use Rattle.lab_views.specs.Traces.{step_lines, trace_text, further_text, events_behind, is_replayable, WritesTrace, TraceRefuses};
 
 use lab_plan::Plan;
-use lab_program::{INPUT_LIMIT, Outcome, RunFault, send_text};
+use lab_program::{Outcome, RunFault, send_text};
 use legal_steps::{Event, StepLine};
 use report::Sink;
 use round_trace::laws::steps_are_of_plan;
 use round_trace::{NotTraced, step_of, trace, trace_on};
 use script_reader::laws::one_meaning;
-use script_reader::{ScriptCause, read_plan, read_steps};
+use script_reader::{MOST_BYTES, ScriptCause, read_plan, read_steps};
 use std::alloc::{AllocError, Allocator};
 use step_texts::add_step;
 
@@ -135,7 +135,7 @@ fn further_text_of<A: Allocator, B: Allocator>(
 fn outcome_for(events: &[Event], text: &[u8]) -> Outcome
     ensures { result ≡ outcome_of (is_replayable events.now text.now) }
 {
-    if events.len() <= MOST_STEPS && text.len() <= INPUT_LIMIT {
+    if events.len() <= MOST_STEPS && text.len() <= MOST_BYTES {
         Outcome::Finished
     } else {
         Outcome::Unfinished

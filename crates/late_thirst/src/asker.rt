@@ -25,7 +25,7 @@ pub enum Reason {
 
 /// Whether the set has the job.
 #[tactic(auto, using(lab_plan::proofs::Bits::holds_is))]
-pub(crate) fn has(set: u32, job: usize) -> bool
+pub fn has(set: u32, job: usize) -> bool
     requires { job < 32 }
     ensures { result ≡ holds set job }
 {

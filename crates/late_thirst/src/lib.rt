@@ -10,5 +10,5 @@ pub mod laws;
 mod line;
 mod picking;
 
-pub use asker::{Asker, Reason};
+pub use asker::{Asker, Reason, has};
 pub use line::Line;

@@ -6,7 +6,10 @@ use Rattle.std.proofs.lemmas.Bool.{cases_eq, eq-eqb, false≢true}
 use Rattle.std.proofs.lemmas.Nat.Bits.{bit_at_or, bit_at-lt}
 use Rattle.std.proofs.lemmas.Bool.Decides.{nat_tests}
 use Rattle.lab_plan.specs.InstrumentSets.{holds}
-use Rattle.legal_steps.specs.State.{Has}
+use Rattle.legal_steps.specs.State.{Has, IsDrinking, phase}
+use Rattle.interleaving.specs.World.{WorldView}
+use Rattle.live_lab.specs.Sets.{AreJobs}
+use Rattle.live_lab.specs.Keepers.{IsHoldingOf}
 
 test_is : (n : ℕ) → (n == 1) ≡ true → n ≡ 1
 test_is n h = grind (arith, nat_tests, h)
@@ -55,3 +58,14 @@ has_either a b i (inr h) = inr (holds_has b i h)
 pub either_in : (a b i : ℕ) → (holds a i ≡ true) ⊎ (holds b i ≡ true) → holds (bit_or a b) i ≡ true
 unfolding Has
 either_in a b i h = has_holds (bit_or a b) i (bit_at_or a b i ∙ most_of (bit_at a i) (bit_at b i) (has_either a b i h) (bit_at-lt a i) (bit_at-lt b i))
+
+-- those of a set that hold, of a set of all of which something is so
+pub among : (w : WorldView) (set : ℕ) (P : ℕ → Type 0) (holding : ℕ) → AreJobs w.plan set P → AreJobs w.plan holding (IsHoldingOf set w.state)
+    → AreJobs w.plan holding (λ k. P k × IsDrinking (phase w.state k))
+among w set P holding all held = record {
+  of_plan = held.of_plan;
+  just = λ j job. (
+    λ h. let x = (held.just j job).0 h in ((all.just j job).0 x.0, x.1),
+    λ q. (held.just j job).1 ((all.just j job).1 q.0, q.1),
+  );
+}

@@ -10,8 +10,8 @@ use Rattle.interleaving.specs.World.{WorldView, LeadsTo}
 use Rattle.reasons.specs.Deeds.{is_deed}
 use Rattle.session_layer.specs.declared.turning.Turned.{Turned}
 use Rattle.session_layer.specs.Turn.{Says}
-use Rattle.live_lab.specs.declared.ending.Ended.{Ended}
-use Rattle.live_lab.specs.declared.ending.Ended.TheVariants.{NotHeld, LetGo}
+use Rattle.live_lab.specs.declared.ending.Release.{Release}
+use Rattle.live_lab.specs.declared.ending.Release.TheVariants.{NotHeld, LetGo}
 use Rattle.live_lab.specs.Labs.{LabView}
 use Rattle.live_lab.specs.Rests.{ComesToRest}
 
@@ -45,6 +45,6 @@ pub record EndsHeld (j : ℕ) (old : LabView) (r : Turned) (new : LabView) : Typ
   pub line : new.line ≡ old.line
 
 -- so it was; or it didn't hold, and nothing changed
-abbrev pub EndsSession : ℕ → LabView → Ended → LabView → Type 0
+abbrev pub EndsSession : ℕ → LabView → Release → LabView → Type 0
 EndsSession j old (LetGo r) new = EndsHeld j old r new
 EndsSession j old NotHeld new = (IsDrinking (phase old.world.state j) → ⊥) × (new ≡ old)

@@ -1,7 +1,7 @@
 -- For readers: who keeps a job waiting for an instrument.
-use Rattle.std.specs.Prelude.{◌≡◌, ◌⊎◌, ℕ, ◌+◌, ◌≤◌, ◌<◌, true, length, Option, Some, None}
+use Rattle.std.specs.Prelude.{◌≡◌, ◌⊎◌, ℕ, ◌+◌, ◌≤◌, ◌<◌, Bool, true, false, length, Option, Some, None}
 use Rattle.lab_plan.specs.LabPlan.{LabPlan, session_names}
-use Rattle.legal_steps.specs.State.{State, IsDrinking, phase, session}
+use Rattle.legal_steps.specs.State.{State, Has, IsDrinking, phase, session}
 use Rattle.legal_steps.specs.Legal.{IsJob, Needs, instrument_of}
 use Rattle.interleaving.specs.World.{WorldView}
 use Rattle.reasons.specs.Reasons.{Lacks, Keeps as KeepsBottle}
@@ -31,6 +31,15 @@ pub record AreKeepers (w : WorldView) (j i : ℕ) (r : Keepers) : Type 0 where
 -- of a job outside whose next session names the instrument: the jobs in a session that needs it, and those of them that hold
 abbrev pub IsUser : LabPlan → State → ℕ → ℕ → ℕ → Type 0
 IsUser plan s j i k = (session_names plan j (session s j + 1) i ≡ true) × Needs plan s k i
+
+-- either, whoever waits: a user if it does so outside, else a keeper
+abbrev pub IsOne : Bool → LabPlan → State → ℕ → ℕ → ℕ → Type 0
+IsOne true plan s j i k = IsUser plan s j i k
+IsOne false plan s j i k = IsKeeper plan s j i k
+
+-- a job of the set that holds
+abbrev pub IsHoldingOf : ℕ → State → ℕ → Type 0
+IsHoldingOf jobs s k = Has jobs k × IsDrinking (phase s k)
 
 pub record AreUsers (w : WorldView) (j i : ℕ) (r : Keepers) : Type 0 where
   pub jobs : AreJobs w.plan r.jobs (IsUser w.plan w.state j i)

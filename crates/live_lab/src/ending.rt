@@ -21,7 +21,7 @@ use std::alloc::Allocator;
 
 /// What became of a session that was to be ended.
 #[derive(Clone, Copy, PartialEq, Eq, Debug)]
-pub enum Ended {
+pub enum Release {
     /// The job doesn't hold, and nothing was done.
     NotHeld,
     /// The commands that were left are done, the job has let go, and nothing is left to do without a word from an owner. So many deeds were done.
@@ -72,21 +72,21 @@ fn let_go<A: Allocator>(world: &mut World<A>, job: JobNo) -> u32
 }
 
 impl Lab {
-    fn end_of(&mut self, job: JobNo) -> Ended
+    fn end_of(&mut self, job: JobNo) -> Release
         requires { IsJob self.old.world.plan job }
         ensures { EndsSession job self.old result self.new }
     {
         if !self.world.job(job).is_drinking() {
-            return Ended::NotHeld;
+            return Release::NotHeld;
         }
         let own = let_go(&mut self.world, job);
         wake_self(self.world.plan(), &mut self.due, job);
         let more = come_to_rest(&mut self.world, &mut self.due);
-        Ended::LetGo(Turned::of(own + more, 0))
+        Release::LetGo(Turned::of(own + more, 0))
     }
 
     /// Does the commands that are left of a job's session, ends it, and does all that this makes due, if there is such a job and it holds.
-    pub fn end(&mut self, job: usize) -> Option<Ended>
+    pub fn end(&mut self, job: usize) -> Option<Release>
         ensures { AtJob EndsSession job self.old result self.new }
     {
         if self.jobs() <= job {

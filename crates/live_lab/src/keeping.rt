@@ -5,11 +5,13 @@ ghost use Rattle.lab_plan.specs.InstrumentSets.{holds};
 ghost use Rattle.legal_steps.specs.State.{IsOwn, session, edge as edge_at, bottle_end as end_of_bottle};
 ghost use Rattle.legal_steps.specs.Legal.{IsJob, Here, Needs, instrument_of};
 ghost use Rattle.reasons.specs.Reasons.{Lacks, Keeps};
-ghost use Rattle.live_lab.specs.Keepers.{IsKept, IsKeptAt, IsKeeper, IsUser, AreUsers, AreKeepers, AreKeepersAt};
+ghost use Rattle.live_lab.specs.Keepers.{IsKept, IsKeptAt, IsKeeper, IsUser, IsOne, IsHoldingOf, AreUsers, AreKeepers, AreKeepersAt};
+ghost use Rattle.live_lab.specs.Sets.{AreJobs};
 
 use crate::lab::Lab;
 use interleaving::World;
 use lab_plan::{EdgeNo, InstrumentNo, JobNo, Plan};
+use late_thirst::has;
 use legal_steps::{End, bottle_end};
 use std::alloc::Allocator;
 
@@ -199,26 +201,6 @@ fn is_keeper<A: Allocator>(
     false
 }
 
-/// The jobs that keep the job waiting for the instrument.
-fn keepers_of<A: Allocator>(world: &World<A>, job: JobNo, instrument: InstrumentNo) -> Keepers
-    requires job { IsJob world.now.plan job }
-    requires few { instrument < 64 }
-    ensures { AreKeepers world.now job instrument result }
-{
-    let mut jobs = 0u32;
-    let mut holding = 0u32;
-    for number in 0..world.plan().jobs() {
-        let other = JobNo(number as u8);
-        if is_keeper(world, job, other, instrument) {
-            jobs |= 1 << number;
-            if world.job(other).is_drinking() {
-                holding |= 1 << number;
-            }
-        }
-    }
-    Keepers { jobs, holding }
-}
-
 /// Whether the next session of the first job names the instrument.
 fn wants<A: Allocator>(world: &World<A>, job: JobNo, instrument: InstrumentNo) -> bool
     requires job { IsJob world.now.plan job }
@@ -247,23 +229,87 @@ fn is_user<A: Allocator>(
     wants(world, job, instrument) && needs(world, other, instrument)
 }
 
+/// Whether the second job keeps the first waiting for the instrument: one that waits outside as a user of it, any other as a keeper.
+fn is_one<A: Allocator>(
+    world: &World<A>,
+    outside: bool,
+    job: JobNo,
+    other: JobNo,
+    instrument: InstrumentNo,
+) -> bool
+    requires job { IsJob world.now.plan job }
+    requires other { IsJob world.now.plan other }
+    requires few { instrument < 64 }
+    ensures { IsTrue result ↔ IsOne outside world.now.plan world.now.state job instrument other }
+{
+    if outside {
+        is_user(world, job, other, instrument)
+    } else {
+        is_keeper(world, job, other, instrument)
+    }
+}
+
+/// The jobs of which that is so.
+fn those_of<A: Allocator>(
+    world: &World<A>,
+    outside: bool,
+    job: JobNo,
+    instrument: InstrumentNo,
+) -> u32
+    requires job { IsJob world.now.plan job }
+    requires few { instrument < 64 }
+    ensures { AreJobs world.now.plan result (IsOne outside world.now.plan world.now.state job instrument) }
+{
+    let mut set = 0u32;
+    for other in 0..world.plan().jobs() {
+        if is_one(world, outside, job, JobNo(other as u8), instrument) {
+            set |= 1 << other;
+        }
+    }
+    set
+}
+
+/// Whether the job is in the set, and holds all instruments of its session.
+fn is_holding<A: Allocator>(world: &World<A>, jobs: u32, job: JobNo) -> bool
+    requires job { IsJob world.now.plan job }
+    requires few { job < 32 }
+    ensures { IsTrue result ↔ IsHoldingOf jobs world.now.state job }
+{
+    has(jobs, job.0 as usize) && world.job(job).is_drinking()
+}
+
+/// Those of the set that hold all instruments of their session.
+fn holding_of<A: Allocator>(world: &World<A>, jobs: u32) -> u32
+    ensures { AreJobs world.now.plan result (IsHoldingOf jobs world.now.state) }
+{
+    let mut set = 0u32;
+    for job in 0..world.plan().jobs() {
+        if is_holding(world, jobs, JobNo(job as u8)) {
+            set |= 1 << job;
+        }
+    }
+    set
+}
+
+/// The jobs that keep the job waiting for the instrument.
+fn keepers_of<A: Allocator>(world: &World<A>, job: JobNo, instrument: InstrumentNo) -> Keepers
+    requires job { IsJob world.now.plan job }
+    requires few { instrument < 64 }
+    ensures { AreKeepers world.now job instrument result }
+{
+    let jobs = those_of(world, false, job, instrument);
+    let holding = holding_of(world, jobs);
+    Keepers { jobs, holding }
+}
+
 /// The jobs in a session that needs the instrument, if the next session of the job names it.
 fn users_of<A: Allocator>(world: &World<A>, job: JobNo, instrument: InstrumentNo) -> Keepers
     requires job { IsJob world.now.plan job }
     requires few { instrument < 64 }
     ensures { AreUsers world.now job instrument result }
 {
-    let mut jobs = 0u32;
-    let mut holding = 0u32;
-    for number in 0..world.plan().jobs() {
-        let other = JobNo(number as u8);
-        if is_user(world, job, other, instrument) {
-            jobs |= 1 << number;
-            if world.job(other).is_drinking() {
-                holding |= 1 << number;
-            }
-        }
-    }
+    let jobs = those_of(world, true, job, instrument);
+    let holding = holding_of(world, jobs);
     Keepers { jobs, holding }
 }
 

@@ -10,13 +10,10 @@ use crate::clock::{Clock, fresh};
 use interleaving::World;
 use lab_program::RunFault;
 use late_thirst::Line;
-use script_reader::read_plan;
+use script_reader::{MOST_BYTES, read_plan};
 use settling::Due;
 use std::alloc::{AllocError, Global};
 use std::marker::Model;
-
-/// The most bytes that a script may have.
-const MOST_BYTES: usize = 16_777_216;
 
 /// A world, a clock for each job, notes of who may have something to do, and who waits outside.
 #[derive(Drop)]

@@ -30,7 +30,7 @@ mod turning;
 mod words;
 
 pub use coming::NotAdded;
-pub use ending::Ended;
+pub use ending::Release;
 pub use interleaving::AddRefusal;
 pub use keeping::Keepers;
 pub use lab::Lab;

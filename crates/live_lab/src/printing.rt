@@ -3,7 +3,7 @@ ghost use Rattle.std.specs.Prelude.{◌≡◌, IfSome};
 ghost use Rattle.live_lab.specs.Prints.{IsPrint, HasReport, HasSomeReport};
 
 use crate::lab::Lab;
-use c_tells::Kept;
+use c_tells::MemorySink;
 use headline::holds_of_every_run;
 use interleaving::World;
 use lab_program::Outcome;
@@ -23,7 +23,7 @@ pub struct Printed {
 fn written(alloc: Global, world: &World<'static, Global>) -> Option<(Vec<u8, Global>, Outcome)>
     ensures { IfSome result (λ w. IsPrint world.now w.0.items w.1) }
 {
-    let mut sink = Kept::new(alloc);
+    let mut sink = MemorySink::new(alloc);
     match write_report(world, &mut sink) {
         Ok(()) => {
             let outcome = if all_retired(world) {

@@ -6,12 +6,13 @@ ghost use Rattle.live_lab.specs.Settles.{Settles};
 use crate::admitting::{admit, say_and_rest};
 use crate::asking::ask;
 use crate::clock::{Clock, after_turn};
-use crate::kinds::{Kind, has, jobs_of};
+use crate::kinds::{Kind, jobs_of};
 use crate::lab::Lab;
 use crate::resting::come_to_rest;
 use crate::words::Word;
 use interleaving::World;
 use lab_plan::JobNo;
+use late_thirst::has;
 use std::alloc::Allocator;
 
 /// What came of a settle. Sets of jobs have bit k for job k.
@@ -34,8 +35,8 @@ fn count_turns<A: Allocator>(clocks: &mut [Clock], world: &World<A>, waiting: u3
 {
     for job in 0..world.plan().jobs() {
         let number = JobNo(job as u8);
-        let was_thirsty = has(thirsty, number);
-        if has(waiting, number) || was_thirsty {
+        let was_thirsty = has(thirsty, job);
+        if has(waiting, job) || was_thirsty {
             clocks[job] = after_turn(clocks[job], was_thirsty, world.job(number));
         }
     }

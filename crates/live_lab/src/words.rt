@@ -10,10 +10,10 @@ ghost use Rattle.settling.specs.Left.{AreMarked};
 ghost use Rattle.live_lab.specs.Sets.{events_of_jobs};
 ghost use Rattle.live_lab.specs.Doing.{said};
 
-use crate::kinds::has;
 use crate::stepping::step;
 use interleaving::World;
 use lab_plan::JobNo;
+use late_thirst::has;
 use legal_steps::Event;
 use settling::{Due, wake_self};
 use std::alloc::Allocator;
@@ -53,7 +53,7 @@ pub(crate) fn say_each<A: Allocator>(
     let mut many = 0;
     for job in 0..world.plan().jobs() {
         let number = JobNo(job as u8);
-        if has(set, number) {
+        if has(set, job) {
             step(world, said(word, number));
             wake_self(world.plan(), due, number);
             many += 1;

@@ -5,9 +5,10 @@ ghost use Rattle.measured_orders.specs.Measures.{IsScriptMeasure};
 ghost use Rattle.measured_orders.specs.Orders.{IsOrder, IsInOrder};
 
 use crate::measure::{Measure, measured};
-use arranged_scripts::{MOST_BYTES, moved, read_back};
+use arranged_scripts::{moved, read_back};
 use arranging::has_jobs_of;
 use lab_plan::{JobNo, Plan};
+use script_reader::MOST_BYTES;
 use std::alloc::{AllocError, Allocator, Global};
 use std::marker::Model;
 

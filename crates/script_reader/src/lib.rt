@@ -18,5 +18,5 @@ pub mod upgrade_law;
 
 pub use fault::{ScriptCause, ScriptFault};
 pub use more::{FurtherSession, read_sessions};
-pub use plan::read_plan;
+pub use plan::{MOST_BYTES, read_plan};
 pub use steps::read_steps;

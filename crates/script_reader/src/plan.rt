@@ -7,6 +7,9 @@ use bstr::ByteSlice;
 use lab_plan::Plan;
 use std::alloc::Allocator;
 
+/// The most bytes of a text that any program or call here reads (docs/FORMATS.md). Longer texts are refused by whoever reads them.
+pub const MOST_BYTES: usize = 16_777_216;
+
 /// Reads the text of a script, of version 1 or 2.
 ///
 /// The plan is the one that the text means. Otherwise the fault is that of the first line that meets

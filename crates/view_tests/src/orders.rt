@@ -2,9 +2,9 @@
 use crate::seen::{is_so, of_script_seen};
 use arranging::{colours_of, order_of};
 use lab_plan::JobNo;
-use lab_program::{INPUT_LIMIT, Outcome, RunFault};
+use lab_program::{Outcome, RunFault};
 use lab_views::View;
-use script_reader::{ScriptCause, ScriptFault, read_plan};
+use script_reader::{MOST_BYTES, ScriptCause, ScriptFault, read_plan};
 use std::alloc::{AllocError, Global};
 use std::process::Abort;
 
@@ -206,7 +206,7 @@ const LONG: &[u8] = b"lab 1\njob a\nsession\ns read\nend\n#";
 /// Of this length.
 fn long(alloc: Global, length: usize) -> Result<Vec<u8>, AllocError> {
     let mut script = Vec::from_slice(alloc, LONG)?;
-    let dashes = Vec::from_elem(alloc, b'-', INPUT_LIMIT)?;
+    let dashes = Vec::from_elem(alloc, b'-', MOST_BYTES)?;
     script.extend_from_slice(&dashes)?;
     script.truncate(length);
     Ok(script)
@@ -222,7 +222,7 @@ fn long_of(rt: &impl Abort, alloc: Global, length: usize) -> Vec<u8> {
 /// The last line has no end. If it got one, the longest of all inputs would be longer than a run reads; so it goes out as it was.
 #[test]
 fn longest_input(rt: HostRuntime) {
-    let script = long_of(&rt, rt.alloc(), INPUT_LIMIT);
+    let script = long_of(&rt, rt.alloc(), MOST_BYTES);
     let came = told(rt.alloc(), &script);
     is_so(&rt, "", came, Ok(Outcome::Unfinished), script.as_slice());
 }
@@ -230,7 +230,7 @@ fn longest_input(rt: HostRuntime) {
 /// One that is shorter by a byte gets its end.
 #[test]
 fn second_longest_input(rt: HostRuntime) {
-    let mut script = long_of(&rt, rt.alloc(), INPUT_LIMIT - 1);
+    let mut script = long_of(&rt, rt.alloc(), MOST_BYTES - 1);
     let came = told(rt.alloc(), &script);
     let is_ended = script.push(b'\n').is_ok();
     is_so(&rt, "", came, Ok(Outcome::Finished), script.as_slice());

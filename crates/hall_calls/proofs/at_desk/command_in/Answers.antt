@@ -1,0 +1,9 @@
+use Rattle.std.proofs.Common.{refl, sym, subst}
+use Rattle.c_handles.specs.declared.inside.Inside.TheVariants.{Desk}
+use Rattle.hall_calls.specs.Calls.{InDesk, DoesNext}
+use Rattle.hall_calls.proofs.at_desk.command_in.Goals as goal
+
+pub returns-in-Desk : goal.returns-in-Desk
+returns-in-Desk c =
+    subst (λ h. InDesk DoesNext h (Desk c.command_at.new.desk) c.args.entry.now c.command_at.new.entry c.command_at.result) (sym c.in-Desk.is)
+    (c.command_at.new.desk, refl, c.command_at.ensures)

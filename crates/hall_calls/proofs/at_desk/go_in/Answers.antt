@@ -1,0 +1,9 @@
+use Rattle.std.proofs.Common.{refl, sym, subst}
+use Rattle.c_handles.specs.declared.inside.Inside.TheVariants.{Desk}
+use Rattle.hall_calls.specs.Calls.{InDesk, GoesOn}
+use Rattle.hall_calls.proofs.at_desk.go_in.Goals as goal
+
+pub returns-in-Desk : goal.returns-in-Desk
+returns-in-Desk c =
+    subst (λ h. InDesk (GoesOn c.args.aim c.args.most) h (Desk c.go_at.new.desk) c.args.turned.now c.go_at.new.turned c.go_at.result) (sym c.in-Desk.is)
+    (c.go_at.new.desk, refl, c.go_at.ensures)

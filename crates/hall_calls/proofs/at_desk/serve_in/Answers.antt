@@ -1,0 +1,10 @@
+use Rattle.std.proofs.Common.{refl, sym, subst}
+use Rattle.desk_user.specs.Serving.{Served}
+use Rattle.c_handles.specs.declared.inside.Inside.TheVariants.{Desk}
+use Rattle.hall_calls.specs.Calls.{InDesk, Drives}
+use Rattle.hall_calls.proofs.at_desk.serve_in.Goals as goal
+
+pub returns-in-Desk : goal.returns-in-Desk
+returns-in-Desk c =
+    subst (λ h. InDesk (Drives Served) h (Desk c.serve_at.new.desk) c.args.turned.now c.serve_at.new.turned c.serve_at.result) (sym c.in-Desk.is)
+    (c.serve_at.new.desk, refl, c.serve_at.ensures)

@@ -1,0 +1,8 @@
+use Rattle.std.proofs.Common.{refl, sym, subst}
+use Rattle.hall_calls.specs.Calls.{InDesk, TellsState}
+use Rattle.hall_calls.proofs.at_desk.state_in.Goals as goal
+
+pub returns-in-Desk : goal.returns-in-Desk
+returns-in-Desk c =
+    subst (λ h. InDesk TellsState h h c.args.state.now c.state_at.new.state c.state_at.result) (sym c.in-Desk.is)
+    (c.in-Desk.desk, refl, c.state_at.ensures)

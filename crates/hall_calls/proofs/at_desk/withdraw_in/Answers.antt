@@ -1,0 +1,9 @@
+use Rattle.std.proofs.Common.{refl, sym, subst}
+use Rattle.c_handles.specs.declared.inside.Inside.TheVariants.{Desk}
+use Rattle.hall_calls.specs.Calls.{InDesk, GivesUp}
+use Rattle.hall_calls.proofs.at_desk.withdraw_in.Goals as goal
+
+pub returns-in-Desk : goal.returns-in-Desk
+returns-in-Desk c =
+    subst (λ h. InDesk GivesUp h (Desk c.withdraw_at.new.desk) tt tt c.withdraw_at.result) (sym c.in-Desk.is)
+    (c.withdraw_at.new.desk, refl, c.withdraw_at.ensures)
