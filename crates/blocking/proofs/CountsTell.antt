@@ -19,7 +19,7 @@ use Rattle.waiting.proofs.Stands.{length_more}
 use Rattle.waiting.proofs.LogsTell.{idle_first}
 use Rattle.blocking.specs.declared.places.Place.{Place}
 use Rattle.blocking.specs.Blocks.{block_of, places}
-use Rattle.blocking.specs.Watching.{AreHeld, IsPlace, block_then, blocks_then, each_by}
+use Rattle.blocking.specs.Watching.{AreHeld, IsPlace, block_then, blocks_then}
 use Rattle.blocking.specs.Owing.{SideView, side_places, all_settled, fresh_sides, FitsSide, SideThen, CountsTell}
 use Rattle.blocking.proofs.Placing.{all_places, neighbour_inside}
 use Rattle.blocking.proofs.Counts.{all_blocks}
@@ -71,5 +71,5 @@ module _ (plan : LabPlan) (rounds : List (List Event)) (e : List Event) (round :
         held = held_now;
         fit = all_fit plan change old new fit zip;
         at_places = all_stay plan change old new zip ∙ at_places;
-        counts = all_counts plan change old new fit zip ∙ (ap (λ l. each_by change l (all_settled plan old)) at_places ∙ blocks_more (all_settled plan old) counts);
+        counts = all_counts plan change (places plan) (all_settled plan old) old new fit zip at_places refl ∙ blocks_more (all_settled plan old) counts;
       }

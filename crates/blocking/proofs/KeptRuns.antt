@@ -10,12 +10,12 @@ use Rattle.waiting.specs.Waits.{RunView}
 use Rattle.waiting.specs.Watching.{Watched, told}
 use Rattle.waiting.proofs.LogsTell.{told_all}
 use Rattle.blocking.specs.Keepers.{IsKeptRun, keepers_of}
-use Rattle.blocking.specs.Tallying.{TallyView, EachThen, SessionsTell, tally_at, put_away, kept_of, no_tally}
+use Rattle.blocking.specs.Tallying.{TallyView, EachThen, SessionsTell, IsPutAway, tally_at, kept_of, no_tally}
 use Rattle.blocking.proofs.Tallies.{put_away_all}
 
 module _ (plan : LabPlan) (limit n : ℕ) (retired : Bool) (before after : List ℕ) (logs : List LogView) (tallies : List TallyView)
     (w : Watched plan limit n retired (SessionsTell plan before after logs tallies)) (away : List TallyView)
-    (each : EachThen (λ _. put_away) tallies away) where
+    (each : EachThen (IsPutAway plan) tallies away) where
   kept_all : map kept_of away ≡ map (keepers_of plan w.rounds) (range_with_len 0 (length plan.jobs))
   kept_all =
       let many = w.told.many in let same = each.many in

@@ -3,13 +3,12 @@ pub mod Placing
 pub mod Counts
 pub mod Known
 pub mod OneMore
-pub mod FromHere
+pub mod Bottles
 pub mod Rises
 pub mod OfSessions
 pub mod Tallies
 pub mod SessionsTell
 pub mod AddUp
-pub mod Clearing
 pub mod Changing
 pub mod KeptRuns
 pub mod Waited

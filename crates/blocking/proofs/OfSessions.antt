@@ -14,7 +14,7 @@ use Rattle.blocking.specs.Waiting.{waits_at}
 use Rattle.blocking.specs.Blocks.{history_after, rounds_where, is_blocked, is_held, block_of}
 use Rattle.blocking.specs.Keepers.{in_session, session_block}
 use Rattle.blocking.specs.Watching.{AreHeld, holds_then, block_then, blocks_then}
-use Rattle.blocking.specs.Tallying.{cleared}
+use Rattle.blocking.specs.Owing.{cleared}
 use Rattle.blocking.proofs.Counts.{counted, holds_when}
 
 -- what no round passes
@@ -96,13 +96,13 @@ module _ (plan : LabPlan) (old new : List (List Event)) (n : ℕ) (old_long : le
       λ i. one_same x (λ e. other (sym (ap (λ k. session (known_in plan (joined new) k) k) here) ∙ e)) i ∷ all_same j other places (All-tail P x places all) i
 
 -- what was counted of another session is cleared, and of this none was
-pub all_cleared : (plan : LabPlan) (rounds : List (List Event)) (t s j : ℕ)
+pub none_counted : (plan : LabPlan) (rounds : List (List Event)) (t s j : ℕ)
     → ((k : ℕ) → k ≤ length rounds → session (known_in plan (history_after rounds k) j) j < s) → (places : List Place) → All (λ (x : Place). x.job ≡ j) places
     → map cleared (map (session_block plan rounds t) places) ≡ map (session_block plan rounds s) places
-all_cleared plan rounds t s j before [] all = refl
-all_cleared plan rounds t s j before (x ∷ places) all =
+none_counted plan rounds t s j before [] all = refl
+none_counted plan rounds t s j before (x ∷ places) all =
     let P : Place → Type 0 = λ x. x.job ≡ j in
     let here : x.job ≡ j = All-head P x places all in
     λ i. none_yet plan rounds s x
     (λ k few. let q = before k few in omega (arith, q, ap (λ m. session (known_in plan (history_after rounds k) m) m) here)) i
-    ∷ all_cleared plan rounds t s j before places (All-tail P x places all) i
+    ∷ none_counted plan rounds t s j before places (All-tail P x places all) i

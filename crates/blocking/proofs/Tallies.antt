@@ -1,10 +1,11 @@
 -- Tallies after rounds.
 use Rattle.std.proofs.Common.{◌≡◌, ℕ, zero, suc, ◌+◌, ◌-◌, ◌==◌, ◌<◌, ◌≤◌, Bool, true, false, if◌then◌else◌, List, [], ◌∷◌, length, map, take, get_or, set, replicate, refl, sym, ap, ◌∙◌, inl, inr, arith, length-set}
-use Rattle.std.specs.List.{All}
+use Rattle.std.specs.List.{All, AllZip, flat_map}
 use Rattle.std.proofs.lemmas.Bool.{cases_eq, eq-eqb}
 use Rattle.std.proofs.lemmas.Bool.Decides.{nat_tests}
-use Rattle.std.proofs.lemmas.List.{get_or-set_same, get_or-set_other, length-map, length-replicate, get_or-replicate}
+use Rattle.std.proofs.lemmas.List.{get_or-set_same, get_or-set_other, length-replicate, get_or-replicate}
 use Rattle.std.proofs.lemmas.List.Elements.{All-weaker}
+use Rattle.std.proofs.lemmas.List.Folds.{flat_map-map}
 use Rattle.std.proofs.lemmas.List.FromFn.{fill_by_all}
 use Rattle.lab_plan.specs.LabPlan.{LabPlan, sessions}
 use Rattle.legal_steps.specs.declared.event.Event.{Event}
@@ -13,6 +14,7 @@ use Rattle.legal_steps.specs.Opening.{idle_seat}
 use Rattle.turns.specs.History.{IsHistory}
 use Rattle.turns.specs.Lists.{StartsWith}
 use Rattle.rounds.specs.Rounds.{known_in}
+use Rattle.block_lines.specs.declared.block.Block.{Block}
 use Rattle.block_lines.specs.Largest.{largest_three}
 use Rattle.block_lines.specs.Ranking.{count_at, ranked_below}
 use Rattle.block_lines.specs.Sums.{rounds_of}
@@ -21,17 +23,16 @@ use Rattle.waiting.specs.Rounds.{joined}
 use Rattle.blocking.specs.declared.places.Place.{Place}
 use Rattle.blocking.specs.Blocks.{history_after, places_of}
 use Rattle.blocking.specs.Keepers.{session_block, keepers, keepers_of}
-use Rattle.blocking.specs.Watching.{AreHeld, blocks_then}
-use Rattle.blocking.specs.Tallying.{TallyView, Tells, FitsTally, fresh_tally, kept_then, put_away, cleared, moved_to, counted_on, tally_then}
+use Rattle.blocking.specs.Watching.{AreHeld, block_then}
+use Rattle.blocking.specs.Owing.{side_places, all_settled, cleared, cleared_side, FitsSide, SideThen}
+use Rattle.blocking.specs.Tallying.{TallyView, Tells, FitsTally, TallyThen, fresh_tally, kept_then, put_away, moved_to}
 use Rattle.blocking.proofs.Placing.{IsPlaceOf, places_of_job, neighbour_inside}
 use Rattle.blocking.proofs.Rises.{rises, within}
-use Rattle.blocking.proofs.OfSessions.{all_more, all_same, all_cleared}
+use Rattle.blocking.proofs.OfSessions.{all_more, all_same, none_counted}
+use Rattle.blocking.proofs.Owing.{counts_of_job, places_are, sides_fit, all_fit, all_stay, all_counts, all_cleared, cleared_fit}
 
-pub fits : (plan : LabPlan) (rounds : List (List Event)) (j : ℕ) (x : TallyView) → Tells plan rounds j x → FitsTally plan j x
-fits plan rounds j x t = record {
-  many = ap length t.blocks ∙ length-map (places_of plan j) (session_block plan rounds x.session);
-  there = let a = t.there in let b = t.many in omega (arith, a, b);
-}
+pub fits : (plan : LabPlan) (rounds : List (List Event)) (j : ℕ) (x : TallyView) → Tells plan rounds j x → FitsTally plan x
+fits plan rounds j x t = record { fit = t.fit; there = let a = t.there in let b = t.many in omega (arith, a, b) }
 
 jobs_are : (plan : LabPlan) (j : ℕ) → j < length plan.jobs → All (λ (x : Place). x.job ≡ j) (places_of plan j)
 jobs_are plan j inside = All-weaker (IsPlaceOf plan j) (λ (x : Place). x.job ≡ j) (λ x is. is.1) (places_of plan j) (places_of_job plan j inside)
@@ -40,8 +41,11 @@ jobs_are plan j inside = All-weaker (IsPlaceOf plan j) (λ (x : Place). x.job �
 
 -- who kept each session, once those of the present one are put away
 module _ (plan : LabPlan) (rounds : List (List Event)) (j : ℕ) (x : TallyView) (t : Tells plan rounds j x) where
+  abbrev most : List Block
+  most = largest_three (all_settled plan x.sides)
+
   present : (b : Bool) → (x.session == 0) ≡ b → (i : ℕ) → i < length (sessions plan j)
-      → get_or (if b then x.kept else set x.kept (x.session - 1) (largest_three x.blocks)) i [] ≡ keepers plan rounds j (i + 1)
+      → get_or (if b then x.kept else set x.kept (x.session - 1) most) i [] ≡ keepers plan rounds j (i + 1)
   present true is i inside =
       let none : x.session ≡ 0 = grind (arith, nat_tests, is) in
       t.kept i inside (λ e. omega (arith, e, none))
@@ -50,26 +54,26 @@ module _ (plan : LabPlan) (rounds : List (List Event)) (j : ℕ) (x : TallyView)
       elim (cases_eq i (x.session - 1)) [
         | inl here ↦
             let number : i + 1 ≡ x.session = omega (arith, here, some) in let long = t.many in
-            ap (λ k. get_or (set x.kept (x.session - 1) (largest_three x.blocks)) k []) here
-            ∙ (get_or-set_same x.kept (x.session - 1) (largest_three x.blocks) [] (omega (arith, here, inside, long))
-            ∙ (ap largest_three t.blocks ∙ ap (keepers plan rounds j) (sym number)))
+            ap (λ k. get_or (set x.kept (x.session - 1) most) k []) here
+            ∙ (get_or-set_same x.kept (x.session - 1) most [] (omega (arith, here, inside, long))
+            ∙ (ap largest_three t.counts ∙ ap (keepers plan rounds j) (sym number)))
         | inr other ↦
-            get_or-set_other x.kept (x.session - 1) i (largest_three x.blocks) [] other
+            get_or-set_other x.kept (x.session - 1) i most [] other
             ∙ t.kept i inside (λ e. other (omega (arith, e)))
       ]
 
-  pub all_kept : (i : ℕ) → i < length (sessions plan j) → get_or (kept_then x.session x.blocks x.kept) i [] ≡ keepers plan rounds j (i + 1)
+  pub all_kept : (i : ℕ) → i < length (sessions plan j) → get_or (kept_then plan x) i [] ≡ keepers plan rounds j (i + 1)
   all_kept i inside = present (x.session == 0) refl i inside
 
-  long : (b : Bool) → length (if b then x.kept else set x.kept (x.session - 1) (largest_three x.blocks)) ≡ length (sessions plan j)
+  long : (b : Bool) → length (if b then x.kept else set x.kept (x.session - 1) most) ≡ length (sessions plan j)
   long true = t.many
-  long false = length-set x.kept (x.session - 1) (largest_three x.blocks) ∙ t.many
+  long false = length-set x.kept (x.session - 1) most ∙ t.many
 
-  pub all_long : length (kept_then x.session x.blocks x.kept) ≡ length (sessions plan j)
+  pub all_long : length (kept_then plan x) ≡ length (sessions plan j)
   all_long = long (x.session == 0)
 
-  pub put_away_all : (put_away x).kept ≡ keepers_of plan rounds j
-  put_away_all = fill_by_all (λ i. keepers plan rounds j (i + 1)) (kept_then x.session x.blocks x.kept) (length (sessions plan j)) [] all_long all_kept
+  pub put_away_all : (put_away plan x).kept ≡ keepers_of plan rounds j
+  put_away_all = fill_by_all (λ i. keepers plan rounds j (i + 1)) (kept_then plan x) (length (sessions plan j)) [] all_long all_kept
 
 -- ---- before the first round
 
@@ -95,11 +99,13 @@ module _ (plan : LabPlan) where
   idle_at (suc m) zero = refl
   idle_at (suc m) (suc j) = idle_at m j
 
-  pub fresh_tells : (j : ℕ) → Tells plan [] j (fresh_tally plan j)
-  fresh_tells j = record {
+  pub fresh_tells : (j : ℕ) → j < length plan.jobs → Tells plan [] j (fresh_tally plan j)
+  fresh_tells j job = record {
     session = sym (idle_at (length plan.jobs) j);
     there = omega arith;
-    blocks = refl;
+    fit = sides_fit plan j job;
+    at_places = places_are plan j;
+    counts = counts_of_job plan j;
     many = length-replicate (length (sessions plan j)) [];
     kept = λ i inside other. get_or-replicate (length (sessions plan j)) i [] [] inside ∙ sym (nobody j (i + 1));
   }
@@ -117,17 +123,21 @@ module _ (plan : LabPlan) (old new : List (List Event)) (n : ℕ) (old_long : le
   -- in the session in which the round ended, and nothing of this round is counted yet
   record Moved (y : TallyView) : Type 0 where
     session : y.session ≡ now
-    blocks : y.blocks ≡ map (session_block plan old now) (places_of plan j)
+    fit : All (FitsSide plan) y.sides
+    at_places : flat_map (side_places plan) y.sides ≡ places_of plan j
+    counts : all_settled plan y.sides ≡ map (session_block plan old now) (places_of plan j)
     many : length y.kept ≡ length (sessions plan j)
     kept : (i : ℕ) → i < length (sessions plan j) → ¬ (i + 1 ≡ now) → get_or y.kept i [] ≡ keepers plan old j (i + 1)
 
   module _ (x : TallyView) (t : Tells plan old j x) where
     moves : (b : Bool) → (x.session == now) ≡ b
-        → Moved (if b then x else record { session = now; blocks = map cleared x.blocks; kept = kept_then x.session x.blocks x.kept })
+        → Moved (if b then x else record { session = now; sides = map (cleared_side plan) x.sides; kept = kept_then plan x })
     moves true is =
         let e : x.session ≡ now = grind (arith, nat_tests, is) in record {
           session = e;
-          blocks = t.blocks ∙ ap (λ s. map (session_block plan old s) (places_of plan j)) e;
+          fit = t.fit;
+          at_places = t.at_places;
+          counts = t.counts ∙ ap (λ s. map (session_block plan old s) (places_of plan j)) e;
           many = t.many;
           kept = λ i there other. t.kept i there (λ q. other (q ∙ e));
         }
@@ -136,9 +146,11 @@ module _ (plan : LabPlan) (old new : List (List Event)) (n : ℕ) (old_long : le
         let was = t.session in let up = rises plan j (joined new) (joined old) grown inside in
         let less : x.session < now = omega (arith, other, was, up) in record {
           session = refl;
-          blocks = ap (map cleared) t.blocks ∙ all_cleared plan old x.session now j
+          fit = cleared_fit plan x.sides t.fit;
+          at_places = flat_map-map (side_places plan) (cleared_side plan) x.sides ∙ t.at_places;
+          counts = all_cleared plan x.sides ∙ (ap (map cleared) t.counts ∙ none_counted plan old x.session now j
               (λ k few. let q = rises plan j (joined old) (history_after old k) (starts k) inside in omega (arith, q, was, less))
-              (places_of plan j) (jobs_are plan j inside);
+              (places_of plan j) (jobs_are plan j inside));
           many = all_long plan old j x t;
           kept = λ i there _. all_kept plan old j x t i there;
         }
@@ -151,16 +163,21 @@ module _ (plan : LabPlan) (old new : List (List Event)) (n : ℕ) (old_long : le
   near = All-weaker (IsPlaceOf plan j) (λ (x : Place). (neighbour plan x.job x.edge < length plan.jobs) × (x.job ≡ j))
       (λ x is. (neighbour_inside plan x is.0, is.1)) (places_of plan j) (places_of_job plan j inside)
 
-  counts : (y : TallyView) → Moved y → Tells plan new j (counted_on plan (joined new) before after j y)
-  counts y m = record {
-    session = m.session;
-    there = let a = m.session in let b = (within plan (joined new) j legal inside).session_there in omega (arith, a, b);
-    blocks = ap (blocks_then plan (joined new) before after (places_of plan j)) m.blocks
-        ∙ (all_more plan old new n old_long new_long same small before after held_before held_after now j refl (places_of plan j) near
-        ∙ ap (λ s. map (session_block plan new s) (places_of plan j)) (sym m.session));
-    many = m.many;
-    kept = λ i there other. m.kept i there (λ e. other (e ∙ sym m.session)) ∙ keepers_same i (λ e. other (e ∙ sym m.session));
-  }
+  tells_on : (y z : TallyView) → Moved y → z.session ≡ now → AllZip (SideThen plan (block_then plan (joined new) before after)) y.sides z.sides
+      → z.kept ≡ y.kept → Tells plan new j z
+  tells_on y z m is zip stays =
+      let change : Place → Block → Block = block_then plan (joined new) before after in record {
+        session = is;
+        there = let b = (within plan (joined new) j legal inside).session_there in omega (arith, is, b);
+        fit = all_fit plan change y.sides z.sides m.fit zip;
+        at_places = all_stay plan change y.sides z.sides zip ∙ m.at_places;
+        counts = all_counts plan change (places_of plan j) (map (session_block plan old now) (places_of plan j)) y.sides z.sides m.fit zip m.at_places m.counts
+            ∙ (all_more plan old new n old_long new_long same small before after held_before held_after now j refl (places_of plan j) near
+            ∙ ap (λ s. map (session_block plan new s) (places_of plan j)) (sym is));
+        many = ap length stays ∙ m.many;
+        kept = λ i there other. ap (λ (l : List (List Block)). get_or l i []) stays
+            ∙ (m.kept i there (λ e. other (e ∙ sym is)) ∙ keepers_same i (λ e. other (e ∙ sym is)));
+      }
 
-  pub tells_then : (x : TallyView) → Tells plan old j x → Tells plan new j (tally_then plan (joined new) before after j now x)
-  tells_then x t = counts (moved_to now x) (moves x t (x.session == now) refl)
+  pub tells_then : (x y : TallyView) → Tells plan old j x → TallyThen plan (joined new) before after now x y → Tells plan new j y
+  tells_then x y t then = tells_on (moved_to plan now x) y (moves x t (x.session == now) refl) then.session then.sides then.kept

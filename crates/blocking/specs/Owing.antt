@@ -19,6 +19,9 @@ pub record SideView : Type 0 where
   pub rounds : ℕ
   pub blocks : List Block
 
+abbrev pub no_side : SideView
+no_side = record { job = 0; edge = 0; wait = record { bottles = 0; held = 0 }; rounds = 0; blocks = [] }
+
 abbrev pub side_places : LabPlan → SideView → List Place
 side_places plan s = places_on plan s.job s.edge
 
@@ -44,6 +47,17 @@ sides_of plan j = map (fresh_side plan j) (edges_of plan j)
 
 abbrev pub fresh_sides : LabPlan → List SideView
 fresh_sides plan = flat_map (sides_of plan) (range_with_len 0 (length plan.jobs))
+
+-- what is owed is counted
+abbrev pub settled_side : LabPlan → SideView → SideView
+settled_side plan s = record s { blocks = settled plan s }
+
+-- nothing is counted, and nothing owed
+abbrev pub cleared : Block → Block
+cleared b = record b { rounds = 0; held = 0 }
+
+abbrev pub cleared_side : LabPlan → SideView → SideView
+cleared_side plan s = record s { rounds = 0; blocks = map cleared (settled plan s) }
 
 -- the first round of another wait
 abbrev pub turned_to : LabPlan → Wait → SideView → SideView

@@ -1,5 +1,6 @@
 -- What is counted of a job's present session, and kept of its earlier ones.
 use Rattle.std.specs.Prelude.{◌≡◌, ℕ, ◌+◌, ◌-◌, ◌<◌, ◌≤◌, ◌==◌, List, [], length, map, replicate, slice_index_or, slice_set, if◌then◌else◌}
+use Rattle.std.specs.List.{All, AllZip, flat_map}
 use Rattle.lab_plan.specs.LabPlan.{LabPlan, sessions}
 use Rattle.legal_steps.specs.declared.event.Event.{Event}
 use Rattle.legal_steps.specs.State.{session}
@@ -9,65 +10,59 @@ use Rattle.block_lines.specs.Largest.{largest_three}
 use Rattle.waiting.specs.Rounds.{joined}
 use Rattle.waiting.specs.Noting.{LogView}
 use Rattle.waiting.specs.Watching.{LogsTell}
-use Rattle.blocking.specs.Blocks.{block_of, places_of}
+use Rattle.blocking.specs.Blocks.{places_of}
 use Rattle.blocking.specs.Keepers.{session_block, keepers}
-use Rattle.blocking.specs.Watching.{AreHeld, blocks_then}
+use Rattle.blocking.specs.Watching.{AreHeld, block_then}
+use Rattle.blocking.specs.Owing.{SideView, side_places, all_settled, sides_of, cleared_side, FitsSide, SideThen}
 
--- the number of the present session, what is counted of it where its job may wait, and who kept each of the others
+-- the number of the present session, what is counted of it at each end of an edge of its job, and who kept each of the others
 pub record TallyView : Type 0 where
   pub session : ℕ
-  pub blocks : List Block
+  pub sides : List SideView
   pub kept : List (List Block)
 
 abbrev pub no_tally : TallyView
-no_tally = record { session = 0; blocks = []; kept = [] }
+no_tally = record { session = 0; sides = []; kept = [] }
 
 abbrev pub tally_at : List TallyView → ℕ → TallyView
 tally_at tallies j = slice_index_or tallies j no_tally
 
 -- before the first round
 abbrev pub fresh_tally : LabPlan → ℕ → TallyView
-fresh_tally plan j = record {
-  session = 0;
-  blocks = map (block_of plan []) (places_of plan j);
-  kept = replicate (length (sessions plan j)) [];
-}
+fresh_tally plan j = record { session = 0; sides = sides_of plan j; kept = replicate (length (sessions plan j)) [] }
 
--- who kept the present session is put to the others
-abbrev pub kept_then : ℕ → List Block → List (List Block) → List (List Block)
-kept_then s blocks kept = if s == 0 then kept else slice_set kept (s - 1) (largest_three blocks)
+-- who kept the present session is put to the others, and nothing is counted
+abbrev pub kept_then : LabPlan → TallyView → List (List Block)
+kept_then plan x = if x.session == 0 then x.kept else slice_set x.kept (x.session - 1) (largest_three (all_settled plan x.sides))
 
-abbrev pub put_away : TallyView → TallyView
-put_away x = record x { kept = kept_then x.session x.blocks x.kept }
-
-abbrev pub cleared : Block → Block
-cleared b = record b { rounds = 0; held = 0 }
+abbrev pub put_away : LabPlan → TallyView → TallyView
+put_away plan x = record x { sides = map (cleared_side plan) x.sides; kept = kept_then plan x }
 
 -- in session s now
-abbrev pub moved_to : ℕ → TallyView → TallyView
-moved_to s x =
-    if x.session == s then x
-    else record { session = s; blocks = map cleared x.blocks; kept = kept_then x.session x.blocks x.kept }
+abbrev pub moved_to : LabPlan → ℕ → TallyView → TallyView
+moved_to plan s x = if x.session == s then x else record { session = s; sides = map (cleared_side plan) x.sides; kept = kept_then plan x }
 
-abbrev pub counted_on : LabPlan → List Event → List ℕ → List ℕ → ℕ → TallyView → TallyView
-counted_on plan h before after j x = record x { blocks = blocks_then plan h before after (places_of plan j) x.blocks }
-
--- of job j, after a round that it ended in session s
-abbrev pub tally_then : LabPlan → List Event → List ℕ → List ℕ → ℕ → ℕ → TallyView → TallyView
-tally_then plan h before after j s x = counted_on plan h before after j (moved_to s x)
-
-pub record FitsTally (plan : LabPlan) (j : ℕ) (x : TallyView) : Type 0 where
-  pub many : length x.blocks ≡ length (places_of plan j)
+pub record FitsTally (plan : LabPlan) (x : TallyView) : Type 0 where
+  pub fit : All (FitsSide plan) x.sides
   pub there : x.session ≤ length x.kept
 
--- each tally is this of what it was
-pub record EachThen (change : ℕ → TallyView → TallyView) (old new : List TallyView) : Type 0 where
-  pub many : length new ≡ length old
-  pub each : (j : ℕ) → j < length old → tally_at new j ≡ change j (tally_at old j)
+-- after a round that was ended in session s
+pub record TallyThen (plan : LabPlan) (h : List Event) (before after : List ℕ) (s : ℕ) (old new : TallyView) : Type 0 where
+  pub session : new.session ≡ s
+  pub sides : AllZip (SideThen plan (block_then plan h before after)) (moved_to plan s old).sides new.sides
+  pub kept : new.kept ≡ (moved_to plan s old).kept
 
--- each job after a round
-abbrev pub noted_then : LabPlan → List Event → List ℕ → List ℕ → ℕ → TallyView → TallyView
-noted_then plan h before after j x = tally_then plan h before after j (session (known_in plan h j) j) x
+-- each tally is this to what it was
+pub record EachThen (R : ℕ → TallyView → TallyView → Type 0) (old new : List TallyView) : Type 0 where
+  pub many : length new ≡ length old
+  pub each : (j : ℕ) → j < length old → R j (tally_at old j) (tally_at new j)
+
+-- job j after a round
+abbrev pub NotedThen : LabPlan → List Event → List ℕ → List ℕ → ℕ → TallyView → TallyView → Type 0
+NotedThen plan h before after j old new = TallyThen plan h before after (session (known_in plan h j) j) old new
+
+abbrev pub IsPutAway : LabPlan → ℕ → TallyView → TallyView → Type 0
+IsPutAway plan j old new = new ≡ put_away plan old
 
 abbrev pub kept_of : TallyView → List (List Block)
 kept_of x = x.kept
@@ -76,7 +71,9 @@ kept_of x = x.kept
 pub record Tells (plan : LabPlan) (rounds : List (List Event)) (j : ℕ) (x : TallyView) : Type 0 where
   pub session : x.session ≡ session (known_in plan (joined rounds) j) j
   pub there : x.session ≤ length (sessions plan j)
-  pub blocks : x.blocks ≡ map (session_block plan rounds x.session) (places_of plan j)
+  pub fit : All (FitsSide plan) x.sides
+  pub at_places : flat_map (side_places plan) x.sides ≡ places_of plan j
+  pub counts : all_settled plan x.sides ≡ map (session_block plan rounds x.session) (places_of plan j)
   pub many : length x.kept ≡ length (sessions plan j)
   pub kept : (i : ℕ) → i < length (sessions plan j) → ¬ (i + 1 ≡ x.session) → slice_index_or x.kept i [] ≡ keepers plan rounds j (i + 1)
 

@@ -73,14 +73,5 @@ each_by f [] blocks = blocks
 each_by f (x ∷ places) [] = []
 each_by f (x ∷ places) (b ∷ blocks) = f x b ∷ each_by f places blocks
 
--- those of the places that stand from this number on
-abbrev pub each_from : (Place → Block → Block) → ℕ → List Place → List Block → List Block
-each_from f zero places blocks = each_by f places blocks
-each_from f (suc n) places [] = []
-each_from f (suc n) places (b ∷ blocks) = b ∷ each_from f n places blocks
-
 abbrev pub blocks_then : LabPlan → List Event → List ℕ → List ℕ → List Place → List Block → List Block
 blocks_then plan h before after places blocks = each_by (block_then plan h before after) places blocks
-
-abbrev pub counted_from : LabPlan → List Event → List ℕ → List ℕ → ℕ → List Place → List Block → List Block
-counted_from plan h before after n places blocks = each_from (block_then plan h before after) n places blocks

@@ -1,14 +1,14 @@
 //! What a round adds to the counts.
-ghost use Rattle.std.specs.Prelude.{◌≡◌, ◌<◌, ◌≤◌, ◌+◌, ℕ, length, map, [], IfOk};
+ghost use Rattle.std.specs.Prelude.{◌≡◌, ◌<◌, ◌≤◌, ℕ, length, map, [], IfOk};
 ghost use Rattle.std.specs.List.{All};
 ghost use Rattle.lab_plan.specs.LabPlan.{edges, bottles};
 ghost use Rattle.lab_plan.specs.InstrumentSets.{holds};
 ghost use Rattle.legal_steps.specs.State.{IsOwn, neighbour};
 ghost use Rattle.legal_steps.specs.Legal.{instrument_of};
 ghost use Rattle.rounds.specs.Company.{first_front};
-ghost use Rattle.blocking.specs.Blocks.{block_of, places_on, places_of};
+ghost use Rattle.blocking.specs.Blocks.{block_of, places_on};
 ghost use Rattle.waiting.specs.Watching.{KnowAll};
-ghost use Rattle.blocking.specs.Watching.{IsPlace, IsWait, held_across, counted_if, waited_then, rounds_then, each_from, counted_from};
+ghost use Rattle.blocking.specs.Watching.{IsPlace, IsWait, held_across, counted_if, waited_then, rounds_then, each_by};
 
 use crate::knowing::{has, instrument_at, next_in, waited_on};
 use crate::places::Place;
@@ -151,77 +151,23 @@ fn counted<A: Allocator>(
     }
 }
 
-/// Counts this many rounds, in each of which a job waits like this on an edge, at the bottles of the edge, which stand from this
-/// place on.
+/// Counts this many rounds, in each of which a job waits like this on an edge, at the bottles of the edge.
 pub(crate) fn count_rounds<A: Allocator>(
     plan: &Plan<A>,
     edge: EdgeNo,
     wait: Wait,
     rounds: u32,
-    from: usize,
     blocks: &mut [Block],
 )
     requires edge { edge < length (edges plan.now) }
-    requires room { from + length (bottles plan.now edge) ≤ length blocks.old }
-    ensures { (j : ℕ) → blocks.new ≡ each_from (rounds_then plan.now wait rounds) from (places_on plan.now j edge) blocks.old }
+    requires room { length (bottles plan.now edge) ≤ length blocks.old }
+    ensures { (j : ℕ) → blocks.new ≡ each_by (rounds_then plan.now wait rounds) (places_on plan.now j edge) blocks.old }
 {
     let bottles = plan.bottles(edge);
     let mut bottle = next_in(wait.bottles, 0, bottles);
     while bottle < bottles {
-        let at = from + bottle as usize;
+        let at = bottle as usize;
         blocks[at] = counted(plan, edge, bottle, wait.held, rounds, blocks[at]);
         bottle = next_in(wait.bottles, bottle + 1, bottles);
     }
-}
-
-/// Counts a round at each bottle of a job's edge for which the job waits, from this place on.
-/// Answers where the bottles of the next edge begin.
-fn count_on<A: Allocator>(
-    plan: &Plan<A>,
-    desks: &[Desk<A>],
-    before: &[u64],
-    after: &[u64],
-    job: JobNo,
-    edge: EdgeNo,
-    from: usize,
-    blocks: &mut [Block],
-) -> usize
-    requires desks { KnowAll plan.now (first_front desks.now) desks.now }
-    requires before { length before.now ≡ length plan.now.jobs }
-    requires after { length after.now ≡ length plan.now.jobs }
-    requires job { job < length plan.now.jobs }
-    requires own { IsOwn plan.now job edge }
-    requires room { from + length (bottles plan.now edge) ≤ length blocks.old }
-    ensures next { result ≡ from + length (bottles plan.now edge) }
-    ensures counted { blocks.new ≡ counted_from plan.now (first_front desks.now) before.now after.now from (places_on plan.now job edge) blocks.old }
-{
-    let wait = wait_on(plan, desks, before, after, job, edge);
-    count_rounds(plan, edge, wait, 1, from, blocks);
-    from + plan.bottles(edge) as usize
-}
-
-/// Counts a round at each place of a job, from this one on. Answers where those of the next job begin.
-pub(crate) fn count_job<A: Allocator>(
-    plan: &Plan<A>,
-    desks: &[Desk<A>],
-    before: &[u64],
-    after: &[u64],
-    job: JobNo,
-    from: usize,
-    blocks: &mut [Block],
-) -> usize
-    requires desks { KnowAll plan.now (first_front desks.now) desks.now }
-    requires before { length before.now ≡ length plan.now.jobs }
-    requires after { length after.now ≡ length plan.now.jobs }
-    requires job { job < length plan.now.jobs }
-    requires room { from + length (places_of plan.now job) ≤ length blocks.old }
-    ensures next { result ≡ from + length (places_of plan.now job) }
-    ensures counted { blocks.new ≡ counted_from plan.now (first_front desks.now) before.now after.now from (places_of plan.now job) blocks.old }
-{
-    let mut at = from;
-    let own = plan.edges_of(job);
-    for edge in own {
-        at = count_on(plan, desks, before, after, job, *edge, at, blocks);
-    }
-    at
 }

@@ -1,12 +1,12 @@
 //! Who kept whom waiting in a run by rounds, counted after each round.
-ghost use Rattle.std.specs.Prelude.{IfOk};
+ghost use Rattle.std.specs.Prelude.{[], IfOk};
 ghost use Rattle.blocking.specs.Blocks.{IsBlockedRun};
 ghost use Rattle.blocking.specs.Owing.{CountsTell};
 
 use crate::holdings::Holdings;
 use crate::run::BlockedRun;
-use crate::sides::{Side, all_counts, count_round, fresh_sides};
-use edge_rule::{Bench, Desk};
+use crate::sides::{Side, count_round, fresh_sides, take_counts};
+use edge_rule::Desk;
 use lab_plan::Plan;
 use std::alloc::{AllocError, Allocator, Global};
 use waiting::{Watcher, watch};
@@ -16,6 +16,19 @@ use waiting::{Watcher, watch};
 struct Counts<A: Allocator = Global> {
     held: Holdings<A>,
     sides: Vec<Side<A>, A>,
+}
+
+impl<A: Allocator> Counts<A> {
+    /// Before the first round.
+    fn new(alloc: A, plan: &Plan<A>) -> Result<Counts<A>, AllocError>
+    where
+        A: Copy,
+        ensures { IfOk result (λ x. CountsTell plan.now x.held.before.items x.held.after.items x.sides.items []) }
+    {
+        let held = Holdings::new(alloc, plan.jobs())?;
+        let sides = fresh_sides(alloc, plan)?;
+        Ok(Counts { held, sides })
+    }
 }
 
 impl<A: Allocator> Watcher<A> for Counts<A> {
@@ -44,14 +57,9 @@ pub fn blocks_by_rounds<A: Allocator + Copy>(
 ) -> Result<BlockedRun<A>, AllocError>
     ensures { IfOk result (IsBlockedRun plan.now limit) }
 {
-    let Ok((bench, mut desks)) = Bench::open(alloc, plan) else {
-        return Err(AllocError);
-    };
-    let held = Holdings::new(alloc, plan.jobs())?;
-    let sides = fresh_sides(alloc, plan)?;
-    let mut counts = Counts { held, sides };
-    let (number, retired) = watch(&bench, desks.as_mut_slice(), &mut counts, limit)?;
-    let blocks = all_counts(alloc, plan, &counts.sides)?;
+    let mut counts = Counts::new(alloc, plan)?;
+    let (number, retired) = watch(alloc, plan, &mut counts, limit)?;
+    let blocks = take_counts(alloc, plan, counts.sides.as_mut_slice())?;
     Ok(BlockedRun {
         number,
         retired,

@@ -1,15 +1,15 @@
 //! Who keeps each session waiting in a run by rounds, counted after each round.
-ghost use Rattle.std.specs.Prelude.{◌≡◌, ◌<◌, ◌≤◌, length, map, IfOk, OnOk, ℕ};
-ghost use Rattle.std.specs.List.{range_with_len};
+ghost use Rattle.std.specs.Prelude.{◌≡◌, length, map, [], IfOk, OnOk};
+ghost use Rattle.std.specs.List.{All, range_with_len};
 ghost use Rattle.rounds.specs.Company.{first_front};
 ghost use Rattle.blocking.specs.Keepers.{IsKeptRun};
 ghost use Rattle.waiting.specs.Watching.{KnowAll};
-ghost use Rattle.blocking.specs.Tallying.{fresh_tally, tally_at, put_away, noted_then, FitsTally, EachThen, SessionsTell};
+ghost use Rattle.blocking.specs.Tallying.{fresh_tally, FitsTally, EachThen, NotedThen, IsPutAway, SessionsTell};
 
 use crate::holdings::Holdings;
 use crate::kept::KeptRun;
 use crate::tally::Tally;
-use edge_rule::{Bench, Desk};
+use edge_rule::Desk;
 use lab_plan::{JobNo, Plan};
 use std::alloc::{AllocError, Allocator, Global};
 use waiting::{JobLog, RoundsRun, Watcher, fresh_logs, watch};
@@ -41,26 +41,27 @@ fn note_tallies<A: Allocator + Copy>(
     requires before { length before.now ≡ length plan.now.jobs }
     requires after { length after.now ≡ length plan.now.jobs }
     requires many { length tallies.old ≡ length plan.now.jobs }
-    requires fit { (j : ℕ) → j < length tallies.old → FitsTally plan.now j (tally_at tallies.old j) }
-    ensures { OnOk result (EachThen (noted_then plan.now (first_front desks.now) before.now after.now) tallies.old tallies.new) }
+    requires fit { All (FitsTally plan.now) tallies.old }
+    ensures { OnOk result (EachThen (NotedThen plan.now (first_front desks.now) before.now after.now) tallies.old tallies.new) }
 {
-    // A plan has 32 jobs at most.
-    let _ = plan.jobs();
     for place in 0..tallies.len() {
         let session = desks[place].phase().session;
-        let job = JobNo(place as u8);
-        tallies[place].note(alloc, plan, desks, before, after, job, session)?;
+        tallies[place].note(alloc, plan, desks, before, after, session)?;
     }
     Ok(())
 }
 
 /// Puts away who kept the present session of each job.
-fn put_all_away<A: Allocator + Copy>(alloc: A, tallies: &mut [Tally<A>]) -> Result<(), AllocError>
-    requires { (j : ℕ) → j < length tallies.old → (tally_at tallies.old j).session ≤ length (tally_at tallies.old j).kept }
-    ensures { OnOk result (EachThen (λ _. put_away) tallies.old tallies.new) }
+fn put_all_away<A: Allocator + Copy>(
+    alloc: A,
+    plan: &Plan<A>,
+    tallies: &mut [Tally<A>],
+) -> Result<(), AllocError>
+    requires { All (FitsTally plan.now) tallies.old }
+    ensures { OnOk result (EachThen (IsPutAway plan.now) tallies.old tallies.new) }
 {
     for place in 0..tallies.len() {
-        tallies[place].put_away(alloc)?;
+        tallies[place].put_away(alloc, plan)?;
     }
     Ok(())
 }
@@ -72,6 +73,24 @@ struct SessionCounts<A: Allocator + Copy = Global> {
     held: Holdings<A>,
     logs: Vec<JobLog<A>, A>,
     tallies: Vec<Tally<A>, A>,
+}
+
+impl<A: Allocator + Copy> SessionCounts<A> {
+    /// Before the first round.
+    fn new(alloc: A, plan: &Plan<A>) -> Result<SessionCounts<A>, AllocError>
+        ensures { IfOk result (λ x. SessionsTell plan.now x.held.before.items x.held.after.items x.logs.items x.tallies.items []) }
+    {
+        let jobs = plan.jobs();
+        let held = Holdings::new(alloc, jobs)?;
+        let logs = fresh_logs(alloc, jobs)?;
+        let tallies = fresh_tallies(alloc, plan)?;
+        Ok(SessionCounts {
+            alloc,
+            held,
+            logs,
+            tallies,
+        })
+    }
 }
 
 impl<A: Allocator + Copy> Watcher<A> for SessionCounts<A> {
@@ -94,7 +113,7 @@ impl<A: Allocator + Copy> Watcher<A> for SessionCounts<A> {
 
 /// The run of a plan by at most this many rounds, by the rounds of its sessions and meals, and with who kept each session waiting.
 ///
-/// Memory is taken for a bench, for each bottle of an edge at either end of it (27776 at most), and for each session and meal
+/// Memory is taken for a bench, for each job's end of an edge, for each bottle there (27776 at most), and for each session and meal
 /// that is begun.
 pub fn keepers_by_rounds<A: Allocator + Copy>(
     alloc: A,
@@ -103,27 +122,15 @@ pub fn keepers_by_rounds<A: Allocator + Copy>(
 ) -> Result<KeptRun<A>, AllocError>
     ensures { IfOk result (IsKeptRun plan.now limit) }
 {
-    let Ok((bench, mut desks)) = Bench::open(alloc, plan) else {
-        return Err(AllocError);
-    };
-    let jobs = plan.jobs();
-    let held = Holdings::new(alloc, jobs)?;
-    let logs = fresh_logs(alloc, jobs)?;
-    let tallies = fresh_tallies(alloc, plan)?;
-    let mut counts = SessionCounts {
-        alloc,
-        held,
-        logs,
-        tallies,
-    };
-    let (number, retired) = watch(&bench, desks.as_mut_slice(), &mut counts, limit)?;
+    let mut counts = SessionCounts::new(alloc, plan)?;
+    let (number, retired) = watch(alloc, plan, &mut counts, limit)?;
     let SessionCounts {
-        alloc,
+        alloc: _,
         held: _,
         logs,
         mut tallies,
     } = counts;
-    put_all_away(alloc, tallies.as_mut_slice())?;
+    put_all_away(alloc, plan, tallies.as_mut_slice())?;
     let run = RoundsRun::new(number, retired, logs);
     Ok(KeptRun { run, tallies })
 }

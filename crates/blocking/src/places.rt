@@ -1,7 +1,7 @@
-//! Where jobs may wait: for each bottle of each of its edges.
+//! Where a job may wait: for each bottle of an edge.
 ghost use Rattle.std.specs.Prelude.{◌≡◌, ◌<◌, ◌++◌, length, OnOk};
-ghost use Rattle.lab_plan.specs.LabPlan.{edges, edges_of};
-ghost use Rattle.blocking.specs.Blocks.{places_on, places_of};
+ghost use Rattle.lab_plan.specs.LabPlan.{edges};
+ghost use Rattle.blocking.specs.Blocks.{places_on};
 
 use lab_plan::{EdgeNo, JobNo, Plan};
 use std::alloc::{AllocError, Allocator};
@@ -26,22 +26,6 @@ pub(crate) fn add_on_edge<A: Allocator, B: Allocator>(
 {
     for bottle in 0..plan.bottles(edge) {
         out.push(Place { job, edge, bottle })?;
-    }
-    Ok(())
-}
-
-/// Adds the places of a job.
-pub(crate) fn add_of_job<A: Allocator, B: Allocator>(
-    out: &mut Vec<Place, A>,
-    plan: &Plan<B>,
-    job: JobNo,
-) -> Result<(), AllocError>
-    requires { job < length plan.now.jobs }
-    ensures { OnOk result (out.new.items ≡ out.old.items ++ places_of plan.now job) }
-{
-    let own = plan.edges_of(job);
-    for edge in own {
-        add_on_edge(out, plan, job, *edge)?;
     }
     Ok(())
 }

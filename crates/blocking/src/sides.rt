@@ -1,11 +1,11 @@
 //! A job's end of an edge, where a round is owed as long as the job waits as in the round before it.
-ghost use Rattle.std.specs.Prelude.{◌≡◌, ◌<◌, ◌++◌, length, IfOk, OnOk};
+ghost use Rattle.std.specs.Prelude.{◌≡◌, ◌<◌, ◌++◌, length, map, IfOk, OnOk};
 ghost use Rattle.std.specs.List.{All, AllZip};
 ghost use Rattle.legal_steps.specs.State.{IsOwn};
 ghost use Rattle.rounds.specs.Company.{first_front};
 ghost use Rattle.waiting.specs.Watching.{KnowAll};
 ghost use Rattle.blocking.specs.Watching.{rounds_then, block_then};
-ghost use Rattle.blocking.specs.Owing.{settled, all_settled, fresh_side, sides_of, fresh_sides, turned_to, FitsSide, SideThen};
+ghost use Rattle.blocking.specs.Owing.{settled, all_settled, fresh_side, sides_of, fresh_sides, cleared, settled_side, cleared_side, turned_to, FitsSide, SideThen};
 
 use crate::counting::{Wait, count_rounds, fresh_blocks, wait_on};
 use crate::places::add_on_edge;
@@ -34,6 +34,26 @@ impl<A: Allocator> Model for Side<A> {
     ghost view = { λ s. record { job = s.job; edge = s.edge; wait = s.wait; rounds = s.rounds; blocks = s.blocks.items } };
 }
 
+/// The place, with no round counted there.
+fn cleared(block: Block) -> Block
+    ensures { result ≡ cleared block }
+{
+    Block {
+        rounds: 0,
+        held: 0,
+        ..block
+    }
+}
+
+/// Counts nothing.
+fn clear(blocks: &mut [Block])
+    ensures { blocks.new ≡ map cleared blocks.old }
+{
+    for at in 0..blocks.len() {
+        blocks[at] = cleared(blocks[at]);
+    }
+}
+
 impl<A: Allocator> Side<A> {
     /// Before the first round.
     fn new(alloc: A, plan: &Plan<A>, job: JobNo, edge: EdgeNo) -> Result<Side<A>, AllocError>
@@ -55,19 +75,26 @@ impl<A: Allocator> Side<A> {
         })
     }
 
-    /// Adds what is owed to the counts, and goes on with the first round of another wait.
-    fn turn_to(&mut self, plan: &Plan<A>, wait: Wait)
+    /// Adds what is owed to the counts.
+    fn settle(&mut self, plan: &Plan<A>)
         requires { FitsSide plan.now self.old }
-        ensures { self.new ≡ turned_to plan.now wait self.old }
+        ensures { self.new ≡ settled_side plan.now self.old }
     {
         count_rounds(
             plan,
             self.edge,
             self.wait,
             self.rounds,
-            0,
             self.blocks.as_mut_slice(),
         );
+    }
+
+    /// Goes on with the first round of another wait.
+    fn turn_to(&mut self, plan: &Plan<A>, wait: Wait)
+        requires { FitsSide plan.now self.old }
+        ensures { self.new ≡ turned_to plan.now wait self.old }
+    {
+        self.settle(plan);
         self.wait = wait;
         self.rounds = 1;
     }
@@ -96,27 +123,22 @@ impl<A: Allocator> Side<A> {
         self.count(plan, wait);
     }
 
-    /// Adds its counts, with what is owed to them.
-    fn add_to(&self, plan: &Plan<A>, out: &mut Vec<Block, A>) -> Result<(), AllocError>
-        requires { FitsSide plan.now self.now }
-        ensures { OnOk result (out.new.items ≡ out.old.items ++ settled plan.now self.now) }
+    /// Adds its counts, with what is owed to them, and counts nothing from now on.
+    fn take(&mut self, plan: &Plan<A>, out: &mut Vec<Block, A>) -> Result<(), AllocError>
+        requires { FitsSide plan.now self.old }
+        ensures counts { OnOk result (out.new.items ≡ out.old.items ++ settled plan.now self.old) }
+        ensures cleared { OnOk result (self.new ≡ cleared_side plan.now self.old) }
     {
-        let from = out.len();
+        self.settle(plan);
         out.extend_from_slice(&self.blocks)?;
-        count_rounds(
-            plan,
-            self.edge,
-            self.wait,
-            self.rounds,
-            from,
-            out.as_mut_slice(),
-        );
+        clear(self.blocks.as_mut_slice());
+        self.rounds = 0;
         Ok(())
     }
 }
 
 /// Adds a job's ends of its edges.
-fn add_sides<A: Allocator + Copy>(
+pub(crate) fn add_sides<A: Allocator + Copy>(
     out: &mut Vec<Side<A>, A>,
     alloc: A,
     plan: &Plan<A>,
@@ -165,18 +187,19 @@ pub(crate) fn count_round<A: Allocator>(
     }
 }
 
-/// The counts of all places, with what is owed to them.
-pub(crate) fn all_counts<A: Allocator>(
+/// The counts of all places, with what is owed to them. Nothing is counted from now on.
+pub(crate) fn take_counts<A: Allocator>(
     alloc: A,
     plan: &Plan<A>,
-    sides: &[Side<A>],
+    sides: &mut [Side<A>],
 ) -> Result<Vec<Block, A>, AllocError>
-    requires { All (FitsSide plan.now) sides.now }
-    ensures { IfOk result (λ blocks. blocks.items ≡ all_settled plan.now sides.now) }
+    requires { All (FitsSide plan.now) sides.old }
+    ensures counts { IfOk result (λ blocks. blocks.items ≡ all_settled plan.now sides.old) }
+    ensures cleared { OnOk result (sides.new ≡ map (cleared_side plan.now) sides.old) }
 {
     let mut blocks = Vec::new(alloc);
-    for side in sides {
-        side.add_to(plan, &mut blocks)?;
+    for place in 0..sides.len() {
+        sides[place].take(plan, &mut blocks)?;
     }
     Ok(blocks)
 }

@@ -1,13 +1,11 @@
 //! What a run by rounds is measured by.
-ghost use Rattle.std.specs.Prelude.{◌≡◌, ◌≤◌, ◌*◌, length, IfOk};
-ghost use Rattle.std.specs.List.{sum_by};
+ghost use Rattle.std.specs.Prelude.{◌≡◌, ◌≤◌, length, IfOk};
 ghost use Rattle.lab_plan.specs.Limits.{most_jobs};
-ghost use Rattle.waiting.specs.LongestWait.{waited};
 ghost use Rattle.measured_orders.specs.Measures.{IsMeasureOf, is_better, takes_less, waited_in_all};
 
 use lab_plan::{JobNo, Plan};
 use std::alloc::{AllocError, Allocator};
-use waiting::{RoundsRun, Session, run_by_rounds};
+use waiting::{RoundsRun, run_by_rounds, total_wait};
 
 /// Whether a run ended, how many rounds it took, and how many its sessions waited, all together.
 #[derive(Clone, Copy, PartialEq, Eq, Debug)]
@@ -38,30 +36,6 @@ pub fn is_better(a: Measure, b: Measure) -> bool
     }
 }
 
-/// How many rounds a session waited, in a run whose last round this is.
-#[tactic(auto, unfolding(waiting::specs::LongestWait::waited))]
-fn waited(last: u32, session: &Session) -> u32
-    ensures { result ≡ waited last session.now }
-{
-    let until = match (session.drinks, session.given_up) {
-        (Some(drinks), _) => drinks,
-        (None, Some(given_up)) => given_up,
-        (None, None) => last,
-    };
-    until.saturating_sub(session.thirsty)
-}
-
-/// How many rounds some sessions waited, all together.
-fn total(last: u32, sessions: &[Session]) -> u128
-    ensures total { result ≡ sum_by (waited last) sessions.now }
-    ensures most { result ≤ length sessions.now * 4294967295 }
-{
-    match sessions {
-        [] => 0,
-        [session, later @ ..] => u128::from(waited(last, session)) + total(last, later),
-    }
-}
-
 /// How many rounds the sessions of so many jobs waited, all together.
 fn waited_in_all<A: Allocator>(run: &RoundsRun<A>, jobs: usize) -> u128
     requires few { jobs ≤ most_jobs }
@@ -70,7 +44,7 @@ fn waited_in_all<A: Allocator>(run: &RoundsRun<A>, jobs: usize) -> u128
 {
     let mut waited = 0;
     for job in 0..jobs {
-        waited += total(run.rounds(), run.sessions(JobNo(job as u8)));
+        waited += total_wait(run.rounds(), run.sessions(JobNo(job as u8)));
     }
     waited
 }

@@ -4,6 +4,7 @@ use lab_program::{Outcome, RunFault};
 use lab_views::View;
 use script_reader::{ScriptCause, ScriptFault};
 use std::alloc::Global;
+use waiting::{Session, total_wait};
 
 fn told(alloc: Global, input: &str, limit: u32) -> (Vec<u8>, Result<Outcome, RunFault>) {
     of_script_seen(alloc, View::Waits { limit }, input.as_bytes())
@@ -79,4 +80,19 @@ fn no_script_has_no_waits(rt: HostRuntime) {
     };
     let came = told(rt.alloc(), "lab 1\nsession\n", 7);
     is_so(&rt, "", came, Err(RunFault::Script(fault)), b"");
+}
+
+/// One drank three rounds after it was thirsty, one was given up after two, and one has waited for the last six.
+#[test]
+fn waits_add_up(rt: HostRuntime) {
+    let drank = Session {
+        drinks: Some(4),
+        ..Session::begun(1)
+    };
+    let given_up = Session {
+        given_up: Some(4),
+        ..Session::begun(2)
+    };
+    let waited = total_wait(9, &[drank, given_up, Session::begun(3)]);
+    assert_eq!(rt; waited, 11u128);
 }

@@ -7,7 +7,7 @@ ghost use Rattle.waiting.specs.Watching.{LogsTell, logs_then};
 use crate::job_log::JobLog;
 use crate::run::RoundsRun;
 use crate::watcher::{Watcher, watch};
-use edge_rule::{Bench, Desk};
+use edge_rule::Desk;
 use lab_plan::Plan;
 use std::alloc::{AllocError, Allocator};
 
@@ -60,11 +60,8 @@ pub fn run_by_rounds<A: Allocator + Copy>(
 ) -> Result<RoundsRun<A>, AllocError>
     ensures { IfOk result (IsRunOf plan.now limit) }
 {
-    let Ok((bench, mut desks)) = Bench::open(alloc, plan) else {
-        return Err(AllocError);
-    };
     let mut logs = fresh_logs(alloc, plan.jobs())?;
-    let (number, retired) = watch(&bench, desks.as_mut_slice(), &mut logs, limit)?;
+    let (number, retired) = watch(alloc, plan, &mut logs, limit)?;
     Ok(RoundsRun {
         number,
         retired,

@@ -21,4 +21,5 @@ pub use job_log::JobLog;
 pub use run::RoundsRun;
 pub use session::{Meal, Session};
 pub use text::{add_outcome, add_rounds, add_waits};
+pub use waits::total_wait;
 pub use watcher::{Watcher, watch};

@@ -8,7 +8,7 @@ ghost use Rattle.waiting.specs.Text.{longest_line, chain_name, chain_line, jobs,
 use crate::longest::longest_below;
 use crate::run::RoundsRun;
 use crate::session::Session;
-use crate::waits::{Longest, longest_of, total};
+use crate::waits::{Longest, longest_of, total_wait};
 use itoa::Buffer;
 use lab_plan::{JobNo, Plan};
 use std::alloc::{AllocError, Allocator};
@@ -129,7 +129,7 @@ fn add_job<A: Allocator>(
 {
     out.extend_from_slice(b"job ")?;
     out.extend_from_slice(name)?;
-    add_count(out, b" waited ", total(last, sessions))?;
+    add_count(out, b" waited ", total_wait(last, sessions))?;
     add_number(out, b" longest ", longest_of(last, sessions))?;
     out.extend_from_slice(b"\n")
 }

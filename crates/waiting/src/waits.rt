@@ -34,13 +34,13 @@ fn waited(last: u32, session: &Session) -> u32
 }
 
 /// How many rounds some sessions waited, all together.
-pub(crate) fn total(last: u32, sessions: &[Session]) -> u128
+pub fn total_wait(last: u32, sessions: &[Session]) -> u128
     ensures total { result ≡ sum_by (waited last) sessions.now }
     ensures most { result ≤ length sessions.now * 4294967295 }
 {
     match sessions {
         [] => 0,
-        [session, later @ ..] => u128::from(waited(last, session)) + total(last, later),
+        [session, later @ ..] => u128::from(waited(last, session)) + total_wait(last, later),
     }
 }
 

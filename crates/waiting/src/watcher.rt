@@ -30,7 +30,7 @@ fn is_all_retired(ended: Ended) -> bool
 
 /// Drives the desks by at most this many rounds, and has each noted. Answers how many were done, and whether all jobs are
 /// retired then.
-pub fn watch<A: Allocator, W: Watcher<A>>(
+fn drive<A: Allocator, W: Watcher<A>>(
     bench: &Bench<A>,
     desks: &mut [Desk<A>],
     watcher: &mut W,
@@ -49,4 +49,21 @@ pub fn watch<A: Allocator, W: Watcher<A>>(
     }
     let (ended, _) = rounds(bench, desks, 0);
     Ok((limit, is_all_retired(ended)))
+}
+
+/// Opens a bench for the plan, drives it by at most this many rounds, and has each noted. Answers how many were done, and whether
+/// all jobs are retired then.
+pub fn watch<A: Allocator + Copy, W: Watcher<A>>(
+    alloc: A,
+    plan: &Plan<A>,
+    watcher: &mut W,
+    limit: u32,
+) -> Result<(u32, bool), AllocError>
+    requires { W.tells plan.now watcher.old [] }
+    ensures { IfOk result (λ done. Watched plan.now limit done.0 done.1 (W.tells plan.now watcher.new)) }
+{
+    let Ok((bench, mut desks)) = Bench::open(alloc, plan) else {
+        return Err(AllocError);
+    };
+    drive(&bench, desks.as_mut_slice(), watcher, limit)
 }

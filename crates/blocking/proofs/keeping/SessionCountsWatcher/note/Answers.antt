@@ -1,10 +1,11 @@
-use Rattle.std.proofs.Common.{◌≡◌, ◌<◌, ◌∷◌, ◌++◌, List, [], ℕ, length, sym, ap, ◌∙◌, subst, arith}
+use Rattle.std.proofs.Common.{◌≡◌, ◌∷◌, ◌++◌, List, [], ℕ, length, sym, ap, ◌∙◌, subst, arith}
+use Rattle.std.proofs.lemmas.List.Elements.{All-same}
 use Rattle.rounds.specs.Company.{first_front}
 use Rattle.waiting.specs.Rounds.{joined}
 use Rattle.waiting.specs.Noting.{LogView}
 use Rattle.waiting.proofs.Logs.{written_back}
 use Rattle.blocking.specs.Watching.{AreHeld}
-use Rattle.blocking.specs.Tallying.{TallyView, FitsTally, EachThen, SessionsTell, tally_at, noted_then}
+use Rattle.blocking.specs.Tallying.{TallyView, FitsTally, EachThen, NotedThen, SessionsTell}
 use Rattle.blocking.proofs.SessionsTell.{tell_more, all_fit}
 use Rattle.blocking.proofs.keeping.SessionCountsWatcher.note.Goals as goal
 
@@ -32,7 +33,7 @@ note_tallies-requires-clause-many g c = ap length c.as_mut_slice.ensures.value �
 pub note_tallies-requires-clause-fit : goal.note_tallies-requires-clause-fit
 note_tallies-requires-clause-fit g c =
     let m = c.requires in
-    subst (λ (l : List TallyView). (j : ℕ) → j < length l → FitsTally c.args.plan.now j (tally_at l j)) (sym c.as_mut_slice.ensures.value)
+    All-same (FitsTally c.args.plan.now) c.as_mut_slice.result.now c.args.self.now.tallies.items c.as_mut_slice.ensures.value
     (all_fit c.args.plan.now m.rounds c.args.self.now.tallies.items m.told.many m.told.tell)
 
 pub returns : goal.returns
@@ -47,6 +48,6 @@ returns g c = λ rounds events more tells.
     (tell_more plan rounds events c.args.round desks more (let fits = c.ranges.round.fits in omega (arith, fits)) before after
     (subst (AreHeld plan (joined rounds)) (sym was) tells.held) c.look.ensures.after old new logs
     (c.in_ok-note.ensures rounds events more tells.logs_tell) tells.many tells.tell
-    (subst (λ (z : List ℕ × List ℕ × List TallyView). EachThen (noted_then plan (first_front desks) z.0 z.1) z.2 new)
+    (subst (λ (z : List ℕ × List ℕ × List TallyView). EachThen (NotedThen plan (first_front desks) z.0 z.1) z.2 new)
     (λ i. (c.held_before.ensures i, c.held_after.ensures i, c.as_mut_slice.ensures.value i)) c.in_ok-note_tallies.ensures)
     (ap length was ∙ tells.held.many))

@@ -1,6 +1,6 @@
 use Rattle.std.proofs.Common.{◌≡◌, ◌++◌, map, take, drop}
-use Rattle.blocking.specs.Tallying.{cleared}
-use Rattle.blocking.proofs.tally.clear.Given as goal
+use Rattle.blocking.specs.Owing.{cleared}
+use Rattle.blocking.proofs.sides.clear.Given as goal
 
 -- so many are cleared
 abbrev pub invariant-loop-at : goal.invariant-loop-at

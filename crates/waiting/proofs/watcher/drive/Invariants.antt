@@ -1,5 +1,5 @@
 use Rattle.waiting.proofs.Stands.{Follows}
-use Rattle.waiting.proofs.watcher.watch.Given as goal
+use Rattle.waiting.proofs.watcher.drive.Given as goal
 
 -- so many rounds were done
 abbrev pub invariant-loop-number : goal.invariant-loop-number
