@@ -4,7 +4,7 @@ use crate::steps::open;
 use crate::waits::{go_on, owns, take};
 use interleaving::{Dining, Drinking, EdgeState, End, JobState, World};
 use lab_plan::{EdgeNo, JobNo, Plan};
-use settling::{Due, due_moves, rest, visit, visit_all};
+use settling::{Due, due_moves, has_still_nothing_to_do, rest, stays_marked, visit, visit_all};
 use std::alloc::Allocator;
 use std::process::Abort;
 
@@ -208,4 +208,11 @@ fn follow<T: Allocator + Copy>(rt: &impl Abort, alloc: T, plan: &Plan<T>) {
 fn visits_do_what_is_due(rt: HostRuntime) {
     let plan = plan_of(&rt, rt.alloc(), TWO);
     follow(&rt, rt.alloc(), &plan);
+}
+
+/// The laws are contracts: what is called does nothing.
+#[test]
+fn laws_of_longer_plans() {
+    has_still_nothing_to_do();
+    stays_marked();
 }

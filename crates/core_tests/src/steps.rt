@@ -9,6 +9,7 @@ use instrument_log::Entry;
 use interleaving::{Counts, EdgeState, End, Event, JobState, NotLegal, StepLine, World};
 use lab_plan::{EdgeNo, InstrumentNo, JobNo, Plan};
 use phases::{Allowed, allows};
+use resuming::look_round;
 use std::alloc::Allocator;
 use std::process::Abort;
 
@@ -143,6 +144,8 @@ enum Way<'a> {
     Then(&'a [Do], &'a Event),
     /// The same, and then this many of the steps that a number codes.
     List(&'a [Do], usize, usize),
+    /// Each job looks at each of its edges.
+    Looks,
 }
 
 /// Whether the numbers of all the steps are the plan's.
@@ -194,6 +197,10 @@ fn goes<T: Allocator>(rt: &impl Abort, world: &mut World<T>, way: Way) -> Replay
             let answer = walk(rt, world, steps);
             try_list(rt, world, code, length);
             answer
+        }
+        Way::Looks => {
+            look_round(world);
+            Ok(0)
         }
     }
 }

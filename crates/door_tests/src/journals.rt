@@ -38,7 +38,7 @@ const WRONG_SUM: &[u8] =
     b"lab 2\njob a\nsession\nscale add 1\nscale read\nend\njob b\nsession patience 1\nscale set 5\nend\nsteps\n#steps\nlook a b\nthirst a\ndrink a\n#sum ce94601336c7a604\n";
 
 /// Job a has a command in hand.
-const IN_HAND: &[u8] =
+pub(crate) const IN_HAND: &[u8] =
     b"lab 2\njob a\nsession\nscale add 1\nscale read\nend\njob b\nsession patience 1\nscale set 5\nend\nsteps\nlook a b\nthirst a\ndrink a\nreach a\n";
 
 fn opened(rt: &impl Abort, alloc: Global) -> Lab {

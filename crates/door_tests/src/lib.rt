@@ -22,6 +22,8 @@ mod live;
 #[cfg(test)]
 mod more;
 #[cfg(test)]
+mod reached;
+#[cfg(test)]
 mod resumed_halls;
 #[cfg(test)]
 mod rows;

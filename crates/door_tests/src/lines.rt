@@ -1,4 +1,6 @@
-//! The line of those who wait outside, worked by hand; and the laws of it and of longer plans, which say something of every call and do nothing.
+//! The line of those who wait outside, worked by hand; and the laws of it, of longer plans and of journals' texts, which say
+//! something of every call and do nothing.
+use journal_texts::laws as journal_laws;
 use late_thirst::laws::is_passed_at_most;
 use late_thirst::{Asker, Line};
 use live_lab::laws::settles_are_waited;
@@ -63,4 +65,14 @@ fn laws(_rt: HostRuntime) {
     longer_plans::longer_by_one();
     longer_plans::taken_is_longer();
     longer_plans::needs_more_room();
+}
+
+/// Those of journals' texts.
+#[test]
+fn laws_of_journals(_rt: HostRuntime) {
+    journal_laws::files_are_read();
+    journal_laws::beginnings_are_read();
+    journal_laws::texts_are_pieces();
+    journal_laws::sessions_are_read_back();
+    journal_laws::texts_stay();
 }

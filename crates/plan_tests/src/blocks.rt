@@ -50,17 +50,21 @@ fn told(rt: &impl Abort, alloc: Global, plan: &Plan, blocks: &[Block]) -> Vec<u8
     out
 }
 
-#[test]
-fn blocks_largest_first(rt: HostRuntime) {
-    let plan = plan_of(&rt, rt.alloc(), TWO.as_bytes());
+fn check_told(rt: &impl Abort, alloc: Global, plan: &Plan) {
     let blocks = [
         block(A, B, SCALE, (2, 1)),
         block(B, A, SCALE, (7, 3)),
         block(B, A, LAMP, (2, 0)),
         block(A, B, LAMP, (0, 0)),
     ];
-    let text = told(&rt, rt.alloc(), &plan, &blocks);
-    check(&rt, "blocks", text.as_slice(), WANTED.as_bytes());
+    let text = told(rt, alloc, plan, &blocks);
+    check(rt, "blocks", text.as_slice(), WANTED.as_bytes());
+}
+
+#[test]
+fn blocks_largest_first(rt: HostRuntime) {
+    let plan = plan_of(&rt, rt.alloc(), TWO.as_bytes());
+    check_told(&rt, rt.alloc(), &plan);
 }
 
 fn check_largest(rt: &impl Abort, alloc: Global, blocks: &[Block], wanted: &[Block]) {

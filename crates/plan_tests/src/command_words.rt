@@ -56,26 +56,26 @@ fn told(alloc: Global, words: &[&str]) -> Result<String, AllocError> {
     }
 }
 
+/// Words, and what comes of them.
+const WORDS: [(&[&str], &str); 7] = [
+    (&["prog", "run", "7"], "run 7"),
+    (&["prog", "stop"], "stop"),
+    (&["prog"], "refused: a word is missing"),
+    (&["prog", "walk"], "refused: unrecognized subcommand 'walk'"),
+    (
+        &["prog", "run"],
+        "refused: the following required arguments were not provided: <N>",
+    ),
+    (
+        &["prog", "run", "10"],
+        "refused: invalid value '10' for '<N>': 10 is not in 1..=9",
+    ),
+    (&["prog", "--help"], HELP),
+];
+
 #[test]
 fn words_of_a_program(rt: HostRuntime) -> Result<(), Fail> {
-    for (words, wanted) in [
-        (["prog", "run", "7"].as_slice(), "run 7"),
-        (["prog", "stop"].as_slice(), "stop"),
-        (["prog"].as_slice(), "refused: a word is missing"),
-        (
-            ["prog", "walk"].as_slice(),
-            "refused: unrecognized subcommand 'walk'",
-        ),
-        (
-            ["prog", "run"].as_slice(),
-            "refused: the following required arguments were not provided: <N>",
-        ),
-        (
-            ["prog", "run", "10"].as_slice(),
-            "refused: invalid value '10' for '<N>': 10 is not in 1..=9",
-        ),
-        (["prog", "--help"].as_slice(), HELP),
-    ] {
+    for &(words, wanted) in &WORDS {
         let came = told(rt.alloc(), words)?;
         check(&rt, "words", came.as_bytes(), wanted.as_bytes());
     }
@@ -154,7 +154,7 @@ const GIVEN: [(&[&[u8]], &str); 5] = [
 
 #[test]
 fn all_words_are_given(rt: HostRuntime) -> Result<(), Fail> {
-    for (words, wanted) in GIVEN {
+    for &(words, wanted) in &GIVEN {
         let came = given_of(rt.alloc(), words)?;
         check(&rt, "words", came.as_bytes(), wanted.as_bytes());
     }

@@ -300,24 +300,77 @@ fn plan_of_version_two(rt: HostRuntime) {
 const SHARED: &str =
     "lab 1\njob a\nsession\nx read\ny read\nend\njob b\nsession\ny read\nx read\nend\njob c\n";
 
+/// A step by the numbers of its jobs, its edge and its bottles, as tables have it: of steps each row would be proved where a table is named.
+#[derive(Clone, Copy)]
+enum Do {
+    Look(u8, u16),
+    AskFork(u8, u16),
+    GiveFork(u8, u16),
+    Soil(u8, u16),
+    AskBottles(u8, u16, u32),
+    GiveBottles(u8, u16, u32),
+    Thirst(u8),
+    Hunger(u8),
+    Sit(u8),
+    Leave(u8),
+    Drink(u8),
+    Reach(u8),
+    Act(u8),
+    Quit(u8),
+    Retire(u8),
+    Glance(u8, u8),
+    Withdraw(u8),
+}
+
+fn step_of(it: Do) -> Step {
+    match it {
+        Do::Look(job, edge) => Step::Look(JobNo(job), EdgeNo(edge)),
+        Do::AskFork(job, edge) => Step::AskFork(JobNo(job), EdgeNo(edge)),
+        Do::GiveFork(job, edge) => Step::GiveFork(JobNo(job), EdgeNo(edge)),
+        Do::Soil(job, edge) => Step::Soil(JobNo(job), EdgeNo(edge)),
+        Do::AskBottles(job, edge, set) => Step::AskBottles(JobNo(job), EdgeNo(edge), set),
+        Do::GiveBottles(job, edge, set) => Step::GiveBottles(JobNo(job), EdgeNo(edge), set),
+        Do::Thirst(job) => Step::Thirst(JobNo(job)),
+        Do::Hunger(job) => Step::Hunger(JobNo(job)),
+        Do::Sit(job) => Step::Sit(JobNo(job)),
+        Do::Leave(job) => Step::Leave(JobNo(job)),
+        Do::Drink(job) => Step::Drink(JobNo(job)),
+        Do::Reach(job) => Step::Reach(JobNo(job)),
+        Do::Act(job) => Step::Act(JobNo(job)),
+        Do::Quit(job) => Step::Quit(JobNo(job)),
+        Do::Retire(job) => Step::Retire(JobNo(job)),
+        Do::Glance(job, other) => Step::Glance(JobNo(job), JobNo(other)),
+        Do::Withdraw(job) => Step::Withdraw(JobNo(job)),
+    }
+}
+
+/// Just these steps came, each in its line.
+fn check_lines(rt: &impl Abort, parts: &[&str], came: &[StepLine], wanted: &[(usize, Do)]) {
+    check(rt, parts, came.len(), wanted.len());
+    for (step, &(line, it)) in came.iter().zip(wanted) {
+        check(rt, parts, (step.line, step.step), (line, step_of(it)));
+    }
+}
+
 /// The text of these parts has just these steps.
 fn check_steps<A: Allocator + Copy>(
     rt: &impl Abort,
     alloc: A,
     parts: &[&str],
-    wanted: &[StepLine],
+    wanted: &[(usize, Do)],
 ) {
     let text = joined(rt, alloc, parts);
     match read_steps(alloc, &text) {
         Ok((plan, steps)) => {
             check(rt, parts, plan.jobs(), 3);
-            check(rt, parts, steps.as_slice(), wanted);
+            check_lines(rt, parts, &steps, wanted);
         }
         Err(fault) => check(rt, parts, Some(fault), None),
     }
 }
 
-const AB: EdgeNo = EdgeNo(0);
+/// The edge of jobs a and b.
+const AB: u16 = 0;
 
 const STEPS_TEXT: &str =
     "steps\n\nlook a b\n# c\n askbottles b a y x\ngivebottles a b y\r\nglance c a\nwithdraw c\nthirst b";
@@ -327,59 +380,41 @@ fn steps_of_a_text(rt: HostRuntime) {
     check_steps(&rt, rt.alloc(), &[SHARED, STEPS_TEXT], &STEPS);
 }
 
-const STEPS: [StepLine; 6] = [
-    StepLine {
-        line: 15,
-        step: Step::Look(JobNo(0), AB),
-    },
-    StepLine {
-        line: 17,
-        step: Step::AskBottles(JobNo(1), AB, 3),
-    },
-    StepLine {
-        line: 18,
-        step: Step::GiveBottles(JobNo(0), AB, 2),
-    },
-    StepLine {
-        line: 19,
-        step: Step::Glance(JobNo(2), JobNo(0)),
-    },
-    StepLine {
-        line: 20,
-        step: Step::Withdraw(JobNo(2)),
-    },
-    StepLine {
-        line: 21,
-        step: Step::Thirst(JobNo(1)),
-    },
+/// The line of each, and what it says.
+const STEPS: [(usize, Do); 6] = [
+    (15, Do::Look(0, AB)),
+    (17, Do::AskBottles(1, AB, 3)),
+    (18, Do::GiveBottles(0, AB, 2)),
+    (19, Do::Glance(2, 0)),
+    (20, Do::Withdraw(2)),
+    (21, Do::Thirst(1)),
 ];
 
 /// Each word of a step, by its event.
-const WORDS: [(&str, Step); 17] = [
-    ("look a b", Step::Look(JobNo(0), AB)),
-    ("askfork a b", Step::AskFork(JobNo(0), AB)),
-    ("givefork a b", Step::GiveFork(JobNo(0), AB)),
-    ("soil a b", Step::Soil(JobNo(0), AB)),
-    ("askbottles a b x", Step::AskBottles(JobNo(0), AB, 1)),
-    ("givebottles a b x", Step::GiveBottles(JobNo(0), AB, 1)),
-    ("thirst a", Step::Thirst(JobNo(0))),
-    ("hunger a", Step::Hunger(JobNo(0))),
-    ("sit a", Step::Sit(JobNo(0))),
-    ("leave a", Step::Leave(JobNo(0))),
-    ("drink a", Step::Drink(JobNo(0))),
-    ("reach a", Step::Reach(JobNo(0))),
-    ("act a", Step::Act(JobNo(0))),
-    ("quit a", Step::Quit(JobNo(0))),
-    ("retire a", Step::Retire(JobNo(0))),
-    ("glance a b", Step::Glance(JobNo(0), JobNo(1))),
-    ("withdraw a", Step::Withdraw(JobNo(0))),
+const WORDS: [(&str, Do); 17] = [
+    ("look a b", Do::Look(0, AB)),
+    ("askfork a b", Do::AskFork(0, AB)),
+    ("givefork a b", Do::GiveFork(0, AB)),
+    ("soil a b", Do::Soil(0, AB)),
+    ("askbottles a b x", Do::AskBottles(0, AB, 1)),
+    ("givebottles a b x", Do::GiveBottles(0, AB, 1)),
+    ("thirst a", Do::Thirst(0)),
+    ("hunger a", Do::Hunger(0)),
+    ("sit a", Do::Sit(0)),
+    ("leave a", Do::Leave(0)),
+    ("drink a", Do::Drink(0)),
+    ("reach a", Do::Reach(0)),
+    ("act a", Do::Act(0)),
+    ("quit a", Do::Quit(0)),
+    ("retire a", Do::Retire(0)),
+    ("glance a b", Do::Glance(0, 1)),
+    ("withdraw a", Do::Withdraw(0)),
 ];
 
 #[test]
 fn words_of_steps(rt: HostRuntime) {
-    for &(word, step) in &WORDS {
-        let wanted = [StepLine { line: 14, step }];
-        check_steps(&rt, rt.alloc(), &[SHARED, "steps\n", word], &wanted);
+    for &(word, it) in &WORDS {
+        check_steps(&rt, rt.alloc(), &[SHARED, "steps\n", word], &[(14, it)]);
     }
 }
 
@@ -419,7 +454,7 @@ const BAD_STEPS: [&str; 19] = [
 
 #[test]
 fn bad_steps(rt: HostRuntime) {
-    for word in BAD_STEPS {
+    for &word in &BAD_STEPS {
         let parts = [SHARED, "steps\nthirst a\n", word, "\n"];
         let came = fault_of_steps(&rt, rt.alloc(), &parts);
         check(&rt, word, came, Some((15, BadStep)));

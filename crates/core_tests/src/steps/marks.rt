@@ -1,6 +1,7 @@
 //! The marks of jobs after the steps of the stale mark.
-use super::{BOTH, BOTTLE, FORK, Marks, NONE, Way, replayed};
-use crate::benches::{STALE_MARK, TWICE, stage};
+use super::{BOTH, BOTTLE, FORK, Marks, NONE, OPENED, Shown, Way, replayed};
+use crate::benches::{STALE_MARK, TWICE, TWO, stage};
+use resuming::laws::knows_the_bench;
 use std::alloc::Allocator;
 use std::process::Abort;
 
@@ -40,4 +41,17 @@ fn marks_of_a_stale_mark(rt: HostRuntime) {
         let came = marks_at(&rt, rt.alloc(), *place);
         check(&rt, *place, came, (*of_a, *of_b));
     }
+}
+
+/// All is at a at first: it has its bottle, and its fork, which nobody asked for. A look changes nothing else.
+const LOOKED: Shown = Shown {
+    marks: BOTH,
+    ..OPENED
+};
+
+#[test]
+fn marks_of_a_round_of_looks(rt: HostRuntime) {
+    let (_, shown) = replayed(&rt, rt.alloc(), TWO, Way::Looks);
+    assert!(rt; shown == LOOKED);
+    knows_the_bench();
 }

@@ -41,7 +41,7 @@ fn build<A: Allocator + Copy, B: Drop>(
     builder: &mut PlanBuilder<A>,
     mut ballast: Option<B>,
 ) -> Option<B> {
-    for line in EXAMPLE {
+    for &line in &EXAMPLE {
         if let Err(cause) = put(rt, builder, line) {
             is_first(rt, cause, &ballast);
             ballast = None;
@@ -198,24 +198,50 @@ const PAST_SESSIONS: [(Line<'static>, PlanRefusal); 2] = [
     (Line::Job(b"more"), PlanRefusal::NoMemory),
 ];
 
+/// What a job has as much of as it may.
+#[derive(Clone, Copy)]
+enum Most {
+    Instruments,
+    Sessions,
+}
+
+fn put_most<A: Allocator + Copy>(rt: &impl Abort, builder: &mut PlanBuilder<A>, most: Most) {
+    put_one(rt, builder, Line::Job(b"one"));
+    match most {
+        Most::Instruments => {
+            put_one(rt, builder, Line::Session);
+            put_commands(rt, builder, 56);
+        }
+        Most::Sessions => put_sessions(rt, builder, 1000),
+    }
+}
+
+/// Has lines refused behind as much as there may be, with no memory left.
+fn refuse_behind(
+    rt: &impl Abort,
+    alloc: Global,
+    size: usize,
+    most: Most,
+    lines: &[(Line, PlanRefusal)],
+) {
+    let heap = heap_of(rt, alloc, size);
+    let mut builder = PlanBuilder::new(&heap);
+    put_most(rt, &mut builder, most);
+    refuse_lines(rt, alloc, &heap, &mut builder, lines);
+}
+
 /// A 57th instrument is past the limit with no memory left.
 #[test]
 fn limit_of_instruments_comes_before_memory(rt: HostRuntime) {
-    let heap = heap_of(&rt, rt.alloc(), HEAP);
-    let mut builder = PlanBuilder::new(&heap);
-    put_all(&rt, &mut builder, &[Line::Job(b"one"), Line::Session]);
-    put_commands(&rt, &mut builder, 56);
-    refuse_lines(&rt, rt.alloc(), &heap, &mut builder, &PAST_INSTRUMENTS);
+    let most = Most::Instruments;
+    refuse_behind(&rt, rt.alloc(), HEAP, most, &PAST_INSTRUMENTS);
 }
 
 /// A 1001st session is past the limit with no memory left.
 #[test]
 fn limit_of_sessions_comes_before_memory(rt: HostRuntime) {
-    let heap = heap_of(&rt, rt.alloc(), 8 * HEAP);
-    let mut builder = PlanBuilder::new(&heap);
-    put_one(&rt, &mut builder, Line::Job(b"one"));
-    put_sessions(&rt, &mut builder, 1000);
-    refuse_lines(&rt, rt.alloc(), &heap, &mut builder, &PAST_SESSIONS);
+    let most = Most::Sessions;
+    refuse_behind(&rt, rt.alloc(), 8 * HEAP, most, &PAST_SESSIONS);
 }
 
 /// Finishing tells an empty session, and too many in common, with no memory left.

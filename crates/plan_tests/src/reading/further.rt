@@ -66,13 +66,35 @@ fn check_two<A: Allocator>(rt: &impl Abort, sessions: &[FurtherSession<A>]) {
     session(rt, sessions, 1, None, &[(LAMP, Verb::Read)]);
 }
 
+/// What is asked of a plan.
+#[derive(Clone, Copy)]
+enum Asked {
+    Two,
+    Faults,
+    Patience,
+    Counted,
+    Memory,
+}
+
+fn ask(rt: &impl Abort, alloc: Global, plan: &mut Plan<Global>, asked: Asked) {
+    match asked {
+        Asked::Two => assert!(rt; reads_two(rt, alloc, plan)),
+        Asked::Faults => check_faults(rt, alloc, plan),
+        Asked::Patience => check_patience(rt, alloc, plan),
+        Asked::Counted => check_counted(rt, alloc, plan),
+        Asked::Memory => check_memory(rt, alloc, plan),
+    }
+}
+
+/// It alone owns a plan.
+fn ask_of(rt: &impl Abort, alloc: Global, script: &[u8], asked: Asked) {
+    let mut plan = plan_of(rt, alloc, script);
+    ask(rt, alloc, &mut plan, asked);
+}
+
 #[test]
 fn reads_further_sessions(rt: HostRuntime) {
-    let plan = plan_of(&rt, rt.alloc(), BENCH);
-    match read(&rt, rt.alloc(), &plan, 1, TWO) {
-        Ok(sessions) => check_two(&rt, &sessions),
-        Err(_) => panic!(rt; "no sessions"),
-    }
+    ask_of(&rt, rt.alloc(), BENCH, Asked::Two);
 }
 
 /// A job, a text for it, and its fault.
@@ -104,29 +126,30 @@ const FAULTS: [Faulty; 23] = [
     (2, "session\nlamp read", 2, NotItsOwn),
 ];
 
+fn check_faults(rt: &impl Abort, alloc: Global, plan: &Plan<Global>) {
+    for &(job, text, line, cause) in &FAULTS {
+        let came = fault_of(rt, alloc, plan, job, text);
+        check(rt, (job, text), came, Some((line, cause)));
+    }
+}
+
 #[test]
 fn faults_of_further_sessions(rt: HostRuntime) {
-    let plan = plan_of(&rt, rt.alloc(), BENCH);
-    for &(job, text, line, cause) in &FAULTS {
-        let came = fault_of(&rt, rt.alloc(), &plan, job, text);
-        check(&rt, (job, text), came, Some((line, cause)));
-    }
+    ask_of(&rt, rt.alloc(), BENCH, Asked::Faults);
+}
+
+fn check_patience(rt: &impl Abort, alloc: Global, plan: &Plan<Global>) {
+    let text = "session patience 3\nlamp read\nend";
+    let patient = fault_of(rt, alloc, plan, 0, text);
+    check(rt, "patient", patient, Some((1, UnknownWord)));
+    let plain = fault_of(rt, alloc, plan, 0, "session\nlamp read\nend");
+    check(rt, "plain", plain, None);
 }
 
 /// A plan of version 1 has no patience.
 #[test]
 fn knows_no_patience_in_version_one(rt: HostRuntime) {
-    let plan = plan_of(&rt, rt.alloc(), OLD_BENCH);
-    let patient = fault_of(
-        &rt,
-        rt.alloc(),
-        &plan,
-        0,
-        "session patience 3\nlamp read\nend",
-    );
-    check(&rt, "patient", patient, Some((1, UnknownWord)));
-    let plain = fault_of(&rt, rt.alloc(), &plan, 0, "session\nlamp read\nend");
-    check(&rt, "plain", plain, None);
+    ask_of(&rt, rt.alloc(), OLD_BENCH, Asked::Patience);
 }
 
 /// Sessions of one command each, until the job has this many.
@@ -141,15 +164,18 @@ fn add_until<A: Allocator>(rt: &impl Abort, plan: &mut Plan<A>, last: u32) {
 }
 
 /// The job has 999 sessions: one more is read, and no second one.
+fn check_counted(rt: &impl Abort, alloc: Global, plan: &mut Plan<Global>) {
+    add_until(rt, plan, 999);
+    let one = "session\nlamp read\nend\n";
+    check(rt, 1000, fault_of(rt, alloc, plan, 0, one), None);
+    let two = "session\nlamp read\nend\nsession\nlamp read\nend\n";
+    let fault = fault_of(rt, alloc, plan, 0, two);
+    check(rt, 1001, fault, Some((4, LimitPassed)));
+}
+
 #[test]
 fn counts_the_sessions_that_are_there(rt: HostRuntime) {
-    let mut plan = plan_of(&rt, rt.alloc(), BENCH);
-    add_until(&rt, &mut plan, 999);
-    let one = "session\nlamp read\nend\n";
-    check(&rt, 1000, fault_of(&rt, rt.alloc(), &plan, 0, one), None);
-    let two = "session\nlamp read\nend\nsession\nlamp read\nend\n";
-    let fault = fault_of(&rt, rt.alloc(), &plan, 0, two);
-    check(&rt, 1001, fault, Some((4, LimitPassed)));
+    ask_of(&rt, rt.alloc(), BENCH, Asked::Counted);
 }
 
 /// What is read with so much memory: the sessions, or that none is left.
@@ -179,13 +205,16 @@ fn heap_of(rt: &impl Abort, alloc: Global, size: usize) -> LocalHeap {
 }
 
 /// Each allocation in turn is the first that is refused, and nothing else is told.
-#[test]
-fn further_sessions_without_memory(rt: HostRuntime) {
-    let plan = plan_of(&rt, rt.alloc(), BENCH);
+fn check_memory(rt: &impl Abort, alloc: Global, plan: &Plan<Global>) {
     let mut read = 0u32;
     for size in 1..60usize {
-        let was = reads_with(&rt, rt.alloc(), &plan, 32 * size);
+        let was = reads_with(rt, alloc, plan, 32 * size);
         read = read.saturating_add(was as u32);
     }
     assert!(rt; read > 0 && read < 59);
+}
+
+#[test]
+fn further_sessions_without_memory(rt: HostRuntime) {
+    ask_of(&rt, rt.alloc(), BENCH, Asked::Memory);
 }
