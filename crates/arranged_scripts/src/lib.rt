@@ -2,9 +2,9 @@
 //! judged by the plan that it is read as.
 #![tactic(auto)]
 
-mod cutting;
-pub mod judging;
+mod blocks;
+pub mod judged;
 pub mod laws;
 
-pub use cutting::{moved, with_line_end};
-pub use judging::{arranged_script, read_back};
+pub use blocks::{moved, with_line_end};
+pub use judged::{arranged_script, read_back};

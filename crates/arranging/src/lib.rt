@@ -2,15 +2,15 @@
 //! different colours, and jobs stand in the order of their colours.
 #![tactic(auto)]
 
-pub mod colouring;
-mod counting;
+mod colour_count;
+pub mod colours;
 mod greedy;
 pub mod laws;
-pub mod ordering;
+pub mod order;
 pub mod reordered;
 mod same_jobs;
 
-pub use colouring::{Colouring, colours_of};
-pub use ordering::order_of;
+pub use colours::{Colouring, colours_of};
+pub use order::order_of;
 pub use reordered::is_arrangement;
 pub use same_jobs::has_jobs_of;

@@ -5,7 +5,7 @@ ghost use Rattle.lab_plan.specs.LabPlan.{edges, ends};
 ghost use Rattle.arranging.specs.Colours.{IsColouring, in_order};
 ghost use Rattle.arranging.specs.Reordered.{IsArrangement};
 
-use crate::colouring::Colouring;
+use crate::colours::Colouring;
 use crate::same_jobs::has_jobs_of;
 use lab_plan::{EdgeNo, JobNo, Plan};
 use std::alloc::Allocator;

@@ -16,7 +16,7 @@ use Rattle.live_lab.specs.Keepers.{AreKeepersAt}
 use Rattle.lab_journal.specs.Taking.{has_room}
 use Rattle.bench_texts.specs.Texts.{lab_text, MeansPlan}
 use Rattle.bench_opening.specs.Openings.{IsOpenedFor, IsWhyNotFor}
-use Rattle.c_tells.specs.declared.telling.Told.{Told}
+use Rattle.c_tells.specs.declared.told.Told.{Told}
 use Rattle.c_tells.specs.Telling.{told_of, Gives, Delivers, Fails}
 use Rattle.c_handles.specs.declared.inside.Inside.{Inside}
 use Rattle.c_handles.specs.declared.inside.Inside.TheVariants.{Open}

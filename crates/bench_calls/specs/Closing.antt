@@ -2,9 +2,9 @@
 use Rattle.std.specs.Prelude.{◌≡◌, ◌⊎◌, ℕ, Bool, true, false, List, Option, Some, None, Ok}
 use Rattle.lab_program.specs.declared.faults.RunFault.TheVariants.{NoMemory}
 use Rattle.lab_program.specs.Faults.{status_of}
-use Rattle.live_lab.specs.declared.printing.Printed.{Printed}
+use Rattle.live_lab.specs.declared.print.Printed.{Printed}
 use Rattle.live_lab.specs.Prints.{IsPrint, HasReport, HasSomeReport}
-use Rattle.c_tells.specs.declared.telling.Told.{Told}
+use Rattle.c_tells.specs.declared.told.Told.{Told}
 use Rattle.c_tells.specs.Telling.{Delivers, Fails}
 use Rattle.c_handles.specs.declared.inside.Inside.{Inside}
 use Rattle.c_handles.specs.declared.inside.Inside.TheVariants.{Open, Reported}

@@ -2,16 +2,16 @@
 use Rattle.std.specs.Prelude.{◌≡◌, ◌⊎◌, ℕ, ◌-◌, ◌<◌, ◌≤◌, ◌||◌, nat_lt, Bool, true, false, List, length, None, Result, Ok, Err}
 use Rattle.lab_plan.specs.LabPlan.{sessions}
 use Rattle.journal_texts.specs.More.{more_text}
-use Rattle.lab_journal.specs.declared.widening.NoRoom.TheVariants.{NoMemory as MemoryLacks, HasSteps}
+use Rattle.lab_journal.specs.declared.more_room.NoRoom.TheVariants.{NoMemory as MemoryLacks, HasSteps}
 use Rattle.lab_journal.specs.Room.{HasMoreRoom, IsWhyNoRoom}
 use Rattle.lab_program.specs.declared.faults.RunFault.TheVariants.{Script}
 use Rattle.lab_program.specs.Faults.{status_of}
-use Rattle.live_lab.specs.declared.coming.NotAdded.{NotAdded}
-use Rattle.live_lab.specs.declared.coming.NotAdded.TheVariants.{HasRetired, Fault, NoMemory}
+use Rattle.live_lab.specs.declared.additions.NotAdded.{NotAdded}
+use Rattle.live_lab.specs.declared.additions.NotAdded.TheVariants.{HasRetired, Fault, NoMemory}
 use Rattle.live_lab.specs.Labs.{LabView}
 use Rattle.live_lab.specs.Readers.{IsSession}
 use Rattle.live_lab.specs.Adding.{AddsText}
-use Rattle.c_tells.specs.declared.telling.Told.{Told}
+use Rattle.c_tells.specs.declared.told.Told.{Told}
 use Rattle.c_tells.specs.Telling.{told_of, told_length, Gives}
 use Rattle.bench_calls.specs.Calls.{ByJob, Written}
 

@@ -4,11 +4,11 @@ use Rattle.lab_program.specs.declared.faults.RunFault.{RunFault}
 use Rattle.lab_program.specs.Faults.{status_of}
 use Rattle.live_lab.specs.Labs.{LabView}
 use Rattle.journal_texts.specs.Texts.{journal_text}
-use Rattle.lab_journal.specs.declared.taking.NotTaken.{NotTaken}
-use Rattle.lab_journal.specs.declared.taking.NotTaken.TheVariants.{NoMemory, NotKept, NotWhole}
+use Rattle.lab_journal.specs.declared.written.NotTaken.{NotTaken}
+use Rattle.lab_journal.specs.declared.written.NotTaken.TheVariants.{NoMemory, NotKept, NotWhole}
 use Rattle.lab_journal.specs.Taking.{without_kept, IsWhyNotTaken}
 use Rattle.lab_journal.specs.Resumed.{IsResumed, IsNotResumed}
-use Rattle.c_tells.specs.declared.telling.Told.{Told}
+use Rattle.c_tells.specs.declared.told.Told.{Told}
 use Rattle.c_tells.specs.Telling.{told_of, told_length, Puts}
 use Rattle.c_handles.specs.declared.inside.Inside.{Inside}
 use Rattle.c_handles.specs.declared.inside.Inside.TheVariants.{Open}

@@ -13,10 +13,10 @@ use Rattle.live_lab.specs.declared.stage.Aim.{Aim}
 use Rattle.live_lab.specs.declared.stage.Aim.TheVariants.{Hold, Retire}
 use Rattle.live_lab.specs.declared.stage.Stage.{Stage}
 use Rattle.live_lab.specs.declared.stage.Stage.TheVariants.{There, OnTheWay, Barred}
-use Rattle.live_lab.specs.declared.ending.Release.{Release}
-use Rattle.live_lab.specs.declared.ending.Release.TheVariants.{NotHeld, LetGo}
+use Rattle.live_lab.specs.declared.end.Release.{Release}
+use Rattle.live_lab.specs.declared.end.Release.TheVariants.{NotHeld, LetGo}
 use Rattle.live_lab.specs.declared.settle.Came.{Came}
-use Rattle.live_lab.specs.declared.keeping.Keepers.{Keepers}
+use Rattle.live_lab.specs.declared.keepers.Keepers.{Keepers}
 use Rattle.live_lab.specs.declared.readers.SessionFacts.{SessionFacts}
 use Rattle.live_lab.specs.declared.readers.Standing.{Standing}
 use Rattle.live_lab.specs.declared.planned.Planned.{Planned}

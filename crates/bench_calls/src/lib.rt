@@ -1,23 +1,23 @@
 //! The calls for C on the lab of one handle: what each does to it, what it tells, as structs that C has too, and its status.
 #![tactic(auto)]
 
-mod coming;
-mod doing;
+mod additions;
+mod deeds;
 mod ending;
 mod journals;
 mod opening;
-mod reading;
+mod readers;
 mod statuses;
 mod told;
 
-pub use coming::{add, more};
-pub use doing::{
+pub use additions::{add, more};
+pub use deeds::{
     begin, command, end, overtakes, retire, serve, serve_others, settle, turn, withdraw,
 };
 pub use ending::{close, free};
 pub use journals::{journal, open_kept, resume};
 pub use opening::{open, script};
-pub use reading::{instrument_name, job_name, keepers, outside, planned, session, size, state};
+pub use readers::{instrument_name, job_name, keepers, outside, planned, session, size, state};
 pub use statuses::{NO_JOB, NOT_NOW, stage_status, tell_entry, withdrew};
 pub use told::{
     LabCame, LabEntry, LabKeepers, LabOutside, LabPlanned, LabSession, LabSize, LabState,

@@ -34,7 +34,7 @@ use Rattle.legal_steps.proofs.counts.Counts.TheSendSync as counts
 use Rattle.edge_rule.specs.contracts.closed.Closed as Closed
 use Rattle.edge_rule.specs.contracts.closed.Closed.TheInside as Inside
 use Rattle.bench_door.specs.contracts.closing.LabEnd as LabEnd
-use Rattle.live_lab.proofs.printing.Printed.TheSendSync as printed
+use Rattle.live_lab.proofs.print.Printed.TheSendSync as printed
 use Rattle.bench_door.proofs.lab.Lab.TheSendSync as labs
 use Rattle.bench_door.specs.contracts.ending.Held as Held
 

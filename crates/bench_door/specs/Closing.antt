@@ -4,14 +4,14 @@ use Rattle.edge_rule.specs.Ending.{IsEnd}
 use Rattle.lab_program.specs.declared.faults.RunFault.TheVariants.{NoMemory}
 use Rattle.lab_program.specs.Faults.{status_of}
 use Rattle.bench_door.specs.declared.lab.Lab.{Lab}
-use Rattle.bench_door.specs.declared.closing.LabEnd.{LabEnd}
-use Rattle.live_lab.specs.declared.printing.Printed.{Printed}
+use Rattle.bench_door.specs.declared.close.LabEnd.{LabEnd}
+use Rattle.live_lab.specs.declared.print.Printed.{Printed}
 use Rattle.live_lab.specs.Prints.{HasReport, HasSomeReport}
 use Rattle.bench_door.specs.Ends.{IsPrint}
-use Rattle.c_tells.specs.declared.telling.Told.{Told}
+use Rattle.c_tells.specs.declared.told.Told.{Told}
 use Rattle.c_tells.specs.Telling.{Delivers, Fails}
-use Rattle.bench_door.specs.declared.ending.Held.{Held}
-use Rattle.bench_door.specs.declared.ending.Held.TheVariants.{Open, Ended, Reported, Moved as Gone}
+use Rattle.bench_door.specs.declared.held.Held.{Held}
+use Rattle.bench_door.specs.declared.held.Held.TheVariants.{Open, Ended, Reported, Moved as Gone}
 
 -- the text of the report, and then what is told of it: it stands in the room, or there is no room for it (6)
 abbrev pub Reports : Printed → List ℕ → List ℕ → Told → ℕ → Type 0

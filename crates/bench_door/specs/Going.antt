@@ -14,8 +14,8 @@ use Rattle.live_lab.specs.declared.stage.Aim.{Aim}
 use Rattle.live_lab.specs.declared.stage.Aim.TheVariants.{Hold, Retire}
 use Rattle.live_lab.specs.declared.stage.Stage.{Stage}
 use Rattle.live_lab.specs.declared.stage.Stage.TheVariants.{There, OnTheWay, Barred}
-use Rattle.bench_door.specs.declared.going.DeskRelease.{DeskRelease}
-use Rattle.bench_door.specs.declared.going.DeskRelease.TheVariants.{NotHeld, LetGo, StillHeld}
+use Rattle.bench_door.specs.declared.stages.DeskRelease.{DeskRelease}
+use Rattle.bench_door.specs.declared.stages.DeskRelease.TheVariants.{NotHeld, LetGo, StillHeld}
 
 -- what two answers say together: all acts that were done, as far as 32 bits go; or else whether an exchange found another word
 abbrev pub both : Turned → Turned → Turned

@@ -5,7 +5,7 @@
 mod alone;
 mod at_desk;
 mod hall;
-mod opening;
+mod open;
 mod place;
 mod spot;
 mod taken_desk;

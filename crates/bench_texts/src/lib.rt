@@ -3,12 +3,12 @@
 
 mod fields;
 mod form;
-mod making;
 mod origins;
 mod script;
+mod texts;
 mod user_jobs;
 
-pub use making::{is_for_bench, lab_text};
 pub use origins::origin;
 pub use script::{NotScript, at_origin, lab_script};
+pub use texts::{is_for_bench, lab_text};
 pub use user_jobs::users;

@@ -3,7 +3,7 @@ ghost use Rattle.std.specs.Prelude.{◌≡◌};
 ghost use Rattle.bench_texts.specs.Texts.{origin as origin_of};
 
 use crate::form::{Place, form_of};
-use crate::making::is_for_bench;
+use crate::texts::is_for_bench;
 use bstr::ByteSlice;
 
 /// The number of the line of a text from which a line of its script came. What is behind the script's end came from behind the text's.

@@ -2,8 +2,8 @@
 ghost use Rattle.std.specs.Prelude.{◌≡◌, IfOk, IfErr};
 ghost use Rattle.bench_texts.specs.Texts.{IsWhyNoScript, MeansPlan, at_origin, lab_text as lab_text_of};
 
-use crate::making::lab_text;
 use crate::origins::origin;
+use crate::texts::lab_text;
 use script_reader::{ScriptFault, read_plan};
 use std::alloc::{AllocError, Allocator};
 

@@ -4,7 +4,7 @@ ghost use Rattle.bench_texts.specs.Forms.{view};
 ghost use Rattle.bench_texts.specs.Texts.{jobs_in, users as users_of};
 
 use crate::form::{Form, Place, form_of};
-use crate::making::is_for_bench;
+use crate::texts::is_for_bench;
 use bstr::ByteSlice;
 use std::alloc::{AllocError, Allocator};
 

@@ -5,7 +5,7 @@ ghost use Rattle.block_lines.specs.Largest.{largest_three};
 ghost use Rattle.block_lines.specs.Text.{block_at};
 
 use crate::block::Block;
-use crate::ranking::ranked;
+use crate::ranks::ranked;
 use crate::sums::rounds_of;
 use std::alloc::{AllocError, Allocator};
 

@@ -3,7 +3,7 @@
 
 mod block;
 mod largest;
-mod ranking;
+mod ranks;
 mod sums;
 mod text;
 

@@ -6,7 +6,7 @@ ghost use Rattle.block_lines.specs.Sums.{held_on};
 ghost use Rattle.block_lines.specs.Text.{IsOfPlan, block_at, counts_text, block_line, instrument_line, blocks_text, ending, rounds_line};
 
 use crate::block::Block;
-use crate::ranking::ranked;
+use crate::ranks::ranked;
 use crate::sums::{held_on, instrument_rounds, rounds_of};
 use itoa::Buffer;
 use lab_plan::{InstrumentNo, Plan};

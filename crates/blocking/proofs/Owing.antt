@@ -12,7 +12,7 @@ use Rattle.legal_steps.specs.State.{IsOwn, neighbour}
 use Rattle.legal_steps.specs.Legal.{instrument_of}
 use Rattle.legal_steps.proofs.OwnEdges.{own_edges}
 use Rattle.block_lines.specs.declared.block.Block.{Block}
-use Rattle.blocking.specs.declared.counting.Wait.{Wait}
+use Rattle.blocking.specs.declared.counted.Wait.{Wait}
 use Rattle.blocking.specs.declared.places.Place.{Place}
 use Rattle.blocking.specs.Blocks.{block_of, places_on, places_of, places}
 use Rattle.blocking.specs.Watching.{counted_if, rounds_then, each_by}

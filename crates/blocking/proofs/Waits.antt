@@ -9,7 +9,7 @@ use Rattle.legal_steps.specs.declared.event.Event.{Event}
 use Rattle.legal_steps.specs.Legal.{instrument_of}
 use Rattle.rounds.specs.Rounds.{known_in}
 use Rattle.block_lines.specs.declared.block.Block.{Block}
-use Rattle.blocking.specs.declared.counting.Wait.{Wait}
+use Rattle.blocking.specs.declared.counted.Wait.{Wait}
 use Rattle.blocking.specs.declared.places.Place.{Place}
 use Rattle.blocking.specs.Waiting.{waits_at}
 use Rattle.blocking.specs.Blocks.{place, places_on}

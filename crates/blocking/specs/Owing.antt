@@ -6,7 +6,7 @@ use Rattle.legal_steps.specs.declared.event.Event.{Event}
 use Rattle.legal_steps.specs.State.{IsOwn}
 use Rattle.block_lines.specs.declared.block.Block.{Block}
 use Rattle.waiting.specs.Rounds.{joined}
-use Rattle.blocking.specs.declared.counting.Wait.{Wait}
+use Rattle.blocking.specs.declared.counted.Wait.{Wait}
 use Rattle.blocking.specs.declared.places.Place.{Place}
 use Rattle.blocking.specs.Blocks.{block_of, places_on, places}
 use Rattle.blocking.specs.Watching.{AreHeld, rounds_then, each_by}

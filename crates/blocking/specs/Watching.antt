@@ -1,5 +1,5 @@
 -- Desks that are looked at after each round, and what is counted then.
-use Rattle.std.specs.Prelude.{◌≡◌, ℕ, zero, suc, ◌+◌, ◌<◌, ◌==◌, min, nat_lt, Bool, true, ◌&&◌, List, [], ◌∷◌, length, slice_index_or, if◌then◌else◌}
+use Rattle.std.specs.Prelude.{◌≡◌, ℕ, ◌+◌, ◌<◌, ◌==◌, min, nat_lt, Bool, true, ◌&&◌, List, [], ◌∷◌, length, slice_index_or, if◌then◌else◌}
 use Rattle.std.specs.Int.{bit_at}
 use Rattle.lab_plan.specs.LabPlan.{LabPlan, bottles}
 use Rattle.lab_plan.specs.InstrumentSets.{holds}
@@ -8,7 +8,7 @@ use Rattle.legal_steps.specs.State.{State, IsOwn, neighbour, phase}
 use Rattle.legal_steps.specs.Legal.{instrument_of}
 use Rattle.rounds.specs.Rounds.{known_in}
 use Rattle.block_lines.specs.declared.block.Block.{Block}
-use Rattle.blocking.specs.declared.counting.Wait.{Wait}
+use Rattle.blocking.specs.declared.counted.Wait.{Wait}
 use Rattle.blocking.specs.declared.places.Place.{Place}
 use Rattle.waiting.specs.Holding.{holds_in}
 use Rattle.blocking.specs.Waiting.{waits_at}

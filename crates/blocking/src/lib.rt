@@ -6,20 +6,20 @@
 //! session is emptied when the next one of its job begins.
 #![tactic(auto)]
 
-mod counting;
-mod driving;
+mod blocks;
+mod counted;
 mod holdings;
-mod keeping;
+mod keepers;
 mod kept;
-mod knowing;
+mod knowledge;
 mod laws;
 mod places;
 mod run;
 mod sides;
 mod tally;
 
-pub use driving::blocks_by_rounds;
-pub use keeping::keepers_by_rounds;
+pub use blocks::blocks_by_rounds;
+pub use keepers::keepers_by_rounds;
 pub use kept::KeptRun;
 pub use laws::sessions_add_up;
 pub use run::BlockedRun;

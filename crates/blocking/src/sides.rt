@@ -5,9 +5,10 @@ ghost use Rattle.legal_steps.specs.State.{IsOwn};
 ghost use Rattle.rounds.specs.Company.{first_front};
 ghost use Rattle.waiting.specs.Watching.{KnowAll};
 ghost use Rattle.blocking.specs.Watching.{rounds_then, block_then};
-ghost use Rattle.blocking.specs.Owing.{settled, all_settled, fresh_side, sides_of, fresh_sides, cleared, settled_side, cleared_side, turned_to, FitsSide, SideThen};
+ghost use Rattle.blocking.specs.Owing.{settled, all_settled, fresh_side, sides_of, fresh_sides, cleared, settled_side, cleared_side};
+ghost use Rattle.blocking.specs.Owing.{turned_to, FitsSide, SideThen};
 
-use crate::counting::{Wait, count_rounds, fresh_blocks, wait_on};
+use crate::counted::{Wait, count_rounds, fresh_blocks, wait_on};
 use crate::places::add_on_edge;
 use block_lines::Block;
 use edge_rule::Desk;

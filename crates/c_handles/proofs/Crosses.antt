@@ -25,7 +25,7 @@ use Rattle.live_lab.specs.contracts.clock.Clock as Clock
 use Rattle.live_lab.proofs.clock.Clock.TheSendSync as clocks
 use Rattle.settling.proofs.due.Due.TheSendSync as dues
 use Rattle.late_thirst.proofs.line.Line.TheSendSync as lines
-use Rattle.live_lab.proofs.printing.Printed.TheSendSync as printed
+use Rattle.live_lab.proofs.print.Printed.TheSendSync as printed
 use Rattle.bench_hall.specs.contracts.hall.Hall as Hall
 use Rattle.bench_hall.proofs.hall.Hall.TheSendSync as halls
 use Rattle.bench_hall.proofs.taken_desk.TakenDesk.TheSendSync as taken

@@ -5,7 +5,7 @@ use Rattle.script_reader.specs.declared.fault.ScriptCause.TheVariants as causes
 use Rattle.lab_program.specs.declared.faults.RunFault.{RunFault}
 use Rattle.lab_program.specs.declared.faults.RunFault.TheVariants.{Script, Step}
 use Rattle.lab_program.specs.Faults.{status_of}
-use Rattle.c_tells.specs.declared.telling.Told.{Told}
+use Rattle.c_tells.specs.declared.told.Told.{Told}
 
 -- ---- what is told of a fault
 

@@ -2,7 +2,7 @@
 #![tactic(auto)]
 
 mod memory_sink;
-mod telling;
+mod told;
 
 pub use memory_sink::MemorySink;
-pub use telling::{Told, deliver, fail, put};
+pub use told::{Told, deliver, fail, put};

@@ -3,9 +3,9 @@
 #![tactic(auto)]
 
 mod command;
-mod reading;
+mod found;
 mod words;
 
 pub use command::{number, optional_number, program, with_word};
-pub use reading::{number_of, why_no_task};
+pub use found::{number_of, why_no_task};
 pub use words::{NoTask, end_saying_why, end_without_task, given_words, refused};

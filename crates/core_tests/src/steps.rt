@@ -16,7 +16,7 @@ use std::process::Abort;
 mod cases;
 mod every_list;
 mod guards;
-mod keeping;
+mod kept;
 mod marks;
 mod phases;
 mod starts;

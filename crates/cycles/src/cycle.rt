@@ -5,7 +5,7 @@ ghost use Rattle.cycles.specs.Cycles.{AreBelow, IsAmong, IsCycleOf, HasNoCycle, 
 ghost use Rattle.cycles.specs.Peeling.{IsLeft, NoneLeadsOn};
 
 use crate::no_memory::NoMemory;
-use crate::peeling::take_out_sinks;
+use crate::sinks::take_out_sinks;
 use crate::walk::Walk;
 use lab_plan::JobNo;
 use std::alloc::Allocator;

@@ -4,8 +4,8 @@
 
 mod cycle;
 mod no_memory;
-mod peeling;
 mod ranks;
+mod sinks;
 mod walk;
 
 pub use cycle::cycle_in;

@@ -4,7 +4,7 @@ ghost use Rattle.cycles.specs.Cycles.{AreBelow, IsAmong, HasNoCycle};
 ghost use Rattle.cycles.specs.Rankings.{IsRanking};
 
 use crate::no_memory::NoMemory;
-use crate::peeling::sink;
+use crate::sinks::sink;
 use lab_plan::JobNo;
 use std::alloc::Allocator;
 

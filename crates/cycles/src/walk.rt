@@ -6,7 +6,7 @@ ghost use Rattle.cycles.specs.Peeling.{IsLeft, EachLeadsOn};
 ghost use Rattle.cycles.specs.Walks.{Returns};
 
 use crate::no_memory::NoMemory;
-use crate::peeling::next_left;
+use crate::sinks::next_left;
 use lab_plan::JobNo;
 use std::alloc::{Allocator, Global};
 

@@ -2,11 +2,11 @@
 #![tactic(auto)]
 
 #[cfg(test)]
+mod additions;
+#[cfg(test)]
 mod benches;
 #[cfg(test)]
 mod calls;
-#[cfg(test)]
-mod coming;
 #[cfg(test)]
 mod desks;
 #[cfg(test)]

@@ -5,12 +5,12 @@
 
 mod bottles;
 mod drinks;
-mod exchanging;
+mod exchanges;
 mod needs;
-mod serving;
+mod service;
 
 pub use bottles::{due_moves, due_moves_seen, with_bottles, with_sets};
 pub use dining_layer::{may_hunger, may_leave, may_sit};
 pub use drinks::{drink, may_drink};
-pub use exchanging::{is_own_edge, may_ask_bottles, may_exchange, may_give_bottles};
-pub use serving::{serve_bottles, want_bottles};
+pub use exchanges::{is_own_edge, may_ask_bottles, may_exchange, may_give_bottles};
+pub use service::{serve_bottles, want_bottles};

@@ -1,7 +1,7 @@
 -- What is true of the fields of news.
 use Rattle.std.specs.Prelude.{◌≡◌, []}
 use Rattle.edge_rule.specs.Telling.{NewsView}
-use Rattle.edge_rule.specs.declared.telling.News.TheInside.{Inside}
+use Rattle.edge_rule.specs.declared.news.News.TheInside.{Inside}
 
 abbrev pub news_of : {A : Type 0} → Inside A → NewsView
 news_of n = record { table = n.seat.table_id; front = n.seat.me.0.front }

@@ -8,7 +8,7 @@ ghost use Rattle.turns.specs.Lists.{Each, StartsWith};
 
 use crate::bench::Bench;
 use crate::desk::Desk;
-use crate::lending::{give_back, lend};
+use crate::lent::{give_back, lend};
 use crate::words::SOME_WORD;
 use atomic_table::Seat;
 use instrument_log::InstrumentLog;

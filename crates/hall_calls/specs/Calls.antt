@@ -12,8 +12,8 @@ use Rattle.lab_program.specs.Faults.{status_of}
 use Rattle.bench_door.specs.declared.lab.Lab.{Lab}
 use Rattle.live_lab.specs.declared.stage.Aim.{Aim}
 use Rattle.live_lab.specs.declared.stage.Stage.{Stage}
-use Rattle.bench_door.specs.declared.going.DeskRelease.{DeskRelease}
-use Rattle.bench_door.specs.declared.going.DeskRelease.TheVariants.{NotHeld, LetGo, StillHeld}
+use Rattle.bench_door.specs.declared.stages.DeskRelease.{DeskRelease}
+use Rattle.bench_door.specs.declared.stages.DeskRelease.TheVariants.{NotHeld, LetGo, StillHeld}
 use Rattle.bench_door.specs.Going.{EndsSession}
 use Rattle.live_lab.specs.Labs.{IsWhyNot}
 use Rattle.bench_door.specs.Doors.{Withdraws, Reaches, standing_of}
@@ -22,10 +22,10 @@ use Rattle.bench_hall.specs.declared.taken_desk.TakenDesk.{TakenDesk}
 use Rattle.bench_hall.specs.declared.at_desk.NotTaken.{NotTaken}
 use Rattle.bench_hall.specs.declared.at_desk.NotTaken.TheVariants.{NoJob, Out, NoMemory}
 use Rattle.bench_hall.specs.AtDesk.{Stays, GoesAlone}
-use Rattle.c_tells.specs.declared.telling.Told.{Told}
+use Rattle.c_tells.specs.declared.told.Told.{Told}
 use Rattle.c_tells.specs.Telling.{told_of}
-use Rattle.bench_door.specs.declared.ending.Held.{Held}
-use Rattle.bench_door.specs.declared.ending.Held.TheVariants.{Open as AtWork}
+use Rattle.bench_door.specs.declared.held.Held.{Held}
+use Rattle.bench_door.specs.declared.held.Held.TheVariants.{Open as AtWork}
 use Rattle.bench_calls.specs.declared.told.LabTurned.{LabTurned}
 use Rattle.bench_calls.specs.declared.told.LabSize.{LabSize}
 use Rattle.bench_calls.specs.declared.told.LabState.{LabState}

@@ -2,7 +2,7 @@
 use Rattle.std.specs.Prelude.{◌≡◌, ◌⊎◌, ℕ, List, Option, Some, None}
 use Rattle.std.specs.Arc.{arc_value}
 use Rattle.bench_hall.specs.Resumed.{IsResumedHall}
-use Rattle.c_tells.specs.declared.telling.Told.{Told}
+use Rattle.c_tells.specs.declared.told.Told.{Told}
 use Rattle.c_tells.specs.Telling.{told_length}
 use Rattle.c_handles.specs.declared.inside.Inside.{Inside}
 use Rattle.c_handles.specs.declared.inside.Inside.TheVariants.{Shared}

@@ -6,10 +6,10 @@ mod at_desk;
 mod coming_back;
 mod desks;
 mod ending;
-mod sharing;
+mod hall;
 
 pub use at_desk::{begin, command, end, retire, serve, state, turn, withdraw};
 pub use coming_back::resume;
 pub use desks::{give, take_desk};
 pub use ending::{close, free};
-pub use sharing::{open, size};
+pub use hall::{open, size};

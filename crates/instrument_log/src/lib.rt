@@ -5,11 +5,11 @@
 pub mod dial;
 pub mod entry;
 pub mod log;
-pub mod packing;
+pub mod packed;
 pub mod refusal;
 
 pub use dial::turned;
 pub use entry::Entry;
 pub use log::InstrumentLog;
-pub use packing::{pack_entry, unpack_entry};
+pub use packed::{pack_entry, unpack_entry};
 pub use refusal::LogRefusal;

@@ -7,7 +7,7 @@ ghost use Rattle.instrument_log.specs.Parts.{IsNextPlace, if_open, open_entry, u
 ghost use Rattle.instrument_log.specs.InstrumentLog.{IsLog, MayAppend, IsRefused, Appends, empty_log, with_room, with_entry};
 
 use crate::entry::Entry;
-use crate::packing::{pack_entry, spelled_by};
+use crate::packed::{pack_entry, spelled_by};
 use crate::refusal::LogRefusal;
 use std::alloc::{AllocError, Allocator, Global};
 use std::marker::Model;

@@ -24,8 +24,8 @@ use Rattle.longer_plans.proofs.Rooms.{needs_more_room}
 use Rattle.longer_plans.proofs.Stays.{stays_legal}
 use Rattle.longer_plans.proofs.States.{still_fits, stays_an_opening, stays_acyclic}
 use Rattle.interleaving.specs.Rooms.{HasRooms, HaveMore}
-use Rattle.interleaving.specs.declared.adding.AddRefusal.{AddRefusal}
-use Rattle.interleaving.specs.declared.adding.AddRefusal.TheVariants.{HasRetired, IsLent, Refused}
+use Rattle.interleaving.specs.declared.add_refusal.AddRefusal.{AddRefusal}
+use Rattle.interleaving.specs.declared.add_refusal.AddRefusal.TheVariants.{HasRetired, IsLent, Refused}
 use Rattle.interleaving.specs.Adding.{PlanAdds, WorldAdds}
 use Rattle.interleaving.specs.World.{WorldView, IsReachedBy}
 use Rattle.interleaving.proofs.LogLemmas.{shown, entries_at, logs_wide}

@@ -4,8 +4,8 @@ use Rattle.lab_plan.specs.LabPlan.{LabPlan, SessionPlan}
 use Rattle.lab_plan.specs.Longer.{with_one_more, more_refusal, Adds}
 use Rattle.legal_steps.specs.declared.phase.Drinking.TheVariants.{Retired}
 use Rattle.legal_steps.specs.State.{drinking}
-use Rattle.interleaving.specs.declared.adding.AddRefusal.{AddRefusal}
-use Rattle.interleaving.specs.declared.adding.AddRefusal.TheVariants.{HasRetired, IsLent, Refused}
+use Rattle.interleaving.specs.declared.add_refusal.AddRefusal.{AddRefusal}
+use Rattle.interleaving.specs.declared.add_refusal.AddRefusal.TheVariants.{HasRetired, IsLent, Refused}
 use Rattle.interleaving.specs.World.{WorldView}
 
 -- what a plan answers, whoever owns it: it is longer by the session, or it is as it was, because it is only lent, or for the plan's own cause

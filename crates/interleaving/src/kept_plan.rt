@@ -4,7 +4,7 @@ ghost use Rattle.lab_plan.specs.Longer.{session_of, more_refusal, IsOfItsOwn};
 ghost use Rattle.lab_plan.specs.IsPlan.{IsPlan};
 ghost use Rattle.interleaving.specs.Adding.{PlanAdds};
 
-use crate::adding::AddRefusal;
+use crate::add_refusal::AddRefusal;
 use lab_plan::{InstrumentNo, JobNo, Plan, Verb};
 use std::alloc::{Allocator, Global};
 use std::marker::Model;

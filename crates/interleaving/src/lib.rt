@@ -1,27 +1,27 @@
 //! The core: a world, a state of a plan's bench that steps by one legal event at a time.
 #![tactic(auto)]
 
-mod acting;
-mod adding;
+mod acts;
+mod add_refusal;
 mod bottle_moves;
 mod counts;
-mod dining;
-mod drinking;
 mod kept_plan;
+mod looks;
+mod meals;
 mod needs;
-mod opening;
+mod opening_tables;
 mod precedence;
 mod refusal;
 mod rooms;
 mod seat;
-mod seeing;
-mod stepping;
+mod sessions;
+mod step;
 mod steps;
 mod tables;
 mod tape;
 mod world;
 
-pub use adding::AddRefusal;
+pub use add_refusal::AddRefusal;
 pub use cycles::{NoMemory, cycle_in};
 pub use legal_steps::{
     Counts, Dining, Drinking, EdgeState, End, EndChoice, Event, JobState, NotLegal, Step, StepLine,

@@ -16,9 +16,9 @@ ghost use Rattle.instrument_log.specs.Dial.{turned, dial};
 ghost use Rattle.instrument_log.specs.Entries.{IsWithinLimits};
 ghost use Rattle.instrument_log.specs.InstrumentLog.{MayAppend};
 
-use crate::adding::AddRefusal;
+use crate::add_refusal::AddRefusal;
 use crate::kept_plan::KeptPlan;
-use crate::opening::{chosen_edges, idle_seats, lower_choices};
+use crate::opening_tables::{chosen_edges, idle_seats, lower_choices};
 use crate::rooms::{give_back, make_rooms};
 use crate::seat::JobSeat;
 use instrument_log::{Entry, InstrumentLog};

@@ -18,10 +18,10 @@ ghost use Rattle.interleaving.specs.Start.{at_start, IsStartRefused};
 ghost use Rattle.legal_steps.specs.Opening.{AreChoices, opening_of, the_opening};
 ghost use Rattle.legal_steps.specs.Precedence.{IsAcyclic, Precedes};
 
-use crate::adding::AddRefusal;
+use crate::add_refusal::AddRefusal;
 use crate::counts::JobCounts;
 use crate::kept_plan::KeptPlan;
-use crate::opening::are_choices;
+use crate::opening_tables::are_choices;
 use crate::refusal::StartRefusal;
 use crate::tables::Tables;
 use crate::tape::Tape;

@@ -8,10 +8,10 @@ pub mod laws;
 mod lines;
 mod more;
 mod sums;
-mod writing;
+mod text;
 
 pub use added::{Addition, additions};
 pub use lines::whole_lines;
 pub use more::more_text;
 pub use sums::wrong_sum;
-pub use writing::journal_text;
+pub use text::journal_text;

@@ -5,7 +5,7 @@ ghost use Rattle.lab_plan.specs.LabPlan.{sessions, session_at};
 ghost use Rattle.lab_plan.specs.Upgrade.{session_line};
 ghost use Rattle.journal_texts.specs.More.{more_command, more_lines, more_text};
 
-use crate::writing::summed;
+use crate::text::summed;
 use lab_plan::{InstrumentNo, JobNo, Plan, Verb};
 use report::Line;
 use std::alloc::{AllocError, Allocator};

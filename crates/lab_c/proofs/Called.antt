@@ -5,7 +5,7 @@ use Rattle.lab_program.specs.declared.faults.RunFault.TheVariants.{Script, Step,
 use Rattle.lab_program.specs.declared.faults.Outcome.{Outcome}
 use Rattle.lab_program.specs.Faults.{failed_reads}
 use Rattle.lab_program.specs.Answers.{AnswersTo}
-use Rattle.c_tells.specs.declared.telling.Told.{Told}
+use Rattle.c_tells.specs.declared.told.Told.{Told}
 use Rattle.lab_c.specs.Calls.{Tells, Answers}
 
 called : (Writes : List ℕ → List ℕ → Outcome → Type 0) (Refuses : List ℕ → RunFault → Type 0)

@@ -9,13 +9,13 @@ ghost use Rattle.lab_runs.specs.Shared.{RunsInRounds, HasOneRun};
 ghost use Rattle.lab_c.specs.Calls.{Answers};
 
 mod bytes;
-mod telling;
+mod told;
 
 use bytes::Bytes;
 use c_tells::{MemorySink, Told};
 use lab_runs::{run_check, run_replay, run_rounds, run_upgrade};
 use std::alloc::Global;
-use telling::tell;
+use told::tell;
 
 /// Runs a script in rounds, at most `limit` of them, and puts the report into `report`.
 ///

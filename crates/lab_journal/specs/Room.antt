@@ -2,8 +2,8 @@
 use Rattle.std.specs.Prelude.{◌≡◌, ◌⊎◌, ℕ, ◌<◌, ◌≤◌, true, false, [], length}
 use Rattle.interleaving.specs.Kept.{Kept}
 use Rattle.live_lab.specs.Labs.{LabView, with_kept}
-use Rattle.lab_journal.specs.declared.widening.NoRoom.{NoRoom}
-use Rattle.lab_journal.specs.declared.widening.NoRoom.TheVariants.{NoMemory, HasSteps}
+use Rattle.lab_journal.specs.declared.more_room.NoRoom.{NoRoom}
+use Rattle.lab_journal.specs.declared.more_room.NoRoom.TheVariants.{NoMemory, HasSteps}
 
 -- the lab is as it was; or it keeps its steps, of which all were taken, and has at least as much room for them
 abbrev pub HasMoreRoom : LabView → LabView → Type 0

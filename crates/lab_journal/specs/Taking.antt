@@ -4,8 +4,8 @@ use Rattle.legal_steps.specs.declared.event.Event.{Event}
 use Rattle.interleaving.specs.Kept.{Kept}
 use Rattle.interleaving.specs.World.{WorldView}
 use Rattle.live_lab.specs.Labs.{LabView, fresh_lab, with_kept}
-use Rattle.lab_journal.specs.declared.taking.NotTaken.{NotTaken}
-use Rattle.lab_journal.specs.declared.taking.NotTaken.TheVariants.{NoMemory, NotKept, NotWhole}
+use Rattle.lab_journal.specs.declared.written.NotTaken.{NotTaken}
+use Rattle.lab_journal.specs.declared.written.NotTaken.TheVariants.{NoMemory, NotKept, NotWhole}
 
 -- the events that were taken so far: those before the ones that are kept
 abbrev pub taken : WorldView → List Event

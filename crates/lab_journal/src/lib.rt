@@ -3,18 +3,18 @@
 //! A journal is the script, a line `steps`, and the texts, one after another. It is also an input of `labrun replay`.
 #![tactic(auto)]
 
-mod finishing;
+mod in_hand;
 pub mod laws;
-mod opening;
-mod reading;
+mod more_room;
+mod open;
+mod read;
 mod resuming;
 mod room;
-mod taking;
-mod widening;
+mod written;
 
-pub use finishing::finish;
-pub use opening::{has_room, open_kept};
-pub use reading::read_journal;
+pub use in_hand::finish;
+pub use more_room::{NoRoom, make_room};
+pub use open::{has_room, open_kept};
+pub use read::read_journal;
 pub use resuming::{replay_text, resume};
-pub use taking::{NotTaken, journal, take_journal};
-pub use widening::{NoRoom, make_room};
+pub use written::{NotTaken, journal, take_journal};

@@ -9,8 +9,8 @@ ghost use Rattle.lab_journal.specs.Meaning.{JournalMeans};
 ghost use Rattle.lab_journal.specs.Resumed.{IsResumed, IsRefused, IsNotResumed};
 ghost use Rattle.lab_journal.specs.Finishing.{TakesSteps, IsReplayed, IsKeptIn};
 
-use crate::finishing::finish;
-use crate::reading::read_journal;
+use crate::in_hand::finish;
+use crate::read::read_journal;
 use crate::room::room_of;
 use interleaving::{StepLine, World};
 use journal_texts::{whole_lines, wrong_sum};

@@ -9,7 +9,7 @@ ghost use Rattle.lab_plan.specs.NamedBy.{both_hold};
 ghost use Rattle.lab_plan.specs.PairTables.{IsPair};
 
 use crate::instrument_set::InstrumentSet;
-use crate::naming::Naming;
+use crate::named_sets::Naming;
 use crate::numbers::{InstrumentNo, JobNo};
 use std::alloc::{AllocError, Allocator, Global};
 use std::marker::Model;

@@ -12,7 +12,7 @@ ghost use Rattle.lab_plan.specs.Building.{session_refusal, command_refusal, fini
 
 use crate::draft::Draft;
 use crate::limits::{MOST_COMMANDS, MOST_INSTRUMENTS, MOST_JOBS, MOST_SESSIONS};
-use crate::naming::has_too_many_in_common;
+use crate::named_sets::has_too_many_in_common;
 use crate::plan::Plan;
 use crate::refusal::PlanRefusal;
 use crate::tables::Tables;

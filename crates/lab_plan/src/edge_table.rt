@@ -7,7 +7,7 @@ ghost use Rattle.lab_plan.specs.PairTables.{IsPair, AreNumbers, IsNumber};
 ghost use Rattle.lab_plan.specs.LabPlan.{lower_first, has_end, pairs_with};
 
 use crate::limits::MOST_JOBS;
-use crate::naming::Naming;
+use crate::named_sets::Naming;
 use crate::numbers::{EdgeNo, JobNo};
 use std::alloc::{AllocError, Allocator, Global};
 use std::marker::Model;

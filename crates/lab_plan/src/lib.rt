@@ -11,7 +11,7 @@ mod job;
 pub mod limits;
 mod longer;
 pub mod name;
-mod naming;
+mod named_sets;
 mod needed;
 pub mod numbers;
 pub mod place;

@@ -9,7 +9,7 @@ ghost use Rattle.lab_plan.specs.SessionTables.{IsJobTable, AreJobTables, places_
 use crate::instrument_set::InstrumentSet;
 use crate::job::Job;
 use crate::limits::MOST_INSTRUMENTS;
-use crate::naming::named_by;
+use crate::named_sets::named_by;
 use crate::numbers::InstrumentNo;
 use crate::place::Place;
 use crate::verb::Verb;

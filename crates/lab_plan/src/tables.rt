@@ -9,7 +9,7 @@ use crate::bottles::{Bottles, bottles_of_all};
 use crate::draft::Draft;
 use crate::edge_table::EdgeTable;
 use crate::instrument_set::InstrumentSet;
-use crate::naming::Naming;
+use crate::named_sets::Naming;
 use crate::numbers::{EdgeNo, InstrumentNo, JobNo};
 use crate::session_table::{JobTable, job_tables};
 use crate::verb::Verb;

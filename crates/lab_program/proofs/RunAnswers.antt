@@ -4,8 +4,8 @@ use Rattle.std.specs.Prelude.{IfSome}
 use Rattle.std.specs.Result.{IsErrAnd}
 use Rattle.std.proofs.KnownBytes.{Keeps-refl}
 use Rattle.std.proofs.lemmas.Result.{err_from_is_err_and}
-use Rattle.lab_program.specs.declared.reading.ReadFault.{ReadFault}
-use Rattle.lab_program.specs.declared.reading.ReadFault.TheVariants as reading
+use Rattle.lab_program.specs.declared.input.ReadFault.{ReadFault}
+use Rattle.lab_program.specs.declared.input.ReadFault.TheVariants as reading
 use Rattle.lab_program.specs.declared.faults.RunFault.{RunFault}
 use Rattle.lab_program.specs.declared.faults.RunFault.TheVariants.{Script, Step, Read, TooLong, Write, NoMemory}
 use Rattle.lab_program.specs.declared.faults.Outcome.{Outcome}

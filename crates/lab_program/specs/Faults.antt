@@ -2,8 +2,8 @@
 use Rattle.std.specs.Prelude.{ℕ, Result, Ok, Err}
 use Rattle.script_reader.specs.declared.fault.ScriptCause.{ScriptCause}
 use Rattle.script_reader.specs.declared.fault.ScriptCause.TheVariants as causes
-use Rattle.lab_program.specs.declared.reading.ReadFault.{ReadFault}
-use Rattle.lab_program.specs.declared.reading.ReadFault.TheVariants as reading
+use Rattle.lab_program.specs.declared.input.ReadFault.{ReadFault}
+use Rattle.lab_program.specs.declared.input.ReadFault.TheVariants as reading
 use Rattle.lab_program.specs.declared.faults.RunFault.{RunFault}
 use Rattle.lab_program.specs.declared.faults.RunFault.TheVariants.{Script, Step, Read, TooLong, Write, NoMemory}
 use Rattle.lab_program.specs.declared.faults.Outcome.{Outcome}

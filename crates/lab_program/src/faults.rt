@@ -2,7 +2,7 @@
 ghost use Rattle.std.specs.Prelude.{◌≡◌};
 ghost use Rattle.lab_program.specs.Faults.{status_of, status_of_cause};
 
-use crate::reading::ReadFault;
+use crate::input::ReadFault;
 use interleaving::NoMemory;
 use report::WriteFault;
 use script_reader::{ScriptCause, ScriptFault};

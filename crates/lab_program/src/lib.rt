@@ -2,14 +2,14 @@
 //! fails, and how it ends.
 #![tactic(auto)]
 
-mod ending;
+mod exit;
 mod faults;
-mod reading;
-mod sending;
+mod input;
+mod output;
 mod source;
 
-pub use ending::{end, tell};
+pub use exit::{end, tell};
 pub use faults::{Outcome, RunFault, status_of};
-pub use reading::{ReadFault, read_input};
-pub use sending::{pass_on, send_text};
+pub use input::{ReadFault, read_input};
+pub use output::{pass_on, send_text};
 pub use source::{FromRead, Source};

@@ -1,7 +1,7 @@
 -- For readers: the counts of a plan, as one line.
 use Rattle.std.specs.Prelude.{ℕ, List, ◌++◌, length, codes, decimal}
 use Rattle.std.specs.List.{sum_by}
-use Rattle.lab_runs.specs.declared.counting.PlanCounts.{PlanCounts}
+use Rattle.lab_runs.specs.declared.counts.PlanCounts.{PlanCounts}
 use Rattle.lab_plan.specs.LabPlan.{SessionPlan, JobPlan, LabPlan, edges}
 
 -- how many sessions the jobs have together, and how many commands

@@ -2,20 +2,20 @@
 //! bytes. A script is checked, upgraded, replayed from the initial state on, or run on a bench, by rounds or by threads.
 #![tactic(auto)]
 
-mod asking;
-mod counting;
-mod replaying;
+mod counts;
+mod replay;
+mod run_report;
 mod scripts;
-mod sending;
-mod sharing;
-mod showing;
+mod shared;
 mod steps;
 mod tasks;
+mod upgrade_text;
+mod words;
 
-pub use asking::run_words;
 pub use labrun_words::{PROGRAM, Task, read_words};
-pub use replaying::run_replay;
+pub use replay::run_replay;
 pub use scripts::{run_check, run_upgrade};
-pub use sharing::{run_rounds, run_threads};
+pub use shared::{run_rounds, run_threads};
 pub use tasks::run_task;
 pub use whole_runs::{Gate, NoGate};
+pub use words::run_words;

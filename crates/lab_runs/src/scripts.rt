@@ -5,8 +5,8 @@ ghost use Rattle.lab_program.specs.Faults.{failed_reads, failed_writes};
 ghost use Rattle.lab_program.specs.Answers.{AnswersFor, ScriptRefuses};
 ghost use Rattle.lab_runs.specs.Scripts.{Checks, CheckAnswers, Upgrades, UpgradeAnswers, UpgradeIsStable};
 
-use crate::counting::counts_line;
-use crate::sending::send_script;
+use crate::counts::counts_line;
+use crate::upgrade_text::send_script;
 use lab_program::{Outcome, RunFault, Source, read_input, send_text};
 use report::Sink;
 use script_reader::laws::one_meaning;

@@ -5,9 +5,9 @@ ghost use Rattle.lab_program.specs.Faults.{failed_reads, failed_writes};
 ghost use Rattle.labrun_words.specs.Words.{MayRun};
 ghost use Rattle.lab_runs.specs.Tasks.{TaskAnswers};
 
-use crate::replaying::run_replay;
+use crate::replay::run_replay;
 use crate::scripts::{run_check, run_upgrade};
-use crate::sharing::{run_rounds, run_threads};
+use crate::shared::{run_rounds, run_threads};
 use lab_program::{Outcome, RunFault, Source};
 use labrun_words::Task;
 use report::Sink;

@@ -2,8 +2,8 @@
 use Rattle.std.proofs.Common.{◌≡◌, ℕ, ◌≤◌, List, Option, None, Result, Ok, Err, length, refl, sym, subst}
 use Rattle.std.specs.Prelude.{IfSome}
 use Rattle.std.proofs.KnownBytes.{Keeps-refl}
-use Rattle.lab_program.specs.declared.reading.ReadFault.{ReadFault}
-use Rattle.lab_program.specs.declared.reading.ReadFault.TheVariants as reading
+use Rattle.lab_program.specs.declared.input.ReadFault.{ReadFault}
+use Rattle.lab_program.specs.declared.input.ReadFault.TheVariants as reading
 use Rattle.lab_program.specs.declared.faults.RunFault.{RunFault}
 use Rattle.lab_program.specs.declared.faults.Outcome.{Outcome}
 use Rattle.lab_program.specs.declared.faults.Outcome.TheVariants.{Finished, Unfinished}

@@ -9,8 +9,8 @@ use Rattle.timeline.specs.declared.fault.TimelineFault.TheVariants as faults
 use Rattle.timeline.specs.Faults.{IsFaultOf}
 use Rattle.timeline.specs.Timelines.{TimelineView, IsTimeline}
 use Rattle.picture.specs.Picture.{picture_of}
-use Rattle.lab_program.specs.declared.reading.ReadFault.{ReadFault}
-use Rattle.lab_program.specs.declared.reading.ReadFault.TheVariants as reading
+use Rattle.lab_program.specs.declared.input.ReadFault.{ReadFault}
+use Rattle.lab_program.specs.declared.input.ReadFault.TheVariants as reading
 use Rattle.lab_views.specs.declared.picture_fault.PictureFault.{PictureFault}
 use Rattle.lab_views.specs.declared.picture_fault.PictureFault.TheVariants.{Report, Timeline, Read, TooLong, Write, NoMemory}
 use Rattle.lab_views.specs.ReportViews.{ReportAnswersFor, ReportAnswersTo}

@@ -3,22 +3,22 @@
 #![tactic(auto)]
 
 mod drawing_gantt;
-mod ending;
+mod end;
+mod explanations;
 pub mod laws;
 mod measuring_orders;
+mod orders;
 mod picture_fault;
-mod picturing;
-mod reordering;
-mod running;
-mod tabulating;
+mod pictures;
+mod tables;
 mod telling_blocks;
 mod telling_waits;
-mod tracing;
+mod trace;
 mod view_fault;
-mod viewing;
+mod views;
 
-pub use ending::end_view;
+pub use end::end_view;
 pub use labview_words::View;
 pub use picture_fault::{PictureFault, status_of_picture};
 pub use view_fault::{ViewFault, status_of_view};
-pub use viewing::run_view;
+pub use views::run_view;

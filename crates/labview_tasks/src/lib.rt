@@ -1,7 +1,7 @@
 //! What `labview` does for a command line: what its words ask for.
 #![tactic(auto)]
 
-mod asking;
+mod words;
 
-pub use asking::run_words;
 pub use labview_words::PROGRAM;
+pub use words::run_words;

@@ -5,10 +5,10 @@
 #![tactic(auto)]
 
 mod asker;
-mod entering;
+mod entries;
+mod first_due;
 pub mod laws;
 mod line;
-mod picking;
 
 pub use asker::{Asker, Reason, has};
 pub use line::Line;

@@ -4,7 +4,7 @@ ghost use Rattle.late_thirst.specs.Outside.{nobody, place};
 ghost use Rattle.late_thirst.specs.Lines.{with_most, counted, with_place, asking, LineLetsIn};
 
 use crate::asker::Asker;
-use crate::entering::let_in;
+use crate::entries::let_in;
 use std::alloc::{AllocError, Global};
 use std::marker::Model;
 

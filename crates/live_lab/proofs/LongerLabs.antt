@@ -8,7 +8,7 @@ use Rattle.legal_steps.specs.Fitting.{Fits}
 use Rattle.longer_plans.specs.Longer.{IsLonger}
 use Rattle.longer_plans.proofs.Once.{taken_is_longer}
 use Rattle.longer_plans.proofs.States.{opens_the_same}
-use Rattle.interleaving.specs.declared.adding.AddRefusal.{AddRefusal}
+use Rattle.interleaving.specs.declared.add_refusal.AddRefusal.{AddRefusal}
 use Rattle.interleaving.specs.Adding.{WorldAdds}
 use Rattle.interleaving.specs.World.{WorldView}
 use Rattle.interleaving.proofs.LongerWorlds.{refused_same}

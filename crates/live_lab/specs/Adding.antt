@@ -5,10 +5,10 @@ use Rattle.lab_plan.specs.Longer.{with_one_more}
 use Rattle.legal_steps.specs.declared.phase.Drinking.TheVariants.{Retired as IsRetired}
 use Rattle.legal_steps.specs.State.{drinking}
 use Rattle.script_reader.specs.More.{AnswersMore}
-use Rattle.interleaving.specs.declared.adding.AddRefusal.{AddRefusal}
+use Rattle.interleaving.specs.declared.add_refusal.AddRefusal.{AddRefusal}
 use Rattle.interleaving.specs.Adding.{WorldAdds}
-use Rattle.live_lab.specs.declared.coming.NotAdded.{NotAdded}
-use Rattle.live_lab.specs.declared.coming.NotAdded.TheVariants.{HasRetired, Fault, NoMemory}
+use Rattle.live_lab.specs.declared.additions.NotAdded.{NotAdded}
+use Rattle.live_lab.specs.declared.additions.NotAdded.TheVariants.{HasRetired, Fault, NoMemory}
 use Rattle.live_lab.specs.Labs.{LabView}
 
 -- it is added to the lab's world, or that is refused; all else stays

@@ -10,8 +10,8 @@ use Rattle.interleaving.specs.World.{WorldView, LeadsTo}
 use Rattle.reasons.specs.Deeds.{is_deed}
 use Rattle.session_layer.specs.declared.turning.Turned.{Turned}
 use Rattle.session_layer.specs.Turn.{Says}
-use Rattle.live_lab.specs.declared.ending.Release.{Release}
-use Rattle.live_lab.specs.declared.ending.Release.TheVariants.{NotHeld, LetGo}
+use Rattle.live_lab.specs.declared.end.Release.{Release}
+use Rattle.live_lab.specs.declared.end.Release.TheVariants.{NotHeld, LetGo}
 use Rattle.live_lab.specs.Labs.{LabView}
 use Rattle.live_lab.specs.Rests.{ComesToRest}
 

@@ -5,7 +5,7 @@ use Rattle.legal_steps.specs.State.{State, Has, IsDrinking, phase, session}
 use Rattle.legal_steps.specs.Legal.{IsJob, Needs, instrument_of}
 use Rattle.interleaving.specs.World.{WorldView}
 use Rattle.reasons.specs.Reasons.{Lacks, Keeps as KeepsBottle}
-use Rattle.live_lab.specs.declared.keeping.Keepers.{Keepers}
+use Rattle.live_lab.specs.declared.keepers.Keepers.{Keepers}
 use Rattle.late_thirst.specs.declared.asker.Asker.{Asker}
 use Rattle.live_lab.specs.Labs.{LabView}
 use Rattle.live_lab.specs.Sets.{AreJobs}

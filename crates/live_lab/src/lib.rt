@@ -5,37 +5,37 @@
 //! that adds a session.
 #![tactic(auto)]
 
-mod admitting;
-mod asking;
-mod beginning;
+mod additions;
+mod admission;
+mod ask;
+mod begin;
 mod clock;
-mod coming;
-mod commanding;
-mod ending;
-mod keeping;
+mod commands;
+mod end;
+mod keepers;
 mod kinds;
 mod lab;
 pub mod laws;
 mod outside;
 mod planned;
-mod printing;
+mod print;
 mod readers;
-mod resting;
-mod retiring;
-mod serving;
+mod rest;
+mod retire;
+mod service;
 mod settle;
 mod stage;
-mod stepping;
-mod turning;
+mod steps;
+mod turn;
 mod words;
 
-pub use coming::NotAdded;
-pub use ending::Release;
+pub use additions::NotAdded;
+pub use end::Release;
 pub use interleaving::AddRefusal;
-pub use keeping::Keepers;
+pub use keepers::Keepers;
 pub use lab::Lab;
 pub use planned::Planned;
-pub use printing::Printed;
+pub use print::Printed;
 pub use readers::{SessionFacts, Standing};
 pub use settle::Came;
 pub use stage::{Aim, Stage};

@@ -3,12 +3,12 @@ ghost use Rattle.std.specs.Prelude.{◌≡◌, length};
 ghost use Rattle.live_lab.specs.Counting.{AreTurnsCounted};
 ghost use Rattle.live_lab.specs.Settles.{Settles};
 
-use crate::admitting::{admit, say_and_rest};
-use crate::asking::ask;
+use crate::admission::{admit, say_and_rest};
+use crate::ask::ask;
 use crate::clock::{Clock, after_turn};
 use crate::kinds::{Kind, jobs_of};
 use crate::lab::Lab;
-use crate::resting::come_to_rest;
+use crate::rest::come_to_rest;
 use crate::words::Word;
 use interleaving::World;
 use lab_plan::JobNo;

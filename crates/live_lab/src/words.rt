@@ -10,7 +10,7 @@ ghost use Rattle.settling.specs.Left.{AreMarked};
 ghost use Rattle.live_lab.specs.Sets.{events_of_jobs};
 ghost use Rattle.live_lab.specs.Doing.{said};
 
-use crate::stepping::step;
+use crate::steps::step;
 use interleaving::World;
 use lab_plan::JobNo;
 use late_thirst::has;

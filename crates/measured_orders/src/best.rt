@@ -5,10 +5,10 @@ ghost use Rattle.lab_plan.specs.Limits.{most_jobs};
 ghost use Rattle.arranged_scripts.specs.Arranged.{IsNotArranged};
 ghost use Rattle.measured_orders.specs.Orders.{IsOrder, IsBest, IsBestOf};
 
-use crate::climbing::climbed;
+use crate::climb::climbed;
 use crate::gain::Gain;
 use crate::measure::{is_better, measured};
-use crate::trying::{Tried, as_it_is};
+use crate::trial::{Tried, as_it_is};
 use arranged_scripts::{arranged_script, with_line_end};
 use arranging::{colours_of, order_of};
 use lab_plan::{JobNo, Plan};

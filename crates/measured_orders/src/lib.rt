@@ -3,12 +3,12 @@
 #![tactic(auto)]
 
 mod best;
-mod climbing;
+mod climb;
 pub mod gain;
 pub mod laws;
 pub mod measure;
 mod moves;
-mod trying;
+mod trial;
 
 pub use best::{BestOrder, best_order};
 pub use gain::Gain;

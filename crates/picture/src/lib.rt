@@ -5,12 +5,12 @@
 mod boxes;
 mod columns;
 mod line;
+pub mod lines;
 mod log_entries;
 pub mod log_table;
 mod looks;
 mod tables;
 mod ticks;
-pub mod writing;
 
+pub use lines::write_picture;
 pub use log_table::table_of;
-pub use writing::write_picture;

@@ -1,5 +1,5 @@
 //! Who keeps whom waiting, in words.
-use crate::reading::plan_of;
+use crate::faults::plan_of;
 use crate::rows::check;
 use block_lines::{Block, add_blocks, largest_three};
 use lab_plan::{InstrumentNo, JobNo, Plan};

@@ -3,11 +3,13 @@
 #![tactic(auto)]
 
 #[cfg(test)]
-mod asking;
+mod asked;
 #[cfg(test)]
 mod blocks;
 #[cfg(test)]
 mod command_words;
+#[cfg(test)]
+mod faults;
 #[cfg(test)]
 mod logs;
 #[cfg(test)]
@@ -17,12 +19,10 @@ mod pairs;
 #[cfg(test)]
 mod plans;
 #[cfg(test)]
-mod reading;
-#[cfg(test)]
 mod rows;
 #[cfg(test)]
 mod states;
 #[cfg(test)]
-mod words;
+mod texts;
 #[cfg(test)]
-mod writing;
+mod words;

@@ -1,7 +1,7 @@
 //! A list of steps at its limit, a million lines. Compiled with checks, before any proof, these tests take minutes, so `./preview tests` leaves
 //! them to the gate.
-use crate::reading::fault_of_steps;
-use crate::reading::limits::{check_sits, steps_text};
+use crate::faults::fault_of_steps;
+use crate::faults::limits::{check_sits, steps_text};
 use crate::rows::check;
 use script_reader::ScriptCause::{BadStep, LimitPassed};
 

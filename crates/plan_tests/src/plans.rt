@@ -1,6 +1,6 @@
 //! What no clause says of the builder: that its calls succeed, and go on once memory is there again; and
 //! each reader of a plan on plans worked out by hand.
-use crate::asking::{ends_of, instrument_name, job_of, session_of};
+use crate::asked::{ends_of, instrument_name, job_of, session_of};
 use crate::rows::check;
 use lab_plan::name::is_name;
 use lab_plan::{EdgeNo, InstrumentNo, JobNo, Plan, PlanBuilder, PlanRefusal, Verb};
@@ -11,7 +11,7 @@ mod limits;
 mod logged;
 mod longer;
 mod memory;
-mod reading;
+mod readers;
 
 #[derive(Clone, Copy)]
 pub(crate) enum Line<'a> {

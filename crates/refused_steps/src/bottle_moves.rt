@@ -6,8 +6,8 @@ ghost use Rattle.legal_steps.specs.Legal.{IsBottleSet};
 ghost use Rattle.refused_steps.specs.BottleMoves.{MayMove, event_of};
 ghost use Rattle.refused_steps.specs.Causes.{Explains, Fails, FailsAsSet};
 
-use crate::asking::{is_drinking, needs_bottle, owns};
 use crate::cause::Cause;
+use crate::questions::{is_drinking, needs_bottle, owns};
 use interleaving::{Drinking, End, World};
 use lab_plan::{EdgeNo, JobNo};
 use legal_steps::{bottle_end, has};

@@ -3,8 +3,8 @@ ghost use Rattle.std.specs.Prelude.{◌≡◌};
 ghost use Rattle.legal_steps.specs.declared.event.Event.TheVariants.{Look, AskFork, GiveFork, Soil};
 ghost use Rattle.refused_steps.specs.Causes.{Explains};
 
-use crate::asking::owns;
 use crate::cause::Cause;
+use crate::questions::owns;
 use interleaving::{Dining, EdgeState, End, World};
 use lab_plan::{EdgeNo, JobNo};
 use std::alloc::Allocator;

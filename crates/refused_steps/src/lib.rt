@@ -2,12 +2,12 @@
 //! of event has a cause of its own.
 #![tactic(auto)]
 
-mod asking;
 mod bottle_moves;
 mod cause;
 mod forks;
 mod marks;
 mod meals;
+mod questions;
 mod sessions;
 mod why;
 

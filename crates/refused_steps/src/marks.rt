@@ -5,7 +5,7 @@ ghost use Rattle.legal_steps.specs.State.{IsOwn};
 ghost use Rattle.legal_steps.specs.Legal.{IsJob, IsMarkedAll, HasNeeded, HasNeededAt};
 ghost use Rattle.refused_steps.specs.Causes.{IsUnmarked, IsMissing};
 
-use crate::asking::needs_bottle;
+use crate::questions::needs_bottle;
 use interleaving::World;
 use lab_plan::{EdgeNo, JobNo};
 use legal_steps::has;

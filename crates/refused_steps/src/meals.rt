@@ -3,9 +3,9 @@ ghost use Rattle.std.specs.Prelude.{◌≡◌};
 ghost use Rattle.legal_steps.specs.declared.event.Event.TheVariants.{Hunger, Sit, Leave};
 ghost use Rattle.refused_steps.specs.Causes.{Explains, Fails, IsUnmarked};
 
-use crate::asking::is_job;
 use crate::cause::Cause;
 use crate::marks::unmarked_edge;
+use crate::questions::is_job;
 use interleaving::{Dining, Drinking, End, World};
 use lab_plan::{EdgeNo, JobNo};
 use std::alloc::Allocator;

@@ -3,9 +3,9 @@ ghost use Rattle.std.specs.Prelude.{◌≡◌};
 ghost use Rattle.legal_steps.specs.declared.event.Event.TheVariants.{Thirst, Drink, Reach, Act, Quit, Retire, Withdraw};
 ghost use Rattle.refused_steps.specs.Causes.{Explains, Fails, IsMissing};
 
-use crate::asking::is_job;
 use crate::cause::Cause;
 use crate::marks::missing_bottle;
+use crate::questions::is_job;
 use interleaving::{Dining, Drinking, End, World};
 use lab_plan::{EdgeNo, JobNo};
 use legal_steps::bottle_end;

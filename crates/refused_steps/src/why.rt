@@ -4,11 +4,11 @@ ghost use Rattle.legal_steps.specs.declared.event.Event.TheVariants.{Glance};
 ghost use Rattle.legal_steps.specs.Legal.{May};
 ghost use Rattle.refused_steps.specs.Causes.{Explains};
 
-use crate::asking::is_job;
 use crate::bottle_moves::{BottleMove, move_bottles};
 use crate::cause::Cause;
 use crate::forks::{ask_fork, give_fork, look, soil};
 use crate::meals::{hunger, leave, sit};
+use crate::questions::is_job;
 use crate::sessions::{act, drink, quit, reach, retire, thirst, withdraw};
 use interleaving::{Event, JobState, World};
 use lab_plan::JobNo;

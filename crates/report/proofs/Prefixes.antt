@@ -9,7 +9,7 @@ use Rattle.std.specs.List.{flat_map, range_with_len, list_all}
 use Rattle.std.proofs.lemmas.List.Folds.{list_all_more, list_all_at}
 use Rattle.std.proofs.lemmas.List.FromFn.{get_or-range_with_len, length-range_with_len}
 use Rattle.std.proofs.lemmas.List.Concat.{flat_map-append}
-use Rattle.report.specs.declared.offering.WriteFault.{WriteFault}
+use Rattle.report.specs.declared.outlet.WriteFault.{WriteFault}
 use Rattle.report.specs.Taken.{AppendsPrefix, Writes}
 
 -- a front of a text that went out whole

@@ -4,7 +4,7 @@ use Rattle.std.specs.declared.option.Option.{Option}
 use Rattle.std.specs.declared.result.Result.{Result}
 use Rattle.std.specs.declared.result.Result.TheVariants.{Ok, Err}
 use Rattle.std.specs.Io.KnownBytes.{Appends}
-use Rattle.report.specs.declared.offering.WriteFault.{WriteFault}
+use Rattle.report.specs.declared.outlet.WriteFault.{WriteFault}
 
 -- what went out is a prefix of the text
 pub record AppendsPrefix (old new : Option (List ℕ)) (text : List ℕ) : Type 0 where

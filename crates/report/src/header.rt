@@ -3,7 +3,7 @@ ghost use Rattle.lab_plan.specs.Texts.{header_line};
 ghost use Rattle.report.specs.Taken.{Sends};
 
 use crate::lines::header_line;
-use crate::offering::{WriteFault, offer};
+use crate::outlet::{WriteFault, offer};
 use crate::sink::Sink;
 
 /// The header of a version.

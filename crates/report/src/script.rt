@@ -8,7 +8,7 @@ ghost use Rattle.lab_plan.specs.Upgrade.{command_text, commands_text, session_li
 
 use crate::header::write_header;
 use crate::lines::{command_line, name_line, session_line};
-use crate::offering::{WriteFault, offer};
+use crate::outlet::{WriteFault, offer};
 use crate::sink::Sink;
 use lab_plan::{InstrumentNo, JobNo, Plan, Verb};
 use std::alloc::Allocator;

@@ -5,10 +5,10 @@ ghost use Rattle.lab_plan.specs.Texts.{instrument_name};
 ghost use Rattle.report.specs.Taken.{Sends};
 ghost use Rattle.report.specs.Report.{instrument_line, entry_text, log_text, tally_text, all_retired, last_line, report_of, jobs, instruments};
 
+use crate::as_read::Showing;
 use crate::header::write_header;
 use crate::lines::{TextLine, add_entry, instrument_line, job_line};
-use crate::offering::{WriteFault, offer};
-use crate::showing::Showing;
+use crate::outlet::{WriteFault, offer};
 use crate::sink::Sink;
 use instrument_log::Entry;
 use lab_plan::{InstrumentNo, JobNo};

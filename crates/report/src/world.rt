@@ -6,9 +6,9 @@ ghost use Rattle.report.specs.Taken.{Sends};
 ghost use Rattle.report.specs.Report.{report_of};
 ghost use Rattle.report.specs.Worlds.{shown_by};
 
+use crate::as_read::Showing;
 use crate::job_tally::JobTally;
-use crate::offering::WriteFault;
-use crate::showing::Showing;
+use crate::outlet::WriteFault;
 use crate::shown::write_report;
 use crate::sink::Sink;
 use instrument_log::{Entry, InstrumentLog};

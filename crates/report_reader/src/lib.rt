@@ -2,12 +2,12 @@
 //! that is spelled so, or no line is.
 #![tactic(auto)]
 
-mod cutting;
 mod fault;
 mod form;
 pub mod laws;
 mod lines;
 mod number;
+mod parts;
 pub mod read;
 mod reader;
 pub mod report;

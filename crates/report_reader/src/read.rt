@@ -2,8 +2,8 @@
 ghost use Rattle.std.specs.Prelude.{◌≡◌, map, MatchResult, Ok, Err};
 ghost use Rattle.report_reader.specs.Reading.{Answers, AnswersParts};
 
-use crate::cutting::parts;
 use crate::fault::{ReportCause, ReportFault};
+use crate::parts::parts;
 use crate::reader::Reader;
 use crate::report::Report;
 use std::alloc::Allocator;

@@ -8,10 +8,10 @@ ghost use Rattle.report_reader.specs.Read.{line_of};
 ghost use Rattle.report_reader.specs.Report.{words};
 ghost use Rattle.report_reader.specs.State.{opening, all_retired, is_within, is_due, is_two, with_entry, Takes, Reads, Ends};
 
-use crate::cutting::parts;
 use crate::fault::ReportCause;
 use crate::form::line_of;
 use crate::lines::{EntryLine, Form, JobLine};
+use crate::parts::parts;
 use crate::report::{Log, Report};
 use std::alloc::{AllocError, Allocator};
 use std::marker::Model;

@@ -3,9 +3,9 @@
 #![tactic(auto)]
 
 pub mod laws;
-mod looking;
+mod looks;
 mod reached;
-mod recalling;
+mod recalled;
 
-pub use looking::look_round;
+pub use looks::look_round;
 pub use reached::Reached;

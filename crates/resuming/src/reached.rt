@@ -6,8 +6,8 @@ ghost use Rattle.edge_rule.specs.Standing.{StandsAfter};
 ghost use Rattle.resuming.specs.Round.{round_of};
 ghost use Rattle.resuming.specs.Resuming.{Looked, NoneReaches, CanGoOn, after_looks};
 
-use crate::looking::look_round;
-use crate::recalling::{all_recalled, edges_there};
+use crate::looks::look_round;
+use crate::recalled::{all_recalled, edges_there};
 use edge_rule::{Bench, Desk, JobKnowledge, OpenError};
 use edge_word::EdgeWord;
 use instrument_log::InstrumentLog;

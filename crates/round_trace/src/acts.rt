@@ -5,7 +5,7 @@ ghost use Rattle.legal_steps.specs.Legal.{IsJob, May};
 ghost use Rattle.turns.specs.Acts.{AreActs, Counts, whole_act};
 ghost use Rattle.round_trace.specs.Doing.{ActsDue, Does, first_events};
 
-use crate::trying::attempt;
+use crate::attempt::attempt;
 use interleaving::World;
 use lab_plan::JobNo;
 use legal_steps::Event;

@@ -7,7 +7,7 @@ ghost use Rattle.legal_steps.specs.Legal.{MayAskBottle, MayGiveBottle};
 ghost use Rattle.turns.specs.Due.{IsGreatest};
 ghost use Rattle.round_trace.specs.Doing.{MovesAll};
 
-use crate::trying::attempt;
+use crate::attempt::attempt;
 use interleaving::World;
 use lab_plan::{EdgeNo, JobNo};
 use legal_steps::Event;

@@ -4,8 +4,8 @@ ghost use Rattle.lab_plan.specs.LabPlan.{edges_of};
 ghost use Rattle.legal_steps.specs.State.{IsOwn};
 ghost use Rattle.round_trace.specs.Doing.{VisitsEdge, VisitsEdges};
 
+use crate::attempt::attempt;
 use crate::bottles::{ask_all, give_all};
-use crate::trying::attempt;
 use interleaving::World;
 use lab_plan::{EdgeNo, JobNo};
 use legal_steps::Event;

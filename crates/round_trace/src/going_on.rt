@@ -6,9 +6,9 @@ ghost use Rattle.round_trace.specs.Doing.{Does, TakesAll};
 ghost use Rattle.round_trace.specs.InHand.{acts_in_hand, BringsToRest};
 ghost use Rattle.round_trace.specs.Traces.{GoesOnByRounds, IsNotTraced};
 
+use crate::attempt::attempt;
 use crate::in_hand::acts_in_hand;
-use crate::running::{all_players, play};
-use crate::trying::attempt;
+use crate::whole_trace::{all_players, play};
 use interleaving::World;
 use lab_plan::Plan;
 use legal_steps::{Event, StepLine};

@@ -4,19 +4,19 @@
 #![tactic(auto)]
 
 mod acts;
+mod attempt;
 mod bottles;
 mod edges;
 mod going_on;
 mod in_hand;
 pub mod laws;
 mod player;
-mod running;
+mod round;
 mod steps;
-mod trying;
-mod turning;
+mod whole_trace;
 
 pub use acts::first_act;
 pub use going_on::{NotTraced, trace_on};
 pub use in_hand::acts_in_hand;
-pub use running::trace;
 pub use steps::step_of;
+pub use whole_trace::trace;

@@ -6,14 +6,14 @@
 //! all jobs are retired.
 #![tactic(auto)]
 
-mod agreeing;
-mod driving;
+mod agreement;
+mod drive;
 mod ended;
 pub mod laws;
 mod one_round;
 pub mod quiet;
 mod retired;
 
-pub use driving::rounds;
+pub use drive::rounds;
 pub use ended::Ended;
 pub use retired::{all_retired, are_at_rest};

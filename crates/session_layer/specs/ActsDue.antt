@@ -6,8 +6,8 @@ use Rattle.legal_steps.specs.declared.event.Event.TheVariants.{Reach, Act}
 use Rattle.legal_steps.specs.State.{State}
 use Rattle.legal_steps.specs.Legal.{May}
 use Rattle.one_history.specs.PhaseEvents.{event_of}
-use Rattle.session_layer.specs.declared.acting.Due.{Due}
-use Rattle.session_layer.specs.declared.acting.Due.TheVariants.{Command, Store, Nothing}
+use Rattle.session_layer.specs.declared.phase.Due.{Due}
+use Rattle.session_layer.specs.declared.phase.Due.TheVariants.{Command, Store, Nothing}
 
 -- the events of what is due
 abbrev pub events_due : Due → ℕ → List Event

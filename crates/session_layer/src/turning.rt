@@ -6,7 +6,7 @@ ghost use Rattle.edge_rule.specs.DeskView.{Owns, known};
 ghost use Rattle.turns.specs.Patience.{is_waiting};
 ghost use Rattle.session_layer.specs.Turn.{IsVisited, Along, Says, Took};
 
-use crate::acting::act;
+use crate::phase::act;
 use drinking_layer::due_moves_seen;
 use edge_rule::{Bench, Desk, Stepped, exchange_seen, look_at};
 use lab_plan::EdgeNo;

@@ -5,13 +5,13 @@
 #![tactic(auto)]
 
 mod due;
+mod edge_visits;
 mod longer;
 mod moves;
 mod resting;
-mod visiting;
 
 pub use due::{Due, wake_near, wake_self};
+pub use edge_visits::{visit, visit_all};
 pub use longer::{has_still_nothing_to_do, stays_marked};
 pub use moves::due_moves;
 pub use resting::rest;
-pub use visiting::{visit, visit_all};

@@ -8,7 +8,7 @@ ghost use Rattle.settling.specs.Resting.{Rests};
 ghost use Rattle.settling.specs.Attending.{TriesEdge, AttendsEdge, AttendsEdges, Attends};
 
 use crate::due::{Due, clear, is_due, is_noted, note, only_at, wake_at, wake_self};
-use crate::visiting::visit;
+use crate::edge_visits::visit;
 use interleaving::World;
 use lab_plan::{EdgeNo, JobNo};
 use legal_steps::{Dining, Drinking, End, Event};

@@ -2,7 +2,7 @@
 //! each session that any log has before it, and of each earlier session of its job.
 #![tactic(auto)]
 
-mod agreeing;
+mod agreement;
 mod behind;
 mod entries;
 mod entry_faults;
@@ -10,9 +10,9 @@ mod fault;
 mod faulty;
 mod jobs;
 mod named_twice;
-mod ordering;
+mod order;
 mod own;
-mod placing;
+mod place;
 mod span;
 pub mod timeline;
 

@@ -4,13 +4,13 @@ ghost use Rattle.lab_plan.specs.Limits.{most_jobs, most_instruments};
 ghost use Rattle.timeline.specs.Faults.{Answers};
 ghost use Rattle.timeline.specs.Clean.{AllClean};
 
-use crate::agreeing::{all_agree, all_right};
+use crate::agreement::{all_agree, all_right};
 use crate::behind::pairs_of;
 use crate::fault::TimelineFault;
 use crate::faulty::{check, contradiction};
-use crate::ordering::order_beside;
+use crate::order::order_beside;
 use crate::own::own_pairs;
-use crate::placing::place;
+use crate::place::place;
 use crate::span::Span;
 use report_reader::Report;
 use std::alloc::{Allocator, Global};

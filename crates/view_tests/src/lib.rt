@@ -7,6 +7,10 @@ mod blocks;
 #[cfg(test)]
 mod commands;
 #[cfg(test)]
+mod explanations;
+#[cfg(test)]
+mod faults;
+#[cfg(test)]
 mod gantts;
 #[cfg(test)]
 mod journals;
@@ -23,15 +27,11 @@ mod pictures;
 #[cfg(test)]
 mod printed;
 #[cfg(test)]
-mod reading;
-#[cfg(test)]
 mod seen;
 #[cfg(test)]
 mod stages;
 #[cfg(test)]
 mod tables;
-#[cfg(test)]
-mod telling;
 #[cfg(test)]
 mod traces;
 #[cfg(test)]

@@ -5,8 +5,8 @@
 //! of the plan, however many rounds there are.
 #![tactic(auto)]
 
-mod driving;
-mod holding;
+mod by_rounds;
+mod held;
 mod job_log;
 mod longest;
 mod run;
@@ -15,8 +15,8 @@ mod text;
 mod waits;
 mod watcher;
 
-pub use driving::{fresh_logs, run_by_rounds};
-pub use holding::held_by;
+pub use by_rounds::{fresh_logs, run_by_rounds};
+pub use held::held_by;
 pub use job_log::JobLog;
 pub use run::RoundsRun;
 pub use session::{Meal, Session};

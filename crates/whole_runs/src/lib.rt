@@ -4,9 +4,9 @@
 //! one after another.
 #![tactic(auto)]
 
-mod driving;
+mod runs;
 mod shown;
 
-pub use driving::{by_rounds, by_threads};
+pub use runs::{by_rounds, by_threads};
 pub use shown::{AtEnd, write_report};
 pub use workers::{Gate, NoGate};

@@ -4,20 +4,20 @@
 //! workers then stop early, and the calling thread takes the turns that are left. Workers with nothing to do sleep, and are woken.
 #![tactic(auto)]
 
-mod driving;
-mod finishing;
+mod drive;
 mod gate;
 mod halt;
+mod last_rounds;
 mod laws;
 mod muster;
 mod round;
-mod starting;
 mod team;
+mod teams;
 
-pub use driving::threads;
-pub use finishing::finish;
+pub use drive::threads;
 pub use gate::{Gate, NoGate, Passage, Through};
 pub use halt::Halt;
+pub use last_rounds::finish;
 pub use laws::turns_in_history;
 pub use muster::Muster;
 pub use rounds::{Ended, rounds};

@@ -3,7 +3,7 @@ use super::{
     EXAMPLE, Line, check_example, counts, finished, name_of, plan_of, put_all, put_commands,
     put_one, put_sessions, refuse, refuse_line, share,
 };
-use crate::asking::{ends_of, session_of};
+use crate::asked::{ends_of, session_of};
 use crate::rows::check;
 use lab_plan::name::{is_digit, is_name, is_same_name};
 use lab_plan::{Plan, PlanBuilder, PlanRefusal, Verb};

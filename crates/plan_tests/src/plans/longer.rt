@@ -1,7 +1,7 @@
 //! One more session of a plan's job, while the plan is in use: what it has then, the refusals in their order, and memory that runs out.
 use super::memory::fill;
 use super::{EXAMPLE, FIRST, Line, check_example, counts, plan_of};
-use crate::asking::{ends_of, job_of, place_of, session_of};
+use crate::asked::{ends_of, job_of, place_of, session_of};
 use crate::pairs::heap_of;
 use crate::rows::check;
 use lab_plan::{EdgeNo, InstrumentNo, JobNo, MoreRefusal, Place, Plan, PlanBuilder, Verb};

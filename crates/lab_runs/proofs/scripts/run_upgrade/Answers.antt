@@ -1,5 +1,5 @@
 use Rattle.std.proofs.Common.{arith, ap, Err}
-use Rattle.lab_program.specs.declared.reading.ReadFault.{ReadFault}
+use Rattle.lab_program.specs.declared.input.ReadFault.{ReadFault}
 use Rattle.lab_program.specs.Answers.{ScriptRefuses}
 use Rattle.lab_runs.specs.Scripts.{Upgrades}
 use Rattle.lab_program.proofs.RunAnswers.{for_read, not_read, reads_of}

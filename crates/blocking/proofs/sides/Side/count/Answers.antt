@@ -1,5 +1,5 @@
 use Rattle.std.proofs.Common.{◌≡◌, ◌+◌, ◌&&◌, ◌==◌, Bool, true, false, min, refl, sym, ap, ◌∙◌, eqb-true}
-use Rattle.blocking.specs.declared.counting.Wait.{Wait}
+use Rattle.blocking.specs.declared.counted.Wait.{Wait}
 use Rattle.blocking.specs.Owing.{SideView}
 use Rattle.blocking.proofs.Owing.{waits_on, turns}
 use Rattle.blocking.proofs.sides.Side.count.Goals as goal

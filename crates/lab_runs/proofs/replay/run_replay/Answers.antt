@@ -1,0 +1,23 @@
+use Rattle.std.proofs.Common.{arith, ap, Err}
+use Rattle.lab_program.specs.declared.input.ReadFault.{ReadFault}
+use Rattle.lab_runs.specs.Replays.{ReplaysScript, ReplayRefuses}
+use Rattle.lab_program.proofs.RunAnswers.{for_read, not_read, reads_of}
+use Rattle.lab_runs.proofs.replay.run_replay.Goals as goal
+
+pub returns-in_err-input-clause-answer : goal.returns-in_err-input-clause-answer
+returns-in_err-input-clause-answer g c =
+    not_read ReplaysScript ReplayRefuses (g.R.Source.left c.args.source.now)
+    (g.W.Sink.taken c.args.sink.now) c.in_err-input.field-0.0 c.from_residual.result c.from_residual.ensures.1
+    (λ is. c.in_err-input.ensures.long (ap (λ (e : ReadFault). Err e) is))
+
+pub returns-in_err-input-clause-reads : goal.returns-in_err-input-clause-reads
+returns-in_err-input-clause-reads g c =
+    reads_of c.in_err-input.field-0.0 c.from_residual.result (g.R.Source.failures c.args.source.now)
+    (g.R.Source.failures c.read_input.new.source) c.from_residual.ensures.1 c.in_err-input.ensures.count
+
+pub returns-clause-answer : goal.returns-clause-answer
+returns-clause-answer g c =
+    let input = c.in_ok-input.input in
+    for_read ReplaysScript ReplayRefuses (g.R.Source.left c.args.source.now) (g.W.Sink.taken c.args.sink.now)
+    (g.W.Sink.taken c.replay.new.sink) c.deref.result.now input.items c.replay.result
+    c.deref.ensures.value c.in_ok-input.ensures.whole (omega (arith, input.ok.0, c.in_ok-input.ensures.limit)) c.replay.ensures.answer

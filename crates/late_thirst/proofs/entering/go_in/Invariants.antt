@@ -1,5 +1,0 @@
-use Rattle.late_thirst.proofs.Passing.{ArePassedTo}
-use Rattle.late_thirst.proofs.entering.go_in.Given as goal
-
-abbrev pub invariant-loop-other : goal.invariant-loop-other
-invariant-loop-other l = ArePassedTo l.most l.ready l.needs l.job l.fn.places l.other l.places

@@ -1,5 +1,0 @@
-use Rattle.live_lab.proofs.Asked.{AskedTo}
-use Rattle.live_lab.proofs.asking.ask.Given as goal
-
-abbrev pub invariant-loop-job : goal.invariant-loop-job
-invariant-loop-job g l = AskedTo l.waiting l.world l.fn.line l.job l.line

@@ -1,0 +1,12 @@
+use Rattle.live_lab.specs.Keepers.{IsKeeper}
+use Rattle.live_lab.proofs.Bits.{among}
+use Rattle.live_lab.proofs.keepers.keepers_of.Goals as goal
+
+pub returns : goal.returns
+returns g c =
+    let w = c.args.world.now in
+    record {
+      jobs = c.those_of-jobs.ensures;
+      holding = among w c.those_of-jobs.result (λ k. IsKeeper w.plan w.state c.args.job c.args.instrument k) c.holding_of-holding.result c.those_of-jobs.ensures
+          c.holding_of-holding.ensures;
+    }

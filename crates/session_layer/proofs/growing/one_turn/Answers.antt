@@ -1,5 +1,0 @@
-use Rattle.session_layer.proofs.Grows as grows
-use Rattle.session_layer.proofs.growing.one_turn.Goals as goal
-
-pub returns : goal.returns
-returns c = grows.one_turn

@@ -1,5 +1,0 @@
-use Rattle.session_layer.proofs.Grows as grows
-use Rattle.session_layer.proofs.growing.turns_go_on.Goals as goal
-
-pub returns : goal.returns
-returns c = grows.turns_go_on
