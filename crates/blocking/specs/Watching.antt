@@ -1,5 +1,5 @@
 -- Desks that are looked at after each round, and what is counted then.
-use Rattle.std.specs.Prelude.{◌≡◌, ℕ, zero, suc, ◌+◌, ◌<◌, ◌==◌, min, nat_lt, Bool, true, ◌&&◌, List, [], ◌∷◌, length, slice_index_or, if◌then◌else◌}
+use Rattle.std.specs.Prelude.{◌≡◌, ℕ, ◌+◌, ◌<◌, ◌==◌, min, nat_lt, Bool, true, ◌&&◌, List, [], ◌∷◌, length, slice_index_or, if◌then◌else◌}
 use Rattle.std.specs.Int.{bit_at}
 use Rattle.lab_plan.specs.LabPlan.{LabPlan, bottles}
 use Rattle.lab_plan.specs.InstrumentSets.{holds}
