@@ -37,6 +37,25 @@ fits plan rounds j x t = record { fit = t.fit; there = let a = t.there in let b 
 jobs_are : (plan : LabPlan) (j : ℕ) → j < length plan.jobs → All (λ (x : Place). x.job ≡ j) (places_of plan j)
 jobs_are plan j inside = All-weaker (IsPlaceOf plan j) (λ (x : Place). x.job ≡ j) (λ x is. is.1) (places_of plan j) (places_of_job plan j inside)
 
+-- ---- on to another session
+
+abbrev moved_if : LabPlan → ℕ → TallyView → Bool → TallyView
+moved_if plan s x b = if b then x else record { session = s; sides = map (cleared_side plan) x.sides; kept = kept_then plan x }
+
+fit_if : (plan : LabPlan) (s : ℕ) (x : TallyView) → FitsTally plan x → (b : Bool) → All (FitsSide plan) (moved_if plan s x b).sides
+fit_if plan s x f true = f.fit
+fit_if plan s x f false = cleared_fit plan x.sides f.fit
+
+session_if : (plan : LabPlan) (s : ℕ) (x : TallyView) (b : Bool) → (x.session == s) ≡ b → (moved_if plan s x b).session ≡ s
+session_if plan s x true is = grind (arith, nat_tests, is)
+session_if plan s x false is = refl
+
+pub moved_fit : (plan : LabPlan) (s : ℕ) (x : TallyView) → FitsTally plan x → All (FitsSide plan) (moved_to plan s x).sides
+moved_fit plan s x f = fit_if plan s x f (x.session == s)
+
+pub moved_session : (plan : LabPlan) (s : ℕ) (x : TallyView) → (moved_to plan s x).session ≡ s
+moved_session plan s x = session_if plan s x (x.session == s) refl
+
 -- ---- what is put away
 
 -- who kept each session, once those of the present one are put away
@@ -180,4 +199,4 @@ module _ (plan : LabPlan) (old new : List (List Event)) (n : ℕ) (old_long : le
       }
 
   pub tells_then : (x y : TallyView) → Tells plan old j x → TallyThen plan (joined new) before after now x y → Tells plan new j y
-  tells_then x y t then = tells_on (moved_to plan now x) y (moves x t (x.session == now) refl) then.session then.sides then.kept
+  tells_then x y t next = tells_on (moved_to plan now x) y (moves x t (x.session == now) refl) next.session next.sides next.kept
