@@ -13,11 +13,11 @@ use std::marker::Model;
 
 /// Who kept a session waiting.
 #[derive(Drop)]
-pub(crate) struct Kept<A: Allocator = Global> {
+pub(crate) struct SessionKeepers<A: Allocator = Global> {
     blocks: Vec<Block, A>,
 }
 
-impl<A: Allocator> Model for Kept<A> {
+impl<A: Allocator> Model for SessionKeepers<A> {
     ghost use Rattle.std.specs.Prelude.{List};
     ghost use Rattle.block_lines.specs.declared.block.Block.{Block};
 
@@ -26,7 +26,7 @@ impl<A: Allocator> Model for Kept<A> {
     ghost view = { λ k. k.blocks.items };
 }
 
-impl<A: Allocator> Kept<A> {
+impl<A: Allocator> SessionKeepers<A> {
     pub fn blocks(&self) -> &[Block]
         ensures { result.now ≡ self.now }
     {
@@ -40,7 +40,7 @@ impl<A: Allocator> Kept<A> {
 pub(crate) struct Tally<A: Allocator = Global> {
     session: u32,
     sides: Vec<Side<A>, A>,
-    kept: Vec<Kept<A>, A>,
+    kept: Vec<SessionKeepers<A>, A>,
 }
 
 impl<A: Allocator> Model for Tally<A> {
@@ -52,12 +52,15 @@ impl<A: Allocator> Model for Tally<A> {
 }
 
 /// Nobody, for each of this many sessions.
-fn nobody<A: Allocator + Copy>(alloc: A, sessions: u32) -> Result<Vec<Kept<A>, A>, AllocError>
+fn nobody<A: Allocator + Copy>(
+    alloc: A,
+    sessions: u32,
+) -> Result<Vec<SessionKeepers<A>, A>, AllocError>
     ensures { IfOk result (λ kept. kept.items ≡ replicate sessions []) }
 {
     let mut kept = Vec::new(alloc);
     for _session in 0..sessions {
-        kept.push(Kept {
+        kept.push(SessionKeepers {
             blocks: Vec::new(alloc),
         })?;
     }
@@ -83,7 +86,7 @@ impl<A: Allocator> Tally<A> {
     }
 
     /// Who kept each session, by its number.
-    pub(crate) fn kept(&self) -> &[Kept<A>]
+    pub(crate) fn kept(&self) -> &[SessionKeepers<A>]
         ensures { result.now ≡ self.now.kept }
     {
         &self.kept
@@ -101,7 +104,7 @@ impl<A: Allocator> Tally<A> {
             return Ok(());
         }
         let blocks = largest_three(alloc, &counts)?;
-        self.kept[self.session as usize - 1] = Kept { blocks };
+        self.kept[self.session as usize - 1] = SessionKeepers { blocks };
         Ok(())
     }
 

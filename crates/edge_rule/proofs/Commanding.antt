@@ -29,7 +29,7 @@ use Rattle.edge_rule.specs.declared.desk.Desk.TheInside.{Inside}
 use Rattle.edge_rule.specs.declared.bench.Bench.TheInside as bench_fields
 use Rattle.plan_logs.specs.Logs.{IsAtCommand}
 use Rattle.turns.specs.History.{learned_all, known_by, state_after, events_by, IsHistory}
-use Rattle.one_history.specs.Rule.{phase_place, word_count, Kept}
+use Rattle.one_history.specs.Rule.{phase_place, word_count, HasOneHistory}
 use Rattle.one_history.specs.Grow.{hand_in, adding, mine, Does, own_phase, next_instrument, reached, acted}
 use Rattle.edge_rule.specs.DeskView.{DeskView, Owns, Adds, Commanded, known}
 use Rattle.legal_steps.specs.Counting.{counts_of}
@@ -112,7 +112,7 @@ module _ {A : Type 0} (b : bench_fields.Inside A) (d : Inside A) (is_bench : IsB
 
   abbrev pub ReachesAt : ℕ → ℕ → Type 0
   ReachesAt i n = (d.seat.table_id ≡ b.table.shared.table_id) × (i < b.table.shared.table_id.words)
-      × Allows (Kept key) slots d.seat.id d.seat.me i (λ _. n) (λ _. reached (step slots i n 0 none) d.seat.me n)
+      × Allows (HasOneHistory key) slots d.seat.id d.seat.me i (λ _. n) (λ _. reached (step slots i n 0 none) d.seat.me n)
 
   pub reach_requires : (i n : ℕ) → i ≡ phase_place b.plan.now d.job → n ≡ phase_word_of (record d.phase { drinking = Reaching }) → ReachesAt i n
   reach_requires i n is_i is_n =
@@ -207,7 +207,7 @@ module _ {A : Type 0} (b : bench_fields.Inside A) (d : Inside A) (is_bench : IsB
 
       abbrev pub ActsAt : ℕ → ℕ → List (ℕ × LogView) → Type 0
       ActsAt i n c = (s1.table_id ≡ b.table.shared.table_id) × (i < b.table.shared.table_id.words)
-          × Allows (Kept key) slots s1.id (v1, c) i (λ _. n) (λ _. acted (step slots i n 0 none) (v1, c) n)
+          × Allows (HasOneHistory key) slots s1.id (v1, c) i (λ _. n) (λ _. acted (step slots i n 0 none) (v1, c) n)
 
       pub act_requires : (i n : ℕ) (z : LogView) → i ≡ phase_place b.plan.now d.job
           → n ≡ phase_word_of (record d.phase { drinking = Drinks; position = d.phase.position + 1 }) → z ≡ with_log_entry y entry
@@ -231,13 +231,13 @@ module _ {A : Type 0} (b : bench_fields.Inside A) (d : Inside A) (is_bench : IsB
           let whole1 : events_by (hand_in v1).job v1.front ≡ (hand_in v1).deeds = rests1.whole in
           let n_is : n ≡ phase_word_of (record (own_phase v1) { drinking = Drinks; position = (own_phase v1).position + 1 }) =
           is_n ∙ ap (λ (q : JobState). phase_word_of (record q { drinking = Drinks; position = q.position + 1 })) (sym phase1) in
-          let allows : Allows (Kept cp) slots s1.id (v1, c) (phase_place cp (hand_in v1).job)
+          let allows : Allows (HasOneHistory cp) slots s1.id (v1, c) (phase_place cp (hand_in v1).job)
           (λ _. n) (λ _. acted (step slots (phase_place cp (hand_in v1).job) n 0 none) (v1, c) n) =
           acts cp slots s1.id v1 c (led v1 rests1.mine) (subst (λ (q : ℕ). q < length cp.jobs) (sym job1) here) n k z is_c may1 slot1 z_is whole1 n_is in
           subst (λ q. ActsAt q n c) (sym place) (
             same_table ∙ owns.0,
             (omega arith),
-            subst (λ (q : LabPlan × ℕ). Allows (Kept q.0) slots s1.id (v1, c) (phase_place q.0 q.1) (λ _. n)
+            subst (λ (q : LabPlan × ℕ). Allows (HasOneHistory q.0) slots s1.id (v1, c) (phase_place q.0 q.1) (λ _. n)
                 (λ _. acted (step slots (phase_place q.0 q.1) n 0 none) (v1, c) n)) (λ r. (owns.1 r, job1 r)) allows,
           )
 

@@ -32,7 +32,7 @@ use Rattle.legal_steps.specs.Counting.{counts_of}
 use Rattle.edge_rule.specs.Counting.{counted, AreFew}
 use Rattle.edge_rule.proofs.CountsKept.{moves_uncounted, counts_grow, counts_whole, few_in}
 use Rattle.turns.specs.History.{learned, learned_all, state_after}
-use Rattle.one_history.specs.Rule.{edge_place, phase_place, Kept}
+use Rattle.one_history.specs.Rule.{edge_place, phase_place, HasOneHistory}
 use Rattle.one_history.specs.Grow.{hand_in, mine, seen_state, Grows, Does, tried, phase_event, own_phase, stored}
 use Rattle.edge_rule.specs.DeskView.{DeskView, Owns, Adds, known, shown}
 use Rattle.edge_rule.specs.DeskInside.{seat_view, view_of, kept, fixed, AreOfPlan, IsDesk}
@@ -83,7 +83,7 @@ module _ {A : Type 0} (b : bench_fields.Inside A) (d : Inside A) (is_bench : IsB
 
   abbrev pub Expects : ℕ → ℕ → ℕ → Type 0
   Expects n old new = (d.seat.table_id ≡ b.table.shared.table_id) × (n < b.table.shared.table_id.words)
-      × Allows (Kept b.table.shared.key.plan.value) b.table.shared.table_id.slots d.seat.id d.seat.me n
+      × Allows (HasOneHistory b.table.shared.key.plan.value) b.table.shared.table_id.slots d.seat.id d.seat.me n
       (λ k. either (eqb k old) new k) (tried (step b.table.shared.table_id.slots n old new none) d.seat.me)
 
   pub try_requires : (n old new : ℕ) (x y : EdgeState) → n ≡ edge_place e → x ≡ edge (mine mv) e
@@ -267,7 +267,7 @@ module _ {A : Type 0} (b : bench_fields.Inside A) (d : Inside A) (is_bench : IsB
 
   abbrev pub Stored : ℕ → ℕ → Type 0
   Stored i n = (d.seat.table_id ≡ b.table.shared.table_id) × (i < b.table.shared.table_id.words)
-      × Allows (Kept b.table.shared.key.plan.value) b.table.shared.table_id.slots d.seat.id d.seat.me i
+      × Allows (HasOneHistory b.table.shared.key.plan.value) b.table.shared.table_id.slots d.seat.id d.seat.me i
       (λ _. n) (λ _. stored (step b.table.shared.table_id.slots i n 0 none) d.seat.me n)
 
   pub store_requires : (what : PhaseEvent) (i n : ℕ) (y : JobState) → MayStore what (view_of d)

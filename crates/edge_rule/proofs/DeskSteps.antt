@@ -28,7 +28,7 @@ use Rattle.legal_steps.specs.Counting.{counts_of}
 use Rattle.edge_rule.proofs.CountsKept.{IsUncounted, counts_stay}
 use Rattle.edge_rule.specs.declared.bench.Bench.TheInside as bench_fields
 use Rattle.turns.specs.History.{events_by, learned_all, known_by, IsHistory}
-use Rattle.one_history.specs.Rule.{word_count, Kept}
+use Rattle.one_history.specs.Rule.{word_count, HasOneHistory}
 use Rattle.turns.specs.Lists.{Each}
 use Rattle.one_history.specs.Grow.{hand_or, hand_in, rest_hands, adding, IsLed, IsMine, mine, Grows, Does}
 use Rattle.one_history.specs.Groups.{with_group, all_of, StandUnbroken}
@@ -226,15 +226,15 @@ module _ {A : Type 0} (b : bench_fields.Inside A) (d : Inside A) (is_bench : IsB
   slots = b.table.shared.table_id.slots
 
   abbrev Framed : (i : ℕ) (f : ℕ → ℕ) (then : ℕ → Me LogView View → Type 0) → Type 0
-  Framed i f then = (d.seat.table_id ≡ b.table.shared.table_id) × (i < b.table.shared.table_id.words) × Allows (Kept key) slots d.seat.id d.seat.me i f then
+  Framed i f then = (d.seat.table_id ≡ b.table.shared.table_id) × (i < b.table.shared.table_id.words) × Allows (HasOneHistory key) slots d.seat.id d.seat.me i f then
 
   -- a step by the plan of the hand is one by the key of the table
   pub framed : (i : ℕ) (f : ℕ → ℕ) (then : ℕ → Me LogView View → Type 0) → i < word_count mine_plan
-      → Allows (Kept mine_plan) slots d.seat.id d.seat.me i f then → Framed i f then
+      → Allows (HasOneHistory mine_plan) slots d.seat.id d.seat.me i f then → Framed i f then
   framed i f then l allows = (
     owns.0,
     (let words = is_bench.words in let l' : i < word_count key = subst (λ (z : LabPlan). i < word_count z) owns.1 l in omega arith),
-    subst (λ (z : LabPlan). Allows (Kept z) slots d.seat.id d.seat.me i f then) owns.1 allows,
+    subst (λ (z : LabPlan). Allows (HasOneHistory z) slots d.seat.id d.seat.me i f then) owns.1 allows,
   )
 
   pub plan_known : b.plan.now ≡ mine_plan

@@ -13,7 +13,7 @@ use Rattle.legal_steps.specs.declared.phase.Drinking.TheVariants.{Reaching}
 use Rattle.legal_steps.specs.State.{Seat, State, edge, phase, seat, drinking}
 use Rattle.legal_steps.specs.Run.{IsLegalFrom, actor}
 use Rattle.turns.specs.History.{state_after, events_by, known_by}
-use Rattle.one_history.specs.Rule.{phase_place, Spelled, Held, Kept}
+use Rattle.one_history.specs.Rule.{phase_place, Spelled, Held, HasOneHistory}
 use Rattle.turns.specs.Lists.{StartsWith, Each}
 use Rattle.one_history.specs.Groups.{StandUnbroken}
 use Rattle.one_history.proofs.Groups.{stand_in_more}
@@ -133,7 +133,7 @@ module _ (p : LabPlan) where
   edges_fit : (s : State) (e : ℕ) → Fits p s → e < length (edges p) → IsOfBottles (length (bottles p e)) (edge s e)
   edges_fit s e fit inside = edge_fits p s e fit inside
 
-  pub words_fit : (id : ℕ) (v : View) (words : List ℕ) (logs : List LogView) → Final (Seen (Kept p) id v) words logs → AreWords p words
+  pub words_fit : (id : ℕ) (v : View) (words : List ℕ) (logs : List LogView) → Final (Seen (HasOneHistory p) id v) words logs → AreWords p words
   words_fit id v words logs f =
       let k = f.1.0 in
       let w : State = state_after p k.history in
@@ -145,11 +145,11 @@ module _ (p : LabPlan) where
         phases_fit = λ j l. (phase w j, spelled.phase_words j l, phase_fits p w j k.is_plan fit l);
       }
 
-  pub logs_fit : (id : ℕ) (v : View) (words : List ℕ) (logs : List LogView) → Final (Seen (Kept p) id v) words logs → length logs ≡ length p.instruments
+  pub logs_fit : (id : ℕ) (v : View) (words : List ℕ) (logs : List LogView) → Final (Seen (HasOneHistory p) id v) words logs → length logs ≡ length p.instruments
   logs_fit id v words logs f = sym f.3 ∙ f.1.0.homes.deep
 
   pub ends : (id : ℕ) (desks : List DeskView) (c : ClosedView) → c.plan ≡ p → Each (λ (d : DeskView). d.plan ≡ p) desks → HasAll p desks
-      → Each RestsInGroups desks → AreCounted c.counts desks → Final (Seen (Kept p) id (gathered desks)) c.words c.logs → IsEnd p desks c
+      → Each RestsInGroups desks → AreCounted c.counts desks → Final (Seen (HasOneHistory p) id (gathered desks)) c.words c.logs → IsEnd p desks c
   ends id desks c same plans all rests counted f =
       let k = f.1.0 in
       let h : List Event = k.history in

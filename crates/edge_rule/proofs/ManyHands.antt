@@ -20,7 +20,7 @@ use Rattle.one_history.specs.declared.board.View.{View}
 use Rattle.instrument_log.specs.InstrumentLog.{LogView}
 use Rattle.turns.specs.History.{IsHistory, events_by}
 use Rattle.turns.specs.Lists.{StartsWith, Each}
-use Rattle.one_history.specs.Rule.{Kept}
+use Rattle.one_history.specs.Rule.{HasOneHistory}
 use Rattle.one_history.specs.Grow.{mine, hand_or, hand_in, adding, IsMine, IsLed, rest_hands, Grows}
 use Rattle.one_history.specs.Seating.{glued, lent_left, backed_left, backed_right, but_last, last_hand, but_last_from, last_from, noticed, taken_back}
 use Rattle.one_history.proofs.Keeps.{appends, tells, grown}
@@ -46,7 +46,7 @@ each_end P (x ∷ a) b e = each_end P a b e.1
 module _ (p : LabPlan) where
   -- the last hand goes to a seat of its own
   pub backs : (id : ℕ) (v : View) (x : Hand) (l : List Hand) (y : Hand) → v.hands ≡ x ∷ (l ++ y ∷ [])
-      → Each (λ (z : Hand). z.job ≢ y.job) (x ∷ l) → Splits (Kept p) id v (backed_left v) (backed_right v)
+      → Each (λ (z : Hand). z.job ≢ y.job) (x ∷ l) → Splits (HasOneHistory p) id v (backed_left v) (backed_right v)
   backs id v x l y is apart = moves_hand p id v (backed_left v) (backed_right v) y (λ h f t. (f, t)) (λ h f t. ((h, refl), tt))
       (λ P e. subst (Each P) (sym (ap but_last is ∙ but_last_snoc x l y)) (each_begin P (x ∷ l) (y ∷ []) (subst (Each P) is e)))
       (λ P e. (each_end P (x ∷ l) (y ∷ []) (subst (Each P) is e)).0)
@@ -54,12 +54,12 @@ module _ (p : LabPlan) where
       (subst (Each (λ (z : Hand). z.job ≢ y.job)) (sym (ap but_last is ∙ but_last_snoc x l y)) apart)
 
   pub notices : (slots id : ℕ) (v : View) (c : List (ℕ × LogView)) → IsLed v
-      → Allows (Kept p) slots id (v, c) 0 (λ n. n) (noticed (step slots 0 0 0 none) (v, c))
+      → Allows (HasOneHistory p) slots id (v, c) 0 (λ n. n) (noticed (step slots 0 0 0 none) (v, c))
   notices slots id v c led s k _ at _ = (
     grown p v k.history [],
     keeps,
     tt,
-    subst (λ ws. Kept p record { words = ws; homes = s.homes; views = set s.views id (grown p v k.history []) }) (sym (set-get_or s.words 0 0))
+    subst (λ ws. HasOneHistory p record { words = ws; homes = s.homes; views = set s.views id (grown p v k.history []) }) (sym (set-get_or s.words 0 0))
         (appends p s k id v at led [] tt tt s.words k.words s.homes k.homes),
     (tells p s k id v at led [] tt tt, refl),
   )

@@ -12,7 +12,7 @@ use Rattle.edge_word.specs.Words.{word_of, IsOfBottles}
 use Rattle.edge_word.proofs.WordBits.{no_two_edges}
 use Rattle.edge_word.proofs.WordLemmas.{IsOfBottles-28}
 use Rattle.one_history.specs.declared.board.View.{View}
-use Rattle.one_history.specs.Rule.{edge_place, Kept}
+use Rattle.one_history.specs.Rule.{edge_place, HasOneHistory}
 use Rattle.one_history.specs.Grow.{hand_in, Does, looked}
 use Rattle.one_history.proofs.Looking.{looks}
 use Rattle.edge_rule.specs.DeskView.{BenchView}
@@ -38,7 +38,7 @@ module _ {A : Type 0} (b : bench_fields.Inside A) (x : BenchView) (view : bench_
 
   abbrev pub Sees : Type 0
   Sees = (s.table_id ≡ b.table.shared.table_id) × (n < b.table.shared.table_id.words)
-      × Allows (Kept b.table.shared.key.plan.value) b.table.shared.table_id.slots s.id s.me n (λ k. k)
+      × Allows (HasOneHistory b.table.shared.key.plan.value) b.table.shared.table_id.slots s.id s.me n (λ k. k)
       (looked (step b.table.shared.table_id.slots n 0 0 none) s.me)
 
   pub see_requires : Sees
@@ -47,7 +47,7 @@ module _ {A : Type 0} (b : bench_fields.Inside A) (x : BenchView) (view : bench_
     (let words = is_bench.words in
         let inside : e < length (edges b.table.shared.key.plan.value) = subst (λ (z : LabPlan). e < length (edges z)) same_plan own_here.is_edge in
         omega arith),
-    subst (λ (z : LabPlan × ℕ). Allows (Kept z.0) b.table.shared.table_id.slots s.id s.me z.1 (λ k. k)
+    subst (λ (z : LabPlan × ℕ). Allows (HasOneHistory z.0) b.table.shared.table_id.slots s.id s.me z.1 (λ k. k)
         (looked (step b.table.shared.table_id.slots z.1 0 0 none) s.me)) (λ i. (same_plan i, sym at i))
         (looks p b.table.shared.table_id.slots s.id s.me.0 s.me.1 (led s.me.0 rest.mine) rest.inside e own_here),
   )

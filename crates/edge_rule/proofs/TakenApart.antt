@@ -7,7 +7,7 @@ use Rattle.instrument_log.specs.InstrumentLog.{LogView}
 use Rattle.legal_steps.specs.declared.counts.Counts.{Counts}
 use Rattle.atomic_table.specs.Seated.{TableId}
 use Rattle.one_history.specs.declared.board.View.{View}
-use Rattle.one_history.specs.Rule.{Kept}
+use Rattle.one_history.specs.Rule.{HasOneHistory}
 use Rattle.one_history.specs.Seating.{glued}
 use Rattle.turns.specs.Lists.{Each}
 use Rattle.turns.proofs.Runs.{each_map}
@@ -45,7 +45,7 @@ module _ {A : Type 0} (d : Inside A) (ok : IsDesk d) (x : DeskView) (view : view
 module _ {A : Type 0} (b : bench_fields.Inside A) (x : BenchView) (bench : bench_of b ≡ x) (ok : IsBench b) (desks : List DeskView) (counts : List Counts)
     (owns : Each (Owns x) desks) (all : HasAll x.plan desks) (rests : Each RestsInGroups desks) (counted : AreCounted counts desks)
     (id : ℕ) (m : Me LogView View) (is_m : m ≡ (gathered desks, [])) (words : List ℕ) (logs : List LogView)
-    (final : Final (Seen (Kept b.table.shared.key.plan.value) id m.0) words logs) where
+    (final : Final (Seen (HasOneHistory b.table.shared.key.plan.value) id m.0) words logs) where
   abbrev p : LabPlan
   p = b.table.shared.key.plan.value
 
@@ -59,7 +59,7 @@ module _ {A : Type 0} (b : bench_fields.Inside A) (x : BenchView) (bench : bench
   end = ends p id desks shown (sym ok.plan)
       (each_map (Owns x) (λ (d : DeskView). d.plan ≡ p) (λ d o. o.1 ∙ sym same) desks owns)
       (subst (λ (z : LabPlan). HasAll z desks) (sym same) all) rests counted
-      (subst (λ (z : Me LogView View). Final (Seen (Kept p) id z.0) words logs) is_m final)
+      (subst (λ (z : Me LogView View). Final (Seen (HasOneHistory p) id z.0) words logs) is_m final)
 
   pub end_shown : IsEnd x.plan desks shown
   end_shown = subst (λ (z : LabPlan). IsEnd z desks shown) same end

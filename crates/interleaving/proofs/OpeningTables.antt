@@ -21,7 +21,7 @@ use Rattle.legal_steps.proofs.OpeningLemmas.{fits_opening}
 use Rattle.legal_steps.proofs.ReachedLemmas.{reached_opening}
 use Rattle.legal_steps.specs.declared.event.Event.{Event}
 use Rattle.legal_steps.specs.Counting.{no_counts, counts_of}
-use Rattle.interleaving.specs.Kept.{Kept, no_kept, IsKept}
+use Rattle.interleaving.specs.Kept.{TapeView, no_kept, IsKept}
 use Rattle.interleaving.specs.World.{IsReachedBy}
 use Rattle.interleaving.proofs.GoingOn.{kept_none}
 use Rattle.interleaving.proofs.LogLemmas.{shown, are_empty}
@@ -85,12 +85,12 @@ reached_opened t plan s tally n shows all none is_plan opens acyclic start past 
     subst (λ (z : Setting × Setting × List Event). IsReachedBy z.1.plan z.0.state z.2 z.1.state tally) (λ i. (sym (began ∙ shows) i, sym shows i, sym empty i))
     (subst (IsReachedBy plan s [] s) (sym counts) (reached_at_start plan s is_plan opens acyclic))
 
-pub kept_opened : (past : List Event) (kept : Kept) → kept ≡ no_kept → IsKept past kept
+pub kept_opened : (past : List Event) (kept : TapeView) → kept ≡ no_kept → IsKept past kept
 kept_opened past kept none = subst (IsKept past) (sym none) (kept_none past 0)
 
 pub is_at_start : (t : Setting) (plan : LabPlan) (s : State) (tally : List Counts) (n : ℕ)
     → t ≡ record { plan = plan; state = s } → n ≡ length plan.jobs → tally ≡ replicate n no_counts
-    → (start : Setting) (past : List Event) (kept : Kept) → start ≡ t → past ≡ [] → kept ≡ no_kept
+    → (start : Setting) (past : List Event) (kept : TapeView) → start ≡ t → past ≡ [] → kept ≡ no_kept
     → record { plan = t.plan; state = t.state; counts = tally; opening = start.state; past = past; kept = kept } ≡ at_start plan s
 is_at_start t plan s tally n shows all none start past kept began empty untold =
     let counts : tally ≡ replicate (length plan.jobs) no_counts = none ∙ ap (λ k. replicate k no_counts) all in

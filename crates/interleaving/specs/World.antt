@@ -12,7 +12,7 @@ use Rattle.legal_steps.specs.Opening.{IsOpening}
 use Rattle.legal_steps.specs.Precedence.{IsAcyclic}
 use Rattle.legal_steps.specs.declared.counts.Counts.{Counts}
 use Rattle.interleaving.specs.Counting.{GoOnBy, AreCountsOf}
-use Rattle.interleaving.specs.Kept.{Kept, after_kept}
+use Rattle.interleaving.specs.Kept.{TapeView, after_kept}
 
 -- what contracts see of a world
 pub record WorldView : Type 0 where
@@ -22,7 +22,7 @@ pub record WorldView : Type 0 where
   -- where it began, the events since, and those of them that are kept
   pub opening : State
   pub past : List Event
-  pub kept : Kept
+  pub kept : TapeView
 
 -- the state is reached, and the counts are those of the events that lead there
 pub record IsReachedWith (plan : LabPlan) (s : State) (counts : List Counts) : Type 0 where

@@ -16,9 +16,9 @@ pub(crate) struct Tape<A: Allocator = Global> {
 
 impl<A: Allocator> Model for Tape<A> {
     ghost use Rattle.std.specs.Prelude.{◌≤◌, vec_capacity};
-    ghost use Rattle.interleaving.specs.Kept.{Kept};
+    ghost use Rattle.interleaving.specs.Kept.{TapeView};
 
-    ghost Value = { Kept };
+    ghost Value = { TapeView };
 
     ghost view = { λ t. record { room = t.room; events = t.events.items; whole = t.whole } };
 

@@ -8,7 +8,7 @@ use Rattle.legal_steps.specs.declared.phase.Drinking.TheVariants.{Reaching}
 use Rattle.legal_steps.specs.State.{drinking}
 use Rattle.legal_steps.specs.Legal.{IsJob}
 use Rattle.legal_steps.specs.Opening.{the_opening}
-use Rattle.interleaving.specs.Kept.{Kept, after_kept}
+use Rattle.interleaving.specs.Kept.{TapeView, after_kept}
 use Rattle.interleaving.specs.Start.{at_start}
 use Rattle.interleaving.specs.World.{WorldView, IsReachedBy}
 use Rattle.explaining.specs.Explanations.{events_from_opening}
@@ -58,8 +58,8 @@ kept_in w old new x room wide start fin none is =
       none_in_hand = none;
       opening = fin.goes_on.same_opening ∙ ap (λ (v : WorldView). v.opening) start;
       past = fin.goes_on.past ∙ ap (λ (v : WorldView). v.past ++ fin.acts) start;
-      kept = ap (λ (k : Kept). k.events) kept;
-      whole = ap (λ (k : Kept). k.whole) kept;
+      kept = ap (λ (k : TapeView). k.events) kept;
+      whole = ap (λ (k : TapeView). k.whole) kept;
       clocks = refl;
     })
   where

@@ -4,7 +4,7 @@ use Rattle.std.proofs.lemmas.Bool.{false≢true}
 use Rattle.std.proofs.lemmas.Bool.Decides.{Decides-ltb}
 use Rattle.std.proofs.lemmas.List.{take_at}
 use Rattle.legal_steps.specs.declared.event.Event.{Event}
-use Rattle.interleaving.specs.Kept.{Kept, after_kept}
+use Rattle.interleaving.specs.Kept.{TapeView, after_kept}
 use Rattle.interleaving.specs.World.{WorldView}
 use Rattle.lab_journal.specs.Taking.{taken}
 use Rattle.lab_journal.specs.Laws.{JournalsFollow}
@@ -17,10 +17,10 @@ taken_is w before is =
     (λ i. take (n i) (is i)) ∙ take_at before w.kept.events (length before) refl
 
 -- if none was left out, all are there
-abbrev AreAllKept : Kept → List Event → Type 0
+abbrev AreAllKept : TapeView → List Event → Type 0
 AreAllKept kept events = (after_kept kept events).whole ≡ true → (kept.whole ≡ true) × ((after_kept kept events).events ≡ kept.events ++ events)
 
-one_kept : (kept : Kept) (event : Event) (events : List Event) (b : Bool) → ((k : Kept) → AreAllKept k events)
+one_kept : (kept : TapeView) (event : Event) (events : List Event) (b : Bool) → ((k : TapeView) → AreAllKept k events)
     → (after_kept (if b then record kept { events = kept.events ++ event ∷ [] } else record kept { whole = false }) events).whole ≡ true
     → (kept.whole ≡ true) × ((after_kept (if b then record kept { events = kept.events ++ event ∷ [] } else record kept { whole = false }) events).events
     ≡ kept.events ++ event ∷ events)
@@ -28,16 +28,16 @@ one_kept kept event events true more whole =
     let all = more (record kept { events = kept.events ++ event ∷ [] }) whole in (all.0, all.1 ∙ append_assoc kept.events (event ∷ []) events)
 one_kept kept event events false more whole = absurd (false≢true (more (record kept { whole = false }) whole).0)
 
-all_kept : (kept : Kept) (events : List Event) → AreAllKept kept events
+all_kept : (kept : TapeView) (events : List Event) → AreAllKept kept events
 all_kept kept [] = λ whole. (whole, sym (append-nil kept.events))
 all_kept kept (event ∷ events) = one_kept kept event events (ltb (length kept.events) kept.room) (λ k. all_kept k events)
 
 pub journals_follow : JournalsFollow
 journals_follow x y events led is whole =
     let go = led.goes_on in
-    let all = all_kept x.kept go.more (ap (λ (k : Kept). k.whole) (sym go.kept) ∙ whole) in
+    let all = all_kept x.kept go.more (ap (λ (k : TapeView). k.whole) (sym go.kept) ∙ whole) in
     let ends = is all.0 in
-    let kept : y.kept.events ≡ x.kept.events ++ go.more = ap (λ (k : Kept). k.events) go.kept ∙ all.1 in
+    let kept : y.kept.events ≡ x.kept.events ++ go.more = ap (λ (k : TapeView). k.events) go.kept ∙ all.1 in
     let past : y.past ≡ ends.0 ++ y.kept.events =
     go.past ∙ (ap (λ (l : List Event). l ++ go.more) ends.1 ∙ (append_assoc ends.0 x.kept.events go.more ∙ ap (λ (l : List Event). ends.0 ++ l) (sym kept))) in
     taken_is y ends.0 past ∙ sym (taken_is x ends.0 ends.1)

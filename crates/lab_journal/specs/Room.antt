@@ -1,6 +1,6 @@
 -- For readers: room for the steps of longer sessions.
 use Rattle.std.specs.Prelude.{◌≡◌, ◌⊎◌, ℕ, ◌<◌, ◌≤◌, true, false, [], length}
-use Rattle.interleaving.specs.Kept.{Kept}
+use Rattle.interleaving.specs.Kept.{TapeView}
 use Rattle.live_lab.specs.Labs.{LabView, with_kept}
 use Rattle.lab_journal.specs.declared.more_room.NoRoom.{NoRoom}
 use Rattle.lab_journal.specs.declared.more_room.NoRoom.TheVariants.{NoMemory, HasSteps}
@@ -13,6 +13,6 @@ HasMoreRoom a b =
     × (b ≡ with_kept a (record { room = room; events = []; whole = true })))
 
 -- why there is no more: it keeps its steps, and there was no memory; or some are kept that weren't taken yet, or one was left out for want of room
-abbrev pub IsWhyNoRoom : Kept → NoRoom → Type 0
+abbrev pub IsWhyNoRoom : TapeView → NoRoom → Type 0
 IsWhyNoRoom kept NoMemory = 0 < kept.room
 IsWhyNoRoom kept HasSteps = (0 < length kept.events) ⊎ (kept.whole ≡ false)

@@ -4,7 +4,7 @@ use Rattle.lab_plan.specs.LabPlan.{LabPlan}
 use Rattle.legal_steps.specs.State.{session}
 use Rattle.legal_steps.specs.Opening.{the_opening}
 use Rattle.turns.specs.Patience.{waited_in}
-use Rattle.interleaving.specs.Kept.{Kept}
+use Rattle.interleaving.specs.Kept.{TapeView}
 use Rattle.interleaving.specs.World.{WorldView}
 use Rattle.interleaving.specs.Start.{at_start}
 use Rattle.lab_program.specs.Answers.{ScriptRefuses}
@@ -42,7 +42,7 @@ abbrev pub fresh_lab : LabPlan → LabView
 fresh_lab plan = lab_in (opened plan)
 
 -- the same lab, but that this is kept of it
-abbrev pub with_kept : LabView → Kept → LabView
+abbrev pub with_kept : LabView → TapeView → LabView
 with_kept x kept = record x { world = record x.world { kept = kept } }
 
 -- the same lab, but that this is its line

@@ -12,7 +12,7 @@ use Rattle.legal_steps.specs.State.{State, phase}
 use Rattle.legal_steps.specs.Run.{IsLegalFrom}
 use Rattle.one_history.specs.declared.board.View.{View}
 use Rattle.turns.specs.History.{state_after}
-use Rattle.one_history.specs.Rule.{phase_place, Kept}
+use Rattle.one_history.specs.Rule.{phase_place, HasOneHistory}
 use Rattle.one_history.specs.Grow.{hand_in, IsLed, Does, glanced}
 use Rattle.turns.proofs.Few.{phase_fits}
 use Rattle.one_history.proofs.Keeps.{grown, held_in, appends, tells}
@@ -23,7 +23,7 @@ module _ (p : LabPlan) (slots id : ℕ) (v : View) (c : List (ℕ × LogView)) (
   j = (hand_in v).job
 
   pub glances : (k : ℕ) → k ≢ j → k < length p.jobs
-      → Allows (Kept p) slots id (v, c) (phase_place p k) (λ n. n) (glanced (step slots (phase_place p k) 0 0 none) (v, c))
+      → Allows (HasOneHistory p) slots id (v, c) (phase_place p k) (λ n. n) (glanced (step slots (phase_place p k) 0 0 none) (v, c))
   glances k apart inside s r _ at _ =
       let w : State = state_after p r.history in
       let x : JobState = phase w k in
@@ -37,7 +37,7 @@ module _ (p : LabPlan) (slots id : ℕ) (v : View) (c : List (ℕ × LogView)) (
         grown p v r.history g,
         keeps,
         tt,
-        subst (λ ws. Kept p record { words = ws; homes = s.homes; views = set s.views id (grown p v r.history g) })
+        subst (λ ws. HasOneHistory p record { words = ws; homes = s.homes; views = set s.views id (grown p v r.history g) })
             (sym (set-get_or s.words (phase_place p k) 0))
             (appends p s r id v at led g (refl, tt) legal s.words r.words s.homes r.homes),
         (

@@ -21,7 +21,7 @@ use Rattle.edge_word.specs.Phases.{phase_word_of}
 use Rattle.one_history.specs.declared.board.Hand.{Hand}
 use Rattle.one_history.specs.declared.board.View.{View}
 use Rattle.turns.specs.History.{is_by, events_by, known_by, IsHistory, state_after}
-use Rattle.one_history.specs.Rule.{edge_place, phase_place, Homed, Spelled, Held, Sees, Kept}
+use Rattle.one_history.specs.Rule.{edge_place, phase_place, Homed, Spelled, Held, Sees, HasOneHistory}
 use Rattle.turns.specs.Reaching.{IsReachingFor}
 use Rattle.turns.specs.Lists.{StartsWith, Each}
 use Rattle.one_history.specs.Grow.{hand_in, rest_hands, adding, IsLed, mine, Grows}
@@ -71,11 +71,11 @@ module _ (p : LabPlan) where
   rest_held h g owner id v led by f = held_else h g owner id (hand_in v).job (rest_hands v.hands) by led.1 (subst (Each (Held p h owner id)) led.0 f.hands).1
 
   -- The general step: a group of legal events of one job is added
-  pub appends : (s : TableState LogView View) (k : Kept p s) (id : ℕ) (v : View) → get_elem? s.views id ≡ some v → IsLed v
+  pub appends : (s : TableState LogView View) (k : HasOneHistory p s) (id : ℕ) (v : View) → get_elem? s.views id ≡ some v → IsLed v
       → (g : List Event) → Each (λ (x : Event). actor x ≡ (hand_in v).job) g → IsLegalFrom p (state_after p k.history) g
       → (ws : List ℕ) → Spelled p (after_all p (state_after p k.history) g) ws
       → (hs : List (Option LogView)) → Homed p (after_all p (state_after p k.history) g) hs
-      → Kept p record { words = ws; homes = hs; views = set s.views id (grown v k.history g) }
+      → HasOneHistory p record { words = ws; homes = hs; views = set s.views id (grown v k.history g) }
   appends s k id v at led g by legal ws spelled hs homed =
       let h : List Event = k.history in
       let t = held_in h k.owner id v led (k.seats id v at) in
@@ -98,7 +98,7 @@ module _ (p : LabPlan) where
         ];
       }
 
-  pub tells : (s : TableState LogView View) (k : Kept p s) (id : ℕ) (v : View) → get_elem? s.views id ≡ some v → IsLed v
+  pub tells : (s : TableState LogView View) (k : HasOneHistory p s) (id : ℕ) (v : View) → get_elem? s.views id ≡ some v → IsLed v
       → (g : List Event) → Each (λ (x : Event). actor x ≡ (hand_in v).job) g → IsLegalFrom p (state_after p k.history) g → Grows v g (grown v k.history g)
   tells s k id v at led g by legal = let h : List Event = k.history in let f = k.seats id v at in let t = held_in h k.owner id v led f in record {
     hands = refl;
@@ -113,7 +113,7 @@ module _ (p : LabPlan) where
   }
 
   -- what a job is in the state is what it knows by its record
-  pub known : (s : TableState LogView View) (k : Kept p s) (id : ℕ) (v : View) → get_elem? s.views id ≡ some v → IsLed v
+  pub known : (s : TableState LogView View) (k : HasOneHistory p s) (id : ℕ) (v : View) → get_elem? s.views id ≡ some v → IsLed v
       → (hand_in v).job < length p.jobs → seat (state_after p k.history) (hand_in v).job ≡ seat (mine v) (hand_in v).job
   known s k id v at led job = let t = held_in k.history k.owner id v led (k.seats id v at) in
       own_known p (hand_in v).job k.history job ∙ (λ i. seat (known_by (sym t.0 i) (t.1 i)) (hand_in v).job)

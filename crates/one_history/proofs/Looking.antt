@@ -16,7 +16,7 @@ use Rattle.legal_steps.specs.Opening.{the_opening}
 use Rattle.edge_word.specs.Words.{IsOfBottles}
 use Rattle.one_history.specs.declared.board.View.{View}
 use Rattle.turns.specs.History.{state_after}
-use Rattle.one_history.specs.Rule.{edge_place, Kept}
+use Rattle.one_history.specs.Rule.{edge_place, HasOneHistory}
 use Rattle.one_history.specs.Grow.{hand_in, IsLed, Does, looked}
 use Rattle.turns.proofs.Frame.{own_seat, other_seat}
 use Rattle.turns.specs.Changes.{seat_after}
@@ -42,7 +42,7 @@ module _ (p : LabPlan) (slots id : ℕ) (v : View) (c : List (ℕ × LogView)) (
   abbrev j : ℕ
   j = (hand_in v).job
 
-  pub looks : (e : ℕ) → IsOwn p j e → Allows (Kept p) slots id (v, c) (edge_place e) (λ n. n) (looked (step slots (edge_place e) 0 0 none) (v, c))
+  pub looks : (e : ℕ) → IsOwn p j e → Allows (HasOneHistory p) slots id (v, c) (edge_place e) (λ n. n) (looked (step slots (edge_place e) 0 0 none) (v, c))
   looks e own s k _ at _ =
       let w : State = state_after p k.history in
       let x : EdgeState = edge w e in
@@ -55,7 +55,7 @@ module _ (p : LabPlan) (slots id : ℕ) (v : View) (c : List (ℕ × LogView)) (
         grown p v k.history g,
         keeps,
         tt,
-        subst (λ ws. Kept p record { words = ws; homes = s.homes; views = set s.views id (grown p v k.history g) }) (sym (set-get_or s.words (edge_place e) 0))
+        subst (λ ws. HasOneHistory p record { words = ws; homes = s.homes; views = set s.views id (grown p v k.history g) }) (sym (set-get_or s.words (edge_place e) 0))
             (appends p s k id v at led g (refl, tt) legal s.words (spelled_still p w (after p w event) s.words (λ _. refl) phases k.words) s.homes
             (homed_still p w (after p w event) s.homes (λ _. refl) (λ i l. reaching_still p w (after p w event) i l (phases i)) k.homes)),
         (

@@ -25,7 +25,7 @@ use Rattle.legal_steps.specs.WholeLogs.{room_of, log_with_room}
 use Rattle.edge_word.specs.Phases.{phase_word_of}
 use Rattle.one_history.specs.declared.board.View.{View}
 use Rattle.turns.specs.History.{is_by, events_by, IsHistory, known_by, state_after}
-use Rattle.one_history.specs.Rule.{phase_place, Spelled, Homed, Kept}
+use Rattle.one_history.specs.Rule.{phase_place, Spelled, Homed, HasOneHistory}
 use Rattle.turns.specs.Reaching.{IsReachingFor}
 use Rattle.one_history.specs.Grow.{hand_in, IsLed, mine, own_phase, next_instrument, reached, acted}
 use Rattle.turns.specs.Changes.{seat_after}
@@ -115,14 +115,14 @@ module _ (p : LabPlan) (slots id : ℕ) (v : View) (c : List (ℕ × LogView)) (
   j = (hand_in v).job
 
   -- the instrument, by the state and by what the job knows
-  next_known : (s : TableState LogView View) (k : Kept p s) → get_elem? s.views id ≡ some v → (next_command p (state_after p k.history) j).0 ≡ next_instrument v
+  next_known : (s : TableState LogView View) (k : HasOneHistory p s) → get_elem? s.views id ≡ some v → (next_command p (state_after p k.history) j).0 ≡ next_instrument v
   next_known s k at =
       let held = held_in p k.history k.owner id v led (k.seats id v at) in
       ap (λ (x : ℕ × Verb). x.0) (next_same p (state_after p k.history) (mine v) j (known p s k id v at led job))
       ∙ ap (λ (q : LabPlan). (next_command q (mine v) j).0) (sym held.0)
 
   pub reaches : (n : ℕ) → May p (mine v) (Reach j) → n ≡ phase_word_of (record (own_phase v) { drinking = Reaching })
-      → Allows (Kept p) slots id (v, c) (phase_place p j) (λ _. n) (λ _. reached (step slots (phase_place p j) n 0 none) (v, c) n)
+      → Allows (HasOneHistory p) slots id (v, c) (phase_place p j) (λ _. n) (λ _. reached (step slots (phase_place p j) n 0 none) (v, c) n)
   reaches n may is_n s k _ at _ =
       let h : List Event = k.history in
       let w : State = state_after p h in
@@ -154,7 +154,7 @@ module _ (p : LabPlan) (slots id : ℕ) (v : View) (c : List (ℕ × LogView)) (
   pub acts : (n i : ℕ) (y : LogView) → c ≡ (i, y) ∷ [] → May p (mine v) (Act j) → i ≡ next_instrument v
       → y ≡ with_log_entry (log_with_room p (state_after p v.front) i) (next_entry p (state_after p v.front) j)
       → events_by j v.front ≡ (hand_in v).deeds → n ≡ phase_word_of (record (own_phase v) { drinking = Drinks; position = (own_phase v).position + 1 })
-      → Allows (Kept p) slots id (v, c) (phase_place p j) (λ _. n) (λ _. acted (step slots (phase_place p j) n 0 none) (v, c) n)
+      → Allows (HasOneHistory p) slots id (v, c) (phase_place p j) (λ _. n) (λ _. acted (step slots (phase_place p j) n 0 none) (v, c) n)
   acts n i y is_c may is_i is_y whole is_n s k _ at _ =
       let h : List Event = k.history in
       let w : State = state_after p h in
@@ -197,7 +197,7 @@ module _ (p : LabPlan) (slots id : ℕ) (v : View) (c : List (ℕ × LogView)) (
         grown p v h g,
         gives,
         tt,
-        subst (λ (l : List (ℕ × LogView)). Kept p (stepped s (phase_place p j) n id l (grown p v h g) gives)) (sym is_c)
+        subst (λ (l : List (ℕ × LogView)). HasOneHistory p (stepped s (phase_place p j) n id l (grown p v h g) gives)) (sym is_c)
             (appends p s k id v at led g (refl, tt) legal (set s.words (phase_place p j) n) words (set s.homes i (some y)) homes),
         (tells p s k id v at led g (refl, tt) legal, refl),
       )

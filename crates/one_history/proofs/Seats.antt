@@ -15,7 +15,7 @@ use Rattle.instrument_log.specs.InstrumentLog.{empty_log}
 use Rattle.legal_steps.specs.State.{State}
 use Rattle.legal_steps.specs.Opening.{the_opening}
 use Rattle.legal_steps.specs.WholeLogs.{room_of, log_with_room}
-use Rattle.one_history.specs.Rule.{hand_after, fresh, first_view, Spelled, Homed, Held, Sees, Kept}
+use Rattle.one_history.specs.Rule.{hand_after, fresh, first_view, Spelled, Homed, Held, Sees, HasOneHistory}
 use Rattle.turns.specs.History.{IsHistory, state_after}
 use Rattle.turns.specs.Lists.{StartsWith, Each}
 use Rattle.one_history.specs.Grow.{rest_hands}
@@ -45,15 +45,15 @@ module _ (p : LabPlan) where
 
   -- the rule at the start: words and logs are those of the state after what came before
   pub opens : (past : List Event) (ws : List ℕ) (xs : List LogView) → IsPlan p → IsHistory p past → Spelled p (state_after p past) ws
-      → Homed p (state_after p past) (map some xs) → Kept p (opening ws xs (first_view p past))
+      → Homed p (state_after p past) (map some xs) → HasOneHistory p (opening ws xs (first_view p past))
   opens past ws xs is legal spelled homed =
       record { is_plan = is; history = past; owner = λ _. 0; legal = legal; words = spelled; homes = homed; seats = first_seat past }
 
-  cut : (s : TableState LogView View) (k : Kept p s) (id : ℕ) (v left right : View) (owner : ℕ → ℕ)
+  cut : (s : TableState LogView View) (k : HasOneHistory p s) (id : ℕ) (v left right : View) (owner : ℕ → ℕ)
       → get_elem? s.views id ≡ some v → Sees p k.history owner id left
       → Sees p k.history owner (length (set s.views id left)) right
       → ((other : ℕ) (u : View) → other ≢ id → Sees p k.history k.owner other u → Sees p k.history owner other u)
-      → Kept p record { words = s.words; homes = s.homes; views = set s.views id left ++ right ∷ [] }
+      → HasOneHistory p record { words = s.words; homes = s.homes; views = set s.views id left ++ right ∷ [] }
   cut s k id v left right owner at here there others = record {
     is_plan = k.is_plan;
     history = k.history;
@@ -80,7 +80,7 @@ module _ (p : LabPlan) where
   -- one hand of a view goes to a seat of its own
   pub moves_hand : (id : ℕ) (v left right : View) (x : Hand) → Less v left → Less v right
       → ((P : Hand → Type 0) → Each P v.hands → Each P left.hands) → ((P : Hand → Type 0) → Each P v.hands → P x) → right.hands ≡ x ∷ []
-      → Each (λ (y : Hand). y.job ≢ x.job) left.hands → Splits (Kept p) id v left right
+      → Each (λ (y : Hand). y.job ≢ x.job) left.hands → Splits (HasOneHistory p) id v left right
   moves_hand id v left right x less_left less_right hands_left hand_right is apart s k at = let h : List Event = k.history in let f = k.seats id v at in
       let mine : Held p h k.owner id x = hand_right (Held p h k.owner id) f.hands in
       let n : ℕ = length (set s.views id left) in let owner : ℕ → ℕ = λ j. if x.job == j then n else k.owner j in
@@ -108,27 +108,27 @@ module _ (p : LabPlan) where
 
   -- the first hand of a view goes to a seat of its own
   pub deals : (id : ℕ) (v : View) (x : Hand) (xs : List Hand) → v.hands ≡ x ∷ xs
-      → Each (λ (y : Hand). y.job ≢ x.job) xs → Splits (Kept p) id v (dealt_left v) (dealt_right v)
+      → Each (λ (y : Hand). y.job ≢ x.job) xs → Splits (HasOneHistory p) id v (dealt_left v) (dealt_right v)
   deals id v x xs is apart = moves_hand id v (dealt_left v) (dealt_right v) x (λ h f t. (f, t)) (λ h f t. (f, t))
       (λ P e. subst (λ (z : List Hand). Each P (rest_hands z)) (sym is) (subst (Each P) is e).1) (λ P e. (subst (Each P) is e).0) (ap first_hand is)
       (subst (λ (z : List Hand). Each (λ (y : Hand). y.job ≢ x.job) (rest_hands z)) (sym is) apart)
 
   -- the one hand of a view is lent
-  pub lends : (id : ℕ) (v : View) (x : Hand) → v.hands ≡ x ∷ [] → Splits (Kept p) id v (lent_left v) v
+  pub lends : (id : ℕ) (v : View) (x : Hand) → v.hands ≡ x ∷ [] → Splits (HasOneHistory p) id v (lent_left v) v
   lends id v x is = moves_hand id v (lent_left v) v x (λ h f t. (f, tt)) (λ h f t. (f, t)) (λ P e. tt) (λ P e. (subst (Each P) is e).0) is tt
 
   -- the hand that was lent goes back
-  pub returns : (id : ℕ) (v : View) (x y : Hand) → v.hands ≡ x ∷ y ∷ [] → y.job ≢ x.job → Splits (Kept p) id v (returned_left v) (returned_right v)
+  pub returns : (id : ℕ) (v : View) (x y : Hand) → v.hands ≡ x ∷ y ∷ [] → y.job ≢ x.job → Splits (HasOneHistory p) id v (returned_left v) (returned_right v)
   returns id v x y is apart = moves_hand id v (returned_left v) (returned_right v) y (λ h f t. (f, t)) (λ h f t. ((h, refl), tt))
       (λ P e. subst (λ (z : List Hand). Each P (first_hand z)) (sym is) ((subst (Each P) is e).0, tt)) (λ P e. (subst (Each P) is e).1.0) (ap rest_hands is)
       (subst (λ (z : List Hand). Each (λ (y' : Hand). y'.job ≢ y.job) (first_hand z)) (sym is) ((λ e. apart (sym e)), tt))
 
   -- what a seat has seen goes to a new seat
-  pub notes : (id : ℕ) (v : View) → Splits (Kept p) id v v (note_of v)
+  pub notes : (id : ℕ) (v : View) → Splits (HasOneHistory p) id v v (note_of v)
   notes id v s k at = let f = k.seats id v at in cut s k id v v (note_of v) k.owner at f (record { front = f.front; told = tt; hands = tt }) (λ other u ne g. g)
 
   -- a seat takes over the hands of another
-  joins : (id : ℕ) (v : View) (other : ℕ) (w both : View) → both.hands ≡ v.hands ++ w.hands → Less (glued v w) both → Joins (Kept p) id v other w both nothing
+  joins : (id : ℕ) (v : View) (other : ℕ) (w both : View) → both.hands ≡ v.hands ++ w.hands → Less (glued v w) both → Joins (HasOneHistory p) id v other w both nothing
   joins id v other w both is less s k at apart there =
       let h : List Event = k.history in
       let owner : ℕ → ℕ = λ j. if k.owner j == other then id else k.owner j in
@@ -167,14 +167,14 @@ module _ (p : LabPlan) where
       }
 
   -- and is told what that one has seen
-  pub glues : (id : ℕ) (v : View) (other : ℕ) (w : View) → Joins (Kept p) id v other w (glued v w) nothing
+  pub glues : (id : ℕ) (v : View) (other : ℕ) (w : View) → Joins (HasOneHistory p) id v other w (glued v w) nothing
   glues id v other w = joins id v other w (glued v w) refl (λ h f t. (f, t))
 
   each_front : (P : List Event → Type 0) (a b : List (List Event)) → Each P (a ++ b) → Each P a
   each_front P [] b e = tt
   each_front P (x ∷ a) b e = (e.0, each_front P a b e.1)
 
-  pub takes_back : (id : ℕ) (v : View) (other : ℕ) (w : View) → Joins (Kept p) id v other w (taken_back v w) nothing
+  pub takes_back : (id : ℕ) (v : View) (other : ℕ) (w : View) → Joins (HasOneHistory p) id v other w (taken_back v w) nothing
   takes_back id v other w = joins id v other w (taken_back v w) refl (λ h f t. (f, each_front (StartsWith h) v.told (w.front ∷ w.told) t))
 
   pub undealt_next : (past : List Event) (j : ℕ) → j < length p.jobs
@@ -218,7 +218,7 @@ module _ (p : LabPlan) where
     no_entries (suc n) (suc i) = no_entries n i
 
   -- a new seat that knows nothing
-  pub enters : (slots i : ℕ) → Enters (Kept p) slots i (λ n w. w ≡ nothing)
+  pub enters : (slots i : ℕ) → Enters (HasOneHistory p) slots i (λ n w. w ≡ nothing)
   enters slots i s k _ _ = (
     nothing,
     record {

@@ -22,7 +22,7 @@ use Rattle.one_history.specs.declared.phase_event.PhaseEvent.{PhaseEvent}
 use Rattle.one_history.specs.declared.phase_event.PhaseEvent.TheVariants.{Thirst, Hunger, Sit, Leave, Drink, Quit, Retire, Withdraw}
 use Rattle.one_history.specs.PhaseEvents.{event_of, phase_after}
 use Rattle.turns.specs.History.{state_after}
-use Rattle.one_history.specs.Rule.{phase_place, Spelled, Kept}
+use Rattle.one_history.specs.Rule.{phase_place, Spelled, HasOneHistory}
 use Rattle.turns.specs.Reaching.{IsReachingFor}
 use Rattle.one_history.specs.Grow.{hand_in, IsLed, mine, Does, dining_event, drinking_event, phase_event, own_phase, stored}
 use Rattle.turns.proofs.Frame.{own_seat, other_seat}
@@ -128,7 +128,7 @@ module _ (p : LabPlan) (slots id : ℕ) (v : View) (c : List (ℕ × LogView)) (
 
   pub stores : (what : PhaseEvent) (n : ℕ) → May p (mine v) (event_of what j)
       → (own_phase v).drinking ≢ Reaching → n ≡ phase_word_of (phase_after what (own_phase v))
-      → Allows (Kept p) slots id (v, c) (phase_place p j) (λ _. n) (λ _. stored (step slots (phase_place p j) n 0 none) (v, c) n)
+      → Allows (HasOneHistory p) slots id (v, c) (phase_place p j) (λ _. n) (λ _. stored (step slots (phase_place p j) n 0 none) (v, c) n)
   stores what n may rests is_n s k _ at _ =
       let w : State = state_after p k.history in
       let event : Event = event_of what j in

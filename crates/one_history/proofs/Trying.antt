@@ -22,7 +22,7 @@ use Rattle.edge_word.proofs.MoveLaws.{moves_lead, read_back}
 use Rattle.edge_word.proofs.MoveFrame.{moves_change_only_their_edge}
 use Rattle.one_history.specs.declared.board.View.{View}
 use Rattle.turns.specs.History.{state_after}
-use Rattle.one_history.specs.Rule.{edge_place, Spelled, Kept}
+use Rattle.one_history.specs.Rule.{edge_place, Spelled, HasOneHistory}
 use Rattle.turns.specs.Lists.{Each}
 use Rattle.one_history.specs.Grow.{no_plan, hand_in, IsLed, mine, Grows, tried}
 use Rattle.turns.proofs.Runs.{learned_all_seats, learned_all_edges, opening_seats, opening_edges}
@@ -47,7 +47,7 @@ module _ (p : LabPlan) (slots id : ℕ) (v : View) (c : List (ℕ × LogView)) (
   j = (hand_in v).job
 
   -- the state and what the job knows are alike at the job and at an edge that is as last seen
-  alike : (s : TableState LogView View) (k : Kept p s) → get_elem? s.views id ≡ some v → (e : ℕ) → e < length (edges p)
+  alike : (s : TableState LogView View) (k : HasOneHistory p s) → get_elem? s.views id ≡ some v → (e : ℕ) → e < length (edges p)
       → edge (state_after p k.history) e ≡ edge (mine v) e → Alike j e (mine v) (state_after p k.history)
   alike s k at e inside same =
       let fit = history_fits p k.history k.legal in
@@ -71,7 +71,7 @@ module _ (p : LabPlan) (slots id : ℕ) (v : View) (c : List (ℕ × LogView)) (
   pub tries : (e : ℕ) (m : EdgeMoves) (old new : ℕ) → IsOwn p j e
       → IsLegalFrom p (mine v) (events_of m j e) → IsOfBottles (length (bottles p e)) (edge (mine v) e)
       → old ≡ word_of (edge (mine v) e) → new ≡ word_of (after_moves m (edge (mine v) e))
-      → Allows (Kept p) slots id (v, c) (edge_place e) (λ n. either (eqb n old) new n) (tried (step slots (edge_place e) old new none) (v, c))
+      → Allows (HasOneHistory p) slots id (v, c) (edge_place e) (λ n. either (eqb n old) new n) (tried (step slots (edge_place e) old new none) (v, c))
   tries e m old new own may fits_mine is_old is_new s k _ at _ =
       let w : State = state_after p k.history in
       let n : ℕ = get_or s.words (edge_place e) 0 in
@@ -98,7 +98,7 @@ module _ (p : LabPlan) (slots id : ℕ) (v : View) (c : List (ℕ × LogView)) (
               grown p v k.history g,
               keeps,
               tt,
-              subst (λ b. Kept p (stepped s (edge_place e) (either b new n) id c (grown p v k.history g) keeps)) (sym (eq-eqb n old hit))
+              subst (λ b. HasOneHistory p (stepped s (edge_place e) (either b new n) id c (grown p v k.history g) keeps)) (sym (eq-eqb n old hit))
                   (appends p s k id v at led g (moves_by j e m) legal (set s.words (edge_place e) new) written s.homes
                   (homed_still p w (after_all p w g) s.homes (λ i. ap (λ (logs : List (List Entry)). get_or logs i []) only.logs)
                   (λ i l. reaching_still p w (after_all p w g) i l (phases i)) k.homes)),
@@ -113,8 +113,8 @@ module _ (p : LabPlan) (slots id : ℕ) (v : View) (c : List (ℕ × LogView)) (
           grown p v k.history [],
           keeps,
           tt,
-          subst (λ b. Kept p (stepped s (edge_place e) (either b new n) id c (grown p v k.history []) keeps)) (sym (ne_eqb n old miss))
-              (subst (λ ws. Kept p record { words = ws; homes = s.homes; views = set s.views id (grown p v k.history []) })
+          subst (λ b. HasOneHistory p (stepped s (edge_place e) (either b new n) id c (grown p v k.history []) keeps)) (sym (ne_eqb n old miss))
+              (subst (λ ws. HasOneHistory p record { words = ws; homes = s.homes; views = set s.views id (grown p v k.history []) })
               (sym (set-get_or s.words (edge_place e) 0))
               (appends p s k id v at led [] tt tt s.words k.words s.homes k.homes)),
           (

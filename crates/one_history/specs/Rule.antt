@@ -75,7 +75,7 @@ pub record Sees (plan : LabPlan) (h : List Event) (owner : ℕ → ℕ) (id : �
 
 -- ---- the rule
 
-pub record Kept (plan : LabPlan) (s : TableState LogView View) : Type 0 where
+pub record HasOneHistory (plan : LabPlan) (s : TableState LogView View) : Type 0 where
   pub is_plan : IsPlan plan
   pub history : List Event
   -- the seat of each job

@@ -22,7 +22,7 @@ struct Row<A: Allocator> {
 
 /// How many rows have a session as their next, where it may start at the soonest, and its longest part.
 #[derive(Clone, Copy)]
-struct Waiting {
+struct RowsReady {
     rows: u32,
     start: u32,
     width: u32,
@@ -146,8 +146,8 @@ fn counts_of<A: Allocator + Copy>(alloc: A, rows: &[Row<A>]) -> Result<Vec<u32, 
 }
 
 /// How a session is waited for.
-fn waiting_for<A: Allocator>(rows: &[Row<A>], slot: usize) -> Waiting {
-    let mut waiting = Waiting {
+fn waiting_for<A: Allocator>(rows: &[Row<A>], slot: usize) -> RowsReady {
+    let mut waiting = RowsReady {
         rows: 0,
         start: 0,
         width: 0,
@@ -181,7 +181,7 @@ fn place_part<A: Allocator>(
     if slot >= counts.len() || counts[slot] != waiting.rows {
         return false;
     }
-    let Waiting { start, width, .. } = waiting;
+    let RowsReady { start, width, .. } = waiting;
     if slot < spans.len() {
         spans[slot] = Span { start, width };
     }

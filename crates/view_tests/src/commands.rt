@@ -14,14 +14,14 @@ use std::thread::Threads;
 
 /// A runtime that keeps what is printed: on standard output, and on standard error.
 #[derive(Drop)]
-struct Kept {
+struct MemoryPrinter {
     out: RefCell<String>,
     errors: RefCell<String>,
 }
 
-impl Kept {
-    fn new(alloc: Global) -> Kept {
-        Kept {
+impl MemoryPrinter {
+    fn new(alloc: Global) -> MemoryPrinter {
+        MemoryPrinter {
             out: RefCell::new(String::new(alloc)),
             errors: RefCell::new(String::new(alloc)),
         }
@@ -38,7 +38,7 @@ fn keep<D: Display + Drop>(kept: &RefCell<String>, value: D, end: &str) -> io::R
     }
 }
 
-impl Print for Kept {
+impl Print for MemoryPrinter {
     fn print<D: Display + Drop>(&self, value: D) -> io::Result<()> {
         keep(&self.out, value, "")
     }
@@ -52,7 +52,7 @@ impl Print for Kept {
     }
 }
 
-impl Eprint for Kept {
+impl Eprint for MemoryPrinter {
     fn eprint<D: Display + Drop>(&self, value: D) -> io::Result<()> {
         keep(&self.errors, value, "")
     }
@@ -76,10 +76,10 @@ finished
 ";
 
 /// What a command line sends to its sink, prints, and prints on standard error; and its status.
-type Told = (Vec<u8>, Kept, ExitCode);
+type Told = (Vec<u8>, MemoryPrinter, ExitCode);
 
 fn labrun<R: Threads + Wait + Sync>(rt: &R, alloc: Global, words: &[&str], input: &str) -> Told {
-    let kept = Kept::new(alloc);
+    let kept = MemoryPrinter::new(alloc);
     let mut bytes = Vec::new(alloc);
     let mut source = FromRead::new(input.as_bytes());
     let mut sink = ToWrite::new(&mut bytes);
@@ -88,7 +88,7 @@ fn labrun<R: Threads + Wait + Sync>(rt: &R, alloc: Global, words: &[&str], input
 }
 
 fn labview(alloc: Global, words: &[&str], input: &str) -> Told {
-    let kept = Kept::new(alloc);
+    let kept = MemoryPrinter::new(alloc);
     let mut bytes = Vec::new(alloc);
     let mut source = FromRead::new(input.as_bytes());
     let mut sink = ToWrite::new(&mut bytes);
@@ -223,7 +223,14 @@ fn command_lines_of_labview(rt: HostRuntime) {
 }
 
 /// What was printed, on standard output and on standard error, and the status.
-fn printed(rt: &impl Abort, kept: Kept, code: ExitCode, out: &str, errors: &str, status: u8) {
+fn printed(
+    rt: &impl Abort,
+    kept: MemoryPrinter,
+    code: ExitCode,
+    out: &str,
+    errors: &str,
+    status: u8,
+) {
     let text = kept.out.into_inner();
     assert!(rt; text.as_str() == out, "printed: {text}wanted: {out}");
     let said = kept.errors.into_inner();
@@ -276,7 +283,7 @@ fn reason_of(rt: &impl Abort, alloc: Global, why: Why) -> NoTask {
 #[test]
 fn ends_without_task_in_short(rt: HostRuntime) {
     for (why, out, short, _, status) in &WITHOUT_TASK {
-        let kept = Kept::new(rt.alloc());
+        let kept = MemoryPrinter::new(rt.alloc());
         let code = end_without_task(&kept, "labrun", reason_of(&rt, rt.alloc(), *why));
         printed(&rt, kept, code, out, short, *status);
     }
@@ -285,7 +292,7 @@ fn ends_without_task_in_short(rt: HostRuntime) {
 #[test]
 fn ends_saying_why(rt: HostRuntime) {
     for (why, out, _, long, status) in &WITHOUT_TASK {
-        let kept = Kept::new(rt.alloc());
+        let kept = MemoryPrinter::new(rt.alloc());
         let code = end_saying_why(&kept, "labrun", reason_of(&rt, rt.alloc(), *why));
         printed(&rt, kept, code, out, long, *status);
     }
@@ -312,7 +319,7 @@ const ENDS: [(View, Outcome, &str, u8); 3] = [
 #[test]
 fn ends_of_views(rt: HostRuntime) {
     for (view, outcome, errors, status) in &ENDS {
-        let kept = Kept::new(rt.alloc());
+        let kept = MemoryPrinter::new(rt.alloc());
         let code = end_view(&kept, "labview", *view, Ok(*outcome), None);
         printed(&rt, kept, code, "", errors, *status);
     }

@@ -4,7 +4,7 @@ use Rattle.lab_plan.specs.LabPlan.{LabPlan}
 use Rattle.lab_plan.specs.IsPlan.{IsPlan}
 use Rattle.legal_steps.specs.declared.event.Event.{Event}
 use Rattle.legal_steps.specs.Opening.{the_opening}
-use Rattle.one_history.specs.Rule.{first_view, word_count, Spelled, Kept}
+use Rattle.one_history.specs.Rule.{first_view, word_count, Spelled, HasOneHistory}
 use Rattle.one_history.proofs.Seats.{opens, fresh_homed}
 use Rattle.edge_rule.proofs.OpenedDesks.{logs_there, logs_at}
 use Rattle.edge_rule.specs.DeskView.{fresh_desks}
@@ -13,7 +13,7 @@ use Rattle.edge_rule.proofs.open.opened.Goals as goal
 pub new-made-requires : goal.new-made-requires
 new-made-requires g0 c = let p = c.args.plan.now in
     let start : (p, []) ≡ (c.of.result.value, c.none.result.events) = λ i. (sym c.of.ensures i, sym c.none.ensures i) in
-    subst (λ (z : LabPlan × List Event). Kept z.0 (opening c.as_slice.result.now c.in_ok-logs.logs.items (first_view z.0 z.1))) start
+    subst (λ (z : LabPlan × List Event). HasOneHistory z.0 (opening c.as_slice.result.now c.in_ok-logs.logs.items (first_view z.0 z.1))) start
     (opens p [] c.as_slice.result.now c.in_ok-logs.logs.items c.jobs.ensures.plan tt
     (subst (λ (z : List ℕ). Spelled p (the_opening p) z) (sym c.as_slice.ensures.value) c.in_ok-words.ensures)
     (fresh_homed p c.in_ok-logs.logs.items (logs_there p c.in_ok-logs.logs.items c.in_ok-logs.ensures)

@@ -4,7 +4,7 @@ use Rattle.lab_plan.specs.LabPlan.{LabPlan}
 use Rattle.lab_plan.specs.IsPlan.{IsPlan}
 use Rattle.legal_steps.specs.declared.event.Event.{Event}
 use Rattle.turns.specs.History.{IsHistory, state_after}
-use Rattle.one_history.specs.Rule.{first_view, word_count, Spelled, Kept}
+use Rattle.one_history.specs.Rule.{first_view, word_count, Spelled, HasOneHistory}
 use Rattle.one_history.proofs.Seats.{opens}
 use Rattle.edge_rule.specs.Standing.{AllKnownAfter}
 use Rattle.edge_rule.proofs.StoodWords.{sessions_few, stood_wide, stood_spelled, stood_homed}
@@ -25,7 +25,7 @@ pub new-made-requires : goal.new-made-requires
 new-made-requires g0 c =
     let p = c.args.plan.now in
     let past : List Event = c.args.past.events in
-    subst (λ (z : LabPlan). Kept z (opening c.as_slice.result.now c.args.logs.items (first_view z past))) (sym c.of.ensures)
+    subst (λ (z : LabPlan). HasOneHistory z (opening c.as_slice.result.now c.args.logs.items (first_view z past))) (sym c.of.ensures)
     (opens p past c.as_slice.result.now c.args.logs.items c.jobs.ensures.plan c.requires.legal
     (subst (λ (z : List ℕ). Spelled p (state_after p past) z) (sym c.as_slice.ensures.value)
     (stood_spelled p past c.args.there.now c.args.known.now c.args.logs.items c.in_ok-words.words.items c.requires c.in_ok-words.ensures))
