@@ -10,11 +10,11 @@ ghost use Rattle.blocking.specs.Blocks.{block_of, places_on};
 ghost use Rattle.waiting.specs.Watching.{KnowAll};
 ghost use Rattle.blocking.specs.Watching.{IsPlace, IsWait, held_across, counted_if, waited_then, rounds_then, each_by};
 
-use crate::knowledge::{has, instrument_at, next_in, waited_on};
+use crate::knowledge::{instrument_at, next_in, waited_on};
 use crate::places::Place;
 use block_lines::Block;
 use edge_rule::Desk;
-use lab_plan::{EdgeNo, JobNo, Plan};
+use lab_plan::{EdgeNo, JobNo, Plan, has_instrument};
 use legal_steps::neighbour;
 use std::alloc::{AllocError, Allocator};
 
@@ -103,7 +103,7 @@ fn is_held<A: Allocator>(plan: &Plan<A>, edge: EdgeNo, bottle: u32, held: u64) -
     if held == 0 {
         return false;
     }
-    has(held, instrument_at(plan, edge, bottle))
+    has_instrument(held, instrument_at(plan, edge, bottle))
 }
 
 /// How a job waits on an edge in this round.

@@ -14,15 +14,6 @@ use lab_plan::{EdgeNo, InstrumentNo, JobNo, Plan};
 use legal_steps::{Drinking, End, JobState};
 use std::alloc::Allocator;
 
-/// Whether the set has the instrument.
-#[tactic(auto, using(lab_plan::proofs::Bits::holds_is))]
-pub(crate) fn has(set: u64, instrument: InstrumentNo) -> bool
-    requires { instrument < 64 }
-    ensures { result ≡ holds set instrument }
-{
-    set >> instrument.0 & 1 == 1
-}
-
 /// The instrument of a bottle.
 pub(crate) fn instrument_at<A: Allocator>(plan: &Plan<A>, edge: EdgeNo, bottle: u32) -> InstrumentNo
     requires edge { edge < length (edges plan.now) }

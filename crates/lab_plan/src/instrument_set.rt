@@ -110,3 +110,12 @@ impl InstrumentSet {
         false
     }
 }
+
+/// Whether a set of instruments has this one: bit i stands for instrument i, and a plan has 56 at most.
+#[tactic(auto, using(crate::proofs::Bits::holds_is))]
+pub fn has_instrument(set: u64, instrument: InstrumentNo) -> bool
+    requires { instrument < 64 }
+    ensures { result ≡ holds set instrument }
+{
+    set >> instrument.0 & 1 == 1
+}

@@ -22,6 +22,7 @@ mod tables;
 pub mod verb;
 
 pub use builder::PlanBuilder;
+pub use instrument_set::has_instrument;
 pub use limits::{
     LARGEST_NUMBER, MOST_BOTTLES, MOST_COMMANDS, MOST_INSTRUMENTS, MOST_JOBS, MOST_SESSIONS,
 };

@@ -40,6 +40,7 @@ impl<A: Allocator> Plan<A> {
     ghost use Rattle.lab_plan.specs.Limits.{most_instruments, most_sessions, most_commands, most_bottles};
     ghost use Rattle.lab_plan.specs.LabPlan.{edges, ends, edges_of, lower_first, bottles, sessions, commands};
     ghost use Rattle.lab_plan.specs.LabPlan.{patience, session_names, part, place_at, length_at, job_at, all_commands};
+    ghost use Rattle.lab_plan.specs.InstrumentSets.{holds};
     ghost use Rattle.lab_plan.specs.IsPlan.{IsPlan};
     ghost use Rattle.lab_plan.specs.Names.{IsName};
     ghost use Rattle.lab_plan.specs.SessionTables.{IsJobTable, AreNeeds, AreNamedBy};
@@ -258,12 +259,13 @@ impl<A: Allocator> Plan<A> {
         self.table(job).needs(session as usize - 1)
     }
 
-    /// The instruments that a session names, as a set: bit i stands for instrument i.
+    /// The instruments that a session names, as a set: bit i stands for instrument i (`has_instrument`).
     pub fn needs(&self, job: JobNo, session: u32) -> u64
         requires is_job { job < length self.now.jobs }
         requires begun { 1 ≤ session }
         requires is_session { session ≤ length (sessions self.now job) }
         ensures needs { (i : ℕ) → bit_at result i ≡ (if session_names self.now job session i then 1 else 0) }
+        ensures names { (i : ℕ) → holds result i ≡ session_names self.now job session i }
         ensures few { result < 2 ^ length self.now.instruments }
     {
         self.needed(job, session).bits()

@@ -11,7 +11,6 @@ ghost use Rattle.live_lab.specs.Doing.{said, DoesAndRests, AdmitsIn};
 ghost use Rattle.live_lab.specs.Admitting.{AreInUse, AreAskers, LetsInNext};
 
 use crate::clock::Clock;
-use crate::keepers::named;
 use crate::kinds::{Kind, jobs_of};
 use crate::rest::come_to_rest;
 use crate::words::{Word, say_each};
@@ -30,7 +29,7 @@ fn needs_now<A: Allocator>(world: &World<A>, job: JobNo) -> u64
     if !phase.is_in_session() {
         return 0;
     }
-    named(world.plan(), job, phase.session)
+    world.plan().needs(job, phase.session)
 }
 
 /// The instruments that jobs in a session need.

@@ -5,7 +5,6 @@ ghost use Rattle.late_thirst.specs.Outside.{place};
 ghost use Rattle.live_lab.specs.Labs.{IsLineOf};
 ghost use Rattle.live_lab.specs.Admitting.{IsNext, IsPlaceFor, MayAsk, Attends, Asks};
 
-use crate::keepers::named;
 use interleaving::World;
 use lab_plan::JobNo;
 use late_thirst::{Asker, Line, has};
@@ -24,7 +23,7 @@ fn next_needs<A: Allocator>(world: &World<A>, job: JobNo) -> Option<u64>
     if world.plan().sessions(job) <= phase.session {
         return None;
     }
-    Some(named(world.plan(), job, phase.session + 1))
+    Some(world.plan().needs(job, phase.session + 1))
 }
 
 /// Whether it is the place of one that asks for a session with these needs.

@@ -10,7 +10,7 @@ ghost use Rattle.live_lab.specs.Sets.{AreJobs};
 
 use crate::lab::Lab;
 use interleaving::World;
-use lab_plan::{EdgeNo, InstrumentNo, JobNo, Plan};
+use lab_plan::{EdgeNo, InstrumentNo, JobNo, has_instrument};
 use late_thirst::has;
 use legal_steps::{End, bottle_end};
 use std::alloc::Allocator;
@@ -24,25 +24,6 @@ pub struct Keepers {
     pub holding: u32,
 }
 
-/// Whether the set has the instrument.
-#[tactic(auto, using(lab_plan::proofs::Bits::holds_is))]
-fn names(set: u64, instrument: InstrumentNo) -> bool
-    requires { instrument < 64 }
-    ensures { result ≡ holds set instrument }
-{
-    set >> instrument.0 & 1 == 1
-}
-
-/// The instruments that a session of the job names.
-pub(crate) fn named<A: Allocator>(plan: &Plan<A>, job: JobNo, session: u32) -> u64
-    requires is_job { IsJob plan.now job }
-    requires begun { 1 ≤ session }
-    requires is_session { session ≤ length (sessions plan.now job) }
-    ensures { (i : ℕ) → holds result i ≡ session_names plan.now job session i }
-{
-    plan.needs(job, session)
-}
-
 /// Whether the job is in a session that names the instrument.
 fn needs<A: Allocator>(world: &World<A>, job: JobNo, instrument: InstrumentNo) -> bool
     requires job { IsJob world.now.plan job }
@@ -53,7 +34,7 @@ fn needs<A: Allocator>(world: &World<A>, job: JobNo, instrument: InstrumentNo) -
     if !phase.is_in_session() {
         return false;
     }
-    names(named(world.plan(), job, phase.session), instrument)
+    has_instrument(world.plan().needs(job, phase.session), instrument)
 }
 
 /// Whether the job has the bottle.
@@ -211,7 +192,7 @@ fn wants<A: Allocator>(world: &World<A>, job: JobNo, instrument: InstrumentNo) -
     if world.plan().sessions(job) <= before {
         return false;
     }
-    names(named(world.plan(), job, before + 1), instrument)
+    has_instrument(world.plan().needs(job, before + 1), instrument)
 }
 
 /// Whether the next session of the first job names the instrument, and the second is in one that does.

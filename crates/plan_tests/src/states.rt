@@ -1,8 +1,8 @@
 //! That each law can be called, and the answers of the functions that have one.
 use crate::plans::{Line, plan_of};
 use crate::rows::check;
-use lab_plan::{EdgeNo, JobNo, Plan, PlanBuilder, Verb};
-use legal_steps::{Dining, Drinking, EdgeState, End, JobState, laws, log_laws};
+use lab_plan::{EdgeNo, InstrumentNo, JobNo, Plan, PlanBuilder, Verb, has_instrument};
+use legal_steps::{Dining, Drinking, EdgeState, End, JobState, laws, log_laws, neighbour};
 use std::alloc::Allocator;
 use std::process::Abort;
 
@@ -210,6 +210,12 @@ fn end_of<T: Allocator>(rt: &impl Abort, plan: &Plan<T>, job: JobNo) -> End {
     End::of(plan, job, AB)
 }
 
+/// The job at the other end of the edge.
+fn beside<T: Allocator>(rt: &impl Abort, plan: &Plan<T>, job: JobNo) -> JobNo {
+    assert!(rt; plan.edges() == 1);
+    neighbour(plan, job, AB)
+}
+
 /// The bottles of the edge that are at each of its ends, if those of this set are at the higher one.
 fn bottles_there<T: Allocator>(rt: &impl Abort, plan: &Plan<T>, set: u32) -> (u32, u32) {
     assert!(rt; plan.edges() == 1);
@@ -224,6 +230,8 @@ fn bottles_there<T: Allocator>(rt: &impl Abort, plan: &Plan<T>, set: u32) -> (u3
 fn check_ends<T: Allocator>(rt: &impl Abort, plan: &Plan<T>) {
     check(rt, 0, end_of(rt, plan, JobNo(0)), End::Lower);
     check(rt, 1, end_of(rt, plan, JobNo(1)), End::Higher);
+    check(rt, 0, beside(rt, plan, JobNo(0)), JobNo(1));
+    check(rt, 1, beside(rt, plan, JobNo(1)), JobNo(0));
     for (set, lower) in [
         (0b000, 0b111),
         (0b101, 0b010),
@@ -236,6 +244,20 @@ fn check_ends<T: Allocator>(rt: &impl Abort, plan: &Plan<T>) {
 
 fn each_end<T: Allocator + Copy>(rt: &impl Abort, alloc: T) {
     check_ends(rt, &plan_of(rt, PlanBuilder::new(alloc), &TWO_READERS));
+}
+
+#[test]
+fn instruments_of_a_set(rt: HostRuntime) {
+    // a set of the instruments 0, 2 and 55
+    let set = 1u64 << 55 | 0b101;
+    for (instrument, is_in) in [(0, true), (1, false), (2, true), (54, false), (55, true)] {
+        check(
+            &rt,
+            instrument,
+            has_instrument(set, InstrumentNo(instrument)),
+            is_in,
+        );
+    }
 }
 
 #[test]

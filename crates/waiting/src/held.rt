@@ -10,16 +10,6 @@ use edge_rule::Desk;
 use lab_plan::{JobNo, Plan};
 use std::alloc::Allocator;
 
-/// The instruments that a session of the job names.
-fn named<A: Allocator>(plan: &Plan<A>, job: JobNo, session: u32) -> u64
-    requires is_job { job < length plan.now.jobs }
-    requires begun { 1 ≤ session }
-    requires is_session { session ≤ length (sessions plan.now job) }
-    ensures { (i : ℕ) → holds result i ≡ session_names plan.now job session i }
-{
-    plan.needs(job, session)
-}
-
 /// The instruments that the desk's job holds: those of its session while it drinks, and else none.
 pub fn held_by<A: Allocator>(plan: &Plan<A>, desk: &Desk<A>) -> u64
     requires { desk.now.plan ≡ plan.now }
@@ -27,7 +17,7 @@ pub fn held_by<A: Allocator>(plan: &Plan<A>, desk: &Desk<A>) -> u64
 {
     let phase = desk.phase();
     if phase.is_drinking() {
-        named(plan, desk.job(), phase.session)
+        plan.needs(desk.job(), phase.session)
     } else {
         0
     }
