@@ -5,9 +5,10 @@ ghost use Rattle.late_thirst.specs.Outside.{place};
 ghost use Rattle.live_lab.specs.Labs.{IsLineOf};
 ghost use Rattle.live_lab.specs.Admitting.{IsNext, IsPlaceFor, MayAsk, Attends, Asks};
 
+use crate::kinds::has;
 use interleaving::World;
 use lab_plan::JobNo;
-use late_thirst::{Asker, Line, has};
+use late_thirst::{Asker, Line};
 use legal_steps::{Drinking, Event};
 use std::alloc::Allocator;
 
@@ -41,7 +42,7 @@ fn may_ask<A: Allocator>(world: &World<A>, waiting: u32, job: JobNo) -> bool
     requires few { job < 32 }
     ensures { IsTrue result ↔ MayAsk waiting world.now job }
 {
-    has(waiting, job.0 as usize) && world.enabled(Event::Thirst(job))
+    has(waiting, job) && world.enabled(Event::Thirst(job))
 }
 
 /// The job keeps its place, asks, or has none.

@@ -1,17 +1,16 @@
 //! Who keeps a job waiting.
 ghost use Rattle.std.specs.Prelude.{◌≡◌, ℕ, ◌+◌, ◌≤◌, ◌<◌, ◌↔◌, IsTrue, length};
-ghost use Rattle.lab_plan.specs.LabPlan.{edges, bottles, sessions, session_names};
-ghost use Rattle.lab_plan.specs.InstrumentSets.{holds};
+ghost use Rattle.lab_plan.specs.LabPlan.{edges, bottles, session_names};
 ghost use Rattle.legal_steps.specs.State.{IsOwn, session, edge as edge_at, bottle_end as end_of_bottle};
 ghost use Rattle.legal_steps.specs.Legal.{IsJob, Here, Needs, instrument_of};
 ghost use Rattle.reasons.specs.Reasons.{Lacks, Keeps};
 ghost use Rattle.live_lab.specs.Keepers.{IsKept, IsKeptAt, IsKeeper, IsUser, IsOne, IsHoldingOf, AreUsers, AreKeepers, AreKeepersAt};
 ghost use Rattle.live_lab.specs.Sets.{AreJobs};
 
+use crate::kinds::has;
 use crate::lab::Lab;
 use interleaving::World;
 use lab_plan::{EdgeNo, InstrumentNo, JobNo, has_instrument};
-use late_thirst::has;
 use legal_steps::{End, bottle_end};
 use std::alloc::Allocator;
 
@@ -256,7 +255,7 @@ fn is_holding<A: Allocator>(world: &World<A>, jobs: u32, job: JobNo) -> bool
     requires few { job < 32 }
     ensures { IsTrue result ↔ IsHoldingOf jobs world.now.state job }
 {
-    has(jobs, job.0 as usize) && world.job(job).is_drinking()
+    has(jobs, job) && world.job(job).is_drinking()
 }
 
 /// Those of the set that hold all instruments of their session.

@@ -1,5 +1,6 @@
 //! Sets of jobs, a bit for each.
 ghost use Rattle.std.specs.Prelude.{◌≡◌, ◌<◌, ◌↔◌, IsTrue, length};
+ghost use Rattle.lab_plan.specs.InstrumentSets.{holds};
 ghost use Rattle.legal_steps.specs.Legal.{IsJob};
 ghost use Rattle.live_lab.specs.Sets.{AreJobs};
 ghost use Rattle.live_lab.specs.Settles.{IsThrough};
@@ -8,7 +9,6 @@ ghost use Rattle.live_lab.specs.Kinds.{IsOf};
 use crate::clock::{Clock, is_waiting, waited_in};
 use interleaving::World;
 use lab_plan::JobNo;
-use late_thirst::has;
 use legal_steps::Event;
 use std::alloc::Allocator;
 
@@ -25,6 +25,14 @@ pub(crate) enum Kind {
     Holds,
     /// It is waited for, is in no session and has none left.
     NoneLeft,
+}
+
+/// Whether the set has the job.
+pub(crate) fn has(set: u32, job: JobNo) -> bool
+    requires { job < 32 }
+    ensures { result ≡ holds set job }
+{
+    late_thirst::has(set, job.0 as usize)
 }
 
 /// Whether the job is in no session, and has none left.
@@ -51,7 +59,7 @@ fn is_of<A: Allocator>(
 {
     match kind {
         Kind::Waits => is_waiting(world.job(job).drinking),
-        Kind::Begins => has(waiting, job.0 as usize) && world.enabled(Event::Thirst(job)),
+        Kind::Begins => has(waiting, job) && world.enabled(Event::Thirst(job)),
         Kind::IsImpatient => {
             let phase = world.job(job);
             phase.gives_up(
@@ -61,7 +69,7 @@ fn is_of<A: Allocator>(
             )
         }
         Kind::Holds => world.job(job).is_drinking(),
-        Kind::NoneLeft => has(waiting, job.0 as usize) && is_through(world, job),
+        Kind::NoneLeft => has(waiting, job) && is_through(world, job),
     }
 }
 
