@@ -7,8 +7,10 @@ use Rattle.live_lab.proofs.keepers.is_holding.Goals as goal
 
 pub returns-then-has : goal.returns-then-has
 returns-then-has g c = (
-  λ t. (holds_has c.args.jobs c.args.job (sym c.has.ensures ∙ c.if-has.true),
-    subst (λ (x : JobState). IsDrinking x) c.job.ensures.phase (c.is_drinking.ensures.0 t)),
+  λ t. (
+    holds_has c.args.jobs c.args.job (sym c.has.ensures ∙ c.if-has.true),
+    subst (λ (x : JobState). IsDrinking x) c.job.ensures.phase (c.is_drinking.ensures.0 t),
+  ),
   λ q. c.is_drinking.ensures.1 (subst (λ (x : JobState). IsDrinking x) (sym c.job.ensures.phase) q.1),
 )
 
