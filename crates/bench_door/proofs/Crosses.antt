@@ -33,10 +33,10 @@ use Rattle.legal_steps.specs.contracts.counts.Counts as Counts
 use Rattle.legal_steps.proofs.counts.Counts.TheSendSync as counts
 use Rattle.edge_rule.specs.contracts.closed.Closed as Closed
 use Rattle.edge_rule.specs.contracts.closed.Closed.TheInside as Inside
-use Rattle.bench_door.specs.contracts.closing.LabEnd as LabEnd
+use Rattle.bench_door.specs.contracts.close.LabEnd as LabEnd
 use Rattle.live_lab.proofs.print.Printed.TheSendSync as printed
 use Rattle.bench_door.proofs.lab.Lab.TheSendSync as labs
-use Rattle.bench_door.specs.contracts.ending.Held as Held
+use Rattle.bench_door.specs.contracts.held.Held as Held
 
 pointer : IsSend RawPtr
 pointer = search sendable
