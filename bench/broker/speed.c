@@ -11,8 +11,9 @@
      mutexes     a mutex for each instrument, all taken in one order
 
    Each number is the best of N runs (5), which are taken in turn; a run is so many benches (10), one after another, as a script has a
-   thousand sessions of a job at most; what is timed are the sessions alone. The last column is the handle beside the condition variable, and below
-   stand the geometric mean and the worst of these. */
+   thousand sessions of a job at most; what is timed are the sessions alone. Beside them stands the handle beside the condition variable, and
+   below the geometric mean and the worst of these. The last columns are of one bench more, which isn't timed: how long a session waits from
+   asking to holding, in milliseconds, 99 of 100 and the longest. */
 #define _POSIX_C_SOURCE 200809L
 #include "labrun.h"
 #include <math.h>
@@ -42,10 +43,25 @@ static void stop(const char *why, uint32_t status) {
     exit(70);
 }
 
+static int by_size(const void *one, const void *other) {
+    double a = *(const double *)one, b = *(const double *)other;
+    return (a > b) - (a < b);
+}
+
 static double now(void) {
     struct timespec time;
     clock_gettime(CLOCK_MONOTONIC, &time);
     return (double)time.tv_sec + (double)time.tv_nsec * 1e-9;
+}
+
+/* How long each session of each station waited, if that is noted. */
+static double waits[MOST * 1000];
+static int notes;
+
+static double asks(void) { return notes ? now() : 0; }
+
+static void holds_since(double asked, uint32_t me, long left) {
+    if (notes) waits[(long)me * sessions + left - 1] = now() - asked;
 }
 
 static void work(void) {
@@ -76,12 +92,14 @@ static void by_handle(uint32_t me) {
     uint32_t bit = (uint32_t)1 << me, holds;
     struct lab_turned turned;
     for (long left = sessions; left; left--) {
+        double asked = asks();
         pthread_mutex_lock(&mutex);
         waiting |= bit;
         uint32_t woken = settle(&holds) & ~bit;
         if (woken) wake(woken);
         while (waiting & bit) pthread_cond_wait(&came[me], &mutex);
         pthread_mutex_unlock(&mutex);
+        holds_since(asked, me, left);
         work();
         pthread_mutex_lock(&mutex);
         uint32_t status = lab_end(&bench, me, &turned);
@@ -95,10 +113,12 @@ static void by_handle(uint32_t me) {
 static void by_condition(uint32_t me) {
     uint64_t mine = needs(me);
     for (long left = sessions; left; left--) {
+        double asked = asks();
         pthread_mutex_lock(&mutex);
         while (taken & mine) pthread_cond_wait(&freed, &mutex);
         taken |= mine;
         pthread_mutex_unlock(&mutex);
+        holds_since(asked, me, left);
         work();
         pthread_mutex_lock(&mutex);
         taken &= ~mine;
@@ -110,8 +130,10 @@ static void by_condition(uint32_t me) {
 static void by_mutexes(uint32_t me) {
     uint64_t mine = needs(me);
     for (long left = sessions; left; left--) {
+        double asked = asks();
         for (uint32_t at = 0; at < threads; at++)
             if (mine >> at & 1) pthread_mutex_lock(&locks[at]);
+        holds_since(asked, me, left);
         work();
         for (uint32_t at = 0; at < threads; at++)
             if (mine >> at & 1) pthread_mutex_unlock(&locks[at]);
@@ -184,6 +206,16 @@ static double timed(void) {
     return last - first;
 }
 
+/* Prints the waits of one bench: 99 of 100, and the longest. */
+static void tell_waits(void) {
+    size_t all = (size_t)threads * (size_t)sessions;
+    notes = 1;
+    timed();
+    notes = 0;
+    qsort(waits, all, sizeof waits[0], by_size);
+    printf(" %.2g; %.2g |", waits[all * 99 / 100] * 1e3, waits[all - 1] * 1e3);
+}
+
 int main(int count, char **words) {
     long runs = 5, only = 0, benches = 10;
     for (int at = 1; at + 1 < count; at += 2) {
@@ -200,8 +232,8 @@ int main(int count, char **words) {
         pthread_cond_init(&came[at], NULL);
         pthread_mutex_init(&locks[at], NULL);
     }
-    printf("sessions a second, best of %ld, %ld us of work each\n| shape | threads | handle | condition | mutexes | handle / condition |\n"
-           "|---|---|---|---|---|---|\n",
+    printf("sessions a second, best of %ld, %ld us of work each\n| shape | threads | handle | condition | mutexes | handle / condition | handle: waits | condition: waits | "
+           "mutexes: waits |\n|---|---|---|---|---|---|---|---|---|\n",
            runs, microseconds);
     double sum = 0, worst = 1e9;
     int rows = 0;
@@ -218,7 +250,9 @@ int main(int count, char **words) {
                     if (speed > best[way]) best[way] = speed;
                 }
             double beside = best[HANDLE] / best[CONDITION];
-            printf("| %s | %u | %.0f | %.0f | %.0f | %.3f |\n", shapes[shape], threads, best[HANDLE], best[CONDITION], best[MUTEXES], beside);
+            printf("| %s | %u | %.0f | %.0f | %.0f | %.3f |", shapes[shape], threads, best[HANDLE], best[CONDITION], best[MUTEXES], beside);
+            for (way = HANDLE; way < WAYS; way++) tell_waits();
+            printf("\n");
             fflush(stdout);
             sum += log(beside);
             rows++;

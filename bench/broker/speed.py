@@ -11,14 +11,16 @@ Stations on 2, 8 and 32 threads do sessions without a pause (or with so many mic
   locks        a `threading.Lock` for each instrument, all taken in one order
 
 Each number is the best of N runs (5), which are taken in turn; a run is so many benches (4), one after another, as a script has a thousand
-sessions of a job at most; what is timed are the sessions alone. The last column is labrun beside Condition, and below stand the geometric mean
-and the worst of these. The package is found by PYTHONPATH, the library by LABRUN_LIBRARY. Nothing else should run on the machine: a session
+sessions of a job at most; what is timed are the sessions alone. Beside them stands labrun beside Condition, and below the geometric mean and
+the worst of these. The last columns are of one bench more, which isn't timed: how long a session waits from asking to holding, in
+milliseconds, 99 of 100 and the longest. The package is found by PYTHONPATH, the library by LABRUN_LIBRARY. Nothing else should run on the machine: a session
 that is handed over waits until the next thread gets a processor."""
 
 import argparse
 import math
 import threading
 import time
+from time import perf_counter
 
 import labrun
 
@@ -31,7 +33,7 @@ def needs(shape, threads, at):
     return {"disjoint": [at], "ring": sorted({at, (at + 1) % threads}), "all one": [0]}[shape]
 
 
-def by_labrun(shape, threads, sessions, work):
+def by_labrun(shape, threads, sessions, work, waits):
     text = ["lab 1"]
     for at in range(threads):
         text.append(f"job station-{at}")
@@ -40,23 +42,29 @@ def by_labrun(shape, threads, sessions, work):
 
     def station(at):
         for session in bench.jobs[at].sessions():
+            asked = perf_counter() if waits is not None else 0
             with session:
+                if waits is not None:
+                    waits.append(perf_counter() - asked)
                 if work:
                     time.sleep(work)
 
     return station, bench.close
 
 
-def by_condition(shape, threads, sessions, work):
+def by_condition(shape, threads, sessions, work, waits):
     condition, taken = threading.Condition(), set()
 
     def station(at):
         mine = needs(shape, threads, at)
         for _ in range(sessions):
+            asked = perf_counter() if waits is not None else 0
             with condition:
                 while not taken.isdisjoint(mine):
                     condition.wait()
                 taken.update(mine)
+            if waits is not None:
+                waits.append(perf_counter() - asked)
             if work:
                 time.sleep(work)
             with condition:
@@ -66,14 +74,17 @@ def by_condition(shape, threads, sessions, work):
     return station, lambda: None
 
 
-def by_locks(shape, threads, sessions, work):
+def by_locks(shape, threads, sessions, work, waits):
     locks = [threading.Lock() for _ in range(threads)]
 
     def station(at):
         mine = [locks[it] for it in needs(shape, threads, at)]
         for _ in range(sessions):
+            asked = perf_counter() if waits is not None else 0
             for lock in mine:
                 lock.acquire()
+            if waits is not None:
+                waits.append(perf_counter() - asked)
             if work:
                 time.sleep(work)
             for lock in mine:
@@ -82,8 +93,9 @@ def by_locks(shape, threads, sessions, work):
     return station, lambda: None
 
 
-def timed(way, shape, threads, sessions, work):
-    station, close = {"labrun": by_labrun, "Condition": by_condition, "locks": by_locks}[way](shape, threads, sessions, work)
+def timed(way, shape, threads, sessions, work, waits=None):
+    """The seconds that all sessions take; how long each waited is noted, if a list is given."""
+    station, close = {"labrun": by_labrun, "Condition": by_condition, "locks": by_locks}[way](shape, threads, sessions, work, waits)
     start = threading.Barrier(threads)
     begun, ended = [0.0] * threads, [0.0] * threads
 
@@ -102,6 +114,14 @@ def timed(way, shape, threads, sessions, work):
     return max(ended) - min(begun)
 
 
+def waited(way, shape, threads, sessions, work):
+    """The waits of the sessions of one bench, in milliseconds: 99 of 100, and the longest."""
+    waits = []
+    timed(way, shape, threads, sessions, work, waits)
+    waits.sort()
+    return f"{waits[len(waits) * 99 // 100] * 1e3:.2g}; {waits[-1] * 1e3:.2g}"
+
+
 def main():
     words = argparse.ArgumentParser(usage=__doc__)
     words.add_argument("--best", type=int, default=5)
@@ -111,7 +131,8 @@ def main():
     words.add_argument("--only", default="2,8,32")
     given = words.parse_args()
     print(f"sessions a second, best of {given.best}" + (f", {given.work:g} us of work each" if given.work else ", empty sessions"))
-    print("| shape | threads | " + " | ".join(WAYS) + " | labrun / Condition |\n|" + "---|" * (len(WAYS) + 3))
+    print("| shape | threads | " + " | ".join(WAYS) + " | labrun / Condition | " + " | ".join(f"{it}: waits" for it in WAYS) + " |")
+    print("|" + "---|" * (2 * len(WAYS) + 3))
     beside = []
     for shape in SHAPES:
         for threads in map(int, given.only.split(",")):
@@ -121,7 +142,9 @@ def main():
                     took = sum(timed(way, shape, threads, given.sessions, given.work / 1e6) for _ in range(given.benches))
                     best[way] = max(best[way], given.benches * threads * given.sessions / took)
             beside.append(best["labrun"] / best["Condition"])
-            print(f"| {shape} | {threads} | " + " | ".join(f"{best[way]:.0f}" for way in WAYS) + f" | {beside[-1]:.3f} |", flush=True)
+            speeds = " | ".join(f"{best[way]:.0f}" for way in WAYS)
+            waits = " | ".join(waited(way, shape, threads, given.sessions, given.work / 1e6) for way in WAYS)
+            print(f"| {shape} | {threads} | {speeds} | {beside[-1]:.3f} | {waits} |", flush=True)
     mean = math.exp(sum(map(math.log, beside)) / len(beside))
     print(f"labrun beside Condition: geometric mean {mean:.3f}, worst {min(beside):.3f}")
 
