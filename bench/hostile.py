@@ -88,7 +88,7 @@ def check_view_words(cases):
     """Those of labview: a word that is refused is named, and so is the help."""
     value = "invalid value '%s' for '<N>': "
     for words, why in (
-            ("", "a command is missing"), ("wait 9", "unrecognized subcommand 'wait'"), ("Waits 9", "unrecognized subcommand 'Waits'"),
+            ("", "a word is missing"), ("wait 9", "unrecognized subcommand 'wait'"), ("Waits 9", "unrecognized subcommand 'Waits'"),
             ("waits", "the following required arguments were not provided: <N>"), ("gantt 9 9", "unexpected argument '9' found"),
             ("picture --all", "unexpected argument '--all' found"), ("blocks nine", value % "nine" + "invalid digit found in string"),
             ("trace 1000000001", value % "1000000001" + "1000000001 is not in 0..=1000000000")):

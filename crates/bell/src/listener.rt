@@ -62,7 +62,7 @@ impl<'b> Listener<'b> {
         }
     }
 
-    /// A round was idle, and another would be in vain before the bell rings: as `idled`, but sleeps this many times. Answers no if the bell
+    /// A round was idle, and so would be any other before the bell rings: as `idled`, but sleeps this many times. Answers no if the bell
     /// wasn't rung in all that time.
     pub fn outlasts<R: Wait>(&mut self, rt: &R, sleeps: u32) -> bool
         ensures idle { self.new.idle ≡ self.old.idle }

@@ -11,7 +11,7 @@ use Rattle.bench_door.specs.Ends.{IsPrint}
 use Rattle.c_tells.specs.declared.told.Told.{Told}
 use Rattle.c_tells.specs.Telling.{Delivers, Fails}
 use Rattle.bench_door.specs.declared.held.Held.{Held}
-use Rattle.bench_door.specs.declared.held.Held.TheVariants.{Open, Ended, Reported, Moved as Gone}
+use Rattle.bench_door.specs.declared.held.Held.TheVariants.{Empty, Open, Reported, Unprinted}
 
 -- the text of the report, and then what is told of it: it stands in the room, or there is no room for it (6)
 abbrev pub Reports : Printed → List ℕ → List ℕ → Told → ℕ → Type 0
@@ -30,11 +30,11 @@ ClosesHeld (Open a) new room room' told told' status =
     ((e : LabEnd) × (p : Printed) × IsEnd a.bench.plan a.desks.items e.closed × IsPrint e.closed p.text.items p.outcome
     × HasReport a.bench.plan p.text.items p.outcome × (new ≡ Reported p) × Reports p room room' told' status)
     ⊎ ((b : Lab) × (b.bench ≡ a.bench) × (b.desks.items ≡ a.desks.items) × (new ≡ Open b) × NoRoomYet room room' told' status)
-    ⊎ ((e : LabEnd) × IsEnd a.bench.plan a.desks.items e.closed × (new ≡ Ended e) × NoRoomYet room room' told' status)
-ClosesHeld (Ended e) new room room' told told' status =
+    ⊎ ((e : LabEnd) × IsEnd a.bench.plan a.desks.items e.closed × (new ≡ Unprinted e) × NoRoomYet room room' told' status)
+ClosesHeld (Unprinted e) new room room' told told' status =
     ((p : Printed) × IsPrint e.closed p.text.items p.outcome × ∥ HasReport e.closed.plan p.text.items p.outcome ∥₁ × (new ≡ Reported p)
     × Reports p room room' told' status)
-    ⊎ ((new ≡ Ended e) × NoRoomYet room room' told' status)
+    ⊎ ((new ≡ Unprinted e) × NoRoomYet room room' told' status)
 ClosesHeld (Reported p) new room room' told told' status =
     ∥ HasSomeReport p.text.items p.outcome ∥₁ × (new ≡ Reported p) × Reports p room room' told' status
-ClosesHeld Gone new room room' told told' status = (status ≡ 7) × (new ≡ Gone) × (room' ≡ room) × (told' ≡ told)
+ClosesHeld Empty new room room' told told' status = (status ≡ 7) × (new ≡ Empty) × (room' ≡ room) × (told' ≡ told)

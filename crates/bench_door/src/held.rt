@@ -17,11 +17,11 @@ pub enum Held {
     /// A lab that goes on.
     Open(Lab),
     /// The end of a lab whose report found no memory yet.
-    Ended(LabEnd),
+    Unprinted(LabEnd),
     /// The report of a lab that has ended.
     Reported(Printed),
     /// Nothing, within a call that puts something else there before it returns.
-    Moved,
+    Empty,
 }
 
 fn give(printed: &Printed, room: &mut [u8], told: &mut Told) -> u32
@@ -32,7 +32,7 @@ fn give(printed: &Printed, room: &mut [u8], told: &mut Told) -> u32
 }
 
 /// One step of the end, and the next as far as memory goes.
-pub fn ended(alloc: Global, held: Held, room: &mut [u8], told: &mut Told) -> (Held, u32)
+pub fn close_held(alloc: Global, held: Held, room: &mut [u8], told: &mut Told) -> (Held, u32)
     ensures { ClosesHeld held result.0 room.old room.new told.old told.new result.1 }
 {
     match held {
@@ -42,21 +42,21 @@ pub fn ended(alloc: Global, held: Held, room: &mut [u8], told: &mut Told) -> (He
                     let status = give(&printed, room, told);
                     (Held::Reported(printed), status)
                 }
-                None => (Held::Ended(end), fail(RunFault::NoMemory, told)),
+                None => (Held::Unprinted(end), fail(RunFault::NoMemory, told)),
             },
             Err(lab) => (Held::Open(lab), fail(RunFault::NoMemory, told)),
         },
-        Held::Ended(end) => match print(alloc, &end) {
+        Held::Unprinted(end) => match print(alloc, &end) {
             Some(printed) => {
                 let status = give(&printed, room, told);
                 (Held::Reported(printed), status)
             }
-            None => (Held::Ended(end), fail(RunFault::NoMemory, told)),
+            None => (Held::Unprinted(end), fail(RunFault::NoMemory, told)),
         },
         Held::Reported(printed) => {
             let status = give(&printed, room, told);
             (Held::Reported(printed), status)
         }
-        Held::Moved => (Held::Moved, NOT_OPEN),
+        Held::Empty => (Held::Empty, NOT_OPEN),
     }
 }

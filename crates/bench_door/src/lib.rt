@@ -10,7 +10,7 @@ mod stages;
 mod steps;
 
 pub use close::{LabEnd, print};
-pub use held::{Held, ended};
+pub use held::{Held, close_held};
 pub use lab::Lab;
 pub use readers::standing_at;
 pub use stages::{DeskRelease, both, end_session, is_idle, stage_of};

@@ -92,7 +92,7 @@ impl<A: Allocator> Tally<A> {
         &self.kept
     }
 
-    /// Puts who kept the present session to the others, and counts nothing from now on.
+    /// Keeps, beside the other sessions, who kept the present one, and counts nothing from now on.
     pub(crate) fn put_away(&mut self, alloc: A, plan: &Plan<A>) -> Result<(), AllocError>
     where
         A: Copy,

@@ -19,5 +19,5 @@ pub enum Inside {
     /// A desk that was taken.
     Desk(TakenDesk),
     /// Nothing, within a call that puts something else there before it returns.
-    Moved,
+    Empty,
 }

@@ -38,7 +38,7 @@ fn desk_at(alloc: Global, inside: &Inside, job: u32) -> Result<Box<Inside, Globa
     ensures desk { IfOk result (λ b. HasDeskOf inside.now job b.value) }
     ensures why { IfErr result (λ status. IsWhyNoDesk inside.now job status) }
 {
-    let Ok(mut place) = Box::new(alloc, Inside::Moved) else {
+    let Ok(mut place) = Box::new(alloc, Inside::Empty) else {
         return Err(NO_MEMORY);
     };
     match desk_in(inside, job) {
@@ -100,7 +100,7 @@ pub fn give(alloc: Global, desk: &mut Handle) -> u32
         Ok(inside) => inside,
         Err(status) => return status,
     };
-    let (after, status) = given(Box::replace(&mut inside, Inside::Moved));
+    let (after, status) = given(Box::replace(&mut inside, Inside::Empty));
     match after {
         Some(after) => {
             Box::replace(&mut inside, after);

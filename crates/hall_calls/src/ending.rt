@@ -5,7 +5,7 @@ ghost use Rattle.c_handles.specs.declared.inside.Inside.TheVariants.{Shared};
 ghost use Rattle.hall_calls.specs.Calls.{Closes, ClosesShared, is_of_a_hall};
 
 use bench_calls::NOT_NOW;
-use bench_door::{Held, ended};
+use bench_door::{Held, close_held};
 use bench_hall::{Hall, WhyOpen};
 use c_handles::{Handle, Inside, NOT_OPEN, put, release, take};
 use c_tells::{Told, fail};
@@ -19,7 +19,7 @@ fn closed(alloc: Global, hall: Arc<Hall, Global>, room: &mut [u8], told: &mut To
 {
     match Hall::into_lab(hall, alloc) {
         Ok(lab) => {
-            let (held, status) = ended(alloc, Held::Open(lab), room, told);
+            let (held, status) = close_held(alloc, Held::Open(lab), room, told);
             (Inside::Closing(held), status)
         }
         Err(stays) => {
@@ -39,7 +39,7 @@ fn close_in(alloc: Global, inside: Inside, room: &mut [u8], told: &mut Told) -> 
     match inside {
         Inside::Shared(hall) => closed(alloc, hall, room, told),
         Inside::Closing(held) => {
-            let (held, status) = ended(alloc, held, room, told);
+            let (held, status) = close_held(alloc, held, room, told);
             (Inside::Closing(held), status)
         }
         other => (other, NOT_OPEN),
@@ -54,7 +54,7 @@ pub fn close(alloc: Global, bench: &mut Handle, room: &mut [u8], told: &mut Told
         Ok(inside) => inside,
         Err(status) => return status,
     };
-    let (after, status) = close_in(alloc, Box::replace(&mut inside, Inside::Moved), room, told);
+    let (after, status) = close_in(alloc, Box::replace(&mut inside, Inside::Empty), room, told);
     Box::replace(&mut inside, after);
     put(&mut bench.slot, &mut bench.live, inside);
     status

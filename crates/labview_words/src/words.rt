@@ -220,7 +220,7 @@ pub fn read_words<S: AsStr>(alloc: Global, words: &[S]) -> Result<Task, NoTask>
     match command.try_get_matches_from(words) {
         Ok(matches) => match task_of(&matches) {
             Some(task) => Ok(task),
-            None => Err(refused(alloc, "a command is missing")),
+            None => Err(refused(alloc, "a word is missing")),
         },
         Err(error) => Err(why_no_task(alloc, &error)),
     }

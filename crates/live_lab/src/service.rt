@@ -84,7 +84,7 @@ impl Lab {
         Some(self.serve_of(JobNo(job as u8)))
     }
 
-    /// Serves each job's neighbours but this one's, in ascending order, if there is such a job.
+    /// Serves the neighbours of every other job, job by job in ascending order, if there is such a job.
     pub fn serve_others(&mut self, job: usize) -> Option<Turned>
         ensures { AtJob ServesOthers job self.old result self.new }
     {

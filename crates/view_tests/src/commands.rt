@@ -146,7 +146,7 @@ const OF_LABVIEW: [Line; 10] = [
         &["labview"],
         SCRIPT,
         "",
-        "labview: command line refused: a command is missing; see labview --help\n",
+        "labview: command line refused: a word is missing; see labview --help\n",
         2,
     ),
     (

@@ -90,12 +90,11 @@ pub(crate) fn in_teams<R: Threads + Sync, A: Allocator + Send + Sync, C: Crew<A>
     if count < 2 {
         return crew.work(desks);
     }
-    let low = 1;
-    let high = count - low;
-    let middle = first.saturating_add(low);
+    let middle = first.saturating_add(1);
+    let others = count - 1;
     let cut = desks.partition_point(|desk| u32::from(desk.job().0) % workers < middle);
     let (front, back) = desks.split_at_mut(cut);
-    let (one, other) = in_parts(rt, crew, workers, first, low, front, middle, high, back);
+    let (one, other) = in_parts(rt, crew, workers, first, front, middle, others, back);
     let m = match one {
         Halt::After(m) => m,
         Halt::AllRetired => return Halt::AllRetired,
@@ -110,36 +109,34 @@ pub(crate) fn in_teams<R: Threads + Sync, A: Allocator + Send + Sync, C: Crew<A>
     Halt::After(most)
 }
 
-/// Both parts, the first on a thread of its own; if none can be made, `join_mut` runs both on this one, the first after the other.
+/// Both parts, the first team alone and on a thread of its own; if none can be made, `join_mut` runs both on this one, one after the other.
 #[cycle(parts)]
 fn in_parts<R: Threads + Sync, A: Allocator + Send + Sync, C: Crew<A>>(
     rt: &R,
     crew: &C,
     workers: u32,
     first: u32,
-    low: u32,
     front: &mut [Desk<A>],
     middle: u32,
-    high: u32,
+    others: u32,
     back: &mut [Desk<A>],
 ) -> (Halt, Halt)
     requires workers { 0 < workers }
-    requires low { 0 < low }
-    requires high { 0 < high }
+    requires others { 0 < others }
     requires front { Each (Owns (C.bench crew.now)) front.old }
     requires back { Each (Owns (C.bench crew.now)) back.old }
     ensures front { Worked (C.turns crew.now) front.old result.0 front.new }
     ensures back { Worked (C.turns crew.now) back.old result.1 back.new }
 {
     let mut one = || -> Halt
-        requires { IsSync R.row × IsSync A.row × IsSend A.row × IsSync C.row × Frees A.Allocator A.dealloc_token × (0 < low) × (0 < workers)
+        requires { IsSync R.row × IsSync A.row × IsSend A.row × IsSync C.row × Frees A.Allocator A.dealloc_token × (0 < others) × (0 < workers)
             × Each (Owns (C.bench crew.now)) front.now }
         ensures { Worked (C.turns crew.entry.now) front.entry.now result front.exit.now }
-    { in_teams(rt, crew, workers, first, low, front) };
+    { in_teams(rt, crew, workers, first, 1, front) };
     let mut other = || -> Halt
-        requires { IsSync R.row × IsSync A.row × IsSend A.row × IsSync C.row × Frees A.Allocator A.dealloc_token × (0 < high) × (0 < workers)
+        requires { IsSync R.row × IsSync A.row × IsSend A.row × IsSync C.row × Frees A.Allocator A.dealloc_token × (0 < others) × (0 < workers)
             × Each (Owns (C.bench crew.now)) back.now }
         ensures { Worked (C.turns crew.entry.now) back.entry.now result back.exit.now }
-    { in_teams(rt, crew, workers, middle, high, back) };
+    { in_teams(rt, crew, workers, middle, others, back) };
     join_mut(rt, &mut one, &mut other)
 }

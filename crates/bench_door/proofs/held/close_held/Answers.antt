@@ -5,8 +5,8 @@ use Rattle.live_lab.specs.declared.print.Printed.{Printed}
 use Rattle.live_lab.specs.Prints.{HasReport}
 use Rattle.bench_door.specs.Ends.{IsPrint, EndsHaveReports}
 use Rattle.bench_door.specs.Closing.{ClosesHeld}
-use Rattle.bench_door.specs.declared.held.Held.TheVariants.{Open, Ended, Reported}
-use Rattle.bench_door.proofs.held.ended.Goals as goal
+use Rattle.bench_door.specs.declared.held.Held.TheVariants.{Open, Reported, Unprinted}
+use Rattle.bench_door.proofs.held.close_held.Goals as goal
 
 -- what is printed of a lab that has ended is a report of its plan
 its_report : EndsHaveReports → (e : LabEnd) (p : Printed) → IsPrint e.closed p.text.items p.outcome → ∥ HasReport e.closed.plan p.text.items p.outcome ∥₁
@@ -27,13 +27,13 @@ returns-in-Err c =
 
 pub returns-in-Some-print : goal.returns-in-Some-print
 returns-in-Some-print c =
-    let given = c.give-status-in-Some-print in let p = c.in-Some-print.printed in let e = c.in-Ended.end in let print = c.in-Some-print.ensures.text in
-    let report = its_report c.print-in-Ended.ensures.holds e p print in
-    subst (λ h. ClosesHeld h (Reported p) c.args.room.now given.new.room c.args.told.now given.new.told given.result) (sym c.in-Ended.is)
+    let given = c.give-status-in-Some-print in let p = c.in-Some-print.printed in let e = c.in-Unprinted.end in let print = c.in-Some-print.ensures.text in
+    let report = its_report c.print-in-Unprinted.ensures.holds e p print in
+    subst (λ h. ClosesHeld h (Reported p) c.args.room.now given.new.room c.args.told.now given.new.told given.result) (sym c.in-Unprinted.is)
     (inl (p, print, report, refl, given.ensures))
 
 pub returns-in-None : goal.returns-in-None
 returns-in-None c =
     let e = c.in-Ok.end in let failed = c.fail.ensures in
-    subst (λ h. ClosesHeld h (Ended e) c.args.room.now c.args.room.now c.args.told.now c.fail.new.told c.fail.result) (sym c.in-Open.is)
+    subst (λ h. ClosesHeld h (Unprinted e) c.args.room.now c.args.room.now c.args.told.now c.fail.new.told c.fail.result) (sym c.in-Open.is)
     (inr (inr (e, c.in-Ok.ensures.ended, refl, (failed.status, refl, failed.told))))
