@@ -95,9 +95,8 @@ uint32_t lab_upgrade(const uint8_t *script, size_t length, uint8_t *report, size
    be unfinished, and no two jobs held an instrument at once.
 
    Nobody sleeps for nothing. A job *keeps* an instrument from another that needs it and lacks it, if it has what the other lacks of it,
-   needs it too, and holds or comes first. After `lab_settle` answered 0 each job that waits and doesn't hold has a chain of jobs: the first
-   keeps an instrument from it, the next keeps one from the first, and so on; all but the last wait, and the last holds. So who waits then,
-   waits because somebody works.
+   needs it too, and holds or comes first. After `lab_settle` answered 0, a chain of jobs leads from each job that waits and doesn't hold:
+   each keeps an instrument from the one before it; all but the last wait, and the last holds. So whoever waits then, waits because somebody works.
 
    The rules, beside those above:
 
@@ -227,10 +226,9 @@ uint32_t lab_planned(struct lab_bench *bench, uint32_t job, uint32_t session, ui
 /* How far a job is. 0, 2, 7. */
 uint32_t lab_state(struct lab_bench *bench, uint32_t job, struct lab_state *state);
 
-/* Which jobs keep an instrument from a job: those that have what it needs and lacks of the instrument, need it too, and hold or come
-   first. There is none if the job isn't thirsty, doesn't need the instrument, or lacks nothing of it. After `lab_settle` there is one
-   for each instrument that it lacks; if that one doesn't hold, it waits, and has keepers of its own. 0, 2 (no such job or
-   instrument), 7. */
+/* Which jobs keep an instrument from a job (see above). There is none if the job isn't thirsty, doesn't need the instrument, or lacks nothing
+   of it. After `lab_settle` there is one for each instrument that it lacks; if that one doesn't hold, it waits, and has keepers of its own.
+   0, 2 (no such job or instrument), 7. */
 uint32_t lab_keepers(struct lab_bench *bench, uint32_t job, uint32_t instrument, struct lab_keepers *keepers);
 
 /* Begins the next session of each job of `waiting` that is in none, and then does all that can be done without a word from an owner, until
@@ -366,9 +364,6 @@ uint32_t lab_bench_resume(const uint8_t *journal, size_t length, struct lab_benc
 
    When all desks are back, `lab_shared_close` gives the report. The promise is the same: whatever the calls, from whatever threads, the
    report is one of a legal run.
-
-   Which way? By the first, any call may act for any job, whoever waits serves the jobs whose threads are away, and a mutex orders the
-   calls. By this one there is no mutex to wait for, but each desk has to be served by whoever has it.
 
    The rules, beside those at the top of this file:
 

@@ -128,11 +128,12 @@ fn in_parts<R: Threads + Sync, A: Allocator + Send + Sync, C: Crew<A>>(
     ensures front { Worked (C.turns crew.now) front.old result.0 front.new }
     ensures back { Worked (C.turns crew.now) back.old result.1 back.new }
 {
+    let alone = 1;
     let mut one = || -> Halt
-        requires { IsSync R.row × IsSync A.row × IsSend A.row × IsSync C.row × Frees A.Allocator A.dealloc_token × (0 < others) × (0 < workers)
+        requires { IsSync R.row × IsSync A.row × IsSend A.row × IsSync C.row × Frees A.Allocator A.dealloc_token × (0 < workers)
             × Each (Owns (C.bench crew.now)) front.now }
         ensures { Worked (C.turns crew.entry.now) front.entry.now result front.exit.now }
-    { in_teams(rt, crew, workers, first, 1, front) };
+    { in_teams(rt, crew, workers, first, alone, front) };
     let mut other = || -> Halt
         requires { IsSync R.row × IsSync A.row × IsSend A.row × IsSync C.row × Frees A.Allocator A.dealloc_token × (0 < others) × (0 < workers)
             × Each (Owns (C.bench crew.now)) back.now }

@@ -9,7 +9,7 @@ abbrev pub decreases-in_parts : goal.decreases-in_parts
 decreases-in_parts g l = 4 * l.others + 3
 
 abbrev pub decreases-in_parts-one : goal.decreases-in_parts-one
-decreases-in_parts-one g l = 5
+decreases-in_parts-one g l = 4 * l.alone + 1
 
 abbrev pub decreases-in_parts-other : goal.decreases-in_parts-other
 decreases-in_parts-other g l = 4 * l.others + 1
