@@ -140,7 +140,7 @@ module _ (plan : LabPlan) (old new : List (List Event)) (n : ℕ) (old_long : le
   now = session (known_in plan (joined new) j) j
 
   -- in the session in which the round ended, and nothing of this round is counted yet
-  record Moved (y : TallyView) : Type 0 where
+  record InSession (y : TallyView) : Type 0 where
     session : y.session ≡ now
     fit : All (FitsSide plan) y.sides
     at_places : flat_map (side_places plan) y.sides ≡ places_of plan j
@@ -150,7 +150,7 @@ module _ (plan : LabPlan) (old new : List (List Event)) (n : ℕ) (old_long : le
 
   module _ (x : TallyView) (t : Tells plan old j x) where
     moves : (b : Bool) → (x.session == now) ≡ b
-        → Moved (if b then x else record { session = now; sides = map (cleared_side plan) x.sides; kept = kept_then plan x })
+        → InSession (if b then x else record { session = now; sides = map (cleared_side plan) x.sides; kept = kept_then plan x })
     moves true is =
         let e : x.session ≡ now = grind (arith, nat_tests, is) in record {
           session = e;
@@ -182,7 +182,7 @@ module _ (plan : LabPlan) (old new : List (List Event)) (n : ℕ) (old_long : le
   near = All-weaker (IsPlaceOf plan j) (λ (x : Place). (neighbour plan x.job x.edge < length plan.jobs) × (x.job ≡ j))
       (λ x is. (neighbour_inside plan x is.0, is.1)) (places_of plan j) (places_of_job plan j inside)
 
-  tells_on : (y z : TallyView) → Moved y → z.session ≡ now → AllZip (SideThen plan (block_then plan (joined new) before after)) y.sides z.sides
+  tells_on : (y z : TallyView) → InSession y → z.session ≡ now → AllZip (SideThen plan (block_then plan (joined new) before after)) y.sides z.sides
       → z.kept ≡ y.kept → Tells plan new j z
   tells_on y z m is zip stays =
       let change : Place → Block → Block = block_then plan (joined new) before after in record {
