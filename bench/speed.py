@@ -1,7 +1,7 @@
 #!/usr/bin/env python3
 """Measures how fast labrun runs, beside plain Rust programs that do the same without proofs.
 
-Usage: bench/speed.py [rounds=N] [program=PATH] [only=NAME,..] [ahead=yes]     (from anywhere, after ./labrun was built)
+Usage: bench/speed.py [rounds=N] [program=PATH] [kit=wide] [only=NAME,..] [ahead=yes]     (from anywhere, after ./labrun was built)
        bench/speed.py growth [rounds=N] [program=PATH]
        bench/speed.py instructions [program=PATH] [only=NAME,..]
        bench/speed.py instructions growth [program=PATH]            (both with valgrind)
@@ -17,7 +17,8 @@ of them, one after the other, N times over (9 unless said); of all times of a pr
 What is compared is the run itself: the time from a program's start to the first byte of its report, less the same time on
 the same script with no turns. So starting, reading, opening and printing are left out. A table of its own has whole
 programs, from start to end. Every report is checked by bench/check_report.py once before the measuring. On a machine with
-other work, ahead=yes runs the programs under real-time priority, as root; what else runs waits meanwhile.
+other work, ahead=yes runs the programs under real-time priority, as root; what else runs waits meanwhile. With kit=wide eight more workloads
+are measured, of two jobs to 32, from jobs that share nothing to one clique of all.
 
 With `growth` it measures instead how the time of `rounds` grows, of labrun and of the port, where one thing is doubled again
 and again: the exponent that fits best is told, 1.00 where the time grows as the number of commands does (where instruments are
@@ -62,6 +63,17 @@ WORKLOADS = (
     ("short", "ring", dict(jobs=16, instruments=16, sessions=1000, commands=1)),
     ("random", "random", dict(jobs=32, instruments=56, sessions=60, commands=20)),
 )
+# eight more, with two jobs or many
+WIDE = (
+    ("two", "pairs", dict(jobs=2, instruments=8, sessions=1000, commands=20)),
+    ("apart 32", "disjoint", dict(jobs=32, instruments=56, sessions=300, commands=20)),
+    ("pairs 32", "pairs", dict(jobs=32, instruments=48, sessions=300, commands=20)),
+    ("own 8", "ring", dict(jobs=8, instruments=8, own=5, sessions=1000, commands=20)),
+    ("ring 32", "ring", dict(jobs=32, instruments=32, sessions=300, commands=10)),
+    ("star 29", "star", dict(jobs=29, instruments=28, sessions=300, commands=10)),
+    ("one 8", "clique", dict(jobs=8, instruments=1, sessions=1000, commands=10)),
+    ("clique 32", "clique", dict(jobs=32, instruments=28, sessions=60, commands=20)),
+)
 # what is doubled: heading, shape, the keys that stay, the key that grows, its values
 GROWTHS = (
     ("sessions of 8 jobs in pairs", "pairs", dict(jobs=8, instruments=16, commands=10), "sessions", (125, 250, 500, 1000)),
@@ -97,7 +109,7 @@ TURN = {"labrun rounds": "turning::turn", "port rounds": "Desk::turn"}
 # whose instructions are counted: heading, the function in each program, by what it is told, and the goals (at most): of the mean, of the worst
 COUNTED = (
     ("turns", TURN, "command", 1.10, 1.20),
-    ("report", {"labrun rounds": ("showing::send_report", "showing::show_run"), "port rounds": "shared::write_report"}, "entry", 0.90, None),
+    ("report", {"labrun rounds": ("run_report::send_report", "run_report::show_run"), "port rounds": "shared::write_report"}, "entry", 0.90, None),
     ("reading", {"labrun rounds": "plan::read_plan", "port rounds": "shared::read_plan"}, "line", 1.15, None),
 )
 # the scripts by which single steps are counted: so many jobs, and as many commands of each in its last session
@@ -193,9 +205,9 @@ def table(heads, rows):
     print(flush=True)
 
 
-def scripts(folder, only):
+def scripts(folder, only, kit=WORKLOADS):
     found = []
-    for name, shape, keys in WORKLOADS:
+    for name, shape, keys in kit:
         if only and name not in only:
             continue
         text = make_scripts.make(shape, random.Random(7), **keys)
@@ -386,7 +398,7 @@ def main(words):
             growth(folder, TURN, "instructions", lambda path: {name: counted(run[0], TURN[name], path) for name, run in by_rounds.items()})
             return 0
         times, clocks, wholes, counts = {}, {}, {}, {}
-        for name, path, text in scripts(folder, only):
+        for name, path, text in scripts(folder, only, WORKLOADS + WIDE if keys.get("kit") == "wide" else WORKLOADS):
             for program, (full, _) in runs.items():
                 checked(program, full, path, text)
             times[name], clocks[name], wholes[name] = measure(runs, path, rounds)
