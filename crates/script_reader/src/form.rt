@@ -7,7 +7,7 @@ ghost use Rattle.script_reader.specs.Form.{line_of};
 use crate::field::{is_blank, is_word, next_field, one_field};
 
 /// The version of a script.
-#[derive(Clone, Copy, PartialEq, Eq, Debug)]
+#[derive(Clone, Copy)]
 pub(crate) enum Version {
     One,
     Two,
@@ -28,7 +28,7 @@ impl Version {
 }
 
 /// A verb, with its number as it is spelled.
-#[derive(Clone, Copy, Debug)]
+#[derive(Clone, Copy)]
 pub(crate) enum VerbField<'a> {
     Set(&'a [u8]),
     Add(&'a [u8]),
@@ -36,7 +36,7 @@ pub(crate) enum VerbField<'a> {
 }
 
 /// The form of a line that isn't skipped, with its names and numbers as they are spelled.
-#[derive(Clone, Copy, Debug)]
+#[derive(Clone, Copy)]
 pub(crate) enum Form<'a> {
     Header(Version),
     Job(&'a [u8]),
