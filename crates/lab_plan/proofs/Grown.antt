@@ -71,6 +71,13 @@ placed p xs = elim (cases_lt (position_or_len p xs) (length xs)) [
       rw t (any_is p xs ∙ t, omega arith)
 ]
 
+pub found_any : {X : Type 0} (p : X → Bool) (xs : List X) → is_some (position p xs) ≡ list_any p xs
+found_any p xs =
+    ⊎_elim
+    (λ is. rw is (sym (any_is p xs ∙ is)))
+    (λ is. rw is (sym (any_is p xs ∙ is)))
+    (cases_Bool (nat_lt (position_or_len p xs) (length xs)))
+
 -- room for one more command
 pub room : (name : List ℕ) (verb : Verb) (plan : LabPlan) → length plan.instruments ≤ 56 → is_past_limit name plan ≡ false
     → (length (all_commands plan) < 100000) × (length (with_command name verb plan).instruments ≤ 56)

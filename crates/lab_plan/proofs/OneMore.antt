@@ -444,7 +444,7 @@ module _ (p : LabPlan) (j : ℕ) (session : SessionPlan) (tables : PlanTables) (
   may : IsGranted p j session
   may = granted p j session none
 
-  inside : j < length tables.job_tables
+  pub inside : j < length tables.job_tables
   inside = let same = whole.tables_are.job_tables_are.0 in omega (arith, there, same)
 
   pub numbered : All (λ command. command.0 < 56) session.commands

@@ -44,10 +44,11 @@ impl<A: Allocator> Draft<A> {
         }
     }
 
+    #[tactic(auto, using(crate::proofs::Grown::found_any))]
     pub(crate) fn is_job(&self, name: &[u8]) -> bool
         ensures { result ≡ is_job name.now self.now }
     {
-        self.jobs.iter().any(|job| job.is(name))
+        self.job_place(name).is_some()
     }
 
     pub(crate) fn job_place(&self, name: &[u8]) -> Option<usize>

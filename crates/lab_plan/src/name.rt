@@ -79,12 +79,12 @@ fn are_name_bytes(bytes: &[u8]) -> bool
 fn is_reserved(bytes: &[u8]) -> bool
     ensures { result ≡ is_reserved bytes.now }
 {
-    bytes == b"lab".as_slice()
-        || bytes == b"job".as_slice()
-        || bytes == b"session".as_slice()
-        || bytes == b"end".as_slice()
-        || bytes == b"steps".as_slice()
-        || bytes == b"patience".as_slice()
+    is_same_name(bytes, b"lab")
+        || is_same_name(bytes, b"job")
+        || is_same_name(bytes, b"session")
+        || is_same_name(bytes, b"end")
+        || is_same_name(bytes, b"steps")
+        || is_same_name(bytes, b"patience")
 }
 
 /// Whether the bytes may name a job or an instrument: 1 to 16 bytes, a lowercase letter, then

@@ -2,6 +2,8 @@
 ghost use Rattle.std.specs.Prelude.{◌≡◌, ℕ, ◌-◌, ◌^◌, ◌<◌, ◌≤◌, length, slice_index, slice_index_or};
 ghost use Rattle.std.specs.Prelude.{slice_get, All, Contains, IfSome, IfNone, is_ok, if◌then◌else◌, [], None};
 ghost use Rattle.std.specs.Int.{bit_at};
+ghost use Rattle.lab_plan.specs.Limits.{most_commands};
+ghost use Rattle.lab_plan.specs.LabPlan.{count_on};
 
 use crate::bottles::Bottles;
 use crate::draft::Draft;
@@ -13,6 +15,20 @@ use crate::tables::Tables;
 use crate::verb::Verb;
 use std::alloc::{AllocError, Allocator, Global};
 use std::marker::Model;
+
+/// How many of some commands are on an instrument.
+fn count_on(commands: &[(InstrumentNo, Verb)], instrument: InstrumentNo) -> u32
+    requires { length commands.now ≤ most_commands }
+    ensures { result ≡ count_on instrument commands.now }
+{
+    let mut count = 0u32;
+    for (other, _) in commands {
+        if *other == instrument {
+            count += 1;
+        }
+    }
+    count
+}
 
 /// A plan: jobs with their sessions of commands on instruments, within every limit.
 #[derive(Drop)]
@@ -300,13 +316,7 @@ impl<A: Allocator> Plan<A> {
         requires is_instrument { instrument < length self.now.instruments }
         ensures { result ≡ part self.now job session instrument }
     {
-        let mut count = 0u32;
-        for (other, _) in self.draft.commands(job, session) {
-            if *other == instrument {
-                count += 1;
-            }
-        }
-        count
+        count_on(self.draft.commands(job, session), instrument)
     }
 
     /// The place of a session's command, by its position counted from 0, within the session's part on its instrument.

@@ -23,6 +23,17 @@ pub record IsReading (done : List (List ℕ)) (number : ℕ) (s : State) : Type 
   pub shown : shown s ≡ lines
   pub tied : IsTied s
 
+-- before the first part
+pub starts : (s : State) → s ≡ opening → IsReading [] 1 s
+starts s is = subst (IsReading [] 1) (sym is) (record {
+  placed = refl;
+  lines = [];
+  are = refl;
+  leads = refl;
+  shown = refl;
+  tied = record { fresh = λ none. (refl, refl, refl); due = λ some. absurd (omega (arith, some)) };
+})
+
 leads_on : (s : State) (lines : List Line) (t u : State) (line : Line) → Leads s lines t → cause_in t line ≡ None → u ≡ after t line
     → Leads s (lines ++ line ∷ []) u
 leads_on s [] t u line h clean is = (subst (λ x. cause_in x line ≡ None) (sym h) clean, ap (λ x. after x line) h ∙ sym is)
@@ -106,6 +117,11 @@ ends_well parts n s report h e = are_words parts h.lines h.are ∙ ap (map words
 pub ends_badly : (parts : List (List ℕ)) (tail : List ℕ) (n : ℕ) (s : State) (cause : ReportCause) → IsReading parts n s → Ends s (Err cause)
     → IsCutOff parts tail n cause
 ends_badly parts tail n s cause h e = (s, known parts n s h, h.placed, e.0, inr (refl, e.1))
+
+-- something is left behind the last part
+pub left_over : (parts : List (List ℕ)) (tail : List ℕ) (n : ℕ) (s : State) → IsReading parts n s → (tail ≡ [] → ⊥)
+    → AnswersParts parts tail (Err (record { line = n; cause = NotWhole }))
+left_over parts tail n s h some = inr (inr (s, known parts n s h, h.placed, refl, inl some))
 
 pub is_nothing : (tail : List ℕ) → (length tail == 0) ≡ true → tail ≡ []
 is_nothing [] e = refl

@@ -1,16 +1,20 @@
 -- The reader's loop over the lines of further sessions.
-use Rattle.std.proofs.Common.{◌≡◌, ◌⊎◌, ℕ, ◌+◌, ◌<◌, ◌≤◌, List, [], ◌∷◌, ◌++◌, length, refl, sym, ap, ◌∙◌, arith, inl, inr, length-append, append-nil}
-use Rattle.std.specs.Prelude.{Option, None, Some, Result, Ok, Err}
+use Rattle.std.proofs.Common.{◌≡◌, ◌⊎◌, ℕ, ◌+◌, ◌<◌, ◌≤◌, List, [], ◌∷◌, ◌++◌, length, refl, sym, ap, ◌∙◌, subst, arith, inl, inr, length-append, append-nil, append_assoc}
+use Rattle.std.specs.Prelude.{Option, None, Some, Result, Ok, Err, IfOk, IfErr, MatchResult}
+use Rattle.std.proofs.lemmas.Grind.{flat_map-append}
 use Rattle.std.proofs.lemmas.List.{length_push}
+use Rattle.std.proofs.lemmas.Result.{MatchResult-at_ok, MatchResult-at_err}
 use Rattle.lab_plan.specs.declared.verb.Verb.{Verb}
 use Rattle.lab_plan.specs.LabPlan.{LabPlan, SessionPlan}
 use Rattle.lab_plan.specs.Building.{on_last, and_command}
 use Rattle.lab_plan.specs.Cuts.{commands_of}
+use Rattle.lab_plan.specs.Longer.{session_of}
 use Rattle.script_reader.specs.declared.fault.ScriptFault.{ScriptFault}
 use Rattle.script_reader.specs.declared.fault.ScriptCause.{ScriptCause}
 use Rattle.script_reader.specs.declared.fault.ScriptCause.TheVariants.{NoHeader, UnknownWord, BadName, BadNumber, JobTwice, NotInSession, NotInJob, EmptySession, SessionNotClosed, LimitPassed, TooManyInCommon, NoMemory, BadStep, NotItsOwn}
 use Rattle.script_reader.specs.Line.{Line, form_of}
 use Rattle.script_reader.specs.Script.{text_lines}
+use Rattle.script_reader.proofs.ReaderLoop.{counts}
 use Rattle.script_reader.specs.More.{SessionsSoFar, more_after, more_cause, more_end_cause, fault_or, more_in, sessions_in, AnswersMore, TakesMore}
 
 -- a fault is at the line that it names, or among the rest
@@ -81,7 +85,35 @@ module _ (plan : LabPlan) (j : ℕ) (text : List ℕ) where
     | inr bad ↦ inr (h.left ∙ ap (λ o. fault_or o n (more_in plan j (n + 1) (more_after plan s (form_of line)) rest)) bad)
   ]
 
--- ---- one more command of the last session
+  -- one more line
+  pub reads_more : (line : List ℕ) (done rest : List (List ℕ)) (n : ℕ) (s s' : SessionsSoFar) (x : Unit {0}) → IsReadingMore plan j text done (line ∷ rest) n s
+      → TakesMore plan j s (form_of line) (Ok x) s' → IsReadingMore plan j text (done ++ line ∷ []) rest (n + 1) s'
+  reads_more line done rest n s s' x h took = record {
+    split = h.split ∙ sym (append_assoc done (line ∷ []) rest);
+    placed = counts 1 n done line h.placed;
+    left = behind line done rest n s h took.0 ∙ ap (λ next. more_in plan j (n + 1) next rest) (sym took.1);
+  }
+
+  -- the end of the text
+  pub ends_more : {X : Type 0} (items : X → List SessionPlan) (done : List (List ℕ)) (n : ℕ) (s : SessionsSoFar) (given : Result X ScriptCause)
+      (result : Result X ScriptFault) → IsReadingMore plan j text done [] n s
+      → MatchResult given (λ x. (more_end_cause s ≡ None) × (items x ≡ s.sessions)) (λ cause. more_end_cause s ≡ Some cause)
+      → MatchResult result (λ x. given ≡ Ok x) (λ fault. (given ≡ Err fault.cause) × (fault.line ≡ n))
+      → IfOk result (λ x. AnswersMore plan j text (Ok (items x))) × IfErr result (λ fault. AnswersMore plan j text (Err fault))
+  ends_more items done n s given (Ok x) h e is =
+      let good = MatchResult-at_ok (λ x. (more_end_cause s ≡ None) × (items x ≡ s.sessions)) (λ cause. more_end_cause s ≡ Some cause) x is e in
+      (h.left ∙ ap (λ o. fault_or o n (Ok s.sessions)) good.0 ∙ ap (λ l. Ok l) (sym good.1), tt)
+  ends_more items done n s given (Err fault) h e is =
+      let bad = MatchResult-at_err (λ x. (more_end_cause s ≡ None) × (items x ≡ s.sessions)) (λ cause. more_end_cause s ≡ Some cause) fault.cause is.0 e in (
+        tt,
+        subst (λ m. AnswersMore plan j text (Err (record { line = m; cause = fault.cause }))) (sym is.1)
+            (inr (h.left ∙ ap (λ o. fault_or o n (Ok s.sessions)) bad)),
+      )
+
+-- ---- one more session, and one more command of the last one
+
+pub commands_begun : (patience : Option ℕ) (xs : List SessionPlan) → commands_of (xs ++ session_of patience [] ∷ []) ≡ commands_of xs
+commands_begun patience xs = flat_map-append (λ (session : SessionPlan). session.commands) xs (session_of patience [] ∷ []) ∙ append-nil (commands_of xs)
 
 pub commands_more : (i : ℕ) (verb : Verb) (xs : List SessionPlan) → 0 < length xs
     → length (commands_of (on_last (and_command i verb) xs)) ≡ length (commands_of xs) + 1

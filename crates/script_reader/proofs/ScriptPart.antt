@@ -1,5 +1,5 @@
 -- The loop over the script part of a text with steps.
-use Rattle.std.proofs.Common.{◌≡◌, ℕ, ◌+◌, ◌≤◌, true, false, List, [], ◌∷◌, ◌++◌, length, drop, refl, sym, ap, ◌∙◌, subst, arith, length-drop, append_assoc, append-nil, ⊎_elim, inr, suc, zero}
+use Rattle.std.proofs.Common.{◌≡◌, ℕ, ◌+◌, ◌≤◌, true, false, List, [], ◌∷◌, ◌++◌, length, drop, refl, sym, ap, ◌∙◌, subst, arith, length-append, length-drop, append_assoc, append-nil, ⊎_elim, inr, suc, zero}
 use Rattle.std.specs.Prelude.{Ok, Err}
 use Rattle.std.proofs.Math.ListN.{drop_of_length-le, length-map}
 use Rattle.bstr.specs.Text.{lines_from, line_len}
@@ -24,6 +24,13 @@ few_from (suc fuel) (b ∷ bytes) = let more = few_from fuel (drop (line_len (b 
 
 pub few_lines : (text : List ℕ) → length (text_lines text) ≤ length text
 few_lines text = let few = few_from (length text) text in simp length-map few
+
+-- the number of the next line fits
+pub number_fits : (text : List ℕ) (done rest : List (List ℕ)) (n : ℕ) → text_lines text ≡ done ++ rest → n ≡ 1 + length done → n + length rest ≤ length text + 1
+number_fits text done rest n split placed =
+    let few = few_lines text in
+    let all = ap length split in
+    omega (arith, few, all, length-append done rest)
 
 -- ---- the loop
 

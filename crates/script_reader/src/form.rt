@@ -4,10 +4,10 @@ ghost use Rattle.script_reader.specs.Fields.{fields};
 ghost use Rattle.script_reader.specs.Line.{lab_line, job_line, session_line, alone, command_line, line_with, form_of, Unknown, Steps, End};
 ghost use Rattle.script_reader.specs.Form.{line_of};
 
-use crate::field::{is_blank, next_field, one_field};
+use crate::field::{is_blank, is_word, next_field, one_field};
 
 /// The version of a script.
-#[derive(Clone, Copy, PartialEq, Eq, Debug)]
+#[derive(Clone, Copy)]
 pub(crate) enum Version {
     One,
     Two,
@@ -28,7 +28,7 @@ impl Version {
 }
 
 /// A verb, with its number as it is spelled.
-#[derive(Clone, Copy, Debug)]
+#[derive(Clone, Copy)]
 pub(crate) enum VerbField<'a> {
     Set(&'a [u8]),
     Add(&'a [u8]),
@@ -36,7 +36,7 @@ pub(crate) enum VerbField<'a> {
 }
 
 /// The form of a line that isn't skipped, with its names and numbers as they are spelled.
-#[derive(Clone, Copy, Debug)]
+#[derive(Clone, Copy)]
 pub(crate) enum Form<'a> {
     Header(Version),
     Job(&'a [u8]),
@@ -54,9 +54,9 @@ fn lab_line(rest: &[u8]) -> Form
     match one_field(rest) {
         None => Form::Unknown,
         Some(version) => {
-            if version == b"1".as_slice() {
+            if is_word(version, b"1") {
                 Form::Header(Version::One)
-            } else if version == b"2".as_slice() {
+            } else if is_word(version, b"2") {
                 Form::Header(Version::Two)
             } else {
                 Form::Unknown
@@ -81,7 +81,7 @@ fn session_line(rest: &[u8]) -> Form
         return Form::Session;
     };
     match one_field(rest) {
-        Some(number) if word == b"patience".as_slice() => Form::PatientSession(number),
+        Some(number) if is_word(word, b"patience") => Form::PatientSession(number),
         _ => Form::Unknown,
     }
 }
@@ -113,7 +113,7 @@ fn command_line<'a>(name: &'a [u8], rest: &'a [u8]) -> Form<'a>
         return Form::Unknown;
     };
     let Some((number, rest)) = next_field(rest) else {
-        return if verb == b"read".as_slice() {
+        return if is_word(verb, b"read") {
             Form::Command(name, VerbField::Read)
         } else {
             Form::Unknown
@@ -122,10 +122,10 @@ fn command_line<'a>(name: &'a [u8], rest: &'a [u8]) -> Form<'a>
     if !is_blank(rest) {
         return Form::Unknown;
     }
-    if verb == b"set".as_slice() {
+    if is_word(verb, b"set") {
         return Form::Command(name, VerbField::Set(number));
     }
-    if verb == b"add".as_slice() {
+    if is_word(verb, b"add") {
         return Form::Command(name, VerbField::Add(number));
     }
     Form::Unknown
@@ -136,22 +136,22 @@ fn command_line<'a>(name: &'a [u8], rest: &'a [u8]) -> Form<'a>
 fn line_with<'a>(first: &'a [u8], rest: &'a [u8]) -> Form<'a>
     ensures { line_of result ≡ line_with first.now (fields rest.now) }
 {
-    if first == b"lab".as_slice() {
+    if is_word(first, b"lab") {
         return lab_line(rest);
     }
-    if first == b"job".as_slice() {
+    if is_word(first, b"job") {
         return job_line(rest);
     }
-    if first == b"session".as_slice() {
+    if is_word(first, b"session") {
         return session_line(rest);
     }
-    if first == b"end".as_slice() {
+    if is_word(first, b"end") {
         return end_line(rest);
     }
-    if first == b"steps".as_slice() {
+    if is_word(first, b"steps") {
         return steps_line(rest);
     }
-    if first == b"patience".as_slice() {
+    if is_word(first, b"patience") {
         return Form::Unknown;
     }
     command_line(first, rest)

@@ -101,7 +101,9 @@ fn entry_fault<'a, A: Allocator>(
 {
     for number in 0..logs.len() {
         if let Some((place, cause)) = log_fault(jobs, logs[number].entries()) {
-            return Some((number + 1, place + 1, cause));
+            let instrument = number + 1;
+            let entry = place + 1;
+            return Some((instrument, entry, cause));
         }
     }
     None
@@ -117,7 +119,9 @@ fn twice_fault<'a, A: Allocator + Copy>(
 {
     for number in 0..logs.len() {
         if let Some(place) = twice_in(alloc, jobs, logs[number].entries())? {
-            return Ok(Some((number + 1, place + 1)));
+            let instrument = number + 1;
+            let entry = place + 1;
+            return Ok(Some((instrument, entry)));
         }
     }
     Ok(None)
@@ -156,7 +160,8 @@ pub(crate) fn check<A: Allocator>(report: &Report<'_, A>) -> Result<(), Timeline
         return Err(TimelineFault::LimitPassed);
     }
     if let Some(number) = job_twice(report.jobs()) {
-        return Err(TimelineFault::JobTwice { job: number + 1 });
+        let job = number + 1;
+        return Err(TimelineFault::JobTwice { job });
     }
     check_logs(report)
 }

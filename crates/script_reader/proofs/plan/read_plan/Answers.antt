@@ -1,12 +1,32 @@
-use Rattle.std.proofs.Common.{List, [], ◌∷◌, ◌+◌, ℕ, refl, sym, subst, Bor}
+use Rattle.std.proofs.Common.{List, [], ◌∷◌, ◌+◌, ℕ, arith, refl, sym, ◌∙◌, subst, Bor}
 use Rattle.std.specs.Prelude.{map}
 use Rattle.std.proofs.lemmas.List.{map-append}
 use Rattle.std.proofs.lemmas.Result.{err_from_is_err_and}
 use Rattle.script_reader.specs.Line.{form_of}
 use Rattle.script_reader.specs.Script.{text_lines, Refuses}
-use Rattle.script_reader.specs.State.{ReadsForm}
-use Rattle.script_reader.proofs.ReaderLoop.{IsReading, reads, stops, answers_at_end}
+use Rattle.script_reader.specs.State.{ReadsForm, state_of}
+use Rattle.script_reader.proofs.ReaderLoop.{IsReading, starts, reads, stops, answers_at_end}
+use Rattle.script_reader.proofs.ScriptPart.{number_fits}
 use Rattle.script_reader.proofs.plan.read_plan.Goals as goal
+
+pub loop-line-init : goal.loop-line-init
+loop-line-init g c =
+    let lines = text_lines c.args.text.now in
+    let all = c.into_iter-line-iterator.ensures.into_iter_gives ∙ c.lines-line-items.ensures.value in
+    subst (λ s. IsReading lines [] c.into_iter-line-iterator.result 1 s) (sym c.new-reader.ensures)
+    (subst (λ rest. IsReading lines [] rest 1 (state_of [])) (sym all) (starts lines))
+
+pub read-requires : goal.read-requires
+read-requires g c = c.loop-line.invariant.tied
+
+pub finish-requires : goal.finish-requires
+finish-requires g c = c.loop-line.invariant.tied
+
+pub overflow_add-number : goal.overflow_add-number
+overflow_add-number g c =
+    let done = map (λ (l : Bor (List ℕ)). l.now) c.loop-line.yielded in
+    let at = c.loop-line.invariant in
+    omega (arith, number_fits c.args.text.now done c.loop-line.line-iterator c.loop-line.number at.split at.placed)
 
 pub loop-line-preserved : goal.loop-line-preserved
 loop-line-preserved g c =

@@ -1,11 +1,45 @@
-use Rattle.std.proofs.Common.{[], ◌∷◌, ◌++◌, refl, sym, ap, ◌∙◌, subst}
+use Rattle.std.proofs.Common.{[], ◌∷◌, ◌++◌, arith, refl, sym, ap, ◌∙◌, subst}
 use Rattle.std.proofs.lemmas.Result.{MatchResult-weaker, err_from_is_err_and}
 use Rattle.script_reader.specs.Line.{form_of}
 use Rattle.script_reader.specs.Script.{text_lines, Refuses}
-use Rattle.script_reader.specs.State.{ReadsForm}
+use Rattle.script_reader.specs.State.{ReadsForm, state_of}
 use Rattle.script_reader.specs.Steps.{script_part}
-use Rattle.script_reader.proofs.ScriptPart.{IsAt, goes_on, fails, rest_behind, rest_none, steps_none, ends_well_at, ends_badly_at}
+use Rattle.script_reader.proofs.ReaderLoop.{starts}
+use Rattle.script_reader.proofs.ScriptPart.{IsAt, number_fits, goes_on, fails, rest_behind, rest_none, steps_none, ends_well_at, ends_badly_at}
 use Rattle.script_reader.proofs.steps.read_script.Goals as goal
+
+pub loop-line-init : goal.loop-line-init
+loop-line-init g c =
+    let lines = text_lines c.args.text.now in
+    let begun : IsAt lines [] lines 1 (state_of []) = record { split = refl; reading = starts (script_part lines) } in (
+      [],
+      subst (λ s. IsAt lines [] c.lines-lines.result 1 s) (sym c.new-reader.ensures)
+          (subst (λ rest. IsAt lines [] rest 1 (state_of [])) (sym c.lines-lines.ensures.value) begun),
+    )
+
+pub end_script-requires-clause-tied : goal.end_script-requires-clause-tied
+end_script-requires-clause-tied g c = c.loop-line.invariant.1.reading.tied
+
+pub end_script-requires-clause-number : goal.end_script-requires-clause-number
+end_script-requires-clause-number g c =
+    let at = c.loop-line.invariant.1 in
+    omega (arith, number_fits c.args.text.now c.loop-line.invariant.0 c.loop-line.lines c.loop-line.number at.split at.reading.placed)
+
+pub read-requires : goal.read-requires
+read-requires g c = c.loop-line.invariant.1.reading.tied
+
+pub overflow_add-number : goal.overflow_add-number
+overflow_add-number g c =
+    let at = c.loop-line.invariant.1 in
+    omega (arith, number_fits c.args.text.now c.loop-line.invariant.0 c.loop-line.lines c.loop-line.number at.split at.reading.placed)
+
+pub end_script-requires-2-clause-tied : goal.end_script-requires-2-clause-tied
+end_script-requires-2-clause-tied g c = c.loop-line.invariant.1.reading.tied
+
+pub end_script-requires-2-clause-number : goal.end_script-requires-2-clause-number
+end_script-requires-2-clause-number g c =
+    let at = c.loop-line.invariant.1 in
+    omega (arith, number_fits c.args.text.now c.loop-line.invariant.0 c.loop-line.lines c.loop-line.number at.split at.reading.placed)
 
 pub returns-then-is_steps_line : goal.returns-then-is_steps_line
 returns-then-is_steps_line g c =

@@ -1,11 +1,18 @@
-use Rattle.std.proofs.Common.{map, length, refl, subst}
+use Rattle.std.proofs.Common.{map, length, arith, refl, subst}
 use Rattle.std.specs.Prelude.{IfSome}
-use Rattle.std.proofs.lemmas.Option.{slice_get_read}
+use Rattle.std.proofs.lemmas.List.{length-map}
+use Rattle.std.proofs.lemmas.Option.{slice_get_read, slice_get_within}
 use Rattle.report_reader.specs.Form.{entry_text, job_text}
 use Rattle.timeline.specs.declared.fault.EntryCause.TheVariants as causes
 use Rattle.timeline.specs.Faults.{IsTwice}
 use Rattle.timeline.proofs.FaultAt.{fault_at}
 use Rattle.timeline.proofs.faulty.twice_fault.Goals as goal
+
+pub overflow_add-entry : goal.overflow_add-entry
+overflow_add-entry g c =
+    let entries = map entry_text c.entries.result.now in
+    let found = subst (λ o. IfSome o (λ place. IsTwice entries place)) c.in-Some.is c.in_ok-place.ensures in
+    omega (arith, slice_get_within entries c.in-Some.place found.entry found.stands, length-map c.entries.result.now entry_text)
 
 pub returns-in-Some : goal.returns-in-Some
 returns-in-Some g c =
