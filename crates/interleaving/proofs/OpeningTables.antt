@@ -75,30 +75,28 @@ pub opened_of : (t : Setting) (kept plan : LabPlan) (choices : List EndChoice) �
     → kept ≡ plan → t ≡ record { plan = plan; state = opening_of plan choices }
 opened_of t kept plan choices shows same = let make : LabPlan → Setting = λ p. record { plan = p; state = opening_of p choices } in shows ∙ ap make same
 
--- tables that show an opening state, with a tally of no counts, no past and nothing kept
-pub reached_opened : (t : Setting) (plan : LabPlan) (s : State) (tally : List Counts) (n : ℕ)
-    → t ≡ record { plan = plan; state = s } → n ≡ length plan.jobs → tally ≡ replicate n no_counts
-    → IsPlan plan → IsOpening plan s → IsAcyclic plan s → (start : Setting) (past : List Event) → start ≡ t → past ≡ []
+-- tables in an opening state, with a tally of no counts, no past and nothing kept
+pub reached_opened : (t : Setting) (tally : List Counts) (n : ℕ) → n ≡ length t.plan.jobs → tally ≡ replicate n no_counts
+    → IsPlan t.plan → IsOpening t.plan t.state → IsAcyclic t.plan t.state → (start : Setting) (past : List Event) → start ≡ t → past ≡ []
     → IsReachedBy t.plan start.state past t.state tally
-reached_opened t plan s tally n shows all none is_plan opens acyclic start past began empty =
-    let counts : tally ≡ replicate (length plan.jobs) no_counts = none ∙ ap (λ k. replicate k no_counts) all in
-    subst (λ (z : Setting × Setting × List Event). IsReachedBy z.1.plan z.0.state z.2 z.1.state tally) (λ i. (sym (began ∙ shows) i, sym shows i, sym empty i))
-    (subst (IsReachedBy plan s [] s) (sym counts) (reached_at_start plan s is_plan opens acyclic))
+reached_opened t tally n all none is_plan opens acyclic start past began empty =
+    let counts : tally ≡ replicate (length t.plan.jobs) no_counts = none ∙ ap (λ k. replicate k no_counts) all in
+    subst (λ (z : Setting × List Event × List Counts). IsReachedBy t.plan z.0.state z.1 t.state z.2) (λ i. (sym began i, sym empty i, sym counts i))
+    (reached_at_start t.plan t.state is_plan opens acyclic)
 
 pub kept_opened : (past : List Event) (kept : TapeView) → kept ≡ no_kept → IsKept past kept
 kept_opened past kept none = subst (IsKept past) (sym none) (kept_none past 0)
 
-pub is_at_start : (t : Setting) (plan : LabPlan) (s : State) (tally : List Counts) (n : ℕ)
-    → t ≡ record { plan = plan; state = s } → n ≡ length plan.jobs → tally ≡ replicate n no_counts
+pub is_at_start : (t : Setting) (tally : List Counts) (n : ℕ) → n ≡ length t.plan.jobs → tally ≡ replicate n no_counts
     → (start : Setting) (past : List Event) (kept : TapeView) → start ≡ t → past ≡ [] → kept ≡ no_kept
-    → record { plan = t.plan; state = t.state; counts = tally; opening = start.state; past = past; kept = kept } ≡ at_start plan s
-is_at_start t plan s tally n shows all none start past kept began empty untold =
-    let counts : tally ≡ replicate (length plan.jobs) no_counts = none ∙ ap (λ k. replicate k no_counts) all in
+    → record { plan = t.plan; state = t.state; counts = tally; opening = start.state; past = past; kept = kept } ≡ at_start t.plan t.state
+is_at_start t tally n all none start past kept began empty untold =
+    let counts : tally ≡ replicate (length t.plan.jobs) no_counts = none ∙ ap (λ k. replicate k no_counts) all in
     λ i. record {
-      plan = (shows i).plan;
-      state = (shows i).state;
+      plan = t.plan;
+      state = t.state;
       counts = counts i;
-      opening = ((began ∙ shows) i).state;
+      opening = (began i).state;
       past = empty i;
       kept = untold i;
     }

@@ -15,7 +15,7 @@ ghost use Rattle.interleaving.specs.World.{IsReachedWith, IsReachedBy, Steps, Re
 ghost use Rattle.interleaving.specs.Adding.{WorldAdds};
 ghost use Rattle.lab_plan.specs.Longer.{session_of};
 ghost use Rattle.interleaving.specs.Start.{at_start, IsStartRefused};
-ghost use Rattle.legal_steps.specs.Opening.{AreChoices, opening_of, the_opening};
+ghost use Rattle.legal_steps.specs.Opening.{AreChoices, IsOpening, opening_of, the_opening};
 ghost use Rattle.legal_steps.specs.Precedence.{IsAcyclic, Precedes};
 
 use crate::add_refusal::AddRefusal;
@@ -87,18 +87,10 @@ impl<'a, A: Allocator + Copy> World<'a, A> {
             return Err(StartRefusal::BadChoices);
         }
         let tables = Tables::opened(alloc, KeptPlan::lent(plan), choices)?;
-        let tally = JobCounts::new(alloc, plan.jobs())?;
         if tables.has_cycle(alloc)? {
             return Err(StartRefusal::Cycle);
         }
-        let start = Snapshot::of(&tables);
-        Ok(World {
-            tables,
-            tally,
-            tape: Tape::none(alloc),
-            start,
-            past: Past::none(),
-        })
+        Ok(World::fresh(alloc, tables)?)
     }
 
     /// A world in the initial state, with each fork and each bottle at the edge's lower job. On each edge
@@ -120,9 +112,17 @@ impl<'a, A: Allocator + Copy> World<'a, A> {
     fn at_opening(alloc: A, plan: KeptPlan<'a, A>) -> Result<World<'a, A>, NoMemory>
         ensures { IfOk result (λ world. world ≡ at_start plan.entry (the_opening plan.entry)) }
     {
-        let jobs = plan.get().jobs();
         let tables = Tables::opening(alloc, plan)?;
-        let tally = JobCounts::new(alloc, jobs)?;
+        World::fresh(alloc, tables)
+    }
+
+    /// The world in the state of these tables, before its first event.
+    fn fresh(alloc: A, tables: Tables<'a, A>) -> Result<World<'a, A>, NoMemory>
+        requires opening { IsOpening tables.plan tables.state }
+        requires acyclic { IsAcyclic tables.plan tables.state }
+        ensures { IfOk result (λ world. world ≡ at_start tables.entry.plan tables.entry.state) }
+    {
+        let tally = JobCounts::new(alloc, tables.plan().jobs())?;
         let start = Snapshot::of(&tables);
         Ok(World {
             tables,

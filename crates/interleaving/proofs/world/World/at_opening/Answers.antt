@@ -1,24 +1,19 @@
-use Rattle.std.proofs.Common.{length, ap, ◌∙◌, subst}
-use Rattle.lab_plan.specs.LabPlan.{LabPlan}
-use Rattle.lab_plan.specs.IsPlan.{IsPlan}
-use Rattle.legal_steps.specs.Opening.{the_opening}
+use Rattle.std.proofs.Common.{◌≡◌, sym, subst}
+use Rattle.std.specs.Prelude.{IfOk}
+use Rattle.legal_steps.specs.State.{Setting}
+use Rattle.legal_steps.specs.Opening.{IsOpening}
+use Rattle.legal_steps.specs.Precedence.{IsAcyclic}
 use Rattle.legal_steps.proofs.OpeningChoices.{the_opening_opens, the_opening_acyclic}
-use Rattle.interleaving.proofs.OpeningTables.{reached_opened, kept_opened, is_at_start}
+use Rattle.interleaving.specs.Start.{at_start}
 use Rattle.interleaving.proofs.world.World.at_opening.Goals as goal
 
-pub invariant_of-result : goal.invariant_of-result
-invariant_of-result g c =
-    let plan = c.args.plan in
-    let jobs = c.jobs-jobs.ensures.jobs ∙ ap (λ (p : LabPlan). length p.jobs) c.get.ensures in
-    record {
-      kept = kept_opened c.none-2.result.events c.none.result c.none.ensures;
-      reached = reached_opened _ plan (the_opening plan) _ _ c.in_ok-tables.ensures jobs c.in_ok-tally.ensures (subst IsPlan c.get.ensures c.jobs-jobs.ensures.plan)
-          (the_opening_opens plan) (the_opening_acyclic plan) c.of-start.result.value c.none-2.result.events c.of-start.ensures c.none-2.ensures;
-    }
+pub fresh-requires-clause-opening : goal.fresh-requires-clause-opening
+fresh-requires-clause-opening g c =
+    subst (λ (x : Setting). IsOpening x.plan x.state) (sym c.in_ok-tables.ensures) (the_opening_opens c.args.plan)
+
+pub fresh-requires-clause-acyclic : goal.fresh-requires-clause-acyclic
+fresh-requires-clause-acyclic g c =
+    subst (λ (x : Setting). IsAcyclic x.plan x.state) (sym c.in_ok-tables.ensures) (the_opening_acyclic c.args.plan)
 
 pub returns : goal.returns
-returns g c =
-    let plan = c.args.plan in
-    let jobs = c.jobs-jobs.ensures.jobs ∙ ap (λ (p : LabPlan). length p.jobs) c.get.ensures in
-    is_at_start c.in_ok-tables.tables plan (the_opening plan) c.in_ok-tally.tally c.jobs-jobs.result c.in_ok-tables.ensures jobs c.in_ok-tally.ensures
-    c.of-start.result.value c.none-2.result.events c.none.result c.of-start.ensures c.none-2.ensures c.none.ensures
+returns g c = subst (λ (x : Setting). IfOk c.fresh.result (λ world. world ≡ at_start x.plan x.state)) c.in_ok-tables.ensures c.fresh.ensures
