@@ -1,11 +1,27 @@
-use Rattle.std.proofs.Common.{List, [], ◌∷◌, ◌+◌, ℕ, sym, subst, Bor}
+use Rattle.std.proofs.Common.{List, [], ◌∷◌, ◌+◌, ℕ, arith, refl, sym, ◌∙◌, subst, Bor}
 use Rattle.std.specs.Prelude.{map, Err}
 use Rattle.std.proofs.lemmas.List.{map-append}
 use Rattle.std.proofs.lemmas.Result.{err_from_is_err_and}
 use Rattle.script_reader.specs.Line.{form_of}
-use Rattle.script_reader.specs.More.{AnswersMore, TakesMore}
+use Rattle.script_reader.specs.More.{AnswersMore, TakesMore, no_sessions}
 use Rattle.script_reader.proofs.FurtherLines.{IsReadingMore, reads_more, stops_more, ends_more}
+use Rattle.script_reader.proofs.ScriptPart.{number_fits}
 use Rattle.script_reader.proofs.more.read_sessions.Goals as goal
+
+pub loop-line-init : goal.loop-line-init
+loop-line-init g c =
+    let plan = c.args.plan.now in
+    let j = c.args.job in
+    let text = c.args.text.now in
+    let all = c.into_iter-line-iterator.ensures.into_iter_gives ∙ c.lines-line-items.ensures.value in
+    subst (λ s. IsReadingMore plan j text [] c.into_iter-line-iterator.result 1 s) (sym c.new-reader.ensures)
+    (subst (λ rest. IsReadingMore plan j text [] rest 1 no_sessions) (sym all) (record { split = refl; placed = refl; left = refl }))
+
+pub overflow_add-number : goal.overflow_add-number
+overflow_add-number g c =
+    let done = map (λ (l : Bor (List ℕ)). l.now) c.loop-line.yielded in
+    let at = c.loop-line.invariant in
+    omega (arith, number_fits c.args.text.now done c.loop-line.line-iterator c.loop-line.number at.split at.placed)
 
 pub loop-line-preserved : goal.loop-line-preserved
 loop-line-preserved g c =

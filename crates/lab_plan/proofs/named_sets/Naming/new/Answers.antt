@@ -17,6 +17,9 @@ named_by-requires g c =
 pub bounds-sets-j : goal.bounds-sets-j
 bounds-sets-j g c = omega (arith, c.loop-j-test.true, ap length c.all_jobs-job-items.ensures, c.requires.few)
 
+pub offset_bounds-sets-j : goal.offset_bounds-sets-j
+offset_bounds-sets-j g c = omega (arith, c.loop-j-test.true, ap length c.all_jobs-job-items.ensures, c.requires.few)
+
 pub overflow_cast-result : goal.overflow_cast-result
 overflow_cast-result g c = omega (arith, c.jobs.ensures, c.requires.few)
 
