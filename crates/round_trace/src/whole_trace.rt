@@ -1,7 +1,9 @@
 //! Rounds one after another, until all jobs are retired, or the limit is there.
 ghost use Rattle.std.specs.Prelude.{◌≡◌, ◌<◌, ◌↔◌, ℕ, IsTrue, IfOk, length};
 ghost use Rattle.legal_steps.specs.declared.phase.Drinking.TheVariants.{Retired};
+ghost use Rattle.legal_steps.specs.Opening.{the_opening};
 ghost use Rattle.legal_steps.specs.State.{drinking};
+ghost use Rattle.interleaving.specs.Start.{at_start};
 ghost use Rattle.rounds.specs.FromOpening.{fresh_players};
 ghost use Rattle.rounds.specs.QuietEnd.{NoneReaches};
 ghost use Rattle.round_trace.specs.Players.{players_of, StandsAt};
@@ -61,6 +63,22 @@ pub(crate) fn play<A: Allocator>(
     Ok(all_retired(world))
 }
 
+/// The events of rounds, at most this many, in a world that has none yet.
+fn traced<A: Allocator + Copy>(
+    alloc: A,
+    plan: &Plan<A>,
+    world: &mut World<A>,
+    limit: u32,
+) -> Result<Vec<Event, A>, AllocError>
+    requires { world.old ≡ at_start plan.now (the_opening plan.now) }
+    ensures { IfOk result (λ events. IsRunByRounds plan.now limit events.items) }
+{
+    let mut events = Vec::new(alloc);
+    let mut players = all_players(alloc, plan)?;
+    let _retired = play(world, &mut events, &mut players, limit)?;
+    Ok(events)
+}
+
 /// The events of the plan's run by rounds: in each round one turn of each job, in their order, until all are retired, or
 /// this many rounds were done. Each look is among them, so a round has as many as there are ends of edges, at least.
 ///
@@ -75,8 +93,5 @@ pub fn trace<A: Allocator + Copy>(
     let Ok(mut world) = World::opening(alloc, plan) else {
         return Err(AllocError);
     };
-    let mut events = Vec::new(alloc);
-    let mut players = all_players(alloc, plan)?;
-    let _retired = play(&mut world, &mut events, &mut players, limit)?;
-    Ok(events)
+    traced(alloc, plan, &mut world, limit)
 }

@@ -1,9 +1,20 @@
-use Rattle.std.proofs.Common.{subst}
+use Rattle.std.proofs.Common.{sym, ◌∙◌, subst}
+use Rattle.lab_plan.specs.LabPlan.{LabPlan}
 use Rattle.legal_steps.specs.declared.edge_state.EdgeState.{EdgeState}
 use Rattle.legal_steps.specs.declared.event.Event.TheVariants.{Look}
+use Rattle.legal_steps.specs.State.{IsOwn}
 use Rattle.round_trace.specs.Doing.{Tries}
 use Rattle.round_trace.proofs.Visiting.{visited}
 use Rattle.round_trace.proofs.edges.visit.Goals as goal
+
+pub give_all-requires : goal.give_all-requires
+give_all-requires g c =
+    subst (λ (p : LabPlan). IsOwn p c.args.job c.args.edge) (sym (c.in_ok-_gave.ensures.same_plan ∙ c.in_ok-_looked.ensures.same_plan)) c.requires
+
+pub ask_all-requires : goal.ask_all-requires
+ask_all-requires g c =
+    let three = c.in_ok-_asked.ensures.same_plan ∙ c.in_ok-_given.ensures.tries.same_plan ∙ c.in_ok-_gave.ensures.same_plan in
+    subst (λ (p : LabPlan). IsOwn p c.args.job c.args.edge) (sym (three ∙ c.in_ok-_looked.ensures.same_plan)) c.requires
 
 pub returns : goal.returns
 returns g c =
