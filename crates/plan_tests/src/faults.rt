@@ -1,5 +1,6 @@
 //! What no clause says: the faults of given texts, by hand, and that good texts are read.
 use crate::asked::{instrument_name, job_of, session_of};
+use crate::plans::counts;
 use crate::rows::check;
 use crate::texts::joined;
 use lab_plan::{EdgeNo, InstrumentNo, JobNo, Plan, PlanRefusal, Verb};
@@ -234,19 +235,12 @@ fn line_ends_and_comments(rt: HostRuntime) {
     }
 }
 
-/// Its version and how many jobs it has, and how many instruments and edges.
-fn counts<A: Allocator>(plan: &Plan<A>) -> ((u8, usize), (usize, u16)) {
-    (
-        (plan.version(), plan.jobs()),
-        (plan.instruments(), plan.edges()),
-    )
-}
-
 const ADD_1: [(InstrumentNo, Verb); 1] = [(InstrumentNo(0), Verb::Add(1))];
 
 fn check_bench<A: Allocator>(rt: &impl Abort, plan: &Plan<A>) {
     let edge = [EdgeNo(0)];
-    check(rt, "counts", counts(plan), ((1, 2), (1, 1)));
+    check(rt, "version", plan.version(), 1);
+    check(rt, "counts", counts(plan), (2, 1, 1));
     check(rt, "instrument", instrument_name(rt, plan, 0), b"scale");
     check(rt, 0, job_of(rt, plan, 0), (b"a", 1, &edge));
     check(rt, 1, job_of(rt, plan, 1), (b"b", 1, &edge));
@@ -275,7 +269,8 @@ const SET_AND_READ: [(InstrumentNo, Verb); 2] = [
 const ADD_0: [(InstrumentNo, Verb); 1] = [(InstrumentNo(0), Verb::Add(0))];
 
 fn check_version_two<A: Allocator>(rt: &impl Abort, plan: &Plan<A>) {
-    check(rt, "counts", counts(plan), ((2, 2), (2, 0)));
+    check(rt, "version", plan.version(), 2);
+    check(rt, "counts", counts(plan), (2, 2, 0));
     check(rt, 0, job_of(rt, plan, 0), (b"a", 2, &[]));
     check(rt, 1, job_of(rt, plan, 1), (b"set", 0, &[]));
     check(
@@ -352,6 +347,23 @@ fn check_lines(rt: &impl Abort, parts: &[&str], came: &[StepLine], wanted: &[(us
     }
 }
 
+/// The text, which is of these parts, has just these steps.
+fn check_read<A: Allocator + Copy>(
+    rt: &impl Abort,
+    alloc: A,
+    parts: &[&str],
+    text: &[u8],
+    wanted: &[(usize, Do)],
+) {
+    match read_steps(alloc, text) {
+        Ok((plan, steps)) => {
+            check(rt, parts, plan.jobs(), 3);
+            check_lines(rt, parts, &steps, wanted);
+        }
+        Err(fault) => check(rt, parts, Some(fault), None),
+    }
+}
+
 /// The text of these parts has just these steps.
 fn check_steps<A: Allocator + Copy>(
     rt: &impl Abort,
@@ -360,13 +372,7 @@ fn check_steps<A: Allocator + Copy>(
     wanted: &[(usize, Do)],
 ) {
     let text = joined(rt, alloc, parts);
-    match read_steps(alloc, &text) {
-        Ok((plan, steps)) => {
-            check(rt, parts, plan.jobs(), 3);
-            check_lines(rt, parts, &steps, wanted);
-        }
-        Err(fault) => check(rt, parts, Some(fault), None),
-    }
+    check_read(rt, alloc, parts, &text, wanted);
 }
 
 /// The edge of jobs a and b.

@@ -11,6 +11,8 @@ mod command_words;
 #[cfg(test)]
 mod faults;
 #[cfg(test)]
+mod heaps;
+#[cfg(test)]
 mod logs;
 #[cfg(test)]
 mod millions;

@@ -1,5 +1,5 @@
 //! Worked entries, refusals in their order, parts cut at each place, the dial's wrap, and refused memory.
-use crate::pairs::heap_of;
+use crate::heaps::heap_of;
 use crate::rows::check;
 use instrument_log::{Entry, InstrumentLog, LogRefusal, pack_entry, turned, unpack_entry};
 use lab_plan::{JobNo, Verb};

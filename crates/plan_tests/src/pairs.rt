@@ -2,10 +2,10 @@
 ghost use Rattle.std.specs.List.{All};
 ghost use Rattle.cycles.specs.Cycles.{AreBelow};
 
+use crate::heaps::heap_of;
 use crate::rows::check;
 use cycles::{NoMemory, cycle_in, ranking};
 use lab_plan::JobNo;
-use linked_list_allocator::LocalHeap;
 use std::alloc::{Allocator, Global};
 use std::process::Abort;
 
@@ -144,13 +144,6 @@ fn ranks_along_the_pairs(rt: HostRuntime) {
     check_ranking(&rt, alloc, &CHAIN, &IN_ORDER);
     check_ranking(&rt, alloc, &ZERO_LAST, &[JobNo(1), JobNo(2), JobNo(0)]);
     check_ranking(&rt, alloc, &[], &[]);
-}
-
-pub(crate) fn heap_of(rt: &impl Abort, alloc: Global, size: usize) -> LocalHeap {
-    match LocalHeap::new(alloc, size) {
-        Ok(heap) => heap,
-        Err(_) => panic!(rt; "no heap"),
-    }
 }
 
 /// Whether a heap of this size has memory for the cycle of three.

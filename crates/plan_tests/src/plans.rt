@@ -178,7 +178,7 @@ const EXAMPLE: [Line<'static>; 11] = [
 ];
 
 /// How many jobs, instruments and edges a plan has.
-fn counts<A: Allocator>(plan: &Plan<A>) -> (usize, usize, u16) {
+pub(crate) fn counts<A: Allocator>(plan: &Plan<A>) -> (usize, usize, u16) {
     (plan.jobs(), plan.instruments(), plan.edges())
 }
 

@@ -1,8 +1,8 @@
 //! Further sessions for a job of a plan: what given texts have, by hand, and their faults.
 use super::{Fault, plan_of, told};
+use crate::heaps::heap_of;
 use crate::rows::check;
 use lab_plan::{InstrumentNo, JobNo, Plan, Verb};
-use linked_list_allocator::LocalHeap;
 use script_reader::ScriptCause::{
     BadName, BadNumber, EmptySession, LimitPassed, NoMemory, NotInSession, NotItsOwn,
     SessionNotClosed, UnknownWord,
@@ -194,13 +194,6 @@ fn reads_two<A: Allocator + Copy>(rt: &impl Abort, alloc: A, plan: &Plan<Global>
             check(rt, fault, (fault.cause, fault.line < 10), (NoMemory, true));
             false
         }
-    }
-}
-
-fn heap_of(rt: &impl Abort, alloc: Global, size: usize) -> LocalHeap {
-    match LocalHeap::new(alloc, size) {
-        Ok(heap) => heap,
-        Err(_) => panic!(rt; "no heap"),
     }
 }
 

@@ -6,7 +6,7 @@ use script_reader::ScriptCause::{
     BadName, BadNumber, JobTwice, LimitPassed, NotInSession, SessionNotClosed, TooManyInCommon,
     UnknownWord,
 };
-use script_reader::{read_plan, read_steps};
+use script_reader::{ScriptFault, read_plan, read_steps};
 use std::alloc::{Allocator, Global};
 use std::mem::size_of;
 use std::process::Abort;
@@ -140,23 +140,22 @@ pub(crate) fn steps_text(rt: &impl Abort, alloc: Global, lines: &str, times: usi
     text
 }
 
-/// The text has this many steps of one job, in a list with no more room than this.
-pub(crate) fn check_sits<A: Allocator + Copy>(
-    rt: &impl Abort,
+/// How many jobs and steps a text has, and for how many steps its list has room.
+pub(crate) fn counts_of<A: Allocator + Copy>(
     alloc: A,
-    text: &str,
-    count: usize,
-    room: usize,
-) {
-    match read_steps(alloc, text.as_bytes()) {
-        Ok((plan, steps)) => {
-            check(rt, "jobs", plan.jobs(), 1);
-            check(
-                rt,
-                room,
-                (steps.len(), steps.capacity() <= room),
-                (count, true),
-            );
+    text: &[u8],
+) -> Result<(usize, usize, usize), ScriptFault> {
+    match read_steps(alloc, text) {
+        Ok((plan, steps)) => Ok((plan.jobs(), steps.len(), steps.capacity())),
+        Err(fault) => Err(fault),
+    }
+}
+
+/// The text has this many steps of one job, in a list with no more room than this.
+pub(crate) fn check_sits(rt: &impl Abort, alloc: Global, text: &str, count: usize, room: usize) {
+    match counts_of(alloc, text.as_bytes()) {
+        Ok((jobs, steps, most)) => {
+            check(rt, room, (jobs, steps, most <= room), (1, count, true));
         }
         Err(fault) => check(rt, count, Some(fault), None),
     }

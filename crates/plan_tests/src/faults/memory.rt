@@ -1,29 +1,17 @@
 //! Memory that runs out: each allocation in turn is the first that is refused, and nothing else is reported.
-use super::limits::steps_text;
+use super::limits::{counts_of, steps_text};
 use super::{BENCH, check_bench};
+use crate::heaps::{HEAP, ballast_of, heap_of};
 use crate::rows::check;
-use linked_list_allocator::LocalHeap;
 use script_reader::ScriptCause::NoMemory;
-use script_reader::{read_plan, read_steps};
+use script_reader::{ScriptFault, read_plan};
 use std::alloc::{Allocator, Global};
 use std::process::Abort;
 
-const HEAP: usize = 65536;
-
-fn heap_of(rt: &impl Abort, alloc: Global) -> LocalHeap {
-    match LocalHeap::new(alloc, HEAP) {
-        Ok(heap) => heap,
-        Err(_) => panic!(rt; "no heap"),
-    }
-}
-
-/// Takes all of a heap but so much room.
-fn ballast_of<'a>(rt: &impl Abort, heap: &'a LocalHeap, room: usize) -> Vec<u8, &'a LocalHeap> {
-    assert!(rt; room <= HEAP - 256);
-    match Vec::with_capacity(heap, HEAP - 256 - room) {
-        Ok(ballast) => ballast,
-        Err(_) => panic!(rt; "no ballast"),
-    }
+/// Memory ran out, at one of these lines.
+fn check_fault(rt: &impl Abort, fault: ScriptFault, first: usize, last: usize) {
+    let is_within = first <= fault.line && fault.line <= last;
+    check(rt, fault, (fault.cause, is_within), (NoMemory, true));
 }
 
 /// Whether there is memory for the plan of the bench; that none is left is all that may be told.
@@ -34,8 +22,7 @@ fn reads_plan<A: Allocator + Copy>(rt: &impl Abort, alloc: A) -> bool {
             true
         }
         Err(fault) => {
-            let is_within = 4 <= fault.line && fault.line <= 12;
-            check(rt, fault, (fault.cause, is_within), (NoMemory, true));
+            check_fault(rt, fault, 4, 12);
             false
         }
     }
@@ -43,7 +30,7 @@ fn reads_plan<A: Allocator + Copy>(rt: &impl Abort, alloc: A) -> bool {
 
 /// Whether a heap with so much room at first has enough for it.
 fn has_room_for_plan(rt: &impl Abort, alloc: Global, room: usize) -> bool {
-    let heap = heap_of(rt, alloc);
+    let heap = heap_of(rt, alloc, HEAP);
     let ballast = ballast_of(rt, &heap, room);
     let has_room = reads_plan(rt, &heap);
     drop(ballast);
@@ -66,14 +53,13 @@ fn line_without_memory<A: Allocator + Copy>(
     alloc: A,
     text: &[u8],
 ) -> Option<usize> {
-    match read_steps(alloc, text) {
-        Ok((plan, steps)) => {
-            check(rt, "read", (plan.jobs(), steps.len()), (1, 600));
+    match counts_of(alloc, text) {
+        Ok((jobs, steps, _)) => {
+            check(rt, "read", (jobs, steps), (1, 600));
             None
         }
         Err(fault) => {
-            let is_within = 2 <= fault.line && fault.line <= 603;
-            check(rt, fault, (fault.cause, is_within), (NoMemory, true));
+            check_fault(rt, fault, 2, 603);
             Some(fault.line)
         }
     }
@@ -81,7 +67,7 @@ fn line_without_memory<A: Allocator + Copy>(
 
 /// That of a heap with so much room at first.
 fn line_without_room(rt: &impl Abort, alloc: Global, room: usize, text: &[u8]) -> Option<usize> {
-    let heap = heap_of(rt, alloc);
+    let heap = heap_of(rt, alloc, HEAP);
     let ballast = ballast_of(rt, &heap, room);
     let line = line_without_memory(rt, &heap, text);
     drop(ballast);

@@ -62,11 +62,16 @@ fn of_lamp(place: u32, verb: Verb) -> Entry {
     }
 }
 
+fn check_room<A: Allocator>(rt: &impl Abort, log: &InstrumentLog<A>, room: usize) {
+    check(rt, room, (log.room(), log.is_empty()), (room, true));
+}
+
 /// On lamp, pump, scale and oven there are five commands, three, one and two.
+const ROOMS: [usize; 4] = [5, 3, 1, 2];
+
 fn check_rooms<A: Allocator>(rt: &impl Abort, logs: &[InstrumentLog<A>]) {
-    let rooms = [5, 3, 1, 2];
-    for (log, room) in logs.iter().zip(&rooms) {
-        check(rt, *room, (log.room(), log.is_empty()), (*room, true));
+    for (log, &room) in logs.iter().zip(&ROOMS) {
+        check_room(rt, log, room);
     }
 }
 

@@ -2,7 +2,7 @@
 use super::memory::fill;
 use super::{EXAMPLE, FIRST, Line, check_example, counts, plan_of};
 use crate::asked::{ends_of, job_of, place_of, session_of};
-use crate::pairs::heap_of;
+use crate::heaps::heap_of;
 use crate::rows::check;
 use lab_plan::{EdgeNo, InstrumentNo, JobNo, MoreRefusal, Place, Plan, PlanBuilder, Verb};
 use std::alloc::{Allocator, Global};
@@ -53,18 +53,20 @@ fn commands_of<A: Allocator>(
     all
 }
 
-/// Offers each session in turn, and asks before it what will be answered.
+/// Offers the session, and asks before it what will be answered.
+fn offer_one<A: Allocator + Copy>(rt: &impl Abort, alloc: A, plan: &mut Plan<A>, offer: &Offer) {
+    let (job, patience, commands, wanted) = *offer;
+    let session = commands_of(rt, alloc, commands);
+    let told = why_not(rt, plan, job, patience, &session);
+    let came = add(rt, plan, job, patience, &session);
+    check(rt, commands, told, wanted);
+    check(rt, commands, came, wanted);
+}
+
+/// Offers each session in turn.
 fn offer<A: Allocator + Copy>(rt: &impl Abort, alloc: A, plan: &mut Plan<A>, offers: &[Offer]) {
-    for &(job, patience, commands, wanted) in offers {
-        let session = commands_of(rt, alloc, commands);
-        let told = why_not(rt, plan, job, patience, &session);
-        let came = add(rt, plan, job, patience, &session);
-        check(
-            rt,
-            (job, patience, commands),
-            (told, came),
-            (wanted, wanted),
-        );
+    for session in offers {
+        offer_one(rt, alloc, plan, session);
     }
 }
 
@@ -126,29 +128,22 @@ const ONE_MORE: [Offer; 1] = [(
     None,
 )];
 
+fn check_added<A: Allocator>(rt: &impl Abort, row: usize, plan: &Plan<A>) {
+    check(rt, row, session_of(rt, plan, 0, 3), (None, 0b101, &THIRD));
+}
+
 /// The sessions of the first job are as they were, with the third behind them; edges and instruments stay as they are.
 fn check_third<A: Allocator>(rt: &impl Abort, plan: &Plan<A>) {
-    let ends = ((JobNo(0), JobNo(2)), 1);
-    let job = (b"grow-some-cells1".as_slice(), 3, [EdgeNo(0)].as_slice());
+    let edge = [EdgeNo(0)];
     let place = Place {
         place: 2,
         length: 2,
     };
     check(rt, "counts", counts(plan), (3, 3, 1));
-    check(rt, "edge", ends_of(rt, plan, 0), ends);
-    check(rt, "job", job_of(rt, plan, 0), job);
-    check(
-        rt,
-        "first",
-        session_of(rt, plan, 0, 1),
-        (None, 0b011, &FIRST),
-    );
-    check(
-        rt,
-        "third",
-        session_of(rt, plan, 0, 3),
-        (None, 0b101, &THIRD),
-    );
+    check(rt, "edge", ends_of(rt, plan, 0), ((JobNo(0), JobNo(2)), 1));
+    check(rt, 0, job_of(rt, plan, 0), (b"grow-some-cells1", 3, &edge));
+    check(rt, 1, session_of(rt, plan, 0, 1), (None, 0b011, &FIRST));
+    check_added(rt, 3, plan);
     check(rt, "place", place_of(rt, plan, 0, 3, 2), place);
     check(rt, "all", plan.all_commands(), 8);
 }
@@ -301,8 +296,7 @@ fn add_with_room(rt: &impl Abort, alloc: Global, free: usize) -> bool {
     if refused.is_some() {
         check(rt, free, add(rt, &mut plan, 0, None, &THIRD), None);
     }
-    let third = session_of(rt, &plan, 0, 3);
-    check(rt, free, third, (None, 0b101, &THIRD));
+    check_added(rt, free, &plan);
     refused.is_some()
 }
 

@@ -3,35 +3,36 @@ use super::{
     EXAMPLE, Line, check_example, finished, name_of, put, put_all, put_commands, put_one,
     put_sessions, refuse, refuse_line, share,
 };
-use crate::pairs::heap_of;
+use crate::heaps::{HEAP, ballast_of, heap_of};
 use crate::rows::check;
 use lab_plan::{PlanBuilder, PlanRefusal, Verb};
 use linked_list_allocator::LocalHeap;
-use std::alloc::{AllocError, Allocator, Global};
+use std::alloc::{Allocator, Global};
 use std::process::Abort;
-
-const HEAP: usize = 65536;
 
 /// What is left of a heap, in its smallest blocks.
 pub(super) type Blocks<'a> = Vec<Vec<u8, &'a LocalHeap>>;
 
-fn blocks_of<'a>(alloc: Global, heap: &'a LocalHeap) -> Result<Blocks<'a>, AllocError> {
-    let mut blocks = Vec::new(alloc);
-    for _ in 0..HEAP {
-        match Vec::with_capacity(heap, 16) {
-            Ok(block) => blocks.push(block)?,
-            Err(_) => break,
+/// Whether the heap had one more block, which is then taken.
+fn takes_block<'a>(rt: &impl Abort, blocks: &mut Blocks<'a>, heap: &'a LocalHeap) -> bool {
+    match Vec::with_capacity(heap, 16) {
+        Ok(block) => {
+            check(rt, "a block", blocks.push(block).is_ok(), true);
+            true
         }
+        Err(_) => false,
     }
-    Ok(blocks)
 }
 
 /// Takes what is left of a heap.
 pub(super) fn fill<'a>(rt: &impl Abort, alloc: Global, heap: &'a LocalHeap) -> Blocks<'a> {
-    match blocks_of(alloc, heap) {
-        Ok(blocks) => blocks,
-        Err(_) => panic!(rt; "no memory for the blocks"),
+    let mut blocks = Vec::new(alloc);
+    for _ in 0..HEAP {
+        if !takes_block(rt, &mut blocks, heap) {
+            break;
+        }
     }
+    blocks
 }
 
 /// Adds the example's lines. The first allocation that is refused lets the ballast go, and the line
@@ -74,15 +75,6 @@ fn finish<A: Allocator + Copy, B: Drop>(
             check_example(rt, &finished(rt, builder));
             true
         }
-    }
-}
-
-/// Takes all of a heap but so much room.
-fn ballast_of<'a>(rt: &impl Abort, heap: &'a LocalHeap, room: usize) -> Vec<u8, &'a LocalHeap> {
-    assert!(rt; room <= HEAP - 256);
-    match Vec::with_capacity(heap, HEAP - 256 - room) {
-        Ok(ballast) => ballast,
-        Err(_) => panic!(rt; "no ballast"),
     }
 }
 
