@@ -8,8 +8,7 @@ ghost use Rattle.hall_calls.specs.Calls.{Opens, OfBench, TellsSize, Takes, Gives
 ghost use Rattle.hall_calls.specs.Resuming.{ResumesShared};
 ghost use Rattle.hall_calls.specs.Calls.{OnDesk, Drives, GoesOn, LetsGo, DoesNext, GivesUp, TellsState};
 
-use bench_calls::{LabEntry, LabSize, LabState, LabTurned};
-use c_handles::Handle;
+use bench_calls::{Handle, LabEntry, LabSize, LabState, LabTurned};
 use c_tells::Told;
 use std::alloc::Global;
 

@@ -14,9 +14,9 @@ ghost use Rattle.bench_calls.specs.Calls.{TellsSize, TellsSession, TellsPlanned,
 mod desks;
 
 use bench_calls::{
-    LabCame, LabEntry, LabKeepers, LabOutside, LabPlanned, LabSession, LabSize, LabState, LabTurned,
+    Handle, LabCame, LabEntry, LabKeepers, LabOutside, LabPlanned, LabSession, LabSize, LabState,
+    LabTurned,
 };
-use c_handles::Handle;
 use c_tells::Told;
 use std::alloc::Global;
 

@@ -18,8 +18,8 @@ use Rattle.bench_texts.specs.Texts.{lab_text, MeansPlan}
 use Rattle.bench_opening.specs.Openings.{IsOpenedFor, IsWhyNotFor}
 use Rattle.c_tells.specs.declared.told.Told.{Told}
 use Rattle.c_tells.specs.Telling.{told_of, Gives, Delivers, Fails}
-use Rattle.c_handles.specs.declared.inside.Inside.{Inside}
-use Rattle.c_handles.specs.declared.inside.Inside.TheVariants.{Open}
+use Rattle.bench_calls.specs.declared.inside.Inside.{Inside}
+use Rattle.bench_calls.specs.declared.inside.Inside.TheVariants.{Open}
 use Rattle.bench_calls.specs.declared.told.LabTurned.{LabTurned}
 use Rattle.bench_calls.specs.declared.told.LabCame.{LabCame}
 use Rattle.bench_calls.specs.declared.told.LabSize.{LabSize}

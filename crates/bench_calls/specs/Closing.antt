@@ -6,8 +6,8 @@ use Rattle.live_lab.specs.declared.print.Printed.{Printed}
 use Rattle.live_lab.specs.Prints.{IsPrint, HasReport, HasSomeReport}
 use Rattle.c_tells.specs.declared.told.Told.{Told}
 use Rattle.c_tells.specs.Telling.{Delivers, Fails}
-use Rattle.c_handles.specs.declared.inside.Inside.{Inside}
-use Rattle.c_handles.specs.declared.inside.Inside.TheVariants.{Open, Reported}
+use Rattle.bench_calls.specs.declared.inside.Inside.{Inside}
+use Rattle.bench_calls.specs.declared.inside.Inside.TheVariants.{Open, Reported}
 
 -- the text of the report, and then what is told of it: it stands in the room, or there is no room for it (6)
 abbrev pub Reports : Printed → List ℕ → List ℕ → Told → ℕ → Type 0

@@ -10,8 +10,8 @@ use Rattle.lab_journal.specs.Taking.{without_kept, IsWhyNotTaken}
 use Rattle.lab_journal.specs.Resumed.{IsResumed, IsNotResumed}
 use Rattle.c_tells.specs.declared.told.Told.{Told}
 use Rattle.c_tells.specs.Telling.{told_of, told_length, Puts}
-use Rattle.c_handles.specs.declared.inside.Inside.{Inside}
-use Rattle.c_handles.specs.declared.inside.Inside.TheVariants.{Open}
+use Rattle.bench_calls.specs.declared.inside.Inside.{Inside}
+use Rattle.bench_calls.specs.declared.inside.Inside.TheVariants.{Open}
 use Rattle.bench_calls.specs.Calls.{Written}
 
 -- ---- taking

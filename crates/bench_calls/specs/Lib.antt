@@ -1,3 +1,4 @@
+pub mod Handles
 pub mod Telling
 pub mod Closing
 pub mod Calls

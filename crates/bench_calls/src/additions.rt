@@ -4,8 +4,9 @@ ghost use Rattle.bench_calls.specs.Calls.{InLab};
 ghost use Rattle.bench_calls.specs.Telling.{IfTold};
 ghost use Rattle.bench_calls.specs.Coming.{keeps, TellsAdded, Comes, TellsMore};
 
+use crate::handle::{Handle, NOT_OPEN, put, take};
+use crate::inside::Inside;
 use crate::statuses::{JOURNAL_FULL, NO_JOB, NO_MEMORY, NOT_NOW, RETIRED, tell_name};
-use c_handles::{Handle, Inside, NOT_OPEN, put, take};
 use c_tells::{Told, fail};
 use journal_texts::more_text;
 use lab_journal::{NoRoom, make_room};

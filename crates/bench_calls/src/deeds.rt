@@ -3,12 +3,13 @@ ghost use Rattle.std.specs.Prelude.{◌≡◌};
 ghost use Rattle.bench_calls.specs.Calls.{InLab, InRoom, settles_of, Turns, Serves, ServesRest, SettlesAll, GoesToHold};
 ghost use Rattle.bench_calls.specs.Calls.{DoesNext, LetsGo, GivesUp, GoesToEnd, SetsOvertakes};
 
+use crate::handle::{Handle, NOT_OPEN, put, take};
+use crate::inside::Inside;
 use crate::statuses::{
     JOURNAL_FULL, tell_begun, tell_came, tell_command, tell_release, tell_retired, tell_turned,
     tell_withdrew,
 };
 use crate::told::{LabCame, LabEntry, LabTurned};
-use c_handles::{Handle, Inside, NOT_OPEN, put, take};
 use lab_journal::has_room;
 use live_lab::Lab;
 use std::alloc::Global;

@@ -2,7 +2,8 @@
 ghost use Rattle.std.specs.Prelude.{◌≡◌};
 ghost use Rattle.bench_calls.specs.Closing.{Closes, ClosesInside, Frees, Reports, is_of_a_lab};
 
-use c_handles::{Handle, Inside, NOT_OPEN, put, release, take};
+use crate::handle::{Handle, NOT_OPEN, put, release, take};
+use crate::inside::Inside;
 use c_tells::{Told, deliver, fail};
 use lab_program::{RunFault, status_of};
 use live_lab::Printed;

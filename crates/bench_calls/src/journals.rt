@@ -4,8 +4,9 @@ ghost use Rattle.lab_journal.specs.Taking.{IsOpenedKept};
 ghost use Rattle.bench_calls.specs.Calls.{Opens, IsOpened, IsNotOpened, InLab};
 ghost use Rattle.bench_calls.specs.Journals.{Resumes, IsResumedIn, IsNotResumedIn, TellsJournal, why_number};
 
+use crate::handle::{Handle, NOT_OPEN, claim, put, release, take};
+use crate::inside::Inside;
 use crate::statuses::{JOURNAL_FULL, NO_MEMORY, NOT_NOW};
-use c_handles::{Handle, Inside, NOT_OPEN, claim, put, release, take};
 use c_tells::{Told, fail, put as put_text};
 use lab_journal::NotTaken;
 use lab_program::RunFault;

@@ -3,7 +3,8 @@ ghost use Rattle.std.specs.Prelude.{IfOk, IfErr};
 ghost use Rattle.bench_opening.specs.Openings.{IsFresh};
 ghost use Rattle.bench_calls.specs.Calls.{Opens, IsOpened, IsNotOpened, TellsScript};
 
-use c_handles::{Handle, Inside, claim, put, release};
+use crate::handle::{Handle, claim, put, release};
+use crate::inside::Inside;
 use c_tells::{Told, deliver, fail};
 use lab_program::RunFault;
 use std::alloc::Global;

@@ -2,11 +2,12 @@
 ghost use Rattle.bench_calls.specs.Calls.{InLab, TellsSize, TellsSession, TellsPlanned, TellsState, TellsKeepers};
 ghost use Rattle.bench_calls.specs.Calls.{TellsOutside, TellsJobName, TellsInstrumentName};
 
+use crate::handle::{Handle, NOT_OPEN, put, take};
+use crate::inside::Inside;
 use crate::statuses::{
     NO_JOB, tell_keepers, tell_name, tell_outside, tell_planned, tell_session, tell_standing,
 };
 use crate::told::{LabKeepers, LabOutside, LabPlanned, LabSession, LabSize, LabState};
-use c_handles::{Handle, Inside, NOT_OPEN, put, take};
 use std::alloc::Global;
 
 /// Tells how many jobs and instruments there are.

@@ -3,7 +3,7 @@ use Rattle.std.proofs.Common.{◌≡◌, ℕ, zero, suc, List, [], ◌∷◌, �
 use Rattle.std.proofs.lemmas.List.{append-nil, append_assoc, reverse-append, length-map, length_push, map_push, same_from_push}
 use Rattle.edge_rule.specs.DeskView.{DeskView}
 use Rattle.edge_rule.specs.Company.{jobs_of}
-use Rattle.bench_door.specs.Own.{rising}
+use Rattle.bench_hall.specs.Own.{rising}
 use Rattle.bench_hall.specs.declared.spot.Spot.{Spot}
 use Rattle.bench_hall.specs.Rows.{falling, jobs_at, firsts}
 

@@ -8,7 +8,7 @@ use Rattle.session_layer.specs.Turn.{Took}
 use Rattle.live_lab.specs.declared.stage.Aim.{Aim}
 use Rattle.live_lab.specs.declared.stage.Stage.{Stage}
 use Rattle.live_lab.specs.declared.stage.Stage.TheVariants.{OnTheWay}
-use Rattle.bench_door.specs.Going.{both, IsStage}
+use Rattle.bench_hall.specs.Going.{both, IsStage}
 use Rattle.bench_hall.specs.declared.taken_desk.TakenDesk.{TakenDesk}
 
 -- the desk is still of the same bench and the same job

@@ -1,3 +1,8 @@
+pub mod Doors
+pub mod Ends
+pub mod Going
+pub mod Own
+pub mod Closing
 pub mod Places
 pub mod Rows
 pub mod AtDesk

@@ -3,7 +3,7 @@ ghost use Rattle.edge_rule.specs.DeskView.{Owns};
 ghost use Rattle.desk_user.specs.Use.{Keeps};
 ghost use Rattle.bench_hall.specs.AtDesk.{GoesAlone};
 
-use bench_door::{both, is_idle, stage_of};
+use crate::stages::{both, is_idle, stage_of};
 use desk_user::take_turn;
 use edge_rule::{Bench, Desk};
 use live_lab::{Aim, Stage};

@@ -3,15 +3,17 @@ ghost use Rattle.std.specs.Prelude.{◌≡◌, ◌↔◌, ◌≤◌, IfOk, IfErr
 ghost use Rattle.std.specs.Arc.{arc_value};
 ghost use Rattle.session_layer.specs.Turn.{Took};
 ghost use Rattle.desk_user.specs.Serving.{Served};
-ghost use Rattle.bench_door.specs.Doors.{Withdraws, Reaches, standing_of};
-ghost use Rattle.bench_door.specs.Going.{EndsSession};
+ghost use Rattle.bench_hall.specs.Doors.{Withdraws, Reaches, standing_of};
+ghost use Rattle.bench_hall.specs.Going.{EndsSession};
 ghost use Rattle.bench_hall.specs.declared.at_desk.NotTaken.TheVariants.{NoJob};
 ghost use Rattle.bench_hall.specs.AtDesk.{Stays, GoesAlone};
 
 use crate::alone::go_alone;
 use crate::hall::Hall;
+use crate::readers::standing_at;
+use crate::stages::{DeskRelease, end_session};
+use crate::steps::{give_up, next_command};
 use crate::taken_desk::TakenDesk;
-use bench_door::{DeskRelease, end_session, give_up, next_command, standing_at};
 use desk_user::{serve, take_turn};
 use instrument_log::Entry;
 use live_lab::{Aim, Stage, Standing};

@@ -5,12 +5,12 @@ ghost use Rattle.std.proofs.Props.{props};
 ghost use Rattle.turns.specs.Lists.{Each};
 ghost use Rattle.edge_rule.specs.DeskView.{Owns};
 ghost use Rattle.edge_rule.specs.Company.{jobs_of};
-ghost use Rattle.bench_door.specs.Own.{each_prop, rising};
+ghost use Rattle.bench_hall.specs.Own.{each_prop, rising};
 ghost use Rattle.bench_hall.specs.Rows.{HasEachPlace, firsts};
 
+use crate::lab::Lab;
 use crate::place::{is_home, put_back, take_out};
 use crate::spot::{Spot, spot_with};
-use bench_door::Lab;
 use edge_rule::{Bench, Desk};
 use std::alloc::Global;
 use std::sync::Arc;

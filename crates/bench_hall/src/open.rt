@@ -8,7 +8,7 @@ ghost use Rattle.bench_hall.specs.Rows.{firsts};
 ghost use Rattle.bench_hall.specs.Resumed.{IsResumedHall};
 
 use crate::hall::Hall;
-use bench_door::Lab;
+use crate::lab::Lab;
 use lab_program::RunFault;
 use std::alloc::Global;
 use std::sync::Arc;

@@ -1,6 +1,6 @@
 //! Sessions that come while a lab is open, with answers that were reckoned by hand.
 use crate::rows::check;
-use c_handles::Handle;
+use bench_calls::Handle;
 use c_tells::Told;
 use lab_plan::{InstrumentNo, Verb};
 use live_lab::{AddRefusal, Lab, NotAdded, Release, Stage};

@@ -1,7 +1,7 @@
 //! Texts `bench 1`: what they stand for, and the labs that are opened for them, with answers that were reckoned by hand.
+use bench_calls::Handle;
 use bench_opening::open;
 use bench_texts::{NotScript, is_for_bench, lab_script, origin, users};
-use c_handles::Handle;
 use c_tells::Told;
 use lab_program::RunFault;
 use live_lab::Lab;

@@ -1,7 +1,6 @@
 //! The calls on a handle that has a lab.
 use crate::rows::check;
-use bench_calls::{LabCame, LabEntry, LabKeepers, LabTurned};
-use c_handles::Handle;
+use bench_calls::{Handle, LabCame, LabEntry, LabKeepers, LabTurned};
 use c_tells::Told;
 use std::alloc::{AllocError, Global};
 use std::process::Abort;

@@ -1,8 +1,7 @@
 //! The calls on a handle that has a bench of desks, and on one that has a desk.
 use crate::rows::check;
-use bench_calls::{LabEntry, LabSize, LabState, LabTurned};
+use bench_calls::{Handle, LabEntry, LabSize, LabState, LabTurned};
 use box_parts::exchange;
-use c_handles::Handle;
 use c_tells::Told;
 use std::alloc::Global;
 use std::process::Abort;

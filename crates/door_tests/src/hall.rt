@@ -1,8 +1,7 @@
 //! Halls: desks that are taken, driven and given back, and the end with its report.
 use crate::rows::check;
 use crate::runs::{TWO_BENCHES, TWO_BENCHES_REPORT};
-use bench_door::{DeskRelease, print};
-use bench_hall::{Hall, NotTaken, TakenDesk, WhyOpen, give_back, take_desk};
+use bench_hall::{DeskRelease, Hall, NotTaken, TakenDesk, WhyOpen, give_back, print, take_desk};
 use lab_program::{Outcome, RunFault};
 use legal_steps::Drinking;
 use live_lab::{Aim, Printed, Stage};

@@ -1,7 +1,6 @@
 //! Jobs that wait outside, worked by hand: radio holds the scope, board waits for scope and supply, and drive works at the supply.
 use crate::rows::check;
-use bench_calls::{LabCame, LabOutside};
-use c_handles::Handle;
+use bench_calls::{Handle, LabCame, LabOutside};
 use c_tells::Told;
 use legal_steps::Drinking;
 use live_lab::{Keepers, Lab};

@@ -1,6 +1,6 @@
 //! Sessions that came, in a journal written by hand. The sums were reckoned by another program.
 use crate::rows::check;
-use c_handles::Handle;
+use bench_calls::Handle;
 use c_tells::Told;
 use journal_texts::{additions, more_text};
 use lab_journal::{NoRoom, make_room, open_kept, read_journal, resume};

@@ -1,9 +1,8 @@
 //! Benches of desks that go on where a journal ends.
 use crate::journals::BOTH;
 use crate::rows::check;
-use bench_door::{DeskRelease, Lab, print};
-use bench_hall::{Hall, TakenDesk, give_back, take_desk};
-use c_handles::Handle;
+use bench_calls::Handle;
+use bench_hall::{DeskRelease, Hall, Lab, TakenDesk, give_back, print, take_desk};
 use c_tells::Told;
 use lab_program::Outcome;
 use legal_steps::Drinking;

@@ -1,5 +1,5 @@
 //! Labs that aren't opened, and boxes that are taken apart.
-use bench_door::Lab;
+use bench_hall::Lab;
 use box_parts::Parts;
 use lab_program::RunFault;
 use std::rt::HostRuntime;

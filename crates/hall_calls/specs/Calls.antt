@@ -9,14 +9,14 @@ use Rattle.session_layer.specs.declared.turning.Turned.{Turned}
 use Rattle.script_reader.specs.Script.{ScriptMeans}
 use Rattle.lab_program.specs.declared.faults.RunFault.{RunFault}
 use Rattle.lab_program.specs.Faults.{status_of}
-use Rattle.bench_door.specs.declared.lab.Lab.{Lab}
+use Rattle.bench_hall.specs.declared.lab.Lab.{Lab}
 use Rattle.live_lab.specs.declared.stage.Aim.{Aim}
 use Rattle.live_lab.specs.declared.stage.Stage.{Stage}
-use Rattle.bench_door.specs.declared.stages.DeskRelease.{DeskRelease}
-use Rattle.bench_door.specs.declared.stages.DeskRelease.TheVariants.{NotHeld, LetGo, StillHeld}
-use Rattle.bench_door.specs.Going.{EndsSession}
+use Rattle.bench_hall.specs.declared.stages.DeskRelease.{DeskRelease}
+use Rattle.bench_hall.specs.declared.stages.DeskRelease.TheVariants.{NotHeld, LetGo, StillHeld}
+use Rattle.bench_hall.specs.Going.{EndsSession}
 use Rattle.live_lab.specs.Labs.{IsWhyNot}
-use Rattle.bench_door.specs.Doors.{Withdraws, Reaches, standing_of}
+use Rattle.bench_hall.specs.Doors.{Withdraws, Reaches, standing_of}
 use Rattle.bench_hall.specs.declared.hall.Hall.{Hall}
 use Rattle.bench_hall.specs.declared.taken_desk.TakenDesk.{TakenDesk}
 use Rattle.bench_hall.specs.declared.at_desk.NotTaken.{NotTaken}
@@ -24,16 +24,16 @@ use Rattle.bench_hall.specs.declared.at_desk.NotTaken.TheVariants.{NoJob, Out, N
 use Rattle.bench_hall.specs.AtDesk.{Stays, GoesAlone}
 use Rattle.c_tells.specs.declared.told.Told.{Told}
 use Rattle.c_tells.specs.Telling.{told_of}
-use Rattle.bench_door.specs.declared.held.Held.{Held}
-use Rattle.bench_door.specs.declared.held.Held.TheVariants.{Open as AtWork}
+use Rattle.bench_hall.specs.declared.held.Held.{Held}
+use Rattle.bench_hall.specs.declared.held.Held.TheVariants.{Open as AtWork}
 use Rattle.bench_calls.specs.declared.told.LabTurned.{LabTurned}
 use Rattle.bench_calls.specs.declared.told.LabSize.{LabSize}
 use Rattle.bench_calls.specs.declared.told.LabState.{LabState}
 use Rattle.bench_calls.specs.declared.told.LabEntry.{LabEntry}
 use Rattle.bench_calls.specs.Telling.{turned_of, state_of, stage_status, TellsEntry}
-use Rattle.bench_door.specs.Closing.{ClosesHeld, NoRoomYet}
-use Rattle.c_handles.specs.declared.inside.Inside.{Inside}
-use Rattle.c_handles.specs.declared.inside.Inside.TheVariants.{Shared, Closing, Desk}
+use Rattle.bench_hall.specs.Closing.{ClosesHeld, NoRoomYet}
+use Rattle.bench_calls.specs.declared.inside.Inside.{Inside}
+use Rattle.bench_calls.specs.declared.inside.Inside.TheVariants.{Shared, Closing, Desk}
 
 -- a bench that threads share
 abbrev pub Bench : Type 0

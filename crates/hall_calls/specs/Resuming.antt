@@ -4,8 +4,8 @@ use Rattle.std.specs.Arc.{arc_value}
 use Rattle.bench_hall.specs.Resumed.{IsResumedHall}
 use Rattle.c_tells.specs.declared.told.Told.{Told}
 use Rattle.c_tells.specs.Telling.{told_length}
-use Rattle.c_handles.specs.declared.inside.Inside.{Inside}
-use Rattle.c_handles.specs.declared.inside.Inside.TheVariants.{Shared}
+use Rattle.bench_calls.specs.declared.inside.Inside.{Inside}
+use Rattle.bench_calls.specs.declared.inside.Inside.TheVariants.{Shared}
 use Rattle.bench_calls.specs.Journals.{IsNotResumedIn}
 use Rattle.hall_calls.specs.Calls.{Bench}
 

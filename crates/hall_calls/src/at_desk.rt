@@ -5,11 +5,10 @@ ghost use Rattle.live_lab.specs.declared.stage.Aim.TheVariants.{Hold, Retire};
 ghost use Rattle.hall_calls.specs.Calls.{OnDesk, InDesk, AtDesk, Drives, GoesOn, LetsGo, TellsRelease, DoesNext, GivesUp, TellsState};
 
 use bench_calls::{
-    LabEntry, LabState, LabTurned, NOT_NOW, stage_status, state_of, tell_entry, turned_of, withdrew,
+    Handle, Inside, LabEntry, LabState, LabTurned, NOT_NOW, NOT_OPEN, put, stage_status, state_of,
+    take, tell_entry, turned_of, withdrew,
 };
-use bench_door::DeskRelease;
-use bench_hall::TakenDesk;
-use c_handles::{Handle, Inside, NOT_OPEN, put, take};
+use bench_hall::{DeskRelease, TakenDesk};
 use live_lab::Aim;
 use std::alloc::Global;
 

@@ -3,8 +3,8 @@ ghost use Rattle.std.specs.Prelude.{IfOk, IfErr};
 ghost use Rattle.bench_calls.specs.Journals.{IsNotResumedIn};
 ghost use Rattle.hall_calls.specs.Resuming.{IsSharedAgain, ResumesShared};
 
+use bench_calls::{Handle, Inside, claim, put, release};
 use bench_hall::Hall;
-use c_handles::{Handle, Inside, claim, put, release};
 use c_tells::{Told, fail};
 use lab_program::RunFault;
 use std::alloc::Global;

@@ -2,9 +2,8 @@
 ghost use Rattle.std.specs.Prelude.{◌≡◌, IfOk, IfErr, Some};
 ghost use Rattle.hall_calls.specs.Calls.{Takes, GivesBack, IsDeskIn, HasDeskOf, IsWhyNone, IsWhyNoDesk, why_number};
 
-use bench_calls::{NO_JOB, NOT_NOW};
+use bench_calls::{Handle, Inside, NO_JOB, NOT_NOW, NOT_OPEN, claim, put, release, take};
 use bench_hall::{NotTaken, TakenDesk};
-use c_handles::{Handle, Inside, NOT_OPEN, claim, put, release, take};
 use std::alloc::Global;
 
 const NO_MEMORY: u32 = 5;

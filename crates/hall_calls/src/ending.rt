@@ -1,13 +1,11 @@
 //! How a bench of desks ends.
 ghost use Rattle.std.specs.Prelude.{◌≡◌};
 ghost use Rattle.bench_calls.specs.Closing.{Frees};
-ghost use Rattle.c_handles.specs.declared.inside.Inside.TheVariants.{Shared};
+ghost use Rattle.bench_calls.specs.declared.inside.Inside.TheVariants.{Shared};
 ghost use Rattle.hall_calls.specs.Calls.{Closes, ClosesShared, is_of_a_hall};
 
-use bench_calls::NOT_NOW;
-use bench_door::{Held, close_held};
-use bench_hall::{Hall, WhyOpen};
-use c_handles::{Handle, Inside, NOT_OPEN, put, release, take};
+use bench_calls::{Handle, Inside, NOT_NOW, NOT_OPEN, put, release, take};
+use bench_hall::{Hall, Held, WhyOpen, close_held};
 use c_tells::{Told, fail};
 use lab_program::RunFault;
 use std::alloc::Global;

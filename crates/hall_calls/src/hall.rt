@@ -2,9 +2,8 @@
 ghost use Rattle.std.specs.Prelude.{IfOk, IfErr};
 ghost use Rattle.hall_calls.specs.Calls.{Opens, IsOpened, IsNotOpened, OfBench, TellsSize};
 
-use bench_calls::LabSize;
+use bench_calls::{Handle, Inside, LabSize, NOT_OPEN, claim, put, release, take};
 use bench_hall::Hall;
-use c_handles::{Handle, Inside, NOT_OPEN, claim, put, release, take};
 use c_tells::{Told, fail};
 use lab_program::RunFault;
 use std::alloc::Global;

@@ -1,6 +1,6 @@
 use Rattle.std.proofs.Common.{inl, refl, sym, subst}
 use Rattle.bench_calls.specs.Closing.{ClosesInside}
-use Rattle.c_handles.specs.declared.inside.Inside.TheVariants.{Reported}
+use Rattle.bench_calls.specs.declared.inside.Inside.TheVariants.{Reported}
 use Rattle.bench_calls.proofs.ending.close_in.Goals as goal
 
 pub returns-in-Some : goal.returns-in-Some

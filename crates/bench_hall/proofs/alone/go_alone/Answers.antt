@@ -4,7 +4,7 @@ use Rattle.session_layer.specs.Turn.{Took}
 use Rattle.session_layer.specs.declared.turning.Turned.TheVariants.{Idle}
 use Rattle.live_lab.specs.contracts.stage.Stage.{the_type}
 use Rattle.live_lab.specs.declared.stage.Stage.TheVariants.{OnTheWay}
-use Rattle.bench_door.specs.Going.{both, IsStage}
+use Rattle.bench_hall.specs.Going.{both, IsStage}
 use Rattle.bench_hall.specs.AtDesk.{TurnsGoing}
 use Rattle.bench_hall.proofs.OneMore.{one_more_going, and_idle}
 use Rattle.bench_hall.proofs.alone.go_alone.Goals as goal

@@ -3,7 +3,7 @@ use Rattle.std.proofs.Common.{◌≡◌, ◌++◌, length, reverse, vec_len}
 use Rattle.turns.specs.Lists.{Each}
 use Rattle.edge_rule.specs.DeskView.{Owns}
 use Rattle.edge_rule.specs.Company.{jobs_of}
-use Rattle.bench_door.specs.Own.{rising}
+use Rattle.bench_hall.specs.Own.{rising}
 use Rattle.bench_hall.specs.Rows.{falling, jobs_at, firsts}
 use Rattle.bench_hall.proofs.hall.spots_with.Given as goal
 

@@ -1,6 +1,6 @@
 use Rattle.std.proofs.Common.{refl, sym, subst}
 use Rattle.desk_user.specs.Serving.{Served}
-use Rattle.c_handles.specs.declared.inside.Inside.TheVariants.{Desk}
+use Rattle.bench_calls.specs.declared.inside.Inside.TheVariants.{Desk}
 use Rattle.hall_calls.specs.Calls.{InDesk, Drives}
 use Rattle.hall_calls.proofs.at_desk.serve_in.Goals as goal
 

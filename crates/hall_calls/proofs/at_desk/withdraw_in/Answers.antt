@@ -1,5 +1,5 @@
 use Rattle.std.proofs.Common.{refl, sym, subst}
-use Rattle.c_handles.specs.declared.inside.Inside.TheVariants.{Desk}
+use Rattle.bench_calls.specs.declared.inside.Inside.TheVariants.{Desk}
 use Rattle.hall_calls.specs.Calls.{InDesk, GivesUp}
 use Rattle.hall_calls.proofs.at_desk.withdraw_in.Goals as goal
 

@@ -3,7 +3,7 @@ use Rattle.std.proofs.Common.{◌≡◌, ◌≤◌, length, vec_len, vec_capacit
 use Rattle.turns.specs.Lists.{Each}
 use Rattle.edge_rule.specs.DeskView.{Owns}
 use Rattle.edge_rule.specs.Company.{jobs_of}
-use Rattle.bench_door.specs.Own.{rising}
+use Rattle.bench_hall.specs.Own.{rising}
 use Rattle.bench_hall.proofs.hall.Hall.all_desks.Given as goal
 
 abbrev pub invariant-loop-job : goal.invariant-loop-job

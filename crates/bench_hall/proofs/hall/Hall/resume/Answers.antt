@@ -1,6 +1,6 @@
 use Rattle.std.proofs.Common.{sym, subst}
 use Rattle.edge_rule.specs.DeskView.{BenchView}
-use Rattle.bench_door.specs.Resumed.{IsResumedBench}
+use Rattle.bench_hall.specs.Resumed.{IsResumedBench}
 use Rattle.bench_hall.proofs.hall.Hall.resume.Goals as goal
 
 pub returns-in-Some-clause-resumed : goal.returns-in-Some-clause-resumed

@@ -1,5 +1,5 @@
 use Rattle.std.proofs.Common.{◌≡◌, subst}
-use Rattle.bench_door.specs.Doors.{standing_of}
+use Rattle.bench_hall.specs.Doors.{standing_of}
 use Rattle.bench_hall.proofs.taken_desk.TakenDesk.standing.Goals as goal
 
 pub returns : goal.returns

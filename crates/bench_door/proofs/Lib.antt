@@ -1,5 +1,0 @@
-pub mod Crosses
-pub mod Desks
-mod Closed
-mod OneMore
-mod Resumed

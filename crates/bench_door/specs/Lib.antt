@@ -1,6 +1,0 @@
-pub mod Doors
-pub mod Ends
-pub mod Going
-pub mod Own
-pub mod Closing
-pub mod Resumed
