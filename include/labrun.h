@@ -123,7 +123,8 @@ uint32_t lab_upgrade(const uint8_t *script, size_t length, uint8_t *report, size
      - A job or an instrument is a number from 0, in the order of the script; sessions are counted from 1.
      - At each status but 0 nothing has changed and nothing is written, but for: `turned` and what was done, at 8 and 9 of `lab_begin`
        and at 8 and 10 of `lab_retire`; `written` at 6; `told` at 1, 4 and 5 of the open (at 4 all three are 0; at 5 `line` may be how
-       far the script was read, with `cause` 12) and at the close. */
+       far the script was read, with `cause` 12) and at the close; what `lab_add` says of itself; and the close, which at 3 has written the
+       report, and at 3 and 6 has closed the bench. */
 
 /* What C keeps of a bench. */
 struct lab_bench {
@@ -144,7 +145,7 @@ struct lab_session {
 };
 
 struct lab_turned {
-    uint32_t what;  /* 0 nothing was due; 2 acts were done; 1, at desks alone: an exchange found its edge changed, and the next turn tries it again */
+    uint32_t what;  /* 0 nothing was due; 2 acts were done; 1, at desks alone: an exchange found its edge changed, and the next turn looks anew */
     uint32_t count; /* how many */
 };
 
@@ -386,7 +387,8 @@ uint32_t lab_bench_resume(const uint8_t *journal, size_t length, struct lab_benc
      - What the script has (names, sessions, commands) is told by a bench that `lab_bench_open` opens for the same script.
      - Such a bench may begin where a journal ends (`lab_shared_resume`). It keeps no steps of its own: the journal isn't gone on with.
      - At each status but 0 nothing has changed and nothing is written, but for: `turned` and the turns taken, at 8 and 9 of
-       `lab_desk_begin`, 8 and 10 of `lab_desk_retire`; `written` at 6; `told` at 1, 4 and 5 of an open and at 0, 3, 5 and 6 of the close. */
+       `lab_desk_begin`, 8 and 10 of `lab_desk_retire`; `written` at 6; `told` at 1, 4 and 5 of an open and at 0, 3, 5 and 6 of the close, which at 3 and 6
+       has closed the bench. */
 
 /* What C keeps of a desk. */
 struct lab_desk {
