@@ -14,7 +14,7 @@
      7  LAB_NOT_OPEN    the handle has nothing that the call could act on: it isn't open, or it is of another kind
      8  LAB_NOT_YET     not yet, or not now: what was asked for isn't so
      9  LAB_NO_SESSION  the job has no session left to begin
-    10  LAB_SESSIONS_LEFT  the job can't retire, because it has sessions left
+    10  LAB_SESSIONS_LEFT  the job can't retire, because it is in a session or has one left
     11  LAB_IN_USE      the handle that is to be filled isn't empty: it is open, or closed and not freed, or it wasn't zeroed
     12  LAB_JOURNAL_FULL  the bench keeps its steps and has no room for those of this call: take its journal (`lab_journal`), and call again
     13  LAB_BUSY        another call on the handle is under way
@@ -299,8 +299,8 @@ uint32_t lab_end(struct lab_bench *bench, uint32_t job, struct lab_turned *turne
 uint32_t lab_withdraw(struct lab_bench *bench, uint32_t job);
 
 /* Retires a job whose sessions are all done. It begins no session, but does all that can be done without a word from an owner, as `lab_end`;
-   `turns` is how often, at most. 0 it is retired; 8 not yet: it is in a meal, which lasts until others let go; 10 sessions are left: it
-   would never; 2, 7. */
+   `turns` is how often, at most. 0 it is retired; 8 not yet: it owes a meal, for which it needs forks that others give once they have let
+   go (call again then), or `turns` is 0; 10 it is in a session, or has one left, which has to end first; 2, 7. */
 uint32_t lab_retire(struct lab_bench *bench, uint32_t job, uint32_t turns, struct lab_turned *turned);
 
 /* Closes the bench, whatever its jobs are at, and writes the report. 0 or 3 as a run; 5 and 6: nothing is lost, call again; 7.
@@ -428,8 +428,8 @@ uint32_t lab_desk_begin(struct lab_desk *desk, uint32_t turns, struct lab_turned
 /* As `lab_end`: does the commands that are left, ends the session and lets go. 0, 7, 8. */
 uint32_t lab_desk_end(struct lab_desk *desk, struct lab_turned *turned);
 
-/* Takes turns of a desk whose job's sessions are all done, at most `turns`, until it is retired. 0 it is; 8 not yet; 10 sessions are left: it
-   would never; 7. */
+/* Takes turns of a desk whose job's sessions are all done, at most `turns`, until it is retired. 0 it is; 8 not yet; 10 it is in a
+   session, or has one left; 7. */
 uint32_t lab_desk_retire(struct lab_desk *desk, uint32_t turns, struct lab_turned *turned);
 
 /* Closes the bench, whatever its jobs are at, and writes the report. 0 or 3 as a run; 8 while a desk is out; 5 and 6: nothing is lost, call

@@ -1372,7 +1372,7 @@ struct core {
         return all;
     }
 
-    // A job that has no session left retires, unless it is in a meal still. Whether it did.
+    // A job that has no session left retires, unless it owes a meal still. Whether it did.
     bool retire(std::uint32_t job) {
         lab_turned turned{};
         if (seats[job].has_more() || state(job).drinking == 4) return false;
@@ -1496,7 +1496,7 @@ struct core {
         each(left, [this](std::uint32_t job) { lapse(job); });
     }
 
-    // (One may be in a meal, which lasts until another has left its own.)
+    // (One may owe a meal, for which it needs forks that others give once they have let go.)
     void retire_all() {
         for (bool is_any = true; is_any;) {
             is_any = false;
@@ -1899,7 +1899,7 @@ class job {
         for (const auto &it : core_->later)
             if (it.first == job_) throw not_now(name() + " has a session that comes when the page is turned");
         const bool was_over = std::exchange(core_->seats[job_].is_over, true);
-        // (if it is in a meal, that lasts until others let go, and the close sees to it)
+        // (if it owes a meal, it needs forks that others give once they let go, and the close sees to it)
         core_->retire(job_);
         core_->settle();
         const detail::journal::ticket ticket = core_->ticket();

@@ -6,7 +6,7 @@ import re
 import tomllib
 from pathlib import Path
 
-from .needs import is_name
+from .needs import A_NAME, is_name
 
 
 class BayFault(Exception):
@@ -26,7 +26,7 @@ def read_bay(path: Path) -> tuple[str, ...]:
         raise BayFault(f'{path}: a line `instruments = ["scope", "supply"]` is wanted')
     for at, name in enumerate(names):
         if not is_name(name):
-            raise BayFault(f"{path}{_line_of(path, name)}: {name!r} can't be an instrument's name: at most 16 letters a-z, digits and `-`, a letter first")
+            raise BayFault(f"{path}{_line_of(path, name)}: {name!r} can't be an instrument's name: {A_NAME}")
         if name in names[:at]:
             raise BayFault(f"{path}{_line_of(path, name)}: {name} is there twice")
     return tuple(names)

@@ -17,6 +17,7 @@ import pytest
 MARK = "instruments"
 KEYWORDS = ("lab", "job", "session", "end", "steps", "patience")
 NAME = re.compile(r"[a-z][a-z0-9-]{0,15}")
+A_NAME = f"at most 16 letters a-z, digits and `-`, a letter first, and none of {' '.join(KEYWORDS)}"
 MOST_WAYS = 1000
 
 _HOLDS = "_labrun_holds"
@@ -48,7 +49,7 @@ class Wish:
         """Fault says what the bay lacks. Without a bay only the names are looked at."""
         for name in self.names:
             if not is_name(name):
-                raise Fault(f"{self.where(name)}: {name!r} can't be an instrument's name: at most 16 letters a-z, digits and `-`, a letter first")
+                raise Fault(f"{self.where(name)}: {name!r} can't be an instrument's name: {A_NAME}")
             if bay is not None and name not in bay:
                 raise Fault(f"{self.where(name)}: {_unknown(name, bay)}")
         if self.any_of and bay is not None:

@@ -64,7 +64,7 @@ def test_an_unknown_instrument_is_an_error_at_its_place(pytester: pytest.Pyteste
 @pytest.mark.parametrize(
     "marker, told",
     [
-        ('"Scope"', "test_it.py:3: 'Scope' can't be an instrument's name: at most 16 letters a-z, digits and `-`, a letter first"),
+        ('"Scope"', "test_it.py:3: 'Scope' can't be an instrument's name: at most 16 letters a-z, digits and `-`, a letter first, and none of lab job session end steps patience"),
         ('"session"', "test_it.py:3: 'session' can't be an instrument's name*"),
         ("", 'test_it.py:3: instruments() names none: write instruments("scope") or instruments(any_of="load-[*]")'),
         ("3", "test_it.py:3: an instrument is named by a text, not by 3"),

@@ -980,7 +980,7 @@ class Bench:
             with self._mutex:
                 if self._stands != _CLOSED:
                     self._look_over()
-                    # (one may be in a meal, which lasts until another has left its own)
+                    # (one may owe a meal, for which it needs forks that others give once they have let go)
                     while any([self._retire(job) for job in self._jobs]):
                         pass
                 ticket = self._ticket()

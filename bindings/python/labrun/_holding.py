@@ -577,7 +577,7 @@ def retire(job: Job) -> None:
         if any(other is job for other, _ in bench._later):
             raise LabrunError(f"{job.name} has a session that comes when the page is turned")
         was_over, job._is_over = job._is_over, True
-        # (if it is in a meal, that lasts until others let go, and the close sees to it)
+        # (if it owes a meal, it needs forks that others give once they let go, and the close sees to it)
         bench._retire(job)
         ticket = bench._ticket()
         bench._settle()
@@ -751,7 +751,7 @@ def _turned(bench: Bench) -> Union[Page, Ticket]:
 
 
 def _retires_all(bench: Bench) -> None:
-    """(One may be in a meal, which lasts until another has left its own.)"""
+    """(One may owe a meal, for which it needs forks that others give once they have let go.)"""
     while any([bench._retire(job) for job in bench._jobs]):
         pass
 

@@ -18,7 +18,11 @@ STRUCTURES = {
     "keepers": (_library.Keepers, "Keepers"),
     "state": (_library.State, "State"),
     "entry": (_library.Entered, "Entered"),
+    "outside": (_library.Outside, "Outside"),
+    "planned": (_library.Planned, "Planned"),
 }
+# The handle of a desk, which neither package has.
+IN_NO_PACKAGE = {"desk"}
 IN_PYTHON = {"uint32_t": ctypes.c_uint32, "uint64_t": ctypes.c_uint64, "size_t": ctypes.c_size_t, "void *": ctypes.c_void_p}
 IN_RUST = {"uint32_t": "u32", "uint64_t": "u64", "size_t": "usize", "void *": "*mut c_void"}
 
@@ -42,6 +46,10 @@ def fields_of(name: str) -> list[tuple[str, str]]:
 
 
 class Header(unittest.TestCase):
+    def test_no_structure_is_left_out(self) -> None:
+        named = set(re.findall(r"(?m)^struct lab_(\w+) \{", text_of("include/labrun.h")))
+        self.assertEqual(named - IN_NO_PACKAGE, set(STRUCTURES))
+
     def test_structures_of_python(self) -> None:
         for name, (structure, _) in STRUCTURES.items():
             wanted = [(field, IN_PYTHON[kind]) for field, kind in fields_of(name)]

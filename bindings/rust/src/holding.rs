@@ -164,7 +164,7 @@ impl Job {
             return Err(Error::NotNow(format!("{} has a session that comes when the page is turned", self.name())));
         }
         let was_over = std::mem::replace(&mut core.seats[job as usize].over, true);
-        // (if it is in a meal, that lasts until others let go, and the close sees to it)
+        // (if it owes a meal, it needs forks that others give once they let go, and the close sees to it)
         inner.retire(&mut core, job)?;
         inner.settle(&mut core)?;
         let ticket = inner.ticket();
@@ -548,7 +548,7 @@ impl Inner {
         Ok(())
     }
 
-    /// A job has no session left: it retires, unless it is in a meal still. Whether it did.
+    /// A job has no session left: it retires, unless it owes a meal still. Whether it did.
     pub(crate) fn retire(&self, core: &mut Core, job: u32) -> Result<bool, Error> {
         let seat = &core.seats[job as usize];
         if seat.now != 0 || (seat.last as usize) < seat.sessions.len() || core.state(job).drinking == crate::RETIRED {
@@ -561,7 +561,7 @@ impl Inner {
         Ok(retired)
     }
 
-    /// One may be in a meal, which lasts until another has left its own.
+    /// One may owe a meal, for which it needs forks that others give once they have let go.
     pub(crate) fn retire_all(&self, core: &mut Core) -> Result<(), Error> {
         loop {
             let mut any = false;
