@@ -7,7 +7,7 @@
      0  LAB_DONE        done; of a run or a close: every job is retired
      1  LAB_REFUSED     the script or a step is refused; `line` and `cause` say which line, and why
      2  LAB_NOT_THERE   there is no such job, session or instrument
-     3  LAB_UNFINISHED  a job still waits
+     3  LAB_UNFINISHED  a job isn't retired
      4  LAB_TOO_LONG    the script has more than 16777216 bytes
      5  LAB_NO_MEMORY   no memory
      6  LAB_NO_ROOM     what was to be written has more than `room` bytes; `written` says how many

@@ -6,12 +6,12 @@
 //         threads.emplace_back([&desk] {
 //             while (auto session = desk.begin())              // blocks until all its instruments are held
 //                 for (const std::string &name : session->instruments()) measure(name);
-//         });                                                  // a session that goes lets go, also by an exception
+//         });                                                  // a session that goes lets go, also by an exception that is caught
 //     for (std::thread &thread : threads) thread.join();
 //     std::cout << bench.close().text;
 //
 // With a journal, `bench::open("bay.lab", "bay.journal")`, all that is done is on the disk before a call returns, and a process that is killed
-// goes on where it was: a session that held is offered first, with resumed().
+// picks up where it left off: a session that held is offered first, with resumed().
 //
 // Without a script, sessions come while the bench is open (`job`):
 //
@@ -1629,7 +1629,7 @@ class session {
         return entry;
     }
 
-    // Writes a comment of one line to the journal, as a reading; what isn't printable is escaped.
+    // Writes a comment of one line to the journal, as a reading; what isn't printable is escaped. error if the bench has no journal.
     void note(std::string_view said) {
         if (!core_) throw error("the session has let go");
         core_->belongs_here();
@@ -1853,7 +1853,7 @@ class job {
     }
 
     // Adds a session behind the job's others: whoever takes the job's sessions (begin(), or that of its desk) comes to it. While a page is turned,
-    // it is one of the new page. (Of `how`, the times are those of whoever takes it.)
+    // it is one of the new page; with a journal this call waits for that. (Of `how`, the times are those of whoever takes it.)
     void add(const std::vector<std::string> &instruments, const asking &how = asking()) const {
         detail::kind kind = core_->kind_of(job_, instruments, how.commands_);
         std::unique_lock<std::mutex> guard = open();

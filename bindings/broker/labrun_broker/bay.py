@@ -13,8 +13,11 @@
     count = 8
     may_use = ["scope", "supply"]       # without this line: all
 
-    [limits]
-    clients = 200"""
+    [limits]                            # (each as it is without a line)
+    clients = 200                       # streams at once
+    requests = 2000                     # messages a second in a stream
+    name = 64                           # characters of `--by` and of a ticket, which has 43
+    note = 500"""
 
 from __future__ import annotations
 

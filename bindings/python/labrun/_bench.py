@@ -643,7 +643,7 @@ class Job:
 
     def add(self, *instruments: str, commands: Iterable[Asked] = ()) -> None:
         """Adds a session, as `hold` has it, behind the job's others: whoever takes the job's sessions (`sessions`, `next_session`) comes to it.
-        While a page is turned, it is one of the new page."""
+        While a page is turned, it is one of the new page; with a journal this call waits for that."""
         _holding.add(self, instruments, commands)
 
     def retire(self) -> None:

@@ -112,7 +112,8 @@ impl Job {
     }
 
     /// Adds a session behind the job's others, with one `read` of each instrument: whoever takes the job's sessions ([`Job::begin`],
-    /// [`Desk::begin`](crate::Desk::begin)) comes to it. While a page is turned, it is one of the new page.
+    /// [`Desk::begin`](crate::Desk::begin)) comes to it. While a page is turned, it is one of the new page;
+    /// with a journal this call waits for that.
     pub fn add(&self, instruments: &[&str]) -> Result<(), Error> {
         self.hold(instruments).add()
     }

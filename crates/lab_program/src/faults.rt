@@ -12,9 +12,9 @@ use thiserror::Error;
 /// How a run ended that wrote all that it had to.
 #[derive(Clone, Copy, PartialEq, Eq, Debug)]
 pub enum Outcome {
-    /// A replay: every job is retired. A check or an upgrade: it is done.
+    /// A run or a replay: every job is retired. A check or an upgrade: it is done.
     Finished,
-    /// A job still waits.
+    /// A job isn't retired.
     Unfinished,
 }
 

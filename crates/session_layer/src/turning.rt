@@ -34,7 +34,7 @@ pub enum Turned {
     /// Lost: each exchange that was due found a word that another job had changed first, and no act was due; nothing was done. It isn't
     /// called so, because callers know this answer as `Moved`: the edge has moved on.
     Moved,
-    /// Nothing was legal, by the words seen.
+    /// Nothing was due, by the words seen.
     Idle,
 }
 

@@ -169,7 +169,7 @@ Statuses:
   0  rounds, threads, replay: every job is retired; check, upgrade, --help: done
   1  the script or a step is refused; the fault names its line
   2  the command line is refused
-  3  rounds, threads, replay: a job still waits
+  3  rounds, threads, replay: a job isn't retired
   4  reading or writing failed, or the input is longer than 16777216 bytes
   5  no memory
 
