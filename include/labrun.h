@@ -85,7 +85,7 @@ uint32_t lab_upgrade(const uint8_t *script, size_t length, uint8_t *report, size
 
    A bench is opened for a script. From then on each job has a session to begin, and whoever acts for the job
 
-     asks     lab_settle, with the job in `waiting`: `came` tells whether the job holds all instruments of its session, or has none left;
+     asks     lab_settle, with the job in `waiting`: `came` tells whether the job holds its session's instruments, or has no session left;
      works    at the real instruments, for as long as it likes: nobody else holds one of them;
      lets go  lab_end, which enters the session's commands in the logs; or lab_command, one by one, and then lab_end;
      wakes    lab_settle again, if others wait: `came` tells which of them hold now;
@@ -94,9 +94,10 @@ uint32_t lab_upgrade(const uint8_t *script, size_t length, uint8_t *report, size
    from whatever threads, that report is one of a legal run: each instrument's log is whole sessions, of which only the last may
    be unfinished, and no two jobs held an instrument at once.
 
-   Nobody sleeps for nothing. A job *keeps* an instrument from another that needs it and lacks it, if it has what the other lacks of it,
-   needs it too, and holds or comes first. After `lab_settle` answered 0, a chain of jobs leads from each job that waits and doesn't hold:
-   each keeps an instrument from the one before it; all but the last wait, and the last holds. So whoever waits then, waits because somebody works.
+   Nobody sleeps for nothing. Each two jobs that share an instrument have a share of it, their *bottle*. A job *keeps* an instrument from
+   another that needs it and lacks its share, if it has that share, needs the instrument too, and holds or comes first. After `lab_settle`
+   answered 0, a chain of jobs leads from each job that waits and doesn't hold: each keeps an instrument from the one before it; all but the
+   last wait, and the last holds. So whoever waits then, waits because somebody works.
 
    The rules, beside those above:
 
@@ -108,10 +109,11 @@ uint32_t lab_upgrade(const uint8_t *script, size_t length, uint8_t *report, size
        nothing. A thread that is killed within a call leaves the handle busy for good.
      - Any thread may act for any job. If two threads act for one job, each sees what the other did: say among yourselves who does.
      - A thread that waits sleeps on a condition variable of yours. Whoever called `lab_settle` wakes the threads of the jobs that `came`
-       names, and whoever called `lab_end`, `lab_withdraw`, `lab_begin`, or took single turns (`lab_turn`, `lab_serve`,
-       `lab_serve_others`), calls `lab_settle`. There is nothing else to wake anybody for, and nothing to look at from time to time.
+       names, and whoever called `lab_end`, `lab_withdraw`, `lab_begin`, took single turns (`lab_turn`, `lab_serve`,
+       `lab_serve_others`), or set `lab_overtakes` lower, calls `lab_settle`. There is nothing else to wake anybody for, and nothing to look at from time to time.
      - But a session with patience counts the calls of `lab_settle` and `lab_begin` in which it waits, whoever makes them: let somebody
-       call now and then, so that it does run out.
+       call now and then, so that it does run out. A job that is outside (`lab_overtakes`) is in no session, and its patience doesn't run:
+       count yourself, and call `lab_withdraw`.
      - A job gives up what a neighbour asks for in `lab_settle`, `lab_begin`, `lab_end` and `lab_retire` of whatever job. So a thread that
        works, sleeps or has stopped keeps nobody waiting, as long as its job doesn't hold, or keep while it waits, an instrument that
        the other needs.
@@ -122,7 +124,7 @@ uint32_t lab_upgrade(const uint8_t *script, size_t length, uint8_t *report, size
      - No call between the open and the close asks for memory, but `lab_add`, and `lab_journal` and `lab_more`.
      - A job or an instrument is a number from 0, in the order of the script; sessions are counted from 1.
      - At each status but 0 nothing has changed and nothing is written, but for: `turned` and what was done, at 8 and 9 of `lab_begin`
-       and at 8 and 10 of `lab_retire`; `written` at 6; `told` at 1, 4 and 5 of the open (at 4 all three are 0; at 5 `line` may be how
+       and at 8 and 10 of `lab_retire`; `written` at 6; `told` at 1, 4 and 5 of an open and of `lab_bench_script` (at 4 all three are 0; at 5 `line` may be how
        far the script was read, with `cause` 12) and at the close; what `lab_add` says of itself; and the close, which at 3 has written the
        report, and at 3 and 6 has closed the bench. */
 
@@ -153,7 +155,7 @@ struct lab_came {
     uint32_t holds;     /* the jobs that hold all instruments of their session now: bit k for job k */
     uint32_t given_up;  /* the jobs whose session was given up in this call, because its patience was used up */
     uint32_t none_left; /* the jobs of `waiting` that are in no session and have none left to begin */
-    uint32_t deeds;     /* how many steps were done, looks aside; 0: nothing was due */
+    uint32_t deeds;     /* how many steps were done, not counting looks; 0: nothing was due */
 };
 
 struct lab_keepers {
@@ -162,13 +164,13 @@ struct lab_keepers {
 };
 
 struct lab_state {
-    uint64_t turns;         /* how many turns the job took, and calls of `lab_settle` it waited in */
+    uint64_t turns;         /* how many turns it took, and calls of `lab_settle` or `lab_begin` that named it or in which it waited */
     uint32_t dining;        /* 0 thinking, 1 hungry, 2 eating */
     uint32_t drinking;      /* 0 tranquil, 1 thirsty, 2 drinking, 3 reaching, 4 retired; at 2 and 3 it holds its instruments */
     uint32_t session;       /* the session that it is in, or was in last; 0 before the first */
     uint32_t sessions;      /* how many it has */
     uint32_t position;      /* how many commands of this session are done; `lab_session_of` says how many it has, and what it needs */
-    uint32_t sessions_done; /* how many sessions were ended, those given up aside */
+    uint32_t sessions_done; /* how many sessions were ended, not counting those given up */
     uint32_t withdrawn;     /* how many were given up */
     uint32_t meals;         /* how many meals were begun */
     uint32_t waited;        /* for how many turns, and calls of `lab_settle`, this session has waited */
@@ -227,14 +229,15 @@ uint32_t lab_planned(struct lab_bench *bench, uint32_t job, uint32_t session, ui
 /* How far a job is. 0, 2, 7. */
 uint32_t lab_state(struct lab_bench *bench, uint32_t job, struct lab_state *state);
 
-/* Which jobs keep an instrument from a job (see above). There is none if the job isn't thirsty, doesn't need the instrument, or lacks nothing
-   of it. After `lab_settle` there is one for each instrument that it lacks; if that one doesn't hold, it waits, and has keepers of its own.
+/* Which jobs keep an instrument from a job (see above). There is none if the job is neither thirsty nor outside (see `lab_outside`), doesn't
+   need the instrument, or lacks nothing of it. After `lab_settle` there is at least one for each instrument that a thirsty job lacks; each
+   that doesn't hold waits, and has keepers of its own. The call tells one link of the chain: ask on, job by job.
    0, 2 (no such job or instrument), 7. */
 uint32_t lab_keepers(struct lab_bench *bench, uint32_t job, uint32_t instrument, struct lab_keepers *keepers);
 
 /* Begins the next session of each job of `waiting` that is in none, and then does all that can be done without a word from an owner, until
-   nothing is due anywhere: each job that may hold does. Sessions whose patience is used up by then are given up, and none is begun in their
-   place: `came` tells. Bits of `waiting` beyond the jobs are passed over. So a job that waits still, waits for one that holds: see
+   nothing is due anywhere: each job that may hold does. Sessions whose patience was used up before this call are given up, and none is begun in
+   their place: `came` tells. Bits of `waiting` beyond the jobs are passed over. So a job that waits still, waits for one that holds: see
    above. 0, 7. */
 uint32_t lab_settle(struct lab_bench *bench, uint32_t waiting, struct lab_came *came);
 
@@ -242,8 +245,8 @@ uint32_t lab_settle(struct lab_bench *bench, uint32_t waiting, struct lab_came *
    may leave jobs *outside*: `lab_settle` and `lab_begin` then begin the session of a job of `waiting` (it is *let in*) as soon as
 
      (a) no job in a session needs one of its instruments: then it holds when the call ends; or
-     (b) it has been *passed by* `most` times: so many sessions that need one of its instruments were let in, by calls that wait for it,
-         since it asked. From then on it is in a session, and waits as ever.
+     (b) it has been *passed by* `most` times: that is, that many sessions that need one of its instruments were let in, by calls that wait
+         for it, since it asked. From then on it is in a session, and waits as ever.
 
    It asks by the first call in whose `waiting` it is while it may begin. Those of (b) go before those of (a), and among these the one that
    asked first goes first. At 0, as it is after the open, all of `waiting` are let in at once, as `lab_settle` says. The number may be set
@@ -294,7 +297,8 @@ uint32_t lab_command(struct lab_bench *bench, uint32_t job, struct lab_entry *en
    others may hold: the next `lab_settle` tells which. 0; 8 if it doesn't hold; 2, 7. */
 uint32_t lab_end(struct lab_bench *bench, uint32_t job, struct lab_turned *turned);
 
-/* Gives up the session that a job waits for, if it has patience; or takes a job that is outside from its place. Others may come to hold by
+/* Gives up the session that a job waits for, if it has patience; or takes a job that is outside from its place (its
+   session isn't begun and not given up: the next `lab_settle` that names the job asks for it again). Others may come to hold by
    that: `lab_settle` sees to it, and tells which. 0; 8 if it isn't outside, and isn't thirsty or has no patience; 2, 7. */
 uint32_t lab_withdraw(struct lab_bench *bench, uint32_t job);
 
@@ -303,12 +307,12 @@ uint32_t lab_withdraw(struct lab_bench *bench, uint32_t job);
    go (call again then), or `turns` is 0; 10 it is in a session, or has one left, which has to end first; 2, 7. */
 uint32_t lab_retire(struct lab_bench *bench, uint32_t job, uint32_t turns, struct lab_turned *turned);
 
-/* Closes the bench, whatever its jobs are at, and writes the report. 0 or 3 as a run; 5 and 6: nothing is lost, call again; 7.
-   A closed handle keeps its report, for a further call; every other call on it but the free answers 7. */
+/* Closes the bench, whatever its jobs are at, and writes the report. 0 or 3 as a run; 5 and 6: nothing is lost, call again (at 5 the bench is
+   still open); 7. A closed handle keeps its report, for a further call; an open answers 11, and every other call but the free 7. */
 uint32_t lab_bench_close(struct lab_bench *bench, uint8_t *report, size_t room, struct lab_told *told);
 
-/* Gives back all that the handle has, at any time; it is empty then, and may be opened again. 0; 7 if it is empty already, or no
-   `struct lab_bench`. */
+/* Gives back all that the handle has, at any time; it is empty then, and may be opened again. 0; 7 if it is empty already, or has a
+   bench of desks or a desk (`lab_shared_free`, `lab_give_desk`). */
 uint32_t lab_bench_free(struct lab_bench *bench);
 
 /* ---- A bench that comes back when its process has died.
@@ -433,12 +437,13 @@ uint32_t lab_desk_end(struct lab_desk *desk, struct lab_turned *turned);
 uint32_t lab_desk_retire(struct lab_desk *desk, uint32_t turns, struct lab_turned *turned);
 
 /* Closes the bench, whatever its jobs are at, and writes the report. 0 or 3 as a run; 8 while a desk is out; 5 and 6: nothing is lost, call
-   again; 7. Once all desks are back, a close that answers 5 gives none out any more. A closed handle keeps its report, for a further
-   call; every other call on it but the free answers 7. */
+   again; 7. After a close that answers 5 perhaps no desk can be taken any more: `lab_take_desk` then answers 7. A closed handle keeps its
+   report, for a further call; an open answers 11, and every other call but the free 7. */
 uint32_t lab_shared_close(struct lab_bench *shared, uint8_t *report, size_t room, struct lab_told *told);
 
-/* Gives back what the handle has; it is empty then. Desks that are out may be used on, and the last that is given back frees the bench. 0;
-   7 if it is empty already, or has no bench of desks. */
+/* Gives back what the handle has; it is empty then. Desks that are out may be used on, and the last that is given back frees the bench. But
+   each open or resume that went well keeps the memory of its plan for good: don't open such benches one after another without end. 0; 7 if
+   it is empty already, or has no bench of desks. */
 uint32_t lab_shared_free(struct lab_bench *shared);
 
 /* ---- The sizes and places that the library goes by. */

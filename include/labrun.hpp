@@ -19,8 +19,9 @@
 //     auto session = bench.job("guest-1").hold({"scope", "supply"});
 //
 // What is proved ends at the calls of the library: that no two sessions hold an instrument at once, that each log is whole sessions, and that
-// who waits, waits in the end for somebody who holds: so nobody looks from time to time, and nobody sleeps for nothing. This file is
-// tested. A bench and its desks stay where they are while threads use them; one thread at a time acts for a desk.
+// whoever waits, waits in the end for somebody who holds: so nobody looks from time to time, and nobody sleeps for nothing. This file is
+// tested. A bench and its desks stay where they are while threads use them, and a bench outlives its desks, jobs and sessions, and the threads
+// in its calls; one thread at a time acts for a desk.
 #ifndef LABRUN_HPP
 #define LABRUN_HPP
 #include "labrun.h"
@@ -105,7 +106,8 @@ struct full : error {
     explicit full(const std::string &job) : error("no room for another session of " + job + ": turn_page() begins a new page") {}
 };
 
-// What was asked for is no session, no job or no command; or it may not be now. The text says why.
+// What was asked for is no session or no command, or create() was given jobs that make no script; not_now: it may not be now. The text says
+// why. (A name that no job has is a plain `error`.)
 struct invalid : error {
     using error::error;
 };
@@ -186,7 +188,7 @@ struct keeper {
 
 // The time limit passed. The session keeps its place, and may come to its instruments meanwhile if it stands in line: begin again, or give_up().
 // One of job::hold is given up.
-// It says first for whom it waits in the end: those are the ones to look after.
+// The text names first who is at the end of the chain: see to those.
 struct timed_out : error {
     explicit timed_out(std::vector<keeper> by) : error("still waits" + because(by)), keepers(std::move(by)) {}
     std::vector<keeper> keepers;
@@ -228,8 +230,8 @@ struct command {
     std::string line() const { return instrument + " " + verb + (number ? " " + std::to_string(*number) : "") + "\n"; }
 };
 
-// How much may still come to the page that is open: so many sessions of each job, by its name, and so many commands of all; with a journal, so
-// many steps and bytes of it.
+// How much may still come to the page that is open: how many sessions of each job, by its name, and how many commands of all; with a
+// journal, how many steps and bytes of it.
 struct room {
     std::vector<std::pair<std::string, std::size_t>> sessions;
     std::size_t commands;
@@ -928,7 +930,7 @@ struct core {
         it.woken.notify_all();
     }
 
-    // One that came to hold does so from now on. Whoever waits for one that may hold for so long only is to know.
+    // One that came to hold does so from now on. If its time is limited, those who wait for it have to know.
     void holds(std::uint32_t job) {
         if (seats[job].since) return;
         seats[job].since = seat::clock::now();
@@ -1799,12 +1801,12 @@ class asking {
         commands_ = std::move(those);
         return *this;
     }
-    // After so long timed_out says who keeps it waiting. It is given up then, and logs nothing.
+    // After this long timed_out says who keeps it waiting. It is given up then, and logs nothing.
     asking &timeout(span most) {
         timeout_ = most;
         return *this;
     }
-    // After so long it is given up: withdrawn is thrown, and it logs nothing.
+    // After this long it is given up: withdrawn is thrown, and it logs nothing.
     asking &patience(span most) {
         patience_ = most;
         return *this;
@@ -1925,7 +1927,7 @@ class job {
     std::uint32_t job_;
 };
 
-// The bench of a script.
+// A bench: of a script, or of jobs that say what they may use.
 class bench {
   public:
     // The bench of the script in a file. With a journal, the path of a file, all that is done is there before a call returns. If the file is
@@ -1978,9 +1980,9 @@ class bench {
 
     // A bench without a script: the jobs by their names, each with the instruments that it may use. Their sessions come by job::hold and job::add.
     //
-    // How a job may use instruments that no session of its names yet: the script that this writes has a first session for each job, `session patience
+    // How a job may use instruments that no session of its names yet: the script that this writes has a first session for each job that may use something, `session patience
     // 0` with one `read` of each of its instruments, and right after the open it is begun and given up. Both are legal steps and nothing is logged;
-    // the report says `withdrawn 1` of each job, and a job's sessions count from 2.
+    // the report says `withdrawn 1` of each such job, and its sessions count from 2.
     static bench create(const labrun::jobs &jobs, const std::string &journal = "", labrun::sync how = labrun::sync::data,
                         std::uint32_t overtakes = OVERTAKES) {
         try {

@@ -1,5 +1,5 @@
-/* desk_misuse.c: each status and each misuse of a bench with a desk for each thread that a call can tell. At each of them nothing
-   changes: the handles, how far each job is, and what the caller's structs held.
+/* desk_misuse.c: each misuse of a bench with a desk for each thread that a call can tell (5 is in desk_refused.c, 13 in busy.c). At each of
+   them the handles and all jobs stay as they were, and nothing is written but what labrun.h says of 6, and of 8, 9 and 10.
    cc -I include bench/door/desk_misuse.c FOLDER/liblabrun.a */
 #include "poison.h"
 

@@ -1,11 +1,13 @@
-/* misuse.c: each status and each misuse of a bench that a call can tell. At each of them nothing changes: the handle, how far each job
-   is, and what the caller's structs held.
+/* misuse.c: the statuses and misuses of the calls on one handle (5 is in refused.c, 12 in journal.c, 13 in busy.c). At each of them the handle
+   and all jobs stay as they were, and nothing is written but what labrun.h says of 6, and of 8, 9 and 10.
    cc -I include bench/door/misuse.c FOLDER/liblabrun.a */
 #include "poison.h"
 
 static const char three[] = "lab 1\njob x\nsession\ndial add 1\nend\njob y\nsession\ndial add 2\nlamp read\nend\n"
                             "job z\nsession\nlamp read\ndial read\nend\n";
 static const char lone[] = "lab 1\njob only\nsession\ndial add 999999\ndial add 5\nend\n";
+
+static const uint8_t more[] = "session\nscale read\nend\n";
 
 static struct lab_bench bench;
 
@@ -35,6 +37,11 @@ static void not_open(int is_closed) {
     REFUSED(LAB_NOT_OPEN, lab_end(&bench, 0, &out.turned));
     REFUSED(LAB_NOT_OPEN, lab_withdraw(&bench, 0));
     REFUSED(LAB_NOT_OPEN, lab_retire(&bench, 0, 10, &out.turned));
+    REFUSED(LAB_NOT_OPEN, lab_overtakes(&bench, 4));
+    REFUSED(LAB_NOT_OPEN, lab_outside(&bench, 0, &out.outside));
+    REFUSED(LAB_NOT_OPEN, lab_add(&bench, 0, more, sizeof more - 1, &out.told));
+    REFUSED(LAB_NOT_OPEN, lab_journal(&bench, out.bytes, 0, &out.name.written));
+    REFUSED(LAB_NOT_OPEN, lab_more(&bench, 0, 1, out.bytes, 0, &out.name.written));
     if (!is_closed) {
         uint8_t report[8] = {1, 2, 3, 4, 5, 6, 7, 8};
         REFUSED(LAB_NOT_OPEN, lab_bench_close(&bench, report, sizeof report, &out.told));
@@ -144,6 +151,8 @@ static void no_such_job(void) {
         REFUSED(LAB_NOT_THERE, lab_end(&bench, job, &out.turned));
         REFUSED(LAB_NOT_THERE, lab_withdraw(&bench, job));
         REFUSED(LAB_NOT_THERE, lab_retire(&bench, job, 10, &out.turned));
+        REFUSED(LAB_NOT_THERE, lab_outside(&bench, job, &out.outside));
+        REFUSED(LAB_NOT_THERE, lab_add(&bench, job, more, sizeof more - 1, &out.told));
     }
 }
 
@@ -269,11 +278,12 @@ static void a_whole_run(void) {
     IS(lab_begin(&bench, 0, 10, &out.turned) == LAB_NO_SESSION);
     IS(lab_begin(&bench, 2, 10, &out.turned) == LAB_NO_SESSION);
     for (uint32_t job = 0; job < 3; job++) {
-        IS(lab_retire(&bench, job, 1, &out.turned) == LAB_DONE); /* (nobody waits or holds, so nobody is in a meal) */
+        IS(lab_retire(&bench, job, 1, &out.turned) == LAB_DONE); /* (nobody waits or holds, so nobody owes a meal) */
         TELLS(LAB_DONE, lab_retire(&bench, job, 10, &out.turned));
         holds_not(job);
         REFUSED(LAB_NOT_YET, lab_withdraw(&bench, job));
         IS(lab_begin(&bench, job, 10, &out.turned) == LAB_NO_SESSION);
+        REFUSED(LAB_RETIRED, lab_add(&bench, job, more, sizeof more - 1, &out.told));
     }
     settles(7, 0, 0, 7);
 }

@@ -20,6 +20,7 @@ static union {
     struct lab_planned planned;
     struct lab_keepers keepers;
     struct lab_came came;
+    struct lab_outside outside;
     struct {
         size_t written;
         uint8_t name[64];

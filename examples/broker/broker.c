@@ -292,7 +292,8 @@ static void read_sessions(const char *script) {
 /* ---- a session by the bench
 
    A station that waits sleeps on a condition variable of its own. Whoever asks or lets go calls `lab_settle`, which tells who holds then, and
-   wakes those that waited for it. Nobody looks from time to time: whoever still waits, waits in the end for a station that works. */
+   wakes those that waited for it. Nobody looks from time to time: whoever still waits, waits in the end for a station that works.
+   (The time-out is for its message, and for sessions with patience.) */
 
 static uint32_t waiting; /* the stations that wait, as a set of bits; under the mutex, as the bench is */
 static pthread_cond_t came[MOST_JOBS];
@@ -345,7 +346,7 @@ static int wait_to_hold(struct station *me) {
             if (pthread_cond_timedwait(&came[me->job], &mutex, &until) == ETIMEDOUT && waiting & bit && now() - told >= TIME_OUT) {
                 told = now();
                 say_who_keeps(me);
-                settle(&all); /* (a session with patience counts this) */
+                settle(&all); /* (a session with patience counts this, once it is in line) */
             }
         }
         lab_state(&bench, me->job, &state);

@@ -92,7 +92,7 @@ pub enum Error {
     /// The file can't be read.
     Unread(String),
     /// The time limit passed. The session keeps its place, and may come to its instruments meanwhile if it stands in line: begin again, or
-    /// [`Desk::give_up`]. One of [`Job::hold`] is given up. The text says first for whom it waits in the end: those are the ones to look after.
+    /// [`Desk::give_up`]. One of [`Job::hold`] is given up. The text names first who is at the end of the chain: see to those.
     TimedOut(Vec<Keeper>),
     /// The session was given up, because its patience ran out. The next [`Desk::begin`] is about the one after it.
     Withdrawn,
@@ -115,7 +115,7 @@ pub enum Error {
     /// A session can't be added: this job has 1000, or the bench has 100000 commands. [`Bench::room`] tells before, and
     /// [`Bench::turn_page`] helps.
     Full(String),
-    /// What was asked for is no session, no job or no command; the text says why.
+    /// What was asked for is no session or no command; the text says why.
     Invalid(String),
     /// What was asked for may not be now; the text says why.
     NotNow(String),
