@@ -25,10 +25,10 @@
 
    What a caller owes, which nothing checks:
 
-     - `script` points to `length` bytes that may be read, and no other thread writes them meanwhile;
-     - `report` and `name` point to `room` bytes that may be read and written, and each other pointer to one of what it points to;
+     - each `const uint8_t *` points to `length` bytes that may be read, and no other thread writes them meanwhile;
+     - each other `uint8_t *` points to `room` bytes that may be read and written, and each other pointer to one of what it points to;
        nobody else reads or writes these meanwhile;
-     - no pointer is NULL, but one to a script or a room whose length is 0;
+     - no pointer is NULL, but one to bytes whose `length` or `room` is 0;
      - what one call is given doesn't overlap;
      - no call from a signal handler (on a handle that is busy it answers 13), nor in the child of a fork of a process with threads;
      - malloc and realloc align what they give as usual, and give NULL where they have none;
@@ -58,7 +58,7 @@ extern "C" {
 #define LAB_RETIRED 14u
 
 struct lab_told {
-    size_t written; /* how many bytes the report has; 0 where there is none */
+    size_t written; /* how many bytes the text has, or of a journal were read, or how many sessions were added; else 0 */
     size_t line;    /* the line that a fault names, counted from 1; 0 where none does */
     uint32_t cause; /* why it is refused: 1 to 14 for S1 to S14; 0 for a step that isn't legal, or no fault of a line */
 };
@@ -391,7 +391,7 @@ uint32_t lab_bench_resume(const uint8_t *journal, size_t length, struct lab_benc
      - What the script has (names, sessions, commands) is told by a bench that `lab_bench_open` opens for the same script.
      - Such a bench may begin where a journal ends (`lab_shared_resume`). It keeps no steps of its own: the journal isn't gone on with.
      - At each status but 0 nothing has changed and nothing is written, but for: `turned` and the turns taken, at 8 and 9 of
-       `lab_desk_begin`, 8 and 10 of `lab_desk_retire`; `written` at 6; `told` at 1, 4 and 5 of an open and at 0, 3, 5 and 6 of the close, which at 3 and 6
+       `lab_desk_begin`, 8 and 10 of `lab_desk_retire`, 8 of `lab_desk_end` if it holds still after 4294967295 turns; `written` at 6; `told` at 1, 4 and 5 of an open and at 0, 3, 5 and 6 of the close, which at 3 and 6
        has closed the bench. */
 
 /* What C keeps of a desk. */

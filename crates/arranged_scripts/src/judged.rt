@@ -25,9 +25,10 @@ pub fn read_back<A: Allocator + Copy>(alloc: A, text: &[u8]) -> Result<Option<Pl
 }
 
 /// A script of this plan with its jobs in the order of their colours: jobs that share an instrument get different ones, as few as
-/// DSATUR finds. Comments directly above a job's line stay with it. What was made is read again and judged: None only if it isn't
-/// read as these jobs in this order, which was never met, or if it has more bytes than a run reads, which is so only if the input
-/// has all but the end of its last line. Memory is taken for the text twice, and for a second plan.
+/// DSATUR finds. Comments directly above a job's line stay with it. What was made is read again and judged: None only if the blocks of the
+/// input aren't as many as the jobs, or if it isn't read as these jobs in this order, which was never met, or if it has more bytes than a
+/// run reads, which is so only if the input has all but the end of its last line. Memory is taken for the text twice, and for a second
+/// plan.
 pub fn arranged_script<A: Allocator + Copy>(
     alloc: A,
     plan: &Plan<A>,

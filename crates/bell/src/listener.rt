@@ -62,8 +62,8 @@ impl<'b> Listener<'b> {
         }
     }
 
-    /// A round was idle, and so would be any other before the bell rings: as `idled`, but sleeps this many times. Answers no if the bell
-    /// wasn't rung in all that time.
+    /// A round was idle, and so would be any other before the bell rings: as `idled`, but it never yields, and sleeps until the bell
+    /// rings, at most this many times. Answers no if the bell wasn't rung in all that time.
     pub fn outlasts<R: Wait>(&mut self, rt: &R, sleeps: u32) -> bool
         ensures idle { self.new.idle ≡ self.old.idle }
         ensures listens { IsNone self.old.heard → (result ≡ true) × IsSome self.new.heard }

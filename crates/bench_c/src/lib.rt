@@ -1,4 +1,4 @@
-//! What C calls on a handle: each export is the call of `bench_calls` or of `hall_calls`, with its contract.
+//! What C calls for a bench or a desk: each export is the call of `bench_calls` or of `hall_calls`, with its contract.
 #![tactic(auto)]
 
 ghost use Rattle.std.specs.Prelude.{◌≡◌};
@@ -190,7 +190,7 @@ pub extern "C" fn lab_outside(
     bench_calls::outside(alloc, bench, job, outside)
 }
 
-/// Begins the next session of each job of `waiting`, and does all that can be done without a word from an owner.
+/// Lets in the jobs of `waiting` that are due, each to its next session, and does all that can be done without a word from an owner.
 #[unsafe(no_mangle)]
 pub extern "C" fn lab_settle(
     alloc: Global,

@@ -125,7 +125,7 @@ IfTold Tells None told told' status = (status ≡ 2) × (told' ≡ told)
 abbrev pub TellsAs : {R T : Type 0} → (R → T) → R → T → T → ℕ → Type 0
 TellsAs how r told told' status = (status ≡ 0) × (told' ≡ how r)
 
--- a session was given up (0), or it could not be (8)
+-- a session or a place outside was given up (0), or neither could be (8)
 abbrev pub TellsDid : Bool → Unit {0} → Unit {0} → ℕ → Type 0
 TellsDid did told told' status = status ≡ (if did then 0 else 8)
 

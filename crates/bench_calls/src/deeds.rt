@@ -157,7 +157,7 @@ pub fn serve_others(alloc: Global, bench: &mut Handle, job: u32, turned: &mut La
     status
 }
 
-/// Begins the next session of each job of `waiting`, and does all that can be done without a word from an owner.
+/// Lets in the jobs of `waiting` that are due, each to its next session, and does all that can be done without a word from an owner.
 pub fn settle(alloc: Global, bench: &mut Handle, waiting: u32, came: &mut LabCame) -> u32
     ensures { InLab (InRoom (SettlesAll waiting)) bench.old.slot.held bench.new.slot.held came.old came.new result }
 {

@@ -31,14 +31,14 @@ pub(crate) const JOURNAL_FULL: u32 = 12;
 /// The status if the job has retired.
 pub(crate) const RETIRED: u32 = 14;
 
-/// Whether a session was given up.
+/// The status that says whether a session, or a place outside, was given up.
 pub fn withdrew(did: bool) -> u32
     ensures { result ≡ (if did then 0 else 8) }
 {
     if did { 0 } else { NOT_NOW }
 }
 
-/// How far a job is on its way, by turns of its own.
+/// The status that says how far a job is on its way.
 pub fn stage_status(aim: Aim, stage: Stage) -> u32
     ensures { result ≡ stage_status aim stage }
 {

@@ -163,7 +163,7 @@ impl Hall {
 /// Why a hall isn't taken apart.
 #[derive(Clone, Copy, PartialEq, Eq, Debug)]
 pub enum WhyOpen {
-    /// A desk isn't at its place.
+    /// A desk isn't at its place, or somebody else has the hall.
     DesksOut,
     /// There is no memory.
     NoMemory,

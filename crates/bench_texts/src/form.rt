@@ -46,7 +46,7 @@ impl Place {
         }
     }
 
-    /// The names of the first session that such a line gives its job here, if it does.
+    /// Whether such a line gives its job a first session here.
     pub(crate) fn gives_session(self, form: &Form) -> bool
         ensures { result ≡ gives_session self (view form.now) }
     {

@@ -113,8 +113,8 @@ impl<A: Allocator + Copy> Watcher<A> for SessionCounts<A> {
 
 /// The run of a plan by at most this many rounds, by the rounds of its sessions and meals, and with who kept each session waiting.
 ///
-/// Memory is taken for a bench, for each job's end of an edge, for each bottle there (27776 at most), and for each session and meal
-/// that is begun.
+/// Memory is taken for a bench, for each job's end of an edge, for each bottle there (27776 at most), for each session of
+/// the plan, and for each session and meal that is begun.
 pub fn keepers_by_rounds<A: Allocator + Copy>(
     alloc: A,
     plan: &Plan<A>,

@@ -13,7 +13,7 @@ const NO_ROOM: u32 = 6;
 #[repr(C)]
 #[derive(Clone, Copy)]
 pub struct Told {
-    /// How many bytes the report has, and 0 if there is none.
+    /// How many bytes the text has, or of a journal were read, or how many sessions were added; 0 if there is none of these.
     pub written: usize,
     /// The line that a fault names, counted from 1, and 0 if none does.
     pub line: usize,

@@ -17,7 +17,7 @@ pub fn program<'a>(alloc: Global, name: &'a str, about: &'a str, after: &'a str)
         .disable_help_subcommand(true)
 }
 
-/// A number that a word takes, in plain digits, from `least` to `most`.
+/// A number that a word takes, in digits, before which one `+` may stand, from `least` to `most`.
 pub fn number<'a>(alloc: Global, id: &'a str, least: u64, most: u64, help: &'a str) -> Arg<'a>
     ensures rule { rule_of result ≡ number_rule id.entry.now least most }
     ensures local { result.global ≡ false }
@@ -28,7 +28,7 @@ pub fn number<'a>(alloc: Global, id: &'a str, least: u64, most: u64, help: &'a s
         .help(help)
 }
 
-/// A number that a word may take, in plain digits, from `least` to `most`.
+/// A number that a word may take, in digits, before which one `+` may stand, from `least` to `most`.
 pub fn optional_number<'a>(
     alloc: Global,
     id: &'a str,

@@ -34,7 +34,7 @@ pub record BenchView : Type 0 where
 abbrev pub Owns : BenchView → DeskView → Type 0
 Owns b d = (d.table ≡ b.table) × (d.plan ≡ b.plan)
 
--- what the job knows by its own events: its own seat, and each edge as it last saw it
+-- what the job knows by its own events: its own seat, and each edge as it last saw or changed it
 abbrev pub known : DeskView → State
 known d = known_by d.plan d.deeds
 

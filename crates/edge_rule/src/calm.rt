@@ -1,5 +1,6 @@
 //! What a desk notes of having nothing to do: where nothing was due on an edge, nothing is due there until its word or the
-//! job's phase changes, and where no phase act was due, none is due until the job's phase or a mark does.
+//! job's phase changes, and where no phase act was due, none but
+//! giving the session up is due until the job's phase or a mark changes.
 ghost use Rattle.std.specs.Prelude.{◌≡◌, ◌<◌, length, IsTrue};
 ghost use Rattle.std.specs.List.{All};
 ghost use Rattle.lab_plan.specs.LabPlan.{edges};
@@ -27,8 +28,8 @@ pub(crate) fn write_at<T: Copy, A: Allocator>(edges: &[EdgeNo], what: T, list: &
 }
 
 impl<A: Allocator> Desk<A> {
-    /// Whether the edge was noted as calm, and neither its word nor the job's phase has changed since, but for the count of
-    /// the session's commands. An edge that was never noted may be calm too.
+    /// Whether the edge was noted as calm, and neither the word that the desk knows of it nor the job's phase has changed since,
+    /// but for the count of the session's commands. An edge that was never noted may be calm too.
     pub fn is_calm(&self, edge: EdgeNo) -> bool
         requires { edge < length (edges self.now.plan) }
         ensures { IsTrue result → IsCalm self.now.plan (known self.now) self.now.job edge }

@@ -15,7 +15,8 @@ pub(crate) type Apart = [u64; 16];
 
 pub(crate) const APART: Apart = [0; 16];
 
-/// One job's seat, with what the job knows. Lists are by edge number of the plan, and hold something at the job's own edges alone.
+/// One job's seat, with what the job knows. Lists are by edge number of the plan; at edges that aren't the job's own they stay
+/// as at the opening.
 #[derive(Drop)]
 pub struct Desk<A: Allocator = Global> {
     /// The right to act as the job, and the history that it has seen.

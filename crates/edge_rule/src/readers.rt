@@ -46,7 +46,7 @@ impl<A: Allocator> Desk<A> {
         self.phase
     }
 
-    /// The word last seen on the edge.
+    /// The word last seen on the edge, or written by the job since.
     pub fn seen(&self, edge: EdgeNo) -> EdgeWord
         requires { edge < length (edges self.now.plan) }
         ensures word { result ≡ edge_at (known self.now) edge }

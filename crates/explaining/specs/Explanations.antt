@@ -19,7 +19,7 @@ use Rattle.explaining.specs.MoveTexts.{moves_text}
 
 -- ---- the texts
 
--- `line N: STEP is not legal: CAUSE`
+-- ``line N: `STEP` is not legal: CAUSE``
 unfoldable pub line_head : ℕ → List ℕ
 line_head line = codes "line " ++ decimal line ++ codes ": `"
 

@@ -40,7 +40,7 @@ fn add_line_head<A: Allocator>(out: &mut Vec<u8, A>, line: usize) -> Result<(), 
     out.extend_from_slice(b": `")
 }
 
-/// `line N: STEP is not legal: CAUSE`.
+/// ``line N: `STEP` is not legal: CAUSE``.
 #[tactic(auto, unfolding(crate::specs::Explanations::refusal_line))]
 fn add_refusal_line<A: Allocator, B: Allocator>(
     out: &mut Vec<u8, A>,

@@ -142,7 +142,7 @@ TellsRelease (LetGo r) told told' status = (status ≡ 0) × (told' ≡ turned_o
 TellsRelease (StillHeld r) told told' status = (status ≡ 8) × (told' ≡ turned_of r)
 TellsRelease NotHeld told told' status = (status ≡ 8) × (told' ≡ told)
 
--- the job did the commands that were left and let go (0); or it doesn't hold, and nothing changed (8)
+-- the job did the commands that were left and let go (0); or it still holds after as many turns as there may be, or it didn't hold and nothing changed (8)
 abbrev pub LetsGo : DeskView → DeskView → LabTurned → LabTurned → ℕ → Type 0
 LetsGo d e told told' status = (how : DeskRelease) × EndsSession d how e × TellsRelease how told told' status
 

@@ -39,7 +39,8 @@ use std::snapshot::Snapshot;
 /// It begins with [`start`](Self::start), [`opening`](Self::opening) or [`of_plan`](Self::of_plan), and goes
 /// on by one legal event at a time. So each of its states is reached from an opening without a cycle of
 /// precedence, and all that the laws of such states say is true of it. After its start it takes no memory,
-/// but for the room of the events that it [keeps](Self::keep) if it is told to.
+/// but for the room of the events that it [keeps](Self::keep) if it is told to, and for each session that
+/// is [added](Self::add_session).
 #[derive(Drop)]
 pub struct World<'a, A: Allocator = Global> {
     tables: Tables<'a, A>,

@@ -10,7 +10,8 @@ pub fn journals_follow()
     ensures { JournalsFollow }
 {}
 
-/// A journal comes back: it is read as the events that were taken, and a lab that is resumed from it stands where they lead.
+/// A journal comes back: it is read as the events that were taken, and a lab that is resumed from it stands where they lead, if
+/// no command is in hand there.
 pub fn journal_comes_back()
     ensures { JournalComesBack }
 {
@@ -18,7 +19,8 @@ pub fn journal_comes_back()
     one_meaning_with_steps();
 }
 
-/// So does each beginning of it that ends with a whole line: a lab that is resumed from it stands where the events up to there lead.
+/// So does each beginning of it that ends with a whole line: a lab that is resumed from it stands where the events up to there lead,
+/// if no command is in hand there.
 pub fn beginnings_come_back()
     ensures { BeginningsComeBack }
 {
@@ -26,7 +28,8 @@ pub fn beginnings_come_back()
     one_meaning_with_steps();
 }
 
-/// So does a journal with sessions that came: a lab that is resumed from it has all of them, and stands where the events lead.
+/// So does a journal with sessions that came: a lab that is resumed from it has all of them, and stands where the events lead,
+/// if no command is in hand there.
 pub fn sessions_come_back()
     ensures { SessionsComeBack }
 {

@@ -1,6 +1,7 @@
 //! A lab that keeps a journal: what it did is taken as text, and a lab comes back from all texts taken.
 //!
-//! A journal is the script, a line `steps`, and the texts, one after another. It is also an input of `labrun replay`.
+//! A journal is the script, a line `steps`, and the texts, one after another. It is also an input of `labrun replay`, which
+//! knows the script's sessions alone.
 #![tactic(auto)]
 
 mod in_hand;

@@ -14,7 +14,7 @@ is_digit b = nat_le 48 b && nat_le b 57
 abbrev pub is_name_byte : ℕ → Bool
 is_name_byte b = is_letter b || is_digit b || b == 45
 
--- the words that begin the other lines of a script are no names
+-- the words of the other lines of a script are no names
 unfoldable pub is_reserved : List ℕ → Bool
 is_reserved bytes = list_any (bytes_eq bytes) (codes "lab" ∷ codes "job" ∷ codes "session" ∷ codes "end" ∷ codes "steps" ∷ codes "patience" ∷ [])
 

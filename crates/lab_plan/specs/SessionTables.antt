@@ -1,4 +1,4 @@
--- What is kept of the sessions of each job, so that its readers count nothing again.
+-- What is kept of the sessions of each job, so that what a session needs and the places of its commands aren't counted again.
 use Rattle.std.specs.Prelude.{◌≡◌, ℕ, ◌-◌, ◌<◌, List, [], ◌∷◌, ◌++◌, length, take, map, slice_index_or}
 use Rattle.std.specs.List.{flat_map, range_with_len}
 use Rattle.lab_plan.specs.declared.verb.Verb.{Verb}

@@ -88,7 +88,7 @@ fn is_reserved(bytes: &[u8]) -> bool
 }
 
 /// Whether the bytes may name a job or an instrument: 1 to 16 bytes, a lowercase letter, then
-/// lowercase letters, digits and `-`, and none of the six words that begin the other lines of a
+/// lowercase letters, digits and `-`, and none of the six words of the other lines of a
 /// script (`lab`, `job`, `session`, `end`, `steps`, `patience`).
 pub fn is_name(bytes: &[u8]) -> bool
     ensures { result ≡ is_name bytes.now }

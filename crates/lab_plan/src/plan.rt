@@ -1,4 +1,4 @@
-//! A plan, kept with the tables of its edges and bottles.
+//! A plan, kept with the tables of its edges, bottles and sessions.
 ghost use Rattle.std.specs.Prelude.{◌≡◌, ℕ, ◌-◌, ◌^◌, ◌<◌, ◌≤◌, length, slice_index, slice_index_or};
 ghost use Rattle.std.specs.Prelude.{slice_get, All, Contains, IfSome, IfNone, is_ok, if◌then◌else◌, [], None};
 ghost use Rattle.std.specs.Int.{bit_at};

@@ -16,7 +16,8 @@ outcome_of false = Unfinished
 
 -- The run is a list of events, each legal after the ones before it from the initial state on;
 -- the text is its report; it is finished exactly if every job is retired after it; and the headline holds of it: logs are whole
--- except for their ends, values follow the dial, no two jobs hold one instrument, precedence has no cycle, and one meal at most is overtaken
+-- except for their ends, values follow the dial, no two jobs hold one instrument, precedence has no cycle, and whoever asked for a fork
+-- is overtaken by one meal at most
 pub record Reports (plan : LabPlan) (history : List Event) (text : List ℕ) (outcome : Outcome) : Type 0 where
   pub within_limits : IsPlan plan
   pub legal : IsLegalFrom plan (the_opening plan) history

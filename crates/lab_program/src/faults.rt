@@ -12,13 +12,13 @@ use thiserror::Error;
 /// How a run ended that wrote all that it had to.
 #[derive(Clone, Copy, PartialEq, Eq, Debug)]
 pub enum Outcome {
-    /// A run or a replay: every job is retired. A check or an upgrade: it is done.
+    /// A run or a replay: every job is retired. A check, an upgrade or a view: it is done.
     Finished,
-    /// A job isn't retired.
+    /// A run or a replay: a job isn't retired. A view: the trace is longer than a replay reads, or the script went out as it was.
     Unfinished,
 }
 
-/// Why a run fails. On standard error its text comes after `labrun: `.
+/// Why a run fails. On standard error its text comes after the program's name, a colon and a space.
 #[derive(Clone, Copy, PartialEq, Eq, Debug, Error)]
 pub enum RunFault {
     /// The script or its steps are refused.

@@ -26,7 +26,7 @@ pub record RunsByTurns (turns : ℕ) (input text : List ℕ) (outcome : Outcome)
   pub takes_turns : TakeTurns plan history turns (retired_after plan (the_opening plan) history)
 
 -- The same in rounds, each with one turn of each job, in ascending order. They ended because all jobs were retired, or after as many as were asked for,
--- if the last wasn't quiet: somebody did something in it, or the ends of an edge saw different words
+-- and the last wasn't quiet: somebody did something in it, or the ends of an edge saw different words
 pub record RunsInRounds (limit : ℕ) (input text : List ℕ) (outcome : Outcome) : Type 0 where
   pub by_turns : RunsByTurns limit input text outcome
   pub ended : Ended

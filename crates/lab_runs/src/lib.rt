@@ -1,5 +1,6 @@
 //! What `labrun` does, over any source and any sink: a script is read whole, and the output and the answer depend only on its
-//! bytes. A script is checked, upgraded, replayed from the initial state on, or run on a bench, by rounds or by threads.
+//! bytes, and by threads on the schedule too. A script is checked, upgraded, replayed from the initial state on, or run on a bench, by
+//! rounds or by threads.
 #![tactic(auto)]
 
 mod counts;

@@ -16,7 +16,7 @@ use std::thread::Threads;
 use whole_runs::NoGate;
 
 /// Runs the task that the words of a command line ask for, the program's own name first, and threads by `threads`. Help, a
-/// fault and words that are refused are reported by `rt`. Without such words nothing is read.
+/// fault and words that are refused are reported by `rt`. If the words ask for no task, nothing is read.
 pub fn run_words<X: Threads + Wait + Sync, T: Print + Eprint, S: AsStr, R: Source, W: Sink>(
     threads: &X,
     rt: &T,

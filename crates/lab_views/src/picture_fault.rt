@@ -1,4 +1,4 @@
-//! Why no picture is drawn.
+//! Why no picture or table of a report is written.
 ghost use Rattle.std.specs.Prelude.{◌≡◌};
 ghost use Rattle.lab_views.specs.Pictures.{status_of_picture, for_report, for_timeline, for_reading};
 
@@ -7,7 +7,7 @@ use report_reader::{ReportCause, ReportFault};
 use thiserror::Error;
 use timeline::TimelineFault;
 
-/// Why no picture is drawn. On standard error its text stands behind `labview: `.
+/// Why no picture or table of a report is written. On standard error its text stands behind `labview: `.
 #[derive(Clone, Copy, PartialEq, Eq, Debug, Error)]
 pub enum PictureFault {
     /// The input is no report.

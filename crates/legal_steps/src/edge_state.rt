@@ -28,7 +28,8 @@ impl EdgeState {
     ghost use Rattle.legal_steps.specs.Legal.{fork_mark_seen};
 
     /// Whether a look from this end, of a job that dines so, sets the mark for the fork: if the fork is
-    /// here and its neighbour has no claim to it, or if it is here and dirty while the job eats.
+    /// here, and dirty while the job eats; while it doesn't eat, clean or without its request token, so that
+    /// its neighbour has no claim to it.
     #[tactic(auto, unfolding(crate::specs::Legal::fork_mark_seen))]
     pub fn fork_mark(self, here: End, dining: Dining) -> bool
         ensures { result ≡ fork_mark_seen dining here self }

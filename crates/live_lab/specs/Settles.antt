@@ -95,5 +95,5 @@ pub record Settles (waiting : ℕ) (old : LabView) (came : Came) (new : LabView)
   pub none_left : AreJobs new.world.plan came.none_left (λ j. Has waiting j × IsThrough new.world.plan new.world.state j)
   -- nothing is left to do, and each that waits has a reason
   pub at_rest : IsAtRest new.world
-  -- of each job that waits a turn was counted
+  -- a turn was counted of each job that is waited for, or that was thirsty at the start
   pub counted : AreCounted waiting old new

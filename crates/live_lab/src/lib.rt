@@ -2,7 +2,7 @@
 //!
 //! A job is driven by single turns, or all jobs together by settles: a settle does all that can be done without a word from an owner. A call
 //! that names a job that isn't there changes nothing and answers `None`. But for what is handed out, memory is taken by the first call alone, and by one
-//! that adds a session.
+//! that adds a session or makes room to keep events.
 #![tactic(auto)]
 
 mod additions;

@@ -46,7 +46,7 @@ pub fn taken_is_longer()
     ensures { TakenIsLonger }
 {}
 
-/// The room of each log grows by the session's commands on its instrument, and no other.
+/// The room of each log grows by the session's commands on its instrument, and by nothing else.
 pub fn needs_more_room()
     ensures { NeedsMoreRoom }
 {}

@@ -25,7 +25,8 @@ fn takes_less(a: Measure, b: Measure) -> bool
     a.rounds < b.rounds
 }
 
-/// Whether the first is better: it ended and the other didn't, or it took fewer rounds, or as many with less waiting.
+/// Whether the first is better: it ended and the other didn't; or both did, or neither, and it took fewer rounds, or as many with less
+/// waiting.
 pub fn is_better(a: Measure, b: Measure) -> bool
     ensures { result ≡ is_better a b }
 {

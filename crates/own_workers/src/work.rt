@@ -11,8 +11,8 @@ use lab_plan::JobNo;
 use std::alloc::Allocator;
 use std::sync::Wait;
 
-/// More than any of these waits takes if threads run side by side; a thread that has used them up gives up, so the program ends. A
-/// sleeping thread takes some hundred a second.
+/// More than any of these waits takes if threads run side by side; a thread that has used them up waits no longer, so the program ends. A
+/// sleeping thread takes some four hundred a second.
 const TURNS: u32 = 50_000;
 
 fn sessions_of(job: JobNo) -> u32 {

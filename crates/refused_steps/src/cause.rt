@@ -2,7 +2,8 @@
 use lab_plan::EdgeNo;
 
 /// Why an event isn't legal in a state: the part of its guard that fails. "Here" is the acting job's
-/// end of the edge, "there" the other. A bottle is named by its number on the event's edge, from 0.
+/// end of the edge, "there" the other. A bottle is named by its number, from 0, on the event's edge or on the edge
+/// that stands beside it.
 #[derive(Clone, Copy, PartialEq, Eq, Debug)]
 pub enum Cause {
     /// The plan has no such job.

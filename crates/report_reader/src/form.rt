@@ -2,7 +2,6 @@
 ghost use Rattle.std.specs.Prelude.{◌≡◌, ◌<◌, ◌==◌, length, map, MatchOption, IfSome, None, Some};
 ghost use Rattle.std.specs.List.{position};
 ghost use Rattle.std.specs.Option.{option_map};
-ghost use Rattle.std.specs.Str.{bytes_eq};
 ghost use Rattle.report_reader.specs.Line.{Line};
 ghost use Rattle.report_reader.specs.Read.{last_of, header_of, instrument_of, part_of, verb_of, read_of, entry_of, done_of};
 ghost use Rattle.report_reader.specs.Read.{withdrawn_of, state_of, meals_of, job_of, head_of, middle_of, tail_of, short_line, line_of};
@@ -12,22 +11,15 @@ use crate::lines::{EntryLine, Form, JobLine};
 use crate::number::number_of;
 use bstr::ByteSlice;
 use lab_plan::Verb;
-use lab_plan::name::is_name;
-
-/// Whether a word of a line is this one.
-fn is_word(word: &[u8], other: &[u8]) -> bool
-    ensures { result ≡ bytes_eq word.now other.now }
-{
-    word == other
-}
+use lab_plan::name::{is_name, is_same_name};
 
 #[tactic(auto, unfolding(crate::specs::Read::last_of))]
 fn last_of(word: &[u8]) -> Option<Form>
     ensures { MatchOption result (last_of word.now ≡ None) (λ form. last_of word.now ≡ Some (line_text form)) }
 {
-    if is_word(word, b"finished") {
+    if is_same_name(word, b"finished") {
         Some(Form::Last(true))
-    } else if is_word(word, b"unfinished") {
+    } else if is_same_name(word, b"unfinished") {
         Some(Form::Last(false))
     } else {
         None
@@ -38,12 +30,12 @@ fn last_of(word: &[u8]) -> Option<Form>
 fn header_of<'a>(word: &[u8], version: &'a [u8]) -> Option<Form<'a>>
     ensures { MatchOption result (header_of word.now version.now ≡ None) (λ form. header_of word.now version.now ≡ Some (line_text form)) }
 {
-    if !is_word(word, b"lab") {
+    if !is_same_name(word, b"lab") {
         return None;
     }
-    if is_word(version, b"1") {
+    if is_same_name(version, b"1") {
         Some(Form::Header(1))
-    } else if is_word(version, b"2") {
+    } else if is_same_name(version, b"2") {
         Some(Form::Header(2))
     } else {
         None
@@ -55,7 +47,7 @@ fn instrument_of<'a>(word: &[u8], name: &'a [u8], entries: &[u8]) -> Option<Form
     ensures { MatchOption result (instrument_of word.now name.now entries.now ≡ None)
         (λ form. instrument_of word.now name.now entries.now ≡ Some (line_text form)) }
 {
-    if !is_word(word, b"instrument") || !is_name(name) {
+    if !is_same_name(word, b"instrument") || !is_name(name) {
         return None;
     }
     let entries = number_of(entries)?;
@@ -86,11 +78,11 @@ fn part_of(word: &[u8]) -> Option<(u32, u32)>
 fn verb_of(word: &[u8], number: &[u8]) -> Option<Verb>
     ensures { result ≡ verb_of word.now number.now }
 {
-    if is_word(word, b"set") {
+    if is_same_name(word, b"set") {
         let number = number_of(number)?;
         return Some(Verb::Set(number));
     }
-    if is_word(word, b"add") {
+    if is_same_name(word, b"add") {
         let number = number_of(number)?;
         return Some(Verb::Add(number));
     }
@@ -102,7 +94,7 @@ fn verb_of(word: &[u8], number: &[u8]) -> Option<Verb>
 fn read_of(word: &[u8]) -> Option<Verb>
     ensures { result ≡ read_of word.now }
 {
-    if is_word(word, b"read") {
+    if is_same_name(word, b"read") {
         Some(Verb::Read)
     } else {
         None
@@ -121,7 +113,7 @@ fn entry_of<'a>(
     ensures { MatchOption result (entry_of job.now session.now part.now verb is.now value.now ≡ None)
         (λ form. entry_of job.now session.now part.now verb is.now value.now ≡ Some (line_text form)) }
 {
-    if !is_name(job) || !is_word(is, b"=") {
+    if !is_name(job) || !is_same_name(is, b"=") {
         return None;
     }
     let verb = verb?;
@@ -150,10 +142,10 @@ fn done_of<'a>(
 ) -> Option<(&'a [u8], u32, u32)>
     ensures { option_map head_text result ≡ done_of job.now name.now word.now done.now of_word.now sessions.now }
 {
-    if !is_word(job, b"job") || !is_name(name) {
+    if !is_same_name(job, b"job") || !is_name(name) {
         return None;
     }
-    if !is_word(word, b"sessions") || !is_word(of_word, b"of") {
+    if !is_same_name(word, b"sessions") || !is_same_name(of_word, b"of") {
         return None;
     }
     let done = number_of(done)?;
@@ -166,7 +158,7 @@ fn done_of<'a>(
 fn withdrawn_of(word: &[u8], number: &[u8]) -> Option<Option<u32>>
     ensures { result ≡ withdrawn_of word.now number.now }
 {
-    if !is_word(word, b"withdrawn") {
+    if !is_same_name(word, b"withdrawn") {
         return None;
     }
     let withdrawn = number_of(number)?;
@@ -178,9 +170,9 @@ fn withdrawn_of(word: &[u8], number: &[u8]) -> Option<Option<u32>>
 fn state_of(word: &[u8]) -> Option<bool>
     ensures { result ≡ state_of word.now }
 {
-    if is_word(word, b"retired") {
+    if is_same_name(word, b"retired") {
         Some(true)
-    } else if is_word(word, b"waiting") {
+    } else if is_same_name(word, b"waiting") {
         Some(false)
     } else {
         None
@@ -192,7 +184,7 @@ fn state_of(word: &[u8]) -> Option<bool>
 fn meals_of(word: &[u8], number: &[u8], state: &[u8]) -> Option<(u32, bool)>
     ensures { result ≡ meals_of word.now number.now state.now }
 {
-    if !is_word(word, b"meals") {
+    if !is_same_name(word, b"meals") {
         return None;
     }
     let meals = number_of(number)?;

@@ -7,7 +7,7 @@ use Rattle.rounds.specs.declared.ended.Ended.{Ended}
 use Rattle.rounds.specs.declared.ended.Ended.TheVariants.{Quiet}
 use Rattle.rounds.specs.Rounds.{Drove}
 
--- No rounds of desks that rest end because one is quiet. A desk's type keeps that it rests: so while a job isn't retired, `rounds` never answers Quiet, and no
+-- No rounds of desks that rest end because one is quiet. A desk's type keeps that it rests: so `rounds` never answers Quiet, and no
 -- bench is closed after it did
 abbrev pub NeverQuietFromRest : Type 0
 NeverQuietFromRest = (b : BenchView) (limit : ℕ) (old : List DeskView) (ended : Ended) (n : ℕ) (new : List DeskView)

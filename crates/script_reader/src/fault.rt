@@ -10,7 +10,7 @@ pub enum ScriptCause {
     /// The first line that isn't skipped isn't `lab 1` or `lab 2`, or there is none.
     #[error("S1 no lab header")]
     NoHeader,
-    /// The line has no form of a script's lines.
+    /// The line has no form that may stand there: so has a second header, a patience in version 1, or `steps` where no steps are read.
     #[error("S2 unknown word")]
     UnknownWord,
     /// A name breaks the rule of names.
@@ -25,10 +25,10 @@ pub enum ScriptCause {
     /// A command or `end` while no session is open.
     #[error("S6 not in a session")]
     NotInSession,
-    /// A session before the first job.
+    /// A session before the first job; in a journal, a session that came to a job that the script doesn't have.
     #[error("S7 not in a job")]
     NotInJob,
-    /// The end of a session without a command.
+    /// The end of a session without a command; or further sessions are read, and the text has none.
     #[error("S8 empty session")]
     EmptySession,
     /// A job, a session, the steps or the end of the text while a session is open.

@@ -1,6 +1,5 @@
 //! The fields of a line, which spaces and tabs separate.
 ghost use Rattle.std.specs.Prelude.{◌≡◌, ◌≢◌, ◌<◌, ◌↔◌, [], ◌∷◌, length, IfSome, IsTrue, MatchOption};
-ghost use Rattle.std.specs.Str.{bytes_eq};
 ghost use Rattle.script_reader.specs.Fields.{fields};
 
 use bstr::ByteSlice;
@@ -50,11 +49,4 @@ pub(crate) fn is_blank(line: &[u8]) -> bool
     ensures { IsTrue result ↔ (fields line.now ≡ []) }
 {
     next_field(line).is_none()
-}
-
-/// Whether a field is this word.
-pub(crate) fn is_word(field: &[u8], word: &[u8]) -> bool
-    ensures { result ≡ bytes_eq field.now word.now }
-{
-    field == word
 }

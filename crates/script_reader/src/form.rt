@@ -4,7 +4,8 @@ ghost use Rattle.script_reader.specs.Fields.{fields};
 ghost use Rattle.script_reader.specs.Line.{lab_line, job_line, session_line, alone, command_line, line_with, form_of, Unknown, Steps, End};
 ghost use Rattle.script_reader.specs.Form.{line_of};
 
-use crate::field::{is_blank, is_word, next_field, one_field};
+use crate::field::{is_blank, next_field, one_field};
+use lab_plan::is_same_name;
 
 /// The version of a script.
 #[derive(Clone, Copy)]
@@ -54,9 +55,9 @@ fn lab_line(rest: &[u8]) -> Form
     match one_field(rest) {
         None => Form::Unknown,
         Some(version) => {
-            if is_word(version, b"1") {
+            if is_same_name(version, b"1") {
                 Form::Header(Version::One)
-            } else if is_word(version, b"2") {
+            } else if is_same_name(version, b"2") {
                 Form::Header(Version::Two)
             } else {
                 Form::Unknown
@@ -81,7 +82,7 @@ fn session_line(rest: &[u8]) -> Form
         return Form::Session;
     };
     match one_field(rest) {
-        Some(number) if is_word(word, b"patience") => Form::PatientSession(number),
+        Some(number) if is_same_name(word, b"patience") => Form::PatientSession(number),
         _ => Form::Unknown,
     }
 }
@@ -113,7 +114,7 @@ fn command_line<'a>(name: &'a [u8], rest: &'a [u8]) -> Form<'a>
         return Form::Unknown;
     };
     let Some((number, rest)) = next_field(rest) else {
-        return if is_word(verb, b"read") {
+        return if is_same_name(verb, b"read") {
             Form::Command(name, VerbField::Read)
         } else {
             Form::Unknown
@@ -122,10 +123,10 @@ fn command_line<'a>(name: &'a [u8], rest: &'a [u8]) -> Form<'a>
     if !is_blank(rest) {
         return Form::Unknown;
     }
-    if is_word(verb, b"set") {
+    if is_same_name(verb, b"set") {
         return Form::Command(name, VerbField::Set(number));
     }
-    if is_word(verb, b"add") {
+    if is_same_name(verb, b"add") {
         return Form::Command(name, VerbField::Add(number));
     }
     Form::Unknown
@@ -136,22 +137,22 @@ fn command_line<'a>(name: &'a [u8], rest: &'a [u8]) -> Form<'a>
 fn line_with<'a>(first: &'a [u8], rest: &'a [u8]) -> Form<'a>
     ensures { line_of result ≡ line_with first.now (fields rest.now) }
 {
-    if is_word(first, b"lab") {
+    if is_same_name(first, b"lab") {
         return lab_line(rest);
     }
-    if is_word(first, b"job") {
+    if is_same_name(first, b"job") {
         return job_line(rest);
     }
-    if is_word(first, b"session") {
+    if is_same_name(first, b"session") {
         return session_line(rest);
     }
-    if is_word(first, b"end") {
+    if is_same_name(first, b"end") {
         return end_line(rest);
     }
-    if is_word(first, b"steps") {
+    if is_same_name(first, b"steps") {
         return steps_line(rest);
     }
-    if is_word(first, b"patience") {
+    if is_same_name(first, b"patience") {
         return Form::Unknown;
     }
     command_line(first, rest)

@@ -7,7 +7,8 @@ use bstr::ByteSlice;
 use lab_plan::Plan;
 use std::alloc::Allocator;
 
-/// The most bytes of a text that any program or call here reads (docs/FORMATS.md). Longer texts are refused by whoever reads them.
+/// The most bytes of an input of the programs, and of a script for which a bench is opened (docs/FORMATS.md). Whoever takes these refuses
+/// longer ones.
 pub const MOST_BYTES: usize = 16_777_216;
 
 /// Reads the text of a script, of version 1 or 2.

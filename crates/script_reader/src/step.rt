@@ -7,7 +7,7 @@ ghost use Rattle.script_reader.specs.Steps.{job_named, edge_between, edge_named,
 ghost use Rattle.script_reader.specs.Steps.{job_step, edge_step, bottle_step, glance_step, or_else, step_with, step_in};
 
 use crate::bottles::bottle_set;
-use crate::field::{is_blank, is_word, next_field};
+use crate::field::{is_blank, next_field};
 use lab_plan::{EdgeNo, JobNo, Plan, is_same_name};
 use legal_steps::Step;
 use std::alloc::Allocator;
@@ -54,34 +54,34 @@ fn edge_named<A: Allocator>(plan: &Plan<A>, name: &[u8], other: &[u8]) -> Option
 fn job_event(word: &[u8], job: JobNo) -> Option<Step>
     ensures { result ≡ job_event word.now job }
 {
-    if is_word(word, b"thirst") {
+    if is_same_name(word, b"thirst") {
         return Some(Step::Thirst(job));
     }
-    if is_word(word, b"hunger") {
+    if is_same_name(word, b"hunger") {
         return Some(Step::Hunger(job));
     }
-    if is_word(word, b"sit") {
+    if is_same_name(word, b"sit") {
         return Some(Step::Sit(job));
     }
-    if is_word(word, b"leave") {
+    if is_same_name(word, b"leave") {
         return Some(Step::Leave(job));
     }
-    if is_word(word, b"drink") {
+    if is_same_name(word, b"drink") {
         return Some(Step::Drink(job));
     }
-    if is_word(word, b"reach") {
+    if is_same_name(word, b"reach") {
         return Some(Step::Reach(job));
     }
-    if is_word(word, b"act") {
+    if is_same_name(word, b"act") {
         return Some(Step::Act(job));
     }
-    if is_word(word, b"quit") {
+    if is_same_name(word, b"quit") {
         return Some(Step::Quit(job));
     }
-    if is_word(word, b"retire") {
+    if is_same_name(word, b"retire") {
         return Some(Step::Retire(job));
     }
-    if is_word(word, b"withdraw") {
+    if is_same_name(word, b"withdraw") {
         return Some(Step::Withdraw(job));
     }
     None
@@ -92,16 +92,16 @@ fn job_event(word: &[u8], job: JobNo) -> Option<Step>
 fn edge_event(word: &[u8], job: JobNo, edge: EdgeNo) -> Option<Step>
     ensures { result ≡ edge_event word.now job edge }
 {
-    if is_word(word, b"look") {
+    if is_same_name(word, b"look") {
         return Some(Step::Look(job, edge));
     }
-    if is_word(word, b"askfork") {
+    if is_same_name(word, b"askfork") {
         return Some(Step::AskFork(job, edge));
     }
-    if is_word(word, b"givefork") {
+    if is_same_name(word, b"givefork") {
         return Some(Step::GiveFork(job, edge));
     }
-    if is_word(word, b"soil") {
+    if is_same_name(word, b"soil") {
         return Some(Step::Soil(job, edge));
     }
     None
@@ -112,10 +112,10 @@ fn edge_event(word: &[u8], job: JobNo, edge: EdgeNo) -> Option<Step>
 fn bottle_event(word: &[u8], job: JobNo, edge: EdgeNo, set: u32) -> Option<Step>
     ensures { result ≡ bottle_event word.now job edge set }
 {
-    if is_word(word, b"askbottles") {
+    if is_same_name(word, b"askbottles") {
         return Some(Step::AskBottles(job, edge, set));
     }
-    if is_word(word, b"givebottles") {
+    if is_same_name(word, b"givebottles") {
         return Some(Step::GiveBottles(job, edge, set));
     }
     None
@@ -145,7 +145,7 @@ fn pair_step<A: Allocator>(plan: &Plan<A>, word: &[u8], name: &[u8], other: &[u8
 {
     let job = job_named(plan, name)?;
     let other = job_named(plan, other)?;
-    if is_word(word, b"glance") {
+    if is_same_name(word, b"glance") {
         return glance(job, other);
     }
     let edge = edge_between(plan, job, other)?;

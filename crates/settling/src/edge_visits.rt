@@ -16,7 +16,7 @@ use lab_plan::{EdgeNo, JobNo};
 use legal_steps::{End, Event};
 use std::alloc::Allocator;
 
-/// Looks at the edge. A look that would change no mark leads to the same world, so it isn't done then.
+/// Looks at the edge. A look that would change no mark leads to the same state, so it isn't done then.
 fn look<A: Allocator>(world: &mut World<A>, job: JobNo, edge: EdgeNo)
     requires { IsOwn world.old.plan job edge }
     ensures { LeadsTo world.old (Look job edge (edge_at world.old.state edge) ∷ []) world.new }

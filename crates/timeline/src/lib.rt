@@ -1,4 +1,4 @@
-//! A timeline of a report: each session has columns of its own, the same in every log, and stands right of
+//! A timeline of a report: each session has columns, the same in every log, and stands right of
 //! each session that any log has before it, and of each earlier session of its job.
 #![tactic(auto)]
 

@@ -170,7 +170,7 @@ fn pass_all<A: Allocator>(rows: &mut [Row<A>], slot: usize, end: u32) {
     }
 }
 
-/// Places the session of a part, if it is next in each log that has it.
+/// Places the session of a part, if it is next in each log that has it and among its job's own.
 fn place_part<A: Allocator>(
     rows: &mut [Row<A>],
     counts: &[u32],

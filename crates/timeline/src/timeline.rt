@@ -70,7 +70,7 @@ fn slow_timeline_of<A: Allocator + Copy>(
 }
 
 /// The timeline of a report. Takes time in proportion to the report's entries times its jobs, at most 32, and memory
-/// in proportion to its entries.
+/// in proportion to its entries, beside a fixed part for all sessions that a lab may have.
 pub fn timeline_of<A: Allocator + Copy>(
     alloc: A,
     report: &Report<'_, A>,

@@ -1,5 +1,5 @@
 //! Definitions and laws alone: what an event reads and changes, and what a job knows: its own seat, and each of its edges as it saw it
-//! last (`locality`). What a job does in one turn, by its own events: which moves are due on an edge, which phase act is due, and turns one
+//! last or changed it since (`locality`). What a job does in one turn, by its own events: which moves are due on an edge, which phase act is due, and turns one
 //! after another. Each law is the contract of a function that does nothing.
 #![tactic(auto)]
 

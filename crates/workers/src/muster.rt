@@ -85,8 +85,8 @@ impl Muster {
 
     /// What an idle team does before its next round: it yields or sleeps. Answers no if it is to stop instead.
     ///
-    /// While a team hasn't begun, what this one waits for can't come from there, so it takes no turn before the bell rings. A team that
-    /// never begins has no thread of its own: it runs on the thread of another, once that has stopped. A thread that starts late looks
+    /// While a team hasn't begun, what this one waits for can't come from there, so it looks once more, and then takes no turn before the
+    /// bell rings. A team that never begins has no thread of its own: it runs on the thread of another, once that has stopped. A thread that starts late looks
     /// the same, so the wait is long, as the time of threads goes. It counts only while all others wait as well, because any team that
     /// does something rings.
     pub(crate) fn goes_on<R: Wait>(&self, rt: &R, listener: &mut Listener<'_>) -> bool {
