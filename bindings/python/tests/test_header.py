@@ -23,6 +23,22 @@ STRUCTURES = {
 }
 # The handle of a desk, which neither package has.
 IN_NO_PACKAGE = {"desk"}
+# Each status by its name in the header, with what the packages call it if they call it otherwise.
+STATUSES = {
+    "REFUSED": "REFUSED",
+    "NOT_THERE": "NO_SUCH",
+    "UNFINISHED": "WAITS",
+    "TOO_LONG": "TOO_LONG",
+    "NO_MEMORY": "NO_MEMORY",
+    "NO_ROOM": "NO_ROOM",
+    "NOT_OPEN": "NOT_OPEN",
+    "NOT_YET": "NOT_NOW",
+    "NO_SESSION": "NO_SESSION",
+    "SESSIONS_LEFT": "SESSIONS_LEFT",
+    "IN_USE": "IN_USE",
+    "JOURNAL_FULL": "JOURNAL_FULL",
+    "RETIRED": "RETIRED",
+}
 IN_PYTHON = {"uint32_t": ctypes.c_uint32, "uint64_t": ctypes.c_uint64, "size_t": ctypes.c_size_t, "void *": ctypes.c_void_p}
 IN_RUST = {"uint32_t": "u32", "uint64_t": "u64", "size_t": "usize", "void *": "*mut c_void"}
 
@@ -63,6 +79,15 @@ class Header(unittest.TestCase):
             assert found, called
             fields = re.findall(r"pub (\w+): ([^,]+),", found[1])
             self.assertEqual(fields, [(field, IN_RUST[kind]) for field, kind in fields_of(name)], name)
+
+    def test_statuses(self) -> None:
+        """Each number of the header is that of the packages. (Done is 0; busy is no package's, since each holds a mutex.)"""
+        numbers = {name: int(it) for name, it in re.findall(r"#define LAB_(\w+) (\d+)u\b", text_of("include/labrun.h"))}
+        self.assertEqual(set(STATUSES) | {"DONE", "BUSY", "UPGRADED"}, set(numbers))
+        in_rust = {name: int(it) for name, it in re.findall(r"(?m)^const (\w+): u32 = (\d+);", text_of("bindings/rust/src/lib.rs"))}
+        for name, called in STATUSES.items():
+            self.assertEqual(getattr(_library, called), numbers[name], name)
+            self.assertEqual(in_rust.get("IS_RETIRED" if called == "RETIRED" else called, numbers[name]), numbers[name], name)
 
     def test_calls(self) -> None:
         """Each call is in the header, with as many arguments."""
