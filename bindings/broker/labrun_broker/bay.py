@@ -14,7 +14,7 @@
     may_use = ["scope", "supply"]       # without this line: all
 
     [limits]                            # (each as it is without a line)
-    clients = 200                       # streams at once
+    clients = 200                       # streams at once, idle ones too
     requests = 2000                     # messages a second in a stream
     name = 64                           # characters of `--by` and of a ticket, which has 43
     note = 500"""

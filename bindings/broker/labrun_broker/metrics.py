@@ -38,7 +38,7 @@ class Metrics:
         self._sessions = Counter("labrun_sessions", "Sessions that are over, by how they ended", ["station", "end"], registry=of)
         self._waits = Histogram("labrun_wait_seconds", "How long sessions waited until they held", ["instrument"], buckets=BUCKETS, registry=of)
         self._pages = Counter("labrun_pages", "Pages that were turned", registry=of)
-        self._refusals = Counter("labrun_refusals", "Requests that were refused", registry=of)
+        self._refusals = Counter("labrun_refusals", "Wishes that were refused: a wrong name, an instrument that the client may not use, a ticket that no session has", registry=of)
         self._refused = 0
         of.register(Now(keeping))
 
