@@ -29,8 +29,6 @@ mod pairs;
 #[cfg(test)]
 mod rows;
 #[cfg(test)]
-mod runs;
-#[cfg(test)]
 mod seats;
 #[cfg(test)]
 mod sleepers;

@@ -4,7 +4,7 @@ ghost use Rattle.turns.specs.Lists.{Each};
 ghost use Rattle.edge_rule.specs.DeskView.{Owns};
 
 use crate::gates::{ALL_MEET, FORTIETH, Meeting, THREE_FIRST, TWO_MEET};
-use crate::labs::{FOUR, NOBODY, RING, TWICE, TWO, closed, opened, plan_of, star_script};
+use crate::labs::{FOUR, TWO, closed, opened, plan_of, star_script};
 use crate::rows::check;
 use crate::words::{CLEAN_B_ASKED_BOTTLE_B_ASKED, DRINKS_HUNGRY, THIRSTY_HUNGRY};
 use counting_gate::CountingGate;
@@ -42,29 +42,6 @@ pub(crate) fn driven<R: Threads + Wait + Abort + Sync, A: Allocator + Copy + Sen
     (desks, ended)
 }
 
-/// Calls `threads` until all jobs are retired: in each call every desk gets its turns, whatever the schedule.
-fn until_retired<R: Threads + Wait + Abort + Sync>(
-    rt: &R,
-    alloc: Global,
-    bench: &Bench,
-    desks: Vec<Desk>,
-    workers: u32,
-) -> Vec<Desk>
-    requires { Each (Owns bench.now) desks.items }
-    ensures { Each (Owns bench.now) result.items }
-{
-    let mut desks = desks;
-    for _ in 0..1000 {
-        let (back, ended) = driven(rt, alloc, bench, desks, workers, 1000, &NoGate);
-        desks = back;
-        if ended == Ended::AllRetired {
-            return desks;
-        }
-        check(rt, 1, ended, Ended::Limit);
-    }
-    panic!(rt; "jobs that never retire");
-}
-
 /// Each command of the log added 1.
 fn counts_up<T: Allocator>(rt: &impl Abort, log: &InstrumentLog<T>) {
     for place in 0..log.len() {
@@ -87,30 +64,6 @@ pub(crate) fn are_full<T: Allocator>(rt: &impl Abort, left: &Closed<T>) {
     for number in 0..plan.instruments() {
         let log = left.log(InstrumentNo(number as u8));
         assert!(rt; log.len() == log.room() && log.unfinished() == 0);
-    }
-}
-
-/// A run by this many workers to the end.
-fn runs_by<R: Threads + Wait + Abort + Sync>(rt: &R, alloc: Global, plan: &Plan, workers: u32) {
-    let (bench, desks) = opened(rt, alloc, plan);
-    let desks = until_retired(rt, alloc, &bench, desks, workers);
-    let left = closed(rt, alloc, bench, desks);
-    ended_all(rt, &left);
-    are_full(rt, &left);
-    all_count_up(rt, &left);
-}
-
-fn runs_by_each<R: Threads + Wait + Abort + Sync>(rt: &R, alloc: Global, script: &str) {
-    let plan = plan_of(rt, alloc, script);
-    for workers in [1, 2, 3, 7, 32] {
-        runs_by(rt, alloc, &plan, workers);
-    }
-}
-
-#[test]
-fn workers_run_to_the_end(rt: HostRuntime) {
-    for script in [NOBODY, TWO, TWICE, RING, FOUR] {
-        runs_by_each(&rt, rt.alloc(), script);
     }
 }
 
@@ -199,20 +152,6 @@ fn both_begin<R: Threads + Wait + Abort + Sync>(rt: &R, alloc: Global, plan: &Pl
 fn two_workers_meet(rt: HostRuntime) {
     let plan = plan_of(&rt, rt.alloc(), TWO);
     both_begin(&rt, rt.alloc(), &plan);
-}
-
-fn ends_early<R: Threads + Wait + Abort + Sync>(rt: &R, alloc: Global, plan: &Plan) {
-    let (bench, desks) = opened(rt, alloc, plan);
-    let (desks, ended) = driven(rt, alloc, &bench, desks, 1, 10000, &NoGate);
-    check(rt, 1, ended, Ended::AllRetired);
-    turns_are(rt, desks.as_slice(), 9);
-}
-
-/// The rounds of one worker are those of one thread: both jobs are retired after the ninth.
-#[test]
-fn worker_ends_early(rt: HostRuntime) {
-    let plan = plan_of(&rt, rt.alloc(), TWO);
-    ends_early(&rt, rt.alloc(), &plan);
 }
 
 /// A team at work on turns that pass no gate.
