@@ -11,14 +11,15 @@ def as_bytes(text):
 @dataclasses.dataclass(frozen=True)
 class Case:
     """`words` stand behind the program's name, and are cut at spaces if they are one text. Texts may be given as str or bytes. `out` may be
-    a function instead: it gets standard output, and gives what is wrong with it, or None."""
+    a function instead: it gets standard output, and gives what is wrong with it, or None. So may `status`: it gets standard output, and
+    gives the status that goes with it."""
 
     name: str
     words: list[str]
     given: bytes = b""
     out: bytes | Callable[[bytes], str | None] = b""
     err: bytes = b""
-    status: int = 0
+    status: int | Callable[[bytes], int] = 0
 
     def __post_init__(self):
         put = lambda field, value: object.__setattr__(self, field, value)

@@ -1,4 +1,4 @@
-//! Tests of whole runs by their bytes, and of words, faults and statuses.
+//! Tests of whole runs, of words and of faults, so far as no run of the built program shows them.
 #![tactic(auto)]
 
 #[cfg(test)]

@@ -1,4 +1,4 @@
-//! Whole command lines of both programs: what goes out, what is printed on standard error, and the status.
+//! Whole command lines of `labview`: what goes out, what is printed on standard error, and the status.
 use crate::measured::{GIVES_UP, PATIENT};
 use command_line::{NoTask, end_saying_why, end_without_task};
 use lab_program::{FromRead, Outcome};
@@ -9,8 +9,6 @@ use std::cell::RefCell;
 use std::fmt::Display;
 use std::io;
 use std::process::{Abort, ExitCode};
-use std::sync::Wait;
-use std::thread::Threads;
 
 /// A runtime that keeps what is printed: on standard output, and on standard error.
 #[derive(Drop)]
@@ -78,15 +76,6 @@ finished
 /// What a command line sends to its sink, prints, and prints on standard error; and its status.
 type Told = (Vec<u8>, MemoryPrinter, ExitCode);
 
-fn labrun<R: Threads + Wait + Sync>(rt: &R, alloc: Global, words: &[&str], input: &str) -> Told {
-    let kept = MemoryPrinter::new(alloc);
-    let mut bytes = Vec::new(alloc);
-    let mut source = FromRead::new(input.as_bytes());
-    let mut sink = ToWrite::new(&mut bytes);
-    let status = lab_runs::run_words(rt, &kept, alloc, words, &mut source, &mut sink);
-    (bytes, kept, status)
-}
-
 fn labview(alloc: Global, words: &[&str], input: &str) -> Told {
     let kept = MemoryPrinter::new(alloc);
     let mut bytes = Vec::new(alloc);
@@ -116,30 +105,6 @@ type Line = (
 );
 
 const REFUSED: &str = "labrun: command line refused\n";
-
-const COUNTS: &str = "ok jobs 2 instruments 1 edges 1 sessions 2 commands 2\n";
-
-const WAITING: &str =
-    "lab 1\ninstrument scale 0\njob a sessions 0 of 1 meals 0 waiting\njob b sessions 0 of 1 meals 0 waiting\nunfinished\n";
-
-const NO_HEADER: &str = "labrun: line 1: S1 no lab header\n";
-
-const OF_LABRUN: [Line; 6] = [
-    (&[], SCRIPT, REPORT, "", 0),
-    (&["labrun", "rounds", "9"], SCRIPT, REPORT, "", 0),
-    (&["labrun", "threads", "2", "0"], SCRIPT, WAITING, "", 3),
-    (&["labrun", "check"], SCRIPT, COUNTS, "", 0),
-    (&["labrun", "upgrade"], "", "", NO_HEADER, 1),
-    (&["labrun", "walk"], SCRIPT, "", REFUSED, 2),
-];
-
-#[test]
-fn command_lines_of_labrun(rt: HostRuntime) {
-    for (words, input, out, errors, status) in &OF_LABRUN {
-        let told = labrun(&rt, rt.alloc(), words, input);
-        ends(&rt, told, out, errors, *status);
-    }
-}
 
 const OF_LABVIEW: [Line; 10] = [
     (

@@ -1,7 +1,8 @@
 //! Readers and writers that give little, take little, or fail.
-use super::{AMPLE, Pieces, Slow, TWO_ADD, Told, is_so, told_at, told_by, told_from};
+use super::rows::check;
+use super::{AMPLE, Calls, Pieces, Slow, TWO_ADD, Told, pieces_of, told};
 use lab_program::{FromRead, Outcome, RunFault, Source};
-use lab_runs::{Task, run_rounds};
+use lab_runs::{NoGate, Task, run_rounds};
 use report::ToWrite;
 use std::alloc::Global;
 use std::io::{self, ErrorKind, Read};
@@ -13,6 +14,13 @@ use std::thread::Threads;
 const REPORT: &[u8] =
     b"lab 1\ninstrument scale 0\njob a sessions 0 of 1 meals 0 waiting\njob b sessions 0 of 1 meals 0 waiting\nunfinished\n";
 
+/// Where its lines begin.
+const REPORT_LINES: &[usize] = &[0, 6, 25, 63, 101];
+
+/// The report of two jobs that each added 1.
+const BOTH_ADDED: &[u8] =
+    b"lab 1\ninstrument scale 2\na 1 1/1 add 1 = 1\nb 1 1/1 add 1 = 2\njob a sessions 1 of 1 meals 0 retired\njob b sessions 1 of 1 meals 1 retired\nfinished\n";
+
 /// The script of two jobs in version 2.
 const UPGRADED: &[u8] =
     b"lab 2\njob a\nsession\nscale add 1\nend\njob b\nsession\nscale add 1\nend\n";
@@ -20,32 +28,70 @@ const UPGRADED: &[u8] =
 /// Its counts.
 const COUNTS: &[u8] = b"ok jobs 2 instruments 1 edges 1 sessions 2 commands 2\n";
 
-/// The tasks that read a script and write this report of it: no turn is taken.
-const REPORTING: [Task; 3] = [
-    Task::Replay,
-    Task::Rounds { limit: 0 },
-    Task::Threads {
-        workers: 2,
-        turns: 0,
-    },
+/// What a run answers once its text has gone out.
+type Answer = Result<Outcome, RunFault>;
+
+const STOPPED: Answer = Ok(Outcome::Unfinished);
+
+const DONE: Answer = Ok(Outcome::Finished);
+
+/// And if a write or a read failed.
+const NOT_WRITTEN: Answer = Err(RunFault::Write);
+
+const NOT_READ: Answer = Err(RunFault::Read);
+
+/// Runs of that script, one of each kind and one that takes turns: what each answers, what it writes, and where the lines of that begin.
+const RUNS: [(Task, Answer, &[u8], &[usize]); 6] = [
+    (Task::Replay, STOPPED, REPORT, REPORT_LINES),
+    (Task::Rounds { limit: 0 }, STOPPED, REPORT, REPORT_LINES),
+    (
+        Task::Threads {
+            workers: 2,
+            turns: 0,
+        },
+        STOPPED,
+        REPORT,
+        REPORT_LINES,
+    ),
+    (
+        Task::Rounds { limit: 9 },
+        DONE,
+        BOTH_ADDED,
+        &[0, 6, 25, 43, 61, 99, 137],
+    ),
+    (Task::Check, DONE, COUNTS, &[0]),
+    (
+        Task::Upgrade,
+        DONE,
+        UPGRADED,
+        &[0, 6, 12, 20, 32, 36, 42, 50, 62],
+    ),
 ];
 
-/// What a run answers once its report has gone out, and if a write or a read failed.
-const STOPPED: Result<Outcome, RunFault> = Ok(Outcome::Unfinished);
-
-const NOT_WRITTEN: Result<Outcome, RunFault> = Err(RunFault::Write);
-
-const NOT_READ: Result<Outcome, RunFault> = Err(RunFault::Read);
+/// A run over this reader and such a writer answers so, and this is written.
+fn ends<R: Threads + Wait + Abort + Sync>(
+    rt: &R,
+    alloc: Global,
+    task: Task,
+    pieces: Pieces<'_>,
+    writes: Calls,
+    answer: Answer,
+    text: &[u8],
+) {
+    let row = (task, (pieces.most, pieces.calls), writes);
+    let (written, came) = told(rt, alloc, alloc, task, &NoGate, pieces, writes);
+    check(rt, row, came, answer);
+    check(rt, row, written.as_slice(), text);
+}
 
 const LENGTHS: [usize; 5] = [1, 2, 7, 80, 5000];
 
 #[test]
 fn pieces_of_any_length(rt: HostRuntime) {
-    let text = TWO_ADD.as_bytes();
-    for task in &REPORTING {
+    for (task, answer, text, _) in &RUNS {
         for most in &LENGTHS {
-            let told = told_at(&rt, rt.alloc(), *task, text, (*most, 1000), AMPLE);
-            is_so(&rt, *most, told, STOPPED, REPORT);
+            let pieces = pieces_of(TWO_ADD.as_bytes(), (*most, 1000));
+            ends(&rt, rt.alloc(), *task, pieces, AMPLE, *answer, text);
         }
     }
 }
@@ -65,8 +111,7 @@ fn reads_fail<R: Threads + Wait + Abort + Sync>(
             calls,
             error,
         };
-        let told = told_from(rt, alloc, task, pieces, AMPLE);
-        is_so(rt, calls, told, NOT_READ, b"");
+        ends(rt, alloc, task, pieces, AMPLE, NOT_READ, b"");
     }
 }
 
@@ -76,33 +121,16 @@ const ERRORS: [ErrorKind; 3] = [
     ErrorKind::OutOfMemory,
 ];
 
-/// The tasks that read a script, how many lines each writes, what it answers, and those lines.
-const READING: [(Task, usize, Result<Outcome, RunFault>, &[u8]); 5] = [
-    (Task::Replay, 5, STOPPED, REPORT),
-    (Task::Rounds { limit: 0 }, 5, STOPPED, REPORT),
-    (
-        Task::Threads {
-            workers: 2,
-            turns: 0,
-        },
-        5,
-        STOPPED,
-        REPORT,
-    ),
-    (Task::Check, 1, Ok(Outcome::Finished), COUNTS),
-    (Task::Upgrade, 9, Ok(Outcome::Finished), UPGRADED),
-];
-
 /// Each error of a reader is a read fault, also one that tells of memory. With one read more each task writes its text.
 #[test]
 fn reader_fails(rt: HostRuntime) {
     let text = TWO_ADD.as_bytes();
-    for (task, _, ends, wanted) in &READING {
+    for (task, answer, wanted, _) in &RUNS {
         for error in &ERRORS {
             reads_fail(&rt, rt.alloc(), *task, *error);
         }
-        let told = told_at(&rt, rt.alloc(), *task, text, (1, text.len() + 1), AMPLE);
-        is_so(&rt, text.len() + 1, told, *ends, wanted);
+        let pieces = pieces_of(text, (1, text.len() + 1));
+        ends(&rt, rt.alloc(), *task, pieces, AMPLE, *answer, wanted);
     }
 }
 
@@ -136,103 +164,90 @@ fn told_of_hashes(alloc: Global, hashes: &mut Hashes) -> Told {
 #[test]
 fn reader_without_end(rt: HostRuntime) {
     let mut hashes = Hashes { given: 0 };
-    let told = told_of_hashes(rt.alloc(), &mut hashes);
-    is_so(&rt, 0, told, Err(RunFault::TooLong), b"");
-    assert!(rt; hashes.given == 16_777_217);
+    let (written, answer) = told_of_hashes(rt.alloc(), &mut hashes);
+    check(&rt, "answer", answer, Err(RunFault::TooLong));
+    check(&rt, "written", written.len(), 0);
+    check(&rt, "given", hashes.given, 16_777_217);
 }
 
-/// The first line goes out whole, and the second write fails.
-#[test]
-fn writer_fails(rt: HostRuntime) {
-    let text = TWO_ADD.as_bytes();
-    for task in &REPORTING {
-        let told = told_by(&rt, rt.alloc(), *task, text, (4096, 1));
-        is_so(&rt, 1, told, NOT_WRITTEN, b"lab 1\n");
-    }
-}
-
-/// A byte a call: the whole report, and if the k-th call fails, the flush counted, the bytes before it.
-#[test]
-fn writer_takes_a_byte(rt: HostRuntime) {
-    let text = TWO_ADD.as_bytes();
-    for task in &REPORTING {
-        for calls in 0..REPORT.len() + 1 {
-            let told = told_by(&rt, rt.alloc(), *task, text, (1, calls));
-            is_so(&rt, calls, told, NOT_WRITTEN, &REPORT[..calls]);
-        }
-        let told = told_by(&rt, rt.alloc(), *task, text, (1, 1000));
-        is_so(&rt, 1000, told, STOPPED, REPORT);
-    }
-}
-
-/// Whether a write failed, and whether all of the text had gone out by then.
-fn is_cut(rt: &impl Abort, calls: usize, came: Told, text: &[u8], is_whole: bool) {
-    let (written, answer) = came;
-    let told = (answer, written.as_slice() == text);
-    assert!(rt;
-        told == (NOT_WRITTEN, is_whole),
-        "after {calls} calls: {told:?}"
-    );
-}
-
-/// A run that writes this text, of this many lines: a write of a line that fails is reported, and so is the flush behind them.
-fn flushes<R: Threads + Wait + Abort + Sync>(
+/// A run over the script by calls of the writer.
+fn writes<R: Threads + Wait + Abort + Sync>(
     rt: &R,
     alloc: Global,
     task: Task,
-    lines: usize,
-    ends: Result<Outcome, RunFault>,
+    calls: Calls,
+    answer: Answer,
     text: &[u8],
 ) {
-    let all = lines.saturating_add(1);
-    for calls in 0..all {
-        let told = told_by(rt, alloc, task, TWO_ADD.as_bytes(), (4096, calls));
-        is_cut(rt, calls, told, text, calls == lines);
-    }
-    let told = told_by(rt, alloc, task, TWO_ADD.as_bytes(), (4096, all));
-    is_so(rt, all, told, ends, text);
+    let pieces = pieces_of(TWO_ADD.as_bytes(), AMPLE);
+    ends(rt, alloc, task, pieces, calls, answer, text);
 }
 
-/// Each run goes out a line a call, and then one flush, whose failure is reported.
-#[test]
-fn flush_fails(rt: HostRuntime) {
-    for (task, lines, ends, text) in &READING {
-        flushes(&rt, rt.alloc(), *task, *lines, *ends, text);
+/// A byte a call: if the k-th call fails, the flush counted, the bytes before it; else the whole text.
+fn writes_bytes<R: Threads + Wait + Abort + Sync>(
+    rt: &R,
+    alloc: Global,
+    task: Task,
+    answer: Answer,
+    text: &[u8],
+) {
+    for calls in 0..text.len() {
+        writes(rt, alloc, task, (1, calls), NOT_WRITTEN, &text[..calls]);
     }
+    writes(rt, alloc, task, (1, text.len()), NOT_WRITTEN, text);
+    writes(rt, alloc, task, (1, 1000), answer, text);
+}
+
+/// A line a call: if the k-th call fails, the lines before it; and then one flush, whose failure is reported.
+fn writes_lines<R: Threads + Wait + Abort + Sync>(
+    rt: &R,
+    alloc: Global,
+    task: Task,
+    answer: Answer,
+    text: &[u8],
+    lines: &[usize],
+) {
+    for (calls, begin) in lines.iter().enumerate() {
+        let before = &text[..text.len().min(*begin)];
+        writes(rt, alloc, task, (4096, calls), NOT_WRITTEN, before);
+    }
+    let all = lines.len();
+    writes(rt, alloc, task, (4096, all), NOT_WRITTEN, text);
+    writes(rt, alloc, task, (4096, all.saturating_add(1)), answer, text);
 }
 
 #[test]
-fn writer_takes_nothing(rt: HostRuntime) {
-    let text = TWO_ADD.as_bytes();
-    for (task, _, _, _) in &READING {
-        let told = told_by(&rt, rt.alloc(), *task, text, (0, 1000));
-        is_so(&rt, 0, told, NOT_WRITTEN, b"");
+fn writer_fails(rt: HostRuntime) {
+    for (task, answer, text, lines) in &RUNS {
+        writes_bytes(&rt, rt.alloc(), *task, *answer, text);
+        writes_lines(&rt, rt.alloc(), *task, *answer, text, lines);
+        writes(&rt, rt.alloc(), *task, (0, 1000), NOT_WRITTEN, b"");
     }
 }
 
 /// How many bytes a read gives, and what then stands in the first of them.
-fn read_into(source: &mut impl Source, buffer: &mut [u8; 8]) -> (Option<usize>, [u8; 3]) {
+type Given = (Option<usize>, [u8; 3]);
+
+fn read_into(source: &mut impl Source, buffer: &mut [u8; 8]) -> Given {
     let count = source.read(buffer.as_mut_slice()).ok();
     (count, [buffer[0], buffer[1], buffer[2]])
 }
 
-fn gives(rt: &impl Abort, came: (Option<usize>, [u8; 3]), wanted: (Option<usize>, [u8; 3])) {
-    assert!(rt; came == wanted, "{wanted:?} was wanted, not {came:?}");
-}
+const GIVEN: [Given; 4] = [
+    (Some(3), [b'l', b'a', b'm']),
+    (Some(1), [b'p', b'a', b'm']),
+    (Some(0), [b'p', b'a', b'm']),
+    (None, [b'p', b'a', b'm']),
+];
 
 /// A source is read to its end, and gives nothing more there.
 #[test]
 fn source_reads(rt: HostRuntime) {
-    let mut pieces = Pieces {
-        rest: b"lamp",
-        most: 3,
-        calls: 3,
-        error: ErrorKind::Interrupted,
-    };
+    let mut pieces = pieces_of(b"lamp", (3, 3));
     let mut source = FromRead::new(&mut pieces);
     let mut buffer = [0u8; 8];
-    gives(&rt, read_into(&mut source, &mut buffer), (Some(3), *b"lam"));
-    gives(&rt, read_into(&mut source, &mut buffer), (Some(1), *b"pam"));
-    gives(&rt, read_into(&mut source, &mut buffer), (Some(0), *b"pam"));
-    gives(&rt, read_into(&mut source, &mut buffer), (None, *b"pam"));
+    for (row, wanted) in GIVEN.iter().enumerate() {
+        let came = read_into(&mut source, &mut buffer);
+        check(&rt, row, came, *wanted);
+    }
 }

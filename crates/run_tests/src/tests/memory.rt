@@ -1,17 +1,16 @@
 //! Memory that runs out: each allocation of a run is refused in turn, and nothing else is reported.
-use super::{AMPLE, Pieces, Slow, TWO_ADD, Told, may_run};
-use lab_program::{FromRead, Outcome, RunFault};
-use lab_runs::{NoGate, Task, run_task};
+use super::rows::check;
+use super::{AMPLE, TWO_ADD, Told, pieces_of, told};
+use lab_program::{Outcome, RunFault};
+use lab_runs::{NoGate, Task};
 use refusing_heap::RefusingHeap;
-use report::ToWrite;
 use script_reader::ScriptCause;
 use std::alloc::Global;
-use std::io::ErrorKind;
 use std::process::Abort;
 use std::sync::Wait;
 use std::thread::Threads;
 
-/// A run on a heap that refuses this allocation, over a writer that takes its memory elsewhere; and how many allocations it asked for.
+/// A run on a heap that refuses this allocation; and how many allocations it asked for.
 fn told_without<R: Threads + Wait + Abort + Sync>(
     rt: &R,
     out: Global,
@@ -20,22 +19,9 @@ fn told_without<R: Threads + Wait + Abort + Sync>(
     refused: u64,
 ) -> (Told, u64) {
     let heap = RefusingHeap::new(out, refused);
-    let mut pieces = Pieces {
-        rest: text,
-        most: AMPLE.0,
-        calls: AMPLE.1,
-        error: ErrorKind::Interrupted,
-    };
-    let mut slow = Slow {
-        bytes: Vec::new(out),
-        most: AMPLE.0,
-        calls: AMPLE.1,
-    };
-    let mut source = FromRead::new(&mut pieces);
-    let mut sink = ToWrite::new(&mut slow);
-    assert!(rt; may_run(&task));
-    let answer = run_task(task, rt, &heap, &mut source, &mut sink, &NoGate);
-    ((slow.bytes, answer), heap.allocations())
+    let pieces = pieces_of(text, AMPLE);
+    let came = told(rt, &heap, out, task, &NoGate, pieces, AMPLE);
+    (came, heap.allocations())
 }
 
 fn is_no_memory(answer: &Result<Outcome, RunFault>) -> bool {
@@ -54,13 +40,15 @@ fn allocations<R: Threads + Wait + Abort + Sync>(
     text: &[u8],
 ) -> (u64, u64) {
     let ((_, whole), all) = told_without(rt, out, task, text, 0);
-    assert!(rt; whole.is_ok());
+    check(rt, (task, 0), whole.is_ok(), true);
     let mut script = 0u64;
     for number in 0..all {
         let ((bytes, answer), _) = told_without(rt, out, task, text, number + 1);
-        assert!(rt;
-            is_no_memory(&answer) && bytes.is_empty(),
-            "allocation {number}"
+        check(
+            rt,
+            (task, number + 1),
+            (is_no_memory(&answer), bytes.len()),
+            (true, 0),
         );
         if answer != Err(RunFault::NoMemory) {
             script = script.saturating_add(1);
@@ -72,6 +60,10 @@ fn allocations<R: Threads + Wait + Abort + Sync>(
 /// Two jobs on one instrument, and a step.
 const STEPS: &str =
     "lab 1\njob a\nsession\nscale add 1\nend\njob b\nsession\nscale add 1\nend\nsteps\nthirst a\n";
+
+fn by(workers: u32) -> Task {
+    Task::Threads { workers, turns: 9 }
+}
 
 /// Some allocations are refused while the script is read, and some behind it, but for an upgrade, which needs no more.
 #[test]
@@ -86,10 +78,7 @@ fn allocations_of_each_run(rt: HostRuntime) {
         (by(32), TWO_ADD),
     ] {
         let (all, script) = allocations(&rt, rt.alloc(), task, text.as_bytes());
-        assert!(rt; script > 0 && (script < all || task == Task::Upgrade));
+        let is_behind = script < all || task == Task::Upgrade;
+        check(&rt, task, (script > 0, is_behind), (true, true));
     }
-}
-
-fn by(workers: u32) -> Task {
-    Task::Threads { workers, turns: 9 }
 }
