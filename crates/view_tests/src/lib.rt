@@ -1,21 +1,13 @@
-//! Tests of what views are made of: reports that are read and drawn, why steps are refused, which are legal, and what `labview`
-//! writes; over the public calls of their crates alone.
+//! Tests of what views are made of that no run of `labview` shows: answers of its crates that it doesn't print, writers that fail, and
+//! memory that runs out. What a run shows stands in `bench/cases/of_labview/`.
 #![tactic(auto)]
 
 #[cfg(test)]
-mod blocks;
-#[cfg(test)]
-mod commands;
-#[cfg(test)]
-mod explanations;
+mod ends;
 #[cfg(test)]
 mod faults;
 #[cfg(test)]
-mod gantts;
-#[cfg(test)]
-mod journals;
-#[cfg(test)]
-mod keepers;
+mod laws;
 #[cfg(test)]
 mod measured;
 #[cfg(test)]
@@ -23,18 +15,8 @@ mod memory;
 #[cfg(test)]
 mod orders;
 #[cfg(test)]
-mod pictures;
-#[cfg(test)]
-mod printed;
-#[cfg(test)]
-mod seen;
-#[cfg(test)]
 mod stages;
 #[cfg(test)]
-mod tables;
+mod words;
 #[cfg(test)]
-mod traces;
-#[cfg(test)]
-mod views;
-#[cfg(test)]
-mod waits;
+mod writers;
