@@ -1,31 +1,16 @@
-//! Tests of what C calls: of handles, from the open to the report, and of the hall where the desks of a bench are taken one by one.
+//! Tests of what the calls for C stand on and don't show: laws, parts, a desk that is dropped, and calls that C has in another form. The calls for C
+//! themselves are tested from outside, in bench/door.
 #![tactic(auto)]
 
 #[cfg(test)]
-mod additions;
-#[cfg(test)]
-mod benches;
-#[cfg(test)]
-mod calls;
-#[cfg(test)]
-mod desks;
-#[cfg(test)]
 mod hall;
 #[cfg(test)]
-mod journals;
+mod labs;
 #[cfg(test)]
-mod late;
+mod laws;
 #[cfg(test)]
-mod lines;
-#[cfg(test)]
-mod live;
-#[cfg(test)]
-mod more;
-#[cfg(test)]
-mod reached;
-#[cfg(test)]
-mod resumed_halls;
+mod parts;
 #[cfg(test)]
 mod rows;
 #[cfg(test)]
-mod runs;
+mod texts;
