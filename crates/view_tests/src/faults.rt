@@ -4,7 +4,7 @@ use report_reader::{ReportCause, ReportFault, read_report};
 use std::alloc::Global;
 use std::process::Abort;
 
-fn version_of(rt: &impl Abort, alloc: Global, text: &str) -> u32 {
+fn version_of(rt: &impl Abort, alloc: Global, text: &str) -> u8 {
     match read_report(alloc, text.as_bytes()) {
         Ok(report) => report.version(),
         Err(_) => panic!(rt; "no report"),
@@ -41,7 +41,8 @@ fn reports_that_are_scripts(rt: HostRuntime) {
 /// (`labview` says this of any lack of memory.)
 #[test]
 fn lack_of_memory_is_printed(rt: HostRuntime) {
-    match format!(in rt.alloc(); "{}", ReportCause::NoMemory) {
+    let (alloc, cause) = (rt.alloc(), ReportCause::NoMemory);
+    match format!(in alloc; "{cause}") {
         Ok(printed) => assert!(rt; printed.as_str() == "no memory"),
         Err(_) => panic!(rt; "no memory for a text"),
     }
