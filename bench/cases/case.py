@@ -11,7 +11,8 @@ def as_bytes(text):
 @dataclasses.dataclass(frozen=True)
 class Case:
     """`words` stand behind the program's name, and are cut at spaces if they are one text. Texts may be given as str or bytes. `out` may be
-    a function instead: it gets standard output, and gives what is wrong with it, or None."""
+    a function instead: it gets standard output, and gives what is wrong with it, or None. One that is `slow` takes minutes before its
+    proof, and is left to the built program."""
 
     name: str
     words: list[str]
@@ -19,6 +20,7 @@ class Case:
     out: bytes | Callable[[bytes], str | None] = b""
     err: bytes = b""
     status: int = 0
+    slow: bool = False
 
     def __post_init__(self):
         put = lambda field, value: object.__setattr__(self, field, value)
