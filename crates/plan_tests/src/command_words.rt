@@ -82,16 +82,6 @@ fn words_of_a_program(rt: HostRuntime) -> Result<(), Fail> {
     Ok(())
 }
 
-/// The first of them is the program's own name.
-#[test]
-fn words_of_this_test(rt: HostRuntime) {
-    let is_named = match given_words(&rt, rt.alloc()) {
-        Ok(words) => !words.is_empty(),
-        Err(_) => false,
-    };
-    assert!(rt; is_named);
-}
-
 /// A program that was started with these words.
 #[derive(Drop)]
 struct Started {

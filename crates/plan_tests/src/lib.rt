@@ -15,8 +15,6 @@ mod heaps;
 #[cfg(test)]
 mod logs;
 #[cfg(test)]
-mod millions;
-#[cfg(test)]
 mod pairs;
 #[cfg(test)]
 mod plans;

@@ -93,6 +93,116 @@ fn leads_on_in_each_run(rt: HostRuntime) {
     );
 }
 
+/// The turns of a run in which b gives its session up in its second one.
+const GIVES_UP_AT_ONCE: [Do; 20] = [
+    Do::Look(A, AB),
+    Do::Thirst(A),
+    Do::Look(B, AB),
+    Do::Thirst(B),
+    Do::Look(A, AB),
+    Do::Drink(A),
+    Do::Look(B, AB),
+    Do::AskBottles(B, AB, 1),
+    Do::Withdraw(B),
+    Do::Look(A, AB),
+    Do::Reach(A),
+    Do::Act(A),
+    Do::Look(B, AB),
+    Do::Retire(B),
+    Do::Look(A, AB),
+    Do::Quit(A),
+    Do::Look(B, AB),
+    Do::Look(A, AB),
+    Do::GiveBottles(A, AB, 1),
+    Do::Retire(A),
+];
+
+/// Those of a run in which b gives up in its third turn, and has the meal that it asked for.
+const GIVES_UP_LATER: [Do; 29] = [
+    Do::Look(A, AB),
+    Do::Thirst(A),
+    Do::Look(B, AB),
+    Do::Thirst(B),
+    Do::Look(A, AB),
+    Do::Drink(A),
+    Do::Look(B, AB),
+    Do::AskBottles(B, AB, 1),
+    Do::Hunger(B),
+    Do::Look(A, AB),
+    Do::Reach(A),
+    Do::Act(A),
+    Do::Look(B, AB),
+    Do::AskFork(B, AB),
+    Do::Withdraw(B),
+    Do::Look(A, AB),
+    Do::GiveFork(A, AB),
+    Do::Quit(A),
+    Do::Look(B, AB),
+    Do::Sit(B),
+    Do::Look(A, AB),
+    Do::GiveBottles(A, AB, 1),
+    Do::Retire(A),
+    Do::Look(B, AB),
+    Do::Soil(B, AB),
+    Do::Leave(B),
+    Do::Look(A, AB),
+    Do::Look(B, AB),
+    Do::Retire(B),
+];
+
+/// Those of a run in which b has what it needs before it gives up.
+const NEVER_GIVES_UP: [Do; 38] = [
+    Do::Look(A, AB),
+    Do::Thirst(A),
+    Do::Look(B, AB),
+    Do::Thirst(B),
+    Do::Look(A, AB),
+    Do::Drink(A),
+    Do::Look(B, AB),
+    Do::AskBottles(B, AB, 1),
+    Do::Hunger(B),
+    Do::Look(A, AB),
+    Do::Reach(A),
+    Do::Act(A),
+    Do::Look(B, AB),
+    Do::AskFork(B, AB),
+    Do::Look(A, AB),
+    Do::GiveFork(A, AB),
+    Do::Quit(A),
+    Do::Look(B, AB),
+    Do::Sit(B),
+    Do::Look(A, AB),
+    Do::GiveBottles(A, AB, 1),
+    Do::Retire(A),
+    Do::Look(B, AB),
+    Do::Soil(B, AB),
+    Do::Drink(B),
+    Do::Look(A, AB),
+    Do::Look(B, AB),
+    Do::Reach(B),
+    Do::Act(B),
+    Do::Look(A, AB),
+    Do::Look(B, AB),
+    Do::Quit(B),
+    Do::Look(A, AB),
+    Do::Look(B, AB),
+    Do::Leave(B),
+    Do::Look(A, AB),
+    Do::Look(B, AB),
+    Do::Retire(B),
+];
+
+/// All of them lead to the end.
+const MAY_GIVE_UP: [&[Do]; 3] = [&GIVES_UP_AT_ONCE, &GIVES_UP_LATER, &NEVER_GIVES_UP];
+
+#[test]
+fn leads_on_while_b_may_give_up(rt: HostRuntime) {
+    for &steps in &MAY_GIVE_UP {
+        let question = Question::Leads(steps, false);
+        check(&rt, rt.alloc(), IMPATIENT, &ALL_LOWER, question);
+    }
+}
+
 /// Goes on by `way_on` alone until it answers none, for at most 200 events.
 fn drive<T: Allocator>(rt: &impl Abort, world: &mut World<'_, T>) {
     for _ in 0..200 {

@@ -278,8 +278,22 @@ fn knows_names(rt: HostRuntime) {
     offer_to_example(&rt, rt.alloc(), &[], Looked::AtNames);
 }
 
-/// Adds a session while so many blocks of a heap are free, and tells whether that was refused. A refused one goes through once
-/// there is room.
+/// After a session was added, or refused for want of memory: then nothing is changed, and it goes through now that there is room.
+fn check_tried<A: Allocator>(
+    rt: &impl Abort,
+    free: usize,
+    plan: &mut Plan<A>,
+    refused: Option<MoreRefusal>,
+) {
+    if refused.is_some() {
+        check(rt, free, refused, Some(MoreRefusal::NoMemory));
+        check_example(rt, plan);
+        check(rt, free, add(rt, plan, 0, None, &THIRD), None);
+    }
+    check_added(rt, free, plan);
+}
+
+/// Adds a session while so many blocks of a heap are free, and tells whether that was refused.
 fn add_with_room(rt: &impl Abort, alloc: Global, free: usize) -> bool {
     let heap = heap_of(rt, alloc, 32768);
     let mut plan = plan_of(rt, PlanBuilder::new(&heap), &EXAMPLE);
@@ -288,15 +302,8 @@ fn add_with_room(rt: &impl Abort, alloc: Global, free: usize) -> bool {
         let _ = blocks.pop();
     }
     let refused = add(rt, &mut plan, 0, None, &THIRD);
-    if refused.is_some() {
-        check(rt, free, refused, Some(MoreRefusal::NoMemory));
-        check_example(rt, &plan);
-    }
     drop(blocks);
-    if refused.is_some() {
-        check(rt, free, add(rt, &mut plan, 0, None, &THIRD), None);
-    }
-    check_added(rt, free, &plan);
+    check_tried(rt, free, &mut plan, refused);
     refused.is_some()
 }
 

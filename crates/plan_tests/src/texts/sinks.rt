@@ -1,5 +1,6 @@
 //! Sinks that take one byte a call, none, or fail at a call: exactly the first bytes went out.
-use super::{Slow, TWO, plan_of, report_by, script_by};
+use super::{Slow, TWO, report_by, script_by};
+use crate::faults::plan_of;
 use crate::rows::check;
 use interleaving::World;
 use report::{Failed, Sink, ToWrite, WriteFault, offer};
