@@ -27,7 +27,7 @@ def after(turns):
 
 
 # The same text with steps, which are for a replay alone.
-STEPS = SCRIPT + "steps\nthirst a\ndrink a\nact a\n"
+STEPS = SCRIPT + "steps\nthirst a\ndrink a\nreach a\nact a\n"
 NO_STEPS = f"labrun: line {COMMANDS + 5}: S2 unknown word\n"
 
 # What the canonical words of each task give.
