@@ -26,8 +26,8 @@ def after(turns):
     return report, 0 if is_retired else 3
 
 
-# The same text with steps, which are for a replay alone.
-STEPS = SCRIPT + "steps\nthirst a\ndrink a\nact a\n"
+# The same text with steps, which are for a replay alone. Reach and Act are one command.
+STEPS = SCRIPT + "steps\nthirst a\ndrink a\nreach a\nact a\n"
 NO_STEPS = f"labrun: line {COMMANDS + 5}: S2 unknown word\n"
 
 # What the canonical words of each task give.
