@@ -26,7 +26,7 @@ def after(turns):
     return report, 0 if is_retired else 3
 
 
-# The same text with steps, which are for a replay alone.
+# The same text with steps, which are for a replay alone. Reach and Act are one command.
 STEPS = SCRIPT + "steps\nthirst a\ndrink a\nreach a\nact a\n"
 NO_STEPS = f"labrun: line {COMMANDS + 5}: S2 unknown word\n"
 
