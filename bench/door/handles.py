@@ -109,7 +109,7 @@ class Handle(C.Handle):
     def more(self, job, session, room=200):
         return put(room, "lab_more", self, job, session)
 
-    def closes(self, name, room=1000):
+    def closes(self, name, room=4000):
         """By one of the calls that close a bench: the status, and the report, if there was room."""
         room, out = Room(room), C.Told()
         status = called("lab_" + name, self, room, out)
