@@ -16,12 +16,10 @@ pub(crate) const B: u8 = 1;
 
 pub(crate) const C: u8 = 2;
 
-/// The edges of three jobs; of two there is only the first.
+/// Two edges of three jobs; of two jobs there is only the first.
 pub(crate) const AB: u16 = 0;
 
 pub(crate) const AC: u16 = 1;
-
-pub(crate) const BC: u16 = 2;
 
 /// A step, as tables have it.
 #[derive(Clone, Copy)]
@@ -156,41 +154,11 @@ pub(crate) const STALE_MARK: [Do; 29] = [
 
 // The stages of that run which tests name: how many of its steps are done once this was.
 pub(crate) mod stage {
-    pub(crate) const OPENING: usize = 0;
-
-    pub(crate) const A_THIRSTS: usize = 1;
-
-    pub(crate) const A_HUNGERS: usize = 2;
-
-    pub(crate) const B_THIRSTS: usize = 3;
-
-    pub(crate) const B_HUNGERS: usize = 4;
-
-    pub(crate) const A_LOOKS: usize = 5;
-
     pub(crate) const B_ASKS: usize = 6;
-
-    pub(crate) const A_SITS: usize = 7;
-
-    pub(crate) const A_DRINKS: usize = 8;
-
-    pub(crate) const A_LOOKS_IN_ITS_MEAL: usize = 9;
-
-    pub(crate) const A_REACHES: usize = 10;
-
-    pub(crate) const A_ACTS: usize = 11;
-
-    pub(crate) const A_QUITS: usize = 12;
-
-    pub(crate) const A_LEAVES: usize = 13;
 
     pub(crate) const A_HAS_A_STALE_MARK: usize = 16;
 
     pub(crate) const A_ASKS: usize = 24;
-
-    pub(crate) const B_SOILS: usize = 25;
-
-    pub(crate) const A_LOOKS_AGAIN: usize = 28;
 }
 
 /// Of three jobs, a gets both its forks, eats and soils them.
@@ -208,10 +176,8 @@ pub(crate) const MEAL_OF_THREE: [Do; 11] = [
     Do::Soil(A, AB),
 ];
 
-/// How many of those steps are done before a sits, and once one of its two forks is soiled.
+/// How many of those steps are done before a sits.
 pub(crate) const BEFORE_THE_MEAL: usize = 8;
-
-pub(crate) const ONE_FORK_SOILED: usize = 10;
 
 /// Whether the step's numbers are the plan's.
 pub(crate) fn is_step_of<T: Allocator>(plan: &Plan<T>, step: Step) -> bool

@@ -1,7 +1,7 @@
 //! What is left to do of itself is done, in a world of two jobs: worked out by hand.
 use crate::benches::{A, AB, B, Do, TWO, plan_of};
 use crate::steps::open;
-use crate::waits::{go_on, owns, take};
+use crate::waits::{owns, take};
 use interleaving::{Dining, Drinking, EdgeState, End, JobState, World};
 use lab_plan::{EdgeNo, JobNo, Plan};
 use settling::{Due, due_moves, has_still_nothing_to_do, rest, stays_marked, visit, visit_all};
@@ -30,14 +30,8 @@ fn rest_twice<T: Allocator + Copy>(
     (deeds, rest(world, &mut due))
 }
 
-/// Takes these steps, which have to be legal, and lets the world rest then, which is done after one rest.
-fn let_rest<T: Allocator + Copy>(
-    rt: &impl Abort,
-    alloc: T,
-    world: &mut World<'_, T>,
-    steps: &[Do],
-) -> Rested {
-    go_on(rt, world, steps);
+/// Lets the world rest, which is done after one rest.
+fn let_rest<T: Allocator + Copy>(rt: &impl Abort, alloc: T, world: &mut World<'_, T>) -> Rested {
     let (deeds, again) = rest_twice(rt, alloc, world);
     assert!(rt; again == 0);
     assert!(rt; world.plan().jobs() >= 2 && world.plan().edges() >= 1);
@@ -98,30 +92,6 @@ const SECOND_DRINKS: Rested = Rested {
     },
 };
 
-fn check(rt: &impl Abort, came: Rested, wanted: Rested) {
-    assert!(rt; came == wanted);
-}
-
-/// Once both thirst, and once the session of the first ended.
-const BEGUN: [Do; 2] = [Do::Thirst(A), Do::Thirst(B)];
-
-const ENDED: [Do; 3] = [Do::Reach(A), Do::Act(A), Do::Quit(A)];
-
-fn all_rests<T: Allocator + Copy>(rt: &impl Abort, alloc: T, plan: &Plan<T>) -> [Rested; 2] {
-    let mut world = open(rt, alloc, plan);
-    let first = let_rest(rt, alloc, &mut world, &BEGUN);
-    let second = let_rest(rt, alloc, &mut world, &ENDED);
-    [first, second]
-}
-
-#[test]
-fn settles(rt: HostRuntime) {
-    let plan = plan_of(&rt, rt.alloc(), TWO);
-    let [first, second] = all_rests(&rt, rt.alloc(), &plan);
-    check(&rt, first, FIRST_DRINKS);
-    check(&rt, second, SECOND_DRINKS);
-}
-
 /// The moves that are due to the job: whether it gives the fork, asks for it or soils it, and the bottles that it gives and asks for.
 type Moves = (bool, bool, bool, u32, u32);
 
@@ -160,11 +130,24 @@ enum Row {
     Visits(u8, u32),
     /// The same of a visit at all its edges.
     VisitsAll(u8, u32),
+    /// The world rests, and is seen so.
+    Rests(&'static Rested),
 }
+
+/// Once both thirst, and once the session of the first ended.
+const RESTS: [Row; 7] = [
+    Row::Does(Do::Thirst(A)),
+    Row::Does(Do::Thirst(B)),
+    Row::Rests(&FIRST_DRINKS),
+    Row::Does(Do::Reach(A)),
+    Row::Does(Do::Act(A)),
+    Row::Does(Do::Quit(A)),
+    Row::Rests(&SECOND_DRINKS),
+];
 
 /// What is due is done, and then nothing is: b asks for the bottle; once it is hungry, for the fork, which a gives, but not the bottle, since
 /// it drinks.
-const ROWS: [Row; 16] = [
+const VISITS: [Row; 16] = [
     Row::Does(Do::Thirst(A)),
     Row::Does(Do::Thirst(B)),
     // a looks, and sees its bottle
@@ -185,7 +168,12 @@ const ROWS: [Row; 16] = [
 ];
 
 /// Whether the row is so.
-fn is_so<T: Allocator>(rt: &impl Abort, world: &mut World<T>, row: Row) -> bool {
+fn is_so<T: Allocator + Copy>(
+    rt: &impl Abort,
+    alloc: T,
+    world: &mut World<'_, T>,
+    row: Row,
+) -> bool {
     match row {
         Row::Does(it) => {
             take(rt, world, it);
@@ -194,20 +182,23 @@ fn is_so<T: Allocator>(rt: &impl Abort, world: &mut World<T>, row: Row) -> bool 
         Row::Due(job, moves) => moves_of(rt, world, JobNo(job)) == moves,
         Row::Visits(job, deeds) => visits(rt, world, JobNo(job)) == deeds,
         Row::VisitsAll(job, deeds) => visits_all(rt, world, JobNo(job)) == deeds,
+        Row::Rests(wanted) => let_rest(rt, alloc, world) == *wanted,
     }
 }
 
-fn follow<T: Allocator + Copy>(rt: &impl Abort, alloc: T, plan: &Plan<T>) {
+/// It alone owns a world.
+fn follow<T: Allocator + Copy>(rt: &impl Abort, alloc: T, plan: &Plan<T>, rows: &[Row]) {
     let mut world = open(rt, alloc, plan);
-    for number in 0..ROWS.len() {
-        assert!(rt; is_so(rt, &mut world, ROWS[number]), "row {number}");
+    for number in 0..rows.len() {
+        assert!(rt; is_so(rt, alloc, &mut world, rows[number]), "row {number}");
     }
 }
 
 #[test]
-fn visits_do_what_is_due(rt: HostRuntime) {
+fn settles(rt: HostRuntime) {
     let plan = plan_of(&rt, rt.alloc(), TWO);
-    follow(&rt, rt.alloc(), &plan);
+    follow(&rt, rt.alloc(), &plan, &RESTS);
+    follow(&rt, rt.alloc(), &plan, &VISITS);
 }
 
 /// The laws are contracts: what is called does nothing.

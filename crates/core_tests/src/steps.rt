@@ -1,24 +1,16 @@
-//! Worked cases, whose answers were worked out by hand.
-ghost use Rattle.std.specs.Prelude.{IsTrue};
-ghost use Rattle.std.specs.List.{All};
-ghost use Rattle.legal_steps.specs.Steps.{IsStepOf};
-
-use crate::benches::{A, AB, B, Do, event_of, is_step_of, plan_of};
-use every_list::try_list;
+//! Worked cases, whose answers were worked out by hand, of calls that no run of a program shows.
+use crate::benches::{A, AB, B, Do, plan_of};
+use crate::waits::go_on;
 use instrument_log::Entry;
-use interleaving::{Counts, EdgeState, End, Event, JobState, NotLegal, StepLine, World};
+use interleaving::{Counts, EdgeState, End, Event, JobState, NotLegal, World};
 use lab_plan::{EdgeNo, InstrumentNo, JobNo, Plan};
-use phases::{Allowed, allows};
 use resuming::look_round;
 use std::alloc::Allocator;
 use std::process::Abort;
 
-mod cases;
-mod every_list;
 mod guards;
 mod kept;
 mod marks;
-mod phases;
 mod starts;
 mod stops;
 
@@ -26,10 +18,6 @@ mod stops;
 type Marks = (bool, u32);
 
 const NONE: Marks = (false, 0);
-
-const BOTTLE: Marks = (false, 1);
-
-const FORK: Marks = (true, 0);
 
 const BOTH: Marks = (true, 1);
 
@@ -123,11 +111,6 @@ fn does<T: Allocator>(rt: &impl Abort, world: &mut World<T>, event: &Event) -> b
     done
 }
 
-fn takes<T: Allocator>(rt: &impl Abort, world: &mut World<T>, step: Do) -> bool {
-    let event = event_of(rt, world, step);
-    does(rt, world, &event)
-}
-
 /// What a replay answers.
 type Replayed = Result<usize, (usize, NotLegal)>;
 
@@ -136,40 +119,12 @@ type Replayed = Result<usize, (usize, NotLegal)>;
 enum Way<'a> {
     /// A replay of these events.
     Events(&'a [Event]),
-    /// A replay of the steps in these lines.
-    Lines(&'a [StepLine]),
     /// These steps, which have to be legal.
     Steps(&'a [Do]),
     /// The same, and then the event.
     Then(&'a [Do], &'a Event),
-    /// The same, and then this many of the steps that a number codes.
-    List(&'a [Do], usize, usize),
     /// Each job looks at each of its edges.
     Looks,
-}
-
-/// Whether the numbers of all the steps are the plan's.
-fn are_steps_of<T: Allocator>(plan: &Plan<T>, lines: &[StepLine]) -> bool
-    ensures { IsTrue result → All (λ line. IsStepOf plan.now line.step) lines.now }
-{
-    lines.iter().all(|line| is_step_of(plan, line.step))
-}
-
-fn replay_lines<T: Allocator>(
-    rt: &impl Abort,
-    world: &mut World<T>,
-    lines: &[StepLine],
-) -> Replayed {
-    assert!(rt; are_steps_of(world.plan(), lines));
-    world.replay_steps(lines)
-}
-
-/// Takes the steps, all of which have to be legal.
-fn walk<T: Allocator>(rt: &impl Abort, world: &mut World<T>, steps: &[Do]) -> Replayed {
-    for step in steps {
-        assert!(rt; takes(rt, world, *step));
-    }
-    Ok(steps.len())
 }
 
 /// Answers as a replay of the steps and then the event, but counts the steps alone.
@@ -179,9 +134,9 @@ fn walk_to<T: Allocator>(
     steps: &[Do],
     event: &Event,
 ) -> Replayed {
-    let answer = walk(rt, world, steps);
+    go_on(rt, world, steps);
     if does(rt, world, event) {
-        answer
+        Ok(steps.len())
     } else {
         Err((steps.len(), NotLegal))
     }
@@ -190,14 +145,11 @@ fn walk_to<T: Allocator>(
 fn goes<T: Allocator>(rt: &impl Abort, world: &mut World<T>, way: Way) -> Replayed {
     match way {
         Way::Events(events) => world.replay(events),
-        Way::Lines(lines) => replay_lines(rt, world, lines),
-        Way::Steps(steps) => walk(rt, world, steps),
-        Way::Then(steps, event) => walk_to(rt, world, steps, event),
-        Way::List(steps, code, length) => {
-            let answer = walk(rt, world, steps);
-            try_list(rt, world, code, length);
-            answer
+        Way::Steps(steps) => {
+            go_on(rt, world, steps);
+            Ok(steps.len())
         }
+        Way::Then(steps, event) => walk_to(rt, world, steps, event),
         Way::Looks => {
             look_round(world);
             Ok(0)
@@ -205,13 +157,12 @@ fn goes<T: Allocator>(rt: &impl Abort, world: &mut World<T>, way: Way) -> Replay
     }
 }
 
-/// What the way answers, what the world shows after it, and what the phases of both jobs allow then.
-type Told = (Replayed, Shown, (Allowed, Allowed));
+/// What the way answers, and what the world shows after it.
+type Told = (Replayed, Shown);
 
 fn tell<T: Allocator>(rt: &impl Abort, world: &mut World<T>, way: Way) -> Told {
     let answer = goes(rt, world, way);
-    let allowed = (allows(rt, world, JobNo(A)), allows(rt, world, JobNo(B)));
-    (answer, shows(rt, world), allowed)
+    (answer, shows(rt, world))
 }
 
 pub(crate) fn open<'a, T: Allocator + Copy>(
@@ -231,7 +182,8 @@ fn told_of<T: Allocator + Copy>(rt: &impl Abort, alloc: T, plan: &Plan<T>, way: 
     tell(rt, &mut world, way)
 }
 
-fn told<T: Allocator + Copy>(rt: &impl Abort, alloc: T, script: &str, way: Way) -> Told {
+/// What a replay answers, and what the world shows after it.
+fn replayed<T: Allocator + Copy>(rt: &impl Abort, alloc: T, script: &str, way: Way) -> Told {
     let plan = plan_of(rt, alloc, script);
     told_of(rt, alloc, &plan, way)
 }
@@ -244,17 +196,6 @@ fn after<T: Allocator + Copy>(
     steps: &[Do],
     event: &Event,
 ) -> (bool, Shown) {
-    let (answer, shown, _) = told(rt, alloc, script, Way::Then(steps, event));
+    let (answer, shown) = replayed(rt, alloc, script, Way::Then(steps, event));
     (answer.is_ok(), shown)
-}
-
-/// What a replay answers, and what the world shows after it.
-fn replayed<T: Allocator + Copy>(
-    rt: &impl Abort,
-    alloc: T,
-    script: &str,
-    way: Way,
-) -> (Replayed, Shown) {
-    let (answer, shown, _) = told(rt, alloc, script, way);
-    (answer, shown)
 }

@@ -36,8 +36,6 @@ enum Question<'a> {
     Rankings,
     /// Whether just these pairs precede after these steps.
     Pairs(&'a [Do], &'a [Pair]),
-    /// The forks once one of those of the meal of three is soiled.
-    Forks,
     /// Whether the heap has memory for a ranking.
     Ranking(&'a LocalHeap),
     /// Whether a way leads on before each of these steps, and after them, or not there.
@@ -56,7 +54,6 @@ fn answer<T: Allocator + Copy>(
         Question::Overtaking => meals::overtakes_once(rt, alloc, world),
         Question::Rankings => meals::turns_with_meals(rt, alloc, world),
         Question::Pairs(steps, pairs) => triangle::has_pairs(rt, alloc, world, steps, pairs),
-        Question::Forks => triangle::goes_round_by_dirt(rt, world),
         Question::Ranking(heap) => meals::has_room(rt, heap, world),
         Question::Leads(steps, at_end) => ways::leads_all_along(rt, world, steps, at_end),
         Question::Drives(values) => ways::drives_to(rt, world, values),

@@ -1,5 +1,5 @@
 //! Starts, and memory that runs out.
-use super::{Told, Way, tell, told};
+use super::{Told, Way, replayed, tell};
 use crate::benches::{A, AB, STALE_MARK, THREE, TWICE, TWO, plan_of};
 use interleaving::{EdgeState, End, EndChoice, Event, NoMemory, StartRefusal, World};
 use lab_plan::{EdgeNo, JobNo, Plan};
@@ -240,5 +240,5 @@ fn told_by_owner<T: Allocator + Copy>(rt: &impl Abort, alloc: T, script: &str, w
 fn a_world_owns_its_plan(rt: HostRuntime) {
     let alloc = rt.alloc();
     let way = Way::Steps(&STALE_MARK);
-    assert!(rt; told_by_owner(&rt, alloc, TWICE, way) == told(&rt, alloc, TWICE, way));
+    assert!(rt; told_by_owner(&rt, alloc, TWICE, way) == replayed(&rt, alloc, TWICE, way));
 }

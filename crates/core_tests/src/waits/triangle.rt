@@ -1,10 +1,9 @@
-//! Three jobs, each two of which share an edge: who precedes whom, before and after a meal of the first.
+//! Three jobs, each two of which share an edge: who precedes whom, before and after a meal of the first. How the forks are during the meal
+//! is in `bench/cases` (`of_labview/states.py`).
 use super::{FORKS_HIGHER, Question, ask, go_on};
-use crate::benches::{
-    A, AB, AC, B, BC, BEFORE_THE_MEAL, C, Do, MEAL_OF_THREE, ONE_FORK_SOILED, THREE,
-};
-use interleaving::{EdgeState, End, World};
-use lab_plan::{EdgeNo, JobNo};
+use crate::benches::{A, B, BEFORE_THE_MEAL, C, Do, MEAL_OF_THREE, THREE};
+use interleaving::World;
+use lab_plan::JobNo;
 use std::alloc::Allocator;
 use std::process::Abort;
 
@@ -64,35 +63,4 @@ fn triangle(rt: HostRuntime) {
             "after {place} steps not {pairs:?}"
         );
     }
-}
-
-/// The forks during the meal, by their edges: where each is, and whether it is dirty.
-const DURING_THE_MEAL: [(u16, End, bool); 3] = [
-    (AB, End::Lower, false),
-    (AC, End::Lower, true),
-    (BC, End::Higher, true),
-];
-
-fn fork_of<T: Allocator>(rt: &impl Abort, world: &World<'_, T>, edge: EdgeNo) -> EdgeState {
-    assert!(rt; edge.0 < world.plan().edges());
-    world.edge(edge)
-}
-
-/// If the job with a clean fork came first, and the job without a dirty one, then a would come before b, b
-/// before c, and c before a.
-pub(super) fn goes_round_by_dirt<T: Allocator>(rt: &impl Abort, world: &mut World<'_, T>) -> bool {
-    go_on(rt, world, &MEAL_OF_THREE[..ONE_FORK_SOILED]);
-    for (edge, fork, dirty) in DURING_THE_MEAL {
-        let state = fork_of(rt, world, EdgeNo(edge));
-        assert!(rt;
-            state.fork == fork && state.dirty == dirty,
-            "of edge {edge}"
-        );
-    }
-    true
-}
-
-#[test]
-fn triangle_by_dirt_alone(rt: HostRuntime) {
-    assert!(rt; ask(&rt, rt.alloc(), THREE, &FORKS_HIGHER, Question::Forks));
 }
