@@ -1,5 +1,5 @@
 """Inputs that are refused: the fault in one line, and the status. Those of runs that can't be had so, as of a read that fails, are tested
-in `run_tests` (`faults`)."""
+in `run_tests` (`runs/faults`)."""
 
 from case import Case
 

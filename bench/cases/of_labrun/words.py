@@ -41,7 +41,7 @@ def rounds(limit):
 
 
 def threads(workers, turns):
-    """A report doesn't say how many workers there were: `run_tests` (`words`) does."""
+    """A report doesn't say how many workers there were: `run_tests` (`runs/words`) does."""
     return after(turns)
 
 

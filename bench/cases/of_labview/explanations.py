@@ -1,5 +1,5 @@
 """What `labview explain` tells: whole explanations, and of a step that isn't legal the cause, at each of eight stages of one run. All was
-reckoned by hand from the table of guards. (Causes that no step of a text has: `crates/view_tests/src/stages.rt`.)"""
+reckoned by hand from the table of guards. (Causes that no step of a text has: `crates/run_tests/src/views/stages.rt`.)"""
 
 from case import Case
 

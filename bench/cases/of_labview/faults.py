@@ -103,7 +103,7 @@ CASES = [
     script_for("picture", TWO_ADD, 2),
     script_for("table", TWO_ADD, 2),
     script_for("table", "lab 1\njob a\n", 2),
-    # (what the reader of reports says of these stands in crates/view_tests/src/faults.rt)
+    # (what the reader of reports says of these stands in crates/run_tests/src/views/faults.rt)
     script_for("picture", "lab 1", 1),
     script_for("picture", "lab 1\n", 2),
     report_for("gantt 9"),

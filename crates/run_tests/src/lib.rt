@@ -1,5 +1,12 @@
-//! Tests of whole runs, of words and of faults, so far as no run of the built program shows them.
+//! Tests of what no run of a built program and no call for C shows: readers and writers that fail, memory that is refused, threads that meet,
+//! answers that no output has; and that laws can be called. What they show stands in `bench/cases` and `bench/door`.
 #![tactic(auto)]
 
 #[cfg(test)]
-mod tests;
+mod doors;
+#[cfg(test)]
+mod rows;
+#[cfg(test)]
+mod runs;
+#[cfg(test)]
+mod views;

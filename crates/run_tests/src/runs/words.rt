@@ -1,6 +1,6 @@
 //! Command lines of which no run of the program shows what they ask for: other names of it, and how many workers. All others are cases of
 //! `bench/cases` (`of_labrun/words.py`).
-use super::rows::check;
+use crate::rows::check;
 use lab_runs::{Task, read_words};
 
 const IDLE: Task = Task::Threads {

@@ -1,7 +1,7 @@
 //! Runs by threads, each by as many threads as were asked for: what gates see of them.
 use super::gates::{Abreast, Flags};
-use super::rows::check;
 use super::{AMPLE, TWO_ADD, pieces_of, told};
+use crate::rows::check;
 use counting_gate::CountingGate;
 use lab_program::{Outcome, RunFault};
 use lab_runs::{Gate, Task};

@@ -1,6 +1,6 @@
 //! Readers and writers that give little, take little, or fail.
-use super::rows::check;
 use super::{AMPLE, Calls, Pieces, Slow, TWO_ADD, Told, pieces_of, told};
+use crate::rows::check;
 use lab_program::{FromRead, Outcome, RunFault, Source};
 use lab_runs::{NoGate, Task, run_rounds};
 use report::ToWrite;

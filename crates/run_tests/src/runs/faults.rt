@@ -1,6 +1,6 @@
 //! Texts and statuses of the faults that no run of the program can be made to have at will, or whose status `examples/check` doesn't see. All
 //! others are cases of `bench/cases` (`of_labrun/faults.py`).
-use super::rows::check;
+use crate::rows::check;
 use lab_program::{RunFault, status_of};
 use script_reader::{ScriptCause, ScriptFault};
 use std::test::Fail;

@@ -1,6 +1,6 @@
 //! Memory that runs out: each allocation of a run is refused in turn, and nothing else is reported.
-use super::rows::check;
 use super::{AMPLE, TWO_ADD, Told, pieces_of, told};
+use crate::rows::check;
 use lab_program::{Outcome, RunFault};
 use lab_runs::{NoGate, Task};
 use refusing_heap::RefusingHeap;

@@ -16,7 +16,6 @@ mod ends;
 mod faults;
 mod gates;
 mod memory;
-mod rows;
 mod threads;
 mod words;
 

@@ -1,0 +1,7 @@
+//! What the calls for C stand on, and don't show.
+
+mod hall;
+mod labs;
+mod laws;
+mod parts;
+mod texts;

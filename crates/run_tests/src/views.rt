@@ -1,0 +1,11 @@
+//! What views are made of, and no run of `labview` shows.
+
+mod ends;
+mod faults;
+mod laws;
+mod measured;
+mod memory;
+mod orders;
+mod stages;
+mod words;
+mod writers;
