@@ -153,4 +153,6 @@ CASES += [
     Case("check", "check", TWO_ADD, "ok jobs 2 instruments 1 edges 1 sessions 2 commands 2\n"),
     Case("upgrade_of_nothing", "upgrade", "", err=NO_HEADER, status=1),
     Case("walk", "walk", TWO_ADD, err=REFUSED, status=2),
+    # (a byte that is no text)
+    Case("no_text", ["rounds", "\udcff"], TWO_ADD, err=REFUSED, status=2),
 ]

@@ -86,6 +86,8 @@ REFUSED = [
     (["wait", "74"], unknown("wait")),
     (["waits", "-7"], unexpected("-7")),
     (["waits", "7", "7"], unexpected("7")),
+    # (a byte that is no text)
+    (["waits", "\udcff"], "a word isn't text"),
     (["trace", "1000000001"], "invalid value '1000000001' for '<N>': 1000000001 is not in 0..=1000000000"),
 ]
 

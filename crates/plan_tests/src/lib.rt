@@ -1,13 +1,10 @@
-//! Tests over public calls alone: of plans, logs, pairs of jobs, states and packed words; of the texts in which they are read and written; and
-//! of the words of a command line.
+//! Tests over public calls alone: of plans, logs, pairs of jobs, states and packed words, and of the texts in which they are read and written.
 #![tactic(auto)]
 
 #[cfg(test)]
 mod asked;
 #[cfg(test)]
 mod blocks;
-#[cfg(test)]
-mod command_words;
 #[cfg(test)]
 mod faults;
 #[cfg(test)]
