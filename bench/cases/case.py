@@ -12,7 +12,8 @@ def as_bytes(text):
 class Case:
     """`words` stand behind the program's name, and are cut at spaces if they are one text. Texts may be given as str or bytes. `out` may be
     a function instead: it gets standard output, and gives what is wrong with it, or None. So may `status`: it gets standard output, and
-    gives the status that goes with it. A case that is `slow` takes minutes before the proof, and is left to the built program."""
+    gives the status that goes with it. A case that is `slow` takes minutes before the proof, or is one of thousands, and is left to the
+    built program."""
 
     name: str
     words: list[str]

@@ -35,7 +35,7 @@ def after(table, event):
 
 def told(name, path, table):
     """The explanation of the state that these steps lead to."""
-    return Case(name, "explain", text_of(TWICE, [LINES[it] for it in path]), explained.of_state(table, len(path)))
+    return Case(name, "explain", text_of(TWICE, [LINES[it] for it in path]), explained.of_state(table, len(path)), slow=True)
 
 
 def refused(name, path, event, table):
@@ -49,7 +49,7 @@ def refused(name, path, event, table):
         is_so = first.startswith(f"line {line}: `{LINES[event]}` is not legal: ") and came == rest
         return None if is_so else f"it should refuse line {line}, and then tell\n{rest}"
 
-    return Case(name, "explain", text, judge)
+    return Case(name, "explain", text, judge, slow=True)
 
 
 class Lists:

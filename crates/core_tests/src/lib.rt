@@ -6,6 +6,8 @@ mod benches;
 #[cfg(test)]
 mod longer;
 #[cfg(test)]
+mod rows;
+#[cfg(test)]
 mod settled;
 #[cfg(test)]
 mod steps;

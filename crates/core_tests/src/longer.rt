@@ -1,5 +1,6 @@
 //! A world whose plan gets longer while it goes on: what it says then, worked out by hand.
 use crate::benches::{A, AB, B, Do, TWO, plan_of};
+use crate::rows::check;
 use crate::steps::open;
 use crate::waits::go_on;
 use interleaving::{AddRefusal, World};
@@ -83,7 +84,7 @@ fn is_so<T: Allocator>(rt: &impl Abort, world: &mut World<T>, row: Row) -> bool 
 
 fn follow<T: Allocator>(rt: &impl Abort, world: &mut World<T>, rows: &[Row]) {
     for number in 0..rows.len() {
-        assert!(rt; is_so(rt, world, rows[number]), "row {number}");
+        check(rt, number, is_so(rt, world, rows[number]), true);
     }
 }
 

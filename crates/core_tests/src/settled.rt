@@ -1,5 +1,6 @@
 //! What is left to do of itself is done, in a world of two jobs: worked out by hand.
 use crate::benches::{A, AB, B, Do, TWO, plan_of};
+use crate::rows::check;
 use crate::steps::open;
 use crate::waits::{owns, take};
 use interleaving::{Dining, Drinking, EdgeState, End, JobState, World};
@@ -33,7 +34,7 @@ fn rest_twice<T: Allocator + Copy>(
 /// Lets the world rest, which is done after one rest.
 fn let_rest<T: Allocator + Copy>(rt: &impl Abort, alloc: T, world: &mut World<'_, T>) -> Rested {
     let (deeds, again) = rest_twice(rt, alloc, world);
-    assert!(rt; again == 0);
+    check(rt, deeds, again, 0);
     assert!(rt; world.plan().jobs() >= 2 && world.plan().edges() >= 1);
     Rested {
         deeds,
@@ -186,19 +187,23 @@ fn is_so<T: Allocator + Copy>(
     }
 }
 
-/// It alone owns a world.
-fn follow<T: Allocator + Copy>(rt: &impl Abort, alloc: T, plan: &Plan<T>, rows: &[Row]) {
-    let mut world = open(rt, alloc, plan);
+fn follow<T: Allocator + Copy>(rt: &impl Abort, alloc: T, world: &mut World<'_, T>, rows: &[Row]) {
     for number in 0..rows.len() {
-        assert!(rt; is_so(rt, alloc, &mut world, rows[number]), "row {number}");
+        check(rt, number, is_so(rt, alloc, world, rows[number]), true);
     }
+}
+
+/// It alone owns a world.
+fn follow_all<T: Allocator + Copy>(rt: &impl Abort, alloc: T, plan: &Plan<T>, rows: &[Row]) {
+    let mut world = open(rt, alloc, plan);
+    follow(rt, alloc, &mut world, rows);
 }
 
 #[test]
 fn settles(rt: HostRuntime) {
     let plan = plan_of(&rt, rt.alloc(), TWO);
-    follow(&rt, rt.alloc(), &plan, &RESTS);
-    follow(&rt, rt.alloc(), &plan, &VISITS);
+    follow_all(&rt, rt.alloc(), &plan, &RESTS);
+    follow_all(&rt, rt.alloc(), &plan, &VISITS);
 }
 
 /// The laws are contracts: what is called does nothing.

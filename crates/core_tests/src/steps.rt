@@ -1,5 +1,6 @@
 //! Worked cases, whose answers were worked out by hand, of calls that no run of a program shows.
 use crate::benches::{A, AB, B, Do, plan_of};
+use crate::rows::check;
 use crate::waits::go_on;
 use instrument_log::Entry;
 use interleaving::{Counts, EdgeState, End, Event, JobState, NotLegal, World};
@@ -107,7 +108,7 @@ fn shows<T: Allocator>(rt: &impl Abort, world: &World<T>) -> Shown {
 fn does<T: Allocator>(rt: &impl Abort, world: &mut World<T>, event: &Event) -> bool {
     let enabled = world.enabled(*event);
     let done = world.step(*event).is_ok();
-    assert!(rt; done == enabled);
+    check(rt, *event, done, enabled);
     done
 }
 

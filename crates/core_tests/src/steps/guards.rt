@@ -2,6 +2,7 @@
 //! `bench/cases` (`of_labview/guards.py`).
 use super::{OPENED_EDGE, after};
 use crate::benches::{A, AB, B, Do, TWICE, TWO, event_seen, step_of};
+use crate::rows::check;
 use interleaving::{Drinking, EdgeState, Event, JobState};
 use std::alloc::Allocator;
 use std::process::Abort;
@@ -38,15 +39,11 @@ fn event_of(it: Do, seen: Seen) -> Event {
     }
 }
 
-fn check<T: Allocator + Copy>(rt: &impl Abort, alloc: T, script: &str, case: Sight) {
+fn try_one<T: Allocator + Copy>(rt: &impl Abort, alloc: T, script: &str, case: Sight) {
     let Sight(steps, it, seen, legal) = case;
     let event = event_of(it, seen);
     let (done, _) = after(rt, alloc, script, steps, &event);
-    assert!(rt;
-        done == legal,
-        "after {} steps not {legal}: {event:?}",
-        steps.len()
-    );
+    check(rt, event, done, legal);
 }
 
 const B_THIRSTS: [Do; 3] = [Do::Thirst(A), Do::Hunger(A), Do::Thirst(B)];
@@ -98,13 +95,13 @@ const BEYOND_THE_PLAN: [Sight; 9] = [
 #[test]
 fn sights(rt: HostRuntime) {
     for case in &OF_SIGHTS {
-        check(&rt, rt.alloc(), TWICE, *case);
+        try_one(&rt, rt.alloc(), TWICE, *case);
     }
 }
 
 #[test]
 fn beyond_the_plan(rt: HostRuntime) {
     for case in &BEYOND_THE_PLAN {
-        check(&rt, rt.alloc(), TWO, *case);
+        try_one(&rt, rt.alloc(), TWO, *case);
     }
 }

@@ -1,6 +1,7 @@
 //! The events that a world keeps, and what is left of it once it comes apart.
 use super::{OPENED_EDGE, open};
 use crate::benches::{A, AB, B, Do, TWICE, event_seen, plan_of, step_of};
+use crate::rows::check;
 use crate::waits::take;
 use interleaving::{JobState, World};
 use lab_plan::{JobNo, Plan};
@@ -57,11 +58,8 @@ fn is_kept<T: Allocator>(
     steps: &[Do],
     told: (usize, bool),
 ) {
-    assert!(rt; are_kept(world, steps), "row {number}");
-    assert!(rt;
-        (world.kept_room(), world.is_whole()) == told,
-        "row {number}"
-    );
+    check(rt, number, are_kept(world, steps), true);
+    check(rt, number, (world.kept_room(), world.is_whole()), told);
 }
 
 fn follow<T: Allocator + Copy>(
@@ -73,39 +71,49 @@ fn follow<T: Allocator + Copy>(
 ) {
     match row {
         Row::Does(it) => take(rt, world, it),
-        Row::Keeps(most) => assert!(rt; world.keep(alloc, most).is_ok()),
+        Row::Keeps(most) => check(rt, number, world.keep(alloc, most).is_ok(), true),
         Row::Takes => world.take_kept(),
         Row::Kept(steps, room, whole) => is_kept(rt, world, number, steps, (room, whole)),
     }
 }
 
-fn follow_all<T: Allocator + Copy>(rt: &impl Abort, alloc: T, plan: &Plan<T>) {
-    let mut world = open(rt, alloc, plan);
+fn follow_all<T: Allocator + Copy>(rt: &impl Abort, alloc: T, world: &mut World<T>) {
     for number in 0..ROWS.len() {
-        follow(rt, alloc, &mut world, number, ROWS[number]);
+        follow(rt, alloc, world, number, ROWS[number]);
     }
+}
+
+fn keeps<T: Allocator + Copy>(rt: &impl Abort, alloc: T, plan: &Plan<T>) {
+    let mut world = open(rt, alloc, plan);
+    follow_all(rt, alloc, &mut world);
 }
 
 #[test]
 fn keeps_what_there_is_room_for(rt: HostRuntime) {
     let plan = plan_of(&rt, rt.alloc(), TWICE);
-    follow_all(&rt, rt.alloc(), &plan);
+    keeps(&rt, rt.alloc(), &plan);
 }
 
 /// Job a sees its fork and its bottle; job b has neither.
 fn has_marks_of_a<T: Allocator>(rt: &impl Abort, world: &World<T>) {
     assert!(rt; world.plan().jobs() == 2);
-    assert!(rt; world.fork_marks(JobNo(A)) == [true].as_slice());
-    assert!(rt; world.all_bottle_marks(JobNo(A)) == [1].as_slice());
-    assert!(rt; world.all_bottle_marks(JobNo(B)) == [0].as_slice());
+    let forks_of_a = world.fork_marks(JobNo(A)) == [true].as_slice();
+    let bottles_of_a = world.all_bottle_marks(JobNo(A)) == [1].as_slice();
+    let bottles_of_b = world.all_bottle_marks(JobNo(B)) == [0].as_slice();
+    let came = (forks_of_a, bottles_of_a, bottles_of_b);
+    check(rt, "marks", came, (true, true, true));
+}
+
+fn thirsts_and_looks<T: Allocator>(rt: &impl Abort, world: &mut World<T>) {
+    take(rt, world, Do::Thirst(A));
+    take(rt, world, Do::Look(A, AB));
+    has_marks_of_a(rt, world);
 }
 
 /// How many logs a world has once it has come apart.
 fn logs_of<T: Allocator + Copy>(rt: &impl Abort, alloc: T, plan: &Plan<T>) -> usize {
     let mut world = open(rt, alloc, plan);
-    take(rt, &mut world, Do::Thirst(A));
-    take(rt, &mut world, Do::Look(A, AB));
-    has_marks_of_a(rt, &world);
+    thirsts_and_looks(rt, &mut world);
     let (logs, _) = world.into_logs();
     logs.len()
 }

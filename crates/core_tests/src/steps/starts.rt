@@ -1,6 +1,7 @@
 //! Starts, and memory that runs out.
 use super::{Told, Way, replayed, tell};
 use crate::benches::{A, AB, STALE_MARK, THREE, TWICE, TWO, plan_of};
+use crate::rows::check;
 use interleaving::{EdgeState, End, EndChoice, Event, NoMemory, StartRefusal, World};
 use lab_plan::{EdgeNo, JobNo, Plan};
 use linked_list_allocator::LocalHeap;
@@ -18,19 +19,27 @@ const HIGHER: EndChoice = EndChoice {
     bottles: 0,
 };
 
-/// The first edge of a world at its start, where the first job may begin its session, or why there is none.
+/// The first edge of a world, where the first job may begin its session.
+fn opened_edge<T: Allocator>(rt: &impl Abort, world: &World<T>) -> EdgeState {
+    assert!(rt; world.plan().edges() > 0);
+    check(
+        rt,
+        "may begin",
+        world.enabled(Event::Thirst(JobNo(A))),
+        true,
+    );
+    world.edge(EdgeNo(AB))
+}
+
+/// The first edge of a world at its start, or why there is none.
 fn start_of<T: Allocator + Copy>(
     rt: &impl Abort,
     alloc: T,
     plan: &Plan<T>,
     choices: &[EndChoice],
 ) -> Result<EdgeState, StartRefusal> {
-    assert!(rt; plan.edges() > 0);
     match World::start(alloc, plan, choices) {
-        Ok(world) => {
-            assert!(rt; world.enabled(Event::Thirst(JobNo(A))));
-            Ok(world.edge(EdgeNo(AB)))
-        }
+        Ok(world) => Ok(opened_edge(rt, &world)),
         Err(refusal) => Err(refusal),
     }
 }
@@ -46,7 +55,7 @@ fn start<T: Allocator + Copy>(
 }
 
 /// The script starts so with these choices.
-fn check<T: Allocator + Copy>(
+fn starts_as<T: Allocator + Copy>(
     rt: &impl Abort,
     alloc: T,
     script: &str,
@@ -54,7 +63,7 @@ fn check<T: Allocator + Copy>(
     wanted: Result<EdgeState, StartRefusal>,
 ) {
     let answer = start(rt, alloc, script, choices);
-    assert!(rt; answer == wanted, "with {choices:?} {answer:?}");
+    check(rt, choices, answer, wanted);
 }
 
 /// Of a triangle, the forks by the edges 0-1, 0-2 and 1-2: at 0, 2 and 1, and the other way round.
@@ -88,7 +97,7 @@ const REFUSED: [(&[EndChoice], StartRefusal); 5] = [
 #[test]
 fn starts_are_refused(rt: HostRuntime) {
     for (choices, refusal) in &REFUSED {
-        check(&rt, rt.alloc(), THREE, choices, Err(*refusal));
+        starts_as(&rt, rt.alloc(), THREE, choices, Err(*refusal));
     }
 }
 
@@ -125,9 +134,9 @@ const MANY: &str =
 
 #[test]
 fn many_in_common(rt: HostRuntime) {
-    check(&rt, rt.alloc(), MANY, &ALL, Ok(ALL_HIGHER));
-    check(&rt, rt.alloc(), MANY, &[LOWER], Ok(ALL_LOWER));
-    check(
+    starts_as(&rt, rt.alloc(), MANY, &ALL, Ok(ALL_HIGHER));
+    starts_as(&rt, rt.alloc(), MANY, &[LOWER], Ok(ALL_LOWER));
+    starts_as(
         &rt,
         rt.alloc(),
         MANY,
@@ -138,9 +147,11 @@ fn many_in_common(rt: HostRuntime) {
 
 /// Whether there is memory for a start; choices that don't fit come first.
 fn starts<T: Allocator + Copy>(rt: &impl Abort, heap: T, plan: &Plan<T>) -> bool {
-    assert!(rt; start_of(rt, heap, plan, &[]) == Err(StartRefusal::BadChoices));
+    let without = start_of(rt, heap, plan, &[]);
+    check(rt, "no choices", without, Err(StartRefusal::BadChoices));
     let answer = start_of(rt, heap, plan, &[HIGHER]);
-    assert!(rt; answer.is_ok() || answer == Err(StartRefusal::NoMemory));
+    let is_known = answer.is_ok() || answer == Err(StartRefusal::NoMemory);
+    check(rt, answer, is_known, true);
     answer.is_ok()
 }
 
@@ -160,16 +171,29 @@ fn opens_its_own<T: Allocator + Copy>(heap: T, plan: Plan<T>) -> bool {
     }
 }
 
+/// Whether a heap has memory for a plan of its own; then for a start, for the initial state, and for a world that owns the plan.
+fn read_and_begun<T: Allocator + Copy>(rt: &impl Abort, heap: T) -> Option<(bool, bool, bool)> {
+    match read_plan(heap, TWO.as_bytes()) {
+        Ok(plan) => {
+            let (started, opened) = (starts(rt, heap, &plan), opens(heap, &plan));
+            Some((started, opened, opens_its_own(heap, plan)))
+        }
+        Err(_) => None,
+    }
+}
+
 /// Whether a heap that holds the plan has memory for a start, and for the initial state; none if it has none even for the plan.
 /// A world that owns the plan takes no more, and gives all of it back.
 fn begins<T: Allocator + Copy>(rt: &impl Abort, heap: T) -> Option<(bool, bool)> {
-    let Ok(plan) = read_plan(heap, TWO.as_bytes()) else {
-        return None;
-    };
-    let (started, opened) = (starts(rt, heap, &plan), opens(heap, &plan));
-    assert!(rt; opens_its_own(heap, plan) == opened);
-    assert!(rt; read_plan(heap, TWO.as_bytes()).is_ok());
-    Some((started, opened))
+    match read_and_begun(rt, heap) {
+        Some((started, opened, opened_its_own)) => {
+            check(rt, "owned", opened_its_own, opened);
+            let has_room_again = read_plan(heap, TWO.as_bytes()).is_ok();
+            check(rt, "read again", has_room_again, true);
+            Some((started, opened))
+        }
+        None => None,
+    }
 }
 
 /// The same of a heap of this size.
@@ -205,8 +229,8 @@ const ALL_BEGUN: Begun = Begun {
 
 /// With another heap, on which a start and an opening are done if one was before.
 fn and_then(rt: &impl Abort, so_far: Begun, (started, opened): (bool, bool), size: usize) -> Begun {
-    assert!(rt; started || !so_far.started, "at {size}");
-    assert!(rt; opened || !so_far.opened, "at {size}");
+    check(rt, size, started || !so_far.started, true);
+    check(rt, size, opened || !so_far.opened, true);
     Begun {
         started,
         opened,

@@ -2,6 +2,7 @@
 //! (`of_labrun/replays.py`).
 use super::{OPENED, OPENED_EDGE, Shown, Way, after, replayed};
 use crate::benches::{A, B, Do, STALE_MARK, TWICE, TWO, event_seen, stage, step_of};
+use crate::rows::check;
 use interleaving::{Dining, Drinking, EdgeState, End, Event, JobState, NotLegal};
 use lab_plan::JobNo;
 use std::alloc::Allocator;
@@ -27,9 +28,9 @@ const HUNGERS: Shown = Shown {
 #[test]
 fn illegal_step(rt: HostRuntime) {
     let done = replayed(&rt, rt.alloc(), TWO, Way::Events(&HASTY));
-    assert!(rt; done == (Err((2, NotLegal)), HUNGERS));
+    check(&rt, 3, done == (Err((2, NotLegal)), HUNGERS), true);
     let legal = replayed(&rt, rt.alloc(), TWO, Way::Events(&HASTY[..2]));
-    assert!(rt; legal == (Ok(2), HUNGERS));
+    check(&rt, 2, legal == (Ok(2), HUNGERS), true);
 }
 
 /// The edge once b asked for the fork.
@@ -59,22 +60,20 @@ fn with_act_of_b(place: usize) -> [Event; 17] {
 }
 
 /// Job b never reaches in those steps: the replay stops at its entry, after the steps before it.
-fn check<T: Allocator + Copy>(rt: &impl Abort, alloc: T, place: usize) {
+fn stops_at<T: Allocator + Copy>(rt: &impl Abort, alloc: T, place: usize) {
     assert!(rt; place <= STALE_MARK.len());
     let act = Event::Act(JobNo(B));
     let (done, stays) = after(rt, alloc, TWICE, &STALE_MARK[..place], &act);
-    assert!(rt; !done, "after {place} steps");
+    check(rt, place, done, false);
     let events = with_act_of_b(place);
     let came = replayed(rt, alloc, TWICE, Way::Events(&events));
-    assert!(rt;
-        came == (Err((place, NotLegal)), stays),
-        "after {place} events"
-    );
+    let stopped = (Err((place, NotLegal)), stays);
+    check(rt, place, came == stopped, true);
 }
 
 #[test]
 fn stops_where_it_acts_too_soon(rt: HostRuntime) {
     for place in 0..17 {
-        check(&rt, rt.alloc(), place);
+        stops_at(&rt, rt.alloc(), place);
     }
 }

@@ -4,6 +4,7 @@ use crate::benches::{
     A, AB, B, BEFORE_THE_MEAL, C, Do, MEAL_OF_THREE, STALE_MARK, THREE, TWICE, event_of, stage,
     step_of,
 };
+use crate::rows::check;
 use interleaving::{Event, World};
 use lab_plan::{EdgeNo, JobNo};
 use linked_list_allocator::LocalHeap;
@@ -20,7 +21,8 @@ fn record<T: Allocator, V: Allocator>(
     steps: &[Do],
 ) {
     for step in steps {
-        assert!(rt; events.push(event_of(rt, world, *step)).is_ok());
+        let event = event_of(rt, world, *step);
+        check(rt, event, events.push(event).is_ok(), true);
         take(rt, world, *step);
     }
 }
@@ -51,11 +53,15 @@ fn check_overtaking<T: Allocator, V: Allocator>(
 ) {
     let steps = STALE_MARK.as_slice();
     record(rt, world, events, &steps[..stage::A_HAS_A_STALE_MARK]);
-    assert!(rt; world.step(Event::Sit(JobNo(A))).is_err());
-    assert!(rt; overtaking(rt, world, events, B_ASKS, JobNo(B)) == 1);
+    let sits = world.step(Event::Sit(JobNo(A))).is_ok();
+    check(rt, "sits", sits, false);
+    let of_b = overtaking(rt, world, events, B_ASKS, JobNo(B));
+    check(rt, "of b, so far", of_b, 1);
     record(rt, world, events, &steps[stage::A_HAS_A_STALE_MARK..]);
-    assert!(rt; overtaking(rt, world, events, B_ASKS, JobNo(B)) == 1);
-    assert!(rt; overtaking(rt, world, events, A_ASKS, JobNo(A)) == 0);
+    let of_b = overtaking(rt, world, events, B_ASKS, JobNo(B));
+    check(rt, "of b", of_b, 1);
+    let of_a = overtaking(rt, world, events, A_ASKS, JobNo(A));
+    check(rt, "of a", of_a, 0);
 }
 
 /// The overtaking at a request, while the job with the stale mark has to wait, and after it ate once more.
@@ -101,11 +107,7 @@ fn keeps_ranking<T: Allocator, V: Allocator + Copy>(
 ) {
     for step in steps {
         take(rt, world, *step);
-        assert!(rt;
-            ranks(rt, alloc, world, wanted),
-            "after {:?} not {wanted:?}",
-            step_of(*step)
-        );
+        check(rt, step_of(*step), ranks(rt, alloc, world, wanted), true);
     }
 }
 
@@ -114,7 +116,7 @@ pub(super) fn turns_with_meals<T: Allocator, V: Allocator + Copy>(
     alloc: V,
     world: &mut World<'_, T>,
 ) -> bool {
-    assert!(rt; ranks(rt, alloc, world, [A, B, C]));
+    check(rt, "at first", ranks(rt, alloc, world, [A, B, C]), true);
     let steps = MEAL_OF_THREE.as_slice();
     keeps_ranking(rt, alloc, world, &steps[..BEFORE_THE_MEAL], [A, B, C]);
     keeps_ranking(rt, alloc, world, &steps[BEFORE_THE_MEAL..], [B, C, A]);
@@ -143,7 +145,7 @@ pub(super) fn has_room<T: Allocator>(
 ) -> bool {
     match ranking(heap, world) {
         Ok(order) => {
-            assert!(rt; is_order(&order, [A, B, C]));
+            check(rt, "ranking", is_order(&order, [A, B, C]), true);
             true
         }
         Err(NoMemory) => false,

@@ -4,6 +4,7 @@ use crate::benches::{
     A, AB, B, Do, IMPATIENT, MEAL_FIRST, MEAL_OF_THREE, STALE_MARK, THREE, THREE_ADD, TWICE, TWO,
     step_of,
 };
+use crate::rows::check;
 use interleaving::{EndChoice, World};
 use lab_plan::InstrumentNo;
 use overtaking::way_on;
@@ -14,7 +15,7 @@ use std::process::Abort;
 fn leads_on<T: Allocator>(rt: &impl Abort, world: &World<'_, T>) -> bool {
     match way_on(world) {
         Some(event) => {
-            assert!(rt; world.enabled(event), "{event:?}");
+            check(rt, event, world.enabled(event), true);
             true
         }
         None => false,
@@ -29,7 +30,7 @@ pub(super) fn leads_all_along<T: Allocator>(
     at_end: bool,
 ) -> bool {
     for step in steps {
-        assert!(rt; leads_on(rt, world), "before {:?}", step_of(*step));
+        check(rt, step_of(*step), leads_on(rt, world), true);
         take(rt, world, *step);
     }
     leads_on(rt, world) == at_end
@@ -49,42 +50,42 @@ const GIVEN_UP: [Do; 10] = [
     Do::Retire(A),
 ];
 
-fn check<T: Allocator + Copy>(
+fn is_so<T: Allocator + Copy>(
     rt: &impl Abort,
     alloc: T,
     script: &str,
     choices: &[EndChoice],
     question: Question,
 ) {
-    assert!(rt; ask(rt, alloc, script, choices, question), "{script}");
+    check(rt, script, ask(rt, alloc, script, choices, question), true);
 }
 
 /// Behind the steps a way leads on if some job isn't retired by then.
 #[test]
 fn leads_on_in_each_run(rt: HostRuntime) {
     let alloc = rt.alloc();
-    check(
+    is_so(
         &rt,
         alloc,
         TWO,
         &ALL_LOWER,
         Question::Leads(&MEAL_FIRST, true),
     );
-    check(
+    is_so(
         &rt,
         alloc,
         TWICE,
         &ALL_LOWER,
         Question::Leads(&STALE_MARK, true),
     );
-    check(
+    is_so(
         &rt,
         alloc,
         THREE,
         &FORKS_HIGHER,
         Question::Leads(&MEAL_OF_THREE, true),
     );
-    check(
+    is_so(
         &rt,
         alloc,
         IMPATIENT,
@@ -199,7 +200,7 @@ const MAY_GIVE_UP: [&[Do]; 3] = [&GIVES_UP_AT_ONCE, &GIVES_UP_LATER, &NEVER_GIVE
 fn leads_on_while_b_may_give_up(rt: HostRuntime) {
     for &steps in &MAY_GIVE_UP {
         let question = Question::Leads(steps, false);
-        check(&rt, rt.alloc(), IMPATIENT, &ALL_LOWER, question);
+        is_so(&rt, rt.alloc(), IMPATIENT, &ALL_LOWER, question);
     }
 }
 
@@ -207,7 +208,7 @@ fn leads_on_while_b_may_give_up(rt: HostRuntime) {
 fn drive<T: Allocator>(rt: &impl Abort, world: &mut World<'_, T>) {
     for _ in 0..200 {
         match way_on(world) {
-            Some(event) => assert!(rt; world.step(event).is_ok()),
+            Some(event) => check(rt, event, world.step(event).is_ok(), true),
             None => return,
         }
     }
@@ -253,11 +254,11 @@ pub(super) fn drives_to<T: Allocator>(
 #[test]
 fn drives_to_each_end(rt: HostRuntime) {
     let alloc = rt.alloc();
-    check(&rt, alloc, TWO, &ALL_LOWER, Question::Drives(&[1, 2]));
-    check(&rt, alloc, TWICE, &ALL_LOWER, Question::Drives(&[1, 2, 3]));
+    is_so(&rt, alloc, TWO, &ALL_LOWER, Question::Drives(&[1, 2]));
+    is_so(&rt, alloc, TWICE, &ALL_LOWER, Question::Drives(&[1, 2, 3]));
     // nobody withdraws on this way
-    check(&rt, alloc, IMPATIENT, &ALL_LOWER, Question::Drives(&[1, 2]));
-    check(
+    is_so(&rt, alloc, IMPATIENT, &ALL_LOWER, Question::Drives(&[1, 2]));
+    is_so(
         &rt,
         alloc,
         THREE_ADD,
@@ -265,5 +266,5 @@ fn drives_to_each_end(rt: HostRuntime) {
         Question::Drives(&[1, 2, 3]),
     );
     // without jobs nothing is left to do
-    check(&rt, alloc, "lab 1", &[], Question::Drives(&[]));
+    is_so(&rt, alloc, "lab 1", &[], Question::Drives(&[]));
 }
