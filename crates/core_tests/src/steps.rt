@@ -104,11 +104,12 @@ fn shows<T: Allocator>(rt: &impl Abort, world: &World<T>) -> Shown {
     }
 }
 
-/// Whether the event is done, which has to be where it is said to be enabled.
+/// Whether the event is done, which has to be where it is said to be enabled. One that is refused changes nothing.
 fn does<T: Allocator>(rt: &impl Abort, world: &mut World<T>, event: &Event) -> bool {
-    let enabled = world.enabled(*event);
+    let (before, enabled) = (shows(rt, world), world.enabled(*event));
     let done = world.step(*event).is_ok();
     check(rt, *event, done, enabled);
+    check(rt, *event, done || shows(rt, world) == before, true);
     done
 }
 
