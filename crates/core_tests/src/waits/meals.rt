@@ -22,7 +22,7 @@ fn record<T: Allocator, V: Allocator>(
 ) {
     for step in steps {
         let event = event_of(rt, world, *step);
-        check(rt, event, events.push(event).is_ok(), true);
+        assert!(rt; events.push(event).is_ok());
         take(rt, world, *step);
     }
 }

@@ -15,7 +15,7 @@ use std::process::Abort;
 fn leads_on<T: Allocator>(rt: &impl Abort, world: &World<'_, T>) -> bool {
     match way_on(world) {
         Some(event) => {
-            check(rt, event, world.enabled(event), true);
+            assert!(rt; world.enabled(event));
             true
         }
         None => false,
@@ -208,7 +208,7 @@ fn leads_on_while_b_may_give_up(rt: HostRuntime) {
 fn drive<T: Allocator>(rt: &impl Abort, world: &mut World<'_, T>) {
     for _ in 0..200 {
         match way_on(world) {
-            Some(event) => check(rt, event, world.step(event).is_ok(), true),
+            Some(event) => assert!(rt; world.step(event).is_ok()),
             None => return,
         }
     }
