@@ -4,11 +4,11 @@ ghost use Rattle.session_layer.specs.Turn.{Took};
 ghost use Rattle.desk_user.specs.Serving.{Served};
 ghost use Rattle.live_lab.specs.declared.stage.Aim.TheVariants.{Hold, Retire};
 ghost use Rattle.bench_calls.specs.Closing.{Frees};
-ghost use Rattle.hall_calls.specs.Calls.{Opens, OfBench, TellsSize, Takes, GivesBack, Closes, is_of_a_hall};
-ghost use Rattle.hall_calls.specs.Resuming.{ResumesShared};
-ghost use Rattle.hall_calls.specs.Calls.{OnDesk, Drives, GoesOn, LetsGo, DoesNext, GivesUp, TellsState};
+ghost use Rattle.bench_calls.specs.DeskCalls.{Opens, OfBench, TellsSize, Takes, GivesBack, Closes, is_of_a_hall};
+ghost use Rattle.bench_calls.specs.Resuming.{ResumesShared};
+ghost use Rattle.bench_calls.specs.DeskCalls.{OnDesk, Drives, GoesOn, LetsGo, DoesNext, GivesUp, TellsState};
 
-use bench_calls::{Handle, LabEntry, LabSize, LabState, LabTurned};
+use bench_calls::{Handle, LabEntry, LabSize, LabState, LabTurned, halls};
 use c_tells::Told;
 use std::alloc::Global;
 
@@ -22,7 +22,7 @@ pub extern "C" fn lab_shared_open(
 ) -> u32
     ensures { Opens script.now bench.old.slot.held bench.new.slot.held told.old told.new result }
 {
-    hall_calls::open(alloc, script, bench, told)
+    halls::open(alloc, script, bench, told)
 }
 
 /// Opens the bench that a journal tells of, as far as it has whole lines, with each desk at its place, and tells how many bytes these are.
@@ -35,7 +35,7 @@ pub extern "C" fn lab_shared_resume(
 ) -> u32
     ensures { ResumesShared journal.now bench.old.slot.held bench.new.slot.held told.old told.new result }
 {
-    hall_calls::resume(alloc, journal, bench, told)
+    halls::resume(alloc, journal, bench, told)
 }
 
 /// Tells how many jobs and instruments there are.
@@ -43,7 +43,7 @@ pub extern "C" fn lab_shared_resume(
 pub extern "C" fn lab_shared_size(alloc: Global, bench: &mut Handle, size: &mut LabSize) -> u32
     ensures { OfBench TellsSize bench.old.slot.held bench.new.slot.held size.old size.new result }
 {
-    hall_calls::size(alloc, bench, size)
+    halls::size(alloc, bench, size)
 }
 
 /// Takes the desk of a job into an empty handle. It is there unless somebody has it.
@@ -57,7 +57,7 @@ pub extern "C" fn lab_take_desk(
     ensures same { bench.new.slot.held ≡ bench.old.slot.held }
     ensures takes { Takes job bench.old.slot.held desk.old.slot.held desk.new.slot.held result }
 {
-    hall_calls::take_desk(alloc, bench, job, desk)
+    halls::take_desk(alloc, bench, job, desk)
 }
 
 /// Gives a desk back to its own bench.
@@ -65,7 +65,7 @@ pub extern "C" fn lab_take_desk(
 pub extern "C" fn lab_give_desk(alloc: Global, desk: &mut Handle) -> u32
     ensures { GivesBack desk.old.slot.held desk.new.slot.held result }
 {
-    hall_calls::give(alloc, desk)
+    halls::give(alloc, desk)
 }
 
 /// One turn of a desk.
@@ -73,7 +73,7 @@ pub extern "C" fn lab_give_desk(alloc: Global, desk: &mut Handle) -> u32
 pub extern "C" fn lab_desk_turn(alloc: Global, desk: &mut Handle, turned: &mut LabTurned) -> u32
     ensures { OnDesk (Drives Took) desk.old.slot.held desk.new.slot.held turned.old turned.new result }
 {
-    hall_calls::turn(alloc, desk, turned)
+    halls::turn(alloc, desk, turned)
 }
 
 /// Serves a desk's neighbours: gives and asks, and meals, and nothing of its session.
@@ -81,7 +81,7 @@ pub extern "C" fn lab_desk_turn(alloc: Global, desk: &mut Handle, turned: &mut L
 pub extern "C" fn lab_desk_serve(alloc: Global, desk: &mut Handle, turned: &mut LabTurned) -> u32
     ensures { OnDesk (Drives Served) desk.old.slot.held desk.new.slot.held turned.old turned.new result }
 {
-    hall_calls::serve(alloc, desk, turned)
+    halls::serve(alloc, desk, turned)
 }
 
 /// Takes turns of a desk, at most this many, until its job holds.
@@ -94,7 +94,7 @@ pub extern "C" fn lab_desk_begin(
 ) -> u32
     ensures { OnDesk (GoesOn Hold turns) desk.old.slot.held desk.new.slot.held turned.old turned.new result }
 {
-    hall_calls::begin(alloc, desk, turns, turned)
+    halls::begin(alloc, desk, turns, turned)
 }
 
 /// Does the commands that are left of the session that a desk's job holds, and ends it.
@@ -102,7 +102,7 @@ pub extern "C" fn lab_desk_begin(
 pub extern "C" fn lab_desk_end(alloc: Global, desk: &mut Handle, turned: &mut LabTurned) -> u32
     ensures { OnDesk LetsGo desk.old.slot.held desk.new.slot.held turned.old turned.new result }
 {
-    hall_calls::end(alloc, desk, turned)
+    halls::end(alloc, desk, turned)
 }
 
 /// Takes turns of a desk whose job's sessions are all done, at most this many, until it is retired.
@@ -115,7 +115,7 @@ pub extern "C" fn lab_desk_retire(
 ) -> u32
     ensures { OnDesk (GoesOn Retire turns) desk.old.slot.held desk.new.slot.held turned.old turned.new result }
 {
-    hall_calls::retire(alloc, desk, turns, turned)
+    halls::retire(alloc, desk, turns, turned)
 }
 
 /// Does the next command of the session that a desk's job holds, and tells its entry.
@@ -123,7 +123,7 @@ pub extern "C" fn lab_desk_retire(
 pub extern "C" fn lab_desk_command(alloc: Global, desk: &mut Handle, entry: &mut LabEntry) -> u32
     ensures { OnDesk DoesNext desk.old.slot.held desk.new.slot.held entry.old entry.new result }
 {
-    hall_calls::command(alloc, desk, entry)
+    halls::command(alloc, desk, entry)
 }
 
 /// Gives up the session that a desk's job is thirsty in, if it has a patience.
@@ -131,7 +131,7 @@ pub extern "C" fn lab_desk_command(alloc: Global, desk: &mut Handle, entry: &mut
 pub extern "C" fn lab_desk_withdraw(alloc: Global, desk: &mut Handle) -> u32
     ensures { OnDesk GivesUp desk.old.slot.held desk.new.slot.held tt tt result }
 {
-    hall_calls::withdraw(alloc, desk)
+    halls::withdraw(alloc, desk)
 }
 
 /// Tells how far a desk's job is.
@@ -139,7 +139,7 @@ pub extern "C" fn lab_desk_withdraw(alloc: Global, desk: &mut Handle) -> u32
 pub extern "C" fn lab_desk_state(alloc: Global, desk: &mut Handle, state: &mut LabState) -> u32
     ensures { OnDesk TellsState desk.old.slot.held desk.new.slot.held state.old state.new result }
 {
-    hall_calls::state(alloc, desk, state)
+    halls::state(alloc, desk, state)
 }
 
 /// Closes the bench, if all its desks are back, and puts its report into the room. Without memory or room the next call goes on from there.
@@ -152,7 +152,7 @@ pub extern "C" fn lab_shared_close(
 ) -> u32
     ensures { Closes bench.old.slot.held bench.new.slot.held report.old report.new told.old told.new result }
 {
-    hall_calls::close(alloc, bench, report, told)
+    halls::close(alloc, bench, report, told)
 }
 
 /// Frees the bench of the handle, which then has nothing. Desks that are out stay where they are.
@@ -160,5 +160,5 @@ pub extern "C" fn lab_shared_close(
 pub extern "C" fn lab_shared_free(alloc: Global, bench: &mut Handle) -> u32
     ensures { Frees is_of_a_hall bench.old.slot.held bench.new.slot.held result }
 {
-    hall_calls::free(alloc, bench)
+    halls::free(alloc, bench)
 }

@@ -1,4 +1,4 @@
-//! What C calls for a bench or a desk: each export is the call of `bench_calls` or of `hall_calls`, with its contract.
+//! What C calls for a bench or a desk: each export is the call of `bench_calls`, on a desk of its `halls`, with its contract.
 #![tactic(auto)]
 
 ghost use Rattle.std.specs.Prelude.{◌≡◌};

@@ -4,3 +4,5 @@ pub mod Closing
 pub mod Calls
 pub mod Journals
 pub mod Coming
+pub mod DeskCalls
+pub mod Resuming

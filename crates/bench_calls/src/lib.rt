@@ -1,10 +1,12 @@
 //! One type of handle for C, which has a lab, a report, a bench of desks, a desk, or nothing; how a call takes out what it has and puts it back; and the
-//! calls on a lab of one handle: what each does to it, what it tells, as structs that C has too, and its status.
+//! calls on a lab of one handle: what each does to it, what it tells, as structs that C has too, and its status. Those on a bench of desks, and on a
+//! desk, stand in `halls`.
 #![tactic(auto)]
 
 mod additions;
 mod deeds;
 mod ending;
+pub mod halls;
 mod handle;
 mod inside;
 mod journals;

@@ -2,9 +2,9 @@
 ghost use Rattle.session_layer.specs.Turn.{Took};
 ghost use Rattle.desk_user.specs.Serving.{Served};
 ghost use Rattle.live_lab.specs.declared.stage.Aim.TheVariants.{Hold, Retire};
-ghost use Rattle.hall_calls.specs.Calls.{OnDesk, InDesk, AtDesk, Drives, GoesOn, LetsGo, TellsRelease, DoesNext, GivesUp, TellsState};
+ghost use Rattle.bench_calls.specs.DeskCalls.{OnDesk, InDesk, AtDesk, Drives, GoesOn, LetsGo, TellsRelease, DoesNext, GivesUp, TellsState};
 
-use bench_calls::{
+use crate::{
     Handle, Inside, LabEntry, LabState, LabTurned, NOT_NOW, NOT_OPEN, put, stage_status, state_of,
     take, tell_entry, turned_of, withdrew,
 };

@@ -1,6 +1,6 @@
 use Rattle.std.proofs.Common.{refl, sym, subst}
-use Rattle.hall_calls.specs.Calls.{InDesk, TellsState}
-use Rattle.hall_calls.proofs.at_desk.state_in.Goals as goal
+use Rattle.bench_calls.specs.DeskCalls.{InDesk, TellsState}
+use Rattle.bench_calls.proofs.halls.at_desk.state_in.Goals as goal
 
 pub returns-in-Desk : goal.returns-in-Desk
 returns-in-Desk c =

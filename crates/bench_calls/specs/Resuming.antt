@@ -7,7 +7,7 @@ use Rattle.c_tells.specs.Telling.{told_length}
 use Rattle.bench_calls.specs.declared.inside.Inside.{Inside}
 use Rattle.bench_calls.specs.declared.inside.Inside.TheVariants.{Shared}
 use Rattle.bench_calls.specs.Journals.{IsNotResumedIn}
-use Rattle.hall_calls.specs.Calls.{Bench}
+use Rattle.bench_calls.specs.DeskCalls.{Bench}
 
 -- the bench stands where the journal ends, as far as that has whole lines; the length of these is told
 abbrev pub IsSharedAgain : List ℕ → Inside → Told → Type 0

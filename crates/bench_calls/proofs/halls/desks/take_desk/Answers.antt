@@ -1,6 +1,6 @@
 use Rattle.std.proofs.Common.{inl, refl, sym, subst, ap, ◌∙◌, Some}
-use Rattle.hall_calls.specs.Calls.{Takes}
-use Rattle.hall_calls.proofs.desks.take_desk.Goals as goal
+use Rattle.bench_calls.specs.DeskCalls.{Takes}
+use Rattle.bench_calls.proofs.halls.desks.take_desk.Goals as goal
 
 pub returns-in-Ok-taken-clause-takes : goal.returns-in-Ok-taken-clause-takes
 returns-in-Ok-taken-clause-takes c =

@@ -2,9 +2,9 @@
 ghost use Rattle.std.specs.Prelude.{◌≡◌};
 ghost use Rattle.bench_calls.specs.Closing.{Frees};
 ghost use Rattle.bench_calls.specs.declared.inside.Inside.TheVariants.{Shared};
-ghost use Rattle.hall_calls.specs.Calls.{Closes, ClosesShared, is_of_a_hall};
+ghost use Rattle.bench_calls.specs.DeskCalls.{Closes, ClosesShared, is_of_a_hall};
 
-use bench_calls::{Handle, Inside, NOT_NOW, NOT_OPEN, put, release, take};
+use crate::{Handle, Inside, NOT_NOW, NOT_OPEN, put, release, take};
 use bench_hall::{Hall, Held, WhyOpen, close_held};
 use c_tells::{Told, fail};
 use lab_program::RunFault;

@@ -1,7 +1,7 @@
 use Rattle.std.proofs.Common.{refl, sym, subst}
 use Rattle.bench_calls.specs.declared.inside.Inside.TheVariants.{Desk}
-use Rattle.hall_calls.specs.Calls.{InDesk, GivesUp}
-use Rattle.hall_calls.proofs.at_desk.withdraw_in.Goals as goal
+use Rattle.bench_calls.specs.DeskCalls.{InDesk, GivesUp}
+use Rattle.bench_calls.proofs.halls.at_desk.withdraw_in.Goals as goal
 
 pub returns-in-Desk : goal.returns-in-Desk
 returns-in-Desk c =

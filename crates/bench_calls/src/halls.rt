@@ -1,6 +1,5 @@
 //! The calls for C on a bench whose desks threads drive at once, and on a desk: what each does to its handle, and its status. Calls on the desks of one bench
 //! run beside one another.
-#![tactic(auto)]
 
 mod at_desk;
 mod coming_back;

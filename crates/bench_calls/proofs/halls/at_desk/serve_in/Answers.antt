@@ -1,8 +1,8 @@
 use Rattle.std.proofs.Common.{refl, sym, subst}
 use Rattle.desk_user.specs.Serving.{Served}
 use Rattle.bench_calls.specs.declared.inside.Inside.TheVariants.{Desk}
-use Rattle.hall_calls.specs.Calls.{InDesk, Drives}
-use Rattle.hall_calls.proofs.at_desk.serve_in.Goals as goal
+use Rattle.bench_calls.specs.DeskCalls.{InDesk, Drives}
+use Rattle.bench_calls.proofs.halls.at_desk.serve_in.Goals as goal
 
 pub returns-in-Desk : goal.returns-in-Desk
 returns-in-Desk c =

@@ -1,9 +1,9 @@
 //! How a handle gets a bench of desks that goes on where a journal ends.
 ghost use Rattle.std.specs.Prelude.{IfOk, IfErr};
 ghost use Rattle.bench_calls.specs.Journals.{IsNotResumedIn};
-ghost use Rattle.hall_calls.specs.Resuming.{IsSharedAgain, ResumesShared};
+ghost use Rattle.bench_calls.specs.Resuming.{IsSharedAgain, ResumesShared};
 
-use bench_calls::{Handle, Inside, claim, put, release};
+use crate::{Handle, Inside, claim, put, release};
 use bench_hall::Hall;
 use c_tells::{Told, fail};
 use lab_program::RunFault;

@@ -1,8 +1,8 @@
 //! How a desk comes into a handle, and back to its bench.
 ghost use Rattle.std.specs.Prelude.{◌≡◌, IfOk, IfErr, Some};
-ghost use Rattle.hall_calls.specs.Calls.{Takes, GivesBack, IsDeskIn, HasDeskOf, IsWhyNone, IsWhyNoDesk, why_number};
+ghost use Rattle.bench_calls.specs.DeskCalls.{Takes, GivesBack, IsDeskIn, HasDeskOf, IsWhyNone, IsWhyNoDesk, why_number};
 
-use bench_calls::{Handle, Inside, NO_JOB, NOT_NOW, NOT_OPEN, claim, put, release, take};
+use crate::{Handle, Inside, NO_JOB, NOT_NOW, NOT_OPEN, claim, put, release, take};
 use bench_hall::{NotTaken, TakenDesk};
 use std::alloc::Global;
 

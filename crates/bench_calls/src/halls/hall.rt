@@ -1,8 +1,8 @@
 //! A bench of desks in a handle: how it is opened, and what it tells.
 ghost use Rattle.std.specs.Prelude.{IfOk, IfErr};
-ghost use Rattle.hall_calls.specs.Calls.{Opens, IsOpened, IsNotOpened, OfBench, TellsSize};
+ghost use Rattle.bench_calls.specs.DeskCalls.{Opens, IsOpened, IsNotOpened, OfBench, TellsSize};
 
-use bench_calls::{Handle, Inside, LabSize, NOT_OPEN, claim, put, release, take};
+use crate::{Handle, Inside, LabSize, NOT_OPEN, claim, put, release, take};
 use bench_hall::Hall;
 use c_tells::{Told, fail};
 use lab_program::RunFault;
