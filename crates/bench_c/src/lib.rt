@@ -1,4 +1,4 @@
-//! What C calls for a bench or a desk: each export is the call of `bench_calls`, on a desk of its `halls`, with its contract.
+//! What C calls: whole runs, in `runs`; and for a bench or a desk the calls of `bench_calls` (of its `halls`, on a desk), with their contracts.
 #![tactic(auto)]
 
 ghost use Rattle.std.specs.Prelude.{◌≡◌};
@@ -11,7 +11,10 @@ ghost use Rattle.bench_calls.specs.Calls.{Opens, InLab, InRoom, TellsScript};
 ghost use Rattle.bench_calls.specs.Calls.{Turns, Serves, ServesRest, SettlesAll, GoesToHold, DoesNext, LetsGo, GivesUp, GoesToEnd, SetsOvertakes};
 ghost use Rattle.bench_calls.specs.Calls.{TellsSize, TellsSession, TellsPlanned, TellsState, TellsKeepers, TellsOutside, TellsJobName, TellsInstrumentName};
 
+mod bytes;
 mod desks;
+mod runs;
+mod told;
 
 use bench_calls::{
     Handle, LabCame, LabEntry, LabKeepers, LabOutside, LabPlanned, LabSession, LabSize, LabState,

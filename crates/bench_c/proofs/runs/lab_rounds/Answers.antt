@@ -1,7 +1,7 @@
 use Rattle.lab_program.specs.Answers.{ScriptRefuses}
 use Rattle.lab_runs.specs.Shared.{RunsInRounds}
-use Rattle.lab_c.proofs.Called.{answered}
-use Rattle.lab_c.proofs.lab_rounds.Goals as goal
+use Rattle.bench_c.proofs.Called.{answered}
+use Rattle.bench_c.proofs.runs.lab_rounds.Goals as goal
 
 pub returns-clause-answer : goal.returns-clause-answer
 returns-clause-answer c =

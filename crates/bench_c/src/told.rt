@@ -1,5 +1,5 @@
 //! How a run's answer is told.
-ghost use Rattle.lab_c.specs.Calls.{Tells};
+ghost use Rattle.bench_c.specs.Runs.{Tells};
 
 use c_tells::{Told, deliver, fail};
 use lab_program::{Outcome, RunFault, status_of};

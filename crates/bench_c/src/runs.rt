@@ -1,21 +1,17 @@
 //! What C calls: the program's runs on one thread, from a script in memory to a report in memory.
-#![tactic(auto)]
 
 ghost use Rattle.std.specs.Prelude.{◌≡◌};
 ghost use Rattle.lab_program.specs.Answers.{ScriptRefuses};
 ghost use Rattle.lab_runs.specs.Replays.{ReplaysScript, ReplayRefuses};
 ghost use Rattle.lab_runs.specs.Scripts.{Checks, Upgrades, UpgradeIsStable};
 ghost use Rattle.lab_runs.specs.Shared.{RunsInRounds, HasOneRun};
-ghost use Rattle.lab_c.specs.Calls.{Answers};
+ghost use Rattle.bench_c.specs.Runs.{Answers};
 
-mod bytes;
-mod told;
-
-use bytes::Bytes;
+use crate::bytes::Bytes;
+use crate::told::tell;
 use c_tells::{MemorySink, Told};
 use lab_runs::{run_check, run_replay, run_rounds, run_upgrade};
 use std::alloc::Global;
-use told::tell;
 
 /// Runs a script in rounds, at most `limit` of them, and puts the report into `report`.
 ///

@@ -1,6 +1,6 @@
 use Rattle.lab_runs.specs.Replays.{ReplaysScript, ReplayRefuses}
-use Rattle.lab_c.proofs.Called.{answered}
-use Rattle.lab_c.proofs.lab_replay.Goals as goal
+use Rattle.bench_c.proofs.Called.{answered}
+use Rattle.bench_c.proofs.runs.lab_replay.Goals as goal
 
 pub returns : goal.returns
 returns c =

@@ -6,7 +6,7 @@ use Rattle.lab_program.specs.declared.faults.Outcome.{Outcome}
 use Rattle.lab_program.specs.Faults.{failed_reads}
 use Rattle.lab_program.specs.Answers.{AnswersTo}
 use Rattle.c_tells.specs.declared.told.Told.{Told}
-use Rattle.lab_c.specs.Calls.{Tells, Answers}
+use Rattle.bench_c.specs.Runs.{Tells, Answers}
 
 called : (Writes : List ℕ → List ℕ → Outcome → Type 0) (Refuses : List ℕ → RunFault → Type 0)
     (script text old new : List ℕ) (told : Told) (status : ℕ) (answer : Result Outcome RunFault)

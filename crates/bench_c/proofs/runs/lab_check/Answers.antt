@@ -1,7 +1,7 @@
 use Rattle.lab_program.specs.Answers.{ScriptRefuses}
 use Rattle.lab_runs.specs.Scripts.{Checks}
-use Rattle.lab_c.proofs.Called.{answered}
-use Rattle.lab_c.proofs.lab_check.Goals as goal
+use Rattle.bench_c.proofs.Called.{answered}
+use Rattle.bench_c.proofs.runs.lab_check.Goals as goal
 
 pub returns : goal.returns
 returns c =
