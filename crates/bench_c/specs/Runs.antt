@@ -1,4 +1,4 @@
--- What a call leaves in the caller's memory, and its status.
+-- What the call of a whole run leaves in the caller's memory, and its status.
 use Rattle.std.specs.Prelude.{ℕ, ◌<◌, List, length, Result, Ok, Err}
 use Rattle.lab_program.specs.declared.faults.RunFault.{RunFault}
 use Rattle.lab_program.specs.declared.faults.RunFault.TheVariants.{Read, TooLong, Write, NoMemory}

@@ -1,4 +1,4 @@
--- For readers: what each call leaves in the handle and in the caller's memory, and its status.
+-- For readers: what each call on the lab of one handle leaves in the handle and in the caller's memory, and its status.
 use Rattle.std.specs.Prelude.{◌≡◌, ◌⊎◌, ℕ, ◌-◌, ◌≤◌, ◌<◌, ◌==◌, min, if◌then◌else◌, Bool, true, false, List, length, Option, Some, None, Err}
 use Rattle.lab_plan.specs.LabPlan.{job_at}
 use Rattle.lab_program.specs.declared.faults.RunFault.{RunFault}

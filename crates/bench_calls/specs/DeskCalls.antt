@@ -1,4 +1,4 @@
--- For readers: what each call leaves in the handles and in the caller's memory, and its status.
+-- For readers: what each call on a bench of desks, or on a desk, leaves in the handles and in the caller's memory, and its status.
 use Rattle.std.specs.Prelude.{◌≡◌, ◌⊎◌, ◌↔◌, ℕ, ◌≤◌, Bool, true, false, if◌then◌else◌, List, length, Option, Some, None, Err}
 use Rattle.std.specs.Arc.{arc_value}
 use Rattle.std.specs.declared.sync.Arc.{Arc}
