@@ -354,7 +354,8 @@ def test_control_c(pytester: pytest.Pytester, run: Run) -> None:
     os.killpg(process.pid, signal.SIGINT)
     told = process.communicate(timeout=30)[0]
     assert process.returncode == pytest.ExitCode.INTERRUPTED and "KeyboardInterrupt" in told
-    assert time.monotonic() - begun < 15
+    # (xdist gives a worker that misses the interrupt ten seconds to come down, and then ten more until it is killed)
+    assert time.monotonic() - begun < 25
 
 
 def test_a_killed_controller_leaves_nothing_held(pytester: pytest.Pytester, run: Run, bay: object) -> None:
