@@ -2083,7 +2083,9 @@ class bench {
     report close() {
         core_->belongs_here();
         std::unique_lock<std::mutex> guard(core_->mutex);
-        if (!core_->is_closed) core_->retire_all();
+        // (a bench that is to go on by its journal needs all its jobs)
+        const bool goes_on = !core_->is_closed && core_->is_endless && core_->log && core_->busy();
+        if (!core_->is_closed && !goes_on) core_->retire_all();
         while (core_->log && !core_->log->is_written()) {
             const detail::journal::ticket ticket = core_->ticket();
             guard.unlock();

@@ -250,6 +250,20 @@ static void pages() {
     expect("of a script", throws<labrun::not_now>([&] { of.turn_page(); }));
 }
 
+// Closed while one holds: whoever opens it again has all jobs.
+static void closed_while_one_holds() {
+    begin();
+    {
+        bench first = opened();
+        const labrun::session held = first.job("guest").hold({"scope"});
+        expect("unfinished", !first.close().finished);
+    }
+    bench second = opened();
+    expect("another's session", second.job("host").hold({"load-1"}).number() == 2);
+    expect("held still", second.job("guest").resumed().has_value());
+    expect("its end", count(finished(second).text, "guest 2 1/1 read = 0\n") == 1);
+}
+
 // What comes while a page is turned waits for the new page, and is in its journal.
 static void what_comes_meanwhile() {
     begin();
@@ -501,7 +515,7 @@ static void load(bool has_room) {
 int main(int, char **words) {
     path = std::string(words[1]) + "/bay.journal";
     std::signal(SIGXFSZ, SIG_IGN);
-    for (const auto &test : {comes_back, cuts, pages, what_comes_meanwhile, no_room}) test();
+    for (const auto &test : {comes_back, cuts, pages, closed_while_one_holds, what_comes_meanwhile, no_room}) test();
     for (const auto how : {labrun::sync::none, labrun::sync::data})
         for (const bool is_one : {true, false}) turns_that_fail(how, is_one);
     waits_while_a_turn_fails();

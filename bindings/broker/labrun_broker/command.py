@@ -78,7 +78,7 @@ def add_serve(parser: argparse.ArgumentParser) -> None:
     parser.add_argument("bay", metavar="BAY", help="the bay, a TOML file; see `bay check`")
     parser.add_argument("--state", metavar="DIR", help="keep the journal and the records there: a broker that is killed goes on where it was")
     parser.add_argument("--listen", metavar="ADDR", action="append", help=f"unix:PATH or HOST:PORT, as often as wanted; {DEFAULT} without")
-    parser.add_argument("--group", metavar="GROUP", help="whose members may use the socket, which has the mode 0660")
+    parser.add_argument("--group", metavar="GROUP", help="whose members may use the Unix sockets, which have the mode 0660")
     parser.add_argument("--grace", metavar="SECONDS", type=seconds, default=60.0, help="for how long a client that is gone may come back, 60 without")
     parser.add_argument("--page", metavar="ADDR", help="show how the bay stands to browsers there")
     parser.add_argument("--metrics", metavar="ADDR", help="tell Prometheus there")
@@ -126,11 +126,11 @@ async def web(args: argparse.Namespace, keeping: Keeping) -> list[Any]:
     if args.page is not None:
         from .page import serve_page
 
-        runners.append(await serve_page(keeping, args.page))
+        runners.append(await serve_page(keeping, args.page, args.group))
     if args.metrics is not None:
         from .metrics import serve_metrics
 
-        runners.append(await serve_metrics(keeping, args.metrics))
+        runners.append(await serve_metrics(keeping, args.metrics, args.group))
     return runners
 
 

@@ -9,13 +9,15 @@ import asyncio
 import builtins
 import collections
 import contextlib
+import errno
 import fcntl
+import functools
 import os
 import re
 import tempfile
 import time
 from dataclasses import dataclass, field
-from typing import Any, AsyncIterator, Callable, Iterator, Optional, Protocol
+from typing import Any, AsyncIterator, Awaitable, Callable, Iterator, Optional, Protocol
 
 import labrun
 from labrun import LabrunError, MayNotUse, NotHeld, TakenAway
@@ -27,8 +29,14 @@ from .records import Disk, Record, Records, hashed
 KEPT_IN_MEMORY = 1000  # records, and ends of tickets
 # a page is turned before the bench is full: at so many sessions of a seat, commands of all, and bytes of the journal
 MANY_SESSIONS, MANY_COMMANDS, MANY_BYTES = 900, 90000, 14000000
-# for how long those that ask wait for a page to be turned while somebody holds, and when it is tried again
+# for how long those that ask wait for a page to be turned while somebody holds; and, if it can't be, when it is tried again
 PATIENCE, PAUSE = 0.5, 10.0
+# for how long it is waited, while nobody else is served, for those to leave a page that is over who wait there: it takes no time
+LEAVING = 5.0
+# a let-go that the broker owes and couldn't write is tried again after so many seconds, and then ever later, up to the second number
+AGAIN, LATEST = 1.0, 60.0
+A_LITTLE = 65536  # bytes, as room on a disk
+NEXT = ".next"  # behind the journal's name, until it takes the place of the one before
 LEAST_TICKET = 16
 
 
@@ -122,6 +130,9 @@ class Keeping:
         self._is_closed = False
         self._last_page: Optional[labrun.Page] = None
         self._page_wanted, self._page_turned = asyncio.Event(), asyncio.Event()
+        # one turns the page at a time; who asks while sessions go on in a new one, and what each waits for then
+        self._turns = asyncio.Lock()
+        self._aside: Optional[dict[Seat, asyncio.Future[None]]] = None
         self._tasks: set[asyncio.Task[Any]] = set()
 
     # ---- from the start to the end
@@ -129,24 +140,32 @@ class Keeping:
     async def open(self) -> None:
         """Opens the bench, or goes on where the state folder says. LabrunError and OSError say why it can't."""
         self._opened_at = self._now()
-        overtakes = len(self.bay.jobs) if self.bay.overtakes is None else self.bay.overtakes
+        self._overtakes = len(self.bay.jobs) if self.bay.overtakes is None else self.bay.overtakes
         if self.state is None:
-            self.bench = labrun.Bench.new(self.bay.jobs, overtakes=overtakes)
+            self.bench = labrun.Bench.new(self.bay.jobs, overtakes=self._overtakes)
         else:
-            self._open_state(self.state, overtakes)
+            self._open_state(self.state)
         self._last_page = self.bench.last_page
         self._seats = {job.name: Seat(job, job.name if job.name in self.bay.stations else "", since=self._opened_at) for job in self.bench.jobs}
         self._lines: dict[str, collections.deque[InLine]] = {line: collections.deque() for line in (*self.bay.stations, "")}
         self._free: dict[str, collections.deque[Seat]] = {line: collections.deque() for line in self._lines}
         for seat in self._seats.values():
             self._free[seat.line].append(seat)
-        self._open_page()
+        self._open_page(self._opens_files(self.page, self._journal))
         self._record("opened", text=f"page {self.page}" + (", as it was left" if self.bench.resumed else ""))
         if self.bench.resumed:
             self._take_up()
+        if any(job.state.retired for job in self.bench.jobs):
+            # (an older version of labrun closed it while somebody held: only a new page has sessions for all)
+            await self.turn_page_over_sessions()
         self._start(self._looks_after_pages())
 
-    def _open_state(self, folder: str, overtakes: int) -> None:
+    @property
+    def _journal(self) -> str:
+        """Of the page that is open."""
+        return f"{self.state}/bay.journal"
+
+    def _open_state(self, folder: str) -> None:
         os.makedirs(folder, 0o750, exist_ok=True)
         self._lock = os.open(f"{folder}/lock", os.O_RDWR | os.O_CREAT | os.O_CLOEXEC, 0o640)
         try:
@@ -154,15 +173,24 @@ class Keeping:
         except BlockingIOError:
             os.close(self._lock)
             raise LabrunError(f"{folder}: another broker keeps its state there") from None
+        self._clears_up()
         # (what is synced, and when, is the disk's part)
         try:
-            self.bench = labrun.Bench.new(self.bay.jobs, journal=f"{folder}/bay.journal", sync="none", overtakes=overtakes)
+            self.bench = labrun.Bench.new(self.bay.jobs, journal=self._journal, sync="none", overtakes=self._overtakes)
         except labrun.JournalError as fault:
             if "another script" not in fault.why:
                 raise
             why = "it is of another bay: go back to that one until nobody holds, and then give this one a folder of its own"
             raise labrun.JournalError(fault.path, why) from None
         self.page = 1 + max(self._closed_pages(), default=0)
+
+    def _clears_up(self) -> None:
+        """What is left of a page whose sessions were to go on in the next one, as the broker was killed: it is open still."""
+        with contextlib.suppress(FileNotFoundError):
+            os.unlink(f"{self._journal}{NEXT}")
+        last = f"{self._journal}.{max(self._closed_pages(), default=0)}"
+        if os.path.exists(self._journal) and os.path.exists(last) and os.path.samefile(self._journal, last):
+            os.unlink(last)
 
     def _closed_pages(self) -> list[int]:
         """The pages that were turned: their journals have numbers."""
@@ -171,21 +199,37 @@ class Keeping:
         found = (re.fullmatch(r"bay\.journal\.(\d{1,9})", name) for name in os.listdir(self.state))
         return sorted(int(it[1]) for it in found if it)
 
-    def _open_page(self) -> None:
-        """The files of the page that begins, or goes on."""
+    def _opens_files(self, page: int, journal: str) -> Optional[tuple[Records, int]]:
+        """Those of a page, if there are any."""
+        if self.state is None:
+            return None
+        records = Records(f"{self.state}/records-{page}.jsonl")
+        try:
+            return records, os.open(journal, os.O_RDONLY | os.O_CLOEXEC)
+        except OSError:
+            records.close()
+            raise
+
+    def _open_page(self, files: Optional[tuple[Records, int]]) -> None:
+        """The page that begins, or goes on."""
         room = self.bench.room
         self._commands = MOST_COMMANDS - room.commands
         for seat in self._seats.values():
             seat.sessions = MOST_SESSIONS - room.sessions[seat.name]
-        if self.state is None:
+        if files is None:
             return
         self._close_files()
-        self._records = Records(f"{self.state}/records-{self.page}.jsonl")
-        self._journal_file = os.open(f"{self.state}/bay.journal", os.O_RDONLY | os.O_CLOEXEC)
+        self._records, self._journal_file = files
         if self._syncs:
             self._disk.files = [self._journal_file, self._records.file]
-            folder = os.open(self.state, os.O_RDONLY | os.O_CLOEXEC)
+            self._sync_folder()
+
+    def _sync_folder(self) -> None:
+        assert self.state is not None
+        folder = os.open(self.state, os.O_RDONLY | os.O_CLOEXEC)
+        try:
             os.fsync(folder)
+        finally:
             os.close(folder)
 
     def _close_files(self) -> None:
@@ -199,7 +243,7 @@ class Keeping:
 
     def _take_up(self) -> None:
         """The bench is as a broker left it that was killed: what was held is held, and its clients are awaited."""
-        given = sessions_given(f"{self.state}/bay.journal")
+        given = sessions_given(self._journal)
         for seat in self._seats.values():
             session = seat.job.next_session()
             if session is None:
@@ -333,12 +377,23 @@ class Keeping:
         seat.instruments = wish.instruments or tuple(dict.fromkeys(name for choice in wish.any_of for name in choice))
         self._record("asked", seat)
         while True:
+            if self._aside is not None:
+                await self._stands_aside(seat)
             session = seat.session = seat.job.hold(*wish.instruments, any_of=wish.any_of)
             try:
                 await session.acquire_async(None if until is None else max(0.0, until - self._now()))
-                break
+                if session.job is seat.job:
+                    break
+                # (it came to hold in the page that is over, and no client was told)
+                seat.session = None
+                with contextlib.suppress(LabrunError):
+                    session.release()
             except labrun.Full:
                 await self._new_page(until)
+            except labrun.Stopped:
+                # (if only a page is over, it asks in the next one)
+                if session.job is seat.job:
+                    raise
         self._takes_up_page()
         seat.instruments, seat.state, seat.since = session.instruments, "holding", self._now()
         seat.ticket = ticket
@@ -381,9 +436,18 @@ class Keeping:
             try:
                 session.release()
             except labrun.JournalError:
-                # (so it goes on to hold, and whoever has its ticket may let it go)
+                # (so it goes on to hold, though its client was told that it doesn't)
+                seat.state, seat.instruments = "holding", session.instruments
                 self.gone(seat, seat.owner)
+                self._start(self._once_written(seat, seat.gone_at, functools.partial(self._gives_up_after_all, seat, session, fault)))
                 return
+        self._is_given_up(seat, fault)
+
+    async def _gives_up_after_all(self, seat: Seat, session: labrun.Session, fault: BaseException) -> None:
+        session.release()
+        self._is_given_up(seat, fault)
+
+    def _is_given_up(self, seat: Seat, fault: BaseException) -> None:
         is_usual = isinstance(fault, (builtins.TimeoutError, asyncio.CancelledError, labrun.Stopped))
         text = "the client is gone" if isinstance(fault, asyncio.CancelledError) else str(fault)
         self._record("gave_up" if is_usual else "failed", seat, text=text)
@@ -477,8 +541,33 @@ class Keeping:
         self._record("gone", seat)
 
     def _grace_is_over(self, seat: Seat) -> None:
+        by = f"the broker, because its client was gone for {self.grace:g} s"
         if seat.state == "gone":
-            self._start(self.release(seat.name, f"the broker, because its client was gone for {self.grace:g} s"))
+            self._start(self._once_written(seat, seat.gone_at, functools.partial(self.release, seat.name, by)))
+
+    async def _once_written(self, seat: Seat, gone_at: Optional[float], ends: Callable[[], Awaitable[object]]) -> None:
+        """Ends the session of a client that is gone since then; if that can't be written, once it can, unless the client is back by then."""
+        pause = AGAIN
+        while seat.gone_at == gone_at:
+            # (a write to the journal that fails ends all sessions that wait, so it isn't tried on a disk that is full)
+            if self._has_room():
+                with contextlib.suppress(labrun.JournalError):
+                    await ends()
+                    return
+            await asyncio.sleep(pause)
+            pause = min(2 * pause, LATEST)
+
+    def _has_room(self) -> bool:
+        """Whether the disk of the state folder takes more."""
+        if self.state is None:
+            return True
+        try:
+            with tempfile.TemporaryFile(dir=self.state) as file:
+                os.posix_fallocate(file.fileno(), 0, A_LITTLE)
+        except OSError as fault:
+            # (of another fault the journal tells itself)
+            return fault.errno not in (errno.ENOSPC, errno.EDQUOT)
+        return True
 
     def _comes_back(self, seat: Seat, owner: Owner) -> Seat:
         if seat.owner is not None:
@@ -509,23 +598,125 @@ class Keeping:
             async with asyncio.timeout_at(until):
                 await self._page_turned.wait()
         except builtins.TimeoutError:
-            at_work = ", ".join(seat.name for seat in self._seats.values() if seat.state in ("holding", "gone"))
-            raise TimedOut(f"the page is full, and is turned once nobody holds: {at_work} did") from None
+            raise TimedOut("the page is full, and the next one couldn't be begun yet") from None
 
     async def _looks_after_pages(self) -> None:
         while True:
             await self._page_wanted.wait()
             try:
-                await self.turn_page(PATIENCE)
-            except labrun.NotBack:
-                # somebody is at work for long: others go on until the page is full
+                try:
+                    await self.turn_page(PATIENCE)
+                except labrun.NotBack:
+                    await self.turn_page_over_sessions()
+            except (LabrunError, OSError):
+                # (others go on until the page is full)
                 await asyncio.sleep(PAUSE)
 
     async def turn_page(self, timeout: Optional[float] = None) -> int:
         """Turns the page once nobody holds; the number of the new one. labrun.NotBack says who still holds after `timeout` seconds."""
-        await self.bench.turn_page_async(timeout)
-        self._takes_up_page()
-        return self.page
+        async with self._turns:
+            await self.bench.turn_page_async(timeout)
+            self._takes_up_page()
+            return self.page
+
+    async def turn_page_over_sessions(self) -> int:
+        """Turns the page while somebody holds: the sessions that hold go on in the new one, and those that wait ask there again, in their order.
+        The number of the new page. LabrunError and OSError say why it can't be; the old page goes on then."""
+        async with self._turns:
+            holders = [seat for seat in self._seats.values() if seat.state in ("holding", "gone")]
+            bench, sessions, files = self._next_page(holders)
+            # from here on nothing fails, and nobody else comes between
+            old, waiting = self.bench, [seat for seat in self._seats.values() if seat.state == "waiting"]
+            held = [seat.session for seat in holders]
+            self.bench, self._last_page, closed = bench, bench.last_page, self.page
+            for seat in self._seats.values():
+                seat.job = bench.jobs[seat.name]
+            for seat, session in zip(holders, sessions):
+                seat.session = session
+            self.page += 1
+            try:
+                self._open_page(files)
+            except OSError:  # (nobody knows which page the disk has)
+                self.is_broken.set()
+            self._tells_of_page()
+            await self._leaves_page(old, closed, held, waiting)
+            return self.page
+
+    def _next_page(self, holders: list[Seat]) -> tuple[labrun.Bench, list[labrun.Session], Optional[tuple[Records, int]]]:
+        """The bench of a new page, in which these seats hold what they hold; its sessions, and its files. Its journal has taken the place of
+        the open page's, whose file has a number now: at each moment the journal by which a broker begins has who holds."""
+        journal = None if self.state is None else f"{self._journal}{NEXT}"
+        bench = labrun.Bench.new(self.bay.jobs, journal=journal, sync="none", overtakes=self._overtakes)
+        files = None
+        try:
+            sessions: list[labrun.Session] = [self._holds_in(bench, seat) for seat in holders]
+            if journal is not None:
+                files = self._opens_files(self.page + 1, journal)
+                self._takes_place(bench, journal)
+            return bench, sessions, files
+        except BaseException:
+            with contextlib.suppress(LabrunError):
+                bench.close()
+            if files is not None:
+                files[0].close()
+                os.close(files[1])
+            if journal is not None:
+                with contextlib.suppress(FileNotFoundError):
+                    os.unlink(journal)
+            raise
+
+    def _holds_in(self, bench: labrun.Bench, seat: Seat) -> labrun.Session:
+        """What a seat holds, as a session of another bench, in which nobody waits."""
+        session = bench.jobs[seat.name].hold(*seat.instruments)
+        session.acquire()
+        if self.state is not None:
+            session.note(f"{GIVES} {seat.ticket} {seat.by or ''}")
+            if seat.note is not None:
+                session.note(seat.note)
+        return session
+
+    def _takes_place(self, bench: labrun.Bench, journal: str) -> None:
+        """The journal of a bench takes the place of the open page's. (Until then that one has both names, which `_clears_up` knows.)"""
+        if self._syncs:
+            with open(journal, "rb") as file:
+                os.fsync(file.fileno())
+        closed = f"{self._journal}.{self.page}"
+        os.link(self._journal, closed)
+        try:
+            bench.rename_journal(self._journal)
+        except BaseException:
+            os.unlink(closed)
+            raise
+
+    async def _leaves_page(self, old: labrun.Bench, number: int, held: list[Optional[labrun.Session]], waiting: list[Seat]) -> None:
+        """The old page is over: its sessions end, those that wait first, so that none comes to hold by it."""
+        aside: dict[Seat, asyncio.Future[None]] = {}
+        self._aside, end = aside, self._now() + LEAVING
+        try:
+            old.stop()
+            # (one that stayed and came to hold there would let go again, in `_comes_to_hold`)
+            while any(seat.state == "waiting" and seat not in aside for seat in waiting) and self._now() < end:
+                await asyncio.sleep(0)
+            for session in held:
+                if session is not None:
+                    with contextlib.suppress(LabrunError):
+                        session.release()
+            with contextlib.suppress(LabrunError):
+                report = old.close()
+                if self.state is None:
+                    self._reports = {number: report.text}
+        finally:
+            self._aside = None
+            for seat in sorted(aside, key=lambda it: it.since):
+                if not aside[seat].done():
+                    aside[seat].set_result(None)
+
+    async def _stands_aside(self, seat: Seat) -> None:
+        """Until the sessions of the old page are over, and it is this one's turn to ask in the new one."""
+        assert self._aside is not None
+        seat.session = None
+        place = self._aside[seat] = asyncio.get_running_loop().create_future()
+        await place
 
     def _takes_up_page(self) -> None:
         """If the page was turned: the files are those of the new one. (Who waited for it may come here first.)"""
@@ -536,7 +727,10 @@ class Keeping:
         if self.state is None:
             self._reports = {self.page: page.report.text}
         self.page += 1
-        self._open_page()
+        self._open_page(self._opens_files(self.page, self._journal))
+        self._tells_of_page()
+
+    def _tells_of_page(self) -> None:
         self._record("page", text=f"page {self.page}")
         self._page_wanted.clear()
         turned, self._page_turned = self._page_turned, asyncio.Event()
@@ -552,7 +746,7 @@ class Keeping:
             raise BadWish("the page that is open has a report once it is turned, or with a state folder")
         if not is_open and page not in self._closed_pages():
             raise BadWish(f"there is no report of page {page}: the pages are {', '.join(str(it['page']) for it in self.pages())}")
-        with open(f"{self.state}/bay.journal" + ("" if is_open else f".{page}"), "rb") as journal:
+        with open(self._journal + ("" if is_open else f".{page}"), "rb") as journal:
             text = journal.read()
         with tempfile.TemporaryDirectory() as folder:
             with open(f"{folder}/journal", "wb") as copy:

@@ -2,7 +2,7 @@
 
 from __future__ import annotations
 
-from typing import Any, Iterator
+from typing import Any, Iterator, Optional
 
 from .serving import HEADERS, Lacking, Served, runs_beside, serve, web
 from .sessions import Past, Record, batches, first, recent_records
@@ -74,8 +74,8 @@ class Metrics:
         return web.Response(body=generate_latest(self._registry), headers={**HEADERS, "Content-Type": CONTENT_TYPE_LATEST})
 
 
-async def serve_metrics(keeping: Any, address: str) -> Served:
+async def serve_metrics(keeping: Any, address: str, group: Optional[str] = None) -> Served:
     """The numbers alone, at an address of their own."""
     app = web.Application()
     Metrics(keeping).add_to(app)
-    return await serve(app, address)
+    return await serve(app, address, group)

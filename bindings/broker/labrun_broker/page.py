@@ -13,7 +13,7 @@ import re
 import time
 from collections import deque
 from pathlib import Path
-from typing import Any
+from typing import Any, Optional
 
 from .serving import HEADERS, SLOW, Served, runs_beside, serve, web
 from .sessions import Past, Record, Session, batches, recent_records
@@ -158,7 +158,7 @@ class Page:
             await self._watch.newer_than(seen)
 
 
-async def serve_page(keeping: Any, address: str) -> Served:
+async def serve_page(keeping: Any, address: str, group: Optional[str] = None) -> Served:
     """Shows the page at an address, and the numbers for Prometheus at /metrics if its package is there."""
     app = web.Application()
     Page(keeping).add_to(app)
@@ -168,4 +168,4 @@ async def serve_page(keeping: Any, address: str) -> Served:
         pass
     else:
         Metrics(keeping).add_to(app)
-    return await serve(app, address)
+    return await serve(app, address, group)

@@ -8,11 +8,9 @@ from __future__ import annotations
 import asyncio
 import builtins
 import collections
-import contextlib
 import hmac
 import os
 import secrets
-import shutil
 import socket
 import stat
 import time
@@ -27,6 +25,7 @@ from . import broker_pb2 as pb
 from .bay import BadAddress as BadAddress
 from .bay import is_here
 from .keeping import BadWish, Ended, Keeping, Seat, Wish
+from .sockets import check_group, clear, for_the_group, give
 
 # when a client that waits is told for whom, and when again if that has changed
 FIRST_WORD, NEXT_WORD = 0.3, 1.0
@@ -334,6 +333,7 @@ class Door:
             return grpc.ssl_server_credentials([(key.read(), certificate.read())])
 
     def check(self) -> None:
+        check_group(self.group)
         if (self.certificate is None) != (self.key is None):
             raise BadAddress("a certificate and its key belong together: --tls-certificate FILE --tls-key FILE")
         for address in self.addresses:
@@ -359,50 +359,28 @@ async def start(keeping: Keeping, door: Door) -> Any:
         _check_free(address)
     server = grpc.aio.server(options=OPTIONS)
     server.add_generic_rpc_handlers((_methods(service),))
-    before = os.umask(0o117)
-    try:
+    with for_the_group():
         for address in door.addresses:
             is_socket = address.startswith("unix:")
             bound = server.add_secure_port(address, credentials) if credentials and not is_socket else server.add_insecure_port(address)
             if not bound:
                 raise BadAddress(f"{address}: it can't listen there")
-            if is_socket and door.group is not None:
-                shutil.chown(address.removeprefix("unix:"), group=door.group)
+            if is_socket:
+                give(address.removeprefix("unix:"), door.group)
         await server.start()
-    finally:
-        os.umask(before)
     return server
 
 
 def _check_free(address: str) -> None:
     """Nobody listens there. A socket that a broker left which is gone is taken away."""
     if address.startswith("unix:"):
-        return _clear(address.removeprefix("unix:"))
+        return clear(address.removeprefix("unix:"))
     host, _, port = address.rpartition(":")
     try:
         kind = socket.AF_INET6 if ":" in host else socket.AF_INET
         socket.create_server((host.strip("[]"), int(port)), family=kind).close()
     except (OSError, OverflowError) as fault:
         raise BadAddress(f"{address}: it can't listen there: {getattr(fault, 'strerror', None) or fault}") from None
-
-
-def _clear(path: str) -> None:
-    folder = os.path.dirname(os.path.abspath(path))
-    if not os.access(folder, os.W_OK):
-        raise BadAddress(f"unix:{path}: no socket can be made in {folder}")
-    if os.path.lexists(path) and not stat.S_ISSOCK(os.lstat(path).st_mode):
-        raise BadAddress(f"unix:{path}: that is there, and is no socket")
-    with contextlib.closing(socket.socket(socket.AF_UNIX)) as other:
-        try:
-            other.connect(path)
-        except FileNotFoundError:
-            return
-        except ConnectionRefusedError:
-            os.unlink(path)
-            return
-        except OSError as fault:
-            raise BadAddress(f"unix:{path}: {fault.strerror or fault}") from None
-    raise BadAddress(f"unix:{path}: another broker listens there")
 
 
 def _methods(service: Service) -> Any:

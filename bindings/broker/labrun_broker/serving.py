@@ -6,9 +6,10 @@ import asyncio
 import logging
 import re
 import socket
-from typing import Any, AsyncIterator, Awaitable, Callable, Coroutine, Union
+from typing import Any, AsyncIterator, Awaitable, Callable, Coroutine, Optional, Union
 
 from .bay import BadAddress, is_here
+from .sockets import bound
 
 
 class Lacking(BadAddress, ImportError):
@@ -110,17 +111,24 @@ class Served:
         await self._runner.cleanup()
 
 
-async def serve(app: web.Application, address: str) -> Served:
+async def serve(app: web.Application, address: str, group: Optional[str] = None) -> Served:
+    """Serves at an address; a Unix socket is for the group, as the broker's own."""
     at = address_of(address)
     app[IS_TCP], app[SILENT] = not isinstance(at, str), set()
     app.middlewares.append(only_from_here)
     runner = web.AppRunner(app, access_log=None, logger=LOG)
     await runner.setup()
     assert runner.server is not None
-    loop, new = asyncio.get_running_loop(), limited(runner.server, app[SILENT])
+    try:
+        return Served(runner, await listener_at(at, group, limited(runner.server, app[SILENT])))
+    except BaseException:
+        await runner.cleanup()
+        raise
+
+
+async def listener_at(at: Union[str, tuple[str, int]], group: Optional[str], new: Callable[[], asyncio.BaseProtocol]) -> asyncio.AbstractServer:
+    loop = asyncio.get_running_loop()
     if isinstance(at, str):
-        listener: asyncio.AbstractServer = await loop.create_unix_server(new, at)
-    else:
-        family = socket.AF_INET6 if ":" in at[0] else socket.AF_INET
-        listener = await loop.create_server(new, *at, family=family)
-    return Served(runner, listener)
+        return await loop.create_unix_server(new, sock=bound(at, group))
+    family = socket.AF_INET6 if ":" in at[0] else socket.AF_INET
+    return await loop.create_server(new, *at, family=family)

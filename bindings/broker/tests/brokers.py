@@ -30,6 +30,12 @@ count = 4
 COMMAND = [sys.executable, "-m", "labrun_broker"]
 
 
+def turning_after(sessions: int) -> list[str]:
+    """The command, with a page that is turned after so many sessions of a seat, whoever holds then."""
+    limits = f"keeping.MANY_SESSIONS, keeping.PATIENCE, keeping.PAUSE = {sessions}, 0.005, 0.05"
+    return [sys.executable, "-c", f"import sys\nfrom labrun_broker import command, keeping\n{limits}\nsys.exit(command.main())"]
+
+
 def until(is_so: Callable[[], Any], what: str = "it") -> Any:
     """Waits until something is so, and gives it."""
     end = time.monotonic() + LIMIT
@@ -43,8 +49,8 @@ def until(is_so: Callable[[], Any], what: str = "it") -> Any:
 class Broker:
     """`labrun-broker serve`, begun anew as often as wanted."""
 
-    def __init__(self, folder: str, bay: str = BAY, words: tuple[str, ...] = ()) -> None:
-        self.folder, self.words = folder, words
+    def __init__(self, folder: str, bay: str = BAY, words: tuple[str, ...] = (), command: list[str] = COMMAND) -> None:
+        self.folder, self.words, self.command = folder, words, command
         self.address = f"unix:{folder}/bay.sock"
         with open(f"{folder}/bay.toml", "w", encoding="utf-8") as file:
             file.write(bay)
@@ -52,7 +58,7 @@ class Broker:
         self.begin()
 
     def begin(self) -> None:
-        words = [*COMMAND, "serve", f"{self.folder}/bay.toml", "--listen", self.address, *self.words]
+        words = [*self.command, "serve", f"{self.folder}/bay.toml", "--listen", self.address, *self.words]
         self.process = subprocess.Popen(words, stderr=subprocess.PIPE, text=True)
         assert self.process.stderr is not None
         self.first = self.process.stderr.readline()

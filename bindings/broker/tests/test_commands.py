@@ -58,6 +58,7 @@ class WithoutBroker(unittest.TestCase):
             (["serve", bay, "--listen", f"127.0.0.1:{self.taken()}"], 78, "", "it can't listen there: Address already in use"),
             (["serve", bay, "--listen", "unix:/no/where"], 78, "", "unix:/no/where: no socket can be made in /no"),
             (["serve", bay, "--listen", f"unix:{bay}"], 78, "", "bay.toml: that is there, and is no socket"),
+            (["serve", bay, "--listen", nowhere, "--group", "no-such-group"], 78, "", "--group no-such-group: there is no such group"),
             (outside, 78, "", "0.0.0.0:0 is seen by other machines: that takes a certificate and a token"),
             ([*outside, "--token-file", f"{self.folder}/short"], 78, "", "takes a certificate and a token"),
             ([*outside, "--tls-key", "key"], 78, "", "a certificate and its key belong together"),

@@ -2,6 +2,7 @@
 
 import asyncio
 import json
+import random
 import tempfile
 import time
 import unittest
@@ -328,13 +329,127 @@ class Pages(OnKeeping):
         self.assertEqual(total, 180)
 
     async def test_somebody_holds_for_long(self) -> None:
-        """The others go on, until the page is turned once he has let go."""
+        """Pages are turned all the same, and he holds on in each."""
         with mock.patch.multiple(kept, MANY_SESSIONS=5, PATIENCE=0.02, PAUSE=0.02):
             keeping = await self.keeping()
             long = await self.holds(keeping, "supply", station="board")
-            for _ in range(8):
+            waits = await self.asks(keeping, "supply")
+            for _ in range(40):
                 await keeping.let_go(await self.holds(keeping, "scope", station="radio"), self.owner)
-            self.assertEqual(keeping.page, 1)
+                self.assertEqual((how(keeping, "supply")["holder"], waits.done()), ("board", False))
+                await asyncio.sleep(0.01)
+            self.assertGreaterEqual(keeping.page, 3)
             await keeping.let_go(long, self.owner)
-            await asyncio.sleep(0.3)
-            self.assertEqual(keeping.page, 2)
+            self.assertEqual((await asyncio.wait_for(waits, 1)).name, "guest-1")
+        self.assertEqual(whats(keeping, "board"), ["asked", "held", "let_go"])
+
+
+class OverSessions(OnKeeping):
+    """A page is turned while sessions hold."""
+
+    async def test_what_each_page_has(self) -> None:
+        keeping = await self.keeping()
+        board = await self.holds(keeping, "supply", station="board", by="ann")
+        self.assertEqual(await keeping.turn_page_over_sessions(), 2)
+        await keeping.let_go(await self.holds(keeping, "scope", station="radio"), self.owner)
+        await keeping.let_go(board, self.owner)
+        self.assertEqual(await keeping.turn_page(1), 3)
+        self.assertEqual(keeping.report(2).splitlines()[1:5], ["instrument scope 1", "radio 2 1/1 read = 0", "instrument supply 1", "board 2 1/1 read = 0"])
+        self.assertEqual(whats(keeping, "board"), ["asked", "held", "let_go"])
+        self.assertEqual(whats(keeping).count("page"), 2)
+
+    async def test_the_old_page_is_over(self) -> None:
+        keeping = await self.keeping()
+        await self.holds(keeping, "supply", station="board")
+        await keeping.turn_page_over_sessions()
+        self.assertEqual(keeping.report(1).splitlines()[1:4], ["instrument scope 0", "instrument supply 1", "board 2 1/1 read = 0"])
+        self.assertTrue(keeping.report(1).endswith("finished\n"))
+
+    async def test_who_waits_keeps_his_place(self) -> None:
+        """Also one that waits for any of some, and whoever comes meanwhile is the last."""
+        keeping = await self.keeping()
+        board = await self.holds(keeping, "scope", station="board")
+        load = await self.holds(keeping, "load-1", "load-2")
+        order: list[str] = []
+        tasks = []
+        for name, wish in (
+            ("radio", Wish(("scope",), station="radio")),
+            ("any", Wish(any_of=(("load-1",), ("load-2",)))),
+            ("guest", Wish(("scope", "load-2"))),
+        ):
+            tasks.append(asyncio.create_task(self.goes_through(keeping, name, wish, order)))
+            await asyncio.sleep(0.01)
+        turning = asyncio.create_task(keeping.turn_page_over_sessions())
+        tasks.append(asyncio.create_task(self.goes_through(keeping, "last", Wish(("scope",)), order)))
+        self.assertEqual(await turning, 2)
+        await asyncio.sleep(0.02)
+        self.assertEqual((order, how(keeping, "scope")["holder"], how(keeping, "load-1")["holder"]), ([], "board", load.name))
+        self.assertEqual(how(keeping, "radio")["waits_for"][0]["station"], "board")
+        await keeping.let_go(board, self.owner)
+        await keeping.let_go(load, self.owner)
+        await asyncio.wait_for(asyncio.gather(*tasks), 5)
+        self.assertLess(order.index("radio"), order.index("last"))
+        self.assertEqual(sorted(order), ["any", "guest", "last", "radio"])
+
+    async def goes_through(self, keeping: Keeping, name: str, wish: Wish, order: list[str]) -> None:
+        owner = Owner()
+        seat = await keeping.hold(wish, owner)
+        order.append(name)
+        await asyncio.sleep(0.01)
+        await keeping.let_go(seat, owner)
+
+    async def test_time_limits_go_on(self) -> None:
+        keeping = await self.keeping()
+        await self.holds(keeping, "scope", station="board")
+        begun = time.monotonic()
+        waits = asyncio.create_task(self.holds(keeping, "scope", station="radio", timeout=0.3))
+        for _ in range(3):
+            await asyncio.sleep(0.02)
+            await keeping.turn_page_over_sessions()
+        with self.assertRaises(labrun.TimeoutError):
+            await waits
+        self.assertTrue(0.25 < time.monotonic() - begun < 5)
+        self.assertEqual(whats(keeping, "radio"), ["asked", "gave_up"])
+
+    async def test_it_fails(self) -> None:
+        """The old page goes on."""
+        keeping = await self.keeping()
+        board = await self.holds(keeping, "scope", station="board")
+        waits = await self.asks(keeping, "scope", station="radio")
+        with mock.patch.object(labrun.Bench, "new", side_effect=MemoryError), self.assertRaises(MemoryError):
+            await keeping.turn_page_over_sessions()
+        self.assertEqual((keeping.page, waits.done(), how(keeping, "scope")["holder"]), (1, False, "board"))
+        await keeping.let_go(board, self.owner)
+        self.assertEqual((await asyncio.wait_for(waits, 1)).name, "radio")
+
+    async def test_nobody_is_given_what_another_holds(self) -> None:
+        """Clients by chance, with time limits and without, some of which go away, while pages are turned again and again."""
+        for seed in range(8):
+            keeping, chance, holders = await self.keeping(), random.Random(seed), dict[str, str]()
+
+            async def client(name: str) -> None:
+                for _ in range(12):
+                    owner = Owner()
+                    wanted = tuple(chance.sample(["scope", "supply", "load-1", "load-2"], chance.randint(1, 2)))
+                    wish = Wish(any_of=tuple((it,) for it in wanted)) if chance.random() < 0.3 else Wish(wanted)
+                    try:
+                        async with asyncio.timeout(chance.choice([0.004, 5, 5])):
+                            seat = await keeping.hold(wish, owner)
+                    except TimeoutError:
+                        continue
+                    clash = [it for it in seat.instruments if it in holders]
+                    self.assertEqual(clash, [], f"seed {seed}: {name} was given what {[holders[it] for it in clash]} holds")
+                    holders.update(dict.fromkeys(seat.instruments, name))
+                    await asyncio.sleep(chance.choice([0, 0, 0.001, 0.01]))
+                    for it in seat.instruments:
+                        del holders[it]
+                    await keeping.let_go(seat, owner)
+
+            clients = [asyncio.create_task(client(f"client {at}")) for at in range(6)]
+            while not all(it.done() for it in clients):
+                if chance.random() < 0.5:
+                    await keeping.turn_page_over_sessions()
+                await asyncio.sleep(chance.choice([0, 0, 0.001]))
+            await asyncio.gather(*clients)
+            self.assertGreater(keeping.page, 1)
+            self.assertEqual({it["state"] for it in keeping.status()["stations"]}, {"idle"})

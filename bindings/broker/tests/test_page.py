@@ -3,6 +3,8 @@
 from __future__ import annotations
 
 import base64
+import functools
+import grp
 import hashlib
 import json
 import os
@@ -184,16 +186,24 @@ class Addresses(unittest.TestCase):
         self.assertEqual({it: serving.address_of(it) for it in taken}, taken)
 
     def test_a_unix_socket(self) -> None:
+        """It has the mode and the group of the broker's own, and nobody else can listen there."""
+        # (root may give it to any group)
+        group = next(it for it in grp.getgrall() if it.gr_gid != os.getegid()) if os.geteuid() == 0 else grp.getgrgid(os.getegid())
         with tempfile.TemporaryDirectory() as folder:
-            web = Web(serve_page, lambda: Keeping(BAY), f"unix:{folder}/page.sock")
+            web = Web(functools.partial(serve_page, group=group.gr_name), lambda: Keeping(BAY), f"unix:{folder}/page.sock")
             try:
+                found = os.stat(f"{folder}/page.sock")
+                self.assertEqual((found.st_mode & 0o777, found.st_gid), (0o660, group.gr_gid))
+                with self.assertRaisesRegex(serving.BadAddress, "another broker listens there"):
+                    Web(serve_page, lambda: Keeping(BAY), f"unix:{folder}/page.sock")
                 with socket.socket(socket.AF_UNIX) as talk:
                     talk.connect(f"{folder}/page.sock")
                     talk.sendall(b"GET /status HTTP/1.1\r\nHost: lab.example\r\nConnection: close\r\n\r\n")
                     self.assertIn(b"200 OK", talk.recv(4096))
             finally:
                 web.close()
-            self.assertTrue(os.path.isdir(folder))
+            # (what a page that is over left is no hindrance)
+            Web(serve_page, lambda: Keeping(BAY), f"unix:{folder}/page.sock").close()
 
 
 if __name__ == "__main__":

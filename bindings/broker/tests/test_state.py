@@ -1,17 +1,23 @@
-"""A broker with a state folder, which is killed and goes on where it was."""
+"""A broker with a state folder, which is killed and goes on where it was, and whose disk is full for a while."""
 
+import asyncio
 import json
 import os
+import subprocess
 import tempfile
 import threading
 import unittest
+from unittest import mock
 
 import labrun
 import labrun_broker
+from labrun import _journal
+from labrun_broker import keeping as kept
 from labrun_broker.bay import bay_of
+from labrun_broker.journals import sessions_given
 from labrun_broker.keeping import Ended, Keeping, Wish
 from tests.brokers import BAY, LIMIT, OnBroker, station, until
-from tests.test_keeping import Owner
+from tests.test_keeping import TICKET, Owner, how, whats
 
 
 class State(OnBroker):
@@ -67,6 +73,21 @@ class State(OnBroker):
         over.release()
         held.release()
         with again.hold("scope", "load-1", timeout=LIMIT):
+            pass
+
+    def test_ended_while_one_holds(self) -> None:
+        """As by a restart of the service: it holds on, and the others can hold what is free."""
+        broker = self.broker(BAY, "--state", "FOLDER/state")
+        board = self.lab(broker, "board")
+        held = board.hold("scope")
+        held.acquire()
+        self.assertEqual(broker.end(), 0)
+        broker.begin()
+        other = self.lab(broker)
+        with other.hold("supply", "load-1", timeout=LIMIT):
+            until(lambda: station(other, "board")["state"] == "holding", "it has come back")
+        held.release()
+        with self.lab(broker, "radio").hold("scope", timeout=LIMIT):
             pass
 
     def test_gone_while_the_broker_was(self) -> None:
@@ -158,6 +179,177 @@ class TakenUp(unittest.IsolatedAsyncioTestCase):
                 await keeping.hold(Wish(ticket=ticket, comes_back=True), owner)
             self.assertEqual(caught.exception.how, how)
         await keeping.let_go(await keeping.hold(Wish(("supply",), station="board"), owner), owner)
+
+
+class OverSessions(unittest.IsolatedAsyncioTestCase):
+    """A page that is turned while a session holds, and a broker that ends right before, right after, or in between."""
+
+    async def begun(self, folder: str) -> Keeping:
+        keeping = Keeping(bay_of(BAY), folder)
+        await keeping.open()
+        self.addAsyncCleanup(keeping.close)
+        return keeping
+
+    async def holds_and_turns(self, folder: str) -> Keeping:
+        keeping, owner = await self.begun(folder), Owner()
+        seat = await keeping.hold(Wish(("scope",), station="radio", by="ann", ticket=TICKET), owner)
+        await keeping.note(seat, owner, "5 V")
+        await keeping.turn_page_over_sessions()
+        return keeping
+
+    async def is_held_still(self, folder: str, page: int) -> None:
+        """By its client alone, who comes back for it."""
+        keeping, owner = await self.begun(folder), Owner()
+        self.assertEqual(keeping.page, page)
+        self.assertEqual((how(keeping, "radio")["state"], how(keeping, "radio")["by"], how(keeping, "radio")["note"]), ("gone", "ann", "5 V"))
+        with self.assertRaises(labrun.TimeoutError):
+            await keeping.hold(Wish(("scope",), station="board", timeout=0.05), Owner())
+        back = await keeping.hold(Wish(ticket=TICKET, comes_back=True), owner)
+        await keeping.let_go(back, owner)
+        await keeping.let_go(await keeping.hold(Wish(("scope",), station="board"), owner), owner)
+        await keeping.close()
+
+    async def test_right_after(self) -> None:
+        folder = self.enterContext(tempfile.TemporaryDirectory())
+        keeping = await self.holds_and_turns(folder)
+        self.assertEqual(sorted(os.listdir(folder)), ["bay.journal", "bay.journal.1", "lock", "records-1.jsonl", "records-2.jsonl"])
+        self.assertEqual(list(sessions_given(f"{folder}/bay.journal").values())[0].ticket, list(sessions_given(f"{folder}/bay.journal.1").values())[0].ticket)
+        self.assertIn("\nradio 2 1/1 read = 0\n", keeping.report(1))
+        self.assertTrue(keeping.report(1).endswith("finished\n"))
+        await keeping.close()
+        await self.is_held_still(folder, 2)
+
+    async def test_closed_by_an_older_version(self) -> None:
+        """It retired whoever didn't hold."""
+        folder = self.enterContext(tempfile.TemporaryDirectory())
+        keeping = await self.holds_and_turns(folder)
+        with mock.patch("labrun._holding.goes_on", return_value=False):
+            await keeping.close()
+        with open(f"{folder}/bay.journal", encoding="utf-8") as file:
+            self.assertIn("\nretire board\n", file.read())
+        await self.is_held_still(folder, 3)
+
+    async def test_in_between(self) -> None:
+        """The journal of the new page is there, and that of the old one has both names, but the new one hasn't taken its place."""
+        folder, copy = (self.enterContext(tempfile.TemporaryDirectory()) for _ in range(2))
+        real = labrun.Bench.rename_journal
+
+        def killed(bench: labrun.Bench, path: str) -> None:
+            subprocess.run(["cp", "-a", "--preserve=links", f"{folder}/.", copy], check=True)
+            real(bench, path)
+
+        with mock.patch.object(labrun.Bench, "rename_journal", killed):
+            await (await self.holds_and_turns(folder)).close()
+        self.assertEqual(sorted(it for it in os.listdir(copy) if "journal" in it), ["bay.journal", "bay.journal.1", "bay.journal.next"])
+        await self.is_held_still(copy, 1)
+        self.assertEqual(sorted(it for it in os.listdir(copy) if "journal" in it), ["bay.journal"])
+        await self.is_over(copy)
+
+    async def is_over(self, folder: str) -> None:
+        keeping = await self.begun(folder)
+        self.assertEqual({it["state"] for it in keeping.status()["stations"]}, {"idle"})
+
+    async def test_it_fails(self) -> None:
+        """Nothing of the new page is left, and the old one goes on, as often as it is tried."""
+        folder, owner = self.enterContext(tempfile.TemporaryDirectory()), Owner()
+        keeping = await self.begun(folder)
+        seat = await keeping.hold(Wish(("scope",), station="radio", ticket=TICKET), owner)
+        for what in ("os.link", "os.replace", "os.fsync"):
+            with self.subTest(what), mock.patch(what, side_effect=OSError(28, "No space left on device")):
+                with self.assertRaisesRegex((OSError, labrun.JournalError), "No space left on device"):
+                    await keeping.turn_page_over_sessions()
+            self.assertEqual(sorted(it for it in os.listdir(folder) if "journal" in it), ["bay.journal"])
+            self.assertEqual((keeping.page, how(keeping, "scope")["holder"]), (1, "radio"))
+        await keeping.let_go(seat, owner)
+        self.assertEqual(await keeping.turn_page(1), 2)
+
+    async def test_pages_are_turned_behind_it(self) -> None:
+        folder, owner = self.enterContext(tempfile.TemporaryDirectory()), Owner()
+        keeping = await self.holds_and_turns(folder)
+        self.assertEqual(await keeping.turn_page_over_sessions(), 3)
+        await keeping.let_go(await keeping.hold(Wish(ticket=TICKET), owner), owner)
+        self.assertEqual(await keeping.turn_page(1), 4)
+        self.assertEqual([it["page"] for it in keeping.pages()], [1, 2, 3, 4])
+        for page in (1, 2, 3):
+            self.assertIn("\nradio 2 1/1 read = 0\n", keeping.report(page))
+        await keeping.close()
+        await self.is_over(folder)
+
+
+class FullDisk(unittest.IsolatedAsyncioTestCase):
+    """A disk that is full, from the first note on or as long as the test says. What the broker owes it does once there is room."""
+
+    async def asyncSetUp(self) -> None:
+        self.is_full = self.is_full_at_a_note = False
+        self.failed = 0
+        self.owner = Owner()
+        real = _journal._pwrite
+
+        def pwrite(file: int, text: bytes, place: int) -> int:
+            self.is_full = self.is_full or (self.is_full_at_a_note and b"# note" in text)
+            if self.is_full:
+                self.failed += 1
+                raise OSError(28, "No space left on device")
+            return real(file, text, place)
+
+        def posix_fallocate(file: int, at: int, length: int) -> None:
+            if self.is_full:
+                raise OSError(28, "No space left on device")
+
+        self.enterContext(mock.patch.object(_journal, "_pwrite", pwrite))
+        self.enterContext(mock.patch.object(os, "posix_fallocate", posix_fallocate))
+        self.enterContext(mock.patch.multiple(kept, AGAIN=0.005, LATEST=0.02))
+
+    async def keeping(self, bay: str = BAY, grace: float = 60.0) -> Keeping:
+        keeping = Keeping(bay_of(bay), self.enterContext(tempfile.TemporaryDirectory()), grace)
+        await keeping.open()
+        self.addAsyncCleanup(keeping.close)
+        return keeping
+
+    async def is_told_that_it_fails(self, keeping: Keeping) -> None:
+        """Its hold is written, and then neither its ticket nor its let-go."""
+        self.is_full_at_a_note = True
+        with self.assertRaisesRegex(labrun.JournalError, "No space left on device"):
+            await keeping.hold(Wish(("scope",), station="board", ticket=TICKET), self.owner)
+        self.assertEqual((how(keeping, "board")["state"], how(keeping, "scope")["holder"]), ("gone", "board"))
+
+    def there_is_room(self) -> None:
+        self.is_full = self.is_full_at_a_note = False
+
+    async def test_who_was_told_that_it_does_not_hold(self) -> None:
+        keeping = await self.keeping()
+        await self.is_told_that_it_fails(keeping)
+        failed = self.failed
+        await asyncio.sleep(0.1)
+        self.assertEqual((how(keeping, "board")["state"], self.failed), ("gone", failed), "the journal isn't written to while the disk is full")
+        self.there_is_room()
+        held = await keeping.hold(Wish(("scope",), station="radio", timeout=LIMIT), self.owner)
+        self.assertEqual((held.name, whats(keeping, "board")), ("radio", ["asked", "gone", "failed"]))
+        self.assertEqual(how(keeping, "board")["state"], "idle")
+
+    async def test_who_comes_back_for_it(self) -> None:
+        keeping = await self.keeping()
+        await self.is_told_that_it_fails(keeping)
+        seat = await keeping.hold(Wish(ticket=TICKET, comes_back=True), self.owner)
+        self.there_is_room()
+        await asyncio.sleep(0.1)
+        self.assertEqual((seat.name, how(keeping, "board")["state"]), ("board", "holding"))
+        await keeping.let_go(seat, self.owner)
+        self.assertEqual(whats(keeping, "board"), ["asked", "gone", "back", "let_go"])
+
+    async def test_grace_that_ends_meanwhile(self) -> None:
+        """Who waits goes on to wait, and comes to hold once there is room."""
+        keeping = await self.keeping('gone = "release"\n' + BAY, 0.05)
+        seat = await keeping.hold(Wish(("scope",), station="board"), self.owner)
+        waits = asyncio.create_task(keeping.hold(Wish(("scope",), station="radio"), self.owner))
+        await asyncio.sleep(0.01)
+        self.is_full = True
+        keeping.gone(seat, self.owner)
+        await asyncio.sleep(0.2)
+        self.assertEqual((how(keeping, "board")["state"], waits.done(), self.failed), ("gone", False, 0))
+        self.there_is_room()
+        self.assertEqual((await asyncio.wait_for(waits, LIMIT)).name, "radio")
+        self.assertEqual(whats(keeping, "board"), ["asked", "held", "gone", "taken"])
 
 
 class WithoutState(OnBroker):

@@ -869,6 +869,15 @@ class Bench:
         """By how many sessions one that waits may be overtaken before it stands in line."""
         return self._overtakes
 
+    def rename_journal(self, path: Path) -> None:
+        """The journal's file gets another name in its folder, in place of whatever has that name. JournalError says why it can't be, or that
+        there is no journal."""
+        with self._mutex:
+            self._look_over()
+            if self._journal is None:
+                raise JournalError("", "the bench has no journal")
+            self._journal.rename(os.fspath(path))
+
     def take_away(self, name: str) -> tuple[str, ...]:
         """Ends the session that this job holds, for its owner, and gives the names of its instruments. NotHeld if it holds none; KeyError if
         there is no such job.
@@ -981,7 +990,7 @@ class Bench:
                 if self._stands != _CLOSED:
                     self._look_over()
                     # (one may owe a meal, for which it needs forks that others give once they have let go)
-                    while any([self._retire(job) for job in self._jobs]):
+                    while not _holding.goes_on(self) and any([self._retire(job) for job in self._jobs]):
                         pass
                 ticket = self._ticket()
                 if ticket is None or self._is_written():

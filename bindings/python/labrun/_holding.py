@@ -360,6 +360,11 @@ def _busy(bench: Bench) -> tuple[Job, ...]:
     return tuple(job for job in bench._jobs if (job._in or job._last < len(job._plan)) and not (bench._left & job._bit and bench._holds(job)))
 
 
+def goes_on(bench: Bench) -> bool:
+    """Whether a bench that is closed is to go on by its journal, with sessions for all its jobs: so none of them retires."""
+    return bench._is_endless and bench._journal is not None and bool(_busy(bench))
+
+
 def _waits(bench: Bench, waiter: Waiter, act: Callable[[], Result], timeout: Optional[float] = None) -> Optional[Result]:
     """Sleeps until the waiter can go on, and acts with the mutex held. None if its time is over."""
     lock = _bench._new_lock()

@@ -163,6 +163,16 @@ class Journal:
                 _sync_folder(self.path)
             self._kept = None
 
+    def rename(self, path: str) -> None:
+        """The file gets another name, in place of whatever has that. (With the bench's mutex held.)"""
+        try:
+            os.replace(self.path, path)
+            self.path = path
+            if self._syncs:
+                _sync_folder(path)
+        except OSError as fault:
+            raise JournalError(self.path, f"it can't be called {path} ({fault.strerror})") from fault
+
     def _text(self, length: int) -> bytes:
         """So much of the file."""
         parts, at = [], 0

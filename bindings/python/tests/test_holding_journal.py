@@ -352,6 +352,37 @@ class Pages(OnFile):
         self.assertEqual(bench.turn_page().journal, f"{self.path}.4")
         self.finished(bench)
 
+    def test_another_name(self) -> None:
+        """What had that name is gone, and all that comes later, pages too, goes by the new one."""
+        other = f"{self.folder}/lab.journal"
+        with open(other, "wb") as file:
+            file.write(b"of somebody else")
+        bench = self.opened()
+        held = self.held(bench, "board", "scope")
+        bench.rename_journal(other)
+        self.assertEqual(os.listdir(self.folder), ["lab.journal"])
+        with self.assertRaisesRegex(labrun.JournalError, "No such file or directory"):
+            bench.rename_journal(f"{self.folder}/none/lab.journal")
+        held.release()
+        self.assertEqual(bench.turn_page().journal, f"{other}.1")
+        self.assertIn(b"\nquit board\n", self.text(f"{other}.1"))
+        self.assertEqual(sorted(os.listdir(self.folder)), ["lab.journal", "lab.journal.1"])
+        bench.close()
+        with labrun.Bench.new(BAY) as without, self.assertRaisesRegex(labrun.JournalError, "has no journal"):
+            without.rename_journal(other)
+
+    def test_closed_while_one_holds(self) -> None:
+        """Whoever opens it again has all jobs."""
+        bench = self.opened()
+        self.held(bench, "guest", "scope")
+        self.assertFalse(bench.close().finished)
+        bench = self.opened()
+        with bench.job("drive").hold("load-1"):
+            pass
+        session = bench.job("guest").next_session()
+        assert session and session.resumed
+        self.assertEqual([len(it) for it in self.finished(bench).logs.values()], [1, 0, 1, 0])
+
     def test_goes_on_with_the_last_page(self) -> None:
         bench = self.opened()
         with bench.job("board").hold("scope"):

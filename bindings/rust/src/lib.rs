@@ -1018,7 +1018,11 @@ impl Bench {
     /// unfinished in the report.
     pub fn close(self) -> Result<Report, Error> {
         let mut core = self.inner.open()?;
-        self.inner.retire_all(&mut core)?;
+        // (a bench that is to go on by its journal needs all its jobs)
+        let goes_on = core.endless && self.inner.log.is_some() && !self.inner.busy(&mut core).is_empty();
+        if !goes_on {
+            self.inner.retire_all(&mut core)?;
+        }
         while !self.inner.log.as_ref().map_or(true, Journal::is_written) {
             let ticket = self.inner.ticket();
             drop(core);

@@ -197,7 +197,7 @@ impl Inner {
     }
 
     /// The jobs that are in a session or have one left, but for those whose session was left and holds.
-    fn busy(&self, core: &mut Core) -> Vec<u32> {
+    pub(crate) fn busy(&self, core: &mut Core) -> Vec<u32> {
         let has_more = |seat: &Seat| seat.now != 0 || (seat.last as usize) < seat.sessions.len();
         (0..self.jobs.len() as u32).filter(|job| has_more(&core.seats[*job as usize]) && !core.is_left(*job)).collect()
     }

@@ -221,6 +221,21 @@ fn pages() {
     assert!(finished(&folder, bench).log("scope").is_empty());
 }
 
+/// Closed while one holds: whoever opens it again has all jobs.
+#[test]
+fn closed_while_one_holds() {
+    let folder = Folder::new("held");
+    let bench = folder.opened(64).unwrap();
+    let held = job(&bench, "guest").hold(&["scope"]).begin().unwrap();
+    assert!(!bench.close().unwrap().finished);
+    drop(held);
+    let bench = folder.opened(64).unwrap();
+    drop(job(&bench, "host").hold(&["load-1"]).begin().unwrap());
+    assert!(job(&bench, "guest").resumed().unwrap().is_some_and(|it| it.number() == 2));
+    let report = finished(&folder, bench);
+    assert_eq!((report.log("scope").len(), report.log("load-1").len()), (1, 1));
+}
+
 /// Killed between the two names: the old page is whole, and a new one is begun.
 #[test]
 fn killed_while_it_turns() {

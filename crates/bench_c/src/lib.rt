@@ -6,7 +6,7 @@ ghost use Rattle.lab_journal.specs.Taking.{IsOpenedKept};
 ghost use Rattle.bench_calls.specs.Journals.{TellsJournal, Resumes};
 ghost use Rattle.bench_calls.specs.Closing.{Closes, Frees, is_of_a_lab};
 ghost use Rattle.bench_calls.specs.Coming.{Comes, TellsMore};
-ghost use Rattle.bench_opening.specs.Openings.{IsFresh};
+ghost use Rattle.bench_calls.specs.Openings.{IsFresh};
 ghost use Rattle.bench_calls.specs.Calls.{Opens, InLab, InRoom, TellsScript};
 ghost use Rattle.bench_calls.specs.Calls.{Turns, Serves, ServesRest, SettlesAll, GoesToHold, DoesNext, LetsGo, GivesUp, GoesToEnd, SetsOvertakes};
 ghost use Rattle.bench_calls.specs.Calls.{TellsSize, TellsSession, TellsPlanned, TellsState, TellsKeepers, TellsOutside, TellsJobName, TellsInstrumentName};

@@ -15,7 +15,7 @@ use Rattle.live_lab.specs.Readers.{IsSession, IsPlanned, IsStandingAt, IsInstrum
 use Rattle.live_lab.specs.Keepers.{AreKeepersAt}
 use Rattle.lab_journal.specs.Taking.{has_room}
 use Rattle.bench_texts.specs.Texts.{lab_text, MeansPlan}
-use Rattle.bench_opening.specs.Openings.{IsOpenedFor, IsWhyNotFor}
+use Rattle.bench_calls.specs.Openings.{IsOpenedFor, IsWhyNotFor}
 use Rattle.c_tells.specs.declared.told.Told.{Told}
 use Rattle.c_tells.specs.Telling.{told_of, Gives, Delivers, Fails}
 use Rattle.bench_calls.specs.declared.inside.Inside.{Inside}

@@ -6,3 +6,4 @@ pub mod Journals
 pub mod Coming
 pub mod DeskCalls
 pub mod Resuming
+pub mod Openings

@@ -4,6 +4,7 @@ ghost use Rattle.lab_journal.specs.Taking.{IsOpenedKept};
 ghost use Rattle.bench_calls.specs.Calls.{Opens, IsOpened, IsNotOpened, InLab};
 ghost use Rattle.bench_calls.specs.Journals.{Resumes, IsResumedIn, IsNotResumedIn, TellsJournal, why_number};
 
+use crate::for_text;
 use crate::handle::{Handle, NOT_OPEN, claim, put, release, take};
 use crate::inside::Inside;
 use crate::statuses::{JOURNAL_FULL, NO_MEMORY, NOT_NOW};
@@ -18,7 +19,7 @@ fn opened_kept(alloc: Global, script: &[u8], told: &mut Told) -> Result<Box<Insi
     ensures opened { IfOk result (λ b. IsOpened IsOpenedKept script.now b.value told.old told.new) }
     ensures refused { IfErr result (λ status. IsNotOpened script.now told.new status) }
 {
-    match bench_opening::open_kept(alloc, script) {
+    match for_text::open_kept(alloc, script) {
         Ok(lab) => match Box::new(alloc, Inside::Open(lab)) {
             Ok(inside) => Ok(inside),
             Err(_) => Err(fail(RunFault::NoMemory, told)),

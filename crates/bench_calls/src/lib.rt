@@ -6,6 +6,8 @@
 mod additions;
 mod deeds;
 mod ending;
+mod for_text;
+mod giving_up;
 pub mod halls;
 mod handle;
 mod inside;

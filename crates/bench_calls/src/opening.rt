@@ -1,8 +1,9 @@
 //! How a handle gets a lab, and the script that a text stands for.
 ghost use Rattle.std.specs.Prelude.{IfOk, IfErr};
-ghost use Rattle.bench_opening.specs.Openings.{IsFresh};
+ghost use Rattle.bench_calls.specs.Openings.{IsFresh};
 ghost use Rattle.bench_calls.specs.Calls.{Opens, IsOpened, IsNotOpened, TellsScript};
 
+use crate::for_text;
 use crate::handle::{Handle, claim, put, release};
 use crate::inside::Inside;
 use c_tells::{Told, deliver, fail};
@@ -14,7 +15,7 @@ fn opened(alloc: Global, script: &[u8], told: &mut Told) -> Result<Box<Inside, G
     ensures opened { IfOk result (λ b. IsOpened IsFresh script.now b.value told.old told.new) }
     ensures refused { IfErr result (λ status. IsNotOpened script.now told.new status) }
 {
-    match bench_opening::open(alloc, script) {
+    match for_text::open(alloc, script) {
         Ok(lab) => match Box::new(alloc, Inside::Open(lab)) {
             Ok(inside) => Ok(inside),
             Err(_) => Err(fail(RunFault::NoMemory, told)),
@@ -46,7 +47,7 @@ pub fn open(alloc: Global, script: &[u8], bench: &mut Handle, told: &mut Told) -
 pub fn script(alloc: Global, text: &[u8], room: &mut [u8], told: &mut Told) -> u32
     ensures { TellsScript text.now room.old room.new told.new result }
 {
-    match bench_opening::script(alloc, text) {
+    match for_text::script(alloc, text) {
         Ok(script) => deliver(0, &script, room, told),
         Err(fault) => fail(fault, told),
     }

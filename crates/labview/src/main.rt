@@ -1,9 +1,12 @@
-//! The program `labview`: its words, standard input, output and error, handed to `labview_tasks`, which does the work.
+//! The program `labview`: its words, standard input, output and error, handed to `run_words`, which does what the words ask for.
 #![tactic(auto)]
 
+mod words;
+
+use crate::words::run_words;
 use command_line::{end_saying_why, given_words};
 use lab_program::{FromRead, RunFault, end};
-use labview_tasks::{PROGRAM, run_words};
+use labview_words::PROGRAM;
 use report::ToWrite;
 use std::io::{self, BufWriter};
 use std::process::ExitCode;

@@ -1,7 +1,7 @@
 use Rattle.std.proofs.Common.{sym, subst}
-use Rattle.bench_opening.specs.Openings.{IsWhyNotFor}
-use Rattle.bench_opening.proofs.Whys.{why_not}
-use Rattle.bench_opening.proofs.opening.script.Goals as goal
+use Rattle.bench_calls.specs.Openings.{IsWhyNotFor}
+use Rattle.bench_calls.proofs.Whys.{why_not}
+use Rattle.bench_calls.proofs.for_text.script.Goals as goal
 
 pub returns-in-Err-clause-refused : goal.returns-in-Err-clause-refused
 returns-in-Err-clause-refused c =

@@ -1,6 +1,6 @@
 //! First sessions that are begun and given up.
 ghost use Rattle.std.specs.Prelude.{◌≡◌, length};
-ghost use Rattle.bench_opening.specs.Openings.{GiveUpNext, GivesUpNext};
+ghost use Rattle.bench_calls.specs.Openings.{GiveUpNext, GivesUpNext};
 
 use live_lab::Lab;
 

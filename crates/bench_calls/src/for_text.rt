@@ -1,9 +1,10 @@
-//! How a lab is opened for a text.
+//! A lab for a script, or for a text `bench 1`: of that, the first sessions by which jobs may use their instruments are begun and given up at
+//! once.
 ghost use Rattle.std.specs.Prelude.{◌≡◌, IfOk, IfErr};
 ghost use Rattle.lab_program.specs.declared.faults.RunFault.TheVariants as faults;
 ghost use Rattle.lab_journal.specs.Taking.{IsOpenedKept};
 ghost use Rattle.bench_texts.specs.Texts.{MeansPlan, lab_text as lab_text_of};
-ghost use Rattle.bench_opening.specs.Openings.{GivesUpFirst, IsFresh, IsOpenedFor, IsWhyNotFor, fault_of, from_script};
+ghost use Rattle.bench_calls.specs.Openings.{GivesUpFirst, IsFresh, IsOpenedFor, IsWhyNotFor, fault_of, from_script};
 
 use crate::giving_up::give_up_first;
 use bench_texts::{NotScript, at_origin, lab_script, lab_text, users};
@@ -34,7 +35,7 @@ fn without_first(alloc: Global, text: &[u8], lab: Lab) -> Result<Lab, AllocError
 
 /// A lab of a script before its first event. Or one of the script that a text `bench 1` stands for, after the first sessions are given up by
 /// which its jobs may use their instruments.
-pub fn open(alloc: Global, text: &[u8]) -> Result<Lab, RunFault>
+pub(crate) fn open(alloc: Global, text: &[u8]) -> Result<Lab, RunFault>
     ensures opened { IfOk result (λ l. IsOpenedFor IsFresh text.now l) }
     ensures refused { IfErr result (λ fault. IsWhyNotFor text.now fault) }
 {
@@ -46,7 +47,7 @@ pub fn open(alloc: Global, text: &[u8]) -> Result<Lab, RunFault>
 }
 
 /// The same, and the lab keeps what it does until its journal is taken, what was given up too.
-pub fn open_kept(alloc: Global, text: &[u8]) -> Result<Lab, RunFault>
+pub(crate) fn open_kept(alloc: Global, text: &[u8]) -> Result<Lab, RunFault>
     ensures opened { IfOk result (λ l. IsOpenedFor IsOpenedKept text.now l) }
     ensures refused { IfErr result (λ fault. IsWhyNotFor text.now fault) }
 {
@@ -68,7 +69,7 @@ fn fault_of(why: NotScript) -> RunFault
 }
 
 /// The script that a text stands for, with which a journal begins: of a script itself. It is one for which a lab is opened, if there is memory.
-pub fn script(alloc: Global, text: &[u8]) -> Result<Vec<u8, Global>, RunFault>
+pub(crate) fn script(alloc: Global, text: &[u8]) -> Result<Vec<u8, Global>, RunFault>
     ensures script { IfOk result (λ script. (script.items ≡ lab_text_of text.now) × MeansPlan text.now) }
     ensures refused { IfErr result (λ fault. IsWhyNotFor text.now fault) }
 {

@@ -4,7 +4,7 @@ use Rattle.lab_program.specs.declared.faults.RunFault.TheVariants.{Script, NoMem
 use Rattle.bench_texts.specs.declared.script.NotScript.{NotScript}
 use Rattle.bench_texts.specs.declared.script.NotScript.TheVariants as texts
 use Rattle.bench_texts.specs.Texts.{IsWhyNoScript}
-use Rattle.bench_opening.specs.Openings.{IsWhyNotFor, fault_of}
+use Rattle.bench_calls.specs.Openings.{IsWhyNotFor, fault_of}
 
 pub why_not : (text : List ℕ) (why : NotScript) → IsWhyNoScript text why → IsWhyNotFor text (fault_of why)
 why_not text texts.NoMemory none = (NoMemory, tt, refl)

@@ -1,7 +1,7 @@
 //! From the words of the command line to the status.
 ghost use Rattle.std.specs.Prelude.{map};
 ghost use Rattle.std.specs.Process.{exit_status};
-ghost use Rattle.labview_tasks.specs.Answered.{AnswersCommand};
+ghost use Rattle.labview.specs.Answered.{AnswersCommand};
 
 use command_line::end_saying_why;
 use journal_views::{run_script, run_steps};

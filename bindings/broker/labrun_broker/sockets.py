@@ -1,0 +1,77 @@
+"""Unix sockets to listen at: who may use them, and what becomes of those that a broker left which is gone."""
+
+from __future__ import annotations
+
+import contextlib
+import grp
+import os
+import shutil
+import socket
+import stat
+from typing import Iterator, Optional
+
+from .bay import BadAddress
+
+
+def clear(path: str) -> None:
+    """Nobody listens there. A socket that a broker left which is gone is taken away."""
+    folder = os.path.dirname(os.path.abspath(path))
+    if not os.access(folder, os.W_OK):
+        raise BadAddress(f"unix:{path}: no socket can be made in {folder}")
+    if os.path.lexists(path) and not stat.S_ISSOCK(os.lstat(path).st_mode):
+        raise BadAddress(f"unix:{path}: that is there, and is no socket")
+    with contextlib.closing(socket.socket(socket.AF_UNIX)) as other:
+        try:
+            other.connect(path)
+        except FileNotFoundError:
+            return
+        except ConnectionRefusedError:
+            os.unlink(path)
+            return
+        except OSError as fault:
+            raise BadAddress(f"unix:{path}: {fault.strerror or fault}") from None
+    raise BadAddress(f"unix:{path}: another broker listens there")
+
+
+@contextlib.contextmanager
+def for_the_group() -> Iterator[None]:
+    """A socket that is made meanwhile is for its owner and the group alone."""
+    before = os.umask(0o117)
+    try:
+        yield
+    finally:
+        os.umask(before)
+
+
+def check_group(group: Optional[str]) -> None:
+    """Sockets can be given to this group, if one is named."""
+    if group is None:
+        return
+    try:
+        number = grp.getgrnam(group).gr_gid
+    except KeyError:
+        raise BadAddress(f"--group {group}: there is no such group") from None
+    if os.geteuid() and number not in (os.getegid(), *os.getgroups()):
+        raise BadAddress(f"--group {group}: only its members and root can give it a socket")
+
+
+def give(path: str, group: Optional[str]) -> None:
+    """The socket is of this group, if one is named."""
+    if group is not None:
+        shutil.chown(path, group=group)
+
+
+def bound(path: str, group: Optional[str]) -> socket.socket:
+    """A socket at a path where nobody listens."""
+    clear(path)
+    made = socket.socket(socket.AF_UNIX)
+    try:
+        with for_the_group():
+            made.bind(path)
+        give(path, group)
+    except BaseException as fault:
+        made.close()
+        if isinstance(fault, OSError):
+            raise BadAddress(f"unix:{path}: {fault.strerror or fault}") from None
+        raise
+    return made
