@@ -44,8 +44,8 @@ use std::fmt;
 use std::marker::PhantomData;
 use std::path::Path;
 use std::ptr;
-use std::sync::atomic::{AtomicU32, Ordering::Relaxed};
-use std::sync::{Arc, Condvar, Mutex, MutexGuard, Once};
+use std::sync::atomic::{AtomicBool, AtomicU32, Ordering::Acquire, Ordering::Relaxed, Ordering::Release};
+use std::sync::{Arc, Condvar, Mutex, MutexGuard};
 use std::time::{Duration, Instant};
 
 const REFUSED: u32 = 1;
@@ -72,6 +72,17 @@ static FORKS: AtomicU32 = AtomicU32::new(0);
 extern "C" fn after_fork() {
     FORKS.fetch_add(1, Relaxed);
     journal::after_fork();
+}
+
+/// Sees to it that `after_fork` is called. Two threads that come at once both ask for that, and no harm is done; with a `Once`, the child of a
+/// fork that was made while a thread was in it would wait for that thread, which isn't there, and never open a bench.
+fn at_forks() {
+    static ARE_TOLD: AtomicBool = AtomicBool::new(false);
+    if !ARE_TOLD.load(Acquire) {
+        // SAFETY: the function does nothing but count, and close files of its own.
+        assert_eq!(unsafe { ffi::pthread_atfork(None, None, Some(after_fork)) }, 0);
+        ARE_TOLD.store(true, Release);
+    }
 }
 
 /// What may go wrong.
@@ -956,9 +967,7 @@ impl Bench {
     }
 
     fn of(script: &[u8], options: &Options) -> Result<Arc<Inner>, Error> {
-        static AT_FORKS: Once = Once::new();
-        // SAFETY: the function does nothing but count.
-        AT_FORKS.call_once(|| assert_eq!(unsafe { ffi::pthread_atfork(None, None, Some(after_fork)) }, 0));
+        at_forks();
         let (mut core, mut told, mut size) = (Core::new(options.overtakes), ffi::Told::default(), ffi::Size::default());
         let bay = pages::bay_of(script)?;
         let script = bay.as_ref().map_or(script, |it| it.script.as_slice());

@@ -1,7 +1,9 @@
 //! A bench without a script, how much may still come to it, and pages that are turned.
 use crate::holding::{Verb, MOST_SESSIONS};
 use crate::journal::{Journal, MOST, MOST_STEPS};
-use crate::{fault, ffi, members, state_of, told_bytes, told_text, Bench, Core, Error, Inner, Options, Report, Seat, HOLDS, RETIRED, THIRSTY};
+use crate::{
+    fault, ffi, members, state_of, told_bytes, told_text, Bench, Core, Error, Inner, Options, Report, Seat, HOLDS, RETIRED, THIRSTY,
+};
 use std::sync::{Arc, MutexGuard};
 use std::time::{Duration, Instant};
 

@@ -1,4 +1,7 @@
 //! Sessions that come, with a journal: what comes back, what a write that fails leaves, and pages.
+mod alone;
+
+use alone::{alone, limit};
 use labrun::Verb::{Add, Set};
 use labrun::{Bench, Error, Job, Options, Report, Session, SyncTo};
 use std::collections::HashMap;
@@ -473,30 +476,6 @@ mod bad_disk {
     }
 }
 
-extern "C" {
-    fn setrlimit(what: i32, to: *const [u64; 2]) -> i32;
-    fn signal(number: i32, to: usize) -> usize;
-}
-
-/// The files of this process may not grow beyond so many bytes.
-fn limit(bytes: usize) {
-    let to = [bytes as u64, u64::MAX];
-    // SAFETY: RLIMIT_FSIZE with the two words that it wants.
-    assert_eq!(unsafe { setrlimit(1, &to) }, 0);
-}
-
-const CHILD: &str = "LABRUN_TEST_CHILD";
-
-/// A test in a process of its own, because the limit is the whole process's.
-fn alone(name: &str, test: fn()) {
-    if std::env::var_os(CHILD).is_some() {
-        return test();
-    }
-    let it = std::env::current_exe().unwrap();
-    let ran = std::process::Command::new(it).args(["--exact", name, "--nocapture"]).env(CHILD, "1").output().unwrap();
-    assert!(ran.status.success(), "{}", String::from_utf8_lossy(&ran.stderr));
-}
-
 #[test]
 fn no_room() {
     alone("no_room", without_room);
@@ -504,8 +483,6 @@ fn no_room() {
 
 /// What can't be written isn't held, and isn't there; who can't let go holds still.
 fn without_room() {
-    // SAFETY: SIGXFSZ is ignored.
-    unsafe { signal(25, 1) };
     let folder = Folder::new("room");
     let bench = folder.opened(64).unwrap();
     let guest = job(&bench, "guest");
@@ -542,8 +519,6 @@ fn two_threads_at_a_job() {
 /// A write fails while one thread waits for a session of a job, and another asks at once, before the first wakes; its session has the same number,
 /// because the file doesn't have the first one's. Only one of them holds.
 fn two_threads() {
-    // SAFETY: SIGXFSZ is ignored.
-    unsafe { signal(25, 1) };
     for round in 0..100 {
         let folder = Folder::new(&format!("two-{round}"));
         let bench = folder.opened(64).unwrap();
@@ -592,8 +567,6 @@ fn load() {
 
 /// Threads hold at random, while writes fail now and then and pages are turned: each that held is in one journal.
 fn loaded() {
-    // SAFETY: SIGXFSZ is ignored.
-    unsafe { signal(25, 1) };
     let folder = Folder::new("load");
     let bench = folder.opened(8).unwrap();
     let (done, clashes, over) = (AtomicUsize::new(0), AtomicUsize::new(0), AtomicBool::new(false));

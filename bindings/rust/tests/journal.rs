@@ -1,4 +1,7 @@
 //! The journal: what comes back, what is refused, and what a write that fails leaves.
+mod alone;
+
+use alone::{alone, limit};
 use labrun::{Bench, Desk, Error, Report, SyncTo};
 use std::path::{Path, PathBuf};
 use std::time::Duration;
@@ -119,39 +122,12 @@ fn cuts_and_changes() {
     }
 }
 
-extern "C" {
-    fn setrlimit(what: i32, to: *const [u64; 2]) -> i32;
-    fn signal(number: i32, to: usize) -> usize;
-    fn fork() -> i32;
-    fn waitpid(process: i32, status: *mut i32, options: i32) -> i32;
-    fn _exit(status: i32) -> !;
-}
-
-/// The files of this process may not grow beyond so many bytes.
-fn limit(bytes: usize) {
-    let to = [bytes as u64, u64::MAX];
-    // SAFETY: RLIMIT_FSIZE with the two words that it wants.
-    assert_eq!(unsafe { setrlimit(1, &to) }, 0);
-}
-
-/// In a child, because the limit is the whole process's.
 #[test]
 fn no_room() {
-    // SAFETY: the child is one thread, and leaves by `_exit`.
-    let child = unsafe { fork() };
-    if child == 0 {
-        let done = std::panic::catch_unwind(without_room).is_ok();
-        unsafe { _exit(i32::from(!done)) };
-    }
-    let mut status = 0;
-    // SAFETY: the child's number, and a place for its status.
-    assert_eq!(unsafe { waitpid(child, &mut status, 0) }, child);
-    assert_eq!(status, 0);
+    alone("no_room", without_room);
 }
 
 fn without_room() {
-    // SAFETY: SIGXFSZ is ignored.
-    unsafe { signal(25, 1) };
     let folder = Folder::new("room");
     let (bench, mut desks) = folder.opened(BOTH).unwrap();
     let too_large = "a write failed (File too large";
